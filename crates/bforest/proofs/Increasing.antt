@@ -1,0 +1,79 @@
+-- Keys that increase, from the last one that was seen.
+use Rattle.bforest.specs.Entries.{IsIncreasing, put}
+use Rattle.bforest.specs.Forest.{Becomes, Forest, list_of}
+use Rattle.bforest.proofs.Ordered.{IsIncreasing-put}
+use Rattle.std.proofs.Common.{Err, List, None, Ok, Option, Result, Some, [], ap, false, refl, subst, sym, true, ◌∷◌, ◌≡◌, ℕ}
+use Rattle.std.specs.Cmp.{IsTotalOrder}
+use Rattle.std.specs.List.{AllByRecursion}
+use Rattle.std.specs.List.Sorted.{IsStrictlySortedBy}
+use Rattle.std.specs.Map.{keys_of}
+use Rattle.std.specs.Option.{option_map_or}
+use Rattle.std.specs.Ordering.{is_lt}
+use Rattle.std.specs.Result.{OnErr, OnOk}
+use Rattle.std.specs.declared.cmp.Ordering.{Ordering}
+use Rattle.std.specs.declared.cmp.Ordering.TheVariants.{Equal, Greater, Less}
+
+module _ {K : Type 0} (cmp : K → K → Ordering) where
+  -- the keys increase, from the one before them, if there is one
+  abbrev pub IncreasesAfter : Option K → List K → Type 0
+  IncreasesAfter None ks = IsStrictlySortedBy cmp ks
+  IncreasesAfter (Some k) ks = IsStrictlySortedBy cmp (k ∷ ks)
+
+  module _ (o : IsTotalOrder cmp) where
+    above : (k q : K) (ks : List K) → cmp k q ≡ Less → AllByRecursion (λ y. cmp q y ≡ Less) ks → AllByRecursion (λ y. cmp k y ≡ Less) ks
+    above k q [] l h = tt
+    above k q (x ∷ xs) l h = (o.trans _ _ _ l h.0, above k q xs l h.1)
+
+    pub after_less : (k q : K) (ks : List K) → cmp k q ≡ Less → IsStrictlySortedBy cmp (q ∷ ks) → IsStrictlySortedBy cmp (k ∷ q ∷ ks)
+    unfolding IsStrictlySortedBy
+    after_less k q ks l h = ((l, above k q ks l h.0), h)
+
+  pub less-after : (k q : K) (ks : List K) → IsStrictlySortedBy cmp (k ∷ q ∷ ks) → (cmp k q ≡ Less) × IsStrictlySortedBy cmp (q ∷ ks)
+  unfolding IsStrictlySortedBy
+  less-after k q ks h = (h.0.0, h.1)
+
+  pub alone : (last : Option K) → IncreasesAfter last []
+  unfolding IsStrictlySortedBy
+  alone None = tt
+  alone (Some k) = (tt, tt)
+
+module _ {K X : Type 0} (cmp : K → K → Ordering) where
+  -- the whole list increases exactly if the rest does after the last key that was seen
+  pub record IsDownTo (es : List (K × X)) (last : Option K) (rest : List (K × X)) : Type 0 where
+    pub down : IsIncreasing cmp es → IncreasesAfter cmp last (keys_of rest)
+    pub up : IncreasesAfter cmp last (keys_of rest) → IsIncreasing cmp es
+
+  module _ (o : IsTotalOrder cmp) (es : List (K × X)) (last : Option K) (k : K) (v : X) (rest : List (K × X)) where
+    pub IsDownTo-next : (seen : List (K × X)) → seen ≡ (k, v) ∷ rest → true ≡ option_map_or (λ b. is_lt (cmp b k)) last true → IsDownTo es last seen → IsDownTo es (Some k) rest
+    IsDownTo-next seen e t h = go last t (subst (IsDownTo es last) e h)
+      where
+        less : (b : K) → true ≡ is_lt (cmp b k) → cmp b k ≡ Less
+        less b t = by (cmp b k) t
+          where
+            by : (r : Ordering) → true ≡ is_lt r → r ≡ Less
+            by Less t = refl
+            by Equal t = absurd (cc)
+            by Greater t = absurd (cc)
+
+        go : (l : Option K) → true ≡ option_map_or (λ b. is_lt (cmp b k)) l true → IsDownTo es l ((k, v) ∷ rest) → IsDownTo es (Some k) rest
+        go None t h = record { down = h.down; up = h.up }
+        go (Some b) t h = record {
+          down = λ up. (less-after cmp b k (keys_of rest) (h.down up)).1;
+          up = λ up. h.up (after_less cmp o b k (keys_of rest) (less b t) up);
+        }
+
+    pub not_increasing : (seen : List (K × X)) → seen ≡ (k, v) ∷ rest → false ≡ option_map_or (λ b. is_lt (cmp b k)) last true → IsDownTo es last seen → IsIncreasing cmp es → ⊥
+    not_increasing seen e t h up = go last t (subst (IsDownTo es last) e h)
+      where
+        go : (l : Option K) → false ≡ option_map_or (λ b. is_lt (cmp b k)) l true → IsDownTo es l ((k, v) ∷ rest) → ⊥
+        go None t h = cc
+        go (Some b) t h = let bad : is_lt (cmp b k) ≡ true = ap is_lt (less-after cmp b k (keys_of rest) (h.down up)).0 in cc
+
+  pub IsIncreasing-one : (e : K × X) → IsIncreasing cmp (e ∷ [])
+  unfolding IsStrictlySortedBy
+  IsIncreasing-one e = (tt, tt)
+
+-- an insertion that keeps the handle, or is refused, keeps the list increasing
+pub increasing_after : {K X A E : Type 0} (cmp : K → K → Ordering) (o : IsTotalOrder cmp) (f f' : Forest K X) (h : Option ℕ) (k : K) (v : X) → IsIncreasing cmp (list_of f h) → (r : Result A E) → OnOk r (Becomes f h f' h (put cmp (list_of f h) k v)) → OnErr r (f' ≡ f) → IsIncreasing cmp (list_of f' h)
+increasing_after cmp o f f' h k v up (Ok a) b e = subst (IsIncreasing cmp) (sym b.list) (IsIncreasing-put cmp o (list_of f h) k v up)
+increasing_after cmp o f f' h k v up (Err x) b e = subst (IsIncreasing cmp) (λ j. list_of (sym e j) h) up

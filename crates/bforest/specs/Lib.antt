@@ -1,0 +1,4 @@
+pub mod Entries
+pub mod Search
+pub mod Forest
+pub mod Layout

@@ -1,0 +1,17 @@
+//! A forest of ordered maps: many small maps in one table, each named by a handle, in an order that each call is handed.
+//!
+//! A [`MapForest`] owns all entries. A [`Map`] is a handle: nothing, or the number of its tree's root. A [`Comparator`] orders the
+//! keys, which need no order of their own. What a contract sees of a forest is the list of entries under each number
+//! (`specs/Forest.antt`); docs/MODEL.md reads these definitions aloud.
+#![tactic(auto)]
+
+mod comparator;
+mod forest;
+mod leaf;
+mod map;
+mod map_iter;
+
+pub use comparator::Comparator;
+pub use forest::{MapForest, OutOfMemory};
+pub use map::Map;
+pub use map_iter::MapIter;

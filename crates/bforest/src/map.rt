@@ -1,0 +1,203 @@
+//! The handle of one map.
+ghost use Rattle.bforest.specs.Entries.{IsIncreasing, put, value_for};
+ghost use Rattle.bforest.specs.Forest.{Becomes, Forest, IsBeyondLeaf, IsLive, IsTooMany, NeedsGrowth, Takes, free_of, list_of, need_of};
+ghost use Rattle.std.specs.Option.{option_map_or};
+ghost use Rattle.std.specs.Ordering.{is_lt};
+ghost use Rattle.std.specs.Prelude.{IfOk, IsOk, IsSome, IsTrue, None, OnErr, OnOk, [], true, ◌↔◌, ◌≡◌, ◌≤◌, ◌⊎◌};
+
+use crate::comparator::Comparator;
+use crate::forest::{MapForest, OutOfMemory};
+use crate::map_iter::MapIter;
+use std::cmp::Ordering;
+use std::default::Default;
+use std::marker::{Model, PhantomData};
+
+/// The number of a map's tree, or nothing, which is the empty map.
+///
+/// A handle owns no entries: they lie in a [`MapForest`], which each call is handed. Calls ask that the handle is live there, which
+/// [`MapForest::holds`] tests, and calls that compare keys ask that its list strictly increases under the comparator, which
+/// [`Map::increases`] tests. Dropping a handle ends no tree.
+#[derive(Drop)]
+pub struct Map<K: Copy, V: Copy> {
+    pub(crate) root: Option<u32>,
+    mark: PhantomData<(K, V)>,
+}
+
+impl<K: Copy, V: Copy> Model for Map<K, V> {
+    ghost use Rattle.std.specs.Prelude.{Option, ℕ};
+
+    ghost Value = { Option ℕ };
+
+    ghost view = { λ m. m.root };
+}
+
+impl<K: Copy, V: Copy> Default for Map<K, V> {
+    ghost use Rattle.std.specs.Prelude.{None, ◌≡◌};
+
+    ghost is_default = { λ m. m ≡ None };
+
+    /// The same as [`Map::new`].
+    fn default() -> Map<K, V> {
+        Map::new()
+    }
+}
+
+impl<K: Copy, V: Copy> Map<K, V> {
+    /// An empty map. It takes no memory and no node, and is live in every forest.
+    pub fn new() -> Map<K, V>
+        ensures { result ≡ None }
+    {
+        Map {
+            root: None,
+            mark: PhantomData,
+        }
+    }
+
+    /// The same handle once more, which names the same tree. No entry is copied.
+    pub fn clone(&self) -> Map<K, V>
+        ensures { result ≡ self.now }
+    {
+        Map {
+            root: self.root,
+            mark: PhantomData,
+        }
+    }
+
+    /// Whether the map is empty: whether the handle names no tree.
+    pub fn is_empty(&self) -> bool
+        ensures handle { IsTrue result ↔ (self.now ≡ None) }
+        ensures list { (forest : Forest K V) → IsLive forest self.now
+            → IsTrue result ↔ (list_of forest self.now ≡ []) }
+    {
+        self.root.is_none()
+    }
+
+    /// The value of the entry whose key compares equal to `key`. One search: about 3 comparisons.
+    pub fn get<C: Comparator<K>>(&self, key: K, forest: &MapForest<K, V>, comp: &C) -> Option<V>
+        requires live { IsLive forest.now self.now }
+        requires increasing { IsIncreasing (C.order comp.now) (list_of forest.now self.now) }
+        ensures { result ≡ value_for (C.order comp.now) (list_of forest.now self.now) key }
+    {
+        match self.root {
+            Some(number) => forest.leaf(number).get(key, comp),
+            None => None,
+        }
+    }
+
+    /// Puts a value in at a key, and answers the value that was there. The same as [`Map::try_insert`].
+    pub fn insert<C: Comparator<K>>(
+        &mut self,
+        key: K,
+        value: V,
+        forest: &mut MapForest<K, V>,
+        comp: &C,
+    ) -> Result<Option<V>, OutOfMemory>
+        requires live { IsLive forest.old self.old }
+        requires increasing { IsIncreasing (C.order comp.now) (list_of forest.old self.old) }
+
+        // What an insertion answers and leaves.
+        ensures ok { IfOk result (λ old. old ≡ value_for (C.order comp.now) (list_of forest.old self.old) key) }
+        ensures put { OnOk result (Becomes forest.old self.old forest.new self.new
+            (put (C.order comp.now) (list_of forest.old self.old) key value)) }
+        ensures same_number { IfOk result (λ old. IsSome old → self.new ≡ self.old) }
+        ensures account { OnOk result (Takes (need_of (C.order comp.now) forest.old self.old key) forest.old forest.new) }
+        ensures increasing { IsIncreasing (C.order comp.now) (list_of forest.new self.new) }
+
+        // When it is refused, and what a refusal leaves.
+        ensures full { (result ≡ Err OutOfMemory.Full)
+            ↔ (IsTooMany (need_of (C.order comp.now) forest.old self.old key) forest.old
+            ⊎ IsBeyondLeaf (C.order comp.now) forest.old self.old key) }
+        ensures memory { result ≡ Err OutOfMemory.Memory
+            → NeedsGrowth (need_of (C.order comp.now) forest.old self.old key) forest.old }
+        ensures succeeds { need_of (C.order comp.now) forest.old self.old key ≤ free_of forest.old
+            → ¬ IsBeyondLeaf (C.order comp.now) forest.old self.old key → IsOk result }
+        ensures absent { OnErr result (value_for (C.order comp.now) (list_of forest.old self.old) key ≡ None) }
+        ensures refused_forest { OnErr result (forest.new ≡ forest.old) }
+        ensures refused_handle { OnErr result (self.new ≡ self.old) }
+    {
+        self.try_insert(key, value, forest, comp)
+    }
+
+    /// Puts a value in at a key, and answers the value that was there.
+    ///
+    /// Where a stored key compares equal, its value alone is written, the stored key stays, and no node is needed. Else the entry goes in
+    /// at its place in the order. One search: about 3 comparisons.
+    ///
+    /// # Errors
+    ///
+    /// `Full` where fewer nodes can be had than the entry needs. For now also where the key is absent from a map of 7 entries, since a
+    /// tree is one leaf. `Memory` where the table had to grow and the memory was refused. Nothing has changed then.
+    pub fn try_insert<C: Comparator<K>>(
+        &mut self,
+        key: K,
+        value: V,
+        forest: &mut MapForest<K, V>,
+        comp: &C,
+    ) -> Result<Option<V>, OutOfMemory>
+        requires live { IsLive forest.old self.old }
+        requires increasing { IsIncreasing (C.order comp.now) (list_of forest.old self.old) }
+
+        // What an insertion answers and leaves.
+        ensures ok { IfOk result (λ old. old ≡ value_for (C.order comp.now) (list_of forest.old self.old) key) }
+        ensures put { OnOk result (Becomes forest.old self.old forest.new self.new
+            (put (C.order comp.now) (list_of forest.old self.old) key value)) }
+        ensures same_number { IfOk result (λ old. IsSome old → self.new ≡ self.old) }
+        ensures account { OnOk result (Takes (need_of (C.order comp.now) forest.old self.old key) forest.old forest.new) }
+        ensures increasing { IsIncreasing (C.order comp.now) (list_of forest.new self.new) }
+
+        // When it is refused, and what a refusal leaves.
+        ensures full { (result ≡ Err OutOfMemory.Full)
+            ↔ (IsTooMany (need_of (C.order comp.now) forest.old self.old key) forest.old
+            ⊎ IsBeyondLeaf (C.order comp.now) forest.old self.old key) }
+        ensures memory { result ≡ Err OutOfMemory.Memory
+            → NeedsGrowth (need_of (C.order comp.now) forest.old self.old key) forest.old }
+        ensures succeeds { need_of (C.order comp.now) forest.old self.old key ≤ free_of forest.old
+            → ¬ IsBeyondLeaf (C.order comp.now) forest.old self.old key → IsOk result }
+        ensures absent { OnErr result (value_for (C.order comp.now) (list_of forest.old self.old) key ≡ None) }
+        ensures refused_forest { OnErr result (forest.new ≡ forest.old) }
+        ensures refused_handle { OnErr result (self.new ≡ self.old) }
+    {
+        match self.root {
+            Some(number) => forest.put(number, key, value, comp),
+            None => {
+                let number = forest.plant(key, value)?;
+                self.root = Some(number);
+                Ok(None)
+            }
+        }
+    }
+
+    /// The entries in order, and then `None` for ever.
+    pub fn iter<'a>(&self, forest: &'a MapForest<K, V>) -> MapIter<'a, K, V>
+        requires { IsLive forest.now self.now }
+        ensures { result ≡ list_of forest.now self.now }
+    {
+        MapIter::new(self, forest)
+    }
+
+    /// Whether each key is less than the next under the comparator: the test for what each call that compares asks. One comparison
+    /// fewer than there are entries; the empty map and a map of one entry increase under every order.
+    pub fn increases<C: Comparator<K>>(&self, forest: &MapForest<K, V>, comp: &C) -> bool
+        requires { IsLive forest.now self.now }
+        ensures { IsTrue result ↔ IsIncreasing (C.order comp.now) (list_of forest.now self.now) }
+    {
+        let mut last = None;
+        'entries: for (key, _) in self.iter(forest) {
+            if !follows(last, key, comp) {
+                return false;
+            }
+            last = Some(key);
+        }
+        true
+    }
+}
+
+/// Whether the key before, if there is one, is less.
+fn follows<K: Copy, C: Comparator<K>>(before: Option<K>, key: K, comp: &C) -> bool
+    ensures { result ≡ option_map_or (λ k. is_lt (C.order comp.now k key)) before true }
+{
+    match before {
+        Some(before) => comp.cmp(before, key) == Ordering::Less,
+        None => true,
+    }
+}
