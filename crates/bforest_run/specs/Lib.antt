@@ -1,0 +1,3 @@
+pub mod Orders
+pub mod Machine
+pub mod Output

@@ -1,0 +1,15 @@
+-- What writes leave of the bytes that a writer holds, where those are known.
+use Rattle.std.specs.Io.KnownBytes.{Appends}
+use Rattle.std.specs.Prelude.{List, Option, ◌++◌, ◌≡◌, ℕ}
+
+-- the old bytes stay, and some text follows them
+pub record Grows (old new : Option (List ℕ)) : Type 0 where
+  pub text : List ℕ
+  pub appended : Appends old new text
+
+-- the old bytes stay, and a beginning of the line follows them
+pub record AppendsBeginning (old new : Option (List ℕ)) (line : List ℕ) : Type 0 where
+  pub beginning : List ℕ
+  pub rest : List ℕ
+  pub whole : line ≡ beginning ++ rest
+  pub appended : Appends old new beginning

@@ -1,0 +1,83 @@
+//! Lines, and what they ask for.
+ghost use Rattle.std.specs.Prelude.{IfSome, length, ◌<◌, ◌≤◌};
+
+use crate::order::Order;
+
+/// How many handles lines can name.
+pub(crate) const HANDLE_COUNT: usize = 8;
+
+/// The index of a handle.
+#[derive(Clone, Copy)]
+pub(crate) struct Handle {
+    pub(crate) index: usize,
+    ghost in_range: { index < 8 },
+}
+
+/// What a line asks for.
+#[derive(Clone, Copy)]
+pub(crate) enum Line {
+    /// The value of a key.
+    Get {
+        handle: Handle,
+        order: Order,
+        key: u32,
+    },
+    /// To put a value in at a key.
+    Insert {
+        handle: Handle,
+        order: Order,
+        key: u32,
+        value: u32,
+    },
+    /// All entries.
+    Iter {
+        handle: Handle,
+    },
+}
+
+/// The line that the words spell, or nothing where it is bad.
+pub(crate) fn parse(words: &[&str]) -> Option<Line> {
+    match words {
+        ["get", handle, order, key] => Some(Line::Get {
+            handle: handle_named(handle)?,
+            order: order_named(order)?,
+            key: number(key)?,
+        }),
+        ["insert", handle, order, key, value] => Some(Line::Insert {
+            handle: handle_named(handle)?,
+            order: order_named(order)?,
+            key: number(key)?,
+            value: number(value)?,
+        }),
+        ["iter", handle] => Some(Line::Iter {
+            handle: handle_named(handle)?,
+        }),
+        _ => None,
+    }
+}
+
+fn handle_named(word: &str) -> Option<Handle> {
+    match word.as_bytes() {
+        [digit @ b'0'..=b'7'] => Some(Handle {
+            index: (*digit - b'0') as usize,
+        }),
+        _ => None,
+    }
+}
+
+fn order_named(word: &str) -> Option<Order> {
+    match word {
+        "up" => Some(Order::Up),
+        "down" => Some(Order::Down),
+        "tens" => Some(Order::Tens),
+        _ => None,
+    }
+}
+
+/// A number of 1 to 10 digits, at most 4294967295. Leading zeros are allowed; a sign is not.
+pub fn number(word: &str) -> Option<u32> {
+    if word.len() > 10 || !word.bytes().all(|byte| byte.is_ascii_digit()) {
+        return None;
+    }
+    word.parse().ok()
+}

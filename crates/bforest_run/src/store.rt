@@ -1,0 +1,113 @@
+//! A forest with its handles, and what it answers.
+ghost use Rattle.bforest.specs.Forest.{IsLive, empty, list_of};
+ghost use Rattle.std.specs.Prelude.{IfOk, None, OnErr, replicate, ◌≡◌};
+
+use crate::line::{HANDLE_COUNT, Handle, Line};
+use crate::order::Order;
+use bforest::{Map, MapForest, OutOfMemory};
+use std::alloc::{AllocError, Global};
+use std::array;
+
+/// What a line is answered.
+#[derive(Drop)]
+pub(crate) enum Answer {
+    /// The value of a key, if it is present.
+    Value(Option<u32>),
+    /// What an insertion answered.
+    Put(Result<Option<u32>, OutOfMemory>),
+    /// All entries.
+    Pairs(Vec<(u32, u32)>),
+    /// The handle names no tree.
+    Dead,
+    /// The list of the handle does not increase under the order.
+    Unordered,
+}
+
+/// The maps that lines speak of.
+#[derive(Drop)]
+pub(crate) struct Maps {
+    handles: [Map<u32, u32>; HANDLE_COUNT],
+    forest: MapForest<u32, u32>,
+}
+
+impl Maps {
+    ghost use Rattle.bforest_run.specs.Machine.{Answers};
+    ghost use Rattle.bforest_run.specs.declared.line.Line.TheVariants as line;
+
+    /// An empty forest of at most so many slots, and empty handles.
+    pub(crate) fn new(alloc: Global, limit: u32) -> Maps
+        ensures forest { result.forest ≡ empty limit }
+        ensures handles { result.handles ≡ replicate 8 None }
+    {
+        Maps {
+            handles: array::from_fn(|_| Map::new()),
+            forest: MapForest::with_node_limit(alloc, limit),
+        }
+    }
+
+    /// Makes the call that a line asks for, if its handle and its order allow it.
+    pub(crate) fn answer(&mut self, alloc: Global, line: Line) -> Result<Answer, AllocError>
+        ensures answer { IfOk result (λ given. Answers self.old line given self.new) }
+        ensures err { OnErr result (self.new ≡ self.old) }
+    {
+        match line {
+            Line::Get { handle, order, key } => Ok(self.get(handle, order, key)),
+            Line::Insert {
+                handle,
+                order,
+                key,
+                value,
+            } => Ok(self.insert(handle, order, key, value)),
+            Line::Iter { handle } => self.iter(alloc, handle),
+        }
+    }
+
+    fn get(&self, handle: Handle, order: Order, key: u32) -> Answer
+        ensures { Answers self.now (line.Get handle order key) result self.now }
+    {
+        let map = &self.handles[handle.index];
+        if !self.forest.holds(map) {
+            return Answer::Dead;
+        }
+        if !map.increases(&self.forest, &order) {
+            return Answer::Unordered;
+        }
+        Answer::Value(map.get(key, &self.forest, &order))
+    }
+
+    fn insert(&mut self, handle: Handle, order: Order, key: u32, value: u32) -> Answer
+        ensures { Answers self.old (line.Insert handle order key value) result self.new }
+    {
+        let map = &mut self.handles[handle.index];
+        if !self.forest.holds(map) {
+            return Answer::Dead;
+        }
+        if !map.increases(&self.forest, &order) {
+            return Answer::Unordered;
+        }
+        Answer::Put(map.insert(key, value, &mut self.forest, &order))
+    }
+
+    fn iter(&self, alloc: Global, handle: Handle) -> Result<Answer, AllocError>
+        ensures { IfOk result (λ given. Answers self.now (line.Iter handle) given self.now) }
+    {
+        let map = &self.handles[handle.index];
+        if !self.forest.holds(map) {
+            return Ok(Answer::Dead);
+        }
+        let entries = listed(alloc, map, &self.forest)?;
+        Ok(Answer::Pairs(entries))
+    }
+}
+
+/// The entries of a map.
+fn listed(
+    alloc: Global,
+    map: &Map<u32, u32>,
+    forest: &MapForest<u32, u32>,
+) -> Result<Vec<(u32, u32)>, AllocError>
+    requires { IsLive forest.now map.now }
+    ensures { IfOk result (λ entries. entries.items ≡ list_of forest.now map.now) }
+{
+    map.iter(forest).collect(alloc)
+}

@@ -1,0 +1,44 @@
+//! Answers lines: calls on maps of numbers in one forest.
+#![tactic(auto)]
+
+use bforest_run::{Kind, number, run_text};
+use std::io::ErrorKind;
+use std::process::ExitCode;
+use std::rt::Env;
+use std::{env, io};
+
+/// What the arguments ask for: what lines speak of, and the limit on nodes.
+fn asked(words: &[String]) -> Option<(Kind, u32)> {
+    match words {
+        [] => Some((Kind::Map, u32::MAX)),
+        [kind] => Some((kind_named(kind)?, u32::MAX)),
+        [kind, limit] => Some((kind_named(kind)?, number(limit)?)),
+        _ => None,
+    }
+}
+
+fn kind_named(word: &str) -> Option<Kind> {
+    match word {
+        "map" => Some(Kind::Map),
+        _ => None,
+    }
+}
+
+/// The arguments, without the program's name.
+fn arguments(rt: &(impl Env + AllocGlobal)) -> io::Result<Vec<String>> {
+    Ok(env::args(rt)?.skip(1).collect(rt.alloc())?)
+}
+
+fn main(rt: HostRuntime) -> ExitCode {
+    let asked = match arguments(&rt) {
+        Ok(words) => asked(&words),
+        Err(error) if error.kind() == ErrorKind::OutOfMemory => return ExitCode::from(3),
+        Err(_) => None,
+    };
+    let Some((kind, limit)) = asked else {
+        let _ = eprintln!(rt; "usage: forest_run [map|set [limit]]");
+        return ExitCode::from(2);
+    };
+    let status = run_text(rt.alloc(), kind, limit, &mut rt.stdin(), &mut rt.stdout());
+    ExitCode::from(status)
+}
