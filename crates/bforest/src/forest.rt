@@ -63,6 +63,7 @@ impl<K: Copy, V: Copy> MapForest<K, V> {
     pub fn slots(&self) -> u32
         ensures { result ≡ slots_of self.now }
     {
+        // There are no more slots than the limit, so their number fits.
         let _limit = self.limit;
         self.leaves.len() as u32
     }
@@ -71,7 +72,8 @@ impl<K: Copy, V: Copy> MapForest<K, V> {
     pub fn free_slots(&self) -> u32
         ensures { result ≡ free_of self.now }
     {
-        let _limit = self.limit;
+        // Each slot is a tree.
+        let _leaves = &self.leaves;
         0
     }
 

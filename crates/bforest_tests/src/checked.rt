@@ -1,0 +1,74 @@
+//! Calls on maps of numbers, each after the tests of what it asks.
+use bforest::{Comparator, Map, MapForest, OutOfMemory};
+use std::alloc::{AllocError, Global};
+use std::process::Abort;
+
+/// A map of numbers to numbers.
+pub(crate) type Numbers = Map<u32, u32>;
+
+/// A forest of such maps.
+pub(crate) type NumberForest = MapForest<u32, u32>;
+
+/// What an insertion answers.
+pub(crate) type Put = Result<Option<u32>, OutOfMemory>;
+
+/// `insert`.
+pub(crate) fn insert<C: Comparator<u32>>(
+    rt: &impl Abort,
+    map: &mut Numbers,
+    (key, value): (u32, u32),
+    forest: &mut NumberForest,
+    comp: &C,
+) -> Put {
+    assert!(rt; forest.holds(map));
+    assert!(rt; map.increases(forest, comp));
+    map.insert(key, value, forest, comp)
+}
+
+/// `try_insert`.
+pub(crate) fn try_insert<C: Comparator<u32>>(
+    rt: &impl Abort,
+    map: &mut Numbers,
+    (key, value): (u32, u32),
+    forest: &mut NumberForest,
+    comp: &C,
+) -> Put {
+    assert!(rt; forest.holds(map));
+    assert!(rt; map.increases(forest, comp));
+    map.try_insert(key, value, forest, comp)
+}
+
+/// `get`.
+pub(crate) fn get<C: Comparator<u32>>(
+    rt: &impl Abort,
+    map: &Numbers,
+    key: u32,
+    forest: &NumberForest,
+    comp: &C,
+) -> Option<u32> {
+    assert!(rt; forest.holds(map));
+    assert!(rt; map.increases(forest, comp));
+    map.get(key, forest, comp)
+}
+
+/// What `increases` answers.
+pub(crate) fn increases<C: Comparator<u32>>(
+    rt: &impl Abort,
+    map: &Numbers,
+    forest: &NumberForest,
+    comp: &C,
+) -> bool {
+    assert!(rt; forest.holds(map));
+    map.increases(forest, comp)
+}
+
+/// What `iter` gives.
+pub(crate) fn entries(
+    rt: &impl Abort,
+    alloc: Global,
+    map: &Numbers,
+    forest: &NumberForest,
+) -> Result<Vec<(u32, u32)>, AllocError> {
+    assert!(rt; forest.holds(map));
+    map.iter(forest).collect(alloc)
+}

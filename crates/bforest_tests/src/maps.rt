@@ -1,0 +1,140 @@
+//! Maps under their keys' own order.
+
+use crate::checked::{NumberForest, Numbers, entries, get, increases, insert, try_insert};
+use bforest::{Map, MapForest, OutOfMemory};
+use std::default::Default;
+use std::test::Fail;
+
+#[test]
+fn writes_over_a_present_key(rt: HostRuntime) {
+    let mut forest: NumberForest = MapForest::new(rt.alloc());
+    let mut map = Map::new();
+    assert_eq!(rt; insert(&rt, &mut map, (5, 50), &mut forest, &()), Ok(None));
+    assert_eq!(rt;
+        insert(&rt, &mut map, (5, 51), &mut forest, &()),
+        Ok(Some(50))
+    );
+    assert_eq!(rt; get(&rt, &map, 5, &forest, &()), Some(51));
+
+    let mut other = Map::new();
+    assert_eq!(rt;
+        try_insert(&rt, &mut other, (5, 50), &mut forest, &()),
+        Ok(None)
+    );
+    assert_eq!(rt;
+        try_insert(&rt, &mut other, (5, 51), &mut forest, &()),
+        Ok(Some(50))
+    );
+    assert_eq!(rt; get(&rt, &other, 5, &forest, &()), Some(51));
+}
+
+#[test]
+fn gives_entries_in_order(rt: HostRuntime) -> Result<(), Fail> {
+    let mut forest: NumberForest = MapForest::new(rt.alloc());
+    let mut map = Map::new();
+    assert_eq!(rt;
+        insert(&rt, &mut map, (u32::MAX, 1), &mut forest, &()),
+        Ok(None)
+    );
+    assert_eq!(rt; insert(&rt, &mut map, (0, 2), &mut forest, &()), Ok(None));
+    let all = entries(&rt, rt.alloc(), &map, &forest)?;
+    assert_eq!(rt; all.as_slice(), [(0, 2), (u32::MAX, 1)].as_slice());
+
+    assert!(rt; forest.holds(&map));
+    let mut iter = map.iter(&forest);
+    assert_eq!(rt; iter.next(), Some((0, 2)));
+    assert_eq!(rt; iter.next(), Some((u32::MAX, 1)));
+    assert_eq!(rt; iter.next(), None);
+    assert_eq!(rt; iter.next(), None);
+    Ok(())
+}
+
+#[test]
+fn empty_maps_take_no_node(rt: HostRuntime) -> Result<(), Fail> {
+    let forest: NumberForest = MapForest::new(rt.alloc());
+    let map: Numbers = Map::default();
+    assert!(rt; map.is_empty());
+    assert!(rt; forest.holds(&map));
+    assert!(rt; map.increases(&forest, &()));
+    assert_eq!(rt; map.get(5, &forest, &()), None);
+    assert_eq!(rt; entries(&rt, rt.alloc(), &map, &forest)?.len(), 0);
+    assert_eq!(rt; forest.slots(), 0);
+    assert_eq!(rt; forest.free_slots(), 0);
+    assert_eq!(rt; forest.node_limit(), u32::MAX);
+    Ok(())
+}
+
+#[test]
+fn a_clone_names_the_same_tree(rt: HostRuntime) {
+    let mut forest: NumberForest = MapForest::new(rt.alloc());
+    let mut map = Map::new();
+    assert_eq!(rt; insert(&rt, &mut map, (1, 10), &mut forest, &()), Ok(None));
+    let twin = map.clone();
+    assert_eq!(rt; insert(&rt, &mut map, (2, 20), &mut forest, &()), Ok(None));
+    assert_eq!(rt; get(&rt, &twin, 2, &forest, &()), Some(20));
+    assert!(rt; !twin.is_empty());
+    assert_eq!(rt; forest.slots(), 1);
+}
+
+#[test]
+fn each_map_keeps_its_own_entries(rt: HostRuntime) -> Result<(), Fail> {
+    let mut forest: NumberForest = MapForest::new(rt.alloc());
+    let mut first = Map::new();
+    let mut second = Map::new();
+    for key in 1..8 {
+        assert_eq!(rt;
+            insert(&rt, &mut first, (key, key), &mut forest, &()),
+            Ok(None)
+        );
+        assert_eq!(rt;
+            insert(&rt, &mut second, (8 - key, 0), &mut forest, &()),
+            Ok(None)
+        );
+    }
+    let all = entries(&rt, rt.alloc(), &first, &forest)?;
+    assert_eq!(rt;
+        all.as_slice(),
+        [(1, 1), (2, 2), (3, 3), (4, 4), (5, 5), (6, 6), (7, 7)].as_slice()
+    );
+    let all = entries(&rt, rt.alloc(), &second, &forest)?;
+    assert_eq!(rt;
+        all.as_slice(),
+        [(1, 0), (2, 0), (3, 0), (4, 0), (5, 0), (6, 0), (7, 0)].as_slice()
+    );
+    assert_eq!(rt; forest.slots(), 2);
+    Ok(())
+}
+
+#[test]
+fn a_handle_of_another_forest_is_not_held(rt: HostRuntime) {
+    let mut forest: NumberForest = MapForest::new(rt.alloc());
+    let other: NumberForest = MapForest::new(rt.alloc());
+    let mut map = Map::new();
+    assert_eq!(rt; insert(&rt, &mut map, (1, 10), &mut forest, &()), Ok(None));
+    assert!(rt; forest.holds(&map));
+    assert!(rt; !other.holds(&map));
+}
+
+// Seven entries fill a leaf, and a tree is one leaf for now.
+#[test]
+fn a_full_leaf_takes_no_new_key(rt: HostRuntime) {
+    let mut forest: NumberForest = MapForest::new(rt.alloc());
+    let mut map = Map::new();
+    for key in 1..8 {
+        assert_eq!(rt;
+            insert(&rt, &mut map, (key, key), &mut forest, &()),
+            Ok(None)
+        );
+    }
+    assert_eq!(rt;
+        insert(&rt, &mut map, (8, 80), &mut forest, &()),
+        Err(OutOfMemory::Full)
+    );
+    assert_eq!(rt;
+        insert(&rt, &mut map, (7, 71), &mut forest, &()),
+        Ok(Some(7))
+    );
+    assert_eq!(rt; get(&rt, &map, 8, &forest, &()), None);
+    assert_eq!(rt; get(&rt, &map, 7, &forest, &()), Some(71));
+    assert!(rt; increases(&rt, &map, &forest, &()));
+}

@@ -1,0 +1,83 @@
+//! Maps under orders of their own, and one tree under several.
+ghost use Rattle.std.proofs.Common.{rules};
+ghost use Rattle.std.specs.Cmp.Rules.{comparing};
+ghost use Rattle.std.specs.Ordering.{flip_args, nat_cmp, on};
+ghost use Rattle.std.specs.Prelude.{◌/◌};
+
+use crate::checked::{NumberForest, entries, get, increases, insert};
+use bforest::{Comparator, Map, MapForest};
+use std::cmp::Ordering;
+use std::test::Fail;
+
+/// The largest first.
+struct Reversed;
+
+impl Comparator<u32> for Reversed {
+    ghost order = { λ _. flip_args nat_cmp };
+
+    ghost total = { λ _. Prim.search (comparing, rules) };
+
+    fn cmp(&self, a: u32, b: u32) -> Ordering {
+        b.cmp(&a)
+    }
+}
+
+/// By size without the last digit.
+struct Tens;
+
+impl Comparator<u32> for Tens {
+    ghost order = { λ _. on (λ k. k / 10) nat_cmp };
+
+    ghost total = { λ _. Prim.search (comparing, rules) };
+
+    fn cmp(&self, a: u32, b: u32) -> Ordering {
+        (a / 10).cmp(&(b / 10))
+    }
+}
+
+#[test]
+fn searches(rt: HostRuntime) {
+    assert_eq!(rt; Comparator::cmp(&(), 2, 9), Ordering::Less);
+    assert_eq!(rt; ().search(9, &[2, 9]), Ok(1));
+    assert_eq!(rt; ().search(5, &[2, 9]), Err(1));
+    assert_eq!(rt; ().search(5, &[]), Err(0));
+    assert_eq!(rt; Reversed.search(5, &[9, 2]), Err(1));
+    assert_eq!(rt; Tens.search(17, &[3, 12]), Ok(1));
+    assert_eq!(rt; Tens.search(27, &[3, 12]), Err(2));
+}
+
+#[test]
+fn equal_keys_are_one_entry(rt: HostRuntime) -> Result<(), Fail> {
+    let mut forest: NumberForest = MapForest::new(rt.alloc());
+    let mut map = Map::new();
+    assert_eq!(rt;
+        insert(&rt, &mut map, (12, 1), &mut forest, &Tens),
+        Ok(None)
+    );
+    assert_eq!(rt;
+        insert(&rt, &mut map, (15, 2), &mut forest, &Tens),
+        Ok(Some(1))
+    );
+    assert_eq!(rt; get(&rt, &map, 19, &forest, &Tens), Some(2));
+    let all = entries(&rt, rt.alloc(), &map, &forest)?;
+    assert_eq!(rt; all.as_slice(), [(12, 2)].as_slice());
+    Ok(())
+}
+
+#[test]
+fn an_order_that_does_not_fit_shows(rt: HostRuntime) -> Result<(), Fail> {
+    let mut forest: NumberForest = MapForest::new(rt.alloc());
+    let mut map = Map::new();
+    assert_eq!(rt; insert(&rt, &mut map, (5, 50), &mut forest, &()), Ok(None));
+    assert!(rt; increases(&rt, &map, &forest, &Reversed));
+    assert_eq!(rt;
+        insert(&rt, &mut map, (3, 30), &mut forest, &Reversed),
+        Ok(None)
+    );
+    let all = entries(&rt, rt.alloc(), &map, &forest)?;
+    assert_eq!(rt; all.as_slice(), [(5, 50), (3, 30)].as_slice());
+    assert!(rt; !increases(&rt, &map, &forest, &()));
+    assert!(rt; increases(&rt, &map, &forest, &Reversed));
+    assert!(rt; !increases(&rt, &map, &forest, &Tens));
+    Ok(())
+}
