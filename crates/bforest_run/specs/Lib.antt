@@ -1,3 +1,5 @@
 pub mod Orders
+pub mod Lines
 pub mod Machine
+pub mod Numbers
 pub mod Output

@@ -1,5 +1,10 @@
 //! Lines, and what they ask for.
-ghost use Rattle.std.specs.Prelude.{IfSome, length, ◌<◌, ◌≤◌};
+ghost use Rattle.bforest_run.specs.Numbers.{IsNumber};
+ghost use Rattle.std.specs.Char.{is_ascii_digit};
+ghost use Rattle.std.specs.List.{list_all};
+ghost use Rattle.std.specs.Option.{SomeIff};
+ghost use Rattle.std.specs.Prelude.{◌<◌, ◌≡◌};
+ghost use Rattle.std.specs.Str.Parse.{digits_value};
 
 use crate::order::Order;
 
@@ -75,9 +80,18 @@ fn order_named(word: &str) -> Option<Order> {
 }
 
 /// A number of 1 to 10 digits, at most 4294967295. Leading zeros are allowed; a sign is not.
-pub fn number(word: &str) -> Option<u32> {
-    if word.len() > 10 || !word.bytes().all(|byte| byte.is_ascii_digit()) {
+pub fn number(word: &str) -> Option<u32>
+    ensures { SomeIff result (IsNumber word.now) (digits_value 10 word.now) }
+{
+    if word.len() > 10 || !is_digits(word) {
         return None;
     }
     word.parse().ok()
+}
+
+/// Whether there are only digits.
+fn is_digits(word: &str) -> bool
+    ensures { result ≡ list_all is_ascii_digit word.now }
+{
+    word.bytes().all(|byte| byte.is_ascii_digit())
 }
