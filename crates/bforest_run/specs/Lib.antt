@@ -3,3 +3,4 @@ pub mod Lines
 pub mod Machine
 pub mod Numbers
 pub mod Output
+pub mod Shown
