@@ -2,7 +2,7 @@
 use Rattle.bforest.specs.Entries.{is_present, place, put, with_value}
 use Rattle.bforest.specs.Forest.{Becomes, Forest, list_at, slots_of}
 use Rattle.bforest.specs.Layout.{IsGrown, forest_of}
-use Rattle.std.proofs.Common.{Bool, Err, List, Ok, Result, Some, [], arith, ap, false, if◌then◌else◌, inl, inr, insert, length, length-set, refl, slice_index_or, slice_set, subst, suc, sym, true, zero, ⊎_elim, ◌==◌, ◌<◌, ◌∙◌, ◌∷◌, ◌≡◌, ◌≢◌, ◌≤◌, ◌⊎◌, ℕ}
+use Rattle.std.proofs.Common.{Bool, Err, List, Ok, Result, Some, [], arith, ap, false, if◌then◌else◌, insert, length, length-set, refl, slice_index_or, slice_set, subst, suc, sym, true, zero, ⊎_elim, ◌==◌, ◌<◌, ◌∙◌, ◌∷◌, ◌≡◌, ◌≢◌, ℕ}
 use Rattle.std.proofs.lemmas.Bool.{cases_Bool}
 use Rattle.std.proofs.lemmas.List.{get_or-set_other, get_or-set_same, get_or_past, get_or_read}
 use Rattle.std.specs.Result.{OnErr, OnOk}

@@ -2,6 +2,7 @@
 ghost use Rattle.bforest.specs.Entries.{IsIncreasing, put, value_for};
 ghost use Rattle.bforest.specs.Forest.{Becomes, Forest, IsBeyondLeaf, IsLive, IsTooMany, NeedsGrowth, Takes, free_of, list_of, need_of};
 ghost use Rattle.std.specs.Option.{option_map_or};
+ghost use Rattle.std.specs.declared.cmp.Ordering.{Ordering};
 ghost use Rattle.std.specs.Ordering.{is_lt};
 ghost use Rattle.std.specs.Prelude.{IfOk, IsOk, IsSome, IsTrue, None, OnErr, OnOk, [], true, ◌↔◌, ◌≡◌, ◌≤◌, ◌⊎◌};
 
@@ -43,9 +44,11 @@ impl<K: Copy, V: Copy> Default for Map<K, V> {
 }
 
 impl<K: Copy, V: Copy> Map<K, V> {
-    /// An empty map. It takes no memory and no node, and is live in every forest.
+    /// An empty map. It takes no memory and no node, is live in every forest, and increases under every order.
     pub fn new() -> Map<K, V>
-        ensures { result ≡ None }
+        ensures empty { result ≡ None }
+        ensures increasing { (forest : Forest K V) (order : K → K → Ordering)
+            → IsIncreasing order (list_of forest result) }
     {
         Map {
             root: None,
@@ -67,7 +70,7 @@ impl<K: Copy, V: Copy> Map<K, V> {
     pub fn is_empty(&self) -> bool
         ensures handle { IsTrue result ↔ (self.now ≡ None) }
         ensures list { (forest : Forest K V) → IsLive forest self.now
-            → IsTrue result ↔ (list_of forest self.now ≡ []) }
+            → (IsTrue result ↔ (list_of forest self.now ≡ [])) }
     {
         self.root.is_none()
     }

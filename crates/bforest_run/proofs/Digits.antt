@@ -1,6 +1,6 @@
 -- What `parse` gives of a word of digits.
 use Rattle.bforest_run.specs.Numbers.{IsNumber}
-use Rattle.std.proofs.Common.{Err, List, None, Ok, Result, Some, length, rules, true, ◌<◌, ◌^◌, ◌≡◌, ◌≤◌, ℕ}
+use Rattle.std.proofs.Common.{Err, List, Ok, Result, length, rules, true, ◌<◌, ◌^◌, ◌≡◌, ◌≤◌, ℕ}
 use Rattle.std.proofs.lemmas.Str.Parse.{IsNumeralModel, numerals_by_value, parse_digits}
 use Rattle.std.specs.Char.{is_ascii_digit}
 use Rattle.std.specs.List.{list_all}

@@ -1,6 +1,6 @@
 -- The text of entries, one more at a time.
 use Rattle.bforest_run.specs.Shown.{entry_text, more_entries_text}
-use Rattle.std.proofs.Common.{List, [], ap, append_assoc, arith, codes, get_or, length, refl, sym, take, ◌+◌, ◌++◌, ◌<◌, ◌∙◌, ◌∷◌, ◌≡◌, ℕ}
+use Rattle.std.proofs.Common.{List, [], ap, append_assoc, codes, get_or, length, sym, take, ◌+◌, ◌++◌, ◌<◌, ◌∙◌, ◌∷◌, ◌≡◌, ℕ}
 use Rattle.std.proofs.lemmas.List.{append-nil, take_more}
 
 more_entries_text-push : (es : List (ℕ × ℕ)) (e : ℕ × ℕ) → more_entries_text (es ++ e ∷ []) ≡ more_entries_text es ++ (codes " " ++ entry_text e)

@@ -5,6 +5,16 @@ use bforest::{Map, MapForest, OutOfMemory};
 use std::default::Default;
 use std::test::Fail;
 
+// The README's example: for a map that is used by itself the conditions of each call are seen.
+#[test]
+fn the_first_example(rt: HostRuntime) {
+    let mut forest: NumberForest = MapForest::new(rt.alloc());
+    let mut map = Map::new();
+    assert_eq!(rt; map.insert(5, 50, &mut forest, &()), Ok(None));
+    assert_eq!(rt; map.insert(5, 51, &mut forest, &()), Ok(Some(50)));
+    assert_eq!(rt; map.get(5, &forest, &()), Some(51));
+}
+
 #[test]
 fn writes_over_a_present_key(rt: HostRuntime) {
     let mut forest: NumberForest = MapForest::new(rt.alloc());

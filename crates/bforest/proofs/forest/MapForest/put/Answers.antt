@@ -1,9 +1,9 @@
 use Rattle.bforest.proofs.Tables.{IsGrown-slot, becomes-slot, old-slot, some-put, some-tried}
 use Rattle.bforest.proofs.forest.MapForest.put.Goals as goal
 use Rattle.bforest.specs.Entries.{put}
-use Rattle.bforest.specs.Forest.{Becomes, list_at}
+use Rattle.bforest.specs.Forest.{Becomes}
 use Rattle.bforest.specs.Layout.{forest_of}
-use Rattle.std.proofs.Common.{Some, [], ap, slice_set, subst, sym, ◌∙◌, ◌≡◌, ◌≢◌}
+use Rattle.std.proofs.Common.{Some, [], ap, slice_set, subst, sym, ◌∙◌, ◌≢◌}
 use Rattle.std.proofs.lemmas.Result.{on_ok_weaker}
 
 pub invariant_of-self : goal.invariant_of-self

@@ -1,7 +1,7 @@
 use Rattle.bforest.proofs.Increasing.{IncreasesAfter, IsDownTo, IsDownTo-next, alone, not_increasing}
 use Rattle.bforest.proofs.map.Map.increases.Goals as goal
 use Rattle.bforest.specs.Forest.{list_of}
-use Rattle.std.proofs.Common.{None, [], ap, refl, subst, sym, ◌∙◌, ◌≡◌}
+use Rattle.std.proofs.Common.{None, refl, subst, sym, ◌∙◌, ◌≡◌}
 use Rattle.std.specs.Map.{keys_of}
 
 pub entries-init : goal.entries-init

@@ -1,0 +1,6 @@
+use Rattle.bforest.proofs.Increasing.{alone}
+use Rattle.bforest.proofs.map.Map.new.Goals as goal
+use Rattle.std.proofs.Common.{None}
+
+pub returns-clause-increasing : goal.returns-clause-increasing
+returns-clause-increasing g c = λ forest order. alone order None
