@@ -15,7 +15,8 @@ use std::marker::Model;
 pub enum OutOfMemory {
     /// The table had to grow and was allowed to, but the memory for it was refused. The same insertion may succeed later.
     Memory,
-    /// Fewer nodes can be had than the insertion needs: those that lie free, and those up to the limit, are too few.
+    /// Fewer nodes can be had than the insertion needs: those that lie free, and those up to the limit, are too few. For now also: a new
+    /// key for a map of 7 entries, since a tree is one leaf.
     Full,
 }
 
@@ -42,14 +43,14 @@ impl<K: Copy, V: Copy> Model for MapForest<K, V> {
 
 impl<K: Copy, V: Copy> MapForest<K, V> {
     /// An empty forest of at most 4294967295 slots, which is as many as nodes can be named. It takes no memory.
-    pub fn new(alloc: Global) -> MapForest<K, V>
+    pub fn new(alloc: Global) -> Self
         ensures { result ≡ empty u32.MAX }
     {
         MapForest::with_node_limit(alloc, u32::MAX)
     }
 
     /// An empty forest of at most so many slots. It takes no memory. A limit of 0 is allowed: then each insertion is refused.
-    pub fn with_node_limit(alloc: Global, limit: u32) -> MapForest<K, V>
+    pub fn with_node_limit(alloc: Global, limit: u32) -> Self
         ensures { result ≡ empty limit }
     {
         MapForest {

@@ -38,14 +38,14 @@ impl<K: Copy, V: Copy> Default for Map<K, V> {
     ghost is_default = { λ m. m ≡ None };
 
     /// The same as [`Map::new`].
-    fn default() -> Map<K, V> {
+    fn default() -> Self {
         Map::new()
     }
 }
 
 impl<K: Copy, V: Copy> Map<K, V> {
     /// An empty map. It takes no memory and no node, is live in every forest, and increases under every order.
-    pub fn new() -> Map<K, V>
+    pub fn new() -> Self
         ensures empty { result ≡ None }
         ensures increasing { (forest : Forest K V) (order : K → K → Ordering)
             → IsIncreasing order (list_of forest result) }
@@ -57,7 +57,7 @@ impl<K: Copy, V: Copy> Map<K, V> {
     }
 
     /// The same handle once more, which names the same tree. No entry is copied.
-    pub fn clone(&self) -> Map<K, V>
+    pub fn clone(&self) -> Self
         ensures { result ≡ self.now }
     {
         Map {

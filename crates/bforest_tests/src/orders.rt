@@ -22,7 +22,7 @@ impl Comparator<u32> for Reversed {
     }
 }
 
-/// By size without the last digit.
+/// By size without the last digit, with a search of its own.
 struct Tens;
 
 impl Comparator<u32> for Tens {
@@ -32,6 +32,11 @@ impl Comparator<u32> for Tens {
 
     fn cmp(&self, a: u32, b: u32) -> Ordering {
         (a / 10).cmp(&(b / 10))
+    }
+
+    fn search(&self, k: u32, s: &[u32]) -> Result<usize, usize> {
+        let tens = k / 10;
+        s.binary_search_by(|x| (*x / 10).cmp(&tens))
     }
 }
 
