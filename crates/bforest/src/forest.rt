@@ -62,7 +62,8 @@ impl<K: Copy, V: Copy> MapForest<K, V> {
 
     /// How many slots the table has: one for each node, and one for each node that lies free.
     pub fn slots(&self) -> u32
-        ensures { result ≡ slots_of self.now }
+        ensures count { result ≡ slots_of self.now }
+        ensures within { slots_of self.now ≤ limit_of self.now }
     {
         // There are no more slots than the limit, so their number fits.
         let _limit = self.limit;
