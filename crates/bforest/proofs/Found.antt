@@ -9,6 +9,7 @@ use Rattle.std.specs.Ordering.{is_eq, is_lt}
 use Rattle.std.specs.declared.cmp.Ordering.{Ordering}
 
 module _ {K X : Type 0} (cmp : K → K → Ordering) where
+  -- how many keys are less, among the keys and among the entries
   count_less-keys_of : (es : List (K × X)) (k : K) → count_less cmp (keys_of es) k ≡ place cmp es k
   count_less-keys_of [] k = refl
   count_less-keys_of (e ∷ es) k =
@@ -24,6 +25,7 @@ module _ {K X : Type 0} (cmp : K → K → Ordering) where
       go false = refl
   is_equal_at-keys_of (e ∷ es) k (suc i) = is_equal_at-keys_of es k i
 
+  -- a search among the keys finds the place among the entries
   pub search_of-keys_of : (es : List (K × X)) (k : K) → search_of cmp (keys_of es) k ≡ search_for cmp es k
   search_of-keys_of es k = λ j. if (is_equal_at-keys_of es k (count_less cmp (keys_of es) k) ∙ ap (λ n. is_some (option_and_then (λ e. if is_eq (cmp e.0 k) then Some e else None) (slice_get es n))) (count_less-keys_of es k)) j then Ok (count_less-keys_of es k j) else Err (count_less-keys_of es k j)
 
@@ -44,6 +46,7 @@ module _ {K X : Type 0} (cmp : K → K → Ordering) where
         go true h = absurd (cc)
         go false h = (cc, refl)
 
+    -- a present key's value is that at its place
     pub value_for-present : is_present cmp es k ≡ true → value_for cmp es k ≡ value_at_place es (place cmp es k)
     value_for-present h = go (slice_get es (place cmp es k)) h
       where
@@ -55,6 +58,7 @@ module _ {K X : Type 0} (cmp : K → K → Ordering) where
             here true h = refl
             here false h = absurd (cc)
 
+    -- an absent key has no value
     pub value_for-absent : is_present cmp es k ≡ false → value_for cmp es k ≡ None
     value_for-absent h = go (entry_for cmp es k) h
       where
@@ -62,6 +66,7 @@ module _ {K X : Type 0} (cmp : K → K → Ordering) where
         go None h = refl
         go (Some e) h = absurd (cc)
 
+    -- a present key's place is that of an entry
     pub place-present : is_present cmp es k ≡ true → place cmp es k < length es
     place-present h = go es (place cmp es k) h
       where
@@ -70,8 +75,10 @@ module _ {K X : Type 0} (cmp : K → K → Ordering) where
         go (x ∷ xs) zero h = omega arith
         go (x ∷ xs) (suc i) h = let r = go xs i h in omega (arith, r)
 
+    -- what an insertion does at a present key
     pub put-present : (v : X) → is_present cmp es k ≡ true → put cmp es k v ≡ with_value es (place cmp es k) v
     put-present v h = λ j. if h j then with_value es (place cmp es k) v else insert es (place cmp es k) (k, v)
 
+    -- and at an absent one
     pub put-absent : (v : X) → is_present cmp es k ≡ false → put cmp es k v ≡ insert es (place cmp es k) (k, v)
     put-absent v h = λ j. if h j then with_value es (place cmp es k) v else insert es (place cmp es k) (k, v)

@@ -1,7 +1,7 @@
 -- Keys that increase, from the last one that was seen.
 use Rattle.bforest.specs.Entries.{IsIncreasing, put}
 use Rattle.bforest.specs.Forest.{Becomes, Forest, list_of}
-use Rattle.bforest.proofs.Ordered.{IsIncreasing-put}
+use Rattle.bforest.proofs.Ordered.{IsIncreasing-put, above}
 use Rattle.std.proofs.Common.{Err, List, None, Ok, Option, Result, Some, [], ap, false, refl, subst, sym, true, ◌∷◌, ◌≡◌, ℕ}
 use Rattle.std.specs.Cmp.{IsTotalOrder}
 use Rattle.std.specs.List.{AllByRecursion}
@@ -19,19 +19,17 @@ module _ {K : Type 0} (cmp : K → K → Ordering) where
   IncreasesAfter None ks = IsStrictlySortedBy cmp ks
   IncreasesAfter (Some k) ks = IsStrictlySortedBy cmp (k ∷ ks)
 
-  module _ (o : IsTotalOrder cmp) where
-    above : (k q : K) (ks : List K) → cmp k q ≡ Less → AllByRecursion (λ y. cmp q y ≡ Less) ks → AllByRecursion (λ y. cmp k y ≡ Less) ks
-    above k q [] l h = tt
-    above k q (x ∷ xs) l h = (o.trans _ _ _ l h.0, above k q xs l h.1)
+  -- a key that is less than the first may stand before it
+  pub after_less : (o : IsTotalOrder cmp) (k q : K) (ks : List K) → cmp k q ≡ Less → IsStrictlySortedBy cmp (q ∷ ks) → IsStrictlySortedBy cmp (k ∷ q ∷ ks)
+  unfolding IsStrictlySortedBy
+  after_less o k q ks l h = ((l, above cmp o k q ks l h.0), h)
 
-    pub after_less : (k q : K) (ks : List K) → cmp k q ≡ Less → IsStrictlySortedBy cmp (q ∷ ks) → IsStrictlySortedBy cmp (k ∷ q ∷ ks)
-    unfolding IsStrictlySortedBy
-    after_less k q ks l h = ((l, above k q ks l h.0), h)
-
+  -- and one that stands before it is less
   pub less-after : (k q : K) (ks : List K) → IsStrictlySortedBy cmp (k ∷ q ∷ ks) → (cmp k q ≡ Less) × IsStrictlySortedBy cmp (q ∷ ks)
   unfolding IsStrictlySortedBy
   less-after k q ks h = (h.0.0, h.1)
 
+  -- a last key alone increases
   pub alone : (last : Option K) → IncreasesAfter last []
   unfolding IsStrictlySortedBy
   alone None = tt
@@ -44,6 +42,7 @@ module _ {K X : Type 0} (cmp : K → K → Ordering) where
     pub up : IncreasesAfter cmp last (keys_of rest) → IsIncreasing cmp es
 
   module _ (o : IsTotalOrder cmp) (es : List (K × X)) (last : Option K) (k : K) (v : X) (rest : List (K × X)) where
+    -- one entry more was seen, and follows
     pub IsDownTo-next : (seen : List (K × X)) → seen ≡ (k, v) ∷ rest → true ≡ option_map_or (λ b. is_lt (cmp b k)) last true → IsDownTo es last seen → IsDownTo es (Some k) rest
     IsDownTo-next seen e t h = go last t (subst (IsDownTo es last) e h)
       where
@@ -62,6 +61,7 @@ module _ {K X : Type 0} (cmp : K → K → Ordering) where
           up = λ up. h.up (after_less cmp o b k (keys_of rest) (less b t) up);
         }
 
+    -- one entry more was seen, and does not follow
     pub not_increasing : (seen : List (K × X)) → seen ≡ (k, v) ∷ rest → false ≡ option_map_or (λ b. is_lt (cmp b k)) last true → IsDownTo es last seen → IsIncreasing cmp es → ⊥
     not_increasing seen e t h up = go last t (subst (IsDownTo es last) e h)
       where
@@ -69,6 +69,7 @@ module _ {K X : Type 0} (cmp : K → K → Ordering) where
         go None t h = cc
         go (Some b) t h = let bad : is_lt (cmp b k) ≡ true = ap is_lt (less-after cmp b k (keys_of rest) (h.down up)).0 in cc
 
+  -- one entry increases
   pub IsIncreasing-one : (e : K × X) → IsIncreasing cmp (e ∷ [])
   unfolding IsStrictlySortedBy
   IsIncreasing-one e = (tt, tt)

@@ -17,9 +17,11 @@ use Rattle.std.proofs.lemmas.Map.Keys.{Less-from_sorted}
 use Rattle.bforest.specs.Search.{count_less, is_equal_at, search_of}
 
 module _ {K : Type 0} (cmp : K → K → Ordering) where
+  -- a first key that is less counts
   pub count_less-yes : (x : K) (xs : List K) (k : K) → is_lt (cmp x k) ≡ true → count_less cmp (x ∷ xs) k ≡ suc (count_less cmp xs k)
   count_less-yes x xs k h = sum_by-cons (λ y. cond (is_lt (cmp y k)) 1 0) x xs ∙ ap (λ b. cond b 1 0 + count_less cmp xs k) h ∙ omega arith
 
+  -- and another does not
   pub count_less-no : (x : K) (xs : List K) (k : K) → is_lt (cmp x k) ≡ false → count_less cmp (x ∷ xs) k ≡ count_less cmp xs k
   count_less-no x xs k h = sum_by-cons (λ y. cond (is_lt (cmp y k)) 1 0) x xs ∙ ap (λ b. cond b 1 0 + count_less cmp xs k) h ∙ omega arith
 
@@ -30,7 +32,7 @@ module _ {K : Type 0} (cmp : K → K → Ordering) where
   count_less-from_parts (x ∷ xs) k (suc i) le low high = count_less-yes x xs k (low 0 x (omega arith)) ∙ ap suc (count_less-from_parts xs k i (omega arith) (λ j d h. low (suc j) d (omega arith)) (λ j d h g. high (suc j) d (omega arith) (omega arith)))
 
   module _ (o : IsTotalOrder cmp) (ks : List K) (k : K) (sorted : IsStrictlySortedBy cmp ks) where
-    -- before a key that is not greater all are less, and after one that is not less all are not less
+    -- before a key that is not greater all are less
     before : (i j : ℕ) (d : K) → j < i → i < length ks → is_gt (cmp (get_or ks i d) k) ≡ false → is_lt (cmp (get_or ks j d) k) ≡ true
     before i j d lt within h = go (cmp (get_or ks i d) k) refl h
       where
@@ -39,6 +41,7 @@ module _ {K : Type 0} (cmp : K → K → Ordering) where
         go Equal e h = ap is_lt (sym (alike_right o _ _ (get_or ks j d) e) ∙ Less-from_sorted cmp ks j i d sorted lt within)
         go Greater e h = absurd (cc)
 
+    -- after one that is not less all are not less
     after : (i j : ℕ) (d : K) → i < j → j < length ks → is_lt (cmp (get_or ks i d) k) ≡ false → is_lt (cmp (get_or ks j d) k) ≡ false
     after i j d lt within h = go (cmp (get_or ks j d) k) refl
       where
@@ -47,24 +50,29 @@ module _ {K : Type 0} (cmp : K → K → Ordering) where
         go Equal e = ap is_lt e
         go Greater e = ap is_lt e
 
+    -- the same from it on
     not_before : (i j : ℕ) (d : K) → i ≤ j → j < length ks → is_lt (cmp (get_or ks i d) k) ≡ false → is_lt (cmp (get_or ks j d) k) ≡ false
     not_before i j d le within h = ⊎_elim
         (λ t. after i j d (ltb-true i j t) within h)
         (λ t. let e : i ≡ j = omega (arith, ltb-false i j t) in subst (λ n. is_lt (cmp (get_or ks n d) k) ≡ false) e h)
         (cases_Bool (ltb i j))
 
+    -- the answers rise along the keys
     rises : IsNonDecreasingBy (λ y. ordering_index (cmp y k)) ks
     rises = searchable_from_sorted o (λ y. y) ks k (λ j d low within. let e = Less-from_sorted cmp ks j (j + 1) d sorted (omega arith) within in ap is_lt (o.antisymm _ _ ∙ ap ordering_reverse e))
 
+    -- a count, and whether the key there compares equal, make the answer
     by_test : (i : ℕ) (b : Bool) → count_less cmp ks k ≡ i → is_equal_at cmp ks k i ≡ b → search_of cmp ks k ≡ (if b then Ok i else Err i)
     by_test i b e h = λ j. if both j then Ok (e j) else Err (e j)
       where
         both : is_equal_at cmp ks k (count_less cmp ks k) ≡ b
         both = ap (is_equal_at cmp ks k) e ∙ h
 
+    -- whether the key inside the list compares equal
     test_at : (i : ℕ) (b : Bool) → i < length ks → is_eq (cmp (get_or ks i k) k) ≡ b → is_equal_at cmp ks k i ≡ b
     test_at i b within h = ap (λ t. option_map_or (λ x. is_eq (cmp x k)) t false) (slice_get-get_or ks i k within) ∙ h
 
+    -- a binary search's answer
     pub searched : (r : Result ℕ ℕ) → IsSearchInRange r (length ks) → IsBinarySearchResult (λ y. cmp y k) ks r → r ≡ search_of cmp ks k
     searched (Ok i) within h =
         let count : count_less cmp ks k ≡ i = count_less-from_parts ks k i (omega arith)

@@ -14,6 +14,7 @@ module _ {K X : Type 0} where
   pub within-live : (f : Forest K X) (n : ℕ) → list_at f n ≢ [] → n < slots_of f
   within-live f n live = grind (arith, get_or_past, live)
 
+  -- an insertion leaves an entry at least
   pub some-put : (cmp : K → K → Ordering) (es : List (K × X)) (k : K) (v : X) → put cmp es k v ≢ []
   some-put cmp [] k v e = cc
   some-put cmp (x ∷ xs) k v e = go (is_present cmp (x ∷ xs) k) (place cmp (x ∷ xs) k) e
@@ -26,12 +27,15 @@ module _ {K X : Type 0} where
 
   -- the table with another list in a slot that has one
   module _ (lists : List (List (K × X))) (limit n : ℕ) (es : List (K × X)) (within : n < length lists) (some : es ≢ []) where
+    -- the slot has that list
     same : list_at (forest_of (slice_set lists n es) limit) n ≡ es
     same = get_or-set_same lists n es [] within
 
+    -- and each other slot its own
     other : (q : ℕ) → q ≢ n → list_at (forest_of (slice_set lists n es) limit) q ≡ list_at (forest_of lists limit) q
     other q ne = get_or-set_other lists n q es [] ne
 
+    -- so one list changes
     pub becomes-set : Becomes (forest_of lists limit) (Some n) (forest_of (slice_set lists n es) limit) (Some n) es
     becomes-set = record {
       live = λ e. some (sym same ∙ e);
@@ -42,6 +46,7 @@ module _ {K X : Type 0} where
       limit = refl;
     }
 
+    -- and each slot is still a tree
     pub IsGrown-set : IsGrown (forest_of lists limit) → IsGrown (forest_of (slice_set lists n es) limit)
     IsGrown-set h = record {
       within = omega (arith, h.within, length-set lists n es);
@@ -53,15 +58,19 @@ module _ {K X : Type 0} where
 
   -- a slot of a forest, which held old and now holds new
   module _ {f : Forest K X} (lists : List (List (K × X))) (limit n : ℕ) (old new : List (K × X)) (view : forest_of lists limit ≡ f) (live : list_at f n ≢ []) (read : old ≡ slice_index_or lists n old) where
+    -- its number is that of a slot
     in_table : n < length lists
     in_table = within-live (forest_of lists limit) n (subst (λ g. list_at g n ≢ []) (sym view) live)
 
+    -- what it held is the list of its number
     pub old-slot : old ≡ list_at f n
     old-slot = get_or_read lists n old in_table read [] ∙ ap (λ g. list_at g n) view
 
+    -- what it holds now is the list of its number, and no other list changes
     pub becomes-slot : new ≢ [] → Becomes f (Some n) (forest_of (slice_set lists n new) limit) (Some n) new
     becomes-slot some = subst (λ g. Becomes g (Some n) (forest_of (slice_set lists n new) limit) (Some n) new) view (becomes-set lists limit n new in_table some)
 
+    -- and each slot is still a tree
     pub IsGrown-slot : new ≢ [] → IsGrown (forest_of lists limit) → IsGrown (forest_of (slice_set lists n new) limit)
     IsGrown-slot some = IsGrown-set lists limit n new in_table some
 

@@ -44,14 +44,14 @@ impl<K: Copy, V: Copy> Model for MapForest<K, V> {
 impl<K: Copy, V: Copy> MapForest<K, V> {
     /// An empty forest of at most 4294967295 slots, which is as many as nodes can be named. It takes no memory.
     pub fn new(alloc: Global) -> Self
-        ensures { result ≡ empty u32.MAX }
+        ensures empty { result ≡ empty u32.MAX }
     {
         MapForest::with_node_limit(alloc, u32::MAX)
     }
 
     /// An empty forest of at most so many slots. It takes no memory. A limit of 0 is allowed: then each insertion is refused.
     pub fn with_node_limit(alloc: Global, limit: u32) -> Self
-        ensures { result ≡ empty limit }
+        ensures empty { result ≡ empty limit }
     {
         MapForest {
             leaves: Vec::new(alloc),
@@ -72,7 +72,7 @@ impl<K: Copy, V: Copy> MapForest<K, V> {
 
     /// How many slots lie free. Insertions take these before the table grows.
     pub fn free_slots(&self) -> u32
-        ensures { result ≡ free_of self.now }
+        ensures count { result ≡ free_of self.now }
     {
         // Each slot is a tree.
         let _leaves = &self.leaves;
@@ -81,7 +81,7 @@ impl<K: Copy, V: Copy> MapForest<K, V> {
 
     /// How many slots the table may have.
     pub fn node_limit(&self) -> u32
-        ensures { result ≡ limit_of self.now }
+        ensures limit { result ≡ limit_of self.now }
     {
         self.limit
     }
@@ -90,7 +90,7 @@ impl<K: Copy, V: Copy> MapForest<K, V> {
     ///
     /// A handle remembers no forest. One that was made by another forest holds here if this forest has a tree of its number.
     pub fn holds(&self, map: &Map<K, V>) -> bool
-        ensures { IsTrue result ↔ IsLive self.now map.now }
+        ensures live { IsTrue result ↔ IsLive self.now map.now }
     {
         match map.root {
             Some(number) => (number as usize) < self.leaves.len(),

@@ -58,7 +58,7 @@ impl<K: Copy, V: Copy> Map<K, V> {
 
     /// The same handle once more, which names the same tree. No entry is copied.
     pub fn clone(&self) -> Self
-        ensures { result ≡ self.now }
+        ensures same { result ≡ self.now }
     {
         Map {
             root: self.root,
@@ -79,7 +79,7 @@ impl<K: Copy, V: Copy> Map<K, V> {
     pub fn get<C: Comparator<K>>(&self, key: K, forest: &MapForest<K, V>, comp: &C) -> Option<V>
         requires live { IsLive forest.now self.now }
         requires increasing { IsIncreasing (C.order comp.now) (list_of forest.now self.now) }
-        ensures { result ≡ value_for (C.order comp.now) (list_of forest.now self.now) key }
+        ensures value { result ≡ value_for (C.order comp.now) (list_of forest.now self.now) key }
     {
         match self.root {
             Some(number) => forest.leaf(number).get(key, comp),
@@ -172,8 +172,8 @@ impl<K: Copy, V: Copy> Map<K, V> {
 
     /// The entries in order, and then `None` for ever.
     pub fn iter<'a>(&self, forest: &'a MapForest<K, V>) -> MapIter<'a, K, V>
-        requires { IsLive forest.now self.now }
-        ensures { result ≡ list_of forest.now self.now }
+        requires live { IsLive forest.now self.now }
+        ensures entries { result ≡ list_of forest.now self.now }
     {
         MapIter::new(self, forest)
     }
@@ -181,8 +181,8 @@ impl<K: Copy, V: Copy> Map<K, V> {
     /// Whether each key is less than the next under the comparator: the test for what each call that compares asks. One comparison
     /// fewer than there are entries; the empty map and a map of one entry increase under every order.
     pub fn increases<C: Comparator<K>>(&self, forest: &MapForest<K, V>, comp: &C) -> bool
-        requires { IsLive forest.now self.now }
-        ensures { IsTrue result ↔ IsIncreasing (C.order comp.now) (list_of forest.now self.now) }
+        requires live { IsLive forest.now self.now }
+        ensures increasing { IsTrue result ↔ IsIncreasing (C.order comp.now) (list_of forest.now self.now) }
     {
         let mut last = None;
         'entries: for (key, _) in self.iter(forest) {

@@ -8,6 +8,7 @@ use Rattle.std.specs.Option.{SomeIff}
 use Rattle.std.specs.Result.{result_ok, OkIff}
 use Rattle.std.specs.Str.Parse.{ParsesUnsigned, digits_value}
 
+-- digits and the number that they write, as `parse` sees them
 own : IsNumeralModel (λ ds. list_all is_ascii_digit ds ≡ true) (digits_value 10)
 own = numerals_by_value _ (search rules)
 

@@ -3,8 +3,7 @@ use Rattle.std.proofs.Common.{Bool, List, None, Some, [], ap, arith, cond, drop,
 use Rattle.bforest_run.specs.Lines.{lines_of, without_return}
 use Rattle.std.proofs.lemmas.List.Splits.{length-slice_split, slice_split_first, slice_split_none}
 use Rattle.std.proofs.lemmas.List.Sums.{count_by-le-length, fails_before_first}
-use lib.ListN.{length-map}
-use Rattle.std.proofs.lemmas.List.{take_all}
+use Rattle.std.proofs.lemmas.List.{length-map, take_all}
 use Rattle.std.specs.List.{position, position_or_len, slice_split}
 use borrow.Author.Tests.{ltb-false, ltb-true}
 use lib.Dec.{ltb}

@@ -19,6 +19,7 @@ abbrev pub entries_text : List (ℕ × ℕ) → List ℕ
 entries_text [] = []
 entries_text (e ∷ es) = entry_text e ++ more_entries_text es
 
+-- the text of an answer
 abbrev pub text_of : Answer → List ℕ
 text_of (Value (Some value)) = decimal value
 text_of (Value None) = codes "none"

@@ -6,14 +6,16 @@ use Rattle.std.specs.Map.{keys_of}
 
 pub entries-init : goal.entries-init
 entries-init g c =
-    let whole : c.into_iter-key-iterator.result ≡ list_of c.args.forest.now c.args.self.now = c.into_iter-key-iterator.ensures.into_iter_gives ∙ c.iter-key-items.ensures in
+    let whole : c.into_iter-key-iterator.result ≡ list_of c.args.forest.now c.args.self.now = c.into_iter-key-iterator.ensures.into_iter_gives ∙ c.iter-key-items.ensures.entries in
     subst (IsDownTo (g.C.Comparator.order c.args.comp.now) (list_of c.args.forest.now c.args.self.now) None) (sym whole) (record { down = λ up. up; up = λ up. up })
 
 pub returns-then-not-follows : goal.returns-then-not-follows
-returns-then-not-follows g c = (
-  λ no. absurd (cc),
-  λ up. absurd (not_increasing (g.C.Comparator.order c.args.comp.now) (g.met.C.Comparator.total c.args.comp.now) (list_of c.args.forest.now c.args.self.now) c.entries.last c.in-Some.key c.in-Some.field-0-1 c.next.new.self c.entries.key-iterator c.in-Some.ensures.steps (sym c.if-not-follows.true ∙ c.follows.ensures) c.entries.invariant up),
-)
+returns-then-not-follows g c = record {
+  increasing = (
+    λ no. absurd (cc),
+    λ up. absurd (not_increasing (g.C.Comparator.order c.args.comp.now) (g.met.C.Comparator.total c.args.comp.now) (list_of c.args.forest.now c.args.self.now) c.entries.last c.in-Some.key c.in-Some.field-0-1 c.next.new.self c.entries.key-iterator c.in-Some.ensures.steps (sym c.if-not-follows.true ∙ c.follows.ensures) c.entries.invariant up),
+  );
+}
 
 pub entries-preserved : goal.entries-preserved
 entries-preserved g c =
@@ -22,4 +24,4 @@ entries-preserved g c =
 pub returns : goal.returns
 returns g c =
     let order = g.C.Comparator.order c.args.comp.now in
-    (λ yes. c.entries.invariant.up (subst (λ es. IncreasesAfter order c.entries.last (keys_of es)) (sym c.in-None.ensures.steps.0) (alone order c.entries.last)), λ up. refl)
+    record { increasing = (λ yes. c.entries.invariant.up (subst (λ es. IncreasesAfter order c.entries.last (keys_of es)) (sym c.in-None.ensures.steps.0) (alone order c.entries.last)), λ up. refl) }
