@@ -4,7 +4,6 @@ use Rattle.bforest.specs.Forest.{Becomes, Forest, list_of}
 use Rattle.bforest.proofs.Ordered.{IsIncreasing-put, above}
 use Rattle.std.proofs.Common.{Err, List, None, Ok, Option, Result, Some, [], ap, false, refl, subst, sym, true, ◌∷◌, ◌≡◌, ℕ}
 use Rattle.std.specs.Cmp.{IsTotalOrder}
-use Rattle.std.specs.List.{AllByRecursion}
 use Rattle.std.specs.List.Sorted.{IsStrictlySortedBy}
 use Rattle.std.specs.Map.{keys_of}
 use Rattle.std.specs.Option.{option_map_or}

@@ -14,7 +14,7 @@ use Rattle.std.specs.declared.cmp.Ordering.{Ordering}
 
 module _ {K X : Type 0} where
   -- a written value leaves the keys
-  keys_of-with_value : (es : List (K × X)) (p : ℕ) (w : X) → keys_of (with_value es p w) ≡ keys_of es
+  pub keys_of-with_value : (es : List (K × X)) (p : ℕ) (w : X) → keys_of (with_value es p w) ≡ keys_of es
   keys_of-with_value [] p w = refl
   keys_of-with_value (e ∷ es) zero w = refl
   keys_of-with_value (e ∷ es) (suc p) w = ap (λ ks. e.0 ∷ ks) (keys_of-with_value es p w)

@@ -1,6 +1,7 @@
-//! Tests of `bforest`: worked examples, each public call at a concrete type, and own orders.
+//! Tests of `bforest`: worked examples, each public call at a concrete type, own orders, and callers that are proved.
 #![tactic(auto)]
 
+pub mod callers;
 #[cfg(test)]
 mod checked;
 #[cfg(test)]

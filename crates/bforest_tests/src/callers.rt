@@ -1,0 +1,75 @@
+//! What a caller can prove of maps from their contracts alone.
+ghost use Rattle.bforest.specs.Entries.{IsIncreasing, is_present, put, value_for};
+ghost use Rattle.bforest.specs.Forest.{Becomes, IsLive, list_of};
+ghost use Rattle.std.specs.Prelude.{IfOk, IsOk, OnOk, Some, true, ◌≡◌, ◌≢◌};
+
+use bforest::{Comparator, Map, MapForest, OutOfMemory};
+
+/// Puts a value in and looks it up again: it is there.
+pub fn insert_and_get<K: Copy, V: Copy, C: Comparator<K>>(
+    map: &mut Map<K, V>,
+    key: K,
+    value: V,
+    forest: &mut MapForest<K, V>,
+    comp: &C,
+) -> Result<Option<V>, OutOfMemory>
+    requires live { IsLive forest.old map.old }
+    requires increasing { IsIncreasing (C.order comp.now) (list_of forest.old map.old) }
+    ensures { IfOk result (λ found. found ≡ Some value) }
+{
+    map.insert(key, value, forest, comp)?;
+    Ok(map.get(key, forest, comp))
+}
+
+/// Writes the value of a key that is present: that is never refused.
+pub fn overwrite<K: Copy, V: Copy, C: Comparator<K>>(
+    map: &mut Map<K, V>,
+    key: K,
+    value: V,
+    forest: &mut MapForest<K, V>,
+    comp: &C,
+) -> Result<Option<V>, OutOfMemory>
+    requires live { IsLive forest.old map.old }
+    requires increasing { IsIncreasing (C.order comp.now) (list_of forest.old map.old) }
+    requires present { is_present (C.order comp.now) (list_of forest.old map.old) key ≡ true }
+    ensures taken { IsOk result }
+    ensures same_handle { map.new ≡ map.old }
+{
+    map.insert(key, value, forest, comp)
+}
+
+/// Puts a value into one map: another one stays live and keeps its list, whether or not the insertion is refused.
+pub fn insert_beside<K: Copy, V: Copy, C: Comparator<K>>(
+    map: &mut Map<K, V>,
+    other: &Map<K, V>,
+    entry: (K, V),
+    forest: &mut MapForest<K, V>,
+    comp: &C,
+) -> Result<Option<V>, OutOfMemory>
+    requires live { IsLive forest.old map.old }
+    requires increasing { IsIncreasing (C.order comp.now) (list_of forest.old map.old) }
+    requires other_live { IsLive forest.old other.now }
+    requires apart { other.now ≢ map.old }
+    ensures live { IsLive forest.new other.now }
+    ensures list { list_of forest.new other.now ≡ list_of forest.old other.now }
+{
+    map.insert(entry.0, entry.1, forest, comp)
+}
+
+/// Puts two entries in, one after the other: that is one change, of both.
+pub fn insert_both<K: Copy, V: Copy, C: Comparator<K>>(
+    map: &mut Map<K, V>,
+    first: (K, V),
+    second: (K, V),
+    forest: &mut MapForest<K, V>,
+    comp: &C,
+) -> Result<(), OutOfMemory>
+    requires live { IsLive forest.old map.old }
+    requires increasing { IsIncreasing (C.order comp.now) (list_of forest.old map.old) }
+    ensures { OnOk result (Becomes forest.old map.old forest.new map.new
+        (put (C.order comp.now) (put (C.order comp.now) (list_of forest.old map.old) first.0 first.1) second.0 second.1)) }
+{
+    map.insert(first.0, first.1, forest, comp)?;
+    map.insert(second.0, second.1, forest, comp)?;
+    Ok(())
+}
