@@ -10,7 +10,7 @@ use Rattle.std.specs.declared.cmp.Ordering.{Ordering}
 
 module _ {K X : Type 0} (cmp : K → K → Ordering) where
   -- how many keys are less, among the keys and among the entries
-  pub count_less-keys_of : (es : List (K × X)) (k : K) → count_less cmp (keys_of es) k ≡ place cmp es k
+  count_less-keys_of : (es : List (K × X)) (k : K) → count_less cmp (keys_of es) k ≡ place cmp es k
   count_less-keys_of [] k = refl
   count_less-keys_of (e ∷ es) k =
       sum_by-cons (λ y. cond (is_lt (cmp y k)) 1 0) e.0 (keys_of es) ∙ ap (λ n. cond (is_lt (cmp e.0 k)) 1 0 + n) (count_less-keys_of es k) ∙ sym (sum_by-cons (λ (y : K × X). cond (is_lt (cmp y.0 k)) 1 0) e es)

@@ -4,4 +4,4 @@ pub mod Ordered
 pub mod Zips
 pub mod Tables
 pub mod Increasing
-pub mod Laws
+pub mod Lookups

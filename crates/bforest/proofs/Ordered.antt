@@ -14,7 +14,7 @@ use Rattle.std.specs.declared.cmp.Ordering.{Ordering}
 
 module _ {K X : Type 0} where
   -- a written value leaves the keys
-  pub keys_of-with_value : (es : List (K × X)) (p : ℕ) (w : X) → keys_of (with_value es p w) ≡ keys_of es
+  keys_of-with_value : (es : List (K × X)) (p : ℕ) (w : X) → keys_of (with_value es p w) ≡ keys_of es
   keys_of-with_value [] p w = refl
   keys_of-with_value (e ∷ es) zero w = refl
   keys_of-with_value (e ∷ es) (suc p) w = ap (λ ks. e.0 ∷ ks) (keys_of-with_value es p w)
@@ -39,6 +39,22 @@ module _ {K X : Type 0} (cmp : K → K → Ordering) (o : IsTotalOrder cmp) wher
       go Equal t = ap is_lt t
       go Greater t = ap is_lt t
 
+  module _ (e : K × X) (es : List (K × X)) (k : K) where
+    -- a first key counts where it is less
+    place-cons : place cmp (e ∷ es) k ≡ cond (is_lt (cmp e.0 k)) 1 0 + place cmp es k
+    place-cons = sum_by-cons (λ (y : K × X). cond (is_lt (cmp y.0 k)) 1 0) e es
+
+    -- one that is less is passed
+    pub place-later : cmp e.0 k ≡ Less → place cmp (e ∷ es) k ≡ suc (place cmp es k)
+    place-later t = place-cons ∙ ap (λ r. cond (is_lt r) 1 0 + place cmp es k) t ∙ omega arith
+
+    -- and another is not
+    pub place-here : IsIncreasing cmp (e ∷ es) → is_lt (cmp e.0 k) ≡ false → place cmp (e ∷ es) k ≡ 0
+    unfolding IsStrictlySortedBy
+    place-here h t =
+        let n : 0 + place cmp es k ≡ place cmp es k = omega arith in
+        place-cons ∙ ap (λ b. cond b 1 0 + place cmp es k) t ∙ n ∙ place_zero e es k h.0 t
+
   -- a key that is less than all entries and than a new one is less than all with it
   above-insert : (k : K) (es : List (K × X)) (p : ℕ) (x : K × X) → AllByRecursion (λ y. cmp k y ≡ Less) (keys_of es) → cmp k x.0 ≡ Less → AllByRecursion (λ y. cmp k y ≡ Less) (keys_of (insert es p x))
   above-insert k [] zero x h l = (l, tt)
@@ -51,27 +67,18 @@ module _ {K X : Type 0} (cmp : K → K → Ordering) (o : IsTotalOrder cmp) wher
   unfolding IsStrictlySortedBy
   insert_first e es k v h absent rest r t = go r t
     where
-      first : place cmp (e ∷ es) k ≡ cond (is_lt (cmp e.0 k)) 1 0 + place cmp es k
-      first = sum_by-cons (λ y. cond (is_lt (cmp y.0 k)) 1 0) e es
-
-      later : is_lt (cmp e.0 k) ≡ true → place cmp (e ∷ es) k ≡ suc (place cmp es k)
-      later t = first ∙ ap (λ b. cond b 1 0 + place cmp es k) t ∙ omega arith
-
-      here : is_lt (cmp e.0 k) ≡ false → place cmp (e ∷ es) k ≡ 0
-      here t = first ∙ ap (λ b. cond b 1 0 + place cmp es k) t ∙ (let n : 0 + place cmp es k ≡ place cmp es k = omega arith in n) ∙ place_zero e es k h.0 t
-
       go : (r : Ordering) → cmp e.0 k ≡ r → IsIncreasing cmp (insert (e ∷ es) (place cmp (e ∷ es) k) (k, v))
       go Less t =
-          let p = later (ap is_lt t) in
+          let p = place-later e es k t in
           let gone : value_for cmp es k ≡ None = sym (ap (λ n. option_map (λ x. x.1) (option_and_then (λ x. if is_eq (cmp x.0 k) then Some x else None) (slice_get (e ∷ es) n))) p) ∙ absent in
           subst (λ n. IsIncreasing cmp (insert (e ∷ es) n (k, v))) (sym p) (above-insert e.0 es (place cmp es k) (k, v) h.0 t, rest gone)
       go Equal t =
-          let p = here (ap is_lt t) in
+          let p = place-here e es k h (ap is_lt t) in
           let some : value_for cmp (e ∷ es) k ≡ Some e.1 = ap (λ n. option_map (λ x. x.1) (option_and_then (λ x. if is_eq (cmp x.0 k) then Some x else None) (slice_get (e ∷ es) n))) p ∙ ap (λ r. option_map (λ x. x.1) (if is_eq r then Some e else None)) t in
           let bad : Some e.1 ≡ None = sym some ∙ absent in
           absurd (cc)
       go Greater t =
-          let p = here (ap is_lt t) in
+          let p = place-here e es k h (ap is_lt t) in
           let l : cmp k e.0 ≡ Less = o.antisymm _ _ ∙ ap ordering_reverse t in
           subst (λ n. IsIncreasing cmp (insert (e ∷ es) n (k, v))) (sym p) ((l, above cmp o k e.0 (keys_of es) l h.0), h)
 

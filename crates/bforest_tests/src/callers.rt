@@ -1,7 +1,8 @@
 //! What a caller can prove of maps from their contracts alone.
 ghost use Rattle.bforest.specs.Entries.{IsIncreasing, is_present, put, value_for};
 ghost use Rattle.bforest.specs.Forest.{Becomes, IsLive, list_of};
-ghost use Rattle.std.specs.Prelude.{IfOk, IsOk, OnOk, Some, true, ◌≡◌, ◌≢◌};
+ghost use Rattle.std.specs.Ordering.{is_eq};
+ghost use Rattle.std.specs.Prelude.{IfOk, IsOk, OnOk, Some, false, true, ◌≡◌, ◌≢◌};
 
 use bforest::{Comparator, Map, MapForest, OutOfMemory};
 
@@ -19,6 +20,23 @@ pub fn insert_and_get<K: Copy, V: Copy, C: Comparator<K>>(
 {
     map.insert(key, value, forest, comp)?;
     Ok(map.get(key, forest, comp))
+}
+
+/// Puts a value in and looks up another key: it has the value that it had.
+pub fn insert_and_get_other<K: Copy, V: Copy, C: Comparator<K>>(
+    map: &mut Map<K, V>,
+    entry: (K, V),
+    other: K,
+    forest: &mut MapForest<K, V>,
+    comp: &C,
+) -> Result<Option<V>, OutOfMemory>
+    requires live { IsLive forest.old map.old }
+    requires increasing { IsIncreasing (C.order comp.now) (list_of forest.old map.old) }
+    requires apart { is_eq (C.order comp.now entry.0 other) ≡ false }
+    ensures { IfOk result (λ found. found ≡ value_for (C.order comp.now) (list_of forest.old map.old) other) }
+{
+    map.insert(entry.0, entry.1, forest, comp)?;
+    Ok(map.get(other, forest, comp))
 }
 
 /// Writes the value of a key that is present: that is never refused.
