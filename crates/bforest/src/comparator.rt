@@ -24,7 +24,8 @@ pub trait Comparator<K: Copy> {
     /// It compares about log2 of the slice's length times. An implementation may replace it, by a plain scan for example. Of a slice
     /// whose keys do not strictly increase nothing is said.
     fn search(&self, k: K, s: &[K]) -> Result<usize, usize>
-        ensures { IsStrictlySortedBy (order self.now) s.now → result ≡ search_of (order self.now) s.now k }
+        ensures { IsStrictlySortedBy (order self.now) s.now
+            → result ≡ search_of (order self.now) s.now k }
     {
         s.binary_search_by(|x| self.cmp(*x, k))
     }

@@ -128,7 +128,8 @@ impl<K: Copy, V: Copy> MapForest<K, V> {
     ) -> Result<Option<V>, OutOfMemory>
         requires live { list_at self.old number ≢ [] }
         requires increasing { IsIncreasing (C.order comp.now) (list_at self.old number) }
-        ensures ok { IfOk result (λ old. old ≡ value_for (C.order comp.now) (list_at self.old number) key) }
+        ensures ok { IfOk result
+            (λ old. old ≡ value_for (C.order comp.now) (list_at self.old number) key) }
         ensures put { OnOk result (Becomes self.old (Some number) self.new (Some number)
             (put (C.order comp.now) (list_at self.old number) key value)) }
         ensures account { Takes 0 self.old self.new }
@@ -143,7 +144,8 @@ impl<K: Copy, V: Copy> MapForest<K, V> {
 
     /// Adds a tree of one entry, and answers its number.
     pub(crate) fn plant(&mut self, key: K, value: V) -> Result<u32, OutOfMemory>
-        ensures planted { IfOk result (λ n. Becomes self.old None self.new (Some n) ((key, value) ∷ [])) }
+        ensures planted { IfOk result
+            (λ n. Becomes self.old None self.new (Some n) ((key, value) ∷ [])) }
         ensures account { OnOk result (Takes 1 self.old self.new) }
         ensures full { (result ≡ Err OutOfMemory.Full) ↔ IsTooMany 1 self.old }
         ensures memory { result ≡ Err OutOfMemory.Memory → NeedsGrowth 1 self.old }

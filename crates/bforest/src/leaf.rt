@@ -107,7 +107,8 @@ impl<K: Copy, V: Copy> Leaf<K, V> {
         ensures ok { IfOk result (λ old. old ≡ value_for (C.order comp.now) self.old key) }
         ensures put { OnOk result (self.new ≡ put (C.order comp.now) self.old key value) }
         ensures full { (result ≡ Err OutOfMemory.Full)
-            ↔ ((is_present (C.order comp.now) self.old key ≡ false) × (LEAF_CAPACITY ≤ length self.old)) }
+            ↔ ((is_present (C.order comp.now) self.old key ≡ false)
+            × (LEAF_CAPACITY ≤ length self.old)) }
         ensures full_only { result ≢ Err OutOfMemory.Memory }
         ensures refused { OnErr result (self.new ≡ self.old) }
     {

@@ -99,11 +99,13 @@ impl<K: Copy, V: Copy> Map<K, V> {
         requires increasing { IsIncreasing (C.order comp.now) (list_of forest.old self.old) }
 
         // What an insertion answers and leaves.
-        ensures ok { IfOk result (λ old. old ≡ value_for (C.order comp.now) (list_of forest.old self.old) key) }
+        ensures ok { IfOk result
+            (λ old. old ≡ value_for (C.order comp.now) (list_of forest.old self.old) key) }
         ensures put { OnOk result (Becomes forest.old self.old forest.new self.new
             (put (C.order comp.now) (list_of forest.old self.old) key value)) }
         ensures same_number { IfOk result (λ old. IsSome old → self.new ≡ self.old) }
-        ensures account { OnOk result (Takes (need_of (C.order comp.now) forest.old self.old key) forest.old forest.new) }
+        ensures account { OnOk result
+            (Takes (need_of (C.order comp.now) forest.old self.old key) forest.old forest.new) }
         ensures increasing { IsIncreasing (C.order comp.now) (list_of forest.new self.new) }
 
         // When it is refused, and what a refusal leaves.
@@ -114,7 +116,8 @@ impl<K: Copy, V: Copy> Map<K, V> {
             → NeedsGrowth (need_of (C.order comp.now) forest.old self.old key) forest.old }
         ensures succeeds { need_of (C.order comp.now) forest.old self.old key ≤ free_of forest.old
             → ¬ IsBeyondLeaf (C.order comp.now) forest.old self.old key → IsOk result }
-        ensures absent { OnErr result (value_for (C.order comp.now) (list_of forest.old self.old) key ≡ None) }
+        ensures absent { OnErr result
+            (value_for (C.order comp.now) (list_of forest.old self.old) key ≡ None) }
         ensures refused_forest { OnErr result (forest.new ≡ forest.old) }
         ensures refused_handle { OnErr result (self.new ≡ self.old) }
     {
@@ -141,11 +144,13 @@ impl<K: Copy, V: Copy> Map<K, V> {
         requires increasing { IsIncreasing (C.order comp.now) (list_of forest.old self.old) }
 
         // What an insertion answers and leaves.
-        ensures ok { IfOk result (λ old. old ≡ value_for (C.order comp.now) (list_of forest.old self.old) key) }
+        ensures ok { IfOk result
+            (λ old. old ≡ value_for (C.order comp.now) (list_of forest.old self.old) key) }
         ensures put { OnOk result (Becomes forest.old self.old forest.new self.new
             (put (C.order comp.now) (list_of forest.old self.old) key value)) }
         ensures same_number { IfOk result (λ old. IsSome old → self.new ≡ self.old) }
-        ensures account { OnOk result (Takes (need_of (C.order comp.now) forest.old self.old key) forest.old forest.new) }
+        ensures account { OnOk result
+            (Takes (need_of (C.order comp.now) forest.old self.old key) forest.old forest.new) }
         ensures increasing { IsIncreasing (C.order comp.now) (list_of forest.new self.new) }
 
         // When it is refused, and what a refusal leaves.
@@ -156,7 +161,8 @@ impl<K: Copy, V: Copy> Map<K, V> {
             → NeedsGrowth (need_of (C.order comp.now) forest.old self.old key) forest.old }
         ensures succeeds { need_of (C.order comp.now) forest.old self.old key ≤ free_of forest.old
             → ¬ IsBeyondLeaf (C.order comp.now) forest.old self.old key → IsOk result }
-        ensures absent { OnErr result (value_for (C.order comp.now) (list_of forest.old self.old) key ≡ None) }
+        ensures absent { OnErr result
+            (value_for (C.order comp.now) (list_of forest.old self.old) key ≡ None) }
         ensures refused_forest { OnErr result (forest.new ≡ forest.old) }
         ensures refused_handle { OnErr result (self.new ≡ self.old) }
     {
@@ -182,7 +188,8 @@ impl<K: Copy, V: Copy> Map<K, V> {
     /// fewer than there are entries; the empty map and a map of one entry increase under every order.
     pub fn increases<C: Comparator<K>>(&self, forest: &MapForest<K, V>, comp: &C) -> bool
         requires live { IsLive forest.now self.now }
-        ensures increasing { IsTrue result ↔ IsIncreasing (C.order comp.now) (list_of forest.now self.now) }
+        ensures increasing { IsTrue result
+            ↔ IsIncreasing (C.order comp.now) (list_of forest.now self.now) }
     {
         let mut last = None;
         'entries: for (key, _) in self.iter(forest) {

@@ -33,7 +33,8 @@ pub fn insert_and_get_other<K: Copy, V: Copy, C: Comparator<K>>(
     requires live { IsLive forest.old map.old }
     requires increasing { IsIncreasing (C.order comp.now) (list_of forest.old map.old) }
     requires apart { is_eq (C.order comp.now entry.0 other) ≡ false }
-    ensures { IfOk result (λ found. found ≡ value_for (C.order comp.now) (list_of forest.old map.old) other) }
+    ensures { IfOk result
+        (λ found. found ≡ value_for (C.order comp.now) (list_of forest.old map.old) other) }
 {
     map.insert(entry.0, entry.1, forest, comp)?;
     Ok(map.get(other, forest, comp))
@@ -85,7 +86,9 @@ pub fn insert_both<K: Copy, V: Copy, C: Comparator<K>>(
     requires live { IsLive forest.old map.old }
     requires increasing { IsIncreasing (C.order comp.now) (list_of forest.old map.old) }
     ensures { OnOk result (Becomes forest.old map.old forest.new map.new
-        (put (C.order comp.now) (put (C.order comp.now) (list_of forest.old map.old) first.0 first.1) second.0 second.1)) }
+        (put (C.order comp.now)
+        (put (C.order comp.now) (list_of forest.old map.old) first.0 first.1)
+        second.0 second.1)) }
 {
     map.insert(first.0, first.1, forest, comp)?;
     map.insert(second.0, second.1, forest, comp)?;
