@@ -10,7 +10,7 @@ use Rattle.bforest_run.specs.declared.order.Order.{Order}
 use Rattle.bforest_run.specs.declared.store.Answer.TheVariants as answer
 use Rattle.bforest_run.specs.declared.store.Answer.{Answer}
 use Rattle.bforest_run.specs.declared.store.Maps.{Maps}
-use Rattle.std.specs.Prelude.{List, MatchResult, None, Option, Result, slice_index_or, slice_set, ◌≡◌, ℕ}
+use Rattle.std.specs.Prelude.{IsSome, List, MatchResult, None, Option, Result, slice_index_or, slice_set, ◌≡◌, ℕ}
 
 -- the number that a handle has
 abbrev pub number_of : Maps → Handle → Option ℕ
@@ -28,12 +28,13 @@ pub record Checks (old : Maps) (handle : Handle) (order : Order) (given : Answer
   pub made : IsLive old.forest (number_of old handle) → IsIncreasing (order_of order) (entries_of old handle) → Makes
 
 -- An insertion answers the value that was there and changes its own tree's list, or is refused where the key is absent, and then
--- nothing changes. Each other handle keeps its number.
+-- nothing changes. Each other handle keeps its number, and this one too where the key was present.
 abbrev pub Inserts : Maps → Handle → Order → ℕ → ℕ → Result (Option ℕ) OutOfMemory → Maps → Type 0
 Inserts old handle order key value result new =
     MatchResult result
     (λ before. (before ≡ value_for (order_of order) (entries_of old handle) key)
     × (new.handles ≡ slice_set old.handles handle.index (number_of new handle))
+    × (IsSome before → number_of new handle ≡ number_of old handle)
     × Becomes old.forest (number_of old handle) new.forest (number_of new handle) (put (order_of order) (entries_of old handle) key value))
     (λ _. (value_for (order_of order) (entries_of old handle) key ≡ None) × (new ≡ old))
 
