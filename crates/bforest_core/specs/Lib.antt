@@ -1,0 +1,4 @@
+pub mod Content
+pub mod Number
+pub mod Layout
+pub mod LendingNode

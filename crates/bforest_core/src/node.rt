@@ -1,0 +1,478 @@
+//! What a node holds: the children of an inner node, the entries of a leaf, or the next free slot.
+ghost use Rattle.bforest_core.specs.Content.{Balances, Free, HasShape, Inner, IsCut, IsFree, IsInner, IsLeaf, IsLeafCapacity, IsSameKind, Leaf, entry_capacity, entry_count, joined, keys_of, left_half, removed_answer, vals_of, with_child, with_entry, with_key, without_child, without_entry};
+ghost use Rattle.std.specs.Borrow.{sem};
+ghost use Rattle.std.specs.Prelude.{IfOk, IsTrue, None, Some, Ok, [], if◌then◌else◌, length, slice_get, ◌*◌, ◌+◌, ◌-◌, ◌<◌, ◌^◌, ◌↔◌, ◌∷◌, ◌≡◌, ◌≤◌};
+
+use crate::number::{Node, PackedNode};
+use crate::row::Row;
+use std::alloc::{AllocError, Global};
+use std::marker::Model;
+
+/// How many children an inner node has at most.
+pub(crate) const INNER_SIZE: usize = 8;
+
+/// What the removal of an entry leaves.
+#[derive(Clone, Copy, Debug, PartialEq, Eq)]
+pub enum Removed {
+    /// At least half full.
+    Healthy,
+    /// At least half full, and the last entry was removed.
+    Rightmost,
+    /// Less than half full, and not empty.
+    Underflow,
+    /// None is left.
+    Empty,
+}
+
+/// What `split` made: how many children or entries each half has, and the key between them.
+#[derive(Drop)]
+pub struct SplitOff<K> {
+    /// Of the left half.
+    pub lhs_entries: usize,
+    /// Of the right half.
+    pub rhs_entries: usize,
+    /// The first key of a leaf's right half; of an inner node the key between the halves, which is in neither.
+    pub crit_key: K,
+}
+
+// How the entries lie in a node: the size counts keys, of which an inner node has one less than children.
+#[derive(Drop)]
+enum State<K, V, const N: usize> {
+    Branch(u8, Row<K, 7>, Row<Node, 8>),
+    Entries(u8, Row<K, N>, Row<V, N>),
+    Vacant(PackedNode),
+}
+
+/// A node of a B+-tree, or a free slot. Its entries lie inline: no call on it takes memory or gives it back.
+#[derive(Drop)]
+pub struct NodeData<K, V, const N: usize> {
+    state: State<K, V, N>,
+}
+
+impl<K, V, const N: usize> Model for NodeData<K, V, N> {
+    ghost use Rattle.bforest_core.specs.Content.{Content, IsLeafCapacity};
+
+    ghost Value = { Content K V };
+
+    ghost use Rattle.bforest_core.specs.Layout.{Fits, content_of};
+
+    ghost view = { λ a. content_of a.state };
+
+    ghost invariant = { λ a. IsLeafCapacity N × Fits a.state };
+}
+
+impl<K: Copy, V: Copy, const N: usize> NodeData<K, V, N> {
+    ghost use Rattle.bforest_core.specs.LendingNode.{lends_vals, lends_value};
+
+    /// A free node with no next one.
+    pub fn new(_alloc: Global) -> Result<Self, AllocError>
+        requires { IsLeafCapacity N }
+        ensures { result ≡ Ok (Free None) }
+    {
+        Ok(NodeData {
+            state: State::Vacant(PackedNode::none()),
+        })
+    }
+
+    /// Whether the slot is free.
+    pub fn is_free(&self) -> bool
+        ensures { IsTrue result ↔ IsFree self.now }
+    {
+        matches!(self.state, State::Vacant(_))
+    }
+
+    /// Whether it is an inner node.
+    pub fn is_inner(&self) -> bool
+        ensures { IsTrue result ↔ IsInner self.now }
+    {
+        matches!(self.state, State::Branch(_, _, _))
+    }
+
+    /// The number of children of an inner node, or of entries of a leaf.
+    pub fn entries(&self) -> usize
+        requires { ¬ IsFree self.now }
+        ensures value { result ≡ entry_count self.now }
+        ensures shape { HasShape N self.now }
+    {
+        match &self.state {
+            State::Branch(size, keys, tree) => {
+                let _keys = keys.front(*size as usize);
+                tree.front(*size as usize + 1).len()
+            }
+            State::Entries(size, keys, vals) => {
+                let _vals = vals.front(*size as usize);
+                keys.front(*size as usize).len()
+            }
+            State::Vacant(_) => unreachable!(),
+        }
+    }
+
+    /// Whether no child or entry more has room.
+    pub fn is_full(&self) -> bool
+        requires { ¬ IsFree self.now }
+        ensures { IsTrue result ↔ (entry_count self.now ≡ entry_capacity N self.now) }
+    {
+        match &self.state {
+            State::Branch(size, _, _) => *size as usize == INNER_SIZE - 1,
+            State::Entries(size, _, _) => *size as usize == N,
+            State::Vacant(_) => unreachable!(),
+        }
+    }
+
+    // Becomes a free node, before this one in the chain.
+    pub(crate) fn make_free(&mut self, next: PackedNode)
+        ensures { self.new ≡ Free next }
+    {
+        self.state = State::Vacant(next);
+    }
+
+    // The node after this free one in the chain.
+    pub(crate) fn next_free(&self) -> PackedNode
+        requires { IsFree self.now }
+        ensures { self.now ≡ Free result }
+    {
+        match &self.state {
+            State::Vacant(next) => *next,
+            _ => unreachable!(),
+        }
+    }
+
+    /// Becomes an inner node of two children, whatever it held.
+    pub fn inner(&mut self, left: Node, key: K, right: Node)
+        ensures { self.new ≡ Inner (key ∷ []) (left ∷ right ∷ []) }
+    {
+        let mut tree = Row { items: [right; 8] };
+        tree.items[0] = left;
+        self.state = State::Branch(1, Row { items: [key; 7] }, tree);
+    }
+
+    /// Becomes a leaf of one entry, whatever it held.
+    pub fn leaf(&mut self, key: K, value: V)
+        ensures { self.new ≡ Leaf (key ∷ []) (value ∷ []) }
+    {
+        self.state = State::Entries(1, Row { items: [key; N] }, Row { items: [value; N] });
+    }
+
+    /// The keys and the children of an inner node.
+    pub fn unwrap_inner(&self) -> (&[K], &[Node])
+        requires { IsInner self.now }
+        ensures value { self.now ≡ Inner result.0.now result.1.now }
+        ensures shape { HasShape N self.now }
+    {
+        match &self.state {
+            State::Branch(size, keys, tree) => {
+                (keys.front(*size as usize), tree.front(*size as usize + 1))
+            }
+            _ => unreachable!(),
+        }
+    }
+
+    /// The keys and the values of a leaf.
+    pub fn unwrap_leaf(&self) -> (&[K], &[V])
+        requires { IsLeaf self.now }
+        ensures value { self.now ≡ Leaf result.0.now result.1.now }
+        ensures shape { HasShape N self.now }
+    {
+        match &self.state {
+            State::Entries(size, keys, vals) => {
+                (keys.front(*size as usize), vals.front(*size as usize))
+            }
+            _ => unreachable!(),
+        }
+    }
+
+    /// The value of a leaf's entry, for writing.
+    pub fn value_mut(&mut self, index: usize) -> &mut V
+        requires leaf { IsLeaf self.old }
+        requires within { index < entry_count self.old }
+        ensures* writes_back { sem 𝓛 (lends_value K.row V.row N.row self.entry index result) }
+        ensures value { slice_get (vals_of self.old) index ≡ Some result.now }
+    {
+        match &mut self.state {
+            State::Entries(_, _, vals) => &mut vals.items[index],
+            _ => unreachable!(),
+        }
+    }
+
+    /// The keys of a leaf, and its values for writing.
+    pub fn unwrap_leaf_mut(&mut self) -> (&[K], &mut [V])
+        requires { IsLeaf self.old }
+        ensures* writes_back { sem 𝓛 (lends_vals K.row V.row N.row self.entry result.1) }
+        ensures value { self.old ≡ Leaf result.0.now result.1.now }
+        ensures shape { HasShape N self.old }
+    {
+        match &mut self.state {
+            State::Entries(size, keys, vals) => {
+                (keys.front(*size as usize), &mut vals.items[..*size as usize])
+            }
+            _ => unreachable!(),
+        }
+    }
+
+    /// Writes the key at `index` of an inner node.
+    pub fn set_separator(&mut self, index: usize, key: K)
+        requires inner { IsInner self.old }
+        requires within { index < length (keys_of self.old) }
+        ensures { self.new ≡ with_key self.old index key }
+    {
+        match &mut self.state {
+            State::Branch(size, keys, _) => keys.set(*size as usize, index, key),
+            _ => unreachable!(),
+        }
+    }
+
+    /// The first key of a leaf.
+    pub fn leaf_crit_key(&self) -> K
+        requires leaf { IsLeaf self.now }
+        requires filled { 0 < entry_count self.now }
+        ensures { slice_get (keys_of self.now) 0 ≡ Some result }
+    {
+        match &self.state {
+            State::Entries(_, keys, _) => keys.at(0),
+            _ => unreachable!(),
+        }
+    }
+
+    /// Puts the entry in at `index`, where there is room.
+    pub fn try_leaf_insert(&mut self, index: usize, key: K, value: V) -> bool
+        requires leaf { IsLeaf self.old }
+        requires within { index ≤ entry_count self.old }
+        ensures room { IsTrue result ↔ (entry_count self.old < N) }
+        ensures node { self.new ≡ (if result then with_entry self.old index key value else self.old) }
+    {
+        match &mut self.state {
+            State::Entries(size, keys, vals) => {
+                let len = *size as usize;
+                if len >= N {
+                    return false;
+                }
+                keys.insert(len, index, key);
+                vals.insert(len, index, value);
+                *size = (len + 1) as u8;
+                true
+            }
+            _ => unreachable!(),
+        }
+    }
+
+    /// Puts the key in at `index` and the node behind it, where there is room.
+    pub fn try_inner_insert(&mut self, index: usize, key: K, node: Node) -> bool
+        requires inner { IsInner self.old }
+        requires within { index ≤ length (keys_of self.old) }
+        ensures room { IsTrue result ↔ (entry_count self.old < 8) }
+        ensures node { self.new ≡ (if result then with_child self.old index key node else self.old) }
+    {
+        match &mut self.state {
+            State::Branch(size, keys, tree) => {
+                let len = *size as usize;
+                if len >= INNER_SIZE - 1 {
+                    return false;
+                }
+                keys.insert(len, index, key);
+                tree.insert(len + 1, index + 1, node);
+                *size = (len + 1) as u8;
+                true
+            }
+            _ => unreachable!(),
+        }
+    }
+
+    /// Takes out the child at `index`, and the key before it.
+    pub fn inner_remove(&mut self, index: usize) -> Removed
+        requires inner { IsInner self.old }
+        requires within { index < entry_count self.old }
+        ensures answer { result ≡ removed_answer 8 index (entry_count self.old - 1) }
+        ensures node { self.new ≡ without_child self.old index }
+    {
+        match &mut self.state {
+            State::Branch(size, keys, tree) => {
+                let left = *size as usize;
+                if left > 0 {
+                    tree.remove(left + 1, index);
+                    keys.remove(left, index.saturating_sub(1));
+                    *size = (left - 1) as u8;
+                }
+                answer_of(index, left, INNER_SIZE)
+            }
+            _ => unreachable!(),
+        }
+    }
+
+    /// Takes out the entry at `index`.
+    pub fn leaf_remove(&mut self, index: usize) -> Removed
+        requires leaf { IsLeaf self.old }
+        requires within { index < entry_count self.old }
+        ensures answer { result ≡ removed_answer N index (entry_count self.old - 1) }
+        ensures node { self.new ≡ without_entry self.old index }
+    {
+        match &mut self.state {
+            State::Entries(size, keys, vals) => {
+                let len = *size as usize;
+                keys.remove(len, index);
+                vals.remove(len, index);
+                *size = (len - 1) as u8;
+                answer_of(index, len - 1, N)
+            }
+            _ => unreachable!(),
+        }
+    }
+
+    /// Halves a full node, at which an insertion at `insert_index` had no room. The right half goes to `rhs`, whatever that held.
+    pub fn split(&mut self, insert_index: usize, rhs: &mut Self) -> SplitOff<K>
+        requires used { ¬ IsFree self.old }
+        requires full { entry_count self.old ≡ entry_capacity N self.old }
+        ensures left_entries { result.lhs_entries ≡ left_half N self.old insert_index }
+        ensures all_entries { result.lhs_entries + result.rhs_entries ≡ entry_count self.old }
+        ensures cut { IsCut self.old result.lhs_entries self.new result.crit_key rhs.new }
+        ensures rejoins { joined self.new result.crit_key rhs.new ≡ self.old }
+    {
+        if self.is_inner() {
+            return SplitOff {
+                lhs_entries: 4,
+                rhs_entries: 4,
+                crit_key: self.split_inner(rhs),
+            };
+        }
+        let half = if insert_index <= N / 2 {
+            N / 2
+        } else {
+            (N + 1) / 2
+        };
+        SplitOff {
+            lhs_entries: half,
+            rhs_entries: N - half,
+            crit_key: self.split_leaf(half, rhs),
+        }
+    }
+
+    // Cuts a full inner node behind its first four children.
+    fn split_inner(&mut self, rhs: &mut Self) -> K
+        requires inner { IsInner self.old }
+        requires full { entry_count self.old ≡ 8 }
+        ensures cut { IsCut self.old 4 self.new result rhs.new }
+    {
+        match &mut self.state {
+            State::Branch(size, keys, tree) => {
+                rhs.state = State::Branch(3, keys.tail(4), tree.tail(4));
+                *size = 3;
+                keys.at(3)
+            }
+            _ => unreachable!(),
+        }
+    }
+
+    // Cuts a full leaf behind its first `half` entries.
+    fn split_leaf(&mut self, half: usize, rhs: &mut Self) -> K
+        requires leaf { IsLeaf self.old }
+        requires full { entry_count self.old ≡ N }
+        requires within { half < N }
+        ensures cut { IsCut self.old half self.new result rhs.new }
+    {
+        match &mut self.state {
+            State::Entries(size, keys, vals) => {
+                rhs.state = State::Entries((N - half) as u8, keys.tail(half), vals.tail(half));
+                *size = half as u8;
+                keys.at(half)
+            }
+            _ => unreachable!(),
+        }
+    }
+
+    /// Balances an underflowed node with its right neighbour, from which `crit_key` separates it.
+    pub fn balance(&mut self, crit_key: K, rhs: &mut Self) -> Option<K>
+        requires kind { IsSameKind self.old rhs.old }
+        requires filled { 0 < entry_count self.old }
+        requires rhs_filled { 0 < entry_count rhs.old }
+        requires underflowed { 2 * entry_count self.old < entry_capacity N self.old }
+        ensures { Balances N self.old crit_key rhs.old result self.new rhs.new }
+    {
+        if self.is_inner() {
+            self.balance_inner(crit_key, rhs)
+        } else {
+            self.balance_leaf(crit_key, rhs)
+        }
+    }
+
+    // Balances two inner nodes.
+    fn balance_inner(&mut self, crit_key: K, rhs: &mut Self) -> Option<K>
+        requires inner { IsInner self.old }
+        requires rhs_inner { IsInner rhs.old }
+        requires filled { 0 < entry_count self.old }
+        requires rhs_filled { 0 < entry_count rhs.old }
+        requires underflowed { entry_count self.old < 4 }
+        ensures { Balances N self.old crit_key rhs.old result self.new rhs.new }
+    {
+        match (&mut self.state, &mut rhs.state) {
+            (State::Branch(size, keys, tree), State::Branch(right_size, right_keys, right_tree)) => {
+                let left = *size as usize + 1;
+                let right = *right_size as usize + 1;
+                keys.push(left - 1, crit_key);
+                if left + right <= INNER_SIZE {
+                    right_keys.put_before(right - 1, keys, left);
+                    right_tree.put_before(right, tree, left);
+                    *right_size = (left + right - 1) as u8;
+                    return None;
+                }
+                let moved = (left + right).div_ceil(2) - left;
+                keys.append(left, right_keys, right - 1, moved);
+                tree.append(left, right_tree, right, moved);
+                right_keys.remove_front(right - 1, moved);
+                right_tree.remove_front(right, moved);
+                *size = (left + moved - 1) as u8;
+                *right_size = (right - moved - 1) as u8;
+                Some(keys.at(left + moved - 1))
+            }
+            _ => unreachable!(),
+        }
+    }
+
+    // Balances two leaves.
+    fn balance_leaf(&mut self, crit_key: K, rhs: &mut Self) -> Option<K>
+        requires leaf { IsLeaf self.old }
+        requires rhs_leaf { IsLeaf rhs.old }
+        requires rhs_filled { 0 < entry_count rhs.old }
+        requires underflowed { 2 * entry_count self.old < N }
+        ensures { Balances N self.old crit_key rhs.old result self.new rhs.new }
+    {
+        let _crit_key = crit_key;
+        match (&mut self.state, &mut rhs.state) {
+            (State::Entries(size, keys, vals), State::Entries(right_size, right_keys, right_vals)) => {
+                let left = *size as usize;
+                let right = *right_size as usize;
+                if left + right <= N {
+                    right_keys.put_before(right, keys, left);
+                    right_vals.put_before(right, vals, left);
+                    *right_size = (left + right) as u8;
+                    return None;
+                }
+                let moved = (left + right).div_ceil(2) - left;
+                keys.append(left, right_keys, right, moved);
+                vals.append(left, right_vals, right, moved);
+                right_keys.remove_front(right, moved);
+                right_vals.remove_front(right, moved);
+                *size = (left + moved) as u8;
+                *right_size = (right - moved) as u8;
+                Some(right_keys.at(0))
+            }
+            _ => unreachable!(),
+        }
+    }
+}
+
+// How a node of this capacity stands with so many entries, after the one at `index` was removed.
+fn answer_of(index: usize, left: usize, most: usize) -> Removed
+    requires { left < 2 ^ 32 }
+    ensures { result ≡ removed_answer most index left }
+{
+    if 2 * left >= most {
+        if index == left {
+            Removed::Rightmost
+        } else {
+            Removed::Healthy
+        }
+    } else if left > 0 {
+        Removed::Underflow
+    } else {
+        Removed::Empty
+    }
+}
