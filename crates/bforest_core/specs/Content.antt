@@ -1,7 +1,7 @@
 -- What a node holds, and what each call makes of it.
 use Rattle.std.specs.Prelude.{◌≡◌, ℕ, ◌+◌, ◌-◌, ◌*◌, ◌/◌, ◌%◌, ◌<◌, ◌≤◌, ◌==◌, nat_lt, nat_le, List, [], ◌∷◌, ◌++◌, length, take, drop, insert, remove, slice_get, slice_set, Option, Some, None, if◌then◌else◌}
+use Rattle.bforest_core.specs.declared.node.Removed.TheVariants.{Empty, Healthy, Rightmost, Underflow}
 use Rattle.bforest_core.specs.declared.node.Removed.{Removed}
-use Rattle.bforest_core.specs.declared.node.Removed.TheVariants.{Healthy, Rightmost, Underflow, Empty}
 
 -- an inner node has keys and one child more, a leaf has keys and as many values, and a free node
 -- names the next free one
@@ -70,6 +70,16 @@ module _ {K V : Type 0} where
   HasShape n (Leaf keys vals) = (length keys ≡ length vals) × (length keys ≤ n)
   HasShape n (Free next) = Unit {0}
 
+  abbrev pub vals_of : Content K V → List V
+  vals_of (Inner keys children) = []
+  vals_of (Leaf keys vals) = vals
+  vals_of (Free next) = []
+
+  abbrev pub children_of : Content K V → List ℕ
+  children_of (Inner keys children) = children
+  children_of (Leaf keys vals) = []
+  children_of (Free next) = []
+
   -- the key stands at this place among the keys, and the child behind it
   abbrev pub with_child : Content K V → ℕ → K → ℕ → Content K V
   with_child (Inner keys children) index key child =
@@ -109,11 +119,6 @@ module _ {K V : Type 0} where
   with_key (Inner keys children) index key = Inner (slice_set keys index key) children
   with_key (Leaf keys vals) index key = Leaf keys vals
   with_key (Free next) index key = Free next
-
-  abbrev pub vals_of : Content K V → List V
-  vals_of (Inner keys children) = []
-  vals_of (Leaf keys vals) = vals
-  vals_of (Free next) = []
 
   -- the entry at this place is gone
   abbrev pub without_entry : Content K V → ℕ → Content K V

@@ -3,7 +3,7 @@ ghost use Rattle.std.specs.Prelude.{◌≡◌, ◌<◌, ◌↔◌, IsTrue, IsNon
 
 use std::marker::Model;
 
-/// The number of a node in its table.
+/// The number of a node in its table: at most 4294967294, since 4294967295 stands for no node.
 #[derive(Clone, Copy, PartialEq, Eq)]
 pub struct Node {
     number: u32,
@@ -24,8 +24,8 @@ impl Model for Node {
 impl Node {
     /// The node of this number.
     pub fn new(number: u32) -> Self
-        requires { number < 4294967295 }
-        ensures { result ≡ number }
+        requires below { number < 4294967295 }
+        ensures number { result ≡ number }
     {
         Node { number }
     }
@@ -39,7 +39,7 @@ impl Node {
     }
 }
 
-/// A node or none, in one word.
+/// A node or none, in 32 bits.
 #[derive(Clone, Copy, PartialEq, Eq)]
 pub struct PackedNode {
     raw: u32,
@@ -64,21 +64,21 @@ impl Model for PackedNode {
 impl PackedNode {
     /// No node.
     pub fn none() -> Self
-        ensures { result ≡ None }
+        ensures none { result ≡ None }
     {
         PackedNode { raw: u32::MAX }
     }
 
     /// This node.
     pub fn some(node: Node) -> Self
-        ensures { result ≡ Some node }
+        ensures node { result ≡ Some node }
     {
         PackedNode { raw: node.number() }
     }
 
     /// The node, if there is one.
     pub fn expand(self) -> Option<Node>
-        ensures { result ≡ self }
+        ensures value { result ≡ self }
     {
         if self.raw == u32::MAX {
             None
@@ -89,7 +89,7 @@ impl PackedNode {
 
     /// Whether there is none.
     pub fn is_none(self) -> bool
-        ensures { IsTrue result ↔ IsNone self }
+        ensures none { IsTrue result ↔ IsNone self }
     {
         self.raw == u32::MAX
     }
@@ -105,6 +105,6 @@ impl PackedNode {
     }
 }
 
-/// The value of a set's entry.
+/// What the entry of a set has for a value: nothing.
 #[derive(Clone, Copy)]
 pub struct SetValue;

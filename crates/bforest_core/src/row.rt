@@ -17,15 +17,18 @@ impl<T: Copy, const N: usize> Row<T, N> {
         &self.items[..len]
     }
 
-    /// The element at an index.
-    pub(crate) fn at(&self, index: usize) -> T
-        requires { index < N }
-        ensures { slice_get self.now.items index ≡ Some result }
+    /// The element at an index of the first `len`.
+    #[tactic(auto, using(crate::proofs::Rows::at_front))]
+    pub(crate) fn at(&self, len: usize, index: usize) -> T
+        requires room { len ≤ N }
+        requires within { index < len }
+        ensures { slice_get (take len self.now.items) index ≡ Some result }
     {
         self.items[index]
     }
 
     /// Writes the element at an index of the first `len`.
+    #[tactic(auto, using(crate::proofs::Rows::set_front))]
     pub(crate) fn set(&mut self, len: usize, index: usize, x: T)
         requires room { len ≤ N }
         requires within { index < len }
@@ -63,13 +66,15 @@ impl<T: Copy, const N: usize> Row<T, N> {
         self.items.copy_within(index + 1..len, index);
     }
 
-    /// The elements behind the first `at`.
-    pub(crate) fn tail(&self, at: usize) -> Self
-        requires { at ≤ N }
-        ensures { take (N - at) result.items ≡ drop at self.now.items }
+    /// The elements of the first `len` behind the first `at`.
+    #[tactic(auto, using(crate::proofs::Rows::removed_front))]
+    pub(crate) fn tail(&self, len: usize, at: usize) -> Self
+        requires room { len ≤ N }
+        requires within { at ≤ len }
+        ensures { take (len - at) result.items ≡ drop at (take len self.now.items) }
     {
         let mut row = *self;
-        row.items.copy_within(at.., 0);
+        row.items.copy_within(at..len, 0);
         row
     }
 
@@ -94,6 +99,7 @@ impl<T: Copy, const N: usize> Row<T, N> {
     }
 
     /// Takes out the first `count` of the first `len` elements.
+    #[tactic(auto, using(crate::proofs::Rows::removed_front))]
     pub(crate) fn remove_front(&mut self, len: usize, count: usize)
         requires room { len ≤ N }
         requires within { count ≤ len }

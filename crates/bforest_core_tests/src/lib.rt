@@ -1,0 +1,15 @@
+//! Tests of `bforest_core`: worked nodes, each public call at a concrete type, and both ends of a leaf's capacity.
+#![tactic(auto)]
+
+#[cfg(test)]
+mod balances;
+#[cfg(test)]
+mod halves;
+#[cfg(test)]
+mod nodes;
+#[cfg(test)]
+mod pools;
+#[cfg(test)]
+mod readings;
+#[cfg(test)]
+mod removals;
