@@ -1,7 +1,6 @@
 //! Full nodes that are halved.
-use crate::nodes::{assert_inner, assert_leaf, first_nodes, free, inner_of, leaf_of};
+use crate::nodes::{assert_inner, assert_leaf, first_nodes, free, inner_of, leaf_of, leaf_with};
 use bforest_core::{NodeData, SetValue};
-use std::test::Fail;
 
 #[test]
 fn an_inner_node_is_halved_four_and_four(rt: HostRuntime) {
@@ -84,31 +83,43 @@ fn the_least_leaf_is_halved(rt: HostRuntime) {
 #[test]
 fn the_greatest_leaf_is_halved(rt: HostRuntime) {
     let alloc = rt.alloc();
-    let mut left: NodeData<u8, u64, 255> = NodeData::new(alloc).unwrap();
-    left.leaf(0, 0);
-    for key in 1..255u8 {
-        if left.is_free() || left.is_inner() {
-            break;
-        }
-        let index = left.entries();
-        left.try_leaf_insert(index, key, u64::from(key) << 32);
+    let mut keys = [0u8; 255];
+    let mut vals = [0u64; 255];
+    for index in 0..255u8 {
+        keys[index as usize] = index;
+        vals[index as usize] = u64::from(index) << 32;
     }
-    assert_eq!(rt; left.entries(), 255);
-    assert!(rt; left.is_full());
+    let mut left: NodeData<u8, u64, 255> = leaf_with(alloc, &keys, &vals);
+    assert!(rt; !left.try_leaf_insert(0, 0, 0));
     let mut right = NodeData::new(alloc).unwrap();
     let halves = left.split(127, &mut right);
     assert_eq!(rt; halves.lhs_entries, 127);
     assert_eq!(rt; halves.rhs_entries, 128);
     assert_eq!(rt; halves.crit_key, 127);
+    let mut left: NodeData<u8, u64, 255> = leaf_with(alloc, &keys, &vals);
+    let halves = left.split(128, &mut right);
+    assert_eq!(rt; halves.lhs_entries, 128);
+    assert_eq!(rt; halves.rhs_entries, 127);
+    assert_eq!(rt; halves.crit_key, 128);
+    let (left_keys, left_vals) = left.unwrap_leaf();
+    assert_eq!(rt; left_keys, &keys[..128]);
+    assert_eq!(rt; left_vals, &vals[..128]);
+    let (right_keys, right_vals) = right.unwrap_leaf();
+    assert_eq!(rt; right_keys, &keys[128..]);
+    assert_eq!(rt; right_vals, &vals[128..]);
 }
 
 #[test]
-fn a_leaf_of_a_set_holds_fifteen_keys(rt: HostRuntime) -> Result<(), Fail> {
+fn a_leaf_of_a_set_is_halved(rt: HostRuntime) {
     let alloc = rt.alloc();
-    let mut left: NodeData<u16, SetValue, 15> = NodeData::new(alloc).unwrap();
-    left.leaf(0, SetValue);
-    for key in 1..15u16 {
-        assert!(rt; left.try_leaf_insert(key as usize, key, SetValue));
-    }
-    Ok(())
+    let keys = [1u16, 2, 3, 4, 5, 6, 7, 8, 9, 10, 11, 12, 13, 14, 15];
+    let mut left: NodeData<u16, SetValue, 15> = leaf_with(alloc, &keys, &[SetValue; 15]);
+    let mut right = NodeData::new(alloc).unwrap();
+    assert!(rt; !left.try_leaf_insert(15, 16, SetValue));
+    let halves = left.split(15, &mut right);
+    assert_eq!(rt; halves.lhs_entries, 8);
+    assert_eq!(rt; halves.crit_key, 9);
+    assert!(rt; right.try_leaf_insert(7, 16, SetValue));
+    assert_eq!(rt; left.unwrap_leaf().0, [1u16, 2, 3, 4, 5, 6, 7, 8].as_slice());
+    assert_eq!(rt; right.unwrap_leaf().0, [9u16, 10, 11, 12, 13, 14, 15, 16].as_slice());
 }

@@ -17,6 +17,26 @@ pub(crate) fn free<const N: usize>(alloc: Global) -> Numbers<N>
     NodeData::new(alloc).unwrap()
 }
 
+/// A leaf of these keys and values.
+pub(crate) fn leaf_with<K: Copy, V: Copy, const N: usize>(
+    alloc: Global,
+    keys: &[K],
+    vals: &[V],
+) -> NodeData<K, V, N>
+    requires capacity { IsLeafCapacity N }
+    requires some { 0 < length keys.now }
+    requires room { length keys.now ≤ N }
+    requires even { length keys.now ≡ length vals.now }
+    ensures { result ≡ Leaf keys.now vals.now }
+{
+    let mut node = NodeData::new(alloc).unwrap();
+    node.leaf(keys[0], vals[0]);
+    for index in 1..keys.len() {
+        node.try_leaf_insert(index, keys[index], vals[index]);
+    }
+    node
+}
+
 /// A leaf of these keys, each of whose values is its key.
 pub(crate) fn leaf_of<const N: usize>(alloc: Global, keys: &[u32]) -> Numbers<N>
     requires capacity { IsLeafCapacity N }
@@ -24,12 +44,7 @@ pub(crate) fn leaf_of<const N: usize>(alloc: Global, keys: &[u32]) -> Numbers<N>
     requires room { length keys.now ≤ N }
     ensures { result ≡ Leaf keys.now keys.now }
 {
-    let mut node = free(alloc);
-    node.leaf(keys[0], keys[0]);
-    for index in 1..keys.len() {
-        node.try_leaf_insert(index, keys[index], keys[index]);
-    }
-    node
+    leaf_with(alloc, keys, keys)
 }
 
 /// An inner node of these children, with these keys between them.
