@@ -1,14 +1,14 @@
 //! The handle of one map.
-ghost use Rattle.bforest.specs.Entries.{IsIncreasing, put, value_for};
+ghost use Rattle.bforest_core.specs.Entries.{IsIncreasing, put, value_for};
 ghost use Rattle.bforest.specs.Forest.{Becomes, Forest, IsBeyondLeaf, IsLive, IsTooMany, NeedsGrowth, Takes, free_of, list_of, need_of};
 ghost use Rattle.std.specs.Option.{option_map_or};
 ghost use Rattle.std.specs.declared.cmp.Ordering.{Ordering};
 ghost use Rattle.std.specs.Ordering.{is_lt};
 ghost use Rattle.std.specs.Prelude.{IfOk, IsOk, IsSome, IsTrue, None, OnErr, OnOk, [], true, ◌↔◌, ◌≡◌, ◌≤◌, ◌⊎◌};
 
-use crate::comparator::Comparator;
-use crate::forest::{MapForest, OutOfMemory};
+use crate::forest::MapForest;
 use crate::map_iter::MapIter;
+use bforest_core::{Comparator, OutOfMemory};
 use std::cmp::Ordering;
 use std::default::Default;
 use std::marker::{Model, PhantomData};

@@ -1,5 +1,5 @@
 //! The order of keys.
-ghost use Rattle.bforest.specs.Search.{search_of};
+ghost use Rattle.bforest_core.specs.Search.{search_of};
 ghost use Rattle.std.specs.Cmp.{IsTotalOrder};
 ghost use Rattle.std.specs.List.Sorted.{IsStrictlySortedBy};
 ghost use Rattle.std.specs.Prelude.{◌≡◌};
