@@ -75,7 +75,8 @@ impl<K: Copy, V: Copy> Map<K, V> {
         self.root.is_none()
     }
 
-    /// The value of the entry whose key compares equal to `key`. One search: about 3 comparisons.
+    /// The value of the entry whose key compares equal to `key`. One search: about 3 comparisons, or as many as the comparator's own
+    /// search makes.
     pub fn get<C: Comparator<K>>(&self, key: K, forest: &MapForest<K, V>, comp: &C) -> Option<V>
         requires live { IsLive forest.now self.now }
         requires increasing { IsIncreasing (C.order comp.now) (list_of forest.now self.now) }
@@ -127,7 +128,7 @@ impl<K: Copy, V: Copy> Map<K, V> {
     /// Puts a value in at a key, and answers the value that was there.
     ///
     /// Where a stored key compares equal, its value alone is written, the stored key stays, and no node is needed. Else the entry goes in
-    /// at its place in the order. One search: about 3 comparisons.
+    /// at its place in the order. One search: about 3 comparisons, or as many as the comparator's own search makes.
     ///
     /// # Errors
     ///
