@@ -1,5 +1,5 @@
 -- The lists of a table.
-use Rattle.bforest.specs.Entries.{is_present, place, put, with_value}
+use Rattle.bforest_core.specs.Entries.{is_present, place, put, with_value}
 use Rattle.bforest.specs.Forest.{Becomes, Forest, list_at, slots_of}
 use Rattle.bforest.specs.Layout.{IsGrown, forest_of}
 use Rattle.std.proofs.Common.{Bool, Err, List, Ok, Result, Some, [], arith, ap, false, if◌then◌else◌, insert, length, length-set, refl, slice_index_or, slice_set, subst, suc, sym, true, zero, ⊎_elim, ◌==◌, ◌<◌, ◌∙◌, ◌∷◌, ◌≡◌, ◌≢◌, ℕ}

@@ -1,5 +1,5 @@
 -- Keys and values side by side as one list of entries.
-use Rattle.bforest.specs.Entries.{value_at_place, with_value}
+use Rattle.bforest_core.specs.Entries.{value_at_place, with_value}
 use Rattle.std.proofs.Common.{List, Some, [], ap, arith, insert, length, refl, slice_get, slice_index_or, slice_set, suc, sym, zero, ◌<◌, ◌∙◌, ◌∷◌, ◌≡◌, ◌≤◌, ℕ}
 use Rattle.std.proofs.lemmas.Option.{slice_get_read}
 use Rattle.std.proofs.lemmas.Slice.Zip.{length-zip}

@@ -1,5 +1,5 @@
 -- What contracts see of a forest and of a handle.
-use Rattle.bforest.specs.Entries.{is_present}
+use Rattle.bforest_core.specs.Entries.{is_present}
 use Rattle.std.specs.Coded.{Coded, code_by, coded_list, coded_ℕ, coded×}
 use Rattle.std.specs.Prelude.{List, None, Option, Some, [], false, length, refl, slice_index_or, ◌+◌, ◌-◌, ◌<◌, ◌≡◌, ◌≢◌, ◌≤◌, ℕ}
 use Rattle.std.specs.declared.cmp.Ordering.{Ordering}

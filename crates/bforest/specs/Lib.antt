@@ -1,4 +1,2 @@
-pub mod Entries
-pub mod Search
 pub mod Forest
 pub mod Layout

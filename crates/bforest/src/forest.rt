@@ -1,24 +1,14 @@
 //! The table of all trees of a forest.
-ghost use Rattle.bforest.specs.Entries.{IsIncreasing, is_present, put, value_for};
+ghost use Rattle.bforest_core.specs.Entries.{IsIncreasing, is_present, put, value_for};
 ghost use Rattle.bforest.specs.Forest.{Becomes, IsLive, IsTooMany, NeedsGrowth, Takes, empty, free_of, limit_of, list_at, list_of, slots_of};
 ghost use Rattle.std.specs.List.{zip};
 ghost use Rattle.std.specs.Prelude.{IfOk, IsTrue, None, OnErr, OnOk, Some, [], false, length, ◌↔◌, ◌∷◌, ◌≡◌, ◌≢◌, ◌≤◌};
 
-use crate::comparator::Comparator;
 use crate::leaf::Leaf;
 use crate::map::Map;
+use bforest_core::{Comparator, OutOfMemory};
 use std::alloc::Global;
 use std::marker::Model;
-
-/// Why an insertion was refused. After a refusal the forest and the handle are as they were.
-#[derive(Clone, Copy, Debug, PartialEq, Eq)]
-pub enum OutOfMemory {
-    /// The table had to grow and was allowed to, but the memory for it was refused. The same insertion may succeed later.
-    Memory,
-    /// Fewer nodes can be had than the insertion needs: those that lie free, and those up to the limit, are too few. For now also: a new
-    /// key for a map of 7 entries, since a tree is one leaf.
-    Full,
-}
 
 /// Many ordered maps in one table of nodes. It owns all entries; a [`Map`] only names a tree in it.
 #[derive(Drop)]

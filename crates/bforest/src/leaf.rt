@@ -1,10 +1,9 @@
 //! The leaf in which a tree keeps its whole list, for now.
-ghost use Rattle.bforest.specs.Entries.{IsIncreasing, is_present, put, search_for, value_at_place, value_for, with_value};
+ghost use Rattle.bforest_core.specs.Entries.{IsIncreasing, is_present, put, search_for, value_at_place, value_for, with_value};
 ghost use Rattle.std.specs.List.{zip};
 ghost use Rattle.std.specs.Prelude.{IfOk, IsTrue, OnErr, OnOk, Some, [], false, insert, length, ◌<◌, ◌↔◌, ◌∷◌, ◌≡◌, ◌≢◌, ◌≤◌};
 
-use crate::comparator::Comparator;
-use crate::forest::OutOfMemory;
+use bforest_core::{Comparator, OutOfMemory};
 use std::alloc::{AllocError, Global};
 use std::marker::Model;
 use std::mem;

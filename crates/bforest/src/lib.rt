@@ -5,13 +5,12 @@
 //! (`specs/Forest.antt`); docs/MODEL.md reads these definitions aloud.
 #![tactic(auto)]
 
-mod comparator;
 mod forest;
 mod leaf;
 mod map;
 mod map_iter;
 
-pub use comparator::Comparator;
-pub use forest::{MapForest, OutOfMemory};
+pub use bforest_core::{Comparator, OutOfMemory};
+pub use forest::MapForest;
 pub use map::Map;
 pub use map_iter::MapIter;

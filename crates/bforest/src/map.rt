@@ -1,14 +1,14 @@
 //! The handle of one map.
-ghost use Rattle.bforest.specs.Entries.{IsIncreasing, put, value_for};
+ghost use Rattle.bforest_core.specs.Entries.{IsIncreasing, put, value_for};
 ghost use Rattle.bforest.specs.Forest.{Becomes, Forest, IsBeyondLeaf, IsLive, IsTooMany, NeedsGrowth, Takes, free_of, list_of, need_of};
 ghost use Rattle.std.specs.Option.{option_map_or};
 ghost use Rattle.std.specs.declared.cmp.Ordering.{Ordering};
 ghost use Rattle.std.specs.Ordering.{is_lt};
 ghost use Rattle.std.specs.Prelude.{IfOk, IsOk, IsSome, IsTrue, None, OnErr, OnOk, [], true, ◌↔◌, ◌≡◌, ◌≤◌, ◌⊎◌};
 
-use crate::comparator::Comparator;
-use crate::forest::{MapForest, OutOfMemory};
+use crate::forest::MapForest;
 use crate::map_iter::MapIter;
+use bforest_core::{Comparator, OutOfMemory};
 use std::cmp::Ordering;
 use std::default::Default;
 use std::marker::{Model, PhantomData};
@@ -75,7 +75,8 @@ impl<K: Copy, V: Copy> Map<K, V> {
         self.root.is_none()
     }
 
-    /// The value of the entry whose key compares equal to `key`. One search: about 3 comparisons.
+    /// The value of the entry whose key compares equal to `key`. One search: about 3 comparisons, or as many as the comparator's own
+    /// search makes.
     pub fn get<C: Comparator<K>>(&self, key: K, forest: &MapForest<K, V>, comp: &C) -> Option<V>
         requires live { IsLive forest.now self.now }
         requires increasing { IsIncreasing (C.order comp.now) (list_of forest.now self.now) }
@@ -127,7 +128,7 @@ impl<K: Copy, V: Copy> Map<K, V> {
     /// Puts a value in at a key, and answers the value that was there.
     ///
     /// Where a stored key compares equal, its value alone is written, the stored key stays, and no node is needed. Else the entry goes in
-    /// at its place in the order. One search: about 3 comparisons.
+    /// at its place in the order. One search: about 3 comparisons, or as many as the comparator's own search makes.
     ///
     /// # Errors
     ///

@@ -1,3 +1,5 @@
+pub mod Search
+pub mod Entries
 pub mod Content
 pub mod Number
 pub mod Layout

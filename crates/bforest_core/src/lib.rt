@@ -1,9 +1,17 @@
-//! Nodes of B+-trees in one table.
+//! What stands under a forest of ordered maps and sets: orders of keys, and a table of numbered nodes.
+//!
+//! A [`Comparator`] orders keys, which need no order of their own. A [`NodeData`] is a node of a B+-tree or a free slot, a [`NodePool`] a table
+//! of them whose free slots form a chain. Contracts see a node as two lists and a pool as the contents of its slots, its chain and its
+//! limit (`specs/Content.antt`, `specs/Table.antt`); docs/MODEL.md reads these definitions aloud.
 #![tactic(auto)]
 
+mod comparator;
 mod node;
 mod number;
+mod pool;
 mod row;
 
+pub use comparator::Comparator;
 pub use node::{NodeData, Removed, SplitOff};
 pub use number::{Node, PackedNode, SetValue};
+pub use pool::OutOfMemory;

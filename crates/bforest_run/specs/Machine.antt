@@ -1,7 +1,7 @@
 -- What a line may be answered, and what it leaves of the maps.
-use Rattle.bforest.specs.Entries.{IsIncreasing, put, value_for}
+use Rattle.bforest_core.specs.Entries.{IsIncreasing, put, value_for}
 use Rattle.bforest.specs.Forest.{Becomes, IsLive, list_of}
-use Rattle.bforest.specs.declared.forest.OutOfMemory.{OutOfMemory}
+use Rattle.bforest_core.specs.declared.pool.OutOfMemory.{OutOfMemory}
 use Rattle.bforest_run.specs.Orders.{order_of}
 use Rattle.bforest_run.specs.declared.line.Handle.{Handle}
 use Rattle.bforest_run.specs.declared.line.Line.TheVariants as line

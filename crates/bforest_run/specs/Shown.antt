@@ -1,5 +1,5 @@
 -- The texts of answers.
-use Rattle.bforest.specs.declared.forest.OutOfMemory.TheVariants.{Full, Memory}
+use Rattle.bforest_core.specs.declared.pool.OutOfMemory.TheVariants.{Full, Memory}
 use Rattle.bforest_run.specs.declared.store.Answer.TheVariants.{Dead, Pairs, Put, Unordered, Value}
 use Rattle.bforest_run.specs.declared.store.Answer.{Answer}
 use Rattle.std.specs.Fmt.{decimal}

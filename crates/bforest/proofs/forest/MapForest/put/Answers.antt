@@ -1,6 +1,6 @@
 use Rattle.bforest.proofs.Tables.{IsGrown-slot, becomes-slot, old-slot, some-put, some-tried}
 use Rattle.bforest.proofs.forest.MapForest.put.Goals as goal
-use Rattle.bforest.specs.Entries.{put}
+use Rattle.bforest_core.specs.Entries.{put}
 use Rattle.bforest.specs.Forest.{Becomes}
 use Rattle.bforest.specs.Layout.{forest_of}
 use Rattle.std.proofs.Common.{Some, [], ap, slice_set, subst, sym, ◌∙◌, ◌≢◌}

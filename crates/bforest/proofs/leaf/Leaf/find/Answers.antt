@@ -1,6 +1,6 @@
-use Rattle.bforest.proofs.Found.{search_of-keys_of}
+use Rattle.bforest_core.proofs.Found.{search_of-keys_of}
 use Rattle.bforest.proofs.leaf.Leaf.find.Goals as goal
-use Rattle.bforest.specs.Search.{search_of}
+use Rattle.bforest_core.specs.Search.{search_of}
 use Rattle.std.proofs.Common.{ap, subst, sym, ◌∙◌, ◌≡◌}
 use Rattle.std.proofs.lemmas.Map.Made.{keys_of-zip}
 use Rattle.std.specs.List.Sorted.{IsStrictlySortedBy}

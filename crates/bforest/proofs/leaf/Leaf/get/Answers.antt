@@ -1,7 +1,7 @@
-use Rattle.bforest.proofs.Found.{place-present, present_at, value_for-present}
+use Rattle.bforest_core.proofs.Found.{place-present, present_at, value_for-present}
 use Rattle.bforest.proofs.Zips.{length-view, value_at_place-view}
 use Rattle.bforest.proofs.leaf.Leaf.get.Goals as goal
-use Rattle.bforest.specs.Entries.{value_at_place}
+use Rattle.bforest_core.specs.Entries.{value_at_place}
 use Rattle.std.proofs.Common.{ap, arith, length, sym, ◌<◌, ◌∙◌}
 
 pub index-requires : goal.index-requires

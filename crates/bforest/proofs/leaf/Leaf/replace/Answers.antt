@@ -1,6 +1,6 @@
 use Rattle.bforest.proofs.Zips.{length-view, value_at_place-view, with_value-view}
 use Rattle.bforest.proofs.leaf.Leaf.replace.Goals as goal
-use Rattle.bforest.specs.Entries.{with_value}
+use Rattle.bforest_core.specs.Entries.{with_value}
 use Rattle.std.proofs.Common.{Some, ap, arith, sym, ◌∙◌}
 
 pub index_mut-requires : goal.index_mut-requires

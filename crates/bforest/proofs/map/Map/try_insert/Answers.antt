@@ -1,6 +1,6 @@
 use Rattle.bforest.proofs.Increasing.{IsIncreasing-one, increasing_after}
 use Rattle.bforest.proofs.map.Map.try_insert.Goals as goal
-use Rattle.bforest.specs.Entries.{IsIncreasing}
+use Rattle.bforest_core.specs.Entries.{IsIncreasing}
 use Rattle.bforest.specs.Forest.{list_of}
 use Rattle.std.proofs.Common.{Some, subst, sym, ◌∙◌, ◌≡◌}
 

@@ -1,7 +1,7 @@
 use Rattle.std.proofs.Common.{rules}
 use Rattle.std.proofs.lemmas.Fn.{always_returns_same}
-use Rattle.bforest.proofs.Searched.{searched}
-use Rattle.bforest.proofs.comparator.Comparator.search.Goals as goal
+use Rattle.bforest_core.proofs.Searched.{searched}
+use Rattle.bforest_core.proofs.comparator.Comparator.search.Goals as goal
 
 pub returns : goal.returns
 returns g c = λ sorted.

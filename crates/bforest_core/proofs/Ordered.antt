@@ -1,6 +1,6 @@
 -- Lists of entries that increase stay so.
-use Rattle.bforest.proofs.Found.{put-absent, put-present, value_for-absent}
-use Rattle.bforest.specs.Entries.{IsIncreasing, is_present, place, put, value_for, with_value}
+use Rattle.bforest_core.proofs.Found.{put-absent, put-present, value_for-absent}
+use Rattle.bforest_core.specs.Entries.{IsIncreasing, is_present, place, put, value_for, with_value}
 use Rattle.std.proofs.Common.{Bool, List, None, Some, [], ap, arith, cond, false, if◌then◌else◌, insert, refl, slice_get, subst, suc, sym, true, zero, ◌+◌, ◌∙◌, ◌∷◌, ◌≡◌, ℕ}
 use Rattle.std.proofs.lemmas.List.Sums.{sum_by-cons}
 use Rattle.std.specs.Cmp.{IsTotalOrder}

@@ -14,7 +14,7 @@ use Rattle.std.specs.Cmp.{IsTotalOrder}
 use Rattle.std.proofs.lemmas.Cmp.{alike_right}
 use Rattle.std.proofs.lemmas.List.Sums.{sum_by-cons}
 use Rattle.std.proofs.lemmas.Map.Keys.{Less-from_sorted}
-use Rattle.bforest.specs.Search.{count_less, is_equal_at, search_of}
+use Rattle.bforest_core.specs.Search.{count_less, is_equal_at, search_of}
 
 module _ {K : Type 0} (cmp : K → K → Ordering) where
   -- a first key that is less counts

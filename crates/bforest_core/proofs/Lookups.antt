@@ -1,6 +1,6 @@
 -- Lists that increase, looked up and changed from the front: lemmas for callers.
-use Rattle.bforest.proofs.Ordered.{IsIncreasing-put, place-here, place-later}
-use Rattle.bforest.specs.Entries.{IsIncreasing, is_present, place, put, value_for, with_value}
+use Rattle.bforest_core.proofs.Ordered.{IsIncreasing-put, place-here, place-later}
+use Rattle.bforest_core.specs.Entries.{IsIncreasing, is_present, place, put, value_for, with_value}
 use Rattle.std.proofs.Common.{Bool, List, None, Option, Some, [], ap, false, if◌then◌else◌, insert, refl, slice_get, sym, true, ◌∙◌, ◌∷◌, ◌≡◌, ℕ}
 use Rattle.std.specs.Cmp.{IsTotalOrder, tied_itself}
 use Rattle.std.specs.List.Sorted.{IsStrictlySortedBy}

@@ -1,6 +1,6 @@
 -- What a search among the keys of entries finds.
-use Rattle.bforest.specs.Entries.{entry_for, is_present, place, put, search_for, value_at_place, value_for, with_value}
-use Rattle.bforest.specs.Search.{count_less, is_equal_at, search_of}
+use Rattle.bforest_core.specs.Entries.{entry_for, is_present, place, put, search_for, value_at_place, value_for, with_value}
+use Rattle.bforest_core.specs.Search.{count_less, is_equal_at, search_of}
 use Rattle.std.proofs.Common.{Bool, Err, List, None, Ok, Option, Some, [], ap, arith, cond, false, if◌then◌else◌, insert, length, refl, slice_get, suc, sym, true, zero, ◌+◌, ◌<◌, ◌∙◌, ◌∷◌, ◌≡◌, ℕ}
 use Rattle.std.proofs.lemmas.List.Sums.{sum_by-cons}
 use Rattle.std.specs.Map.{keys_of}
