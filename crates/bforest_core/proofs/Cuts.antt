@@ -2,7 +2,7 @@
 use Rattle.std.proofs.Common.{◌≡◌, ℕ, ◌+◌, ◌-◌, ◌<◌, ◌≤◌, zero, suc, List, [], ◌∷◌, ◌++◌, length, take, drop, slice_get, Some, refl, sym, ap, ◌∙◌, arith, append_assoc}
 use Rattle.std.proofs.Math.Seq.{take-append-add}
 use Rattle.std.proofs.lemmas.List.{take-append-drop, length-append, length-take}
-use Rattle.bforest_core.proofs.Lists.{around, drop-append-add, front_at, key_at, slice_get-append-add, slice_get-drop}
+use Rattle.bforest_core.proofs.Seams.{around, drop-append-add, front_at, key_at, slice_get-append-add, slice_get-drop}
 use Rattle.bforest_core.specs.Content.{Content, Inner, Leaf, Free, IsFree, joined, IsCut, Balances, left_share}
 
 module _ {K V : Type 0} where
