@@ -1,6 +1,7 @@
 //! Nodes of B+-trees in one table.
 #![tactic(auto)]
 
+mod lent;
 mod node;
 mod number;
 mod row;
