@@ -4,3 +4,4 @@ pub mod Content
 pub mod Number
 pub mod Layout
 pub mod LendingNode
+pub mod LendingRow

@@ -6,6 +6,7 @@
 #![tactic(auto)]
 
 mod comparator;
+mod lent;
 mod node;
 mod number;
 mod pool;

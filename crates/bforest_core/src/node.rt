@@ -193,7 +193,7 @@ impl<K: Copy, V: Copy, const N: usize> NodeData<K, V, N> {
         ensures value { slice_get (vals_of self.old) index ≡ Some result.now }
     {
         match &mut self.state {
-            State::Entries(_, _, vals) => &mut vals.items[index],
+            State::Entries(_, _, vals) => vals.at_mut(index),
             _ => unreachable!(),
         }
     }
@@ -207,10 +207,7 @@ impl<K: Copy, V: Copy, const N: usize> NodeData<K, V, N> {
     {
         match &mut self.state {
             State::Entries(size, keys, vals) => {
-                (
-                    keys.front(*size as usize),
-                    &mut vals.items[..*size as usize],
-                )
+                (keys.front(*size as usize), vals.front_mut(*size as usize))
             }
             _ => unreachable!(),
         }

@@ -1,6 +1,10 @@
 //! Elements that lie inline in a node, of which the node says how many count.
 ghost use Rattle.std.specs.Prelude.{◌≡◌, ◌+◌, ◌-◌, ◌<◌, ◌≤◌, ◌∷◌, ◌++◌, [], take, drop, insert, remove, length, slice_get, slice_set, Some};
 
+ghost use Rattle.std.specs.Borrow.{sem};
+
+use crate::lent;
+
 /// Room for `N` elements. What lies behind those that count has no meaning.
 #[derive(Clone, Copy)]
 pub(crate) struct Row<T, const N: usize> {
@@ -8,6 +12,8 @@ pub(crate) struct Row<T, const N: usize> {
 }
 
 impl<T: Copy, const N: usize> Row<T, N> {
+    ghost use Rattle.bforest_core.specs.LendingRow.{lends_at, lends_front};
+
     /// The first `len` elements.
     pub(crate) fn front(&self, len: usize) -> &[T]
         requires { len ≤ N }
@@ -25,6 +31,24 @@ impl<T: Copy, const N: usize> Row<T, N> {
         ensures { slice_get (take len self.now.items) index ≡ Some result }
     {
         self.items[index]
+    }
+
+    /// The element at an index, for writing.
+    pub(crate) fn at_mut(&mut self, index: usize) -> &mut T
+        requires { index < N }
+        ensures* writes_back { sem 𝓛 (lends_at T.row N.row self.entry index result) }
+        ensures value { slice_get self.old.items index ≡ Some result.now }
+    {
+        lent::element_mut(&mut self.items, index)
+    }
+
+    /// The first `len` elements, for writing.
+    pub(crate) fn front_mut(&mut self, len: usize) -> &mut [T]
+        requires { len ≤ N }
+        ensures* writes_back { sem 𝓛 (lends_front T.row N.row self.entry result) }
+        ensures value { result.now ≡ take len self.old.items }
+    {
+        lent::front_mut(&mut self.items, len)
     }
 
     /// Writes the element at an index of the first `len`.
