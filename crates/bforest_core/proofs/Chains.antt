@@ -49,6 +49,11 @@ module _ {K V : Type 0} where
   chain_from-is nodes (node ∷ rest) first linked =
       rw (linked.1, linked.2) (ap (λ ns. node ∷ ns) (chain_from-is nodes rest linked.0 linked.3))
 
+  -- from no number on, no number is met
+  pub length-chain_from-none : (nodes : List (Content K V)) (count : ℕ) → length (chain_from nodes count None) ≡ 0
+  length-chain_from-none nodes zero = refl
+  length-chain_from-none nodes (suc count) = refl
+
   -- the front of the chain is the number that it begins at
   pub front_of-is : (nodes : List (Content K V)) (chain : List ℕ) (first : Option ℕ) → IsChain nodes chain first → front_of chain ≡ first
   front_of-is nodes [] first linked = sym linked

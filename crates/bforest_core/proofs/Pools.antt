@@ -1,13 +1,14 @@
 -- What a `NodePool` keeps of its slots: how each change of them keeps it.
 use Rattle.std.proofs.Common.{◌≡◌, ℕ, ◌+◌, ◌-◌, ◌<◌, ◌≤◌, zero, suc, false, List, [], ◌∷◌, ◌++◌, length, set, slice_get, nat_eq, Some, None, Option, refl, ap, ◌∙◌, subst, arith, length-set}
 use Rattle.std.specs.List.{list_any, IsDistinct}
+use Rattle.std.specs.Option.{IsSome}
 use Rattle.std.proofs.lemmas.List.{length-append}
 use Rattle.std.proofs.lemmas.Map.Keys.{IsDistinct-tail, IsDistinct-head}
 use Rattle.std.proofs.lemmas.Map.Steps.{length-le_from_distinct_below}
 use Rattle.bforest_core.specs.Content.{Content, Free, IsLeafCapacity}
 use Rattle.bforest_core.specs.Chain.{next_of, chain_from, IsChain, IsPool}
 use Rattle.bforest_core.specs.Table.{down_from, front_of_new, fresh_nodes}
-use Rattle.bforest_core.proofs.Chains.{none_apart, IsDistinct-front, length-fresh_nodes, length-down_from, chain_from-is, IsChain-set, IsChain-below, IsChain-fresh, IsChain-freed, IsDistinct-fresh}
+use Rattle.bforest_core.proofs.Chains.{none_apart, IsDistinct-front, length-fresh_nodes, length-down_from, chain_from-is, length-chain_from-none, IsChain-set, IsChain-below, IsChain-fresh, IsChain-freed, IsDistinct-fresh}
 
 module _ {K V : Type 0} where
   -- a chain, of so many different free nodes, makes a pool
@@ -76,6 +77,11 @@ module _ {K V : Type 0} where
       let counted : length chain ≡ count + free = omega (arith, length-append (down_from (length nodes) count) (chain_from nodes free first), length-down_from (length nodes) count, pool.counted) in
       let is = chain_from-is (nodes ++ fresh_nodes (length nodes) count first) chain (front_of_new (length nodes) count first) linked in
       (IsPool-made n _ chain _ (count + free) limit pool.capacity linked counted (IsDistinct-fresh nodes _ first count pool.linked pool.distinct) (omega (arith, length-append nodes (fresh_nodes (length nodes) count first), length-fresh_nodes K V (length nodes) count first)) pool.limit_within, rw counted at is)
+
+  -- where nodes lie free, there is a first
+  pub first_some : (n : ℕ) (nodes : List (Content K V)) (first : Option ℕ) (free limit : ℕ) → 0 < free → IsPool n nodes first free limit → IsSome first
+  first_some n nodes None free limit some pool = absurd (omega (arith, pool.counted, length-chain_from-none nodes free))
+  first_some n nodes (Some node) free limit some pool = refl
 
   -- the front of the chain is a free node
   pub front_is_free : (n : ℕ) (nodes : List (Content K V)) (node free limit : ℕ) → 0 < free → IsPool n nodes (Some node) free limit → (next : Option ℕ) × (slice_get nodes node ≡ Some (Free next))

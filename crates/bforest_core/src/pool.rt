@@ -206,10 +206,10 @@ impl<K: Copy, V: Copy, const N: usize> NodePool<K, V, N> {
         ensures split { IsSplitAt N self.old left insert_index result.1 self.new }
     {
         let right = self.take_slot();
-        let (lhs, rhs) = two_nodes(
+        let (rhs, lhs) = two_nodes(
             self.nodes.as_mut_slice(),
-            left.number() as usize,
             right.number() as usize,
+            left.number() as usize,
         );
         (right, lhs.split(insert_index, rhs))
     }

@@ -1,0 +1,22 @@
+-- Tables whose front left the chain.
+use Rattle.std.proofs.Common.{◌≡◌, ℕ, false, List, [], ◌∷◌, nat_eq, Some, refl}
+use Rattle.std.specs.List.{list_any}
+use Rattle.std.proofs.lemmas.Bool.{or_parts}
+use Rattle.bforest_core.specs.Content.{Content}
+use Rattle.bforest_core.specs.Table.{Table, front_of, with_node, without_front, with_front}
+
+module _ {K V : Type 0} where
+  -- the slots are as before
+  pub nodes-without_front : (table : Table K V) (chain : List ℕ) → (without_front table chain).nodes ≡ table.nodes
+  nodes-without_front table [] = refl
+  nodes-without_front table (node ∷ rest) = refl
+
+  -- a number that was off the chain still is
+  pub off-without_front : (table : Table K V) (chain : List ℕ) (node : ℕ) → table.chain ≡ chain → list_any (nat_eq node) chain ≡ false → list_any (nat_eq node) (without_front table chain).chain ≡ false
+  off-without_front table [] node is off = rw is off
+  off-without_front table (front ∷ rest) node is off = (or_parts (nat_eq node front) (list_any (nat_eq node) rest) off).1
+
+  -- a content that is written where the front was
+  pub with_front-is : (table : Table K V) (chain : List ℕ) (node : ℕ) (content : Content K V) → front_of chain ≡ Some node → with_front table chain content ≡ with_node (without_front table chain) node content
+  with_front-is table [] node content front = cc
+  with_front-is table (first ∷ rest) node content front = let same : first ≡ node = cc in rw same
