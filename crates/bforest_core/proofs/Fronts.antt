@@ -1,18 +1,22 @@
--- The first elements of a list, read and written.
-use Rattle.std.proofs.Common.{◌≡◌, ℕ, ◌<◌, ◌≤◌, zero, suc, List, [], ◌∷◌, ◌++◌, length, take, drop, slice_get, refl, sym, ap, arith}
-use Rattle.std.proofs.Math.Seq.{take-length}
+-- Tables whose front left the chain.
+use Rattle.std.proofs.Common.{◌≡◌, ℕ, false, List, [], ◌∷◌, nat_eq, Some, refl}
+use Rattle.std.specs.List.{list_any}
+use Rattle.std.proofs.lemmas.Bool.{or_parts}
+use Rattle.bforest_core.specs.Content.{Content}
+use Rattle.bforest_core.specs.Table.{Table, front_of, with_node, without_front, with_front}
 
-module _ {X : Type 0} where
-  -- an index within the first n elements reads the same element there
-  pub get_front : (n : ℕ) (xs : List X) (i : ℕ) → i < n → slice_get (take n xs) i ≡ slice_get xs i
-  get_front zero xs i within = absurd (omega arith)
-  get_front (suc n) [] i within = refl
-  get_front (suc n) (x ∷ xs) zero within = refl
-  get_front (suc n) (x ∷ xs) (suc i) within = get_front n xs i (omega arith)
+module _ {K V : Type 0} where
+  -- the slots are as before
+  pub nodes-without_front : (table : Table K V) (chain : List ℕ) → (without_front table chain).nodes ≡ table.nodes
+  nodes-without_front table [] = refl
+  nodes-without_front table (node ∷ rest) = refl
 
-  -- where a list was put over the front, the first n elements are those of before with the list over their front
-  pub over_front : (n : ℕ) (xs w : List X) → n ≤ length xs → take n (w ++ drop (length w) xs) ≡ take (length (take n xs)) (w ++ drop (length w) (take n xs))
-  over_front n xs [] room = sym (take-length (take n xs))
-  over_front zero xs (y ∷ w) room = refl
-  over_front (suc n) [] (y ∷ w) room = absurd (omega arith)
-  over_front (suc n) (x ∷ xs) (y ∷ w) room = ap (λ zs. y ∷ zs) (over_front n xs w (omega arith))
+  -- a number that was off the chain still is
+  pub off-without_front : (table : Table K V) (chain : List ℕ) (node : ℕ) → table.chain ≡ chain → list_any (nat_eq node) chain ≡ false → list_any (nat_eq node) (without_front table chain).chain ≡ false
+  off-without_front table [] node is off = rw is off
+  off-without_front table (front ∷ rest) node is off = (or_parts (nat_eq node front) (list_any (nat_eq node) rest) off).1
+
+  -- a content that is written where the front was
+  pub with_front-is : (table : Table K V) (chain : List ℕ) (node : ℕ) (content : Content K V) → front_of chain ≡ Some node → with_front table chain content ≡ with_node (without_front table chain) node content
+  with_front-is table [] node content front = cc
+  with_front-is table (first ∷ rest) node content front = let same : first ≡ node = cc in rw same

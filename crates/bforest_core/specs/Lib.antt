@@ -3,5 +3,9 @@ pub mod Entries
 pub mod Content
 pub mod Number
 pub mod Layout
-pub mod LendingNode
 pub mod LendingRow
+pub mod LendingNode
+pub mod Table
+pub mod Chain
+pub mod Lending
+pub mod Fits

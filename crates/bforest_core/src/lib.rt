@@ -15,4 +15,4 @@ mod row;
 pub use comparator::Comparator;
 pub use node::{NodeData, Removed, SplitOff};
 pub use number::{Node, PackedNode, SetValue};
-pub use pool::OutOfMemory;
+pub use pool::{NodePool, OutOfMemory};

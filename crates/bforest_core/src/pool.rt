@@ -1,10 +1,303 @@
-//! Nodes, and when none can be had.
+//! Numbered nodes, of which the free ones form a chain.
+ghost use Rattle.std.specs.Prelude.{◌≡◌, ◌≢◌, ℕ, ◌+◌, ◌-◌, ◌<◌, ◌≤◌, ◌↔◌, ◌++◌, length, IsTrue, IsOk, IfOk, OnOk, OnErr, Ok, Err, Some, None, [], ◌∷◌, slice_get, slice_set, vec_len};
+ghost use Rattle.std.specs.Borrow.{sem, LendsBoth, Array};
+ghost use Rattle.bforest_core.specs.Content.{Inner, Leaf, IsLeafCapacity};
+ghost use Rattle.bforest_core.specs.Table.{slot_count, free_count, room, NeedsGrowth, IsUsed, IsTable, reserved, without_front, with_front, with_freed, fresh_nodes, front_of, front_of_new, IsFullAt, IsSplitAt, IsUnderflowedAt, IsBalancedAt, IsEntryAt, value_at};
+
+use crate::node::{NodeData, SplitOff};
+use crate::number::{Node, PackedNode};
+use std::alloc::{AllocError, Global};
+use std::marker::Model;
 
 /// Why no node could be had.
 #[derive(Clone, Copy, Debug, PartialEq, Eq)]
 pub enum OutOfMemory {
-    /// The table had to grow and was allowed to, but the memory for it was refused. The same call may succeed later.
+    /// The table could not grow.
     Memory,
-    /// Fewer nodes can be had than are needed: those that lie free, and those up to the limit, are too few.
+    /// The limit does not allow so many nodes.
     Full,
+}
+
+/// Nodes in one table, each of which is named by its number. The free ones form a chain, which the nodes themselves keep.
+#[derive(Drop)]
+pub struct NodePool<K, V, const N: usize> {
+    nodes: Vec<NodeData<K, V, N>>,
+    first: PackedNode,
+    free: u32,
+    limit: u32,
+    alloc: Global,
+}
+
+impl<K, V, const N: usize> Model for NodePool<K, V, N> {
+    ghost use Rattle.bforest_core.specs.Table.{Table};
+
+    ghost Value = { Table K V };
+
+    ghost use Rattle.bforest_core.specs.Chain.{chain_from, IsPool};
+
+    ghost view = { λ a. record {
+      nodes = a.nodes.items;
+      chain = chain_from a.nodes.items a.free a.first;
+      limit = a.limit;
+    } };
+
+    ghost use Rattle.bforest_core.specs.Fits.{NodeFits};
+
+    ghost invariant = { λ a. IsPool N a.nodes.items a.first a.free a.limit × (0 < length a.nodes.items → NodeFits K.row V.row N.row) };
+}
+
+impl<K: Copy, V: Copy, const N: usize> NodePool<K, V, N> {
+    ghost use Rattle.bforest_core.specs.Fits.{NodeFits};
+    ghost use Rattle.bforest_core.specs.Lending.{lends_node, lends_value_at};
+
+    /// A pool with no slots, which may have as many as there are numbers. Takes no memory.
+    pub fn new(alloc: Global) -> Self
+        requires { IsLeafCapacity N }
+        ensures empty { result ≡ record { nodes = []; chain = []; limit = 4294967295 } }
+    {
+        NodePool::with_limit(alloc, u32::MAX)
+    }
+
+    /// A pool with no slots, which may have at most `limit`. Takes no memory.
+    pub fn with_limit(alloc: Global, limit: u32) -> Self
+        requires { IsLeafCapacity N }
+        ensures empty { result ≡ record { nodes = []; chain = []; limit = limit } }
+    {
+        NodePool {
+            nodes: Vec::new(alloc),
+            first: PackedNode::none(),
+            free: 0,
+            limit,
+            alloc,
+        }
+    }
+
+    /// The number of slots, used or free. Constant time.
+    pub fn slots(&self) -> u32
+        ensures value { result ≡ slot_count self.now }
+        ensures table { IsTable self.now }
+    {
+        self.nodes.len() as u32
+    }
+
+    /// The number of free nodes. Constant time.
+    pub fn free(&self) -> u32
+        ensures value { result ≡ free_count self.now }
+    {
+        self.free
+    }
+
+    /// The most slots that the pool may have. Constant time.
+    pub fn limit(&self) -> u32
+        ensures value { result ≡ self.now.limit }
+    {
+        self.limit
+    }
+
+    /// The content of a slot. One index.
+    pub fn node(&self, node: Node) -> &NodeData<K, V, N>
+        requires { node < slot_count self.now }
+        ensures value { slice_get self.now.nodes node ≡ Some result.now }
+    {
+        &self.nodes[node.number() as usize]
+    }
+
+    /// The content of a used slot, for writing. One index. Whatever is written, the chain of the free nodes stays as it is.
+    pub fn node_mut(&mut self, node: Node) -> &mut NodeData<K, V, N>
+        requires { IsUsed self.old node }
+        ensures* writes_back { sem 𝓛 (lends_node K.row V.row N.row self.entry node result) }
+        ensures value { slice_get self.old.nodes node ≡ Some result.now }
+    {
+        &mut self.nodes[node.number() as usize]
+    }
+
+    /// Drops all slots, used and free. Keeps the limit, and the memory for later slots.
+    pub fn clear(&mut self)
+        ensures empty { self.new ≡ record self.old { nodes = []; chain = [] } }
+    {
+        self.nodes.clear();
+        self.first = PackedNode::none();
+        self.free = 0;
+    }
+
+    /// Frees a used slot: it becomes the front of the chain, and the next that is handed out. Constant time.
+    pub fn free_node(&mut self, node: Node)
+        requires fits { NodeFits K.row V.row N.row }
+        requires used { IsUsed self.old node }
+        ensures freed { self.new ≡ with_freed self.old node }
+    {
+        let slot = &mut self.nodes[node.number() as usize];
+        slot.make_free(self.first);
+        self.first = PackedNode::some(node);
+        self.free += 1;
+    }
+
+    /// Makes sure that `n` nodes lie free: where fewer do, adds slots until exactly `n` do, by one growth of the table.
+    ///
+    /// Where `n` nodes lie free already, it changes nothing and takes no memory.
+    ///
+    /// # Errors
+    ///
+    /// `Full` where the limit does not allow so many slots, which is tested first, and `Memory` where the table could not grow. After
+    /// either the pool is as before.
+    pub fn reserve(&mut self, n: u32) -> Result<(), OutOfMemory>
+        requires fits { NodeFits K.row V.row N.row }
+        ensures ok { OnOk result (self.new ≡ reserved self.old n) }
+        ensures err { OnErr result (self.new ≡ self.old) }
+        ensures full { (result ≡ Err OutOfMemory.Full) ↔ (room self.old < n) }
+        ensures memory { result ≡ Err OutOfMemory.Memory → NeedsGrowth n self.old }
+        ensures enough { n ≤ free_count self.old → IsOk result }
+    {
+        if n <= self.free {
+            return Ok(());
+        }
+        let missing = n - self.free;
+        if missing > self.limit - self.nodes.len() as u32 {
+            return Err(OutOfMemory::Full);
+        }
+        match add_slots(&mut self.nodes, missing, self.first, self.alloc) {
+            Ok(first) => {
+                self.first = first;
+                self.free = n;
+                Ok(())
+            }
+            Err(_) => Err(OutOfMemory::Memory),
+        }
+    }
+
+    /// Makes the front of the chain a leaf of one entry, or a new slot where no node lies free, and returns its number.
+    ///
+    /// # Errors
+    ///
+    /// Those of `reserve(1)`. After either the pool is as before.
+    pub fn alloc_node(&mut self, key: K, value: V) -> Result<Node, OutOfMemory>
+        requires fits { NodeFits K.row V.row N.row }
+        ensures node { IfOk result (λ node. front_of (reserved self.old 1).chain ≡ Some node) }
+        ensures ok { OnOk result (self.new ≡ with_front (reserved self.old 1) (reserved self.old 1).chain (Leaf (key ∷ []) (value ∷ []))) }
+        ensures err { OnErr result (self.new ≡ self.old) }
+        ensures full { (result ≡ Err OutOfMemory.Full) ↔ (room self.old < 1) }
+        ensures memory { result ≡ Err OutOfMemory.Memory → NeedsGrowth 1 self.old }
+        ensures enough { 1 ≤ free_count self.old → IsOk result }
+    {
+        self.reserve(1)?;
+        let node = self.take_slot();
+        self.node_mut(node).leaf(key, value);
+        Ok(node)
+    }
+
+    /// Makes the front of the chain an inner node of two children, and returns its number. Takes no memory.
+    pub fn inner_node(&mut self, left: Node, key: K, right: Node) -> Node
+        requires fits { NodeFits K.row V.row N.row }
+        requires room { 0 < free_count self.old }
+        ensures node { front_of self.old.chain ≡ Some result }
+        ensures table { self.new ≡ with_front self.old self.old.chain (Inner (key ∷ []) (left ∷ right ∷ [])) }
+    {
+        let node = self.take_slot();
+        self.node_mut(node).inner(left, key, right);
+        node
+    }
+
+    /// Halves the full node `left`, at which an insertion at `insert_index` had no room. The right half goes to the front of the chain,
+    /// whose number is returned. Takes no memory.
+    pub fn split_node(&mut self, left: Node, insert_index: usize) -> (Node, SplitOff<K>)
+        requires fits { NodeFits K.row V.row N.row }
+        requires used { IsUsed self.old left }
+        requires full { IsFullAt N self.old.nodes left }
+        requires room { 0 < free_count self.old }
+        ensures node { front_of self.old.chain ≡ Some result.0 }
+        ensures split { IsSplitAt N self.old left insert_index result.1 self.new }
+    {
+        let right = self.take_slot();
+        let (rhs, lhs) = two_nodes(
+            self.nodes.as_mut_slice(),
+            right.number() as usize,
+            left.number() as usize,
+        );
+        (right, lhs.split(insert_index, rhs))
+    }
+
+    /// Balances the underflowed node `left` with its right neighbour, from which `crit_key` separates it: see `NodeData::balance`, whose
+    /// answer it returns. Takes no memory.
+    pub fn balance_nodes(&mut self, left: Node, crit_key: K, right: Node) -> Option<K>
+        requires fits { NodeFits K.row V.row N.row }
+        requires left { IsUsed self.old left }
+        requires right { IsUsed self.old right }
+        requires apart { left ≢ right }
+        requires balanceable { IsUnderflowedAt N self.old.nodes left right }
+        ensures balanced { IsBalancedAt N self.old left crit_key right result self.new }
+    {
+        let (lhs, rhs) = two_nodes(
+            self.nodes.as_mut_slice(),
+            left.number() as usize,
+            right.number() as usize,
+        );
+        lhs.balance(crit_key, rhs)
+    }
+
+    /// The value of a leaf's entry, for writing. Two indices.
+    pub fn value_mut(&mut self, node: Node, index: usize) -> &mut V
+        requires fits { NodeFits K.row V.row N.row }
+        requires used { IsUsed self.old node }
+        requires entry { IsEntryAt self.old.nodes node index }
+        ensures* writes_back { sem 𝓛 (lends_value_at K.row V.row N.row self.entry node index result) }
+        ensures value { Some result.now ≡ value_at self.old.nodes node index }
+    {
+        self.node_mut(node).value_mut(index)
+    }
+
+    // Takes the front of the chain: a used slot from now on, which the caller fills.
+    fn take_slot(&mut self) -> Node
+        requires fits { NodeFits K.row V.row N.row }
+        requires room { 0 < free_count self.old }
+        ensures node { front_of self.old.chain ≡ Some result }
+        ensures table { self.new ≡ without_front self.old self.old.chain }
+        ensures used { IsUsed self.new result }
+    {
+        let node = self.first.expand().unwrap();
+        self.first = self.nodes[node.number() as usize].next_free();
+        self.free -= 1;
+        node
+    }
+}
+
+// Two different nodes, for writing.
+fn two_nodes<T>(nodes: &mut [T], left: usize, right: usize) -> (&mut T, &mut T)
+    requires left_within { left < length nodes.old }
+    requires right_within { right < length nodes.old }
+    requires apart { left ≢ right }
+    ensures* writes_back { sem 𝓛 (LendsBoth (Array T.row 0) T.row T.row nodes.entry result (λ l r. slice_set (slice_set nodes.old left l) right r)) }
+    ensures left { slice_get nodes.old left ≡ Some result.0.now }
+    ensures right { slice_get nodes.old right ≡ Some result.1.now }
+{
+    if left < right {
+        let (front, back) = nodes.split_at_mut(right);
+        (&mut front[left], &mut back[0])
+    } else {
+        let (front, back) = nodes.split_at_mut(left);
+        (&mut back[0], &mut front[right])
+    }
+}
+
+// Adds slots, each of which names the one before and the first of which names `next`, or none where the growth is refused.
+fn add_slots<K: Copy, V: Copy, const N: usize>(
+    nodes: &mut Vec<NodeData<K, V, N>>,
+    count: u32,
+    next: PackedNode,
+    alloc: Global,
+) -> Result<PackedNode, AllocError>
+    requires capacity { IsLeafCapacity N }
+    requires room { vec_len nodes.old + count ≤ 4294967295 }
+    ensures ok { OnOk result (nodes.new.items ≡ nodes.old.items ++ fresh_nodes (vec_len nodes.old) count next) }
+    ensures first { IfOk result (λ first. first ≡ front_of_new (vec_len nodes.old) count next) }
+    ensures err { OnErr result (nodes.new.items ≡ nodes.old.items) }
+{
+    nodes.reserve(count as usize)?;
+    let mut first = next;
+    for _added in 0..count {
+        let mut node = NodeData::new(alloc).unwrap();
+        node.make_free(first);
+        first = PackedNode::some(Node::new(nodes.len() as u32));
+        nodes.push_reserved(node);
+    }
+    Ok(first)
 }

@@ -2,7 +2,7 @@ use Rattle.std.proofs.Common.{◌≡◌, ◌<◌, Some, slice_get, take, refl, a
 use Rattle.std.proofs.Math.Seq.{take-set-lt}
 use Rattle.std.proofs.lemmas.List.{length-take}
 use Rattle.bforest_core.specs.Content.{Leaf}
-use Rattle.bforest_core.proofs.Fronts.{get_front}
+use Rattle.bforest_core.proofs.Prefixes.{get_front}
 use Rattle.bforest_core.proofs.node.NodeData.value_mut.Goals as goal
 
 pub returns : goal.returns

@@ -1,0 +1,68 @@
+-- Lists that are read, written and cut: no word of nodes.
+use Rattle.std.proofs.Common.{◌≡◌, ◌≢◌, ℕ, ◌+◌, ◌-◌, ◌<◌, List, [], ◌∷◌, ◌++◌, suc, length, set, take, drop, slice_get, get_or, Some, refl, sym, ap, ◌∙◌, arith, length-set}
+use Rattle.std.proofs.lemmas.List.{length-append, get_or-set_same, get_or-set_other, get_or_append_left, set-append_left, set-append_right, drop_all, take_all, append-nil}
+use Rattle.std.proofs.lemmas.Option.{slice_get_within, slice_get-get_or, get_or_from_slice_get, slice_get_read}
+
+module _ {X : Type 0} where
+  -- an element after the first list
+  pub slice_get-append-add : (xs ys : List X) (n : ℕ) → slice_get (xs ++ ys) (length xs + n) ≡ slice_get ys n
+  slice_get-append-add [] ys n = let e : length {A = X} [] + n ≡ n = omega arith in rw e
+  slice_get-append-add (x ∷ xs) ys n = let e : length (x ∷ xs) + n ≡ suc (length xs + n) = omega arith in rw e (slice_get-append-add xs ys n)
+
+  -- an element of the first list
+  pub slice_get-append_left : (xs more : List X) (k : ℕ) (x : X) → slice_get xs k ≡ Some x → slice_get (xs ++ more) k ≡ Some x
+  slice_get-append_left xs more k x found =
+      let within = slice_get_within xs k x found in
+      slice_get-get_or (xs ++ more) k x (omega (arith, length-append xs more))
+      ∙ ap Some (get_or_append_left xs more x k within ∙ get_or_from_slice_get xs k x x found)
+
+  -- the element that was added at the end
+  pub slice_get-push : (xs : List X) (x : X) → slice_get (xs ++ x ∷ []) (length xs) ≡ Some x
+  slice_get-push xs x =
+      let e : length xs ≡ length xs + 0 = omega arith in
+      ap (slice_get (xs ++ x ∷ [])) e ∙ slice_get-append-add xs (x ∷ []) 0
+
+  -- an element that was not written
+  pub slice_get-set_other : (xs : List X) (at k : ℕ) (e x : X) → at ≢ k → slice_get xs k ≡ Some x → slice_get (set xs at e) k ≡ Some x
+  slice_get-set_other xs at k e x other found =
+      let within = slice_get_within xs k x found in
+      slice_get-get_or (set xs at e) k e (omega (arith, length-set xs at e))
+      ∙ ap Some (get_or-set_other xs at k e e (λ same. other (sym same)) ∙ get_or_from_slice_get xs k x e found)
+
+  -- the element that was written
+  pub slice_get-set_same : (xs : List X) (at : ℕ) (e : X) → at < length xs → slice_get (set xs at e) at ≡ Some e
+  slice_get-set_same xs at e within =
+      slice_get-get_or (set xs at e) at e (omega (arith, length-set xs at e)) ∙ ap Some (get_or-set_same xs at e e within)
+
+  -- a write in front of a cut, then one right behind it
+  pub set-front-back : (xs front back : List X) (low high : ℕ) (x y : X) → xs ≡ front ++ back → length front ≡ high → low < high → set front low x ++ set back 0 y ≡ set (set xs low x) high y
+  set-front-back xs front back low high x y is len below =
+      let within : low < length front = omega arith in
+      let size : length (set front low x) ≡ high = omega (arith, length-set front low x) in
+      let none : high - high ≡ 0 = omega arith in
+      let second : set (set front low x ++ back) high y ≡ set front low x ++ set back 0 y = set-append_right (set front low x) back high high y size (omega arith) ∙ ap (λ k. set front low x ++ set back k y) none in
+      sym (ap (λ zs. set (set zs low x) high y) is ∙ ap (λ zs. set zs high y) (set-append_left front back low x within) ∙ second)
+
+  -- a write right behind a cut, then one in front of it
+  pub set-back-front : (xs front back : List X) (low high : ℕ) (x y : X) → xs ≡ front ++ back → length front ≡ high → low < high → set front low y ++ set back 0 x ≡ set (set xs high x) low y
+  set-back-front xs front back low high x y is len below =
+      let within : low < length front = omega arith in
+      let none : high - high ≡ 0 = omega arith in
+      let first : set (front ++ back) high x ≡ front ++ set back 0 x = set-append_right front back high high x len (omega arith) ∙ ap (λ k. front ++ set back k x) none in
+      sym (ap (λ zs. set (set zs high x) low y) is ∙ ap (λ zs. set zs low y) first ∙ set-append_left front (set back 0 x) low y within)
+
+  -- an element that is read in front of a cut
+  pub in_front : (xs front back : List X) (low : ℕ) (x : X) → xs ≡ front ++ back → low < length front → x ≡ get_or front low x → slice_get xs low ≡ Some x
+  in_front xs front back low x is within read =
+      ap (λ zs. slice_get zs low) is ∙ slice_get-append_left front back low x (slice_get_read front (length front) low x refl within read)
+
+  -- the element that is read right behind a cut
+  pub behind : (xs front back : List X) (high : ℕ) (x : X) → xs ≡ front ++ back → length front ≡ high → 0 < length back → x ≡ get_or back 0 x → slice_get xs high ≡ Some x
+  behind xs front back high x is len some read =
+      let place : high ≡ length front + 0 = omega arith in
+      ap (λ zs. slice_get zs high) is ∙ ap (slice_get (front ++ back)) place ∙ slice_get-append-add front back 0 ∙ slice_get_read back (length back) 0 x refl some read
+
+  -- as many elements written over all of a list
+  pub refilled : (xs ys : List X) (n : ℕ) → length ys ≡ length xs → n ≡ length xs → take n (ys ++ drop (length ys) xs) ≡ ys
+  refilled xs ys n same size =
+      ap (λ zs. take n (ys ++ zs)) (drop_all (length ys) xs (omega arith)) ∙ ap (take n) (append-nil ys) ∙ take_all n ys (omega arith)

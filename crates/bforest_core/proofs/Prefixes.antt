@@ -1,0 +1,18 @@
+-- The first elements of a list, read and written.
+use Rattle.std.proofs.Common.{◌≡◌, ℕ, ◌<◌, ◌≤◌, zero, suc, List, [], ◌∷◌, ◌++◌, length, take, drop, slice_get, refl, sym, ap, arith}
+use Rattle.std.proofs.Math.Seq.{take-length}
+
+module _ {X : Type 0} where
+  -- an index within the first n elements reads the same element there
+  pub get_front : (n : ℕ) (xs : List X) (i : ℕ) → i < n → slice_get (take n xs) i ≡ slice_get xs i
+  get_front zero xs i within = absurd (omega arith)
+  get_front (suc n) [] i within = refl
+  get_front (suc n) (x ∷ xs) zero within = refl
+  get_front (suc n) (x ∷ xs) (suc i) within = get_front n xs i (omega arith)
+
+  -- where a list was put over the front, the first n elements are those of before with the list over their front
+  pub over_front : (n : ℕ) (xs w : List X) → n ≤ length xs → take n (w ++ drop (length w) xs) ≡ take (length (take n xs)) (w ++ drop (length w) (take n xs))
+  over_front n xs [] room = sym (take-length (take n xs))
+  over_front zero xs (y ∷ w) room = refl
+  over_front (suc n) [] (y ∷ w) room = absurd (omega arith)
+  over_front (suc n) (x ∷ xs) (y ∷ w) room = ap (λ zs. y ∷ zs) (over_front n xs w (omega arith))

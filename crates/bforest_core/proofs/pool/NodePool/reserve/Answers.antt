@@ -1,0 +1,18 @@
+use Rattle.std.proofs.Common.{◌≡◌, ◌+◌, ◌-◌, length, vec_len, arith}
+use Rattle.bforest_core.proofs.Pools.{IsPool-grown}
+use Rattle.bforest_core.proofs.Chains.{front_of-is}
+use Rattle.bforest_core.proofs.pool.NodePool.reserve.Goals as goal
+
+pub invariant_of-self : goal.invariant_of-self
+invariant_of-self g c =
+    let size : vec_len c.self.inside.nodes ≡ length c.self.inside.nodes.items = omega arith in
+    let all : c.args.n - c.self.inside.free + c.self.inside.free ≡ c.args.n = omega arith in
+    let grown = IsPool-grown _ _ _ _ _ (c.args.n - c.self.inside.free) (omega arith) c.self.invariant in
+    rw (c.in-Ok.ensures.ok, c.in-Ok.ensures.first, size) (rw all at grown.0)
+
+pub returns-in-Ok-clause-ok : goal.returns-in-Ok-clause-ok
+returns-in-Ok-clause-ok g c =
+    let size : vec_len c.self.inside.nodes ≡ length c.self.inside.nodes.items = omega arith in
+    let all : c.args.n - c.self.inside.free + c.self.inside.free ≡ c.args.n = omega arith in
+    let grown = IsPool-grown _ _ _ _ _ (c.args.n - c.self.inside.free) (omega arith) c.self.invariant in
+    rw (← c.self.view_is, c.in-Ok.ensures.ok, c.in-Ok.ensures.first, size, c.self.invariant.counted, front_of-is _ _ _ c.self.invariant.linked, rw all at grown.1)

@@ -1,0 +1,12 @@
+use Rattle.std.proofs.Common.{arith}
+use Rattle.bforest_core.proofs.Pools.{free_within}
+use Rattle.bforest_core.proofs.pool.NodePool.slots.Goals as goal
+
+pub returns-clause-table : goal.returns-clause-table
+returns-clause-table g c =
+    rw (← c.self.view_is) (record {
+      distinct = c.self.invariant.distinct;
+      free_within = omega (arith, c.self.invariant.counted, free_within _ _ _ _ _ c.self.invariant);
+      slots_within = c.self.invariant.slots_within;
+      limit_within = c.self.invariant.limit_within;
+    })

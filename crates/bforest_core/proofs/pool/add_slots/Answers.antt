@@ -1,0 +1,17 @@
+use Rattle.std.proofs.Common.{◌≡◌, ◌+◌, Some, vec_len, arith, ap, ◌∙◌, append_assoc, add-one}
+use Rattle.bforest_core.proofs.pool.add_slots.Goals as goal
+
+pub loop-added-preserved : goal.loop-added-preserved
+loop-added-preserved g c =
+    let place : c.new-in-loop-added.result ≡ vec_len c.reserve.new.self + c.loop-added._added = omega arith in
+    rw add-one (record {
+      nodes = rw (c.push_reserved.ensures.items, c.loop-added.invariant.nodes, c.make_free.ensures, c.loop-added.invariant.first, append_assoc);
+      first = c.some-first.ensures ∙ ap Some place;
+      len = omega arith;
+      room = omega arith;
+    })
+
+pub returns-clause-ok : goal.returns-clause-ok
+returns-clause-ok g c =
+    let all : c.loop-added._added ≡ c.args.count = omega arith in
+    rw (c.loop-added.invariant.nodes, all, c.reserve.ensures.items, c.reserve.ensures.len)

@@ -1,0 +1,148 @@
+-- What a contract sees of a `NodePool`: numbered nodes, the chain of the free ones, and a limit.
+use Rattle.std.specs.Prelude.{◌≡◌, ℕ, ◌+◌, ◌-◌, ◌*◌, ◌<◌, ◌≤◌, false, List, [], ◌∷◌, ◌++◌, length, slice_set, nat_eq, Option, Some, None, IfSome, slice_get, slice_index_or, option_and_then, zero, suc}
+use Rattle.std.specs.List.{list_any, IsDistinct}
+use Rattle.bforest_core.specs.Content.{Content, Free, IsLeaf, vals_of, with_value, IsFree, IsCut, entry_count, entry_capacity, left_half, IsSameKind, Balances}
+use Rattle.bforest_core.specs.declared.node.SplitOff.{SplitOff}
+
+-- the content of each slot, the numbers of the free slots from the front of the chain on, and how
+-- many slots there may be
+pub record Table (K V : Type 0) : Type 0 where
+  pub nodes : List (Content K V)
+  pub chain : List ℕ
+  pub limit : ℕ
+
+-- the front of a chain
+abbrev pub front_of : List ℕ → Option ℕ
+front_of [] = None
+front_of (node ∷ rest) = Some node
+
+-- the numbers of so many slots from the first on, the greatest in front
+abbrev pub down_from : ℕ → ℕ → List ℕ
+down_from first zero = []
+down_from first (suc count) = (first + count) ∷ down_from first count
+
+-- the front of the chain after so many slots from the first on were added
+abbrev pub front_of_new : ℕ → ℕ → Option ℕ → Option ℕ
+front_of_new first zero next = next
+front_of_new first (suc count) next = Some (first + count)
+
+module _ {K V : Type 0} where
+  abbrev pub slot_count : Table K V → ℕ
+  slot_count table = length table.nodes
+
+  abbrev pub free_count : Table K V → ℕ
+  free_count table = length table.chain
+
+  -- how many nodes can be had without a look at memory
+  abbrev pub room : Table K V → ℕ
+  room table = free_count table + (table.limit - slot_count table)
+
+  -- fewer nodes than these lie free, and the limit allows so many
+  pub record NeedsGrowth (n : ℕ) (table : Table K V) : Type 0 where
+    pub scarce : free_count table < n
+    pub allowed : n ≤ room table
+
+  -- the number is that of a slot that is not on the chain
+  pub record IsUsed (table : Table K V) (node : ℕ) : Type 0 where
+    pub within : node < slot_count table
+    pub off_chain : list_any (nat_eq node) table.chain ≡ false
+
+  -- the chain names different slots, and the slots are within the limit
+  pub record IsTable (table : Table K V) : Type 0 where
+    pub distinct : IsDistinct nat_eq table.chain
+    pub free_within : free_count table ≤ slot_count table
+    pub slots_within : slot_count table ≤ table.limit
+    pub limit_within : table.limit ≤ 4294967295
+
+  -- the table after the slot was written
+  abbrev pub with_node : Table K V → ℕ → Content K V → Table K V
+  with_node table node content = record table { nodes = slice_set table.nodes node content }
+
+  -- so many new nodes from this number on, of which each names the one before, and the first `next`
+  abbrev pub fresh_nodes : ℕ → ℕ → Option ℕ → List (Content K V)
+  fresh_nodes first zero next = []
+  fresh_nodes first (suc count) next =
+      fresh_nodes first count next ++ Free (front_of_new first count next) ∷ []
+
+  -- the table with so many new slots, all in front of the chain
+  abbrev pub with_slots : Table K V → ℕ → Table K V
+  with_slots table count = record table {
+    nodes = table.nodes ++ fresh_nodes (slot_count table) count (front_of table.chain);
+    chain = down_from (slot_count table) count ++ table.chain;
+  }
+
+  -- the table in which at least n nodes lie free, with new slots where fewer did
+  abbrev pub reserved : Table K V → ℕ → Table K V
+  reserved table n = with_slots table (n - free_count table)
+
+  -- the front of the chain has left the chain
+  abbrev pub without_front : Table K V → List ℕ → Table K V
+  without_front table [] = table
+  without_front table (node ∷ rest) = record table { chain = rest }
+
+  -- the front of the chain has this content now, and has left the chain
+  abbrev pub with_front : Table K V → List ℕ → Content K V → Table K V
+  with_front table [] content = table
+  with_front table (node ∷ rest) content =
+      record table { nodes = slice_set table.nodes node content; chain = rest }
+
+  -- the node is free now, and in front of the chain
+  abbrev pub with_freed : Table K V → ℕ → Table K V
+  with_freed table node = record table {
+    nodes = slice_set table.nodes node (Free (front_of table.chain));
+    chain = node ∷ table.chain;
+  }
+
+  -- the slot holds a node that is not free and has no room
+  abbrev pub IsFullAt : ℕ → List (Content K V) → ℕ → Type 0
+  IsFullAt n nodes node = IfSome (slice_get nodes node) (λ content. (¬ IsFree content) × (entry_count content ≡ entry_capacity n content))
+
+  -- the full node was halved into these parts, and its right half is what was the front of the chain
+  pub record IsSplitAt (n : ℕ) (old : Table K V) (left index : ℕ) (parts : SplitOff K) (new : Table K V) : Type 0 where
+    pub whole : Content K V
+    pub was : slice_get old.nodes left ≡ Some whole
+    pub left_half_is : Content K V
+    pub right_half_is : Content K V
+    pub counted : parts.lhs_entries ≡ left_half n whole index
+    pub all : parts.lhs_entries + parts.rhs_entries ≡ entry_count whole
+    pub cut : IsCut whole parts.lhs_entries left_half_is parts.crit_key right_half_is
+    pub after : new ≡ with_node (with_front old old.chain right_half_is) left left_half_is
+
+  -- the two slots hold nodes of one kind that are not empty, the first of which underflowed
+  pub record IsUnderflowedAt (n : ℕ) (nodes : List (Content K V)) (left right : ℕ) : Type 0 where
+    pub under : Content K V
+    pub neighbour : Content K V
+    pub left_is : slice_get nodes left ≡ Some under
+    pub right_is : slice_get nodes right ≡ Some neighbour
+    pub kind : IsSameKind under neighbour
+    pub filled : 0 < entry_count under
+    pub neighbour_filled : 0 < entry_count neighbour
+    pub underflowed : 2 * entry_count under < entry_capacity n under
+
+  -- the two neighbours were balanced
+  pub record IsBalancedAt (n : ℕ) (old : Table K V) (left : ℕ) (key : K) (right : ℕ) (new_key : Option K) (new : Table K V) : Type 0 where
+    pub under : Content K V
+    pub neighbour : Content K V
+    pub left_was : slice_get old.nodes left ≡ Some under
+    pub right_was : slice_get old.nodes right ≡ Some neighbour
+    pub new_left : Content K V
+    pub new_right : Content K V
+    pub balances : Balances n under key neighbour new_key new_left new_right
+    pub after : new ≡ with_node (with_node old left new_left) right new_right
+
+  -- the slot holds a leaf with an entry at the index
+  pub record IsEntryAt (nodes : List (Content K V)) (node index : ℕ) : Type 0 where
+    pub content : Content K V
+    pub is : slice_get nodes node ≡ Some content
+    pub leaf : IsLeaf content
+    pub within : index < entry_count content
+
+  -- the value of the entry, if there is one
+  abbrev pub value_at : List (Content K V) → ℕ → ℕ → Option V
+  value_at nodes node index = option_and_then (λ content. slice_get (vals_of content) index) (slice_get nodes node)
+
+  -- the table with this value at the entry
+  abbrev pub with_value_at : Table K V → ℕ → ℕ → V → Table K V
+  with_value_at table node index value = record table {
+    nodes = slice_set table.nodes node (with_value (slice_index_or table.nodes node (Free None)) index value);
+  }

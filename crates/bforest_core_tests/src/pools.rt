@@ -1,0 +1,101 @@
+//! The table of nodes: what is reserved, handed out, freed and ended.
+ghost use Rattle.bforest_core.specs.Content.{Inner, Leaf};
+ghost use Rattle.bforest_core.specs.Table.{IsUsed, with_node};
+ghost use Rattle.std.specs.Prelude.{length, ◌<◌, ◌≡◌, ◌≤◌};
+
+use crate::nodes::assert_leaf;
+use bforest_core::{Node, NodePool, OutOfMemory};
+use std::test::Fail;
+
+/// A pool of numbers under numbers.
+type Pool = NodePool<u32, u32, 7>;
+
+/// Writes a leaf of these keys, each of whose values is its key.
+fn write_leaf(pool: &mut Pool, node: Node, keys: &[u32])
+    requires used { IsUsed pool.old node }
+    requires some { 0 < length keys.now }
+    requires room { length keys.now ≤ 7 }
+    ensures { pool.new ≡ with_node pool.old node (Leaf keys.now keys.now) }
+{
+    let leaf = pool.node_mut(node);
+    leaf.leaf(keys[0], keys[0]);
+    for index in 1..keys.len() {
+        leaf.try_leaf_insert(index, keys[index], keys[index]);
+    }
+}
+
+#[test]
+fn nodes_are_reserved_up_to_the_limit(rt: HostRuntime) {
+    let mut pool: Pool = NodePool::with_limit(rt.alloc(), 3);
+    assert_eq!(rt; pool.reserve(2), Ok(()));
+    assert_eq!(rt; pool.slots(), 2);
+    assert_eq!(rt; pool.free(), 2);
+    assert_eq!(rt; pool.reserve(1), Ok(()));
+    assert_eq!(rt; pool.free(), 2);
+    assert_eq!(rt; pool.reserve(4), Err(OutOfMemory::Full));
+    assert_eq!(rt; pool.slots(), 2);
+    assert_eq!(rt; pool.limit(), 3);
+}
+
+#[test]
+fn a_freed_node_is_handed_out_first(rt: HostRuntime) -> Result<(), Fail> {
+    let mut pool: Pool = NodePool::with_limit(rt.alloc(), 3);
+    assert_eq!(rt; pool.reserve(3), Ok(()));
+    let first = pool.alloc_node(5, 50).ok().ok_or("no node")?;
+    assert_eq!(rt; first.number(), 2);
+    assert_eq!(rt; pool.free(), 2);
+    assert_eq!(rt; pool.node(first).entries(), 1);
+    let second = pool.alloc_node(6, 60).ok().ok_or("no node")?;
+    assert_eq!(rt; second.number(), 1);
+    pool.free_node(first);
+    assert_eq!(rt; pool.free(), 2);
+    let third = pool.alloc_node(7, 70).ok().ok_or("no node")?;
+    assert!(rt; third == first);
+    assert_eq!(rt; pool.slots(), 3);
+    Ok(())
+}
+
+#[test]
+fn a_pool_is_ended(rt: HostRuntime) -> Result<(), Fail> {
+    let mut pool: Pool = NodePool::new(rt.alloc());
+    assert_eq!(rt; pool.limit(), 4294967295);
+    pool.alloc_node(5, 50).ok().ok_or("no node")?;
+    assert_eq!(rt; pool.slots(), 1);
+    pool.clear();
+    assert_eq!(rt; pool.slots(), 0);
+    assert_eq!(rt; pool.free(), 0);
+    assert_eq!(rt; pool.limit(), 4294967295);
+    Ok(())
+}
+
+#[test]
+fn a_node_is_halved_into_the_front_of_the_chain(rt: HostRuntime) -> Result<(), Fail> {
+    let mut pool: Pool = NodePool::new(rt.alloc());
+    assert_eq!(rt; pool.reserve(3), Ok(()));
+    let left = pool.alloc_node(10, 10).ok().ok_or("no node")?;
+    write_leaf(&mut pool, left, &[10, 20, 30, 40, 50, 60, 70]);
+    let (right, halves) = pool.split_node(left, 3);
+    assert_eq!(rt; halves.crit_key, 40);
+    assert_leaf(&rt, pool.node(left), &[10, 20, 30]);
+    assert_leaf(&rt, pool.node(right), &[40, 50, 60, 70]);
+    assert_eq!(rt; pool.free(), 1);
+    let root = pool.inner_node(left, halves.crit_key, right);
+    assert_eq!(rt; pool.free(), 0);
+    let (keys, children) = pool.node(root).unwrap_inner();
+    assert_eq!(rt; keys, [40u32].as_slice());
+    assert!(rt; children[0] == left);
+    assert!(rt; children[1] == right);
+    *pool.value_mut(right, 1) = 51;
+    assert_eq!(rt; pool.node(right).entry(1), (50, 51));
+    assert_eq!(rt; pool.balance_nodes(left, 40, right), None);
+    assert_eq!(rt; pool.node(right).entries(), 7);
+    Ok(())
+}
+
+#[test]
+fn a_growth_that_no_memory_holds_is_refused(rt: HostRuntime) {
+    let mut pool: NodePool<[u8; 268435456], u32, 255> = NodePool::new(rt.alloc());
+    assert_eq!(rt; pool.reserve(4000), Err(OutOfMemory::Memory));
+    assert_eq!(rt; pool.slots(), 0);
+    assert_eq!(rt; pool.free(), 0);
+}
