@@ -3,3 +3,4 @@ pub mod Number
 pub mod Layout
 pub mod LendingNode
 pub mod LendingRow
+pub mod LendingEntries

@@ -1,6 +1,7 @@
 //! Nodes of B+-trees in one table.
 #![tactic(auto)]
 
+mod entries;
 mod lent;
 mod node;
 mod number;

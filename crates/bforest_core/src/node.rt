@@ -3,6 +3,7 @@ ghost use Rattle.bforest_core.specs.Content.{Balances, Free, HasShape, Inner, Is
 ghost use Rattle.std.specs.Borrow.{sem};
 ghost use Rattle.std.specs.Prelude.{IfOk, IsTrue, None, Some, Ok, [], if◌then◌else◌, length, slice_get, ◌*◌, ◌+◌, ◌-◌, ◌<◌, ◌^◌, ◌↔◌, ◌∷◌, ◌≡◌, ◌≤◌};
 
+use crate::entries::Entries;
 use crate::number::{Node, PackedNode};
 use crate::row::Row;
 use std::alloc::{AllocError, Global};
@@ -39,7 +40,7 @@ pub struct SplitOff<K> {
 #[derive(Drop)]
 enum State<K, V, const N: usize> {
     Branch(u8, Row<K, 7>, Row<Node, 8>),
-    Entries(u8, Row<K, N>, Row<V, N>),
+    Entries(Entries<K, V, N>),
     Vacant(PackedNode),
 }
 
@@ -99,7 +100,7 @@ impl<K: Copy, V: Copy, const N: usize> NodeData<K, V, N> {
                 let _keys = keys.front(*size as usize);
                 tree.front(*size as usize + 1).len()
             }
-            State::Entries(size, keys, vals) => {
+            State::Entries(Entries { size, keys, vals }) => {
                 let _vals = vals.front(*size as usize);
                 keys.front(*size as usize).len()
             }
@@ -114,7 +115,7 @@ impl<K: Copy, V: Copy, const N: usize> NodeData<K, V, N> {
     {
         match &self.state {
             State::Branch(size, _, _) => *size as usize == INNER_SIZE - 1,
-            State::Entries(size, _, _) => *size as usize == N,
+            State::Entries(entries) => entries.size as usize == N,
             State::Vacant(_) => unreachable!(),
         }
     }
@@ -150,7 +151,11 @@ impl<K: Copy, V: Copy, const N: usize> NodeData<K, V, N> {
     pub fn leaf(&mut self, key: K, value: V)
         ensures { self.new ≡ Leaf (key ∷ []) (value ∷ []) }
     {
-        self.state = State::Entries(1, Row { items: [key; N] }, Row { items: [value; N] });
+        self.state = State::Entries(Entries {
+            size: 1,
+            keys: Row { items: [key; N] },
+            vals: Row { items: [value; N] },
+        });
     }
 
     /// The keys and the children of an inner node.
@@ -174,7 +179,7 @@ impl<K: Copy, V: Copy, const N: usize> NodeData<K, V, N> {
         ensures shape { HasShape N self.now }
     {
         match &self.state {
-            State::Entries(size, keys, vals) => {
+            State::Entries(Entries { size, keys, vals }) => {
                 (keys.front(*size as usize), vals.front(*size as usize))
             }
             _ => unreachable!(),
@@ -189,7 +194,7 @@ impl<K: Copy, V: Copy, const N: usize> NodeData<K, V, N> {
         ensures value { slice_get (vals_of self.old) index ≡ Some result.now }
     {
         match &mut self.state {
-            State::Entries(_, _, vals) => vals.at_mut(index),
+            State::Entries(entries) => entries.vals.at_mut(index),
             _ => unreachable!(),
         }
     }
@@ -202,9 +207,7 @@ impl<K: Copy, V: Copy, const N: usize> NodeData<K, V, N> {
         ensures shape { HasShape N self.old }
     {
         match &mut self.state {
-            State::Entries(size, keys, vals) => {
-                (keys.front(*size as usize), vals.front_mut(*size as usize))
-            }
+            State::Entries(entries) => entries.parts_mut(),
             _ => unreachable!(),
         }
     }
@@ -228,7 +231,7 @@ impl<K: Copy, V: Copy, const N: usize> NodeData<K, V, N> {
         ensures { slice_get (keys_of self.now) 0 ≡ Some result }
     {
         match &self.state {
-            State::Entries(_, keys, _) => keys.at(0),
+            State::Entries(entries) => entries.keys.at(0),
             _ => unreachable!(),
         }
     }
@@ -241,7 +244,7 @@ impl<K: Copy, V: Copy, const N: usize> NodeData<K, V, N> {
         ensures node { self.new ≡ (if result then with_entry self.old index key value else self.old) }
     {
         match &mut self.state {
-            State::Entries(size, keys, vals) => {
+            State::Entries(Entries { size, keys, vals }) => {
                 let len = *size as usize;
                 if len >= N {
                     return false;
@@ -306,7 +309,7 @@ impl<K: Copy, V: Copy, const N: usize> NodeData<K, V, N> {
         ensures node { self.new ≡ without_entry self.old index }
     {
         match &mut self.state {
-            State::Entries(size, keys, vals) => {
+            State::Entries(Entries { size, keys, vals }) => {
                 let len = *size as usize;
                 keys.remove(len, index);
                 vals.remove(len, index);
@@ -369,8 +372,12 @@ impl<K: Copy, V: Copy, const N: usize> NodeData<K, V, N> {
         ensures cut { IsCut self.old half self.new result rhs.new }
     {
         match &mut self.state {
-            State::Entries(size, keys, vals) => {
-                rhs.state = State::Entries((N - half) as u8, keys.tail(half), vals.tail(half));
+            State::Entries(Entries { size, keys, vals }) => {
+                rhs.state = State::Entries(Entries {
+                    size: (N - half) as u8,
+                    keys: keys.tail(half),
+                    vals: vals.tail(half),
+                });
                 *size = half as u8;
                 keys.at(half)
             }
@@ -436,7 +443,7 @@ impl<K: Copy, V: Copy, const N: usize> NodeData<K, V, N> {
     {
         let _crit_key = crit_key;
         match (&mut self.state, &mut rhs.state) {
-            (State::Entries(size, keys, vals), State::Entries(right_size, right_keys, right_vals)) => {
+            (State::Entries(Entries { size, keys, vals }), State::Entries(Entries { size: right_size, keys: right_keys, vals: right_vals })) => {
                 let left = *size as usize;
                 let right = *right_size as usize;
                 if left + right <= N {
