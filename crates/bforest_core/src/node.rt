@@ -410,26 +410,25 @@ impl<K: Copy, V: Copy, const N: usize> NodeData<K, V, N> {
         ensures { Balances N self.old crit_key rhs.old result self.new rhs.new }
     {
         match (&mut self.state, &mut rhs.state) {
-            (State::Branch(size, keys, tree), State::Branch(right_size, right_keys, right_tree)) =>
-                {
-                    let left = *size as usize + 1;
-                    let right = *right_size as usize + 1;
-                    keys.push(left - 1, crit_key);
-                    if left + right <= INNER_SIZE {
-                        right_keys.put_before(right - 1, keys, left);
-                        right_tree.put_before(right, tree, left);
-                        *right_size = (left + right - 1) as u8;
-                        return None;
-                    }
-                    let moved = (left + right).div_ceil(2) - left;
-                    keys.append(left, right_keys, right - 1, moved);
-                    tree.append(left, right_tree, right, moved);
-                    right_keys.remove_front(right - 1, moved);
-                    right_tree.remove_front(right, moved);
-                    *size = (left + moved - 1) as u8;
-                    *right_size = (right - moved - 1) as u8;
-                    Some(keys.at(left + moved - 1))
+            (State::Branch(size, keys, tree), State::Branch(right_size, right_keys, right_tree)) => {
+                let left = *size as usize + 1;
+                let right = *right_size as usize + 1;
+                keys.push(left - 1, crit_key);
+                if left + right <= INNER_SIZE {
+                    right_keys.put_before(right - 1, keys, left);
+                    right_tree.put_before(right, tree, left);
+                    *right_size = (left + right - 1) as u8;
+                    return None;
                 }
+                let moved = (left + right).div_ceil(2) - left;
+                keys.append(left, right_keys, right - 1, moved);
+                tree.append(left, right_tree, right, moved);
+                right_keys.remove_front(right - 1, moved);
+                right_tree.remove_front(right, moved);
+                *size = (left + moved - 1) as u8;
+                *right_size = (right - moved - 1) as u8;
+                Some(keys.at(left + moved - 1))
+            }
             _ => unreachable!(),
         }
     }
@@ -444,16 +443,7 @@ impl<K: Copy, V: Copy, const N: usize> NodeData<K, V, N> {
     {
         let _crit_key = crit_key;
         match (&mut self.state, &mut rhs.state) {
-            (
-                State::Entries(Entries { size, keys, vals }),
-                State::Entries(
-                    Entries {
-                        size: right_size,
-                        keys: right_keys,
-                        vals: right_vals,
-                    },
-                ),
-            ) => {
+            (State::Entries(Entries { size, keys, vals }), State::Entries(Entries { size: right_size, keys: right_keys, vals: right_vals })) => {
                 let left = *size as usize;
                 let right = *right_size as usize;
                 if left + right <= N {
