@@ -10,7 +10,7 @@ use mir.Syntax.{Args, a_type, a_number, named}
 use mir.Val.{Val, vptr}
 use base.Logic.{SProp, ent, sep, all, all_e, wand, apply∗, guard}
 use base.Fraction.{full_share}
-use base.Fml.{Lft, GName, Share, Fml, fsep, feq, flft, fobs, fbor, fwand}
+use base.Fml.{Lft, GName, Share, Fml, fsep, feq, flft, fobs, fbor}
 use prog.Memory.{size}
 use types.Logic.{Logic, sem}
 use types.Kit.{Item, ‵, ◌⊛◌, raw, given, some, later, mean, ◌$◌, ◌∵◌, !, qed, by, move, drop, split, split3, fsplit, fsplit3, fjoin, fjoin3, use1, use2, learn, await, pick, group, updating, now, show, check, rewrite, feq_l, feq_i, done}

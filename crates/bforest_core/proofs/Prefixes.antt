@@ -1,5 +1,5 @@
 -- The first elements of a list, read and written.
-use Rattle.std.proofs.Common.{◌≡◌, ℕ, ◌<◌, ◌≤◌, zero, suc, List, [], ◌∷◌, ◌++◌, length, take, drop, slice_get, refl, sym, ap, arith}
+use Rattle.std.proofs.Common.{◌≡◌, ℕ, ◌<◌, ◌≤◌, zero, suc, List, [], ◌∷◌, ◌++◌, length, take, drop, replicate, slice_get, refl, sym, ap, arith}
 use Rattle.std.proofs.Math.Seq.{take-length}
 
 module _ {X : Type 0} where
@@ -16,3 +16,8 @@ module _ {X : Type 0} where
   over_front zero xs (y ∷ w) room = refl
   over_front (suc n) [] (y ∷ w) room = absurd (omega arith)
   over_front (suc n) (x ∷ xs) (y ∷ w) room = ap (λ zs. y ∷ zs) (over_front n xs w (omega arith))
+
+  -- the first of copies
+  pub first_copy : (n : ℕ) (x : X) → 0 < n → take 1 (replicate n x) ≡ x ∷ []
+  first_copy zero x some = absurd (omega arith)
+  first_copy (suc n) x some = refl

@@ -8,4 +8,4 @@ pub mod LendingNode
 pub mod Table
 pub mod Chain
 pub mod Lending
-pub mod Fits
+pub mod LendingEntries

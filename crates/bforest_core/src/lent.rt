@@ -1,7 +1,8 @@
 //! Loans out of an array.
 //!
-//! The borrow checker does not say what an array ends as, of which an element or the first ones go to the caller. So the two
-//! functions here are proved by hand, and all that call them are not.
+//! The borrow checker does not show what an array ends as where one of its elements goes to the caller. Where the first ones
+//! go, it shows that for a list of their length alone, and a clause says it of each list. So the two functions here are proved
+//! by hand. Those that call them are not.
 ghost use Rattle.std.specs.Borrow.{sem, Array, Lends};
 ghost use Rattle.std.specs.Prelude.{◌++◌, ◌<◌, ◌≡◌, ◌≤◌, Some, drop, length, slice_get, slice_set, take};
 

@@ -6,6 +6,7 @@
 #![tactic(auto)]
 
 mod comparator;
+mod entries;
 mod lent;
 mod node;
 mod number;

@@ -3,6 +3,7 @@ ghost use Rattle.bforest_core.specs.Content.{Balances, Free, HasShape, Inner, Is
 ghost use Rattle.std.specs.Borrow.{sem};
 ghost use Rattle.std.specs.Prelude.{IfOk, IsTrue, None, Some, Ok, [], if◌then◌else◌, length, nat_le, slice_get, ◌*◌, ◌+◌, ◌-◌, ◌/◌, ◌<◌, ◌^◌, ◌↔◌, ◌∷◌, ◌≡◌, ◌≤◌};
 
+use crate::entries::Entries;
 use crate::number::{Node, PackedNode};
 use crate::row::Row;
 use std::alloc::{AllocError, Global};
@@ -39,7 +40,7 @@ pub struct SplitOff<K> {
 #[derive(Drop)]
 enum State<K, V, const N: usize> {
     Branch(u8, Row<K, 7>, Row<Node, 8>),
-    Entries(u8, Row<K, N>, Row<V, N>),
+    Entries(Entries<K, V, N>),
     Vacant(PackedNode),
 }
 
@@ -103,7 +104,7 @@ impl<K: Copy, V: Copy, const N: usize> NodeData<K, V, N> {
                 let _keys = keys.front(*size as usize);
                 tree.front(*size as usize + 1).len()
             }
-            State::Entries(size, keys, vals) => {
+            State::Entries(Entries { size, keys, vals }) => {
                 let _vals = vals.front(*size as usize);
                 keys.front(*size as usize).len()
             }
@@ -118,7 +119,7 @@ impl<K: Copy, V: Copy, const N: usize> NodeData<K, V, N> {
     {
         match &self.state {
             State::Branch(size, _, tree) => tree.front(*size as usize + 1).len() == INNER_SIZE,
-            State::Entries(size, keys, _) => keys.front(*size as usize).len() == N,
+            State::Entries(Entries { size, keys, .. }) => keys.front(*size as usize).len() == N,
             State::Vacant(_) => unreachable!(),
         }
     }
@@ -154,7 +155,11 @@ impl<K: Copy, V: Copy, const N: usize> NodeData<K, V, N> {
     pub fn leaf(&mut self, key: K, value: V)
         ensures node { self.new ≡ Leaf (key ∷ []) (value ∷ []) }
     {
-        self.state = State::Entries(1, Row { items: [key; N] }, Row { items: [value; N] });
+        self.state = State::Entries(Entries {
+            size: 1,
+            keys: Row { items: [key; N] },
+            vals: Row { items: [value; N] },
+        });
     }
 
     /// The keys and the children of an inner node.
@@ -178,7 +183,7 @@ impl<K: Copy, V: Copy, const N: usize> NodeData<K, V, N> {
         ensures shape { HasShape N self.now }
     {
         match &self.state {
-            State::Entries(size, keys, vals) => {
+            State::Entries(Entries { size, keys, vals }) => {
                 (keys.front(*size as usize), vals.front(*size as usize))
             }
             _ => unreachable!(),
@@ -193,7 +198,7 @@ impl<K: Copy, V: Copy, const N: usize> NodeData<K, V, N> {
         ensures value { slice_get (vals_of self.old) index ≡ Some result.now }
     {
         match &mut self.state {
-            State::Entries(_, _, vals) => vals.at_mut(index),
+            State::Entries(entries) => entries.vals.at_mut(index),
             _ => unreachable!(),
         }
     }
@@ -206,9 +211,7 @@ impl<K: Copy, V: Copy, const N: usize> NodeData<K, V, N> {
         ensures shape { HasShape N self.old }
     {
         match &mut self.state {
-            State::Entries(size, keys, vals) => {
-                (keys.front(*size as usize), vals.front_mut(*size as usize))
-            }
+            State::Entries(entries) => entries.parts_mut(),
             _ => unreachable!(),
         }
     }
@@ -245,7 +248,7 @@ impl<K: Copy, V: Copy, const N: usize> NodeData<K, V, N> {
         ensures value { slice_get (vals_of self.now) index ≡ Some result.1 }
     {
         match &self.state {
-            State::Entries(size, keys, vals) => {
+            State::Entries(Entries { size, keys, vals }) => {
                 let len = *size as usize;
                 (keys.at(len, index), vals.at(len, index))
             }
@@ -272,7 +275,7 @@ impl<K: Copy, V: Copy, const N: usize> NodeData<K, V, N> {
         ensures key { slice_get (keys_of self.now) 0 ≡ Some result }
     {
         match &self.state {
-            State::Entries(size, keys, _) => keys.at(*size as usize, 0),
+            State::Entries(Entries { size, keys, .. }) => keys.at(*size as usize, 0),
             _ => unreachable!(),
         }
     }
@@ -285,7 +288,7 @@ impl<K: Copy, V: Copy, const N: usize> NodeData<K, V, N> {
         ensures node { self.new ≡ (if result then with_entry self.old index key value else self.old) }
     {
         match &mut self.state {
-            State::Entries(size, keys, vals) => {
+            State::Entries(Entries { size, keys, vals }) => {
                 let len = *size as usize;
                 if len >= N {
                     return false;
@@ -352,7 +355,7 @@ impl<K: Copy, V: Copy, const N: usize> NodeData<K, V, N> {
         ensures node { self.new ≡ without_entry self.old index }
     {
         match &mut self.state {
-            State::Entries(size, keys, vals) => {
+            State::Entries(Entries { size, keys, vals }) => {
                 let len = *size as usize;
                 keys.remove(len, index);
                 vals.remove(len, index);
@@ -419,14 +422,14 @@ impl<K: Copy, V: Copy, const N: usize> NodeData<K, V, N> {
         ensures cut { IsCut self.old result.lhs_entries self.new result.crit_key rhs.new }
     {
         match &mut self.state {
-            State::Entries(size, keys, vals) => {
+            State::Entries(Entries { size, keys, vals }) => {
                 let len = *size as usize;
                 let half = left_half_of(len, insert_index);
-                rhs.state = State::Entries(
-                    (len - half) as u8,
-                    keys.tail(len, half),
-                    vals.tail(len, half),
-                );
+                rhs.state = State::Entries(Entries {
+                    size: (len - half) as u8,
+                    keys: keys.tail(len, half),
+                    vals: vals.tail(len, half),
+                });
                 *size = half as u8;
                 SplitOff {
                     lhs_entries: half,
@@ -502,8 +505,8 @@ impl<K: Copy, V: Copy, const N: usize> NodeData<K, V, N> {
         let _crit_key = crit_key;
         match (&mut self.state, &mut rhs.state) {
             (
-                State::Entries(size, keys, vals),
-                State::Entries(right_size, right_keys, right_vals),
+                State::Entries(Entries { size, keys, vals }),
+                State::Entries(Entries { size: right_size, keys: right_keys, vals: right_vals }),
             ) => {
                 let len = *size as usize;
                 let right_len = *right_size as usize;

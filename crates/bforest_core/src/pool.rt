@@ -22,6 +22,8 @@ pub enum OutOfMemory {
 #[derive(Drop)]
 pub struct NodePool<K, V, const N: usize> {
     nodes: Vec<NodeData<K, V, N>>,
+    // A free node that is never handed out: where a pool has room, a node has, so that no call needs to ask for it.
+    blank: NodeData<K, V, N>,
     first: PackedNode,
     free: u32,
     limit: u32,
@@ -41,13 +43,10 @@ impl<K, V, const N: usize> Model for NodePool<K, V, N> {
       limit = a.limit;
     } };
 
-    ghost use Rattle.bforest_core.specs.Fits.{NodeFits};
-
-    ghost invariant = { λ a. IsPool N a.nodes.items a.first a.free a.limit × (0 < length a.nodes.items → NodeFits K.row V.row N.row) };
+    ghost invariant = { λ a. IsPool N a.nodes.items a.first a.free a.limit };
 }
 
 impl<K: Copy, V: Copy, const N: usize> NodePool<K, V, N> {
-    ghost use Rattle.bforest_core.specs.Fits.{NodeFits};
     ghost use Rattle.bforest_core.specs.Lending.{lends_node, lends_value_at};
 
     /// A pool with no slots, which may have as many as there are numbers. Takes no memory.
@@ -65,6 +64,7 @@ impl<K: Copy, V: Copy, const N: usize> NodePool<K, V, N> {
     {
         NodePool {
             nodes: Vec::new(alloc),
+            blank: NodeData::new(alloc).unwrap(),
             first: PackedNode::none(),
             free: 0,
             limit,
@@ -122,7 +122,6 @@ impl<K: Copy, V: Copy, const N: usize> NodePool<K, V, N> {
 
     /// Frees a used slot: it becomes the front of the chain, and the next that is handed out. Constant time.
     pub fn free_node(&mut self, node: Node)
-        requires fits { NodeFits K.row V.row N.row }
         requires used { IsUsed self.old node }
         ensures freed { self.new ≡ with_freed self.old node }
     {
@@ -141,7 +140,6 @@ impl<K: Copy, V: Copy, const N: usize> NodePool<K, V, N> {
     /// `Full` where the limit does not allow so many slots, which is tested first, and `Memory` where the table could not grow. After
     /// either the pool is as before.
     pub fn reserve(&mut self, n: u32) -> Result<(), OutOfMemory>
-        requires fits { NodeFits K.row V.row N.row }
         ensures ok { OnOk result (self.new ≡ reserved self.old n) }
         ensures err { OnErr result (self.new ≡ self.old) }
         ensures full { (result ≡ Err OutOfMemory.Full) ↔ (room self.old < n) }
@@ -171,7 +169,6 @@ impl<K: Copy, V: Copy, const N: usize> NodePool<K, V, N> {
     ///
     /// Those of `reserve(1)`. After either the pool is as before.
     pub fn alloc_node(&mut self, key: K, value: V) -> Result<Node, OutOfMemory>
-        requires fits { NodeFits K.row V.row N.row }
         ensures node { IfOk result (λ node. front_of (reserved self.old 1).chain ≡ Some node) }
         ensures ok { OnOk result (self.new ≡ with_front (reserved self.old 1) (reserved self.old 1).chain (Leaf (key ∷ []) (value ∷ []))) }
         ensures err { OnErr result (self.new ≡ self.old) }
@@ -187,7 +184,6 @@ impl<K: Copy, V: Copy, const N: usize> NodePool<K, V, N> {
 
     /// Makes the front of the chain an inner node of two children, and returns its number. Takes no memory.
     pub fn inner_node(&mut self, left: Node, key: K, right: Node) -> Node
-        requires fits { NodeFits K.row V.row N.row }
         requires room { 0 < free_count self.old }
         ensures node { front_of self.old.chain ≡ Some result }
         ensures table { self.new ≡ with_front self.old self.old.chain (Inner (key ∷ []) (left ∷ right ∷ [])) }
@@ -200,7 +196,6 @@ impl<K: Copy, V: Copy, const N: usize> NodePool<K, V, N> {
     /// Halves the full node `left`, at which an insertion at `insert_index` had no room. The right half goes to the front of the chain,
     /// whose number is returned. Takes no memory.
     pub fn split_node(&mut self, left: Node, insert_index: usize) -> (Node, SplitOff<K>)
-        requires fits { NodeFits K.row V.row N.row }
         requires used { IsUsed self.old left }
         requires full { IsFullAt N self.old.nodes left }
         requires room { 0 < free_count self.old }
@@ -219,7 +214,6 @@ impl<K: Copy, V: Copy, const N: usize> NodePool<K, V, N> {
     /// Balances the underflowed node `left` with its right neighbour, from which `crit_key` separates it: see `NodeData::balance`, whose
     /// answer it returns. Takes no memory.
     pub fn balance_nodes(&mut self, left: Node, crit_key: K, right: Node) -> Option<K>
-        requires fits { NodeFits K.row V.row N.row }
         requires left { IsUsed self.old left }
         requires right { IsUsed self.old right }
         requires apart { left ≢ right }
@@ -236,7 +230,6 @@ impl<K: Copy, V: Copy, const N: usize> NodePool<K, V, N> {
 
     /// The value of a leaf's entry, for writing. Two indices.
     pub fn value_mut(&mut self, node: Node, index: usize) -> &mut V
-        requires fits { NodeFits K.row V.row N.row }
         requires used { IsUsed self.old node }
         requires entry { IsEntryAt self.old.nodes node index }
         ensures* writes_back { sem 𝓛 (lends_value_at K.row V.row N.row self.entry node index result) }
@@ -247,7 +240,6 @@ impl<K: Copy, V: Copy, const N: usize> NodePool<K, V, N> {
 
     // Takes the front of the chain: a used slot from now on, which the caller fills.
     fn take_slot(&mut self) -> Node
-        requires fits { NodeFits K.row V.row N.row }
         requires room { 0 < free_count self.old }
         ensures node { front_of self.old.chain ≡ Some result }
         ensures table { self.new ≡ without_front self.old self.old.chain }

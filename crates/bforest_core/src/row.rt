@@ -1,6 +1,5 @@
 //! Elements that lie inline in a node, of which the node says how many count.
 ghost use Rattle.std.specs.Prelude.{◌≡◌, ◌+◌, ◌-◌, ◌<◌, ◌≤◌, ◌∷◌, ◌++◌, [], take, drop, insert, remove, length, slice_get, slice_set, Some};
-
 ghost use Rattle.std.specs.Borrow.{sem};
 
 use crate::lent;

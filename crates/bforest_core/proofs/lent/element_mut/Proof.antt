@@ -1,6 +1,6 @@
 -- `element_mut` lends an element of an array. The borrow checker does not say what an array ends as, of which an element goes to the caller.
 use mathlib.Core.Path.{refl, sym, ap, subst}
-use Prim.Native.Nat.{ℕ, suc, ◌+◌, ◌*◌, ◌^◌, ◌<◌, ◌≤◌}
+use Prim.Native.Nat.{ℕ, ◌*◌, ◌^◌, ◌<◌}
 use native.Mathlib.Nat.{mul-le-mul_right, suc-mul}
 use native.Mathlib.Omega.{arith}
 use mathlib.Core.List.{[], ◌∷◌}

@@ -1,6 +1,6 @@
 -- `front_mut` lends the first elements of an array.
 use mathlib.Core.Path.{refl}
-use Prim.Native.Nat.{ℕ, ◌*◌, ◌^◌, ◌<◌, ◌≤◌}
+use Prim.Native.Nat.{◌*◌, ◌^◌, ◌<◌, ◌≤◌}
 use mathlib.Core.List.{[], ◌∷◌}
 use mir.Syntax.{named, w64}
 use mir.MapTy.{inst_fn}

@@ -6,7 +6,7 @@ loop-added-preserved g c =
     let place : c.new-in-loop-added.result ≡ vec_len c.reserve.new.self + c.loop-added._added = omega arith in
     rw add-one (record {
       nodes = rw (c.push_reserved.ensures.items, c.loop-added.invariant.nodes, c.make_free.ensures, c.loop-added.invariant.first, append_assoc);
-      first = c.some-first.ensures ∙ ap Some place;
+      first = c.some-first.ensures.node ∙ ap Some place;
       len = omega arith;
       room = omega arith;
     })

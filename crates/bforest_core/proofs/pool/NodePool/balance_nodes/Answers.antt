@@ -31,7 +31,7 @@ returns g c =
         right_was = rw (← c.self.view_is, ← c.number-2.ensures.value, ← items) c.two_nodes-lhs.ensures.right;
         new_left = c.balance.new.self;
         new_right = c.balance.new.rhs;
-        balances = c.balance.ensures;
+        balances = c.balance.ensures.balanced;
         after = rw (items, refilled c.self.inside.nodes.items (slice_set (slice_set c.self.inside.nodes.items c.number.result c.balance.new.self) c.number-2.result c.balance.new.rhs) (vec_len c.self.inside.nodes) size room, pair.1, ← c.self.view_is, c.number.ensures.value, c.number-2.ensures.value);
       };
     }

@@ -14,7 +14,7 @@ pub invariant_of-self : goal.invariant_of-self
 invariant_of-self g c =
     let off = rw (← c.self.view_is, ← c.number.ensures.value) at c.requires.used.off_chain in
     let within : c.number.result < length c.self.inside.nodes.items = rw (← c.self.view_is, ← c.number.ensures.value) at c.requires.used.within in
-    rw (c.make_free.ensures, c.some-self-inside.ensures, ← c.number.ensures.value) (IsPool-freed _ _ _ _ _ c.number.result within off c.self.invariant).0
+    rw (c.make_free.ensures, c.some-self-inside.ensures.node, ← c.number.ensures.value) (IsPool-freed _ _ _ _ _ c.number.result within off c.self.invariant).0
 
 pub returns : goal.returns
 returns g c =
@@ -22,5 +22,5 @@ returns g c =
     let within : c.number.result < length c.self.inside.nodes.items = rw (← c.self.view_is, ← c.number.ensures.value) at c.requires.used.within in
     let freed = IsPool-freed _ _ _ _ _ c.number.result within off c.self.invariant in
     record {
-      freed = rw (← c.self.view_is, c.make_free.ensures, c.some-self-inside.ensures, ← c.number.ensures.value, freed.1, front_of-is _ _ _ c.self.invariant.linked);
+      freed = rw (← c.self.view_is, c.make_free.ensures, c.some-self-inside.ensures.node, ← c.number.ensures.value, freed.1, front_of-is _ _ _ c.self.invariant.linked);
     }

@@ -1,8 +1,14 @@
-use Rattle.std.proofs.Common.{arith, refl, ◌∙◌, ◌≡◌, length, length-set, vec_len, slice_set}
+use Rattle.std.proofs.Common.{rules, slice_get, Some, arith, refl, ◌∙◌, ◌≡◌, length, length-set, vec_len, slice_set}
 use Rattle.bforest_core.proofs.Lists.{refilled}
 use Rattle.bforest_core.proofs.Fronts.{nodes-without_front, off-without_front, with_front-is}
 use Rattle.bforest_core.proofs.Pools.{IsPool-set_two}
 use Rattle.bforest_core.proofs.pool.NodePool.split_node.Goals as goal
+
+pub split-requires : goal.split-requires
+split-requires g c =
+    let was : slice_get c.args.self.now.nodes c.args.left ≡ Some c.two_nodes-rhs.result.1.now = rw (← nodes-without_front c.args.self.now c.args.self.now.chain, ← c.take_slot-right.ensures.table, ← c.self.view_is, ← c.number-2.ensures.value, ← c.as_mut_slice.ensures.value) c.two_nodes-rhs.ensures.right in
+    let full = rw was at c.requires.full in
+    (search rules, record { used = full.0; full = full.1 })
 
 pub invariant_of-self : goal.invariant_of-self
 invariant_of-self g c =

@@ -1,4 +1,4 @@
-use Rattle.std.proofs.Common.{refl, arith, ◌<◌, ◌≡◌, Some, length, sym, ap, ◌∙◌, subst}
+use Rattle.std.proofs.Common.{rules, refl, arith, ◌<◌, ◌≡◌, Some, length, sym, ap, ◌∙◌, subst}
 use Rattle.std.proofs.lemmas.Option.{slice_get_read, slice_get_within}
 use Rattle.bforest_core.specs.Content.{Free, IsFree}
 use Rattle.bforest_core.proofs.Pools.{first_some, front_is_free, IsPool-taken}
@@ -7,11 +7,11 @@ use Rattle.bforest_core.proofs.pool.NodePool.take_slot.Goals as goal
 pub unwrap-node-requires : goal.unwrap-node-requires
 unwrap-node-requires g c =
     let some = rw (← c.self.view_is) at c.requires.room in
-    rw c.expand.ensures (first_some _ _ _ _ _ (omega (arith, some, c.self.invariant.counted)) c.self.invariant)
+    rw c.expand.ensures.value (first_some _ _ _ _ _ (omega (arith, some, c.self.invariant.counted)) c.self.invariant)
 
 pub index-requires : goal.index-requires
 index-requires g c =
-    let first : c.self.inside.first ≡ Some c.number.result = sym c.expand.ensures ∙ c.unwrap-node.ensures ∙ ap Some (sym c.number.ensures.value) in
+    let first : c.self.inside.first ≡ Some c.number.result = sym c.expand.ensures.value ∙ c.unwrap-node.ensures ∙ ap Some (sym c.number.ensures.value) in
     let pool = rw first at c.self.invariant in
     let some = rw (← c.self.view_is) at c.requires.room in
     let front = front_is_free _ _ _ _ _ (omega (arith, some, c.self.invariant.counted)) pool in
@@ -20,7 +20,7 @@ index-requires g c =
 
 pub next_free-self-inside-requires : goal.next_free-self-inside-requires
 next_free-self-inside-requires g c =
-    let first : c.self.inside.first ≡ Some c.number.result = sym c.expand.ensures ∙ c.unwrap-node.ensures ∙ ap Some (sym c.number.ensures.value) in
+    let first : c.self.inside.first ≡ Some c.number.result = sym c.expand.ensures.value ∙ c.unwrap-node.ensures ∙ ap Some (sym c.number.ensures.value) in
     let pool = rw first at c.self.invariant in
     let some = rw (← c.self.view_is) at c.requires.room in
     let front = front_is_free _ _ _ _ _ (omega (arith, some, c.self.invariant.counted)) pool in
@@ -28,11 +28,11 @@ next_free-self-inside-requires g c =
     let now = slice_get_read c.self.inside.nodes.items (length c.self.inside.nodes.items) c.number.result c.index.result.now refl within c.index.ensures in
     let found = front.1 in
     let is : Free front.0 ≡ c.index.result.now = cc in
-    (c.requires.fits, subst (λ content. IsFree content) is tt)
+    (search rules, subst (λ content. IsFree content) is tt)
 
 pub invariant_of-self : goal.invariant_of-self
 invariant_of-self g c =
-    let first : c.self.inside.first ≡ Some c.number.result = sym c.expand.ensures ∙ c.unwrap-node.ensures ∙ ap Some (sym c.number.ensures.value) in
+    let first : c.self.inside.first ≡ Some c.number.result = sym c.expand.ensures.value ∙ c.unwrap-node.ensures ∙ ap Some (sym c.number.ensures.value) in
     let pool = rw first at c.self.invariant in
     let some = rw (← c.self.view_is) at c.requires.room in
     let front = front_is_free _ _ _ _ _ (omega (arith, some, c.self.invariant.counted)) pool in
@@ -43,7 +43,7 @@ invariant_of-self g c =
 
 pub returns-clause-table : goal.returns-clause-table
 returns-clause-table g c =
-    let first : c.self.inside.first ≡ Some c.number.result = sym c.expand.ensures ∙ c.unwrap-node.ensures ∙ ap Some (sym c.number.ensures.value) in
+    let first : c.self.inside.first ≡ Some c.number.result = sym c.expand.ensures.value ∙ c.unwrap-node.ensures ∙ ap Some (sym c.number.ensures.value) in
     let pool = rw first at c.self.invariant in
     let some = rw (← c.self.view_is) at c.requires.room in
     let front = front_is_free _ _ _ _ _ (omega (arith, some, c.self.invariant.counted)) pool in
@@ -55,7 +55,7 @@ returns-clause-table g c =
 
 pub returns-clause-used : goal.returns-clause-used
 returns-clause-used g c =
-    let first : c.self.inside.first ≡ Some c.number.result = sym c.expand.ensures ∙ c.unwrap-node.ensures ∙ ap Some (sym c.number.ensures.value) in
+    let first : c.self.inside.first ≡ Some c.number.result = sym c.expand.ensures.value ∙ c.unwrap-node.ensures ∙ ap Some (sym c.number.ensures.value) in
     let pool = rw first at c.self.invariant in
     let some = rw (← c.self.view_is) at c.requires.room in
     let front = front_is_free _ _ _ _ _ (omega (arith, some, c.self.invariant.counted)) pool in
