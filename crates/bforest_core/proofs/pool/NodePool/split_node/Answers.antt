@@ -8,7 +8,7 @@ pub split-requires : goal.split-requires
 split-requires g c =
     let was : slice_get c.args.self.now.nodes c.args.left ≡ Some c.two_nodes-rhs.result.1.now = rw (← nodes-without_front c.args.self.now c.args.self.now.chain, ← c.take_slot-right.ensures.table, ← c.self.view_is, ← c.number-2.ensures.value, ← c.as_mut_slice.ensures.value) c.two_nodes-rhs.ensures.right in
     let full = rw was at c.requires.full in
-    (search rules, record { used = full.0; full = full.1 })
+    (search rules, (full.0, full.1))
 
 pub invariant_of-self : goal.invariant_of-self
 invariant_of-self g c =
