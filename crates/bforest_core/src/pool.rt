@@ -19,6 +19,8 @@ pub enum OutOfMemory {
 }
 
 /// Nodes in one table, each of which is named by its number. The free ones form a chain, which the nodes themselves keep.
+///
+/// Calls that work on a node's content ask that a node takes fewer than 2^63 bytes: where the types are known, the checker computes it.
 #[derive(Drop)]
 pub struct NodePool<K, V, const N: usize> {
     nodes: Vec<NodeData<K, V, N>>,
@@ -170,7 +172,9 @@ impl<K: Copy, V: Copy, const N: usize> NodePool<K, V, N> {
     /// Those of `reserve(1)`. After either the pool is as before.
     pub fn alloc_node(&mut self, key: K, value: V) -> Result<Node, OutOfMemory>
         ensures node { IfOk result (λ node. front_of (reserved self.old 1).chain ≡ Some node) }
-        ensures ok { OnOk result (self.new ≡ with_front (reserved self.old 1) (reserved self.old 1).chain (Leaf (key ∷ []) (value ∷ []))) }
+        ensures ok { OnOk result (self.new
+            ≡ with_front (reserved self.old 1) (reserved self.old 1).chain
+            (Leaf (key ∷ []) (value ∷ []))) }
         ensures err { OnErr result (self.new ≡ self.old) }
         ensures full { (result ≡ Err OutOfMemory.Full) ↔ (room self.old < 1) }
         ensures memory { result ≡ Err OutOfMemory.Memory → NeedsGrowth 1 self.old }
@@ -186,7 +190,8 @@ impl<K: Copy, V: Copy, const N: usize> NodePool<K, V, N> {
     pub fn inner_node(&mut self, left: Node, key: K, right: Node) -> Node
         requires room { 0 < free_count self.old }
         ensures node { front_of self.old.chain ≡ Some result }
-        ensures table { self.new ≡ with_front self.old self.old.chain (Inner (key ∷ []) (left ∷ right ∷ [])) }
+        ensures table { self.new
+            ≡ with_front self.old self.old.chain (Inner (key ∷ []) (left ∷ right ∷ [])) }
     {
         let node = self.take_slot();
         self.node_mut(node).inner(left, key, right);
@@ -232,7 +237,8 @@ impl<K: Copy, V: Copy, const N: usize> NodePool<K, V, N> {
     pub fn value_mut(&mut self, node: Node, index: usize) -> &mut V
         requires used { IsUsed self.old node }
         requires entry { IsEntryAt self.old.nodes node index }
-        ensures* writes_back { sem 𝓛 (lends_value_at K.row V.row N.row self.entry node index result) }
+        ensures* writes_back { sem 𝓛
+            (lends_value_at K.row V.row N.row self.entry node index result) }
         ensures value { Some result.now ≡ value_at self.old.nodes node index }
     {
         self.node_mut(node).value_mut(index)
@@ -257,7 +263,8 @@ fn two_nodes<T>(nodes: &mut [T], left: usize, right: usize) -> (&mut T, &mut T)
     requires left_within { left < length nodes.old }
     requires right_within { right < length nodes.old }
     requires apart { left ≢ right }
-    ensures* writes_back { sem 𝓛 (LendsBoth (Array T.row 0) T.row T.row nodes.entry result (λ l r. slice_set (slice_set nodes.old left l) right r)) }
+    ensures* writes_back { sem 𝓛 (LendsBoth (Array T.row 0) T.row T.row nodes.entry result
+        (λ l r. slice_set (slice_set nodes.old left l) right r)) }
     ensures left { slice_get nodes.old left ≡ Some result.0.now }
     ensures right { slice_get nodes.old right ≡ Some result.1.now }
 {
@@ -279,7 +286,8 @@ fn add_slots<K: Copy, V: Copy, const N: usize>(
 ) -> Result<PackedNode, AllocError>
     requires capacity { IsLeafCapacity N }
     requires room { vec_len nodes.old + count ≤ 4294967295 }
-    ensures ok { OnOk result (nodes.new.items ≡ nodes.old.items ++ fresh_nodes (vec_len nodes.old) count next) }
+    ensures ok { OnOk result (nodes.new.items
+        ≡ nodes.old.items ++ fresh_nodes (vec_len nodes.old) count next) }
     ensures first { IfOk result (λ first. first ≡ front_of_new (vec_len nodes.old) count next) }
     ensures err { OnErr result (nodes.new.items ≡ nodes.old.items) }
 {
