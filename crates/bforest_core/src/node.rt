@@ -506,7 +506,13 @@ impl<K: Copy, V: Copy, const N: usize> NodeData<K, V, N> {
         match (&mut self.state, &mut rhs.state) {
             (
                 State::Entries(Entries { size, keys, vals }),
-                State::Entries(Entries { size: right_size, keys: right_keys, vals: right_vals }),
+                State::Entries(
+                    Entries {
+                        size: right_size,
+                        keys: right_keys,
+                        vals: right_vals,
+                    },
+                ),
             ) => {
                 let len = *size as usize;
                 let right_len = *right_size as usize;
