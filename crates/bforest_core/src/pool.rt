@@ -179,6 +179,7 @@ impl<K: Copy, V: Copy, const N: usize> NodePool<K, V, N> {
         ensures full { (result ≡ Err OutOfMemory.Full) ↔ (room self.old < 1) }
         ensures memory { result ≡ Err OutOfMemory.Memory → NeedsGrowth 1 self.old }
         ensures enough { 1 ≤ free_count self.old → IsOk result }
+        ensures used { IfOk result (λ node. IsUsed self.new node) }
     {
         self.reserve(1)?;
         let node = self.take_slot();
@@ -192,6 +193,7 @@ impl<K: Copy, V: Copy, const N: usize> NodePool<K, V, N> {
         ensures node { front_of self.old.chain ≡ Some result }
         ensures table { self.new
             ≡ with_front self.old self.old.chain (Inner (key ∷ []) (left ∷ right ∷ [])) }
+        ensures used { IsUsed self.new result }
     {
         let node = self.take_slot();
         self.node_mut(node).inner(left, key, right);
@@ -206,6 +208,7 @@ impl<K: Copy, V: Copy, const N: usize> NodePool<K, V, N> {
         requires room { 0 < free_count self.old }
         ensures node { front_of self.old.chain ≡ Some result.0 }
         ensures split { IsSplitAt N self.old left insert_index result.1 self.new }
+        ensures used { IsUsed self.new result.0 }
     {
         let right = self.take_slot();
         let (rhs, lhs) = two_nodes(

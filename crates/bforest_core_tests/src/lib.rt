@@ -8,6 +8,8 @@ mod halves;
 #[cfg(test)]
 mod nodes;
 #[cfg(test)]
+mod pools;
+#[cfg(test)]
 mod readings;
 #[cfg(test)]
 mod removals;

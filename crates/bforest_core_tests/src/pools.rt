@@ -94,8 +94,8 @@ fn a_node_is_halved_into_the_front_of_the_chain(rt: HostRuntime) -> Result<(), F
 
 #[test]
 fn a_growth_that_no_memory_holds_is_refused(rt: HostRuntime) {
-    let mut pool: NodePool<[u8; 268435456], u32, 255> = NodePool::new(rt.alloc());
-    assert_eq!(rt; pool.reserve(4000), Err(OutOfMemory::Memory));
+    let mut pool: NodePool<[u8; 65536], u32, 7> = NodePool::new(rt.alloc());
+    assert_eq!(rt; pool.reserve(4294967295), Err(OutOfMemory::Memory));
     assert_eq!(rt; pool.slots(), 0);
     assert_eq!(rt; pool.free(), 0);
 }

@@ -3,4 +3,4 @@ use Rattle.bforest_core.specs.Content.{Leaf}
 use Rattle.bforest_core_tests.proofs.nodes.leaf_with.Given as goal
 
 abbrev pub invariant-loop-index : goal.invariant-loop-index
-invariant-loop-index l = l.node ≡ Leaf (take l.index l.keys) (take l.index l.vals)
+invariant-loop-index g l = l.node ≡ Leaf (take l.index l.keys) (take l.index l.vals)

@@ -42,3 +42,18 @@ returns-clause-split g c =
       cut = c.split.ensures.cut;
       after = rw (with_front-is c.args.self.now c.args.self.now.chain c.take_slot-right.result c.split.new.rhs c.take_slot-right.ensures.node, ← c.take_slot-right.ensures.table, items, refilled c.self.inside.nodes.items (slice_set (slice_set c.self.inside.nodes.items c.number.result c.split.new.rhs) c.number-2.result c.split.new.self) (vec_len c.self.inside.nodes) size room, pair.1, ← c.self.view_is, c.number.ensures.value, c.number-2.ensures.value);
     }
+
+pub returns-clause-used : goal.returns-clause-used
+returns-clause-used g c =
+    let used_left = off-without_front c.args.self.now c.args.self.now.chain c.args.left refl c.requires.used.off_chain in
+    let off_left = rw (← c.take_slot-right.ensures.table, ← c.self.view_is, ← c.number-2.ensures.value) at used_left in
+    let off_right = rw (← c.self.view_is, ← c.number.ensures.value) at c.take_slot-right.ensures.used.off_chain in
+    let room : vec_len c.self.inside.nodes ≡ length c.self.inside.nodes.items = omega arith in
+    let items = c.as_mut_slice.ensures.value in
+    let pair = IsPool-set_two _ _ _ _ _ c.number.result c.number-2.result c.split.new.rhs c.split.new.self off_right off_left c.self.invariant in
+    let size : length (slice_set (slice_set c.self.inside.nodes.items c.number.result c.split.new.rhs) c.number-2.result c.split.new.self) ≡ length c.self.inside.nodes.items =
+    length-set (slice_set c.self.inside.nodes.items c.number.result c.split.new.rhs) c.number-2.result c.split.new.self ∙ length-set c.self.inside.nodes.items c.number.result c.split.new.rhs in
+    let within = rw (← c.self.view_is) at c.take_slot-right.ensures.used.within in
+    let off = rw (← c.self.view_is) at c.take_slot-right.ensures.used.off_chain in
+    rw (items, refilled c.self.inside.nodes.items (slice_set (slice_set c.self.inside.nodes.items c.number.result c.split.new.rhs) c.number-2.result c.split.new.self) (vec_len c.self.inside.nodes) size room)
+    (record { within = omega (arith, within, size); off_chain = rw pair.1 off })
