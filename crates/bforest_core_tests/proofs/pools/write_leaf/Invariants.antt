@@ -3,4 +3,4 @@ use Rattle.bforest_core.specs.Content.{Leaf}
 use Rattle.bforest_core_tests.proofs.pools.write_leaf.Given as goal
 
 abbrev pub invariant-loop-index : goal.invariant-loop-index
-invariant-loop-index l = l.leaf.now ≡ Leaf (take l.index l.keys) (take l.index l.keys)
+invariant-loop-index l = l.leaf ≡ Leaf (take l.index l.keys) (take l.index l.keys)
