@@ -1,6 +1,6 @@
 //! Neighbours that are balanced.
 use crate::nodes::{
-    assert_inner, assert_leaf, first_nodes, inner_of, leaf_of, leaf_with, next_nodes,
+    assert_inner, assert_leaf, first_nodes, inner_of, leaf_of, leaf_with, next_nodes, numbered,
 };
 use bforest_core::{NodeData, Removed};
 
@@ -60,21 +60,13 @@ fn the_least_leaves_are_balanced(rt: HostRuntime) {
 #[test]
 fn the_greatest_leaves_are_balanced(rt: HostRuntime) {
     let alloc = rt.alloc();
-    let mut keys = [0u8; 255];
-    let mut vals = [0u64; 255];
-    for index in 0..255u8 {
-        keys[index as usize] = index;
-        vals[index as usize] = u64::from(index) << 32;
-    }
-    let mut left: NodeData<u8, u64, 255> = leaf_with(alloc, &keys[..127], &vals[..127]);
-    let mut right = leaf_with(alloc, &keys[127..], &vals[127..]);
-    assert_eq!(rt; left.balance(127, &mut right), None);
-    assert_eq!(rt; right.unwrap_leaf().0, &keys[..]);
-    assert_eq!(rt; right.unwrap_leaf().1, &vals[..]);
-    let mut left: NodeData<u8, u64, 255> = leaf_with(alloc, &keys[..126], &vals[..126]);
+    let (keys, vals) = numbered();
+    let mut left: NodeData<u8, u64, 255> = leaf_with(alloc, &[7, 8, 9], &[70, 80, 90]);
     let mut right = leaf_with(alloc, &keys, &vals);
-    assert_eq!(rt; left.balance(0, &mut right), Some(65));
-    assert_eq!(rt; left.entries(), 191);
-    assert_eq!(rt; right.unwrap_leaf().0, &keys[65..]);
-    assert_eq!(rt; right.unwrap_leaf().1, &vals[65..]);
+    assert_eq!(rt; left.balance(0, &mut right), Some(126));
+    assert_eq!(rt; left.entries(), 129);
+    assert_eq!(rt; left.entry(2), (9, 90));
+    assert_eq!(rt; left.entry(128), (125, 125 << 32));
+    assert_eq!(rt; right.unwrap_leaf().0, &keys[126..]);
+    assert_eq!(rt; right.unwrap_leaf().1, &vals[126..]);
 }

@@ -1,5 +1,7 @@
 //! Full nodes that are halved.
-use crate::nodes::{assert_inner, assert_leaf, first_nodes, free, inner_of, leaf_of, leaf_with};
+use crate::nodes::{
+    assert_inner, assert_leaf, first_nodes, free, inner_of, leaf_of, leaf_with, numbered,
+};
 use bforest_core::{NodeData, SetValue};
 
 #[test]
@@ -83,12 +85,7 @@ fn the_least_leaf_is_halved(rt: HostRuntime) {
 #[test]
 fn the_greatest_leaf_is_halved(rt: HostRuntime) {
     let alloc = rt.alloc();
-    let mut keys = [0u8; 255];
-    let mut vals = [0u64; 255];
-    for index in 0..255u8 {
-        keys[index as usize] = index;
-        vals[index as usize] = u64::from(index) << 32;
-    }
+    let (keys, vals) = numbered();
     let mut left: NodeData<u8, u64, 255> = leaf_with(alloc, &keys, &vals);
     assert!(rt; !left.try_leaf_insert(0, 0, 0));
     let mut right = NodeData::new(alloc).unwrap();
@@ -120,6 +117,12 @@ fn a_leaf_of_a_set_is_halved(rt: HostRuntime) {
     assert_eq!(rt; halves.lhs_entries, 8);
     assert_eq!(rt; halves.crit_key, 9);
     assert!(rt; right.try_leaf_insert(7, 16, SetValue));
-    assert_eq!(rt; left.unwrap_leaf().0, [1u16, 2, 3, 4, 5, 6, 7, 8].as_slice());
-    assert_eq!(rt; right.unwrap_leaf().0, [9u16, 10, 11, 12, 13, 14, 15, 16].as_slice());
+    assert_eq!(rt;
+        left.unwrap_leaf().0,
+        [1u16, 2, 3, 4, 5, 6, 7, 8].as_slice()
+    );
+    assert_eq!(rt;
+        right.unwrap_leaf().0,
+        [9u16, 10, 11, 12, 13, 14, 15, 16].as_slice()
+    );
 }

@@ -113,3 +113,14 @@ pub(crate) fn next_nodes() -> [Node; 6] {
         Node::new(8),
     ]
 }
+
+/// The keys 0 to 254, and their values: the key in the upper half of each.
+pub(crate) fn numbered() -> ([u8; 255], [u64; 255]) {
+    let mut keys = [0u8; 255];
+    let mut vals = [0u64; 255];
+    for index in 0..255u8 {
+        keys[index as usize] = index;
+        vals[index as usize] = u64::from(index) << 32;
+    }
+    (keys, vals)
+}

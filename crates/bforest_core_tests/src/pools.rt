@@ -1,7 +1,7 @@
 //! The table of nodes: what is reserved, handed out, freed and ended.
-ghost use Rattle.bforest_core.specs.Content.{Inner, Leaf};
+ghost use Rattle.bforest_core.specs.Content.{Leaf};
 ghost use Rattle.bforest_core.specs.Table.{IsUsed, with_node};
-ghost use Rattle.std.specs.Prelude.{length, ◌<◌, ◌≡◌, ◌≤◌};
+ghost use Rattle.std.specs.Prelude.{Some, [], length, slice_get, ◌<◌, ◌∷◌, ◌≡◌, ◌≢◌, ◌≤◌};
 
 use crate::nodes::assert_leaf;
 use bforest_core::{Node, NodePool, OutOfMemory};
@@ -22,6 +22,28 @@ fn write_leaf(pool: &mut Pool, node: Node, keys: &[u32])
     for index in 1..keys.len() {
         leaf.try_leaf_insert(index, keys[index], keys[index]);
     }
+}
+
+/// Writes the value of the only entry of a leaf.
+fn write_only_value(pool: &mut Pool, node: Node, value: u32)
+    requires used { IsUsed pool.old node }
+    requires leaf { slice_get pool.old.nodes node ≡ Some (Leaf (5 ∷ []) (50 ∷ [])) }
+    ensures { slice_get pool.new.nodes node ≡ Some (Leaf (5 ∷ []) (value ∷ [])) }
+{
+    *pool.value_mut(node, 0) = value;
+}
+
+/// Balances the leaf of 2, 3 and 4 with the leaf of 5, 6, 7 and 8.
+fn balance(pool: &mut Pool, left: Node, right: Node) -> Option<u32>
+    requires left { IsUsed pool.old left }
+    requires right { IsUsed pool.old right }
+    requires apart { left ≢ right }
+    requires left_leaf { slice_get pool.old.nodes left
+        ≡ Some (Leaf (2 ∷ 3 ∷ 4 ∷ []) (2 ∷ 3 ∷ 4 ∷ [])) }
+    requires right_leaf { slice_get pool.old.nodes right
+        ≡ Some (Leaf (5 ∷ 6 ∷ 7 ∷ 8 ∷ []) (5 ∷ 6 ∷ 7 ∷ 8 ∷ [])) }
+{
+    pool.balance_nodes(left, 5, right)
 }
 
 #[test]
@@ -85,10 +107,27 @@ fn a_node_is_halved_into_the_front_of_the_chain(rt: HostRuntime) -> Result<(), F
     assert_eq!(rt; keys, [40u32].as_slice());
     assert!(rt; children[0] == left);
     assert!(rt; children[1] == right);
-    *pool.value_mut(right, 1) = 51;
-    assert_eq!(rt; pool.node(right).entry(1), (50, 51));
-    assert_eq!(rt; pool.balance_nodes(left, 40, right), None);
-    assert_eq!(rt; pool.node(right).entries(), 7);
+    Ok(())
+}
+
+#[test]
+fn a_value_is_written_through_the_pool(rt: HostRuntime) -> Result<(), Fail> {
+    let mut pool: Pool = NodePool::new(rt.alloc());
+    let node = pool.alloc_node(5, 50).ok().ok_or("no node")?;
+    write_only_value(&mut pool, node, 51);
+    assert_eq!(rt; pool.node(node).entry(0), (5, 51));
+    Ok(())
+}
+
+#[test]
+fn neighbours_are_balanced_in_the_pool(rt: HostRuntime) -> Result<(), Fail> {
+    let mut pool: Pool = NodePool::new(rt.alloc());
+    assert_eq!(rt; pool.reserve(2), Ok(()));
+    let left = pool.alloc_node(2, 2).ok().ok_or("no node")?;
+    let right = pool.alloc_node(5, 5).ok().ok_or("no node")?;
+    write_leaf(&mut pool, left, &[2, 3, 4]);
+    write_leaf(&mut pool, right, &[5, 6, 7, 8]);
+    assert_eq!(rt; balance(&mut pool, left, right), None);
     Ok(())
 }
 
