@@ -1,6 +1,11 @@
 //! What a node, a number and a packed number tell, and single writes.
 use crate::nodes::{assert_inner, assert_leaf, first_nodes, free, inner_of, leaf_of};
-use bforest_core::{Node, PackedNode};
+use bforest_core::{Node, NodeData, PackedNode, SetValue};
+use std::mem::size_of;
+
+// A map of small numbers has a node of one cache line, and so has a set of them.
+const _: () = prove!(size_of::<NodeData<u32, u32, 7>>() == 64);
+const _: () = prove!(size_of::<NodeData<u32, SetValue, 15>>() <= 72);
 
 #[test]
 fn a_free_node(rt: HostRuntime) {
