@@ -5,6 +5,7 @@ use std::mem::size_of;
 
 // A map of small numbers has a node of one cache line, and so has a set of them.
 const _: () = prove!(size_of::<NodeData<u32, u32, 7>>() == 64);
+
 const _: () = prove!(size_of::<NodeData<u32, SetValue, 15>>() <= 72);
 
 #[test]
