@@ -3,7 +3,7 @@ use Rattle.std.proofs.Common.{◌≡◌, ℕ, zero, suc, ◌+◌, ◌-◌, ◌�
 use Rattle.std.specs.List.{flat_map, list_any}
 use Rattle.std.proofs.lemmas.Bool.Decides.{eqb_tells}
 use Rattle.bforest_core.specs.Content.{Content}
-use Rattle.bforest_core.specs.Table.{Table, with_node, IsUsed, slot_count}
+use Rattle.bforest_core.specs.Table.{Table, with_node, with_front, front_of, IsUsed, slot_count}
 use Rattle.bforest_core.proofs.Lists.{slice_get-set_same}
 use Rattle.std.proofs.lemmas.Option.{slice_get_within}
 use Rattle.bforest_core.specs.Levels.{LevelNode, node, flat, heads, numbers}
@@ -93,6 +93,16 @@ module _ {K V : Type 0} where
         (row-same t u before (λ m some. same m (ne_from_count m n (numbers before) some (omega arith)) (ne_from_count m q (numbers before) some (omega arith))) s.0)
         (here, (there, row-same t u after (λ m some. same m (ne_from_count m n (numbers after) some (omega arith)) (ne_from_count m q (numbers after) some (omega arith))) s.1.1.1))
 
+    -- one node become two
+    pub row-halved : (t u : List (Content K V)) (before : List (LevelNode K X)) (n q : ℕ) (es xs ys : List (K × X)) (after : List (LevelNode K X)) → RowIn content t (before ++ node n es ∷ after) →
+        ((m : ℕ) → m ≢ n → m ≢ q → slice_get u m ≡ slice_get t m) → slice_get u n ≡ Some (content xs) → slice_get u q ≡ Some (content ys) →
+        count n (numbers before) + count n (numbers after) ≡ 0 → count q (numbers before) + count q (numbers after) ≡ 0 → RowIn content u (before ++ node n xs ∷ node q ys ∷ after)
+    row-halved t u before n q es xs ys after i same here there none none_q =
+        let s = row-split t before (node n es ∷ after) i in
+        row-join u before (node n xs ∷ node q ys ∷ after)
+        (row-same t u before (λ m some. same m (ne_from_count m n (numbers before) some (omega arith)) (ne_from_count m q (numbers before) some (omega arith))) s.0)
+        (here, (there, row-same t u after (λ m some. same m (ne_from_count m n (numbers after) some (omega arith)) (ne_from_count m q (numbers after) some (omega arith))) s.1.1))
+
     -- the first of two neighbours gone, the second changed
     pub row-drop_put : (t u : List (Content K V)) (before : List (LevelNode K X)) (n q : ℕ) (es fs ys : List (K × X)) (after : List (LevelNode K X)) → RowIn content t (before ++ node n es ∷ node q fs ∷ after) →
         ((m : ℕ) → m ≢ n → m ≢ q → slice_get u m ≡ slice_get t m) → slice_get u q ≡ Some (content ys) →
@@ -164,3 +174,32 @@ module _ {K V : Type 0} where
     slots_are = p.slots_are;
     limit_is = p.limit_is;
   }
+
+  -- the front of the chain written, and taken off it
+  pub record Takes (t u : Table K V) (n : ℕ) (c : Content K V) : Type 0 where
+    pub here : slice_get u.nodes n ≡ Some c
+    pub same : (m : ℕ) → m ≢ n → slice_get u.nodes m ≡ slice_get t.nodes m
+    pub chain_is : t.chain ≡ n ∷ u.chain
+    pub slots_are : length u.nodes ≡ length t.nodes
+    pub limit_is : u.limit ≡ t.limit
+
+  takes_at : (t u : Table K V) (n : ℕ) (c : Content K V) (chain : List ℕ) → t.chain ≡ chain → front_of chain ≡ Some n → u ≡ with_front t chain c → n < length t.nodes → Takes t u n c
+  takes_at t u n c [] is front after low = absurd cc
+  takes_at t u n c (m ∷ rest) is front after low =
+      let same : m ≡ n = cc in
+      let after2 : u ≡ with_front t (n ∷ rest) c = after ∙ ap (λ z. with_front t (z ∷ rest) c) same in
+      record {
+        here = ap (λ z. slice_get z.nodes n) after2 ∙ slice_get-set_same t.nodes n c low;
+        same = λ k ne. ap (λ z. slice_get z.nodes k) after2 ∙ slice_get-set_apart t.nodes n k c ne;
+        chain_is = is ∙ ap (λ z. z ∷ rest) same ∙ ap (λ z. n ∷ z.chain) (sym after2);
+        slots_are = ap (λ z. length z.nodes) after2 ∙ length-set t.nodes n c;
+        limit_is = ap (λ z. z.limit) after2;
+      }
+
+  pub takes : (t u : Table K V) (n : ℕ) (c : Content K V) → front_of t.chain ≡ Some n → u ≡ with_front t t.chain c → n < length t.nodes → Takes t u n c
+  takes t u n c front after low = takes_at t u n c t.chain refl front after low
+
+  -- as many slots as before
+  pub length-with_front : (t : Table K V) (chain : List ℕ) (c : Content K V) → length (with_front t chain c).nodes ≡ length t.nodes
+  length-with_front t [] c = refl
+  length-with_front t (n ∷ chain) c = length-set t.nodes n c
