@@ -1,5 +1,6 @@
 -- One entry more in a row: where its node has room, and where it is halved.
-use Rattle.std.proofs.Common.{◌≡◌, ℕ, zero, suc, ◌+◌, ◌-◌, ◌≤◌, ◌<◌, nat_lt, if◌then◌else◌, true, false, Option, Some, None, List, [], ◌∷◌, ◌++◌, length, refl, sym, ap, ◌∙◌, append_assoc, length-append, arith, rules}
+use Rattle.std.proofs.Common.{◌≡◌, ℕ, zero, suc, ◌+◌, ◌-◌, ◌≤◌, ◌<◌, nat_lt, if◌then◌else◌, true, false, Option, Some, None, List, [], ◌∷◌, ◌++◌, length, refl, sym, ap, ◌∙◌, inl, inr, append_assoc, length-append, arith, rules}
+use Rattle.std.proofs.lemmas.Bool.{cases_lt}
 use Rattle.bforest_core.specs.Levels.{LevelNode, node, flat, head_of, heads, sizes, numbers, least, FitRow, Solid}
 use Rattle.bforest_core.specs.Sizes.{inner_gain, past, one_on}
 use Rattle.bforest_core.proofs.LevelRows.{flat-append, heads-append, sizes-append, numbers-append, FitRow-split, FitRow-join}
@@ -82,3 +83,11 @@ halves_left e left right after low l r = rw (here_lt e 4 low, l, r) refl
 
 pub halves_right : (e left right : ℕ) (after : List ℕ) → 4 ≤ e → left ≡ 4 → right ≡ 5 → (if nat_lt e 4 then 5 ∷ 4 ∷ after else 4 ∷ 5 ∷ after) ≡ left ∷ right ∷ after
 halves_right e left right after high l r = rw (past_lt e 4 high, l, r) refl
+
+-- a full node becomes two
+pub gain_some : {K X : Type 0} (before : List (LevelNode K X)) (s e : ℕ) (after : List ℕ) → e < s → s ≡ 8 → (inner_gain (length (flat before) + e) (sizes before ++ s ∷ after)).0 ≡ Some (length before)
+gain_some before s e after low full =
+    elim (cases_lt e 4) [
+      | inl lt ↦ ap (λ z. z.0) (gain_full before s e 5 4 after low full (halves_left e 5 4 after lt refl refl))
+      | inr ge ↦ ap (λ z. z.0) (gain_full before s e 4 5 after low full (halves_right e 4 5 after ge refl refl))
+    ]

@@ -7,9 +7,10 @@ use Rattle.bforest_core.specs.Levels.{LevelNode, node, flat, heads, head_of, siz
 use Rattle.bforest_core.specs.Sizes.{inner_gain, gain_above, need_above}
 use Rattle.bforest_core.specs.Place.{RowIn, RowsIn, inner_content, count, Distinct, IsAt, StandsAbove}
 use Rattle.bforest_core.specs.Climb.{Above, Grown, Halved, SameBelow}
-use Rattle.bforest_core.proofs.LevelRows.{heads-append}
+use Rattle.bforest_core.proofs.LevelRows.{heads-append, sizes-append}
 use Rattle.bforest_core.proofs.Tables.{count-append, count-same, count-row, row-same, absent_ne, Takes, takes}
-use Rattle.bforest_core.proofs.Grow.{heads-halved}
+use Rattle.bforest_core.proofs.Zipper.{Spot, Parent}
+use Rattle.bforest_core.proofs.Grow.{heads-halved, gain_some}
 use Rattle.bforest_core.proofs.Room.{step, step_is, step_most}
 
 module _ {K V : Type 0} where
@@ -114,3 +115,41 @@ module _ {K V : Type 0} where
           entries_below = λ i low. far_j i (λ (e : i ≡ size). omega (arith, e, low));
         },
       )
+
+  -- the same rows, by equations
+  pub above_from : (t t1 : Table K V) (ms ms1 js js1 : List ℕ) (up up1 size size1 : ℕ) (rows : List (List (LevelNode K ℕ))) (hs hs1 : List (K × ℕ)) (p : ℕ) → t1 ≡ t → ms1 ≡ ms → js1 ≡ js → up1 ≡ up → size1 ≡ size → hs1 ≡ hs → Above t ms js up size rows hs p → Above t1 ms1 js1 up1 size1 rows hs1 p
+  above_from t t1 ms ms1 js js1 up up1 size size1 rows hs hs1 p et em ej eu es eh ab =
+      subst (λ (z : Table K V). Above z ms1 js1 up1 size1 rows hs1 p) (sym et)
+      (subst (λ (z : List ℕ). Above t z js1 up1 size1 rows hs1 p) (sym em)
+        (subst (λ (z : List ℕ). Above t ms z up1 size1 rows hs1 p) (sym ej)
+          (subst (λ (z : ℕ). Above t ms js z size1 rows hs1 p) (sym eu)
+            (subst (λ (z : ℕ). Above t ms js up z rows hs1 p) (sym es)
+              (subst (λ (z : List (K × ℕ)). Above t ms js up size rows z p) (sym eh) ab)))))
+
+  pub grown_from : (t t1 u : Table K V) (ms ms1 js js1 ms' js' : List ℕ) (up up1 size size1 size' : ℕ) (rows : List (List (LevelNode K ℕ))) (hs hs1 : List (K × ℕ)) (p : ℕ) (ss : List (List ℕ)) (taken : List ℕ) → t1 ≡ t → ms1 ≡ ms → js1 ≡ js → up1 ≡ up → size1 ≡ size → hs1 ≡ hs →
+      Grown t u ms js ms' js' up size size' rows hs p ss taken → Grown t1 u ms1 js1 ms' js' up1 size1 size' rows hs1 p ss taken
+  grown_from t t1 u ms ms1 js js1 ms' js' up up1 size size1 size' rows hs hs1 p ss taken et em ej eu es eh g =
+      subst (λ (z : Table K V). Grown z u ms1 js1 ms' js' up1 size1 size' rows hs1 p ss taken) (sym et)
+      (subst (λ (z : List ℕ). Grown t u z js1 ms' js' up1 size1 size' rows hs1 p ss taken) (sym em)
+        (subst (λ (z : List ℕ). Grown t u ms z ms' js' up1 size1 size' rows hs1 p ss taken) (sym ej)
+          (subst (λ (z : ℕ). Grown t u ms js ms' js' z size1 size' rows hs1 p ss taken) (sym eu)
+            (subst (λ (z : ℕ). Grown t u ms js ms' js' up z size' rows hs1 p ss taken) (sym es)
+              (subst (λ (z : List (K × ℕ)). Grown t u ms js ms' js' up size size' rows z p ss taken) (sym eh) g)))))
+
+need_some : (p : ℕ) (levels : List (List ℕ)) → 1 ≤ need_above (Some p) levels
+need_some p [] = omega arith
+need_some p (level ∷ levels) = omega arith
+
+module _ {K V : Type 0} where
+  -- a level whose node is full needs two or more
+  pub need_full : (t : Table K V) (ms js : List ℕ) (up size : ℕ) (rows : List (List (LevelNode K ℕ))) (a : List (K × ℕ)) (x : K × ℕ) (b : List (K × ℕ)) → (d : Spot t ms js up size rows a x b) → length (d.q.l ++ x ∷ d.q.r) ≡ 8 → 2 ≤ need_above (Some (length a)) (map sizes rows)
+  need_full t ms js up size rows a x b d eight =
+      let q = d.q in
+      let n = get_or ms up 0 in
+      let es : List (K × ℕ) = q.l ++ x ∷ q.r in
+      let low : length q.l < length es = omega (arith, length-append q.l (x ∷ q.r)) in
+      let some : (inner_gain (length (flat q.before ++ q.l)) (sizes (q.before ++ node n es ∷ q.after))).0 ≡ Some (length q.before) =
+      ap (λ z. (inner_gain z (sizes (q.before ++ node n es ∷ q.after))).0) (length-append (flat q.before) q.l) ∙ ap (λ z. (inner_gain (length (flat q.before) + length q.l) z).0) (sizes-append q.before (node n es ∷ q.after)) ∙ gain_some q.before (length es) (length q.l) (sizes q.after) low eight in
+      let needs : need_above (Some (length a)) (map sizes rows) ≡ suc (need_above (Some (length q.before)) (map sizes q.rest)) =
+      ap (λ z. need_above (Some (length z)) (map sizes rows)) q.a_is ∙ ap (λ z. need_above (Some (length (flat q.before ++ q.l))) (map sizes z)) q.rows_are ∙ ap (λ z. suc (need_above z (map sizes q.rest))) some in
+      omega (arith, needs, need_some (length q.before) (map sizes q.rest))
