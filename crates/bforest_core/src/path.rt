@@ -91,7 +91,7 @@ impl<K: Copy, V: Copy, const N: usize> Path<K, V, N> {
         requires height { self.old.size ≤ 16 }
         requires within { up < self.old.size }
         requires pending { (rows : List (List (LevelNode K ℕ))) × (a : List (K × ℕ)) × (x : K × ℕ) × (b : List (K × ℕ)) × Above pool.old self.old.node self.old.entry up self.old.size rows (a ++ x ∷ b) (length a) }
-        ensures grown { result ≡ true → (rows : List (List (LevelNode K ℕ))) (a : List (K × ℕ)) (x : K × ℕ) (b : List (K × ℕ)) → Above pool.old self.old.node self.old.entry up self.old.size rows (a ++ x ∷ b) (length a) → (1 ≡ need_above (Some (length a)) (map sizes rows)) × Grown pool.old pool.new self.old.node self.old.entry self.new.node self.new.entry up self.old.size self.old.size rows (a ++ x ∷ (key, child) ∷ b) (if moved then suc (length a) else length a) (gain_above (Some (length a)) (map sizes rows)) [] }
+        ensures grown { result ≡ true → (rows : List (List (LevelNode K ℕ))) (a : List (K × ℕ)) (x : K × ℕ) (b : List (K × ℕ)) → Above pool.old self.old.node self.old.entry up self.old.size rows (a ++ x ∷ b) (length a) → (1 ≡ need_above (Some (length a)) (map sizes rows)) × Grown pool.old pool.new self.old.node self.old.entry self.new.node self.new.entry up self.old.size self.new.size rows (a ++ x ∷ (key, child) ∷ b) (if moved then suc (length a) else length a) (gain_above (Some (length a)) (map sizes rows)) [] }
         ensures full { result ≡ false → IsFullAt N pool.old.nodes (get_or self.old.node up 0) }
         ensures pool { result ≡ false → pool.new ≡ pool.old }
         ensures path { result ≡ false → self.new ≡ self.old }

@@ -1,4 +1,4 @@
-use Rattle.std.proofs.Common.{rules, ◌≡◌, ℕ, suc, ◌+◌, ◌-◌, ◌<◌, ◌≤◌, ◌≢◌, false, true, if◌then◌else◌, List, [], ◌∷◌, ◌++◌, map, length, get_or, Some, refl, sym, ap, ◌∙◌, subst, arith, lit<, add-one}
+use Rattle.std.proofs.Common.{rules, ◌≡◌, ℕ, suc, ◌+◌, ◌-◌, ◌<◌, ◌≤◌, ◌≢◌, false, true, if◌then◌else◌, List, [], ◌∷◌, ◌++◌, map, length, get_or, Some, refl, sym, ap, ◌∙◌, subst, arith, add-one}
 use Rattle.std.proofs.lemmas.List.{get_or_default}
 use Rattle.bforest_core.specs.Table.{IsFullAt}
 use Rattle.bforest_core.specs.Levels.{LevelNode, heads, sizes}
@@ -22,7 +22,7 @@ split_here-next-requires g t c =
     let d = spot _ _ _ _ _ w.0 w.1 (w.2, c.args.left) w.3 w.4 low in
     let two = need_full _ _ _ _ _ w.0 w.1 (w.2, c.args.left) w.3 d (full_is g.row.N c.args.pool.now.nodes (get_or s0.node up 0) (d.q.l ++ (w.2, c.args.left) ∷ d.q.r) d.f.slot_is full) in
     let above = above_from c.args.pool.now c.insert_here.new.pool s0.node s1.node s0.entry s1.entry up up s0.size s1.size w.0 _ _ (length w.1) pool_is (ap (λ z. z.node) path_is) (ap (λ z. z.entry) path_is) refl (ap (λ z. z.size) path_is) refl w.4 in
-    (lit< tt, (lit< tt, (omega (arith, c.requires.height, ap (λ z. z.size) path_is), (omega (arith, low, ap (λ z. z.size) path_is), (omega (arith, two, w.5, ap (λ z. length z.chain) pool_is), (rw (pool_is, path_is) full, (w.0, w.1, (w.2, c.args.left), w.3, above)))))))
+    (search rules, (search rules, (omega (arith, c.requires.height, ap (λ z. z.size) path_is), (omega (arith, low, ap (λ z. z.size) path_is), (omega (arith, two, w.5, ap (λ z. length z.chain) pool_is), (rw (pool_is, path_is) full, (w.0, w.1, (w.2, c.args.left), w.3, above)))))))
 
 pub insert_above-requires : goal.insert_above-requires
 insert_above-requires g t c κs within =
@@ -42,7 +42,7 @@ insert_above-requires g t c κs within =
     let above2 = above_from c.split_here-next.new.pool c.split_here-next.new.pool s2.node s2.node s2.entry s2.entry (suc up) (up + 1) s1.size s2.size h.rest _ _ (length (heads h.before)) refl refl refl up_is c.split_here-next.ensures.size (ap (λ z. heads h.before ++ (h.first.0, z) ∷ heads h.after) here) h.above in
     let needs = need_halved _ _ _ _ _ _ _ _ _ _ _ _ _ _ _ h in
     let less : s2.size - (up + 1) < t = omega (arith, c.decreases, low, size_is, c.split_here-next.ensures.size) in
-    (less, (within.0, (within.1, ((λ a m. search rules), (lit< tt, (lit< tt, (omega (arith, c.requires.height, size_is, c.split_here-next.ensures.size),
+    (less, (within.0, (within.1, ((λ a m. search rules), (search rules, (search rules, (omega (arith, c.requires.height, size_is, c.split_here-next.ensures.size),
       (h.rest, heads h.before, h.first.0, heads h.after, above2, omega (arith, needs, w.5, ap (λ z. length z.chain) pool_is, ap length h.chain_is)))))))))
 
 pub returns-then-not-insert_here : goal.returns-then-not-insert_here
@@ -73,3 +73,8 @@ returns-then-not-insert_here g t c = λ rows a first b p.
         (ap (λ z. heads h.before ++ (h.first.0, z) ∷ (c.split_here-next.result.0, c.split_here-next.result.1) ∷ heads h.after) (sym here)) r.2 in
     let g3 = rise t1 t2 t3 s1.node s1.entry s2.node s2.entry s3.node s3.entry up s1.size s3.size rows _ _ (length a) (length a) _ _ _ _ r.0 above h g2 in
     (c.split_here-next.result.1 ∷ r.0, omega (arith, needs, r.1), grown_from t1 t0 t3 s1.node s0.node s1.entry s0.entry s3.node s3.entry up up s1.size s0.size s3.size rows _ _ _ _ _ (sym pool_is) (sym node_is) (sym entry_is) refl (sym size_is) refl g3)
+
+pub returns-else-not-insert_here : goal.returns-else-not-insert_here
+returns-else-not-insert_here g t c = λ rows a first b p.
+    let w = c.insert_here.ensures.grown c.if-not-insert_here.false rows a (first, c.args.left) b p in
+    ([], w.0, w.1)

@@ -1,4 +1,4 @@
-use Rattle.std.proofs.Common.{rules, ◌≡◌, ℕ, suc, ◌+◌, ◌-◌, ◌<◌, ◌≤◌, ◌≢◌, false, true, List, [], ◌∷◌, ◌++◌, length, drop, set, get_or, slice_get, Some, refl, sym, ap, ◌∙◌, subst, arith, lit<, IsTrue, ◌↔◌, Bool, if◌then◌else◌}
+use Rattle.std.proofs.Common.{rules, ◌≡◌, ℕ, suc, ◌+◌, ◌-◌, ◌<◌, ◌≤◌, ◌≢◌, false, true, List, [], ◌∷◌, ◌++◌, length, drop, set, get_or, slice_get, Some, refl, sym, ap, ◌∙◌, subst, arith, IsTrue, ◌↔◌, Bool, if◌then◌else◌}
 use Rattle.std.proofs.lemmas.Bool.{false≢true}
 use Rattle.std.proofs.lemmas.List.{get_or_default, get_or-set_same, get_or-set_other}
 use Rattle.bforest_core.specs.Content.{Inner, with_child}
@@ -28,7 +28,7 @@ put_child-requires g c =
     let d = spot _ _ _ _ _ w.0 w.1 w.2 w.3 w.4 c.requires.within in
     let es = d.q.l ++ w.2 ∷ d.q.r in
     let here : get_or ms up c.index-self-up.result ≡ get_or ms up 0 = get_or_default ms up c.index-self-up.result 0 (omega arith) in
-    (lit< tt, (rw here (is_used _ (get_or ms up 0) (inner_content es) d.f.slot_is d.f.none_chain), (drop 1 (entry_keys es), entry_items es, rw here d.f.slot_is, omega (arith, key_count es, d.count_is))))
+    (search rules, (rw here (is_used _ (get_or ms up 0) (inner_content es) d.f.slot_is d.f.none_chain), (drop 1 (entry_keys es), entry_items es, rw here d.f.slot_is, omega (arith, key_count es, d.count_is))))
 
 pub index_behind-requires : goal.index_behind-requires
 index_behind-requires g c =

@@ -1,4 +1,4 @@
-use Rattle.std.proofs.Common.{rules, ◌≡◌, ℕ, suc, ◌+◌, ◌-◌, ◌<◌, ◌≤◌, ◌≢◌, false, true, Bool, if◌then◌else◌, List, [], ◌∷◌, ◌++◌, length, drop, set, get_or, slice_get, Some, refl, sym, ap, ◌∙◌, subst, arith, lit<, IsTrue}
+use Rattle.std.proofs.Common.{rules, ◌≡◌, ℕ, suc, ◌+◌, ◌-◌, ◌<◌, ◌≤◌, ◌≢◌, false, true, Bool, if◌then◌else◌, List, [], ◌∷◌, ◌++◌, length, drop, set, get_or, slice_get, Some, refl, sym, ap, ◌∙◌, subst, arith, IsTrue}
 use Rattle.std.proofs.lemmas.List.{get_or_default, get_or-set_same, get_or-set_other}
 use Rattle.bforest_core.specs.Content.{Content, Inner, with_child}
 use Rattle.bforest_core.specs.Table.{Table, IsUsed, IsFullAt, with_node}
@@ -22,7 +22,7 @@ split_node-right-requires g c =
     let d = spot _ _ _ _ _ w.0 w.1 w.2 w.3 w.4 c.requires.within in
     let es = d.q.l ++ w.2 ∷ d.q.r in
     let here : get_or ms up c.index-self-up.result ≡ get_or ms up 0 = get_or_default ms up c.index-self-up.result 0 (omega arith) in
-    (lit< tt, (rw here (is_used _ (get_or ms up 0) (inner_content es) d.f.slot_is d.f.none_chain), (rw here c.requires.full, c.requires.room)))
+    (search rules, (rw here (is_used _ (get_or ms up 0) (inner_content es) d.f.slot_is d.f.none_chain), (rw here c.requires.full, c.requires.room)))
 
 pub put_child-room-requires : goal.put_child-room-requires
 put_child-room-requires g c =
@@ -34,7 +34,7 @@ put_child-room-requires g c =
     let here : get_or ms up c.index-self-up.result ≡ get_or ms up 0 = get_or_default ms up c.index-self-up.result 0 (omega arith) in
     let sp = split_spot _ _ _ _ _ _ _ _ _ _ _ _ _ c.split_node-right.result.1 d here c.requires.full c.split_node-right.ensures.node c.split_node-right.ensures.used c.split_node-right.ensures.split in
     let asks = left_asks _ _ (get_or ms up 0) _ (get_or js up 0) _ _ sp d.f.none_chain c.if-entry-lt4.true in
-    (lit< tt, (subst (λ (z : ℕ). IsUsed c.split_node-right.new.self z) (sym here) asks.0, (drop 1 (entry_keys (sp.z ∷ sp.zs)), entry_items (sp.z ∷ sp.zs), ap (λ z. slice_get c.split_node-right.new.self.nodes z) here ∙ asks.1, asks.2)))
+    (search rules, (subst (λ (z : ℕ). IsUsed c.split_node-right.new.self z) (sym here) asks.0, (drop 1 (entry_keys (sp.z ∷ sp.zs)), entry_items (sp.z ∷ sp.zs), ap (λ z. slice_get c.split_node-right.new.self.nodes z) here ∙ asks.1, asks.2)))
 
 pub put_child-room-requires-else-entry-lt4 : goal.put_child-room-requires-else-entry-lt4
 put_child-room-requires-else-entry-lt4 g c =
@@ -47,7 +47,7 @@ put_child-room-requires-else-entry-lt4 g c =
     let eight = full_is _ _ (get_or ms up 0) (d.q.l ++ w.2 ∷ d.q.r) d.f.slot_is c.requires.full in
     let sp = split_spot _ _ _ _ _ _ _ _ _ _ _ _ _ c.split_node-right.result.1 d here c.requires.full c.split_node-right.ensures.node c.split_node-right.ensures.used c.split_node-right.ensures.split in
     let asks = right_asks _ _ _ _ (get_or js up 0) _ _ sp eight (omega (arith, d.count_is, d.most_is)) in
-    (lit< tt, (c.split_node-right.ensures.used, (drop 1 (entry_keys (sp.y ∷ sp.ys)), entry_items (sp.y ∷ sp.ys), asks.0, asks.1)))
+    (search rules, (c.split_node-right.ensures.used, (drop 1 (entry_keys (sp.y ∷ sp.ys)), entry_items (sp.y ∷ sp.ys), asks.0, asks.1)))
 
 pub index_behind-requires-else-entry-lt4 : goal.index_behind-requires-else-entry-lt4
 index_behind-requires-else-entry-lt4 g c =
