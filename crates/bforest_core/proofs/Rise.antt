@@ -20,6 +20,12 @@ module _ {K V : Type 0} where
   need_halved t u ms js ms' js' up size rows list was p key right moved h =
       ap (λ z. need_above (Some was) (map sizes z)) h.rows_were ∙ ap (λ z. suc (need_above z.0 (map sizes h.rest))) h.gain_is
 
+  -- and the sizes that it gets
+  pub gain_halved : (t u : Table K V) (ms js ms' js' : List ℕ) (up size : ℕ) (rows : List (List (LevelNode K ℕ))) (list : List (K × ℕ)) (was p : ℕ) (key : K) (right : ℕ) (moved : Bool) → (h : Halved t u ms js ms' js' up size rows list was p key right moved) →
+      length (gain_above (Some was) (map sizes rows)) ≡ suc (length (gain_above (Some (length (heads h.before))) (map sizes h.rest)))
+  gain_halved t u ms js ms' js' up size rows list was p key right moved h =
+      ap (λ z. length (gain_above (Some was) (map sizes z))) h.rows_were ∙ ap (λ z. suc (length (gain_above z.0 (map sizes h.rest)))) h.gain_is
+
   rise_at : (t u v : Table K V) (ms js ms' js' ms'' js'' : List ℕ) (up size size' : ℕ) (rows : List (List (LevelNode K ℕ))) (list : List (K × ℕ)) (was p : ℕ) (key : K) (right : ℕ) (moved : Bool) (taken : List ℕ) → (h : Halved t u ms js ms' js' up size rows list was p key right moved) →
       Distinct (flat_map numbers ((h.before ++ node (get_or ms up 0) h.entries ∷ h.after) ∷ h.rest) ++ t.chain) →
       ((old : List (K × ℕ)) → Topped old rows → Topped old ((h.before ++ node (get_or ms up 0) h.entries ∷ h.after) ∷ h.rest)) → flat_map numbers rows ≡ flat_map numbers ((h.before ++ node (get_or ms up 0) h.entries ∷ h.after) ∷ h.rest) →
@@ -135,6 +141,16 @@ module _ {K V : Type 0} where
           (subst (λ (z : ℕ). Grown t u ms js ms' js' z size1 size' rows hs1 p ss taken) (sym eu)
             (subst (λ (z : ℕ). Grown t u ms js ms' js' up z size' rows hs1 p ss taken) (sym es)
               (subst (λ (z : List (K × ℕ)). Grown t u ms js ms' js' up size size' rows z p ss taken) (sym eh) g)))))
+
+-- a level whose node became two has a level above it
+pub gain-some : (p : ℕ) (levels : List (List ℕ)) → 1 ≤ length (gain_above (Some p) levels)
+gain-some p [] = omega arith
+gain-some p (level ∷ levels) = omega arith
+
+-- the top level needs a new root too
+pub need_top : {K : Type 0} (p : ℕ) (rows : List (List (LevelNode K ℕ))) → length rows ≡ 0 → need_above (Some p) (map sizes rows) ≡ 2
+need_top p [] none = refl
+need_top p (row ∷ rows) none = absurd (omega (arith, none))
 
 need_some : (p : ℕ) (levels : List (List ℕ)) → 1 ≤ need_above (Some p) levels
 need_some p [] = omega arith

@@ -46,8 +46,8 @@ impl<K: Copy, V: Copy, const N: usize> Path<K, V, N> {
         moved: bool,
         pool: &mut NodePool<K, V, N>,
     )
-        requires height { self.old.size ≤ 16 }
-        requires pending { (rows : List (List (LevelNode K ℕ))) × (a : List (K × ℕ)) × (first : K) × (b : List (K × ℕ)) × Above pool.old self.old.node self.old.entry up self.old.size rows (a ++ (first, left) ∷ b) (length a) × (need_above (Some (length a)) (map sizes rows) ≤ suc (length pool.old.chain)) }
+        requires height { self.old.size ≤ 17 }
+        requires pending { (rows : List (List (LevelNode K ℕ))) × (a : List (K × ℕ)) × (first : K) × (b : List (K × ℕ)) × Above pool.old self.old.node self.old.entry up self.old.size rows (a ++ (first, left) ∷ b) (length a) × (need_above (Some (length a)) (map sizes rows) ≤ suc (length pool.old.chain)) × (up + length (gain_above (Some (length a)) (map sizes rows)) ≤ 17) }
         ensures { (rows : List (List (LevelNode K ℕ))) (a : List (K × ℕ)) (first : K) (b : List (K × ℕ)) → Above pool.old self.old.node self.old.entry up self.old.size rows (a ++ (first, left) ∷ b) (length a) → (taken : List ℕ) × (suc (length taken) ≡ need_above (Some (length a)) (map sizes rows)) × Grown pool.old pool.new self.old.node self.old.entry self.new.node self.new.entry up self.old.size self.new.size rows (a ++ (first, left) ∷ (key, child) ∷ b) (if moved then suc (length a) else length a) (gain_above (Some (length a)) (map sizes rows)) taken }
     {
         if up == self.size {
@@ -88,7 +88,7 @@ impl<K: Copy, V: Copy, const N: usize> Path<K, V, N> {
         moved: bool,
         pool: &mut NodePool<K, V, N>,
     ) -> bool
-        requires height { self.old.size ≤ 16 }
+        requires height { self.old.size ≤ 17 }
         requires within { up < self.old.size }
         requires pending { (rows : List (List (LevelNode K ℕ))) × (a : List (K × ℕ)) × (x : K × ℕ) × (b : List (K × ℕ)) × Above pool.old self.old.node self.old.entry up self.old.size rows (a ++ x ∷ b) (length a) }
         ensures grown { result ≡ true → (rows : List (List (LevelNode K ℕ))) (a : List (K × ℕ)) (x : K × ℕ) (b : List (K × ℕ)) → Above pool.old self.old.node self.old.entry up self.old.size rows (a ++ x ∷ b) (length a) → (1 ≡ need_above (Some (length a)) (map sizes rows)) × Grown pool.old pool.new self.old.node self.old.entry self.new.node self.new.entry up self.old.size self.new.size rows (a ++ x ∷ (key, child) ∷ b) (if moved then suc (length a) else length a) (gain_above (Some (length a)) (map sizes rows)) [] }
@@ -117,7 +117,7 @@ impl<K: Copy, V: Copy, const N: usize> Path<K, V, N> {
         moved: bool,
         pool: &mut NodePool<K, V, N>,
     ) -> (K, Node, bool)
-        requires height { self.old.size ≤ 16 }
+        requires height { self.old.size ≤ 17 }
         requires within { up < self.old.size }
         requires room { 0 < length pool.old.chain }
         requires full { IsFullAt N pool.old.nodes (get_or self.old.node up 0) }

@@ -6,8 +6,14 @@ use Rattle.bforest_core.specs.Sizes.{gain_above, need_above}
 use Rattle.bforest_core.specs.Climb.{Above, Grown, Halved}
 use Rattle.bforest_core.proofs.Zipper.{spot, Spot}
 use Rattle.bforest_core.proofs.Halving.{full_is}
-use Rattle.bforest_core.proofs.Rise.{rise, need_halved, need_full, above_from, grown_from}
+use Rattle.bforest_core.proofs.Rise.{rise, need_halved, gain_halved, gain-some, need_full, need_top, above_from, grown_from}
 use Rattle.bforest_core.proofs.path.Path.+insert_above.Goals as goal
+
+pub push_root-requires : goal.push_root-requires
+push_root-requires g t c =
+    let w = c.requires.pending in
+    let top : length w.0 ≡ 0 = omega (arith, w.4.height, c.if-up-self.true) in
+    (search rules, (search rules, (omega (arith, w.6, gain-some (length w.1) (map sizes w.0), c.if-up-self.true), omega (arith, w.5, need_top (length w.1) w.0 top))))
 
 pub split_here-next-requires : goal.split_here-next-requires
 split_here-next-requires g t c =
@@ -40,10 +46,11 @@ insert_above-requires g t c κs within =
     let here : get_or s1.node up c.index-self-up.result ≡ get_or s1.node up 0 = get_or_default s1.node up c.index-self-up.result 0 (omega arith) in
     let up_is : up + 1 ≡ suc up = omega arith in
     let above2 = above_from c.split_here-next.new.pool c.split_here-next.new.pool s2.node s2.node s2.entry s2.entry (suc up) (up + 1) s1.size s2.size h.rest _ _ (length (heads h.before)) refl refl refl up_is c.split_here-next.ensures.size (ap (λ z. heads h.before ++ (h.first.0, z) ∷ heads h.after) here) h.above in
+    let gains = gain_halved _ _ _ _ _ _ _ _ _ _ _ _ _ _ _ h in
     let needs = need_halved _ _ _ _ _ _ _ _ _ _ _ _ _ _ _ h in
     let less : s2.size - (up + 1) < t = omega (arith, c.decreases, low, size_is, c.split_here-next.ensures.size) in
     (less, (within.0, (within.1, ((λ a m. search rules), (search rules, (search rules, (omega (arith, c.requires.height, size_is, c.split_here-next.ensures.size),
-      (h.rest, heads h.before, h.first.0, heads h.after, above2, omega (arith, needs, w.5, ap (λ z. length z.chain) pool_is, ap length h.chain_is)))))))))
+      (h.rest, heads h.before, h.first.0, heads h.after, above2, omega (arith, needs, w.5, ap (λ z. length z.chain) pool_is, ap length h.chain_is), omega (arith, gains, w.6)))))))))
 
 pub returns-then-not-insert_here : goal.returns-then-not-insert_here
 returns-then-not-insert_here g t c = λ rows a first b p.
