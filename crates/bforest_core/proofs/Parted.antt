@@ -52,13 +52,13 @@ module _ {K V : Type 0} where
         head_is = h.first_is;
         key_is = h.middle_is;
         flat_is = flat-halved q.before q.after n right (h.z ∷ h.xs) (h.y ∷ h.ys) ∙ ap (λ z. flat q.before ++ (z ++ flat q.after)) (sym h.grown_is) ∙ ap (λ z. flat q.before ++ z) (append_assoc q.l (x ∷ y ∷ q.r) (flat q.after)) ∙ sym (append_assoc (flat q.before) q.l _)
-        ∙ sym (ap (λ z. z ++ x ∷ y ∷ b) q.a_is ∙ ap (λ z. (flat q.before ++ q.l) ++ x ∷ y ∷ z) q.b_is);
+            ∙ sym (ap (λ z. z ++ x ∷ y ∷ b) q.a_is ∙ ap (λ z. (flat q.before ++ q.l) ++ x ∷ y ∷ z) q.b_is);
         fit = FitRow-halved 4 8 q.before q.after n right es (h.z ∷ h.xs) (h.y ∷ h.ys) (omega arith) ab.stacked.1 h.left_least (omega (arith, h.left_most)) h.right_least (omega (arith, h.right_most));
         inside = row-halved inner_content t.nodes u.nodes q.before n right es (h.z ∷ h.xs) (h.y ∷ h.ys) q.after d.f.inside h.same h.here h.there d.f.none none_right;
         gain_is = ap (λ z. inner_gain (length z) (sizes row)) q.a_is ∙ ap (λ z. inner_gain z (sizes row)) (length-append (flat q.before) q.l) ∙ ap (λ z. inner_gain (length (flat q.before) + length q.l) z) (sizes-append q.before (node n es ∷ q.after))
-        ∙ ap (λ z. inner_gain (length (flat q.before) + z) (sizes q.before ++ length es ∷ sizes q.after)) q.entry_is
-        ∙ gain_full q.before (length es) (get_or js up 0) (length (h.z ∷ h.xs)) (length (h.y ∷ h.ys)) (sizes q.after) (omega (arith, low, q.entry_is)) eight (h.counts_are (sizes q.after))
-        ∙ ap (λ z. (Some z, sizes q.before ++ length (h.z ∷ h.xs) ∷ length (h.y ∷ h.ys) ∷ sizes q.after)) (sym full) ∙ ap (λ z. (Some (length (heads q.before)), z)) (sym (sizes-append q.before (node n (h.z ∷ h.xs) ∷ node right (h.y ∷ h.ys) ∷ q.after)));
+            ∙ ap (λ z. inner_gain (length (flat q.before) + z) (sizes q.before ++ length es ∷ sizes q.after)) q.entry_is
+            ∙ gain_full q.before (length es) (get_or js up 0) (length (h.z ∷ h.xs)) (length (h.y ∷ h.ys)) (sizes q.after) (omega (arith, low, q.entry_is)) eight (h.counts_are (sizes q.after))
+            ∙ ap (λ z. (Some z, sizes q.before ++ length (h.z ∷ h.xs) ∷ length (h.y ∷ h.ys) ∷ sizes q.after)) (sym full) ∙ ap (λ z. (Some (length (heads q.before)), z)) (sym (sizes-append q.before (node n (h.z ∷ h.xs) ∷ node right (h.y ∷ h.ys) ∷ q.after)));
         above = record {
           stacked = subst (λ (z : List (K × ℕ)). Stacked z q.rest) hs0 ab.stacked.2;
           inside = rows-same t.nodes u.nodes q.rest (λ m some. h.same m (ne_from_count m n (flat_map numbers q.rest) some d.f.none_rest) (ne_from_count m right (flat_map numbers q.rest) some none_right_rest)) ab.inside.1;

@@ -127,20 +127,20 @@ module _ {K V : Type 0} where
   above_from t t1 ms ms1 js js1 up up1 size size1 rows hs hs1 p et em ej eu es eh ab =
       subst (λ (z : Table K V). Above z ms1 js1 up1 size1 rows hs1 p) (sym et)
       (subst (λ (z : List ℕ). Above t z js1 up1 size1 rows hs1 p) (sym em)
-        (subst (λ (z : List ℕ). Above t ms z up1 size1 rows hs1 p) (sym ej)
-          (subst (λ (z : ℕ). Above t ms js z size1 rows hs1 p) (sym eu)
-            (subst (λ (z : ℕ). Above t ms js up z rows hs1 p) (sym es)
-              (subst (λ (z : List (K × ℕ)). Above t ms js up size rows z p) (sym eh) ab)))))
+      (subst (λ (z : List ℕ). Above t ms z up1 size1 rows hs1 p) (sym ej)
+      (subst (λ (z : ℕ). Above t ms js z size1 rows hs1 p) (sym eu)
+      (subst (λ (z : ℕ). Above t ms js up z rows hs1 p) (sym es)
+      (subst (λ (z : List (K × ℕ)). Above t ms js up size rows z p) (sym eh) ab)))))
 
   pub grown_from : (t t1 u : Table K V) (ms ms1 js js1 ms' js' : List ℕ) (up up1 size size1 size' : ℕ) (rows : List (List (LevelNode K ℕ))) (hs hs1 : List (K × ℕ)) (p : ℕ) (ss : List (List ℕ)) (taken : List ℕ) → t1 ≡ t → ms1 ≡ ms → js1 ≡ js → up1 ≡ up → size1 ≡ size → hs1 ≡ hs →
       Grown t u ms js ms' js' up size size' rows hs p ss taken → Grown t1 u ms1 js1 ms' js' up1 size1 size' rows hs1 p ss taken
   grown_from t t1 u ms ms1 js js1 ms' js' up up1 size size1 size' rows hs hs1 p ss taken et em ej eu es eh g =
       subst (λ (z : Table K V). Grown z u ms1 js1 ms' js' up1 size1 size' rows hs1 p ss taken) (sym et)
       (subst (λ (z : List ℕ). Grown t u z js1 ms' js' up1 size1 size' rows hs1 p ss taken) (sym em)
-        (subst (λ (z : List ℕ). Grown t u ms z ms' js' up1 size1 size' rows hs1 p ss taken) (sym ej)
-          (subst (λ (z : ℕ). Grown t u ms js ms' js' z size1 size' rows hs1 p ss taken) (sym eu)
-            (subst (λ (z : ℕ). Grown t u ms js ms' js' up z size' rows hs1 p ss taken) (sym es)
-              (subst (λ (z : List (K × ℕ)). Grown t u ms js ms' js' up size size' rows z p ss taken) (sym eh) g)))))
+      (subst (λ (z : List ℕ). Grown t u ms z ms' js' up1 size1 size' rows hs1 p ss taken) (sym ej)
+      (subst (λ (z : ℕ). Grown t u ms js ms' js' z size1 size' rows hs1 p ss taken) (sym eu)
+      (subst (λ (z : ℕ). Grown t u ms js ms' js' up z size' rows hs1 p ss taken) (sym es)
+      (subst (λ (z : List (K × ℕ)). Grown t u ms js ms' js' up size size' rows z p ss taken) (sym eh) g)))))
 
 -- a level whose node became two has a level above it
 pub gain-some : (p : ℕ) (levels : List (List ℕ)) → 1 ≤ length (gain_above (Some p) levels)

@@ -95,7 +95,7 @@ module _ {K V : Type 0} where
       let row : List (LevelNode K ℕ) = q.before ++ node n (q.l ++ x ∷ q.r) ∷ q.after in
       let g = gain_at q.before n q.l x q.r q.after room in
       let w1 = room_at t u ms js js' up size q.before q.l x y q.r q.after q.rest (step moved) (if moved then suc (length a) else length a) d.whole q.entry_is q.stands room w (step_most moved)
-          (j_is ∙ step_is moved (get_or js up 0) ∙ ap (λ z. step moved + z) (sym q.entry_is)) (step_is moved (length a) ∙ ap (λ z. step moved + length z) q.a_is) far in
+      (j_is ∙ step_is moved (get_or js up 0) ∙ ap (λ z. step moved + z) (sym q.entry_is)) (step_is moved (length a) ∙ ap (λ z. step moved + length z) q.a_is) far in
       let gains : gain_above (Some (length (flat q.before ++ q.l))) (map sizes (row ∷ q.rest)) ≡ (sizes q.before ++ suc (length (q.l ++ x ∷ q.r)) ∷ sizes q.after) ∷ map sizes q.rest = ap (λ z. z.1 ∷ gain_above z.0 (map sizes q.rest)) g in
       let needs : need_above (Some (length (flat q.before ++ q.l))) (map sizes (row ∷ q.rest)) ≡ 1 = ap (λ z. suc (need_above z.0 (map sizes q.rest))) g in
       let gains2 : gain_above (Some (length a)) (map sizes rows) ≡ (sizes q.before ++ suc (length (q.l ++ x ∷ q.r)) ∷ sizes q.after) ∷ map sizes q.rest =

@@ -58,8 +58,8 @@ module _ {K : Type 0} (V : Type 0) where
       let i : entry_items ((x ∷ xs) ++ y ∷ ys) ≡ entry_items (x ∷ xs) ++ y.1 ∷ entry_items ys = map-append (λ (w : K × ℕ). w.1) (x ∷ xs) (y ∷ ys) in
       record {
         left_is = c.left_is ∙ ap (λ w. Inner (take (q - 1) w) (take q (entry_items ((x ∷ xs) ++ y ∷ ys)))) k ∙ ap (λ w. Inner w (take q (entry_items ((x ∷ xs) ++ y ∷ ys)))) (take_at (entry_keys xs) (y.0 ∷ entry_keys ys) (q - 1) kl)
-        ∙ ap (λ w. Inner (entry_keys xs) (take q w)) i ∙ ap (λ w. Inner (entry_keys xs) w) (take_at (entry_items (x ∷ xs)) (y.1 ∷ entry_items ys) q il);
+            ∙ ap (λ w. Inner (entry_keys xs) (take q w)) i ∙ ap (λ w. Inner (entry_keys xs) w) (take_at (entry_items (x ∷ xs)) (y.1 ∷ entry_items ys) q il);
         right_is = c.right_is ∙ ap (λ w. Inner (drop q w) (drop q (entry_items ((x ∷ xs) ++ y ∷ ys)))) k ∙ ap (λ w. Inner w (drop q (entry_items ((x ∷ xs) ++ y ∷ ys)))) (drop-behind (entry_keys xs) y.0 (entry_keys ys) q kl2)
-        ∙ ap (λ w. Inner (entry_keys ys) (drop q w)) i ∙ ap (λ w. Inner (entry_keys ys) w) (drop_at (entry_items (x ∷ xs)) (y.1 ∷ entry_items ys) q il);
+            ∙ ap (λ w. Inner (entry_keys ys) (drop q w)) i ∙ ap (λ w. Inner (entry_keys ys) w) (drop_at (entry_items (x ∷ xs)) (y.1 ∷ entry_items ys) q il);
         key_is = some_same key y.0 (sym c.key_is ∙ ap (λ w. slice_get w (q - 1)) k ∙ slice_get_at (entry_keys xs) y.0 (entry_keys ys) (q - 1) kl);
       }

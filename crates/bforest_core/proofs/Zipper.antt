@@ -138,7 +138,6 @@ module _ {K V : Type 0} where
         none_chain = d.2;
       }
 
-
   -- what a call finds on a level of the path
   pub record Spot (t : Table K V) (ms js : List ℕ) (up size : ℕ) (rows : List (List (LevelNode K ℕ))) (a : List (K × ℕ)) (x : K × ℕ) (b : List (K × ℕ)) : Type 0 where
     pub q : Parent ms js up rows a x b

@@ -48,9 +48,28 @@ insert_above-requires g t c κs within =
     let above2 = above_from c.split_here-next.new.pool c.split_here-next.new.pool s2.node s2.node s2.entry s2.entry (suc up) (up + 1) s1.size s2.size h.rest _ _ (length (heads h.before)) refl refl refl up_is c.split_here-next.ensures.size (ap (λ z. heads h.before ++ (h.first.0, z) ∷ heads h.after) here) h.above in
     let gains = gain_halved _ _ _ _ _ _ _ _ _ _ _ _ _ _ _ h in
     let needs = need_halved _ _ _ _ _ _ _ _ _ _ _ _ _ _ _ h in
-    let less : s2.size - (up + 1) < t = omega (arith, c.decreases, low, size_is, c.split_here-next.ensures.size) in
-    (less, (within.0, (within.1, ((λ a m. search rules), (search rules, (search rules, (omega (arith, c.requires.height, size_is, c.split_here-next.ensures.size),
-      (h.rest, heads h.before, h.first.0, heads h.after, above2, omega (arith, needs, w.5, ap (λ z. length z.chain) pool_is, ap length h.chain_is), omega (arith, gains, w.6)))))))))
+    let less : s2.size - (up + 1) < t = omega (arith, c.decreases, low, size_is, c.split_here-next.ensures.size) in (
+      less,
+      (
+        within.0,
+        (
+          within.1,
+          (
+            (λ a m. search rules),
+            (
+              search rules,
+              (
+                search rules,
+                (
+                  omega (arith, c.requires.height, size_is, c.split_here-next.ensures.size),
+                  (h.rest, heads h.before, h.first.0, heads h.after, above2, omega (arith, needs, w.5, ap (λ z. length z.chain) pool_is, ap length h.chain_is), omega (arith, gains, w.6)),
+                ),
+              ),
+            ),
+          ),
+        ),
+      ),
+    )
 
 pub returns-then-not-insert_here : goal.returns-then-not-insert_here
 returns-then-not-insert_here g t c = λ rows a first b p.
@@ -77,7 +96,7 @@ returns-then-not-insert_here g t c = λ rows a first b p.
     let needs = need_halved _ _ _ _ _ _ _ _ _ _ _ _ _ _ _ h in
     let r = c.insert_above.ensures h.rest (heads h.before) h.first.0 (heads h.after) above2 in
     let g2 = grown_from t2 t2 t3 s2.node s2.node s2.entry s2.entry s3.node s3.entry (up + 1) (suc up) s2.size s1.size s3.size h.rest _ _ _ _ r.0 refl refl refl (sym up_is) (sym c.split_here-next.ensures.size)
-        (ap (λ z. heads h.before ++ (h.first.0, z) ∷ (c.split_here-next.result.0, c.split_here-next.result.1) ∷ heads h.after) (sym here)) r.2 in
+    (ap (λ z. heads h.before ++ (h.first.0, z) ∷ (c.split_here-next.result.0, c.split_here-next.result.1) ∷ heads h.after) (sym here)) r.2 in
     let g3 = rise t1 t2 t3 s1.node s1.entry s2.node s2.entry s3.node s3.entry up s1.size s3.size rows _ _ (length a) (length a) _ _ _ _ r.0 above h g2 in
     (c.split_here-next.result.1 ∷ r.0, omega (arith, needs, r.1), grown_from t1 t0 t3 s1.node s0.node s1.entry s0.entry s3.node s3.entry up up s1.size s0.size s3.size rows _ _ _ _ _ (sym pool_is) (sym node_is) (sym entry_is) refl (sym size_is) refl g3)
 
