@@ -1,11 +1,11 @@
 -- Bounds on leaves, on levels and on nodes.
-use Rattle.std.proofs.Common.{◌≡◌, ℕ, zero, suc, ◌+◌, ◌*◌, ◌^◌, ◌≤◌, ◌<◌, ◌-◌, ◌/◌, nat_lt, true, false, Option, Some, None, List, [], ◌∷◌, ◌++◌, map, length, refl, sym, ap, ◌∙◌, inl, inr, subst, length-append, arith, rules}
+use Rattle.std.proofs.Common.{◌≡◌, ℕ, suc, ◌+◌, ◌*◌, ◌^◌, ◌≤◌, ◌<◌, ◌-◌, nat_lt, true, false, Option, Some, None, List, [], ◌∷◌, ◌++◌, map, length, refl, sym, ap, ◌∙◌, inl, inr, subst, length-append, arith}
 use Rattle.std.proofs.lemmas.Bool.{cases_lt}
 use Rattle.std.proofs.Math.Nat.{mul-le-mul_left, pow-succ', pow-le-pow_right}
 use Rattle.std.proofs.lemmas.List.{length-map}
-use Rattle.bforest_core.specs.Levels.{LevelNode, node, flat, heads, sizes, least, FitRow, Stacked, Topped}
+use Rattle.bforest_core.specs.Levels.{LevelNode, node, flat, heads, sizes, FitRow, Stacked, Topped}
 use Rattle.bforest_core.specs.Sizes.{inner_gain, gain_above}
-use Rattle.bforest_core.proofs.LevelRows.{least-le, least-pos}
+use Rattle.bforest_core.proofs.LevelRows.{least-pos}
 
 -- a fit row is seen from above node by node
 pub FitRow-full : {K X : Type 0} (half most : ℕ) → 1 ≤ half → (row : List (LevelNode K X)) → FitRow half most row → length (heads row) ≡ length row

@@ -1,9 +1,9 @@
 -- One entry more in a row: where its node has room, and where it is halved.
-use Rattle.std.proofs.Common.{◌≡◌, ℕ, zero, suc, ◌+◌, ◌-◌, ◌≤◌, ◌<◌, nat_lt, if◌then◌else◌, true, false, Option, Some, None, List, [], ◌∷◌, ◌++◌, length, refl, sym, ap, ◌∙◌, inl, inr, append_assoc, length-append, arith, rules}
+use Rattle.std.proofs.Common.{◌≡◌, ℕ, suc, ◌+◌, ◌-◌, ◌≤◌, ◌<◌, nat_lt, if◌then◌else◌, true, false, Option, Some, None, List, [], ◌∷◌, ◌++◌, length, refl, sym, ap, ◌∙◌, inl, inr, append_assoc, length-append, arith}
 use Rattle.std.proofs.lemmas.Bool.{cases_lt}
-use Rattle.bforest_core.specs.Levels.{LevelNode, node, flat, head_of, heads, sizes, numbers, least, FitRow, Solid}
-use Rattle.bforest_core.specs.Sizes.{inner_gain, past, one_on}
-use Rattle.bforest_core.proofs.LevelRows.{flat-append, heads-append, sizes-append, numbers-append, FitRow-split, FitRow-join}
+use Rattle.bforest_core.specs.Levels.{LevelNode, node, flat, head_of, heads, sizes, FitRow}
+use Rattle.bforest_core.specs.Sizes.{inner_gain, past}
+use Rattle.bforest_core.proofs.LevelRows.{flat-append, heads-append, FitRow-split, FitRow-join}
 
 module _ {K X : Type 0} where
   -- a node's head is that of its first entry

@@ -1,16 +1,16 @@
 -- A full node that is halved, with a new child in one half.
-use Rattle.std.proofs.Common.{◌≡◌, ℕ, zero, suc, ◌+◌, ◌-◌, ◌≤◌, ◌<◌, ◌≢◌, Bool, true, false, nat_lt, if◌then◌else◌, List, [], ◌∷◌, ◌++◌, map, length, drop, set, get_or, slice_get, Some, None, refl, sym, ap, ◌∙◌, subst, append_assoc, length-append, arith, rules}
+use Rattle.std.proofs.Common.{◌≡◌, ℕ, ◌-◌, ◌≤◌, ◌<◌, ◌≢◌, nat_lt, if◌then◌else◌, List, [], ◌∷◌, ◌++◌, length, drop, get_or, slice_get, Some, refl, sym, ap, ◌∙◌, subst, append_assoc, length-append, arith}
 use Rattle.bforest_core.specs.declared.node.SplitOff.{SplitOff}
-use Rattle.bforest_core.specs.Content.{Content, Inner, IsCut, left_half, with_child}
+use Rattle.bforest_core.specs.Content.{Content, IsCut, left_half, with_child}
 use Rattle.bforest_core.specs.Table.{Table, with_node, with_front, front_of, IsUsed, IsFullAt, IsSplitAt}
 use Rattle.bforest_core.specs.Levels.{LevelNode, head_of}
-use Rattle.bforest_core.specs.Place.{inner_content, entry_keys, entry_items, count}
+use Rattle.bforest_core.specs.Place.{inner_content, entry_keys, count}
 use Rattle.std.proofs.Common.{length-set}
-use Rattle.bforest_core.proofs.LevelRows.{head-is, HeadIs}
-use Rattle.bforest_core.proofs.Tables.{count-same, is_used, Puts, puts, Takes, takes, length-with_front}
-use Rattle.bforest_core.proofs.Zipper.{Cut, cut, Spot}
+use Rattle.bforest_core.proofs.LevelRows.{head-is}
+use Rattle.bforest_core.proofs.Tables.{count-same, is_used, puts, Takes, takes, length-with_front}
+use Rattle.bforest_core.proofs.Zipper.{cut, Spot}
 use Rattle.bforest_core.proofs.Grow.{head-grown, halves_left, halves_right}
-use Rattle.bforest_core.proofs.Stored.{Parts, inner_cuts, some_same, with_child_is, key_count, item_count}
+use Rattle.bforest_core.proofs.Stored.{inner_cuts, some_same, with_child_is, key_count, item_count}
 
 -- a list that is cut behind one of its elements
 record Early {A : Type 0} (p : List A) (q : List A) (l : List A) (x : A) (r : List A) : Type 0 where

@@ -1,17 +1,17 @@
 -- A level of which one node was halved, and the path on it.
-use Rattle.std.proofs.Common.{◌≡◌, ℕ, zero, suc, ◌+◌, ◌-◌, ◌≤◌, ◌<◌, ◌≢◌, Bool, true, false, if◌then◌else◌, List, [], ◌∷◌, ◌++◌, map, length, drop, set, get_or, slice_get, Some, None, refl, sym, ap, ◌∙◌, subst, append_assoc, length-append, arith, rules}
+use Rattle.std.proofs.Common.{◌≡◌, ℕ, suc, ◌+◌, ◌-◌, ◌≤◌, ◌<◌, ◌≢◌, Bool, true, false, if◌then◌else◌, List, [], ◌∷◌, ◌++◌, length, get_or, Some, sym, ap, ◌∙◌, subst, append_assoc, length-append, arith}
 use Rattle.std.specs.List.{flat_map}
 use Rattle.std.proofs.lemmas.List.{append-nil}
 use Rattle.bforest_core.specs.Table.{Table}
-use Rattle.bforest_core.specs.Levels.{LevelNode, node, flat, heads, head_of, sizes, numbers, FitRow, Solid, Stacked}
+use Rattle.bforest_core.specs.Levels.{LevelNode, node, flat, heads, sizes, numbers, Stacked}
 use Rattle.bforest_core.specs.Sizes.{inner_gain}
-use Rattle.bforest_core.specs.Place.{RowIn, RowsIn, inner_content, count, Distinct, IsAt, StandsAbove}
-use Rattle.bforest_core.specs.Climb.{Above, Halved, SameBelow}
-use Rattle.bforest_core.proofs.LevelRows.{flat-append, heads-append, sizes-append, FitRow-split, Solid-full}
+use Rattle.bforest_core.specs.Place.{inner_content, count, IsAt}
+use Rattle.bforest_core.specs.Climb.{Halved}
+use Rattle.bforest_core.proofs.LevelRows.{flat-append, heads-append, sizes-append, Solid-full}
 use Rattle.bforest_core.proofs.Tables.{count-append, count-same, count-row, row-halved, rows-same, ne_from_count}
-use Rattle.bforest_core.proofs.Zipper.{Parent, Cut_above, Facts, facts, Spot, stands-same}
+use Rattle.bforest_core.proofs.Zipper.{Spot, stands-same}
 use Rattle.bforest_core.proofs.Grow.{flat-halved, FitRow-halved, gain_full}
-use Rattle.bforest_core.proofs.Room.{step, step_is, step_most}
+use Rattle.bforest_core.proofs.Room.{step_is, step_most}
 use Rattle.bforest_core.proofs.Halving.{Halves}
 
 module _ {K V : Type 0} where

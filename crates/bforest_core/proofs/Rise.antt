@@ -1,17 +1,17 @@
 -- A level whose node became two, and the levels above it.
-use Rattle.std.proofs.Common.{◌≡◌, ℕ, zero, suc, ◌+◌, ◌-◌, ◌≤◌, ◌<◌, ◌≢◌, Bool, true, false, if◌then◌else◌, List, [], ◌∷◌, ◌++◌, map, length, drop, set, get_or, slice_get, Some, None, refl, sym, ap, ◌∙◌, subst, append_assoc, length-append, arith, rules}
+use Rattle.std.proofs.Common.{◌≡◌, ℕ, suc, ◌+◌, ◌≤◌, ◌<◌, ◌≢◌, Bool, if◌then◌else◌, List, [], ◌∷◌, ◌++◌, map, length, get_or, slice_get, Some, refl, sym, ap, ◌∙◌, subst, length-append, arith}
 use Rattle.std.specs.List.{flat_map}
-use Rattle.bforest_core.specs.Content.{Content, Inner}
-use Rattle.bforest_core.specs.Table.{Table, with_front, front_of}
-use Rattle.bforest_core.specs.Levels.{LevelNode, node, flat, heads, head_of, sizes, numbers, FitRow, Solid, Stacked, Topped}
+use Rattle.bforest_core.specs.Content.{Inner}
+use Rattle.bforest_core.specs.Table.{Table}
+use Rattle.bforest_core.specs.Levels.{LevelNode, node, flat, heads, sizes, numbers, Stacked, Topped}
 use Rattle.bforest_core.specs.Sizes.{inner_gain, gain_above, need_above}
-use Rattle.bforest_core.specs.Place.{RowIn, RowsIn, inner_content, count, Distinct, IsAt, StandsAbove}
-use Rattle.bforest_core.specs.Climb.{Above, Grown, Halved, SameBelow}
+use Rattle.bforest_core.specs.Place.{inner_content, count, Distinct, IsAt, StandsAbove}
+use Rattle.bforest_core.specs.Climb.{Above, Grown, Halved}
 use Rattle.bforest_core.proofs.LevelRows.{heads-append, sizes-append}
-use Rattle.bforest_core.proofs.Tables.{count-append, count-same, count-row, row-same, absent_ne, Takes, takes}
-use Rattle.bforest_core.proofs.Zipper.{Spot, Parent}
+use Rattle.bforest_core.proofs.Tables.{count-append, count-row, row-same, absent_ne, Takes}
+use Rattle.bforest_core.proofs.Zipper.{Spot}
 use Rattle.bforest_core.proofs.Grow.{heads-halved, gain_some}
-use Rattle.bforest_core.proofs.Room.{step, step_is, step_most}
+use Rattle.bforest_core.proofs.Room.{step_is, step_most}
 
 module _ {K V : Type 0} where
   -- the need of a level whose node becomes two

@@ -1,15 +1,14 @@
 -- A new child in a node with room.
-use Rattle.std.proofs.Common.{◌≡◌, ℕ, zero, suc, ◌+◌, ◌-◌, ◌≤◌, ◌<◌, ◌≢◌, Bool, true, false, if◌then◌else◌, List, [], ◌∷◌, ◌++◌, map, length, drop, set, get_or, slice_get, Some, None, refl, sym, ap, ◌∙◌, subst, append_assoc, length-append, arith, rules}
+use Rattle.std.proofs.Common.{◌≡◌, ℕ, suc, ◌+◌, ◌≤◌, ◌<◌, ◌≢◌, Bool, true, false, if◌then◌else◌, List, [], ◌∷◌, ◌++◌, map, length, get_or, Some, None, refl, sym, ap, ◌∙◌, subst, append_assoc, length-append, arith}
 use Rattle.std.specs.List.{flat_map}
-use Rattle.bforest_core.specs.Content.{Content}
 use Rattle.bforest_core.specs.Table.{Table}
-use Rattle.bforest_core.specs.Levels.{LevelNode, node, flat, heads, head_of, sizes, numbers, FitRow, Solid, Stacked, Topped}
+use Rattle.bforest_core.specs.Levels.{LevelNode, node, flat, heads, sizes, numbers, Stacked, Topped}
 use Rattle.bforest_core.specs.Sizes.{inner_gain, gain_above, need_above}
-use Rattle.bforest_core.specs.Place.{RowIn, RowsIn, inner_content, count, Distinct, IsAt, StandsAbove}
-use Rattle.bforest_core.specs.Climb.{Above, Grown, SameBelow}
-use Rattle.bforest_core.proofs.LevelRows.{flat-append, heads-append, sizes-append, numbers-append}
-use Rattle.bforest_core.proofs.Tables.{count-append, count-same, count-row, row-put, rows-same, ne_from_count, absent_ne, Puts}
-use Rattle.bforest_core.proofs.Zipper.{Parent, Cut_above, Facts, facts, Spot, stands_here, stands-same}
+use Rattle.bforest_core.specs.Place.{inner_content, count, StandsAbove}
+use Rattle.bforest_core.specs.Climb.{Grown}
+use Rattle.bforest_core.proofs.LevelRows.{flat-append, heads-append, sizes-append}
+use Rattle.bforest_core.proofs.Tables.{count-append, count-row, row-put, rows-same, ne_from_count, absent_ne, Puts}
+use Rattle.bforest_core.proofs.Zipper.{Cut_above, facts, Spot, stands_here, stands-same}
 use Rattle.bforest_core.proofs.Grow.{head-grown, FitRow-put, gain_room}
 
 -- one where the path moved on

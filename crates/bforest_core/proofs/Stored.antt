@@ -1,5 +1,5 @@
 -- Inner nodes as their slots hold them: with one child more, and cut.
-use Rattle.std.proofs.Common.{◌≡◌, ℕ, zero, suc, ◌+◌, ◌-◌, ◌≤◌, ◌<◌, List, [], ◌∷◌, ◌++◌, map, length, take, drop, insert, slice_get, Some, refl, sym, ap, ◌∙◌, append_assoc, length-append, arith, rules}
+use Rattle.std.proofs.Common.{◌≡◌, ℕ, zero, suc, ◌+◌, ◌-◌, List, [], ◌∷◌, ◌++◌, map, length, take, drop, insert, slice_get, Some, refl, sym, ap, ◌∙◌, append_assoc, length-append, arith}
 use Rattle.std.proofs.lemmas.List.{length-map, map-append, take_at, drop_at, length-drop}
 use Rattle.bforest_core.specs.Content.{Content, Inner, IsCut, with_child}
 use Rattle.bforest_core.specs.Place.{inner_content, entry_keys, entry_items}

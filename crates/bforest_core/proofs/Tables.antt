@@ -1,13 +1,13 @@
 -- Counting numbers, and rows that a change of the table leaves as they are.
-use Rattle.std.proofs.Common.{◌≡◌, ℕ, zero, suc, ◌+◌, ◌-◌, ◌≤◌, ◌<◌, ◌≢◌, eqb, cond, true, false, nat_eq, ◌||◌, List, [], ◌∷◌, ◌++◌, map, length, set, slice_get, slice_set, Some, refl, sym, ap, ◌∙◌, subst, inl, inr, append_assoc, length-append, length-set, arith, rules}
+use Rattle.std.proofs.Common.{◌≡◌, ℕ, zero, suc, ◌+◌, ◌<◌, ◌≢◌, false, nat_eq, List, [], ◌∷◌, ◌++◌, length, set, slice_get, Some, refl, sym, ap, ◌∙◌, inl, inr, append_assoc, length-set, arith}
 use Rattle.std.specs.List.{flat_map, list_any}
 use Rattle.std.proofs.lemmas.Bool.Decides.{eqb_tells}
 use Rattle.bforest_core.specs.Content.{Content}
-use Rattle.bforest_core.specs.Table.{Table, with_node, with_front, front_of, IsUsed, slot_count}
+use Rattle.bforest_core.specs.Table.{Table, with_node, with_front, front_of, IsUsed}
 use Rattle.bforest_core.proofs.Lists.{slice_get-set_same}
 use Rattle.std.proofs.lemmas.Option.{slice_get_within}
-use Rattle.bforest_core.specs.Levels.{LevelNode, node, flat, heads, numbers}
-use Rattle.bforest_core.specs.Place.{RowIn, RowsIn, inner_content, count, Distinct}
+use Rattle.bforest_core.specs.Levels.{LevelNode, node, numbers}
+use Rattle.bforest_core.specs.Place.{RowIn, RowsIn, inner_content, count}
 use Rattle.bforest_core.specs.Climb.{Frees}
 use Rattle.bforest_core.proofs.LevelRows.{numbers-append}
 

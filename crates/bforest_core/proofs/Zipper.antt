@@ -1,12 +1,11 @@
 -- The parent of a level's entry on the path: the rows above the level, cut there.
-use Rattle.std.proofs.Common.{◌≡◌, ℕ, zero, suc, ◌+◌, ◌-◌, ◌≤◌, ◌<◌, ◌≢◌, true, false, List, [], ◌∷◌, ◌++◌, map, length, drop, get_or, slice_get, Some, None, refl, sym, ap, ◌∙◌, subst, append_assoc, length-append, arith, rules}
+use Rattle.std.proofs.Common.{◌≡◌, ℕ, zero, suc, ◌+◌, ◌≤◌, ◌<◌, List, [], ◌∷◌, ◌++◌, length, get_or, slice_get, Some, refl, sym, ap, ◌∙◌, subst, append_assoc, length-append, arith}
 use Rattle.std.specs.List.{flat_map}
-use Rattle.bforest_core.specs.Content.{Content, Inner}
 use Rattle.bforest_core.specs.Table.{Table}
-use Rattle.bforest_core.specs.Levels.{LevelNode, node, flat, heads, head_of, sizes, numbers, FitRow, Solid, Stacked}
-use Rattle.bforest_core.specs.Place.{RowIn, RowsIn, inner_content, count, Distinct, IsAt, StandsAbove, entry_keys, entry_items}
+use Rattle.bforest_core.specs.Levels.{LevelNode, node, flat, heads, numbers, FitRow, Solid}
+use Rattle.bforest_core.specs.Place.{RowIn, inner_content, count, Distinct, StandsAbove}
 use Rattle.bforest_core.specs.Climb.{Above}
-use Rattle.bforest_core.proofs.LevelRows.{flat-append, heads-append, FitRow-split, Solid-full}
+use Rattle.bforest_core.proofs.LevelRows.{flat-append, FitRow-split, Solid-full}
 use Rattle.bforest_core.proofs.Tables.{count-append, count-same, count-row, row-split}
 
 -- two ways to cut one list at one place

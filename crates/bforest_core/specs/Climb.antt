@@ -1,7 +1,6 @@
 -- What the calls of a path say of the rows above a level.
 use Rattle.std.specs.Prelude.{◌≡◌, ◌≢◌, ℕ, suc, ◌+◌, ◌-◌, ◌≤◌, ◌<◌, Bool, if◌then◌else◌, List, [], ◌∷◌, ◌++◌, map, length, get_or, slice_get, Some, None, Option}
 use Rattle.std.specs.List.{flat_map}
-use Rattle.bforest_core.specs.Content.{Content}
 use Rattle.bforest_core.specs.Table.{Table}
 use Rattle.bforest_core.specs.Levels.{LevelNode, node, flat, head_of, heads, sizes, numbers, FitRow, Stacked, Topped}
 use Rattle.bforest_core.specs.Sizes.{inner_gain}

@@ -1,10 +1,7 @@
-use Rattle.std.proofs.Common.{rules, ◌≡◌, ℕ, suc, ◌+◌, ◌-◌, ◌<◌, ◌≤◌, ◌≢◌, false, true, if◌then◌else◌, List, [], ◌∷◌, ◌++◌, map, length, get_or, Some, refl, sym, ap, ◌∙◌, subst, arith, add-one}
+use Rattle.std.proofs.Common.{rules, ◌≡◌, suc, ◌+◌, ◌-◌, ◌<◌, [], ◌∷◌, ◌++◌, map, length, get_or, refl, sym, ap, arith}
 use Rattle.std.proofs.lemmas.List.{get_or_default}
-use Rattle.bforest_core.specs.Table.{IsFullAt}
-use Rattle.bforest_core.specs.Levels.{LevelNode, heads, sizes}
-use Rattle.bforest_core.specs.Sizes.{gain_above, need_above}
-use Rattle.bforest_core.specs.Climb.{Above, Grown, Halved}
-use Rattle.bforest_core.proofs.Zipper.{spot, Spot}
+use Rattle.bforest_core.specs.Levels.{heads, sizes}
+use Rattle.bforest_core.proofs.Zipper.{spot}
 use Rattle.bforest_core.proofs.Halving.{full_is}
 use Rattle.bforest_core.proofs.Rise.{rise, need_halved, gain_halved, gain-some, need_full, need_top, above_from, grown_from}
 use Rattle.bforest_core.proofs.path.Path.+insert_above.Goals as goal

@@ -1,11 +1,11 @@
-use Rattle.std.proofs.Common.{rules, ◌≡◌, ℕ, suc, ◌+◌, ◌-◌, ◌<◌, ◌≤◌, ◌≢◌, false, true, List, [], ◌∷◌, ◌++◌, length, drop, set, get_or, slice_get, Some, refl, sym, ap, ◌∙◌, subst, arith, IsTrue, ◌↔◌, Bool, if◌then◌else◌}
+use Rattle.std.proofs.Common.{rules, ◌≡◌, ℕ, ◌<◌, false, true, List, ◌∷◌, ◌++◌, length, drop, set, get_or, slice_get, Some, sym, ap, ◌∙◌, arith, IsTrue, ◌↔◌, Bool, if◌then◌else◌}
 use Rattle.std.proofs.lemmas.Bool.{false≢true}
 use Rattle.std.proofs.lemmas.List.{get_or_default, get_or-set_same, get_or-set_other}
-use Rattle.bforest_core.specs.Content.{Inner, with_child}
-use Rattle.bforest_core.specs.Table.{Table, IsFullAt, with_node}
+use Rattle.bforest_core.specs.Content.{with_child}
+use Rattle.bforest_core.specs.Table.{Table, with_node}
 use Rattle.bforest_core.specs.Place.{inner_content, entry_keys, entry_items}
 use Rattle.bforest_core.proofs.Tables.{is_used, puts, with_node_here}
-use Rattle.bforest_core.proofs.Zipper.{spot, Spot}
+use Rattle.bforest_core.proofs.Zipper.{spot}
 use Rattle.bforest_core.proofs.Stored.{key_count, item_count, with_child_is}
 use Rattle.bforest_core.proofs.Room.{settle_room}
 use Rattle.bforest_core.proofs.path.Path.insert_here.Goals as goal

@@ -1,12 +1,12 @@
-use Rattle.std.proofs.Common.{rules, ◌≡◌, ℕ, suc, ◌+◌, ◌-◌, ◌<◌, ◌≤◌, ◌≢◌, false, true, Bool, if◌then◌else◌, List, [], ◌∷◌, ◌++◌, length, drop, set, get_or, slice_get, Some, refl, sym, ap, ◌∙◌, subst, arith, IsTrue}
+use Rattle.std.proofs.Common.{rules, ◌≡◌, ℕ, true, Bool, if◌then◌else◌, ◌∷◌, ◌++◌, drop, set, get_or, slice_get, Some, refl, sym, ap, ◌∙◌, subst, arith}
 use Rattle.std.proofs.lemmas.List.{get_or_default, get_or-set_same, get_or-set_other}
-use Rattle.bforest_core.specs.Content.{Content, Inner, with_child}
-use Rattle.bforest_core.specs.Table.{Table, IsUsed, IsFullAt, with_node}
+use Rattle.bforest_core.specs.Content.{Content}
+use Rattle.bforest_core.specs.Table.{Table, IsUsed, with_node}
 use Rattle.bforest_core.specs.Place.{inner_content, entry_keys, entry_items}
 use Rattle.bforest_core.proofs.Tables.{is_used}
-use Rattle.bforest_core.proofs.Zipper.{spot, Spot}
+use Rattle.bforest_core.proofs.Zipper.{spot}
 use Rattle.bforest_core.proofs.Stored.{item_count}
-use Rattle.bforest_core.proofs.Halving.{full_is, split_spot, Split, left_asks, right_asks, halves_early, halves_late, Halves}
+use Rattle.bforest_core.proofs.Halving.{full_is, split_spot, left_asks, right_asks, halves_early, halves_late}
 use Rattle.bforest_core.proofs.Parted.{parted_early, parted_late}
 use Rattle.bforest_core.proofs.path.Path.split_here.Goals as goal
 
