@@ -1,8 +1,8 @@
 -- One entry more in a row: where its node has room, and where it is halved.
-use Rattle.std.proofs.Common.{◌≡◌, ℕ, suc, ◌+◌, ◌-◌, ◌≤◌, ◌<◌, nat_lt, if◌then◌else◌, true, false, Option, Some, None, List, [], ◌∷◌, ◌++◌, length, refl, sym, ap, ◌∙◌, inl, inr, append_assoc, length-append, arith}
+use Rattle.std.proofs.Common.{◌≡◌, ◌⊎◌, nat_le, ◌/◌, ℕ, suc, ◌+◌, ◌-◌, ◌≤◌, ◌<◌, nat_lt, if◌then◌else◌, true, false, Option, Some, None, List, [], ◌∷◌, ◌++◌, length, refl, sym, ap, ◌∙◌, inl, inr, append_assoc, length-append, arith}
 use Rattle.std.proofs.lemmas.Bool.{cases_lt}
 use Rattle.bforest_core.specs.Levels.{LevelNode, node, flat, head_of, heads, sizes, FitRow}
-use Rattle.bforest_core.specs.Sizes.{inner_gain, past}
+use Rattle.bforest_core.specs.Sizes.{inner_gain, past, leaf_gain}
 use Rattle.bforest_core.proofs.LevelRows.{flat-append, heads-append, FitRow-split, FitRow-join}
 
 module _ {K X : Type 0} where
@@ -91,3 +91,36 @@ gain_some before s e after low full =
       | inl lt ↦ ap (λ z. z.0) (gain_full before s e 5 4 after low full (halves_left e 5 4 after lt refl refl))
       | inr ge ↦ ap (λ z. z.0) (gain_full before s e 4 5 after low full (halves_right e 4 5 after ge refl refl))
     ]
+
+here_le : (a b : ℕ) → a ≤ b → nat_le a b ≡ true
+here_le a b h = grind arith
+
+past_le : (a b : ℕ) → b < a → nat_le a b ≡ false
+past_le a b h = grind arith
+
+module _ {K X : Type 0} where
+  -- an insertion into a leaf, at its front only in the first one
+  leaf_behind : (most : ℕ) (before : List (LevelNode K X)) (s e : ℕ) (after : List ℕ) → e ≤ s → (before ≡ []) ⊎ (1 ≤ e) → leaf_gain most (length (flat before) + e) (sizes before ++ s ∷ after) ≡ behind before (leaf_gain most e (s ∷ after))
+  leaf_behind most [] s e after low at = let z : 0 + e ≡ e = omega arith in ap (λ w. leaf_gain most w (s ∷ after)) z
+  leaf_behind most (node m es ∷ before) s e after low (inl none) = absurd cc
+  leaf_behind most (node m es ∷ before) s e after low (inr one) =
+      let len : length (flat (node m es ∷ before)) + e ≡ length es + (length (flat before) + e) = omega (arith, length-append es (flat before)) in
+      let a = past_le (length es + (length (flat before) + e)) (length es) (omega arith) in
+      let d : length es + (length (flat before) + e) - length es ≡ length (flat before) + e = omega arith in
+      rw (len, a, d) (ap (λ z. past (length es) z) (leaf_behind most before s e after low (inr one)))
+
+  -- the sizes of the leaves with one more entry, in a leaf with room
+  pub leaf_room : (most : ℕ) (before : List (LevelNode K X)) (s e : ℕ) (after : List ℕ) → e ≤ s → (before ≡ []) ⊎ (1 ≤ e) → s < most → leaf_gain most (length (flat before) + e) (sizes before ++ s ∷ after) ≡ (None, sizes before ++ suc s ∷ after)
+  leaf_room most before s e after low at room =
+      let a = here_le e s low in
+      let b = here_lt s most room in
+      let one : leaf_gain most e (s ∷ after) ≡ (None, suc s ∷ after) = rw (a, b) refl in
+      leaf_behind most before s e after low at ∙ ap (λ z. behind before z) one ∙ behind_none before (suc s ∷ after)
+
+  -- in a full leaf
+  pub leaf_full : (most : ℕ) (before : List (LevelNode K X)) (s e : ℕ) (after : List ℕ) → e ≤ s → (before ≡ []) ⊎ (1 ≤ e) → s ≡ most → leaf_gain most (length (flat before) + e) (sizes before ++ s ∷ after) ≡ (Some (length before), sizes before ++ (most + 1) / 2 ∷ (most + 1) / 2 ∷ after)
+  leaf_full most before s e after low at full =
+      let a = here_le e s low in
+      let b = past_lt s most (omega arith) in
+      let one : leaf_gain most e (s ∷ after) ≡ (Some 0, (most + 1) / 2 ∷ (most + 1) / 2 ∷ after) = rw (a, b) refl in
+      leaf_behind most before s e after low at ∙ ap (λ z. behind before z) one ∙ behind_some before ((most + 1) / 2 ∷ (most + 1) / 2 ∷ after)
