@@ -9,3 +9,8 @@ pub mod Table
 pub mod Chain
 pub mod Lending
 pub mod LendingEntries
+pub mod Levels
+pub mod Sizes
+pub mod Place
+pub mod Climb
+pub mod Trees

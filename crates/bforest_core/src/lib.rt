@@ -5,15 +5,18 @@
 //! limit (`specs/Content.antt`, `specs/Table.antt`); docs/MODEL.md reads these definitions aloud.
 #![tactic(auto)]
 
+mod access;
 mod comparator;
 mod entries;
 mod lent;
 mod node;
 mod number;
+mod path;
 mod pool;
 mod row;
 
 pub use comparator::Comparator;
 pub use node::{NodeData, Removed, SplitOff};
 pub use number::{Node, PackedNode, SetValue};
+pub use path::Path;
 pub use pool::{NodePool, OutOfMemory};

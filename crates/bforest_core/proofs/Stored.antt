@@ -1,0 +1,92 @@
+-- Nodes as their slots hold them: with one child or entry more, and cut.
+use Rattle.std.proofs.Common.{◌≡◌, ℕ, zero, suc, ◌+◌, ◌-◌, List, [], ◌∷◌, ◌++◌, map, length, take, drop, insert, slice_get, Some, refl, sym, ap, ◌∙◌, append_assoc, length-append, arith}
+use Rattle.std.proofs.lemmas.List.{length-map, map-append, take_at, drop_at, length-drop}
+use Rattle.bforest_core.specs.Content.{Content, Inner, Leaf, IsCut, with_child, with_entry}
+use Rattle.bforest_core.specs.Place.{inner_content, leaf_content, entry_keys, entry_items}
+
+pub some_same : {A : Type 0} → (x y : A) → Some x ≡ Some y → x ≡ y
+some_same x y e = cc
+
+pub slice_get_at : {A : Type 0} → (p : List A) (y : A) (ys : List A) (n : ℕ) → length p ≡ n → slice_get (p ++ y ∷ ys) n ≡ Some y
+slice_get_at [] y ys zero e = refl
+slice_get_at [] y ys (suc n) e = absurd (omega (arith, e))
+slice_get_at (z ∷ p) y ys zero e = absurd (omega (arith, e))
+slice_get_at (z ∷ p) y ys (suc n) e = slice_get_at p y ys n (omega (arith, e))
+
+drop-behind : {A : Type 0} (p : List A) (y : A) (ys : List A) (n : ℕ) → suc (length p) ≡ n → drop n (p ++ y ∷ ys) ≡ ys
+drop-behind p y ys n e = ap (λ z. drop n z) (sym (append_assoc p (y ∷ []) ys)) ∙ drop_at (p ++ y ∷ []) ys n (length-append p (y ∷ []) ∙ omega (arith, e))
+
+-- an insertion behind an entry
+insert_after : {X Y : Type 0} (f : X → Y) (l : List X) (x : X) (r : List X) (y : X) → insert (map f (l ++ x ∷ r)) (suc (length l)) (f y) ≡ map f (l ++ x ∷ y ∷ r)
+insert_after f [] x r y = refl
+insert_after f (z ∷ l) x r y = ap (λ w. f z ∷ w) (insert_after f l x r y)
+
+insert_key : {K : Type 0} (l : List (K × ℕ)) (x : K × ℕ) (r : List (K × ℕ)) (y : K × ℕ) → insert (drop 1 (entry_keys (l ++ x ∷ r))) (length l) y.0 ≡ drop 1 (entry_keys (l ++ x ∷ y ∷ r))
+insert_key [] x r y = refl
+insert_key (z ∷ l) x r y = insert_after (λ e. e.0) l x r y
+
+-- an insertion in front of what follows
+insert_at : {X Y : Type 0} (f : X → Y) (l r : List X) (y : X) → insert (map f (l ++ r)) (length l) (f y) ≡ map f (l ++ y ∷ r)
+insert_at f [] r y = refl
+insert_at f (z ∷ l) r y = ap (λ w. f z ∷ w) (insert_at f l r y)
+
+-- how many keys and children
+pub key_count : {K : Type 0} → (es : List (K × ℕ)) → length (drop 1 (entry_keys es)) ≡ length es - 1
+key_count es = length-drop 1 (entry_keys es) ∙ ap (λ z. z - 1) (length-map es (λ w. w.0))
+
+pub item_count : {K X : Type 0} → (es : List (K × X)) → length (entry_items es) ≡ length es
+item_count es = length-map es (λ w. w.1)
+
+-- the two parts of a node that was cut
+pub record Parts {K V X : Type 0} (content : List (K × X) → Content K V) (xs : List (K × X)) (y : K × X) (ys : List (K × X)) (left right : Content K V) (key : K) : Type 0 where
+  pub left_is : left ≡ content xs
+  pub right_is : right ≡ content (y ∷ ys)
+  pub key_is : key ≡ y.0
+
+module _ {K : Type 0} (V : Type 0) where
+  -- a child put in behind another
+  pub with_child_is : (l : List (K × ℕ)) (x : K × ℕ) (r : List (K × ℕ)) (key : K) (child e : ℕ) → length l ≡ e → with_child {V = V} (inner_content (l ++ x ∷ r)) e key child ≡ inner_content (l ++ x ∷ (key, child) ∷ r)
+  with_child_is l x r key child e is =
+      let next : e + 1 ≡ suc (length l) = omega (arith, is) in
+      ap (λ z. Inner (insert (drop 1 (entry_keys (l ++ x ∷ r))) e key) (insert (entry_items (l ++ x ∷ r)) z child)) next
+      ∙ ap (λ z. Inner (insert (drop 1 (entry_keys (l ++ x ∷ r))) z key) (insert (entry_items (l ++ x ∷ r)) (suc (length l)) child)) (sym is)
+      ∙ ap (λ z. Inner z (insert (entry_items (l ++ x ∷ r)) (suc (length l)) child)) (insert_key l x r (key, child))
+      ∙ ap (λ z. Inner (drop 1 (entry_keys (l ++ x ∷ (key, child) ∷ r))) z) (insert_after (λ w. w.1) l x r (key, child))
+
+  -- the parts of a node behind the first so many children
+  pub inner_cuts : (x : K × ℕ) (xs : List (K × ℕ)) (y : K × ℕ) (ys : List (K × ℕ)) (q : ℕ) (left right : Content K V) (key : K) → length (x ∷ xs) ≡ q → IsCut (inner_content ((x ∷ xs) ++ y ∷ ys)) q left key right → Parts inner_content (x ∷ xs) y ys left right key
+  inner_cuts x xs y ys q left right key e c =
+      let kl : length (entry_keys xs) ≡ q - 1 = length-map xs (λ (w : K × ℕ). w.0) ∙ omega (arith, e) in
+      let kl2 : suc (length (entry_keys xs)) ≡ q = ap suc (length-map xs (λ (w : K × ℕ). w.0)) ∙ e in
+      let il : length (entry_items (x ∷ xs)) ≡ q = length-map (x ∷ xs) (λ (w : K × ℕ). w.1) ∙ e in
+      let k : entry_keys (xs ++ y ∷ ys) ≡ entry_keys xs ++ y.0 ∷ entry_keys ys = map-append (λ (w : K × ℕ). w.0) xs (y ∷ ys) in
+      let i : entry_items ((x ∷ xs) ++ y ∷ ys) ≡ entry_items (x ∷ xs) ++ y.1 ∷ entry_items ys = map-append (λ (w : K × ℕ). w.1) (x ∷ xs) (y ∷ ys) in
+      record {
+        left_is = c.left_is ∙ ap (λ w. Inner (take (q - 1) w) (take q (entry_items ((x ∷ xs) ++ y ∷ ys)))) k ∙ ap (λ w. Inner w (take q (entry_items ((x ∷ xs) ++ y ∷ ys)))) (take_at (entry_keys xs) (y.0 ∷ entry_keys ys) (q - 1) kl)
+            ∙ ap (λ w. Inner (entry_keys xs) (take q w)) i ∙ ap (λ w. Inner (entry_keys xs) w) (take_at (entry_items (x ∷ xs)) (y.1 ∷ entry_items ys) q il);
+        right_is = c.right_is ∙ ap (λ w. Inner (drop q w) (drop q (entry_items ((x ∷ xs) ++ y ∷ ys)))) k ∙ ap (λ w. Inner w (drop q (entry_items ((x ∷ xs) ++ y ∷ ys)))) (drop-behind (entry_keys xs) y.0 (entry_keys ys) q kl2)
+            ∙ ap (λ w. Inner (entry_keys ys) (drop q w)) i ∙ ap (λ w. Inner (entry_keys ys) w) (drop_at (entry_items (x ∷ xs)) (y.1 ∷ entry_items ys) q il);
+        key_is = some_same key y.0 (sym c.key_is ∙ ap (λ w. slice_get w (q - 1)) k ∙ slice_get_at (entry_keys xs) y.0 (entry_keys ys) (q - 1) kl);
+      }
+
+  -- an entry put into a leaf
+  pub with_entry_is : (l r : List (K × V)) (key : K) (value : V) (e : ℕ) → length l ≡ e → with_entry (leaf_content (l ++ r)) e key value ≡ leaf_content (l ++ (key, value) ∷ r)
+  with_entry_is l r key value e is =
+      ap (λ z. Leaf (insert (entry_keys (l ++ r)) z key) (insert (entry_items (l ++ r)) z value)) (sym is)
+      ∙ ap (λ z. Leaf z (insert (entry_items (l ++ r)) (length l) value)) (insert_at (λ w. w.0) l r (key, value))
+      ∙ ap (λ z. Leaf (entry_keys (l ++ (key, value) ∷ r)) z) (insert_at (λ w. w.1) l r (key, value))
+
+  -- the parts of a leaf behind the first so many entries
+  pub leaf_cuts : (xs : List (K × V)) (y : K × V) (ys : List (K × V)) (q : ℕ) (left right : Content K V) (key : K) → length xs ≡ q → IsCut (leaf_content (xs ++ y ∷ ys)) q left key right → Parts leaf_content xs y ys left right key
+  leaf_cuts xs y ys q left right key e c =
+      let kl : length (entry_keys xs) ≡ q = length-map xs (λ (w : K × V). w.0) ∙ e in
+      let il : length (entry_items xs) ≡ q = length-map xs (λ (w : K × V). w.1) ∙ e in
+      let k : entry_keys (xs ++ y ∷ ys) ≡ entry_keys xs ++ y.0 ∷ entry_keys ys = map-append (λ (w : K × V). w.0) xs (y ∷ ys) in
+      let i : entry_items (xs ++ y ∷ ys) ≡ entry_items xs ++ y.1 ∷ entry_items ys = map-append (λ (w : K × V). w.1) xs (y ∷ ys) in
+      record {
+        left_is = c.left_is ∙ ap (λ w. Leaf (take q w) (take q (entry_items (xs ++ y ∷ ys)))) k ∙ ap (λ w. Leaf w (take q (entry_items (xs ++ y ∷ ys)))) (take_at (entry_keys xs) (y.0 ∷ entry_keys ys) q kl)
+            ∙ ap (λ w. Leaf (entry_keys xs) (take q w)) i ∙ ap (λ w. Leaf (entry_keys xs) w) (take_at (entry_items xs) (y.1 ∷ entry_items ys) q il);
+        right_is = c.right_is ∙ ap (λ w. Leaf (drop q w) (drop q (entry_items (xs ++ y ∷ ys)))) k ∙ ap (λ w. Leaf w (drop q (entry_items (xs ++ y ∷ ys)))) (drop_at (entry_keys xs) (y.0 ∷ entry_keys ys) q kl)
+            ∙ ap (λ w. Leaf (y.0 ∷ entry_keys ys) (drop q w)) i ∙ ap (λ w. Leaf (y.0 ∷ entry_keys ys) w) (drop_at (entry_items xs) (y.1 ∷ entry_items ys) q il);
+        key_is = some_same key y.0 (sym c.key_is ∙ ap (λ w. slice_get w q) k ∙ slice_get_at (entry_keys xs) y.0 (entry_keys ys) q kl);
+      }

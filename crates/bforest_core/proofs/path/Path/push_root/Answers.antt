@@ -1,0 +1,23 @@
+use Rattle.std.proofs.Common.{◌+◌, ◌<◌, [], ◌∷◌, length, set, ap, ◌∙◌, arith}
+use Rattle.std.proofs.lemmas.List.{get_or-set_same, get_or-set_other}
+use Rattle.bforest_core.specs.Content.{Inner}
+use Rattle.bforest_core.proofs.Tables.{takes, length-with_front}
+use Rattle.bforest_core.proofs.Rise.{settle_root}
+use Rattle.bforest_core.proofs.path.Path.push_root.Goals as goal
+
+pub returns : goal.returns
+returns g c = λ rows a first b p.
+    let ms = c.args.self.now.node in
+    let js = c.args.self.now.entry in
+    let size = c.args.self.now.size in
+    let root = c.inner_node-root.result in
+    let t = c.args.pool.now in
+    let content = Inner (c.args.key ∷ []) (c.args.left ∷ c.args.child ∷ []) in
+    let low : root < length t.nodes = omega (arith, c.inner_node-root.ensures.used.within, ap (λ z. length z.nodes) c.inner_node-root.ensures.table, length-with_front t t.chain content) in
+    settle_root t c.inner_node-root.new.self ms js (set ms size root) (set js size c.index_behind.result) size (size + 1) c.args.left root rows a first b c.args.key c.args.child c.args.moved p
+    (takes t c.inner_node-root.new.self root content c.inner_node-root.ensures.node c.inner_node-root.ensures.table low)
+    (omega arith)
+    (get_or-set_same ms size root 0 (omega arith))
+    (get_or-set_same js size c.index_behind.result 0 (omega arith) ∙ c.index_behind.ensures)
+    (λ i other. get_or-set_other ms size i root 0 other)
+    (λ i other. get_or-set_other js size i c.index_behind.result 0 other)

@@ -1,0 +1,81 @@
+-- What the calls of a path say of the rows above a level.
+use Rattle.std.specs.Prelude.{◌≡◌, ◌≢◌, ℕ, suc, ◌+◌, ◌-◌, ◌≤◌, ◌<◌, Bool, if◌then◌else◌, List, [], ◌∷◌, ◌++◌, map, length, get_or, slice_get, Some, None, Option}
+use Rattle.std.specs.List.{flat_map}
+use Rattle.bforest_core.specs.Table.{Table}
+use Rattle.bforest_core.specs.Levels.{LevelNode, node, flat, head_of, heads, sizes, numbers, FitRow, Stacked, Topped}
+use Rattle.bforest_core.specs.Sizes.{inner_gain}
+use Rattle.bforest_core.specs.Place.{RowIn, RowsIn, inner_content, count, Distinct, IsAt, StandsAbove}
+
+-- the path below a level is as before
+abbrev pub SameBelow : ℕ → List ℕ → List ℕ → Type 0
+SameBelow level old new = (below : ℕ) → below < level → get_or new below 0 ≡ get_or old below 0
+
+-- the number of the root, where so many levels lie on the path
+abbrev pub top_of : List ℕ → ℕ → ℕ
+top_of path size = get_or path (size - 1) 0
+
+-- the entry that comes next, if any
+abbrev pub NextIs : {K : Type 0} → Option (K × ℕ) → List (K × ℕ) → Type 0
+NextIs None rest = rest ≡ []
+NextIs {K} (Some next) rest = (others : List (K × ℕ)) × (rest ≡ next ∷ others)
+
+module _ {K V : Type 0} where
+  -- the rows from a level on stand over these nodes and lie in the table, apart from its chain, and the path goes
+  -- through them to one of the nodes
+  pub record Above (table : Table K V) (path indices : List ℕ) (level size : ℕ) (rows : List (List (LevelNode K ℕ))) (list : List (K × ℕ)) (place : ℕ) : Type 0 where
+    pub stacked : Stacked list rows
+    pub inside : RowsIn table.nodes rows
+    pub stands : StandsAbove path indices level rows place
+    pub height : level + length rows ≡ size
+    pub apart : Distinct (flat_map numbers rows ++ table.chain)
+
+  -- but for the slots of these numbers nothing has changed, and the freed ones are in front of the chain
+  pub record Frees (old new : Table K V) (own freed : List ℕ) : Type 0 where
+    pub others : (number : ℕ) → count number own ≡ 0 → slice_get new.nodes number ≡ slice_get old.nodes number
+    pub chain_is : new.chain ≡ freed ++ old.chain
+    pub slots_are : length new.nodes ≡ length old.nodes
+    pub limit_is : new.limit ≡ old.limit
+
+  -- the rows from a level on after a new node came into the level, whose nodes are the list now and whose path goes to
+  -- the place: the rows have these sizes, and their new numbers are those taken, from the front of the chain
+  pub record Grown (old new : Table K V) (path indices path' indices' : List ℕ) (level size size' : ℕ) (rows : List (List (LevelNode K ℕ))) (list : List (K × ℕ)) (place : ℕ) (sizes_after : List (List ℕ)) (taken : List ℕ) : Type 0 where
+    pub rows' : List (List (LevelNode K ℕ))
+    pub above : Above new path' indices' level size' rows' list place
+    pub topped : (before : List (K × ℕ)) → length before ≤ length list → Topped before rows → Topped list rows'
+    pub sizes_are : map sizes rows' ≡ sizes_after
+    pub numbers_are : (number : ℕ) → count number (flat_map numbers rows') ≡ count number (flat_map numbers rows) + count number taken
+    pub others : (number : ℕ) → count number (flat_map numbers rows) + count number taken ≡ 0 → slice_get new.nodes number ≡ slice_get old.nodes number
+    pub chain_is : old.chain ≡ taken ++ new.chain
+    pub slots_are : length new.nodes ≡ length old.nodes
+    pub limit_is : new.limit ≡ old.limit
+    pub nodes_below : SameBelow level path path'
+    pub entries_below : SameBelow level indices indices'
+
+  -- the path's node on a level was full and became two, with the new child among its entries, which makes this list of
+  -- the level below: the rows above wait for the right half, which has this number and this first key, and the path
+  -- goes to the half of its place
+  pub record Halved (old new : Table K V) (path indices path' indices' : List ℕ) (level size : ℕ) (rows : List (List (LevelNode K ℕ))) (list : List (K × ℕ)) (was place : ℕ) (key : K) (right : ℕ) (moved : Bool) : Type 0 where
+    pub before : List (LevelNode K ℕ)
+    pub entries : List (K × ℕ)
+    pub after : List (LevelNode K ℕ)
+    pub rest : List (List (LevelNode K ℕ))
+    pub first : K × ℕ
+    pub others : List (K × ℕ)
+    pub next : K × ℕ
+    pub more : List (K × ℕ)
+    pub rows_were : rows ≡ (before ++ node (get_or path level 0) entries ∷ after) ∷ rest
+    pub head_is : head_of (get_or path level 0) entries ≡ (first.0, get_or path level 0) ∷ []
+    pub key_is : key ≡ next.0
+    pub flat_is : flat (before ++ node (get_or path level 0) (first ∷ others) ∷ node right (next ∷ more) ∷ after) ≡ list
+    pub fit : FitRow 4 8 (before ++ node (get_or path level 0) (first ∷ others) ∷ node right (next ∷ more) ∷ after)
+    pub inside : RowIn inner_content new.nodes (before ++ node (get_or path level 0) (first ∷ others) ∷ node right (next ∷ more) ∷ after)
+    pub gain_is : inner_gain was (sizes (before ++ node (get_or path level 0) entries ∷ after)) ≡ (Some (length (heads before)), sizes (before ++ node (get_or path level 0) (first ∷ others) ∷ node right (next ∷ more) ∷ after))
+    pub above : Above new path' indices' (suc level) size rest (heads before ++ (first.0, get_or path level 0) ∷ heads after) (length (heads before))
+    pub at : IsAt (before ++ node (get_or path level 0) (first ∷ others) ∷ node right (next ∷ more) ∷ after) (get_or path' level 0) (get_or indices' level 0) place
+    pub at_is : length at.before ≡ (if moved then suc (length (heads before)) else length (heads before))
+    pub slots_same : (number : ℕ) → number ≢ get_or path level 0 → number ≢ right → slice_get new.nodes number ≡ slice_get old.nodes number
+    pub chain_is : old.chain ≡ right ∷ new.chain
+    pub slots_are : length new.nodes ≡ length old.nodes
+    pub limit_is : new.limit ≡ old.limit
+    pub nodes_below : SameBelow level path path'
+    pub entries_below : SameBelow level indices indices'

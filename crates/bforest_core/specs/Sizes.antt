@@ -1,0 +1,90 @@
+-- The sizes of a tree's nodes, level by level, the leaves first: what an insertion and a removal at a place make of them, and how many
+-- nodes an insertion needs. Functions of sizes and a place alone.
+use Rattle.std.specs.Prelude.{ℕ, zero, suc, ◌+◌, ◌*◌, ◌-◌, ◌/◌, nat_lt, nat_le, Bool, true, false, if◌then◌else◌, Option, None, Some, List, [], ◌∷◌}
+
+-- the node after this one in the row
+abbrev pub one_on : Option ℕ → Option ℕ
+one_on None = None
+one_on (Some index) = Some (suc index)
+
+-- a change of one level is the entry of the level above that it concerns, if any, and the sizes after it: this one
+-- lies behind a node of the size
+abbrev pub past : ℕ → Option ℕ × List ℕ → Option ℕ × List ℕ
+past size change = (one_on change.0, size ∷ change.1)
+
+-- an insertion at a place of the leaves, which lies in the left-most leaf such that it and those before it hold at
+-- least as many: a full leaf becomes two
+abbrev pub leaf_gain : ℕ → ℕ → List ℕ → Option ℕ × List ℕ
+leaf_gain most place [] = (None, [])
+leaf_gain most place (size ∷ after) =
+    if nat_le place size then (if nat_lt size most then (None, suc size ∷ after) else (Some 0, (most + 1) / 2 ∷ (most + 1) / 2 ∷ after))
+    else past size (leaf_gain most (place - size) after)
+
+-- a new child behind the child at a place: a full node becomes two, of 5 and 4 children where the place is among its
+-- first 4, else of 4 and 5
+abbrev pub inner_gain : ℕ → List ℕ → Option ℕ × List ℕ
+inner_gain place [] = (None, [])
+inner_gain place (size ∷ after) =
+    if nat_lt place size then (if nat_lt size 8 then (None, suc size ∷ after) else (Some 0, (if nat_lt place 4 then 5 ∷ 4 ∷ after else 4 ∷ 5 ∷ after)))
+    else past size (inner_gain (place - size) after)
+
+-- the levels above one of which this node, if any, became two
+abbrev pub gain_above : Option ℕ → List (List ℕ) → List (List ℕ)
+gain_above None levels = levels
+gain_above (Some place) [] = (2 ∷ []) ∷ []
+gain_above (Some place) (level ∷ levels) =
+    (inner_gain place level).1 ∷ gain_above (inner_gain place level).0 levels
+
+-- the sizes after an insertion at a place, where leaves have at most n
+abbrev pub growth : ℕ → ℕ → List (List ℕ) → List (List ℕ)
+growth n place [] = (1 ∷ []) ∷ []
+growth n place (leaves ∷ levels) = (leaf_gain n place leaves).1 ∷ gain_above (leaf_gain n place leaves).0 levels
+
+-- a node that lost an entry, before these: whether it goes, and the sizes from it on. An empty one goes; one under
+-- half full goes into the next if all fits there, else the two share
+abbrev pub settled : ℕ → ℕ → List ℕ → Bool × List ℕ
+settled most zero after = (true, after)
+settled most (suc left) [] = (false, suc left ∷ [])
+settled most (suc left) (next ∷ after) =
+    if nat_lt (2 * suc left) most then (if nat_le (suc left + next) most then (true, (suc left + next) ∷ after) else (false, ((suc left + next) - (suc left + next) / 2) ∷ (suc left + next) / 2 ∷ after))
+    else (false, suc left ∷ next ∷ after)
+
+-- as a change of the level, at its first node
+abbrev pub this_if : Bool × List ℕ → Option ℕ × List ℕ
+this_if outcome = ((if outcome.0 then Some 0 else None), outcome.1)
+
+-- the entry at a place goes, and with it the node, perhaps
+abbrev pub loss : ℕ → ℕ → List ℕ → Option ℕ × List ℕ
+loss most place [] = (None, [])
+loss most place (size ∷ after) =
+    if nat_lt place size then this_if (settled most (size - 1) after) else past size (loss most (place - size) after)
+
+-- the levels above one of which this node, if any, went
+abbrev pub loss_above : Option ℕ → List (List ℕ) → List (List ℕ)
+loss_above None levels = levels
+loss_above (Some place) [] = []
+loss_above (Some place) (level ∷ levels) = (loss 8 place level).1 ∷ loss_above (loss 8 place level).0 levels
+
+-- the levels up to the first of one node, since a root with a single child goes; none where all leaves went
+abbrev pub trimmed : List (List ℕ) → List (List ℕ)
+trimmed [] = []
+trimmed ([] ∷ levels) = []
+trimmed ((size ∷ []) ∷ levels) = (size ∷ []) ∷ []
+trimmed ((size ∷ next ∷ after) ∷ levels) = (size ∷ next ∷ after) ∷ trimmed levels
+
+-- the sizes after a removal at a place, where leaves have at most n
+abbrev pub shrink : ℕ → ℕ → List (List ℕ) → List (List ℕ)
+shrink n place [] = []
+shrink n place (leaves ∷ levels) = trimmed ((loss n place leaves).1 ∷ loss_above (loss n place leaves).0 levels)
+
+-- how many nodes it takes that this node, if any, becomes two: one for it, one for each above that does too, and one
+-- for a new root
+abbrev pub need_above : Option ℕ → List (List ℕ) → ℕ
+need_above None levels = 0
+need_above (Some place) [] = 2
+need_above (Some place) (level ∷ levels) = suc (need_above (inner_gain place level).0 levels)
+
+-- how many nodes an insertion at a place needs, where leaves have at most n
+abbrev pub need : ℕ → ℕ → List (List ℕ) → ℕ
+need n place [] = 1
+need n place (leaves ∷ levels) = need_above (leaf_gain n place leaves).0 levels
