@@ -2,7 +2,8 @@
 //!
 //! A [`Comparator`] orders keys, which need no order of their own. A [`NodeData`] is a node of a B+-tree or a free slot, a [`NodePool`] a table
 //! of them whose free slots form a chain. Contracts see a node as two lists and a pool as the contents of its slots, its chain and its
-//! limit (`specs/Content.antt`, `specs/Table.antt`); docs/MODEL.md reads these definitions aloud.
+//! limit (`specs/Content.antt`, `specs/Table.antt`). A [`Path`] goes from a leaf of a tree to its root; a tree is seen as its levels, each a
+//! row of nodes (`specs/Levels.antt`). docs/MODEL.md reads these definitions aloud.
 #![tactic(auto)]
 
 mod access;
