@@ -9,18 +9,16 @@ use crate::number::{Node, PackedNode};
 use std::alloc::{AllocError, Global};
 use std::marker::Model;
 
-/// Why no node could be had.
+/// Why no node could be had. The call that answers it changed nothing.
 #[derive(Clone, Copy, Debug, PartialEq, Eq)]
 pub enum OutOfMemory {
-    /// The table could not grow.
+    /// The table had to grow and was allowed to, but the memory for it was refused. The same call may succeed later.
     Memory,
-    /// The limit does not allow so many nodes.
+    /// Fewer nodes can be had than are needed: those that lie free, and those up to the limit, are too few.
     Full,
 }
 
 /// Nodes in one table, each of which is named by its number. The free ones form a chain, which the nodes themselves keep.
-///
-/// Calls that work on a node's content ask that a node takes fewer than 2^63 bytes: where the types are known, the checker computes it.
 #[derive(Drop)]
 pub struct NodePool<K, V, const N: usize> {
     nodes: Vec<NodeData<K, V, N>>,
