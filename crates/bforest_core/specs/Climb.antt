@@ -1,10 +1,10 @@
--- What the calls of a path say of the rows above a level.
-use Rattle.std.specs.Prelude.{◌≡◌, ◌≢◌, ℕ, suc, ◌+◌, ◌-◌, ◌≤◌, ◌<◌, Bool, if◌then◌else◌, List, [], ◌∷◌, ◌++◌, map, length, get_or, slice_get, Some, None, Option}
+-- What the calls of a path say of the rows above a level, and of a whole tree.
+use Rattle.std.specs.Prelude.{◌≡◌, ◌≢◌, ℕ, suc, ◌+◌, ◌-◌, ◌≤◌, ◌<◌, Bool, if◌then◌else◌, List, [], ◌∷◌, ◌++◌, map, length, insert, get_or, slice_get, Some, None, Option}
 use Rattle.std.specs.List.{flat_map}
 use Rattle.bforest_core.specs.Table.{Table}
-use Rattle.bforest_core.specs.Levels.{LevelNode, node, flat, head_of, heads, sizes, numbers, FitRow, Stacked, Topped}
-use Rattle.bforest_core.specs.Sizes.{inner_gain}
-use Rattle.bforest_core.specs.Place.{RowIn, RowsIn, inner_content, count, Distinct, IsAt, StandsAbove}
+use Rattle.bforest_core.specs.Levels.{LevelNode, node, flat, head_of, heads, sizes, numbers, FitRow, Stacked, Topped, Tree, IsFit, half_of, sizes_of}
+use Rattle.bforest_core.specs.Sizes.{inner_gain, leaf_gain, growth, need}
+use Rattle.bforest_core.specs.Place.{RowIn, RowsIn, IsIn, leaf_content, inner_content, count, Distinct, numbers_of, IsAt, StandsAbove, Stands, PlacedAt}
 
 -- the path below a level is as before
 abbrev pub SameBelow : ℕ → List ℕ → List ℕ → Type 0
@@ -79,3 +79,56 @@ module _ {K V : Type 0} where
     pub limit_is : new.limit ≡ old.limit
     pub nodes_below : SameBelow level path path'
     pub entries_below : SameBelow level indices indices'
+
+  -- the path is at a place for an entry in a fit tree, whose leaves have at most so many, and which lies in the table,
+  -- apart from its chain
+  pub record Placed (most : ℕ) (table : Table K V) (path indices : List ℕ) (size : ℕ) (tree : Tree K V) (place : ℕ) : Type 0 where
+    pub fit : IsFit most tree
+    pub inside : IsIn table.nodes tree
+    pub apart : Distinct (numbers_of tree ++ table.chain)
+    pub at : PlacedAt path indices size tree place
+
+  -- the entry came into the tree at the place, where the path stands now: the nodes have the sizes of `growth`, and the
+  -- new ones are those taken from the front of the chain
+  pub record Inserted (most : ℕ) (old new : Table K V) (path' indices' : List ℕ) (size' : ℕ) (tree : Tree K V) (place : ℕ) (entry : K × V) : Type 0 where
+    pub tree' : Tree K V
+    pub taken : List ℕ
+    pub flat_is : flat tree'.leaves ≡ insert (flat tree.leaves) place entry
+    pub sizes_are : sizes_of tree' ≡ growth most place (sizes_of tree)
+    pub fit : IsFit most tree'
+    pub inside : IsIn new.nodes tree'
+    pub stands : Stands path' indices' size' tree' place
+    pub numbers_are : (number : ℕ) → count number (numbers_of tree') ≡ count number (numbers_of tree) + count number taken
+    pub taken_is : length taken ≡ need most place (sizes_of tree)
+    pub others : (number : ℕ) → count number (numbers_of tree) + count number taken ≡ 0 → slice_get new.nodes number ≡ slice_get old.nodes number
+    pub chain_is : old.chain ≡ taken ++ new.chain
+    pub slots_are : length new.nodes ≡ length old.nodes
+    pub limit_is : new.limit ≡ old.limit
+
+  -- the path's leaf was full and became two, with the entry in one: the rows above, under the first keys of now, wait
+  -- for the right half, which has this number and this first key, and the path goes to the half of its place
+  pub record LeafHalved (most : ℕ) (old new : Table K V) (path path' indices' : List ℕ) (size : ℕ) (tree : Tree K V) (place : ℕ) (entry : K × V) (key : K) (right : ℕ) (moved : Bool) : Type 0 where
+    pub before : List (LevelNode K V)
+    pub entries : List (K × V)
+    pub after : List (LevelNode K V)
+    pub rows : List (List (LevelNode K ℕ))
+    pub first : K × V
+    pub others : List (K × V)
+    pub next : K × V
+    pub more : List (K × V)
+    pub leaves_were : tree.leaves ≡ before ++ node (get_or path 0 0) entries ∷ after
+    pub key_is : key ≡ next.0
+    pub flat_is : flat (before ++ node (get_or path 0 0) (first ∷ others) ∷ node right (next ∷ more) ∷ after) ≡ insert (flat tree.leaves) place entry
+    pub fit : FitRow (half_of most) most (before ++ node (get_or path 0 0) (first ∷ others) ∷ node right (next ∷ more) ∷ after)
+    pub inside : RowIn leaf_content new.nodes (before ++ node (get_or path 0 0) (first ∷ others) ∷ node right (next ∷ more) ∷ after)
+    pub gain_is : leaf_gain most place (sizes tree.leaves) ≡ (Some (length (heads before)), sizes (before ++ node (get_or path 0 0) (first ∷ others) ∷ node right (next ∷ more) ∷ after))
+    pub above : Above new path' indices' 1 size rows (heads before ++ (first.0, get_or path 0 0) ∷ heads after) (length (heads before))
+    pub topped : Topped (heads before ++ (first.0, get_or path 0 0) ∷ heads after) rows
+    pub sizes_above : map sizes rows ≡ map sizes tree.above
+    pub numbers_above : flat_map numbers rows ≡ flat_map numbers tree.above
+    pub at : IsAt (before ++ node (get_or path 0 0) (first ∷ others) ∷ node right (next ∷ more) ∷ after) (get_or path' 0 0) (get_or indices' 0 0) place
+    pub at_is : length at.before ≡ (if moved then suc (length (heads before)) else length (heads before))
+    pub slots_same : (number : ℕ) → number ≢ get_or path 0 0 → number ≢ right → slice_get new.nodes number ≡ slice_get old.nodes number
+    pub chain_is : old.chain ≡ right ∷ new.chain
+    pub slots_are : length new.nodes ≡ length old.nodes
+    pub limit_is : new.limit ≡ old.limit

@@ -14,3 +14,5 @@ pub mod Sizes
 pub mod Place
 pub mod Climb
 pub mod Trees
+pub mod Descent
+pub mod Steps

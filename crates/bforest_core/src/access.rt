@@ -1,8 +1,13 @@
 //! Reading and writing one node of a pool, by its number.
 ghost use Rattle.std.specs.Prelude.{◌≡◌, ℕ, ◌<◌, ◌≤◌, ◌↔◌, IsTrue, List, length, slice_get, Some, if◌then◌else◌};
-ghost use Rattle.bforest_core.specs.Content.{Inner, with_child};
+ghost use Rattle.std.specs.List.Sorted.{IsStrictlySortedBy};
+ghost use Rattle.bforest_core.specs.Content.{Inner, with_child, Leaf, with_entry};
+ghost use Rattle.bforest_core.specs.Descent.{child_index};
+ghost use Rattle.bforest_core.specs.Entries.{IsIncreasing, place, value_for};
+ghost use Rattle.bforest_core.specs.Place.{leaf_content};
 ghost use Rattle.bforest_core.specs.Table.{IsUsed, with_node};
 
+use crate::comparator::Comparator;
 use crate::number::Node;
 use crate::pool::NodePool;
 
@@ -20,4 +25,66 @@ pub(crate) fn put_child<K: Copy, V: Copy, const N: usize>(
     ensures node { (keys : List K) (children : List ℕ) → slice_get pool.old.nodes node ≡ Some (Inner keys children) → pool.new ≡ with_node pool.old node (if result then with_child (Inner keys children) index key child else Inner keys children) }
 {
     pool.node_mut(node).try_inner_insert(index, key, child)
+}
+
+// The index of the child to follow, in an inner node with these separators.
+fn index_of_child<K: Copy, C: Comparator<K>>(keys: &[K], key: K, comp: &C) -> usize
+    requires increasing { IsStrictlySortedBy (C.order comp.now) keys.now }
+    ensures value { result ≡ child_index (C.order comp.now) keys.now key }
+    ensures within { result ≤ length keys.now }
+{
+    match comp.search(key, keys) {
+        Ok(index) => index + 1,
+        Err(index) => index,
+    }
+}
+
+// The child of an inner node below which a search for `key` goes on, and its index.
+pub(crate) fn follow<K: Copy, V: Copy, const N: usize, C: Comparator<K>>(
+    pool: &NodePool<K, V, N>,
+    node: Node,
+    key: K,
+    comp: &C,
+) -> (usize, Node)
+    requires inner { (keys : List K) × (children : List ℕ) × (slice_get pool.now.nodes node ≡ Some (Inner keys children)) × IsStrictlySortedBy (C.order comp.now) keys }
+    ensures index { (keys : List K) (children : List ℕ) → slice_get pool.now.nodes node ≡ Some (Inner keys children) → result.0 ≡ child_index (C.order comp.now) keys key }
+    ensures child { (keys : List K) (children : List ℕ) → slice_get pool.now.nodes node ≡ Some (Inner keys children) → slice_get children result.0 ≡ Some result.1 }
+{
+    let (keys, children) = pool.node(node).unwrap_inner();
+    let index = index_of_child(keys, key, comp);
+    (index, children[index])
+}
+
+// The place of `key` among the entries of a leaf, and its value.
+pub(crate) fn look_up<K: Copy, V: Copy, const N: usize, C: Comparator<K>>(
+    pool: &NodePool<K, V, N>,
+    node: Node,
+    key: K,
+    comp: &C,
+) -> (usize, Option<V>)
+    requires leaf { (entries : List (K × V)) × (slice_get pool.now.nodes node ≡ Some (leaf_content entries)) × IsIncreasing (C.order comp.now) entries }
+    ensures place { (entries : List (K × V)) → slice_get pool.now.nodes node ≡ Some (leaf_content entries) → result.0 ≡ place (C.order comp.now) entries key }
+    ensures value { (entries : List (K × V)) → slice_get pool.now.nodes node ≡ Some (leaf_content entries) → result.1 ≡ value_for (C.order comp.now) entries key }
+{
+    let (keys, values) = pool.node(node).unwrap_leaf();
+    match comp.search(key, keys) {
+        Ok(index) => (index, Some(values[index])),
+        Err(index) => (index, None),
+    }
+}
+
+// Puts an entry into a leaf at `index`. Whether there was room.
+pub(crate) fn put_entry<K: Copy, V: Copy, const N: usize>(
+    pool: &mut NodePool<K, V, N>,
+    node: Node,
+    index: usize,
+    key: K,
+    value: V,
+) -> bool
+    requires used { IsUsed pool.old node }
+    requires leaf { (keys : List K) × (vals : List V) × (slice_get pool.old.nodes node ≡ Some (Leaf keys vals)) × (index ≤ length keys) }
+    ensures room { (keys : List K) (vals : List V) → slice_get pool.old.nodes node ≡ Some (Leaf keys vals) → IsTrue result ↔ (length keys < N) }
+    ensures node { (keys : List K) (vals : List V) → slice_get pool.old.nodes node ≡ Some (Leaf keys vals) → pool.new ≡ with_node pool.old node (if result then with_entry (Leaf keys vals) index key value else Leaf keys vals) }
+{
+    pool.node_mut(node).try_leaf_insert(index, key, value)
 }

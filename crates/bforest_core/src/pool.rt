@@ -207,6 +207,7 @@ impl<K: Copy, V: Copy, const N: usize> NodePool<K, V, N> {
         ensures node { front_of self.old.chain ≡ Some result.0 }
         ensures split { IsSplitAt N self.old left insert_index result.1 self.new }
         ensures used { IsUsed self.new result.0 }
+        ensures capacity { IsLeafCapacity N }
     {
         let right = self.take_slot();
         let (rhs, lhs) = two_nodes(

@@ -1,0 +1,194 @@
+-- Lists of entries that increase, cut in parts, and where a key lies among them.
+use Rattle.std.proofs.Common.{◌≡◌, ◌≢◌, ℕ, zero, suc, ◌+◌, ◌≤◌, ◌<◌, ◌⊎◌, inl, inr, Bool, true, false, cond, if◌then◌else◌, List, [], ◌∷◌, ◌++◌, length, slice_get, Option, Some, None, refl, sym, ap, subst, ◌∙◌, arith, length-append}
+use Rattle.std.proofs.lemmas.List.Sums.{sum_by-cons, sum_by-append}
+use Rattle.std.proofs.lemmas.Cmp.{alike_right}
+use Rattle.std.specs.Cmp.{IsTotalOrder}
+use Rattle.std.specs.List.Sorted.{IsStrictlySortedBy}
+use Rattle.std.specs.List.{AllByRecursion}
+use Rattle.std.specs.Map.{keys_of}
+use Rattle.std.specs.Option.{is_some, option_and_then, option_map}
+use Rattle.std.specs.Ordering.{is_eq, is_lt, ordering_reverse}
+use Rattle.std.specs.declared.cmp.Ordering.{Ordering}
+use Rattle.std.specs.declared.cmp.Ordering.TheVariants.{Less, Equal, Greater}
+use Rattle.bforest_core.specs.Search.{count_less, is_equal_at}
+use Rattle.bforest_core.specs.Entries.{IsIncreasing, place, entry_for, is_present, value_for}
+use Rattle.bforest_core.specs.Descent.{child_index, IsFrom, IsUpTo, GoesThrough}
+use Rattle.bforest_core.proofs.Searched.{count_less-yes, count_less-no}
+use Rattle.bforest_core.proofs.Ordered.{place-later, place-here}
+use Rattle.bforest_core.proofs.Found.{place-present}
+use Rattle.bforest_core.proofs.Lists.{slice_get-append-add}
+
+-- a property of all keys, over a list in two parts
+pub all_split : {K X : Type 0} (P : K → Type 0) (xs ys : List (K × X)) → AllByRecursion P (keys_of (xs ++ ys)) → AllByRecursion P (keys_of xs) × AllByRecursion P (keys_of ys)
+all_split P [] ys h = (tt, h)
+all_split P (x ∷ xs) ys h = let r = all_split P xs ys h.1 in ((h.0, r.0), r.1)
+
+module _ {K : Type 0} (cmp : K → K → Ordering) (o : IsTotalOrder cmp) where
+  -- less than one that is not greater
+  pub less_from : (p q k : K) → cmp p q ≡ Less → cmp q k ≢ Greater → cmp p k ≡ Less
+  less_from p q k l ng = go (cmp q k) refl
+    where
+      go : (r : Ordering) → cmp q k ≡ r → cmp p k ≡ Less
+      go Less t = o.trans p q k l t
+      go Equal t = sym (alike_right o q k p t) ∙ l
+      go Greater t = absurd (ng t)
+
+  -- greater than one that is greater
+  pub greater_from : (p q k : K) → cmp p q ≡ Less → cmp p k ≡ Greater → cmp q k ≡ Greater
+  greater_from p q k l t =
+      let kp : cmp k p ≡ Less = o.antisymm k p ∙ ap ordering_reverse t in
+      o.antisymm q k ∙ ap ordering_reverse (o.trans k p q kp l)
+
+  -- greater than one that is equal
+  pub greater_next : (p q k : K) → cmp p q ≡ Less → cmp p k ≡ Equal → cmp q k ≡ Greater
+  greater_next p q k l t =
+      let kq : cmp k q ≡ Less = sym (o.congr p k q t) ∙ l in
+      o.antisymm q k ∙ ap ordering_reverse kq
+
+  -- all less
+  pub all_less : (q k : K) (ps : List K) → AllByRecursion (λ p. cmp p q ≡ Less) ps → cmp q k ≢ Greater → AllByRecursion (λ p. cmp p k ≡ Less) ps
+  all_less q k [] h ng = tt
+  all_less q k (p ∷ ps) h ng = (less_from p q k h.0 ng, all_less q k ps h.1 ng)
+
+  module _ {X : Type 0} where
+    -- the two parts increase, and each key of the first is less than that of an entry behind it
+    pub increasing_split : (xs ys : List (K × X)) → IsIncreasing cmp (xs ++ ys) → IsIncreasing cmp xs × IsIncreasing cmp ys
+    unfolding IsStrictlySortedBy
+    increasing_split [] ys h = (tt, h)
+    increasing_split (x ∷ xs) ys h =
+        let r = increasing_split xs ys h.1 in
+        ((((all_split (λ k. cmp x.0 k ≡ Less) xs ys h.0).0, r.0)), r.1)
+
+    pub all_before : (xs : List (K × X)) (y : K × X) (ys : List (K × X)) → IsIncreasing cmp (xs ++ y ∷ ys) → AllByRecursion (λ k. cmp k y.0 ≡ Less) (keys_of xs)
+    unfolding IsStrictlySortedBy
+    all_before [] y ys h = tt
+    all_before (x ∷ xs) y ys h = ((all_split (λ k. cmp x.0 k ≡ Less) xs (y ∷ ys) h.0).1.0, all_before xs y ys h.1)
+
+    pub increasing_rest : (x : K × X) (xs : List (K × X)) → IsIncreasing cmp (x ∷ xs) → IsIncreasing cmp xs
+    unfolding IsStrictlySortedBy
+    increasing_rest x xs h = h.1
+
+    -- the place of a key in two parts
+    pub place-append : (xs ys : List (K × X)) (k : K) → place cmp (xs ++ ys) k ≡ place cmp xs k + place cmp ys k
+    place-append xs ys k = sum_by-append (λ (y : K × X). cond (is_lt (cmp y.0 k)) 1 0) xs ys
+
+    -- behind a list whose keys are all less
+    pub place_all : (xs : List (K × X)) (k : K) → AllByRecursion (λ p. cmp p k ≡ Less) (keys_of xs) → place cmp xs k ≡ length xs
+    place_all [] k h = refl
+    place_all (x ∷ xs) k h = place-later cmp o x xs k h.0 ∙ ap suc (place_all xs k h.1)
+
+    -- in front of one whose first key is greater
+    pub place_none : (xs : List (K × X)) (k : K) → IsIncreasing cmp xs → AllByRecursion (λ p. cmp p k ≡ Greater) (keys_of xs) → place cmp xs k ≡ 0
+    place_none [] k i h = refl
+    place_none (x ∷ xs) k i h = place-here cmp o x xs k i (ap is_lt h.0)
+
+    -- never past the end
+    pub place-le : (xs : List (K × X)) (k : K) → place cmp xs k ≤ length xs
+    place-le [] k = omega arith
+    place-le (x ∷ xs) k =
+        go (is_lt (cmp x.0 k)) (sum_by-cons (λ (y : K × X). cond (is_lt (cmp y.0 k)) 1 0) x xs) (place-le xs k)
+      where
+        go : (b : Bool) → place cmp (x ∷ xs) k ≡ cond b 1 0 + place cmp xs k → place cmp xs k ≤ length xs → place cmp (x ∷ xs) k ≤ length (x ∷ xs)
+        go true s le = omega (arith, s, le)
+        go false s le = omega (arith, s, le)
+
+    -- what a search at a place within the first part finds, where all behind it is greater
+    abbrev pub test_at : List (K × X) → K → ℕ → Option (K × X)
+    test_at es k i = option_and_then (λ e. if is_eq (cmp e.0 k) then Some e else None) (slice_get es i)
+
+    pub test_past : (ys : List (K × X)) (k : K) → AllByRecursion (λ p. cmp p k ≡ Greater) (keys_of ys) → test_at ys k 0 ≡ None
+    test_past [] k h = refl
+    test_past (y ∷ ys) k h = ap (λ r. if is_eq r then Some y else None) h.0
+
+    pub test_front : (xs ys : List (K × X)) (k : K) (i : ℕ) → i ≤ length xs → AllByRecursion (λ p. cmp p k ≡ Greater) (keys_of ys) → test_at (xs ++ ys) k i ≡ test_at xs k i
+    test_front [] ys k zero le h = test_past ys k h
+    test_front [] ys k (suc i) le h = absurd (omega (arith, le))
+    test_front (x ∷ xs) ys k zero le h = refl
+    test_front (x ∷ xs) ys k (suc i) le h = test_front xs ys k i (omega (arith, le)) h
+
+    -- a list in three parts: the keys of the first are less, and those of the last greater
+    module _ (xs es ys : List (K × X)) (k : K) (increasing : IsIncreasing cmp ys) (low : AllByRecursion (λ p. cmp p k ≡ Less) (keys_of xs)) (high : AllByRecursion (λ p. cmp p k ≡ Greater) (keys_of ys)) where
+      pub place_between : place cmp (xs ++ (es ++ ys)) k ≡ length xs + place cmp es k
+      place_between =
+          omega (arith, place-append xs (es ++ ys) k, place-append es ys k, place_all xs k low, place_none ys k increasing high)
+
+      pub entry_between : entry_for cmp (xs ++ (es ++ ys)) k ≡ entry_for cmp es k
+      entry_between =
+          ap (λ i. test_at (xs ++ (es ++ ys)) k i) place_between
+          ∙ ap (λ e. option_and_then (λ e. if is_eq (cmp e.0 k) then Some e else None) e) (slice_get-append-add xs (es ++ ys) (place cmp es k))
+          ∙ test_front es ys k (place cmp es k) (place-le es k) high
+
+    -- a first key that is not greater: its place is not the first, or it is present
+    pub first_passed : (e : K × X) (es : List (K × X)) (k : K) → IsIncreasing cmp (e ∷ es) → cmp e.0 k ≢ Greater → is_present cmp (e ∷ es) k ≡ false → place cmp (e ∷ es) k ≢ 0
+    first_passed e es k i ng absent = go (cmp e.0 k) refl
+      where
+        go : (r : Ordering) → cmp e.0 k ≡ r → place cmp (e ∷ es) k ≢ 0
+        go Less t = λ z. omega (arith, z, place-later cmp o e es k t)
+        go Equal t = λ z.
+            let p : is_present cmp (e ∷ es) k ≡ true = ap (λ n. is_some (test_at (e ∷ es) k n)) z ∙ ap (λ r. is_some (if is_eq r then Some e else None)) t in
+            let bad : true ≡ false = sym p ∙ absent in absurd (cc)
+        go Greater t = absurd (ng t)
+
+  -- all keys of an increasing list are greater where the first is
+  pub all_greater : {X : Type 0} (ys : List (K × X)) (k : K) → IsIncreasing cmp ys → ((y : K × X) (c : List (K × X)) → ys ≡ y ∷ c → cmp y.0 k ≡ Greater) → AllByRecursion (λ p. cmp p k ≡ Greater) (keys_of ys)
+  unfolding IsStrictlySortedBy
+  all_greater [] k i h = tt
+  all_greater (y ∷ ys) k i h = (h y ys refl, go (keys_of ys) i.0)
+    where
+      go : (ks : List K) → AllByRecursion (λ q. cmp y.0 q ≡ Less) ks → AllByRecursion (λ p. cmp p k ≡ Greater) ks
+      go [] a = tt
+      go (q ∷ ks) a = (greater_from y.0 q k a.0 (h y ys refl), go ks a.1)
+
+  -- no key is counted where all are greater
+  count_none : (ks : List K) (k : K) → AllByRecursion (λ p. cmp p k ≡ Greater) ks → count_less cmp ks k ≡ 0
+  count_none [] k h = refl
+  count_none (x ∷ ks) k h = count_less-no cmp x ks k (ap is_lt h.0) ∙ count_none ks k h.1
+
+  -- where a search among separators divides them
+  pub record Sides {X : Type 0} (es : List (K × X)) (k : K) (i : ℕ) : Type 0 where
+    pub l : List (K × X)
+    pub r : List (K × X)
+    pub es_is : es ≡ l ++ r
+    pub i_is : length l ≡ i
+    pub low : AllByRecursion (λ p. cmp p k ≢ Greater) (keys_of l)
+    pub high : AllByRecursion (λ p. cmp p k ≡ Greater) (keys_of r)
+
+  child_at : (ks : List K) (k : K) (n : ℕ) (b : Bool) → count_less cmp ks k ≡ n → is_equal_at cmp ks k n ≡ b → child_index cmp ks k ≡ (if b then suc n else n)
+  child_at ks k n b c e = λ j. if ((ap (is_equal_at cmp ks k) c ∙ e) j) then suc (c j) else c j
+
+  no_greater : (p k : K) (r : Ordering) → cmp p k ≡ r → (r ≡ Greater → ⊥) → cmp p k ≢ Greater
+  no_greater p k r t n = λ g. n (sym t ∙ g)
+
+  pub sides : {X : Type 0} (es : List (K × X)) (k : K) → IsIncreasing cmp es → Sides es k (child_index cmp (keys_of es) k)
+  unfolding IsStrictlySortedBy
+  sides [] k h = record { l = []; r = []; es_is = refl; i_is = refl; low = tt; high = tt }
+  sides {X} (e ∷ es) k h = go (cmp e.0 k) refl (sides es k h.1)
+    where
+      ks : List K
+      ks = keys_of es
+
+      after : cmp e.0 k ≡ Equal → (qs : List K) → AllByRecursion (λ q. cmp e.0 q ≡ Less) qs → AllByRecursion (λ p. cmp p k ≡ Greater) qs
+      after t [] a = tt
+      after t (q ∷ qs) a = (greater_next e.0 q k a.0 t, after t qs a.1)
+
+      past : cmp e.0 k ≡ Greater → (qs : List K) → AllByRecursion (λ q. cmp e.0 q ≡ Less) qs → AllByRecursion (λ p. cmp p k ≡ Greater) qs
+      past t [] a = tt
+      past t (q ∷ qs) a = (greater_from e.0 q k a.0 t, past t qs a.1)
+
+      shifted : (n : ℕ) (b : Bool) → is_equal_at cmp ks k n ≡ b → count_less cmp ks k ≡ n → count_less cmp (e.0 ∷ ks) k ≡ suc n → child_index cmp (e.0 ∷ ks) k ≡ suc (child_index cmp ks k)
+      shifted n true q c s = child_at (e.0 ∷ ks) k (suc n) true s q ∙ ap suc (sym (child_at ks k n true c q))
+      shifted n false q c s = child_at (e.0 ∷ ks) k (suc n) false s q ∙ ap suc (sym (child_at ks k n false c q))
+
+      go : (r : Ordering) → cmp e.0 k ≡ r → Sides es k (child_index cmp ks k) → Sides (e ∷ es) k (child_index cmp (e.0 ∷ ks) k)
+      go Less t s =
+          let n = count_less cmp ks k in
+          let up = shifted n (is_equal_at cmp ks k n) refl refl (count_less-yes cmp e.0 ks k (ap is_lt t)) in
+          record { l = e ∷ s.l; r = s.r; es_is = ap (λ z. e ∷ z) s.es_is; i_is = ap suc s.i_is ∙ sym up; low = (no_greater e.0 k Less t (λ x. absurd (cc)), s.low); high = s.high }
+      go Equal t s =
+          let none : count_less cmp (e.0 ∷ ks) k ≡ 0 = count_less-no cmp e.0 ks k (ap is_lt t) ∙ count_none ks k (after t ks h.0) in
+          let at = child_at (e.0 ∷ ks) k 0 true none (ap is_eq t) in
+          record { l = e ∷ []; r = es; es_is = refl; i_is = sym at; low = (no_greater e.0 k Equal t (λ x. absurd (cc)), tt); high = after t ks h.0 }
+      go Greater t s =
+          let none : count_less cmp (e.0 ∷ ks) k ≡ 0 = count_less-no cmp e.0 ks k (ap is_lt t) ∙ count_none ks k (past t ks h.0) in
+          let at = child_at (e.0 ∷ ks) k 0 false none (ap is_eq t) in
+          record { l = []; r = e ∷ es; es_is = refl; i_is = sym at; low = tt; high = (t, past t ks h.0) }

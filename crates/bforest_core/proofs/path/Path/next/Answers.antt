@@ -1,0 +1,28 @@
+use Rattle.std.proofs.Common.{rules, ◌≡◌, ◌≢◌, ℕ, suc, ◌+◌, ◌<◌, ◌≤◌, IsTrue, false, true, List, [], ◌∷◌, ◌++◌, length, get_or, slice_get, Some, None, refl, sym, ap, subst, ◌∙◌, arith}
+use Rattle.std.proofs.lemmas.Bool.{false≢true}
+use Rattle.std.proofs.lemmas.Option.{slice_get_past}
+use Rattle.bforest_core.specs.Levels.{heads, flat}
+use Rattle.bforest_core.proofs.Descent.{some_leaf}
+use Rattle.bforest_core.proofs.Entered.{leaf_slot, over_leaves, entry_is, entry_within, entry_over, entry_last}
+use Rattle.bforest_core.proofs.path.Path.next.Goals as goal
+
+pub entry_here-requires : goal.entry_here-requires
+entry_here-requires g c =
+    let w = c.requires.stands (λ e. omega (arith, e, c.if-self-eq0.false)) in
+    let s = c.next_entry.ensures.moved c.if-next_entry.true w.0 w.1 w.2 w.3 w.4 in
+    (search rules, (search rules, (s.leaf.entries, leaf_slot g.row.N (some_leaf _ c.requires.capacity) c.args.pool.now.nodes c.next_entry.new.self.node c.next_entry.new.self.entry c.args.self.now.size w.0 (suc w.1) w.2 w.3 s, s.leaf.within)))
+
+pub returns-then-next_entry-clause-value : goal.returns-then-next_entry-clause-value
+returns-then-next_entry-clause-value g c = λ some tree place fit inside s0.
+    let s = c.next_entry.ensures.moved c.if-next_entry.true tree place fit inside s0 in
+    sym (entry_is g.row.N (some_leaf _ c.requires.capacity) c.args.pool.now.nodes c.next_entry.new.self.node c.next_entry.new.self.entry c.args.self.now.size tree (suc place) fit inside s (Some c.entry_here.result) (c.entry_here.ensures s.leaf.entries (leaf_slot g.row.N (some_leaf _ c.requires.capacity) c.args.pool.now.nodes c.next_entry.new.self.node c.next_entry.new.self.entry c.args.self.now.size tree (suc place) fit inside s)))
+
+pub returns-then-next_entry-clause-moved : goal.returns-then-next_entry-clause-moved
+returns-then-next_entry-clause-moved g c = λ some tree place fit inside s0.
+    let s = c.next_entry.ensures.moved c.if-next_entry.true tree place fit inside s0 in
+    record { leaf = s.leaf; above = s.above; size_is = c.next_entry.ensures.size ∙ s.size_is }
+
+pub returns-else-next_entry-clause-value : goal.returns-else-next_entry-clause-value
+returns-else-next_entry-clause-value g c = λ some tree place fit inside s0.
+    let last = c.next_entry.ensures.last c.if-next_entry.false tree place fit inside s0 in
+    sym (slice_get_past (flat tree.leaves) (suc place) (omega (arith, last)))

@@ -1,0 +1,50 @@
+use Rattle.std.proofs.Common.{rules, ◌≡◌, ◌∷◌, ◌++◌, map, length, get_or, refl, sym, ap, arith}
+use Rattle.std.proofs.lemmas.List.{get_or_default}
+use Rattle.bforest_core.specs.Levels.{heads, sizes}
+use Rattle.bforest_core.proofs.Rise.{above_from, grown_from}
+use Rattle.bforest_core.proofs.LeafSpot.{leaf_spot}
+use Rattle.bforest_core.proofs.LeafHalving.{leaf_full_is}
+use Rattle.bforest_core.proofs.LeafParted.{need_leaf, gain_leaf, inserted}
+use Rattle.bforest_core.proofs.Needs.{leaf_need_full, need_pos}
+use Rattle.bforest_core.proofs.path.Path.split_leaf.Goals as goal
+
+pub halve_leaf-half-requires : goal.halve_leaf-half-requires
+halve_leaf-half-requires g c =
+    let w = c.requires.placed in
+    let ms = c.args.self.now.node in
+    let d = leaf_spot _ _ _ _ _ w.0 w.1 w.2 in
+    let full = leaf_full_is _ _ (get_or ms 0 0) (d.l ++ d.r) d.slot_is c.requires.full in
+    let needs = leaf_need_full _ _ _ _ w.0 w.1 d full in
+    (search rules, (search rules, (omega (arith, w.3, needs, need_pos (length d.before) (map sizes w.0.above)), (c.requires.full, (w.0, w.1, w.2)))))
+
+pub insert_above-requires : goal.insert_above-requires
+insert_above-requires g c =
+    let w = c.requires.placed in
+    let s0 = c.args.self.now in
+    let s1 = c.halve_leaf-half.new.self in
+    let t1 = c.halve_leaf-half.new.pool in
+    let h = c.halve_leaf-half.ensures.halved w.0 w.1 w.2 in
+    let here : get_or s0.node 0 c.index-self-0.result ≡ get_or s0.node 0 0 = get_or_default s0.node 0 c.index-self-0.result 0 (omega (arith)) in
+    let above = above_from t1 t1 s1.node s1.node s1.entry s1.entry 1 1 s0.size s1.size h.rows _ _ (length (heads h.before)) refl refl refl refl c.halve_leaf-half.ensures.size (ap (λ z. heads h.before ++ (h.first.0, z) ∷ heads h.after) here) h.above in
+    let needs = need_leaf _ _ _ _ _ _ _ _ _ _ _ _ _ h in
+    let gains = gain_leaf _ _ _ _ _ _ _ _ _ _ _ _ _ h in
+    (search rules, (search rules, (omega (arith, c.requires.height, c.halve_leaf-half.ensures.size), (h.rows, heads h.before, h.first.0, heads h.after, above, omega (arith, needs, w.3, ap length h.chain_is), omega (arith, ap length gains, w.4)))))
+
+pub returns : goal.returns
+returns g c = record {
+  inserted = λ tree place p.
+      let s0 = c.args.self.now in
+      let s1 = c.halve_leaf-half.new.self in
+      let s2 = c.insert_above.new.self in
+      let t0 = c.args.pool.now in
+      let t1 = c.halve_leaf-half.new.pool in
+      let t2 = c.insert_above.new.pool in
+      let half = c.halve_leaf-half.result in
+      let h = c.halve_leaf-half.ensures.halved tree place p in
+      let here : get_or s0.node 0 c.index-self-0.result ≡ get_or s0.node 0 0 = get_or_default s0.node 0 c.index-self-0.result 0 (omega arith) in
+      let above = above_from t1 t1 s1.node s1.node s1.entry s1.entry 1 1 s0.size s1.size h.rows _ _ (length (heads h.before)) refl refl refl refl c.halve_leaf-half.ensures.size (ap (λ z. heads h.before ++ (h.first.0, z) ∷ heads h.after) here) h.above in
+      let r = c.insert_above.ensures h.rows (heads h.before) h.first.0 (heads h.after) above in
+      let g2 = grown_from t1 t1 t2 s1.node s1.node s1.entry s1.entry s2.node s2.entry 1 1 s1.size s0.size s2.size h.rows _ _ _ _ r.0 refl refl refl refl (sym c.halve_leaf-half.ensures.size)
+      (ap (λ z. heads h.before ++ (h.first.0, z) ∷ (half.0, half.1) ∷ heads h.after) (sym here)) r.2 in
+      inserted _ t0 t1 t2 s0.node s0.entry s1.node s1.entry s2.node s2.entry s0.size s2.size tree place _ _ _ _ r.0 p h r.1 g2;
+}

@@ -1,0 +1,99 @@
+-- Going down a tree: what lies below some of its nodes, and where a path stands there.
+use Rattle.std.specs.Prelude.{◌≡◌, ◌≢◌, ℕ, suc, ◌+◌, ◌≤◌, ◌<◌, true, false, if◌then◌else◌, List, [], ◌∷◌, ◌++◌, length, get_or, slice_get, Some}
+use Rattle.std.specs.declared.cmp.Ordering.{Ordering}
+use Rattle.std.specs.declared.cmp.Ordering.TheVariants.{Greater}
+use Rattle.bforest_core.specs.Content.{Content}
+use Rattle.bforest_core.specs.Search.{count_less, is_equal_at}
+use Rattle.bforest_core.specs.Entries.{IsIncreasing, place, is_present}
+use Rattle.bforest_core.specs.Levels.{LevelNode, node, flat, heads, FitRow, half_of, Tree, IsFit}
+use Rattle.bforest_core.specs.Place.{RowIn, RowsIn, leaf_content, IsAt, IsIn, root_of, StandsAbove}
+
+-- the path above a level is as before
+abbrev pub SameAbove : ℕ → List ℕ → List ℕ → Type 0
+SameAbove level old new = (above : ℕ) → level < above → get_or new above 0 ≡ get_or old above 0
+
+module _ {K : Type 0} where
+  -- the rows over a level whose nodes are listed, up to a level whose nodes are the top: each row's entries are the
+  -- nodes of the row below
+  abbrev pub StackedTo : List (K × ℕ) → List (List (LevelNode K ℕ)) → List (K × ℕ) → Type 0
+  StackedTo list [] top = list ≡ top
+  StackedTo list (row ∷ rows) top = (flat row ≡ list) × FitRow 4 8 row × StackedTo (heads row) rows top
+
+  -- where a path stands on these rows from a level on: each node is the entry above it, the lowest entry is at the
+  -- place, and the highest node is this one of its level
+  abbrev pub StandsTo : List ℕ → List ℕ → ℕ → List (List (LevelNode K ℕ)) → ℕ → ℕ → Type 0
+  StandsTo path indices level [] place top = place ≡ top
+  StandsTo path indices level (row ∷ rows) place top =
+      (at : IsAt row (get_or path level 0) (get_or indices level 0) place) × StandsTo path indices (suc level) rows (length at.before) top
+
+module _ {K : Type 0} (cmp : K → K → Ordering) where
+  -- the child to follow among separators: behind all that are not greater than the key
+  abbrev pub child_index : List K → K → ℕ
+  child_index keys key =
+      if is_equal_at cmp keys key (count_less cmp keys key) then suc (count_less cmp keys key) else count_less cmp keys key
+
+  -- the key is not less than the first key of a node, unless the node is the first of its level
+  abbrev pub IsFrom : List (K × ℕ) → K → K → Type 0
+  IsFrom [] first key = Unit {0}
+  IsFrom (other ∷ before) first key = cmp first key ≢ Greater
+
+  -- the key is less than the first key of the next node, if there is one
+  abbrev pub IsUpTo : {X : Type 0} → List (K × X) → K → Type 0
+  IsUpTo [] key = Unit {0}
+  IsUpTo (next ∷ after) key = cmp next.0 key ≡ Greater
+
+  -- a search for the key goes through the node with this first key between these nodes of its level
+  pub record GoesThrough (before : List (K × ℕ)) (first : K) (after : List (K × ℕ)) (key : K) : Type 0 where
+    pub from : IsFrom before first key
+    pub upto : IsUpTo after key
+
+-- the leaves and the inner rows under a level whose nodes are the top: they fit, and lie in the slots
+pub record Under {K V : Type 0} (most : ℕ) (slots : List (Content K V)) (leaves : List (LevelNode K V)) (lower : List (List (LevelNode K ℕ))) (top : List (K × ℕ)) : Type 0 where
+  pub leaves_fit : FitRow (half_of most) most leaves
+  pub leaves_in : RowIn leaf_content slots leaves
+  pub stacked : StackedTo (heads leaves) lower top
+  pub rows_in : RowsIn slots lower
+
+module _ {K V : Type 0} (cmp : K → K → Ordering) where
+  -- where a path stands in the leaf in which a search for the key ends: its index there is the key's place. It is
+  -- behind the last entry only where the key is absent, and in front of the first only where the key is present or the
+  -- leaf is the first
+  pub record IsPlaced (leaves : List (LevelNode K V)) (key : K) (number index : ℕ) : Type 0 where
+    pub before : List (LevelNode K V)
+    pub entries : List (K × V)
+    pub after : List (LevelNode K V)
+    pub row_is : leaves ≡ before ++ node number entries ∷ after
+    pub within : index ≤ length entries
+    pub place_is : place cmp (flat leaves) key ≡ length (flat before) + index
+    pub found : is_present cmp (flat leaves) key ≡ true → index < length entries
+    pub first : is_present cmp (flat leaves) key ≡ false → index ≡ 0 → before ≡ []
+
+  -- the path stands where a search for the key ends, and on the rows from there up to this node of the top; above it is
+  -- as before
+  pub record Descended (leaves : List (LevelNode K V)) (lower : List (List (LevelNode K ℕ))) (key : K) (top : ℕ) (path indices path' indices' : List ℕ) : Type 0 where
+    pub leaf : IsPlaced leaves key (get_or path' 0 0) (get_or indices' 0 0)
+    pub stands : StandsTo path' indices' 1 lower (length leaf.before) top
+    pub nodes_above : SameAbove (length lower) path path'
+    pub entries_above : SameAbove (length lower) indices indices'
+
+-- the path stands at the first entry of the leaves, and on the rows from there up to the first node of the top; above it
+-- is as before
+pub record Led {K V : Type 0} (leaves : List (LevelNode K V)) (lower : List (List (LevelNode K ℕ))) (path indices path' indices' : List ℕ) : Type 0 where
+  pub leaf : IsAt leaves (get_or path' 0 0) (get_or indices' 0 0) 0
+  pub stands : StandsTo path' indices' 1 lower (length leaf.before) 0
+  pub nodes_above : SameAbove (length lower) path path'
+  pub entries_above : SameAbove (length lower) indices indices'
+
+-- the tree lies in the slots under this root: it is fit, not empty, and has at most 17 levels
+pub record IsRooted {K V : Type 0} (most : ℕ) (slots : List (Content K V)) (root : ℕ) (tree : Tree K V) : Type 0 where
+  pub fit : IsFit most tree
+  pub inside : IsIn slots tree
+  pub root_is : root_of tree ≡ root
+  pub some : 1 ≤ length (flat tree.leaves)
+  pub low : length tree.above ≤ 16
+
+-- the path stands in the tree where a search for the key ends
+pub record StandsFor {K V : Type 0} (cmp : K → K → Ordering) (path indices : List ℕ) (size : ℕ) (tree : Tree K V) (key : K) : Type 0 where
+  pub leaf : IsPlaced cmp tree.leaves key (get_or path 0 0) (get_or indices 0 0)
+  pub above : StandsAbove path indices 1 tree.above (length leaf.before)
+  pub size_is : size ≡ suc (length tree.above)
