@@ -16,3 +16,4 @@ pub mod Climb
 pub mod Trees
 pub mod Descent
 pub mod Steps
+pub mod Change

@@ -15,6 +15,7 @@ mod number;
 mod path;
 mod pool;
 mod row;
+mod trees;
 
 pub use comparator::Comparator;
 pub use node::{NodeData, Removed, SplitOff};

@@ -1,0 +1,35 @@
+-- What a call that changes one tree of a table says of it and of the others.
+use Rattle.std.specs.Prelude.{◌≡◌, ◌≢◌, ℕ, ◌+◌, ◌-◌, IsTrue, List}
+use Rattle.bforest_core.specs.Table.{Table, slot_count, free_count}
+use Rattle.bforest_core.specs.Content.{Content}
+use Rattle.bforest_core.specs.Levels.{flat, sizes_of}
+use Rattle.bforest_core.specs.Place.{Stands, PlacedAt}
+use Rattle.bforest_core.specs.Trees.{tree_of, is_root, IsUnion, OthersKeep}
+
+module _ {K V : Type 0} where
+  -- the tree under a root became one with this list and these sizes, perhaps under another root, which had no tree and
+  -- the old one has none now: every other root kept its tree
+  pub record Changes (most : ℕ) (old new : Table K V) (root root' : ℕ) (list : List (K × V)) (sizes : List (List ℕ)) : Type 0 where
+    pub union : IsUnion most new
+    pub root_is : IsTrue (is_root new.nodes root')
+    pub list_is : flat (tree_of new.nodes root').leaves ≡ list
+    pub sizes_are : sizes_of (tree_of new.nodes root') ≡ sizes
+    pub others : OthersKeep old.nodes new.nodes root root'
+    pub old_gone : root ≢ root' → ¬ IsTrue (is_root new.nodes root)
+    pub new_came : root ≢ root' → ¬ IsTrue (is_root old.nodes root')
+    pub limit_is : new.limit ≡ old.limit
+
+  -- so many nodes were taken: first from those that lay free, then from new slots
+  pub record TakesNodes (count : ℕ) (old new : Table K V) : Type 0 where
+    pub slots : slot_count new ≡ slot_count old + (count - free_count old)
+    pub free : free_count new ≡ free_count old - count
+
+  -- the path stands in the tree under this root, at this entry
+  pub record StandsUnder (slots : List (Content K V)) (root : ℕ) (path indices : List ℕ) (size place : ℕ) : Type 0 where
+    pub root_is : IsTrue (is_root slots root)
+    pub stands : Stands path indices size (tree_of slots root) place
+
+  -- or at this place for an entry
+  pub record PlacedUnder (slots : List (Content K V)) (root : ℕ) (path indices : List ℕ) (size place : ℕ) : Type 0 where
+    pub root_is : IsTrue (is_root slots root)
+    pub at : PlacedAt path indices size (tree_of slots root) place

@@ -1,0 +1,95 @@
+//! Going to where a key is.
+ghost use Rattle.std.specs.Prelude.{◌≡◌, ℕ, suc, ◌+◌, ◌-◌, ◌<◌, ◌≤◌, ◌≢◌, ◌↔◌, IsTrue, false, true, List, [], ◌∷◌, ◌++◌, map, length, get_or, slice_get, slice_set, Some, None, if◌then◌else◌};
+ghost use Rattle.bforest_core.specs.Content.{IsLeafCapacity};
+ghost use Rattle.bforest_core.specs.Table.{IsFullAt};
+ghost use Rattle.bforest_core.specs.Levels.{LevelNode, flat, sizes, Tree, IsFit, sizes_of};
+ghost use Rattle.bforest_core.specs.Sizes.{gain_above, need_above, growth, need};
+ghost use Rattle.bforest_core.specs.Climb.{Above, Grown, Halved, Inserted, LeafHalved, Placed};
+ghost use Rattle.bforest_core.specs.Descent.{GoesThrough, Under, Descended, Led, IsRooted, StandsFor};
+ghost use Rattle.bforest_core.specs.Entries.{IsIncreasing, place, value_for};
+ghost use Rattle.bforest_core.specs.Place.{inner_content, entry_items, leaf_content, IsIn, Stands};
+ghost use Rattle.bforest_core.specs.Trees.{IsUnion, is_root, tree_of};
+ghost use Rattle.bforest_core.specs.Steps.{Over, Moved};
+
+use crate::access::{follow, look_up};
+use crate::comparator::Comparator;
+use crate::number::Node;
+use crate::path::Path;
+use crate::pool::NodePool;
+
+impl<K: Copy, V: Copy, const N: usize> Path<K, V, N> {
+    /// Goes to where a search for `key` ends in the tree under `root`, and answers the key's value. Where the key is absent, the path stands
+    /// at the leaf's place for it, which may be behind the leaf's last entry.
+    pub fn find<C: Comparator<K>>(
+        &mut self,
+        key: K,
+        root: Node,
+        pool: &NodePool<K, V, N>,
+        comp: &C,
+    ) -> Option<V>
+        requires capacity { IsLeafCapacity N }
+        requires union { IsUnion N pool.now }
+        requires root { IsTrue (is_root pool.now.nodes root) }
+        requires increasing { IsIncreasing (C.order comp.now) (flat (tree_of pool.now.nodes root).leaves) }
+        ensures value { result ≡ value_for (C.order comp.now) (flat (tree_of pool.now.nodes root).leaves) key }
+        ensures path { StandsFor (C.order comp.now) self.new.node self.new.entry self.new.size (tree_of pool.now.nodes root) key }
+    {
+        let (level, value) = self.descend(key, root, 0, pool, comp);
+        self.size = level + 1;
+        value
+    }
+
+    // Goes from `node` down to where a search for `key` ends. Answers the node's level, and the key's value. So many levels lie above.
+    fn descend<C: Comparator<K>>(
+        &mut self,
+        key: K,
+        node: Node,
+        depth: usize,
+        pool: &NodePool<K, V, N>,
+        comp: &C,
+    ) -> (usize, Option<V>)
+        requires capacity { IsLeafCapacity N }
+        requires under { (leaves : List (LevelNode K V)) × (lower : List (List (LevelNode K ℕ))) × (a : List (K × ℕ)) × (first : K) × (b : List (K × ℕ)) × Under N pool.now.nodes leaves lower (a ++ (first, node) ∷ b) × IsIncreasing (C.order comp.now) (flat leaves) × GoesThrough (C.order comp.now) a first b key × (depth + length lower ≤ 16) }
+        ensures level { (leaves : List (LevelNode K V)) (lower : List (List (LevelNode K ℕ))) (a : List (K × ℕ)) (first : K) (b : List (K × ℕ)) → Under N pool.now.nodes leaves lower (a ++ (first, node) ∷ b) → IsIncreasing (C.order comp.now) (flat leaves) → GoesThrough (C.order comp.now) a first b key → (result.0 ≡ length lower) × (result.1 ≡ value_for (C.order comp.now) (flat leaves) key) × Descended (C.order comp.now) leaves lower key (length a) self.old.node self.old.entry self.new.node self.new.entry }
+        ensures size { self.new.size ≡ self.old.size }
+    {
+        if !pool.node(node).is_inner() {
+            return (0, self.find_here(key, node, pool, comp));
+        }
+        let (index, child) = follow(pool, node, key, comp);
+        let (below, value) = self.descend(key, child, depth + 1, pool, comp);
+        self.set_level(below + 1, node, index);
+        (below + 1, value)
+    }
+
+    // Goes to the place of `key` in the leaf `node`. Answers the key's value.
+    fn find_here<C: Comparator<K>>(
+        &mut self,
+        key: K,
+        node: Node,
+        pool: &NodePool<K, V, N>,
+        comp: &C,
+    ) -> Option<V>
+        requires leaf { (entries : List (K × V)) × (slice_get pool.now.nodes node ≡ Some (leaf_content entries)) × IsIncreasing (C.order comp.now) entries }
+        ensures node { self.new.node ≡ slice_set self.old.node 0 node }
+        ensures entry { (entries : List (K × V)) → slice_get pool.now.nodes node ≡ Some (leaf_content entries) → self.new.entry ≡ slice_set self.old.entry 0 (place (C.order comp.now) entries key) }
+        ensures value { (entries : List (K × V)) → slice_get pool.now.nodes node ≡ Some (leaf_content entries) → result ≡ value_for (C.order comp.now) entries key }
+        ensures size { self.new.size ≡ self.old.size }
+    {
+        let (index, value) = look_up(pool, node, key, comp);
+        self.set_level(0, node, index);
+        value
+    }
+
+    // Writes where the path stands on a level.
+    pub(super) fn set_level(&mut self, level: usize, node: Node, index: usize)
+        requires { level ≤ 16 }
+        ensures node { self.new.node ≡ slice_set self.old.node level node }
+        ensures entry { self.new.entry ≡ slice_set self.old.entry level index }
+        ensures here { (get_or self.new.node level 0 ≡ node) × (get_or self.new.entry level 0 ≡ index) }
+        ensures size { self.new.size ≡ self.old.size }
+    {
+        self.node[level] = node;
+        self.entry[level] = index;
+    }
+}

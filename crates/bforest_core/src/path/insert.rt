@@ -1,0 +1,289 @@
+//! Putting an entry in where a path is.
+ghost use Rattle.std.specs.Prelude.{insert, IfOk, IsOk, OnOk, OnErr, Ok, Err, ◌≡◌, ℕ, suc, ◌+◌, ◌-◌, ◌<◌, ◌≤◌, ◌≢◌, ◌↔◌, IsTrue, false, true, List, [], ◌∷◌, ◌++◌, map, length, get_or, slice_get, slice_set, Some, None, if◌then◌else◌};
+ghost use Rattle.bforest_core.specs.Content.{IsLeafCapacity};
+ghost use Rattle.bforest_core.specs.Table.{IsFullAt, NeedsGrowth, room, free_count, with_value_at};
+ghost use Rattle.bforest_core.specs.Levels.{LevelNode, flat, sizes, Tree, IsFit, sizes_of};
+ghost use Rattle.bforest_core.specs.Sizes.{gain_above, need_above, growth, need};
+ghost use Rattle.bforest_core.specs.Climb.{top_of, Above, Grown, Halved, Inserted, LeafHalved, Placed};
+ghost use Rattle.bforest_core.specs.Descent.{GoesThrough, Under, Descended, Led, IsRooted, StandsFor};
+ghost use Rattle.bforest_core.specs.Entries.{value_at_place, with_value, IsIncreasing, place, value_for};
+ghost use Rattle.bforest_core.specs.Place.{inner_content, entry_items, leaf_content, IsIn, Stands};
+ghost use Rattle.bforest_core.specs.Trees.{IsUnion, is_root, tree_of};
+ghost use Rattle.bforest_core.specs.Change.{Changes, TakesNodes, PlacedUnder, StandsUnder};
+ghost use Rattle.std.specs.Borrow.{sem};
+ghost use Rattle.bforest_core.specs.Steps.{Over, Moved};
+
+use crate::access::{put_child, put_entry};
+use crate::number::Node;
+use crate::path::Path;
+use crate::pool::{NodePool, OutOfMemory};
+
+impl<K: Copy, V: Copy, const N: usize> Path<K, V, N> {
+    ghost use Rattle.bforest_core.specs.Lending.{lends_value_at};
+
+    /// Puts an entry in here, and answers the tree's root. The path stands at the entry afterwards.
+    ///
+    /// It takes one node for each full node from the leaf upwards, and one for a new root where all are full; these are had by one
+    /// `reserve` before the first change.
+    ///
+    /// # Errors
+    ///
+    /// Those of `reserve` of so many nodes. After either the pool and the path are as before.
+    pub fn insert(
+        &mut self,
+        key: K,
+        value: V,
+        pool: &mut NodePool<K, V, N>,
+    ) -> Result<Node, OutOfMemory>
+        requires capacity { IsLeafCapacity N }
+        requires union { IsUnion N pool.old }
+        requires placed { (root : ℕ) × (place : ℕ) × PlacedUnder pool.old.nodes root self.old.node self.old.entry self.old.size place }
+
+        // What an insertion leaves.
+        ensures inserted { (root place : ℕ) → PlacedUnder pool.old.nodes root self.old.node self.old.entry self.old.size place → IfOk result (λ root'. Changes N pool.old pool.new root root' (insert (flat (tree_of pool.old.nodes root).leaves) place (key, value)) (growth N place (sizes_of (tree_of pool.old.nodes root)))) }
+        ensures account { (root place : ℕ) → PlacedUnder pool.old.nodes root self.old.node self.old.entry self.old.size place → OnOk result (TakesNodes (need N place (sizes_of (tree_of pool.old.nodes root))) pool.old pool.new) }
+        ensures stands { (root place : ℕ) → PlacedUnder pool.old.nodes root self.old.node self.old.entry self.old.size place → IfOk result (λ root'. StandsUnder pool.new.nodes root' self.new.node self.new.entry self.new.size place) }
+        ensures same_root { (root place : ℕ) → PlacedUnder pool.old.nodes root self.old.node self.old.entry self.old.size place → IfOk result (λ root'. (root' ≡ root) ↔ (length (growth N place (sizes_of (tree_of pool.old.nodes root))) ≡ length (sizes_of (tree_of pool.old.nodes root)))) }
+
+        // When it is refused, and what a refusal leaves.
+        ensures full { (root place : ℕ) → PlacedUnder pool.old.nodes root self.old.node self.old.entry self.old.size place → (result ≡ Err OutOfMemory.Full) ↔ (room pool.old < need N place (sizes_of (tree_of pool.old.nodes root))) }
+        ensures memory { (root place : ℕ) → PlacedUnder pool.old.nodes root self.old.node self.old.entry self.old.size place → result ≡ Err OutOfMemory.Memory → NeedsGrowth (need N place (sizes_of (tree_of pool.old.nodes root))) pool.old }
+        ensures enough { (root place : ℕ) → PlacedUnder pool.old.nodes root self.old.node self.old.entry self.old.size place → need N place (sizes_of (tree_of pool.old.nodes root)) ≤ free_count pool.old → IsOk result }
+        ensures refused_pool { OnErr result (pool.new ≡ pool.old) }
+        ensures refused_path { OnErr result (self.new ≡ self.old) }
+    {
+        if !self.put_here(key, value, pool) {
+            pool.reserve(self.needed(pool))?;
+            self.split_leaf(key, value, pool);
+        }
+        Ok(self.root())
+    }
+
+    // The root of the path's tree.
+    fn root(&self) -> Node
+        requires some { 0 < self.now.size }
+        requires height { self.now.size ≤ 17 }
+        ensures { result ≡ top_of self.now.node self.now.size }
+    {
+        self.node[self.size - 1]
+    }
+
+    /// The value of the entry where the path stands, for writing.
+    pub fn value_mut<'a>(&self, pool: &'a mut NodePool<K, V, N>) -> &'a mut V
+        requires union { IsUnion N pool.old }
+        requires stands { (root : ℕ) × (place : ℕ) × StandsUnder pool.old.nodes root self.now.node self.now.entry self.now.size place }
+        ensures* writes_back { sem 𝓛 (lends_value_at K.row V.row N.row pool.entry (get_or self.now.node 0 0) (get_or self.now.entry 0 0) result) }
+        ensures value { (root place : ℕ) → StandsUnder pool.old.nodes root self.now.node self.now.entry self.now.size place → Some result.now ≡ value_at_place (flat (tree_of pool.old.nodes root).leaves) place }
+        ensures written { (root place : ℕ) → StandsUnder pool.old.nodes root self.now.node self.now.entry self.now.size place → (value : V) → Changes N pool.old (with_value_at pool.old (get_or self.now.node 0 0) (get_or self.now.entry 0 0) value) root root (with_value (flat (tree_of pool.old.nodes root).leaves) place value) (sizes_of (tree_of pool.old.nodes root)) }
+    {
+        pool.value_mut(self.node[0], self.entry[0])
+    }
+
+    // How many nodes an insertion here needs: one for each full node from the leaf upwards, and one for a new root where all are full.
+    fn needed(&self, pool: &NodePool<K, V, N>) -> u32
+        requires height { self.now.size ≤ 17 }
+        requires placed { (tree : Tree K V) × (place : ℕ) × Placed N pool.now self.now.node self.now.entry self.now.size tree place }
+        ensures value { (tree : Tree K V) (place : ℕ) → Placed N pool.now self.now.node self.now.entry self.now.size tree place → result ≡ need N place (sizes_of tree) }
+    {
+        if pool.node(self.node[0]).is_full() {
+            self.needed_above(1, pool)
+        } else {
+            0
+        }
+    }
+
+    // How many nodes it takes that the path's node below level `up` becomes two.
+    fn needed_above(&self, up: usize, pool: &NodePool<K, V, N>) -> u32
+        requires height { self.now.size ≤ 17 }
+        requires pending { (rows : List (List (LevelNode K ℕ))) × (list : List (K × ℕ)) × (place : ℕ) × Above pool.now self.now.node self.now.entry up self.now.size rows list place }
+        ensures value { (rows : List (List (LevelNode K ℕ))) (list : List (K × ℕ)) (place : ℕ) → Above pool.now self.now.node self.now.entry up self.now.size rows list place → result ≡ need_above (Some place) (map sizes rows) }
+        ensures few { result + up ≤ 2 + self.now.size }
+    {
+        if up == self.size {
+            2
+        } else if pool.node(self.node[up]).is_full() {
+            self.needed_above(up + 1, pool) + 1
+        } else {
+            1
+        }
+    }
+
+    // Puts an entry in here, where enough nodes lie free. The path stands at it afterwards.
+    fn insert_entry(&mut self, key: K, value: V, pool: &mut NodePool<K, V, N>)
+        requires height { self.old.size ≤ 17 }
+        requires placed { (tree : Tree K V) × (place : ℕ) × Placed N pool.old self.old.node self.old.entry self.old.size tree place × (need N place (sizes_of tree) ≤ length pool.old.chain) × (length (growth N place (sizes_of tree)) ≤ 17) }
+        ensures inserted { (tree : Tree K V) (place : ℕ) → Placed N pool.old self.old.node self.old.entry self.old.size tree place → Inserted N pool.old pool.new self.new.node self.new.entry self.new.size tree place (key, value) }
+    {
+        if !self.put_here(key, value, pool) {
+            self.split_leaf(key, value, pool);
+        }
+    }
+
+    // Puts the entry into the path's leaf. Where there is no room it answers false, and nothing changed.
+    fn put_here(&self, key: K, value: V, pool: &mut NodePool<K, V, N>) -> bool
+        requires placed { (tree : Tree K V) × (place : ℕ) × Placed N pool.old self.now.node self.now.entry self.now.size tree place }
+        ensures inserted { result ≡ true → (tree : Tree K V) (place : ℕ) → Placed N pool.old self.now.node self.now.entry self.now.size tree place → Inserted N pool.old pool.new self.now.node self.now.entry self.now.size tree place (key, value) }
+        ensures full { result ≡ false → IsFullAt N pool.old.nodes (get_or self.now.node 0 0) }
+        ensures pool { result ≡ false → pool.new ≡ pool.old }
+    {
+        put_entry(pool, self.node[0], self.entry[0], key, value)
+    }
+
+    // Halves the path's full leaf, and puts the entry into one half.
+    fn split_leaf(&mut self, key: K, value: V, pool: &mut NodePool<K, V, N>)
+        requires height { self.old.size ≤ 17 }
+        requires full { IsFullAt N pool.old.nodes (get_or self.old.node 0 0) }
+        requires placed { (tree : Tree K V) × (place : ℕ) × Placed N pool.old self.old.node self.old.entry self.old.size tree place × (need N place (sizes_of tree) ≤ length pool.old.chain) × (length (growth N place (sizes_of tree)) ≤ 17) }
+        ensures inserted { (tree : Tree K V) (place : ℕ) → Placed N pool.old self.old.node self.old.entry self.old.size tree place → Inserted N pool.old pool.new self.new.node self.new.entry self.new.size tree place (key, value) }
+    {
+        let leaf = self.node[0];
+        let half = self.halve_leaf(key, value, pool);
+        self.insert_above(1, leaf, half.0, half.1, half.2, pool);
+    }
+
+    // Halves the path's full leaf, and puts the entry into one half, to which the path goes. Answers the right half with its first key,
+    // and whether the path went there.
+    fn halve_leaf(&mut self, key: K, value: V, pool: &mut NodePool<K, V, N>) -> (K, Node, bool)
+        requires room { 0 < length pool.old.chain }
+        requires full { IsFullAt N pool.old.nodes (get_or self.old.node 0 0) }
+        requires placed { (tree : Tree K V) × (place : ℕ) × Placed N pool.old self.old.node self.old.entry self.old.size tree place }
+        ensures halved { (tree : Tree K V) (place : ℕ) → Placed N pool.old self.old.node self.old.entry self.old.size tree place → LeafHalved N pool.old pool.new self.old.node self.new.node self.new.entry self.old.size tree place (key, value) result.0 result.1 result.2 }
+        ensures size { self.new.size ≡ self.old.size }
+    {
+        let leaf = self.node[0];
+        let index = self.entry[0];
+        let (right, halves) = pool.split_node(leaf, index);
+        let first = halves.crit_key;
+        if index <= N / 2 {
+            let _room = put_entry(pool, leaf, index, key, value);
+            (first, right, false)
+        } else {
+            let behind = index - halves.lhs_entries;
+            let _room = put_entry(pool, right, behind, key, value);
+            self.node[0] = right;
+            self.entry[0] = behind;
+            (first_key(behind, key, first), right, true)
+        }
+    }
+
+    // Puts `child` with its first key behind `left`, which is the path's node below level `up` or became two with `child`. The path goes
+    // to `child` where it `moved` there.
+    fn insert_above(
+        &mut self,
+        up: usize,
+        left: Node,
+        key: K,
+        child: Node,
+        moved: bool,
+        pool: &mut NodePool<K, V, N>,
+    )
+        requires height { self.old.size ≤ 17 }
+        requires pending { (rows : List (List (LevelNode K ℕ))) × (a : List (K × ℕ)) × (first : K) × (b : List (K × ℕ)) × Above pool.old self.old.node self.old.entry up self.old.size rows (a ++ (first, left) ∷ b) (length a) × (need_above (Some (length a)) (map sizes rows) ≤ suc (length pool.old.chain)) × (up + length (gain_above (Some (length a)) (map sizes rows)) ≤ 17) }
+        ensures { (rows : List (List (LevelNode K ℕ))) (a : List (K × ℕ)) (first : K) (b : List (K × ℕ)) → Above pool.old self.old.node self.old.entry up self.old.size rows (a ++ (first, left) ∷ b) (length a) → (taken : List ℕ) × (suc (length taken) ≡ need_above (Some (length a)) (map sizes rows)) × Grown pool.old pool.new self.old.node self.old.entry self.new.node self.new.entry up self.old.size self.new.size rows (a ++ (first, left) ∷ (key, child) ∷ b) (if moved then suc (length a) else length a) (gain_above (Some (length a)) (map sizes rows)) taken }
+    {
+        if up == self.size {
+            self.push_root(left, key, child, moved, pool);
+        } else if !self.insert_here(up, key, child, moved, pool) {
+            let node = self.node[up];
+            let next = self.split_here(up, key, child, moved, pool);
+            self.insert_above(up + 1, node, next.0, next.1, next.2, pool);
+        }
+    }
+
+    // Makes a new root of the root `left` and of `child`.
+    fn push_root(
+        &mut self,
+        left: Node,
+        key: K,
+        child: Node,
+        moved: bool,
+        pool: &mut NodePool<K, V, N>,
+    )
+        requires height { self.old.size ≤ 16 }
+        requires room { 0 < length pool.old.chain }
+        ensures { (rows : List (List (LevelNode K ℕ))) (a : List (K × ℕ)) (first : K) (b : List (K × ℕ)) → Above pool.old self.old.node self.old.entry self.old.size self.old.size rows (a ++ (first, left) ∷ b) (length a) → (taken : List ℕ) × (suc (length taken) ≡ need_above (Some (length a)) (map sizes rows)) × Grown pool.old pool.new self.old.node self.old.entry self.new.node self.new.entry self.old.size self.old.size self.new.size rows (a ++ (first, left) ∷ (key, child) ∷ b) (if moved then suc (length a) else length a) (gain_above (Some (length a)) (map sizes rows)) taken }
+    {
+        let root = pool.inner_node(left, key, child);
+        self.node[self.size] = root;
+        self.entry[self.size] = index_behind(0, moved);
+        self.size += 1;
+    }
+
+    // Puts `child` into the path's node on level `up`, behind the path's child. Where there is no room it answers false, and nothing
+    // changed.
+    fn insert_here(
+        &mut self,
+        up: usize,
+        key: K,
+        child: Node,
+        moved: bool,
+        pool: &mut NodePool<K, V, N>,
+    ) -> bool
+        requires height { self.old.size ≤ 17 }
+        requires within { up < self.old.size }
+        requires pending { (rows : List (List (LevelNode K ℕ))) × (a : List (K × ℕ)) × (x : K × ℕ) × (b : List (K × ℕ)) × Above pool.old self.old.node self.old.entry up self.old.size rows (a ++ x ∷ b) (length a) }
+        ensures grown { result ≡ true → (rows : List (List (LevelNode K ℕ))) (a : List (K × ℕ)) (x : K × ℕ) (b : List (K × ℕ)) → Above pool.old self.old.node self.old.entry up self.old.size rows (a ++ x ∷ b) (length a) → (1 ≡ need_above (Some (length a)) (map sizes rows)) × Grown pool.old pool.new self.old.node self.old.entry self.new.node self.new.entry up self.old.size self.new.size rows (a ++ x ∷ (key, child) ∷ b) (if moved then suc (length a) else length a) (gain_above (Some (length a)) (map sizes rows)) [] }
+        ensures full { result ≡ false → IsFullAt N pool.old.nodes (get_or self.old.node up 0) }
+        ensures pool { result ≡ false → pool.new ≡ pool.old }
+        ensures path { result ≡ false → self.new ≡ self.old }
+        ensures size { self.new.size ≡ self.old.size }
+    {
+        let node = self.node[up];
+        let entry = self.entry[up];
+        if put_child(pool, node, entry, key, child) {
+            self.entry[up] = index_behind(entry, moved);
+            true
+        } else {
+            false
+        }
+    }
+
+    // Halves the path's full node on level `up`, and puts `child` behind the path's child. The path goes to the half of its place. Answers
+    // the right half with its first key, and whether the path went there.
+    fn split_here(
+        &mut self,
+        up: usize,
+        key: K,
+        child: Node,
+        moved: bool,
+        pool: &mut NodePool<K, V, N>,
+    ) -> (K, Node, bool)
+        requires height { self.old.size ≤ 17 }
+        requires within { up < self.old.size }
+        requires room { 0 < length pool.old.chain }
+        requires full { IsFullAt N pool.old.nodes (get_or self.old.node up 0) }
+        requires pending { (rows : List (List (LevelNode K ℕ))) × (a : List (K × ℕ)) × (x : K × ℕ) × (b : List (K × ℕ)) × Above pool.old self.old.node self.old.entry up self.old.size rows (a ++ x ∷ b) (length a) }
+        ensures halved { (rows : List (List (LevelNode K ℕ))) (a : List (K × ℕ)) (x : K × ℕ) (b : List (K × ℕ)) → Above pool.old self.old.node self.old.entry up self.old.size rows (a ++ x ∷ b) (length a) → Halved pool.old pool.new self.old.node self.old.entry self.new.node self.new.entry up self.old.size rows (a ++ x ∷ (key, child) ∷ b) (length a) (if moved then suc (length a) else length a) result.0 result.1 result.2 }
+        ensures size { self.new.size ≡ self.old.size }
+    {
+        let node = self.node[up];
+        let entry = self.entry[up];
+        let (right, halves) = pool.split_node(node, entry);
+        if entry < 4 {
+            let _room = put_child(pool, node, entry, key, child);
+            self.entry[up] = index_behind(entry, moved);
+            (halves.crit_key, right, false)
+        } else {
+            let _room = put_child(pool, right, entry - 4, key, child);
+            self.node[up] = right;
+            self.entry[up] = index_behind(entry - 4, moved);
+            (halves.crit_key, right, true)
+        }
+    }
+}
+
+// The index, or the next one where the path moved there.
+fn index_behind(index: usize, moved: bool) -> usize
+    requires { index < 8 }
+    ensures { result ≡ (if moved then suc index else index) }
+{
+    if moved { index + 1 } else { index }
+}
+
+// The first key of a leaf with this first key after an entry came in at the index.
+fn first_key<K: Copy>(index: usize, key: K, first: K) -> K
+    ensures front { index ≡ 0 → result ≡ key }
+    ensures behind { 0 < index → result ≡ first }
+{
+    if index == 0 { key } else { first }
+}

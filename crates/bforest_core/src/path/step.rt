@@ -1,0 +1,166 @@
+//! Steps from an entry to the next.
+ghost use Rattle.std.specs.Prelude.{◌≡◌, ℕ, suc, ◌+◌, ◌-◌, ◌<◌, ◌≤◌, ◌≢◌, ◌↔◌, IsTrue, false, true, List, [], ◌∷◌, ◌++◌, map, length, get_or, slice_get, slice_set, Some, None, if◌then◌else◌};
+ghost use Rattle.bforest_core.specs.Content.{IsLeafCapacity};
+ghost use Rattle.bforest_core.specs.Table.{IsFullAt};
+ghost use Rattle.bforest_core.specs.Levels.{LevelNode, flat, sizes, Tree, IsFit, sizes_of};
+ghost use Rattle.bforest_core.specs.Sizes.{gain_above, need_above, growth, need};
+ghost use Rattle.bforest_core.specs.Climb.{Above, Grown, Halved, Inserted, LeafHalved, Placed};
+ghost use Rattle.bforest_core.specs.Descent.{GoesThrough, Under, Descended, Led, IsRooted, StandsFor};
+ghost use Rattle.bforest_core.specs.Entries.{IsIncreasing, place, value_for};
+ghost use Rattle.bforest_core.specs.Place.{inner_content, entry_items, leaf_content, IsIn, Stands};
+ghost use Rattle.bforest_core.specs.Trees.{IsUnion, is_root, tree_of};
+ghost use Rattle.bforest_core.specs.Change.{StandsUnder};
+ghost use Rattle.bforest_core.specs.Steps.{Over, Moved};
+
+use crate::number::Node;
+use crate::path::Path;
+use crate::pool::NodePool;
+
+impl<K: Copy, V: Copy, const N: usize> Path<K, V, N> {
+    /// Goes to the first entry of the tree under `root`, and answers it.
+    pub fn first(&mut self, root: Node, pool: &NodePool<K, V, N>) -> (K, V)
+        requires capacity { IsLeafCapacity N }
+        requires union { IsUnion N pool.now }
+        requires root { IsTrue (is_root pool.now.nodes root) }
+        ensures value { slice_get (flat (tree_of pool.now.nodes root).leaves) 0 ≡ Some result }
+        ensures path { StandsUnder pool.now.nodes root self.new.node self.new.entry self.new.size 0 }
+    {
+        let level = self.descend_first(root, 0, pool);
+        self.size = level + 1;
+        self.entry_here(pool)
+    }
+
+    // Goes from `node` down to the first entry below it. Answers the node's level. So many levels lie above.
+    fn descend_first(&mut self, node: Node, depth: usize, pool: &NodePool<K, V, N>) -> usize
+        requires capacity { IsLeafCapacity N }
+        requires under { (leaves : List (LevelNode K V)) × (lower : List (List (LevelNode K ℕ))) × (first : K) × (b : List (K × ℕ)) × Under N pool.now.nodes leaves lower ((first, node) ∷ b) × (depth + length lower ≤ 16) }
+        ensures level { (leaves : List (LevelNode K V)) (lower : List (List (LevelNode K ℕ))) (first : K) (b : List (K × ℕ)) → Under N pool.now.nodes leaves lower ((first, node) ∷ b) → (result ≡ length lower) × Led leaves lower self.old.node self.old.entry self.new.node self.new.entry }
+        ensures size { self.new.size ≡ self.old.size }
+    {
+        if !pool.node(node).is_inner() {
+            self.set_level(0, node, 0);
+            return 0;
+        }
+        let child = pool.node(node).child(0);
+        let below = self.descend_first(child, depth + 1, pool);
+        self.set_level(below + 1, node, 0);
+        below + 1
+    }
+
+    /// Goes to the next entry and answers it. From the last entry it goes to the end, where it answers `None` from then on.
+    pub fn next(&mut self, pool: &NodePool<K, V, N>) -> Option<(K, V)>
+        requires capacity { IsLeafCapacity N }
+        requires height { self.old.size ≤ 17 }
+        requires stands { self.old.size ≢ 0 → (tree : Tree K V) × (place : ℕ) × IsFit N tree × IsIn pool.now.nodes tree × Stands self.old.node self.old.entry self.old.size tree place }
+        ensures value { self.old.size ≢ 0 → (tree : Tree K V) (place : ℕ) → IsFit N tree → IsIn pool.now.nodes tree → Stands self.old.node self.old.entry self.old.size tree place → result ≡ slice_get (flat tree.leaves) (suc place) }
+        ensures moved { result ≢ None → (tree : Tree K V) (place : ℕ) → IsFit N tree → IsIn pool.now.nodes tree → Stands self.old.node self.old.entry self.old.size tree place → Stands self.new.node self.new.entry self.new.size tree (suc place) }
+        ensures end { result ≡ None → self.new.size ≡ 0 }
+        ensures stays { self.old.size ≡ 0 → result ≡ None }
+    {
+        if self.size == 0 {
+            return None;
+        }
+        if self.next_entry(pool) {
+            Some(self.entry_here(pool))
+        } else {
+            self.size = 0;
+            None
+        }
+    }
+
+    // Goes to the next entry. At the last it answers false, and nothing changed.
+    fn next_entry(&mut self, pool: &NodePool<K, V, N>) -> bool
+        requires capacity { IsLeafCapacity N }
+        requires height { self.old.size ≤ 17 }
+        requires stands { (tree : Tree K V) × (place : ℕ) × IsFit N tree × IsIn pool.now.nodes tree × Stands self.old.node self.old.entry self.old.size tree place }
+        ensures moved { result ≡ true → (tree : Tree K V) (place : ℕ) → IsFit N tree → IsIn pool.now.nodes tree → Stands self.old.node self.old.entry self.old.size tree place → Stands self.new.node self.new.entry self.old.size tree (suc place) }
+        ensures last { result ≡ false → (tree : Tree K V) (place : ℕ) → IsFit N tree → IsIn pool.now.nodes tree → Stands self.old.node self.old.entry self.old.size tree place → suc place ≡ length (flat tree.leaves) }
+        ensures same { result ≡ false → self.new ≡ self.old }
+        ensures size { self.new.size ≡ self.old.size }
+    {
+        let next = self.entry[0] + 1;
+        if self.has_entry(next, pool) {
+            self.set_entry(next);
+            return true;
+        }
+        let moved = self.next_node(0, pool);
+        if moved {
+            self.set_entry(0);
+        }
+        moved
+    }
+
+    // Whether the path's leaf has an entry of this index.
+    fn has_entry(&self, index: usize, pool: &NodePool<K, V, N>) -> bool
+        requires { (entries : List (K × V)) × (slice_get pool.now.nodes (get_or self.now.node 0 0) ≡ Some (leaf_content entries)) }
+        ensures { (entries : List (K × V)) → slice_get pool.now.nodes (get_or self.now.node 0 0) ≡ Some (leaf_content entries) → IsTrue result ↔ (index < length entries) }
+    {
+        index < pool.node(self.node[0]).entries()
+    }
+
+    // The path's entry.
+    fn entry_here(&self, pool: &NodePool<K, V, N>) -> (K, V)
+        requires { (entries : List (K × V)) × (slice_get pool.now.nodes (get_or self.now.node 0 0) ≡ Some (leaf_content entries)) × (get_or self.now.entry 0 0 < length entries) }
+        ensures { (entries : List (K × V)) → slice_get pool.now.nodes (get_or self.now.node 0 0) ≡ Some (leaf_content entries) → slice_get entries (get_or self.now.entry 0 0) ≡ Some result }
+    {
+        pool.node(self.node[0]).entry(self.entry[0])
+    }
+
+    // Goes to this entry of the path's leaf.
+    fn set_entry(&mut self, index: usize)
+        ensures nodes { self.new.node ≡ self.old.node }
+        ensures here { get_or self.new.entry 0 0 ≡ index }
+        ensures above { (level : ℕ) → level ≢ 0 → get_or self.new.entry level 0 ≡ get_or self.old.entry level 0 }
+        ensures size { self.new.size ≡ self.old.size }
+    {
+        self.entry[0] = index;
+    }
+
+    // Moves the path's node on `level` to the next one. Where there is none it answers false, and nothing changed.
+    fn next_node(&mut self, level: usize, pool: &NodePool<K, V, N>) -> bool
+        requires height { self.old.size ≤ 17 }
+        requires over { (rows : List (List (LevelNode K ℕ))) × (list : List (K × ℕ)) × (place : ℕ) × Over pool.now.nodes self.old.node self.old.entry (suc level) self.old.size rows list place }
+        ensures moved { result ≡ true → (rows : List (List (LevelNode K ℕ))) (list : List (K × ℕ)) (place : ℕ) → Over pool.now.nodes self.old.node self.old.entry (suc level) self.old.size rows list place → Moved self.old.node self.old.entry self.new.node self.new.entry level rows list (suc place) }
+        ensures last { result ≡ false → (rows : List (List (LevelNode K ℕ))) (list : List (K × ℕ)) (place : ℕ) → Over pool.now.nodes self.old.node self.old.entry (suc level) self.old.size rows list place → suc place ≡ length list }
+        ensures same { result ≡ false → self.new ≡ self.old }
+        ensures size { self.new.size ≡ self.old.size }
+    {
+        if level + 1 == self.size {
+            return false;
+        }
+        let entry = self.entry[level + 1];
+        if self.has_child(level + 1, entry + 1, pool) {
+            self.go_to_child(level, entry + 1, pool);
+            return true;
+        }
+        let moved = self.next_node(level + 1, pool);
+        if moved {
+            self.go_to_child(level, 0, pool);
+        }
+        moved
+    }
+
+    // Whether the path's inner node on `level` has so many children that one has this index.
+    fn has_child(&self, level: usize, index: usize, pool: &NodePool<K, V, N>) -> bool
+        requires within { level ≤ 16 }
+        requires inner { (entries : List (K × ℕ)) × (slice_get pool.now.nodes (get_or self.now.node level 0) ≡ Some (inner_content entries)) }
+        ensures { (entries : List (K × ℕ)) → slice_get pool.now.nodes (get_or self.now.node level 0) ≡ Some (inner_content entries) → IsTrue result ↔ (index < length entries) }
+    {
+        index < pool.node(self.node[level]).entries()
+    }
+
+    // Goes to another child of the path's node above `level`.
+    fn go_to_child(&mut self, level: usize, index: usize, pool: &NodePool<K, V, N>)
+        requires within { level ≤ 15 }
+        requires inner { (entries : List (K × ℕ)) × (slice_get pool.now.nodes (get_or self.old.node (suc level) 0) ≡ Some (inner_content entries)) × (index < length entries) }
+        ensures child { (entries : List (K × ℕ)) → slice_get pool.now.nodes (get_or self.old.node (suc level) 0) ≡ Some (inner_content entries) → slice_get (entry_items entries) index ≡ Some (get_or self.new.node level 0) }
+        ensures nodes { (other : ℕ) → other ≢ level → get_or self.new.node other 0 ≡ get_or self.old.node other 0 }
+        ensures entry { get_or self.new.entry (suc level) 0 ≡ index }
+        ensures entries { (other : ℕ) → other ≢ suc level → get_or self.new.entry other 0 ≡ get_or self.old.entry other 0 }
+        ensures size { self.new.size ≡ self.old.size }
+    {
+        let child = pool.node(self.node[level + 1]).child(index);
+        self.node[level] = child;
+        self.entry[level + 1] = index;
+    }
+}
