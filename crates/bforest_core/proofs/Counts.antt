@@ -1,5 +1,5 @@
 -- Counting numbers: lists in which each number stands as often, and what the slots of a table name.
-use Rattle.std.proofs.Common.{◌≡◌, ℕ, zero, suc, ◌≤◌, ◌<◌, nat_lt, if◌then◌else◌, true, false, List, [], ◌∷◌, ◌++◌, length, take, None, refl, sym, ap, ◌∙◌, inl, inr, arith}
+use Rattle.std.proofs.Common.{◌≡◌, ℕ, zero, suc, ◌≤◌, ◌<◌, nat_lt, if◌then◌else◌, true, false, List, [], ◌∷◌, ◌++◌, length, take, None, refl, sym, ap, ◌∙◌, inl, inr, length-append, arith}
 use Rattle.std.specs.List.{flat_map}
 use Rattle.std.proofs.lemmas.List.{take_all}
 use Rattle.std.proofs.lemmas.List.Concat.{flat_map-append}
@@ -68,6 +68,23 @@ count-upto m (suc n) =
         | inr past ↦ omega (arith, a, ih, count-other m n [] w.1, past-none m n past, past-none m (suc n) (elim (eqb_tells n m) [ inl v ↦ absurd (w.1 v.1) | inr v ↦ (let f : (n ≡ m) → ⊥ = w.1 in grind (arith, f)) ]))
       ]
     ]
+
+-- so many
+length-upto : (n : ℕ) → length (upto n) ≡ n
+length-upto zero = refl
+length-upto (suc n) = omega (arith, length-append (upto n) (n ∷ []), length-upto n)
+
+-- a list is no longer than one in which each number stands as often at least
+no-longer : (xs ys : List ℕ) → ((n : ℕ) → count n xs ≤ count n ys) → length xs ≤ length ys
+no-longer [] ys le = omega arith
+no-longer (x ∷ xs) ys le =
+    let s = standing x ys (omega (arith, le x, count-same x xs)) in
+    let less : (n : ℕ) → count n xs ≤ count n (s.0 ++ s.1) = λ n. (let a = ap (λ z. count n z) s.2 in omega (arith, le n, a, count-append n s.0 (x ∷ s.1), count-append n s.0 s.1)) in
+    omega (arith, no-longer xs (s.0 ++ s.1) less, ap length s.2, length-append s.0 (x ∷ s.1), length-append s.0 s.1)
+
+-- so is a list of numbers below one in which none stands twice
+pub few-below : (n : ℕ) (xs : List ℕ) → ((m : ℕ) → count m xs ≤ once_below m n) → length xs ≤ n
+few-below n xs once = omega (arith, no-longer xs (upto n) (λ m. omega (arith, once m, count-upto m n)), length-upto n)
 
 module _ {K V : Type 0} where
   -- the numbers that the slots of these numbers name

@@ -49,6 +49,10 @@ module _ {K V : Type 0} where
       let c = ap (λ z. count m z) (items-heads (half_of most) most (half-some most tree.leaves f.leaves_fit some) tree.leaves f.leaves_fit) in
       omega (arith, r, a, b, c, count-append m (numbers tree.leaves) (flat_map numbers tree.above))
 
+  -- so its root is one of them
+  pub root-among : (most : ℕ) (slots : List (Content K V)) (tree : Tree K V) → IsFit most tree → IsIn slots tree → 1 ≤ length (flat tree.leaves) → 0 < count (root_of tree) (numbers_of tree)
+  root-among most slots tree f i some = omega (arith, named_tree most slots tree f i some (root_of tree), count-same (root_of tree) [])
+
   -- the same of trees
   named_trees : (most : ℕ) (slots : List (Content K V)) (trees : List (Tree K V)) → Every (IsFit most) trees → Every (IsIn slots) trees → Every (λ (tree : Tree K V). 1 ≤ length (flat tree.leaves)) trees → (m : ℕ) →
       count m (named_by slots (flat_map numbers_of trees)) + count m (map root_of trees) ≡ count m (flat_map numbers_of trees)

@@ -1,15 +1,17 @@
 -- The leaves after one of them was halved, and the tree after the levels above took the right half in.
 use Rattle.std.proofs.Common.{◌≡◌, ℕ, suc, ◌+◌, ◌-◌, ◌/◌, ◌≤◌, ◌<◌, ◌≢◌, Bool, true, false, if◌then◌else◌, List, [], ◌∷◌, ◌++◌, map, length, insert, get_or, slice_get, Some, refl, sym, ap, ◌∙◌, subst, append_assoc, length-append, arith}
 use Rattle.std.specs.List.{flat_map}
-use Rattle.std.proofs.lemmas.List.{append-nil}
+use Rattle.std.proofs.lemmas.List.{append-nil, length-map}
 use Rattle.bforest_core.specs.Table.{Table}
-use Rattle.bforest_core.specs.Levels.{LevelNode, node, flat, head_of, heads, sizes, numbers, Stacked, Topped, Tree, half_of}
+use Rattle.bforest_core.specs.Levels.{LevelNode, node, flat, head_of, heads, sizes, numbers, Stacked, Topped, Tree, IsFit, half_of}
 use Rattle.bforest_core.specs.Sizes.{leaf_gain, gain_above, need_above}
-use Rattle.bforest_core.specs.Place.{leaf_content, count, IsAt, StandsAbove}
+use Rattle.bforest_core.specs.Place.{leaf_content, count, IsAt, StandsAbove, Stands}
 use Rattle.bforest_core.specs.Climb.{Placed, LeafHalved, Inserted, Grown}
-use Rattle.bforest_core.proofs.LevelRows.{flat-append, heads-append, sizes-append, Solid-full}
+use Rattle.bforest_core.proofs.LevelRows.{flat-append, heads-append, sizes-append, FitRow-split, Solid-full}
 use Rattle.bforest_core.proofs.Tables.{count-append, count-same, count-row, row-same, row-halved, rows-same, ne_from_count, absent_ne}
 use Rattle.bforest_core.proofs.Zipper.{stands-same}
+use Rattle.bforest_core.proofs.Tops.{root-stands, root-placed}
+use Rattle.bforest_core.proofs.Rise.{gain-some}
 use Rattle.bforest_core.proofs.Grow.{flat-halved, heads-halved, FitRow-halved, leaf_full}
 use Rattle.bforest_core.proofs.LeafSpot.{LeafSpot, renewed, insert_flat, rows_count}
 use Rattle.bforest_core.proofs.LeafHalving.{LeafHalves, Odd}
@@ -85,6 +87,7 @@ module _ {K V : Type 0} where
         chain_is = h.chain_is;
         slots_are = h.slots_are;
         limit_is = h.limit_is;
+        nodes_above = λ i high. far_m i (λ (e : i ≡ 0). omega (arith, e, high));
       }
 
   -- the path goes to the left half
@@ -172,26 +175,35 @@ module _ {K V : Type 0} where
       let here_m = g.nodes_below 0 (omega arith) in
       let here_j = g.entries_below 0 (omega arith) in
       let at2 : IsAt row2 (get_or ms'' 0 0) (get_or js'' 0 0) place = record { before = h.at.before; entries = h.at.entries; after = h.at.after; row_is = rw here_m h.at.row_is; within = rw here_j h.at.within; place_is = rw here_j h.at.place_is } in
+      let fit' : IsFit most (record { leaves = row2; above = g.rows' }) = record {
+        leaves_fit = h.fit;
+        stacked = subst (λ (z : List (K × ℕ)). Stacked z g.rows') (sym hs) g.above.stacked;
+        topped = subst (λ (z : List (K × ℕ)). Topped z g.rows') (sym hs) (g.topped one longer h.topped);
+      } in
+      let stands : Stands ms'' js'' size' (record { leaves = row2; above = g.rows' }) place = record {
+        leaf = at2;
+        above = subst (λ (z : ℕ). StandsAbove ms'' js'' 1 g.rows' z) (sym h.at_is) g.above.stands;
+        size_is = omega (arith, g.above.height);
+      } in
+      let some = FitRow-split (half_of most) most h.before (node n (h.first ∷ h.others)) (node right (h.next ∷ h.more) ∷ h.after) h.fit in
+      let top = root-placed most tree ms js size place (omega (arith, some.1.1)) p.fit p.at in
+      let top' = root-stands most (record { leaves = row2; above = g.rows' }) ms'' js'' size' place fit' stands in
       record {
         tree' = record { leaves = row2; above = g.rows' };
         taken = right ∷ taken;
         flat_is = h.flat_is;
         sizes_are = ap (λ z. sizes row2 ∷ z) (g.sizes_are ∙ sym (gain_leaf most t u ms ms' js' size tree place entry key right moved h)) ∙ sym (ap (λ z. z.1 ∷ gain_above (leaf_gain most place (sizes tree.leaves)).0 (map sizes tree.above)) h.gain_is);
-        fit = record {
-          leaves_fit = h.fit;
-          stacked = subst (λ (z : List (K × ℕ)). Stacked z g.rows') (sym hs) g.above.stacked;
-          topped = subst (λ (z : List (K × ℕ)). Topped z g.rows') (sym hs) (g.topped one longer h.topped);
-        };
+        fit = fit';
         inside = record { leaves_in = row-same leaf_content u.nodes v.nodes row2 quiet h.inside; rows_in = g.above.inside };
-        stands = record {
-          leaf = at2;
-          above = subst (λ (z : ℕ). StandsAbove ms'' js'' 1 g.rows' z) (sym h.at_is) g.above.stands;
-          size_is = omega (arith, g.above.height);
-        };
+        stands = stands;
         numbers_are = λ m. omega (arith, leaves_m m, rows_m m, c2 m, c3 m, c4 m, c5 m, g.numbers_are m);
         taken_is = needs ∙ sym (need_leaf most t u ms ms' js' size tree place entry key right moved h);
         others = λ m z. g.others m (omega (arith, z, rows_m m, c2 m)) ∙ h.slots_same m (absent_ne m n (numbers h.after) (omega (arith, z, leaves_m m, c2 m, c3 m))) (absent_ne m right taken (omega (arith, z)));
         chain_is = chain_is;
         slots_are = g.slots_are ∙ h.slots_are;
         limit_is = g.limit_is ∙ h.limit_is;
+        same_root = λ same. (let sizes_same : size' ≡ size = omega (arith, same, g.above.height, p.at.size_is) in
+            top' ∙ g.same_top sizes_same ∙ h.nodes_above (size - 1) (omega (arith, sizes_same, g.above.height, ap length g.sizes_are, length-map g.rows' sizes, gain-some (length (heads h.before)) (map sizes h.rows))) ∙ sym top);
+        new_root = λ other. (let risen = g.new_top (λ (same : size' ≡ size). other (omega (arith, same, g.above.height, p.at.size_is))) in
+            subst (λ (z : ℕ). 0 < count z (right ∷ taken)) (sym top') (omega (arith, risen)));
       }

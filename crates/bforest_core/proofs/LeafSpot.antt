@@ -4,14 +4,15 @@ use Rattle.std.specs.List.{flat_map}
 use Rattle.std.proofs.lemmas.Bool.{cases_lt}
 use Rattle.std.proofs.lemmas.List.{length-map}
 use Rattle.bforest_core.specs.Table.{Table}
-use Rattle.bforest_core.specs.Levels.{LevelNode, node, flat, heads, sizes, numbers, FitRow, Solid, Stacked, Topped, Tree, half_of}
+use Rattle.bforest_core.specs.Levels.{LevelNode, node, flat, heads, sizes, numbers, FitRow, Solid, Stacked, Topped, Tree, IsFit, half_of}
 use Rattle.bforest_core.specs.Sizes.{leaf_gain, gain_above, need_above}
-use Rattle.bforest_core.specs.Place.{RowIn, leaf_content, entry_keys, count, Distinct, StandsAbove}
+use Rattle.bforest_core.specs.Place.{RowIn, leaf_content, entry_keys, count, Distinct, StandsAbove, Stands}
 use Rattle.bforest_core.specs.Climb.{Placed, Inserted}
 use Rattle.bforest_core.proofs.LevelRows.{flat-append, sizes-append, FitRow-split}
 use Rattle.bforest_core.proofs.Tables.{count-append, count-row, row-split, row-put, rows-same, ne_from_count, absent_ne, Puts}
 use Rattle.bforest_core.proofs.Zipper.{apart_here}
 use Rattle.bforest_core.proofs.Grow.{FitRow-put, leaf_room}
+use Rattle.bforest_core.proofs.Tops.{root-stands, root-placed}
 use Rattle.bforest_core.proofs.Renew.{Renewed, renew}
 
 -- a list cut behind its first so many
@@ -146,28 +147,32 @@ module _ {K V : Type 0} where
       let c4 = λ (m : ℕ). count-append m (numbers tree.leaves) (flat_map numbers tree.above) in
       let c5 = λ (m : ℕ). count-append m (numbers row2) (flat_map numbers above.rows') in
       let g = room_gain most t ms js tree place d room in
+      let fit' : IsFit most (record { leaves = row2; above = above.rows' }) = record { leaves_fit = FitRow-put (half_of most) most d.before d.after n old es len room d.fit; stacked = above.stacked; topped = above.topped } in
+      let stands : Stands ms js size (record { leaves = row2; above = above.rows' }) place = record {
+        leaf = record { before = d.before; entries = es; after = d.after; row_is = refl; within = omega (arith, d.index_is, length-append d.l (entry ∷ d.r)); place_is = omega (arith, d.place_is, d.index_is) };
+        above = above.stands (length d.before) d.stands;
+        size_is = p.at.size_is ∙ omega (arith, rows_count tree.above above.rows' above.sizes_are);
+      } in
       record {
         tree' = record { leaves = row2; above = above.rows' };
         taken = [];
         flat_is = flat-append d.before _ ∙ sym (insert_flat d.before n d.l d.r d.after entry) ∙ ap (λ z. insert (flat row) z entry) (sym d.place_is) ∙ ap (λ z. insert (flat z) place entry) (sym d.leaves_are);
         sizes_are = ap (λ z. z ∷ map sizes above.rows') (sizes-append d.before (node n es ∷ d.after) ∙ ap (λ z. sizes d.before ++ z ∷ sizes d.after) len) ∙ ap (λ z. (sizes d.before ++ suc (length old) ∷ sizes d.after) ∷ z) above.sizes_are
             ∙ sym (ap (λ z. z.1 ∷ gain_above z.0 (map sizes tree.above)) g);
-        fit = record { leaves_fit = FitRow-put (half_of most) most d.before d.after n old es len room d.fit; stacked = above.stacked; topped = above.topped };
+        fit = fit';
         inside = record {
           leaves_in = row-put leaf_content t.nodes u.nodes d.before n old es d.after d.inside w.same w.here d.none;
           rows_in = rows-same t.nodes u.nodes above.rows' (λ m some. w.same m (ne_from_count m n (flat_map numbers above.rows') some none2)) above.inside;
         };
-        stands = record {
-          leaf = record { before = d.before; entries = es; after = d.after; row_is = refl; within = omega (arith, d.index_is, length-append d.l (entry ∷ d.r)); place_is = omega (arith, d.place_is, d.index_is) };
-          above = above.stands (length d.before) d.stands;
-          size_is = p.at.size_is ∙ omega (arith, rows_count tree.above above.rows' above.sizes_are);
-        };
+        stands = stands;
         numbers_are = λ m. omega (arith, c0 m, c1 m, c2 m, c3 m, c4 m, c5 m);
         taken_is = sym (ap (λ z. need_above z.0 (map sizes tree.above)) g);
         others = λ m z. w.same m (absent_ne m n (numbers d.after) (omega (arith, z, c0 m, c2 m, c4 m)));
         chain_is = sym w.chain_is;
         slots_are = w.slots_are;
         limit_is = w.limit_is;
+        same_root = λ same. root-stands most (record { leaves = row2; above = above.rows' }) ms js size place fit' stands ∙ sym (root-placed most tree ms js size place (omega (arith, room)) p.fit p.at);
+        new_root = λ other. absurd (other (rows_count tree.above above.rows' above.sizes_are));
       }
 
 module _ {K V : Type 0} where

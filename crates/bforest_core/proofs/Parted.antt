@@ -74,6 +74,7 @@ module _ {K V : Type 0} where
         limit_is = h.limit_is;
         nodes_below = λ i low_i. far_m i (λ (e : i ≡ up). omega (arith, e, low_i));
         entries_below = λ i low_i. far_j i (λ (e : i ≡ up). omega (arith, e, low_i));
+        nodes_above = λ i high. far_m i (λ (e : i ≡ up). omega (arith, e, high));
       }
 
   -- the path goes to the left half

@@ -1,6 +1,7 @@
 -- A level whose node became two, and the levels above it.
-use Rattle.std.proofs.Common.{◌≡◌, ℕ, suc, ◌+◌, ◌≤◌, ◌<◌, ◌≢◌, Bool, if◌then◌else◌, List, [], ◌∷◌, ◌++◌, map, length, get_or, slice_get, Some, refl, sym, ap, ◌∙◌, subst, length-append, arith}
+use Rattle.std.proofs.Common.{◌≡◌, ℕ, suc, ◌+◌, ◌-◌, ◌≤◌, ◌<◌, ◌≢◌, Bool, if◌then◌else◌, List, [], ◌∷◌, ◌++◌, map, length, get_or, slice_get, Some, refl, sym, ap, ◌∙◌, subst, length-append, arith}
 use Rattle.std.specs.List.{flat_map}
+use Rattle.std.proofs.lemmas.List.{length-map}
 use Rattle.bforest_core.specs.Content.{Inner}
 use Rattle.bforest_core.specs.Table.{Table}
 use Rattle.bforest_core.specs.Levels.{LevelNode, node, flat, heads, sizes, numbers, Stacked, Topped}
@@ -8,10 +9,15 @@ use Rattle.bforest_core.specs.Sizes.{inner_gain, gain_above, need_above}
 use Rattle.bforest_core.specs.Place.{inner_content, count, Distinct, IsAt, StandsAbove}
 use Rattle.bforest_core.specs.Climb.{Above, Grown, Halved}
 use Rattle.bforest_core.proofs.LevelRows.{heads-append, sizes-append}
-use Rattle.bforest_core.proofs.Tables.{count-append, count-row, row-same, absent_ne, Takes}
+use Rattle.bforest_core.proofs.Tables.{count-append, count-same, count-row, row-same, absent_ne, Takes}
 use Rattle.bforest_core.proofs.Zipper.{Spot}
 use Rattle.bforest_core.proofs.Grow.{heads-halved, gain_some}
 use Rattle.bforest_core.proofs.Room.{step_is, step_most}
+
+-- a level whose node became two has a level above it
+pub gain-some : (p : ℕ) (levels : List (List ℕ)) → 1 ≤ length (gain_above (Some p) levels)
+gain-some p [] = omega arith
+gain-some p (level ∷ levels) = omega arith
 
 module _ {K V : Type 0} where
   -- the need of a level whose node becomes two
@@ -75,6 +81,8 @@ module _ {K V : Type 0} where
         limit_is = g.limit_is ∙ h.limit_is;
         nodes_below = λ i low. g.nodes_below i (omega (arith, low)) ∙ h.nodes_below i low;
         entries_below = λ i low. g.entries_below i (omega (arith, low)) ∙ h.entries_below i low;
+        same_top = λ same. g.same_top same ∙ h.nodes_above (size - 1) (omega (arith, same, g.above.height, ap length g.sizes_are, length-map g.rows' sizes, gain-some (length (heads h.before)) (map sizes h.rest)));
+        new_top = λ other. omega (arith, g.new_top other);
       }
 
   -- the levels above took the right half in
@@ -119,6 +127,9 @@ module _ {K V : Type 0} where
           limit_is = w.limit_is;
           nodes_below = λ i low. far_m i (λ (e : i ≡ size). omega (arith, e, low));
           entries_below = λ i low. far_j i (λ (e : i ≡ size). omega (arith, e, low));
+          same_top = λ same. absurd (omega (arith, same, size_is));
+          new_top = λ other. (let top : size' - 1 ≡ size = omega (arith, size_is) in
+              subst (λ (z : ℕ). 0 < count z (root ∷ [])) (sym (ap (λ z. get_or ms' z 0) top ∙ m_is)) (omega (arith, count-same root [])));
         },
       )
 
@@ -141,11 +152,6 @@ module _ {K V : Type 0} where
       (subst (λ (z : ℕ). Grown t u ms js ms' js' z size1 size' rows hs1 p ss taken) (sym eu)
       (subst (λ (z : ℕ). Grown t u ms js ms' js' up z size' rows hs1 p ss taken) (sym es)
       (subst (λ (z : List (K × ℕ)). Grown t u ms js ms' js' up size size' rows z p ss taken) (sym eh) g)))))
-
--- a level whose node became two has a level above it
-pub gain-some : (p : ℕ) (levels : List (List ℕ)) → 1 ≤ length (gain_above (Some p) levels)
-gain-some p [] = omega arith
-gain-some p (level ∷ levels) = omega arith
 
 -- the top level needs a new root too
 pub need_top : {K : Type 0} (p : ℕ) (rows : List (List (LevelNode K ℕ))) → length rows ≡ 0 → need_above (Some p) (map sizes rows) ≡ 2

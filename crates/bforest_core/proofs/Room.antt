@@ -83,6 +83,8 @@ module _ {K V : Type 0} where
         limit_is = w.limit_is;
         nodes_below = λ i low. refl;
         entries_below = λ i low. far i (λ (e : i ≡ up). omega (arith, e, low));
+        same_top = λ same. refl;
+        new_top = λ other. absurd (other refl);
       }
 
   pub settle_room : (t u : Table K V) (ms js js' : List ℕ) (up size : ℕ) (rows : List (List (LevelNode K ℕ))) (a : List (K × ℕ)) (x y : K × ℕ) (b : List (K × ℕ)) (moved : Bool) → (d : Spot t ms js up size rows a x b) → length (d.q.l ++ x ∷ d.q.r) < 8 → Puts t u (get_or ms up 0) (inner_content (d.q.l ++ x ∷ y ∷ d.q.r)) →

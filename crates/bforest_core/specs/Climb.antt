@@ -4,7 +4,8 @@ use Rattle.std.specs.List.{flat_map}
 use Rattle.bforest_core.specs.Table.{Table}
 use Rattle.bforest_core.specs.Levels.{LevelNode, node, flat, head_of, heads, sizes, numbers, FitRow, Stacked, Topped, Tree, IsFit, half_of, sizes_of}
 use Rattle.bforest_core.specs.Sizes.{inner_gain, leaf_gain, growth, need}
-use Rattle.bforest_core.specs.Place.{RowIn, RowsIn, IsIn, leaf_content, inner_content, count, Distinct, numbers_of, IsAt, StandsAbove, Stands, PlacedAt}
+use Rattle.bforest_core.specs.Descent.{SameAbove}
+use Rattle.bforest_core.specs.Place.{RowIn, RowsIn, IsIn, leaf_content, inner_content, count, Distinct, root_of, numbers_of, IsAt, StandsAbove, Stands, PlacedAt}
 
 -- the path below a level is as before
 abbrev pub SameBelow : ℕ → List ℕ → List ℕ → Type 0
@@ -50,6 +51,8 @@ module _ {K V : Type 0} where
     pub limit_is : new.limit ≡ old.limit
     pub nodes_below : SameBelow level path path'
     pub entries_below : SameBelow level indices indices'
+    pub same_top : size' ≡ size → top_of path' size' ≡ top_of path size
+    pub new_top : size' ≢ size → 0 < count (top_of path' size') taken
 
   -- the path's node on a level was full and became two, with the new child among its entries, which makes this list of
   -- the level below: the rows above wait for the right half, which has this number and this first key, and the path
@@ -79,6 +82,7 @@ module _ {K V : Type 0} where
     pub limit_is : new.limit ≡ old.limit
     pub nodes_below : SameBelow level path path'
     pub entries_below : SameBelow level indices indices'
+    pub nodes_above : SameAbove level path path'
 
   -- the path is at a place for an entry in a fit tree, whose leaves have at most so many, and which lies in the table,
   -- apart from its chain
@@ -104,6 +108,8 @@ module _ {K V : Type 0} where
     pub chain_is : old.chain ≡ taken ++ new.chain
     pub slots_are : length new.nodes ≡ length old.nodes
     pub limit_is : new.limit ≡ old.limit
+    pub same_root : length tree'.above ≡ length tree.above → root_of tree' ≡ root_of tree
+    pub new_root : length tree'.above ≢ length tree.above → 0 < count (root_of tree') taken
 
   -- the path's leaf was full and became two, with the entry in one: the rows above, under the first keys of now, wait
   -- for the right half, which has this number and this first key, and the path goes to the half of its place
@@ -132,3 +138,4 @@ module _ {K V : Type 0} where
     pub chain_is : old.chain ≡ right ∷ new.chain
     pub slots_are : length new.nodes ≡ length old.nodes
     pub limit_is : new.limit ≡ old.limit
+    pub nodes_above : SameAbove 0 path path'

@@ -145,6 +145,7 @@ impl<K: Copy, V: Copy, const N: usize> NodePool<K, V, N> {
         ensures full { (result ≡ Err OutOfMemory.Full) ↔ (room self.old < n) }
         ensures memory { result ≡ Err OutOfMemory.Memory → NeedsGrowth n self.old }
         ensures enough { n ≤ free_count self.old → IsOk result }
+        ensures numbers { slot_count self.old ≤ 4294967295 }
     {
         if n <= self.free {
             return Ok(());

@@ -108,17 +108,6 @@ impl<K: Copy, V: Copy, const N: usize> Path<K, V, N> {
         }
     }
 
-    // Puts an entry in here, where enough nodes lie free. The path stands at it afterwards.
-    fn insert_entry(&mut self, key: K, value: V, pool: &mut NodePool<K, V, N>)
-        requires height { self.old.size ≤ 17 }
-        requires placed { (tree : Tree K V) × (place : ℕ) × Placed N pool.old self.old.node self.old.entry self.old.size tree place × (need N place (sizes_of tree) ≤ length pool.old.chain) × (length (growth N place (sizes_of tree)) ≤ 17) }
-        ensures inserted { (tree : Tree K V) (place : ℕ) → Placed N pool.old self.old.node self.old.entry self.old.size tree place → Inserted N pool.old pool.new self.new.node self.new.entry self.new.size tree place (key, value) }
-    {
-        if !self.put_here(key, value, pool) {
-            self.split_leaf(key, value, pool);
-        }
-    }
-
     // Puts the entry into the path's leaf. Where there is no room it answers false, and nothing changed.
     fn put_here(&self, key: K, value: V, pool: &mut NodePool<K, V, N>) -> bool
         requires placed { (tree : Tree K V) × (place : ℕ) × Placed N pool.old self.now.node self.now.entry self.now.size tree place }

@@ -1,0 +1,157 @@
+-- What an insertion into the tree under a root says of the table, where nodes were made free for it before.
+use Rattle.std.proofs.Common.{◌≡◌, ℕ, suc, ◌+◌, ◌-◌, ◌^◌, ◌≤◌, ◌<◌, ◌≢◌, ◌↔◌, IsTrue, Option, Some, None, List, [], ◌∷◌, ◌++◌, map, length, insert, sym, ap, ◌∙◌, subst, inl, inr, append-nil, length-append, arith}
+use Rattle.std.specs.List.{flat_map}
+use Rattle.std.proofs.lemmas.Bool.{cases_lt}
+use Rattle.std.proofs.lemmas.Bool.Decides.{eqb_tells}
+use Rattle.std.proofs.lemmas.List.{length-map}
+use Rattle.bforest_core.specs.Table.{Table, down_from, fresh_nodes, front_of, free_count, slot_count, room, reserved}
+use Rattle.bforest_core.specs.Levels.{LevelNode, node, flat, heads, sizes, numbers, Stacked, Topped, Tree, sizes_of}
+use Rattle.bforest_core.specs.Sizes.{leaf_gain, gain_above, growth, need}
+use Rattle.bforest_core.specs.Place.{IsAt, Stands, count, root_of, numbers_of}
+use Rattle.bforest_core.specs.Climb.{top_of, Placed, Inserted}
+use Rattle.bforest_core.specs.Trees.{tree_of, is_root, IsUnion}
+use Rattle.bforest_core.specs.Change.{Changes, TakesNodes, PlacedUnder, StandsUnder}
+use Rattle.bforest_core.proofs.LevelRows.{flat-append}
+use Rattle.bforest_core.proofs.Tables.{count-append}
+use Rattle.bforest_core.proofs.Chains.{length-fresh_nodes, length-down_from}
+use Rattle.bforest_core.proofs.Counts.{once_below, below-one, past-none, few-below}
+use Rattle.bforest_core.proofs.Forests.{root-among}
+use Rattle.bforest_core.proofs.Bounds.{climb-seventeen}
+use Rattle.bforest_core.proofs.Unions.{Rooted, IsPlanted, rooted}
+use Rattle.bforest_core.proofs.Roots.{exchanged}
+use Rattle.bforest_core.proofs.Reserved.{reserved-union, reserved-roots, reserved-then}
+use Rattle.bforest_core.proofs.Tops.{root-stands}
+
+-- a row has the entries of each of its nodes
+row_some : {K X : Type 0} (row : List (LevelNode K X)) (n index place : ℕ) → IsAt row n index place → 1 ≤ length (flat row)
+row_some row n index place at =
+    omega (arith, ap (λ z. length (flat z)) at.row_is, ap length (flat-append at.before (node n at.entries ∷ at.after)), length-append (flat at.before) (at.entries ++ flat at.after), length-append at.entries (flat at.after), at.within)
+
+-- a row is seen as no more nodes than it has
+heads-few : {K X : Type 0} (row : List (LevelNode K X)) → length (heads row) ≤ length (numbers row)
+heads-few [] = omega arith
+heads-few (node n [] ∷ row) = omega (arith, heads-few row)
+heads-few (node n (e ∷ es) ∷ row) = omega (arith, heads-few row)
+
+-- an insertion leaves at most 16 rows above the leaves
+gain-low : {K : Type 0} (k : Option ℕ) (hs : List (K × ℕ)) (rows : List (List (LevelNode K ℕ))) → Stacked hs rows → Topped hs rows → length hs < 2 ^ 32 → length rows ≤ 16 → length (gain_above k (map sizes rows)) ≤ 16
+gain-low None hs rows s t few low = omega (arith, low, length-map rows sizes)
+gain-low (Some p) hs rows s t few low = climb-seventeen p hs rows s t few low
+
+module _ {K V : Type 0} where
+  -- a tree has no more leaves than there are slots
+  leaves_within : (most : ℕ) (table : Table K V) (root : ℕ) (tree : Tree K V) → Rooted most table root tree → length (heads tree.leaves) ≤ length table.nodes
+  leaves_within most table root tree r =
+      let c = λ (m : ℕ). count-append m (numbers tree.leaves) (flat_map numbers tree.above) in
+      let once : (m : ℕ) → count m (numbers tree.leaves) ≤ once_below m (length table.nodes) = λ m. elim (cases_lt m (length table.nodes)) [
+        | inl low ↦ omega (arith, below-one m (length table.nodes) low, c m, count-append m (numbers_of tree) table.chain, r.apart m)
+        | inr past ↦ elim (cases_lt 0 (count m (numbers tree.leaves))) [
+          | inl some ↦ absurd (omega (arith, past, r.within m (omega (arith, some, c m))))
+          | inr none ↦ omega (arith, none)
+        ]
+      ] in
+      omega (arith, heads-few tree.leaves, few-below (length table.nodes) (numbers tree.leaves) once)
+
+  -- an insertion leaves at most 17 levels, where the slots have numbers
+  pub growth-low : (most : ℕ) (table : Table K V) (root place : ℕ) → IsUnion most table → IsTrue (is_root table.nodes root) → slot_count table ≤ 4294967295 → length (growth most place (sizes_of (tree_of table.nodes root))) ≤ 17
+  growth-low most table root place union is slots =
+      let r = rooted most table root union is in
+      let tree = tree_of table.nodes root in
+      let few : length (heads tree.leaves) < 2 ^ 32 = omega (arith, leaves_within most table root tree r, slots) in
+      omega (arith, gain-low (leaf_gain most place (sizes tree.leaves)).0 (heads tree.leaves) tree.above r.fit.stacked r.fit.topped few r.low)
+
+  -- a path under a root is at a place of its tree, which lies in the table
+  pub placed-under : (most : ℕ) (table : Table K V) (root place : ℕ) (path indices : List ℕ) (size : ℕ) → IsUnion most table → PlacedUnder table.nodes root path indices size place → Placed most table path indices size (tree_of table.nodes root) place
+  placed-under most table root place path indices size union p =
+      let r = rooted most table root union p.root_is in
+      record { fit = r.fit; inside = r.inside; apart = r.apart; at = p.at }
+
+  -- and has at least one level and at most 17
+  pub under-low : (most : ℕ) (table : Table K V) (root place : ℕ) (path indices : List ℕ) (size : ℕ) → IsUnion most table → PlacedUnder table.nodes root path indices size place → (0 < size) × (size ≤ 17)
+  under-low most table root place path indices size union p =
+      let r = rooted most table root union p.root_is in
+      (omega (arith, p.at.size_is), omega (arith, p.at.size_is, r.low))
+
+  -- the same after nodes were made free
+  pub placed-reserved : (most : ℕ) (table : Table K V) (n root place : ℕ) (path indices : List ℕ) (size : ℕ) → IsUnion most table → PlacedUnder table.nodes root path indices size place → Placed most (reserved table n) path indices size (tree_of table.nodes root) place
+  placed-reserved most table n root place path indices size union p =
+      let same = reserved-roots most table n union root in
+      let r = rooted most (reserved table n) root (reserved-union most table n union) (same.0 ∙ p.root_is) in
+      let s = subst (λ (z : Tree K V). Rooted most (reserved table n) root z) (same.1 p.root_is) r in
+      record { fit = s.fit; inside = s.inside; apart = s.apart; at = p.at }
+
+  -- so many lie free then
+  pub reserved-free : (table : Table K V) (n : ℕ) → length (reserved table n).chain ≡ (n - free_count table) + free_count table
+  reserved-free table n = omega (arith, length-append (down_from (slot_count table) (n - free_count table)) table.chain, length-down_from (slot_count table) (n - free_count table))
+
+  -- of so many slots
+  reserved-slots : (table : Table K V) (n : ℕ) → length (reserved table n).nodes ≡ slot_count table + (n - free_count table)
+  reserved-slots table n = omega (arith, length-append table.nodes (fresh_nodes (slot_count table) (n - free_count table) (front_of table.chain)), length-fresh_nodes K V (slot_count table) (n - free_count table) (front_of table.chain))
+
+  -- where so many lay free already, nothing changed
+  pub reserved-enough : (table : Table K V) (n : ℕ) → n ≤ free_count table → reserved table n ≡ table
+  reserved-enough table n enough =
+      let none : n - free_count table ≡ 0 = omega (arith, enough) in
+      rw none (ap (λ z. record table { nodes = z }) (append-nil table.nodes))
+
+  -- all that an insertion says of the table and of the path
+  pub record Insertion (most : ℕ) (old new : Table K V) (root root' place : ℕ) (entry : K × V) (path' indices' : List ℕ) (size' : ℕ) : Type 0 where
+    pub changes : Changes most old new root root' (insert (flat (tree_of old.nodes root).leaves) place entry) (growth most place (sizes_of (tree_of old.nodes root)))
+    pub takes : TakesNodes (need most place (sizes_of (tree_of old.nodes root))) old new
+    pub stands : StandsUnder new.nodes root' path' indices' size' place
+    pub same_root : (root' ≡ root) ↔ (length (growth most place (sizes_of (tree_of old.nodes root))) ≡ length (sizes_of (tree_of old.nodes root)))
+
+  -- a root that was on the chain is another than before
+  new_ne : (most : ℕ) (table new : Table K V) (root : ℕ) (tree : Tree K V) (root' : ℕ) (taken : List ℕ) → Rooted most table root tree → table.chain ≡ taken ++ new.chain → 0 < count root' taken → root' ≢ root
+  new_ne most table new root tree root' taken r chain_is some same =
+      let among = subst (λ (z : ℕ). 0 < count z (numbers_of tree)) (r.root_is ∙ sym same) (root-among most table.nodes tree r.fit r.inside r.some) in
+      omega (arith, among, some, r.apart root', count-append root' (numbers_of tree) table.chain, ap (λ z. count root' z) chain_is, count-append root' taken new.chain)
+
+  -- under the number of its tree's root
+  inserted_root : (most : ℕ) (old new : Table K V) (root place : ℕ) (path' indices' : List ℕ) (size' : ℕ) (entry : K × V) → IsUnion most old → IsTrue (is_root old.nodes root) → size' ≤ 17 →
+      (i : Inserted most (reserved old (need most place (sizes_of (tree_of old.nodes root)))) new path' indices' size' (tree_of old.nodes root) place entry) → Insertion most old new root (root_of i.tree') place entry path' indices' size'
+  inserted_root most old new root place path' indices' size' entry union is low i =
+      let tree = tree_of old.nodes root in
+      let n = need most place (sizes_of tree) in
+      let mid = reserved old n in
+      let root' = root_of i.tree' in
+      let roots = reserved-roots most old n union root in
+      let same = roots.1 is in
+      let union_mid = reserved-union most old n union in
+      let r = subst (λ (z : Tree K V). Rooted most mid root z) same (rooted most mid root union_mid (roots.0 ∙ is)) in
+      let nums = λ (m : ℕ). ap (λ z. count m (numbers_of z)) same in
+      let planted : IsPlanted most new.nodes i.tree' = record { fit = i.fit; inside = i.inside; some = row_some i.tree'.leaves _ _ _ i.stands.leaf; low = omega (arith, low, i.stands.size_is) } in
+      let e = exchanged most mid new root i.tree' i.taken union_mid (roots.0 ∙ is) planted i.chain_is i.slots_are (λ m. omega (arith, i.numbers_are m, nums m)) (λ m none. i.others m (omega (arith, none, nums m))) in
+      let levels : length (growth most place (sizes_of tree)) ≡ suc (length i.tree'.above) = omega (arith, ap length i.sizes_are, length-map i.tree'.above sizes) in
+      let levels_were : length (sizes_of tree) ≡ suc (length tree.above) = omega (arith, length-map tree.above sizes) in
+      record {
+        changes = record {
+          union = e.union;
+          root_is = e.root_is;
+          list_is = ap (λ z. flat z.leaves) e.tree_is ∙ i.flat_is;
+          sizes_are = ap sizes_of e.tree_is ∙ i.sizes_are;
+          others = reserved-then most old n new root root' union e.others;
+          old_gone = e.old_gone;
+          new_came = λ ne was. e.new_came ne ((reserved-roots most old n union root').0 ∙ was);
+          limit_is = i.limit_is;
+        };
+        takes = record {
+          slots = i.slots_are ∙ reserved-slots old n;
+          free = omega (arith, ap length i.chain_is, length-append i.taken new.chain, i.taken_is, reserved-free old n);
+        };
+        stands = record { root_is = e.root_is; stands = subst (λ (z : Tree K V). Stands path' indices' size' z place) (sym e.tree_is) i.stands };
+        same_root = (
+          λ same_number. elim (eqb_tells (length i.tree'.above) (length tree.above)) [
+            | inl w ↦ omega (arith, levels, levels_were, w.1)
+            | inr w ↦ absurd (new_ne most mid new root tree root' i.taken r i.chain_is (i.new_root w.1) same_number)
+          ],
+          λ same_levels. i.same_root (omega (arith, levels, levels_were, same_levels)) ∙ r.root_is,
+        );
+      }
+
+  -- an entry came into the tree under a root, after as many nodes were made free as it needs
+  pub insertion : (most : ℕ) (old new : Table K V) (root place : ℕ) (path' indices' : List ℕ) (size' : ℕ) (entry : K × V) → IsUnion most old → IsTrue (is_root old.nodes root) → size' ≤ 17 →
+      Inserted most (reserved old (need most place (sizes_of (tree_of old.nodes root)))) new path' indices' size' (tree_of old.nodes root) place entry → Insertion most old new root (top_of path' size') place entry path' indices' size'
+  insertion most old new root place path' indices' size' entry union is low i =
+      subst (λ (z : ℕ). Insertion most old new root z place entry path' indices' size') (root-stands most i.tree' path' indices' size' place i.fit i.stands)
+      (inserted_root most old new root place path' indices' size' entry union is low i)
