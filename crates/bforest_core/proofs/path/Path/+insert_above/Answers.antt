@@ -97,6 +97,16 @@ returns-then-not-insert_here g t c = λ rows a first b p.
     let g3 = rise t1 t2 t3 s1.node s1.entry s2.node s2.entry s3.node s3.entry up s1.size s3.size rows _ _ (length a) (length a) _ _ _ _ r.0 above h g2 in
     (c.split_here-next.result.1 ∷ r.0, omega (arith, needs, r.1), grown_from t1 t0 t3 s1.node s0.node s1.entry s0.entry s3.node s3.entry up up s1.size s0.size s3.size rows _ _ _ _ _ (sym pool_is) (sym node_is) (sym entry_is) refl (sym size_is) refl g3)
 
+pub returns-then-up-self : goal.returns-then-up-self
+returns-then-up-self g t c = λ rows a first b p.
+    let s0 = c.args.self.now in
+    let s1 = c.push_root.new.self in
+    let t0 = c.args.pool.now in
+    let up = c.args.up in
+    let top : up ≡ s0.size = c.if-up-self.true in
+    let r = c.push_root.ensures rows a first b (above_from t0 t0 s0.node s0.node s0.entry s0.entry up s0.size s0.size s0.size rows _ _ (length a) refl refl refl (sym top) refl refl p) in
+    (r.0, r.1, grown_from t0 t0 c.push_root.new.pool s0.node s0.node s0.entry s0.entry s1.node s1.entry s0.size up s0.size s0.size s1.size rows _ _ _ _ r.0 refl refl refl top refl refl r.2)
+
 pub returns-else-not-insert_here : goal.returns-else-not-insert_here
 returns-else-not-insert_here g t c = λ rows a first b p.
     let w = c.insert_here.ensures.grown c.if-not-insert_here.false rows a (first, c.args.left) b p in
