@@ -1,10 +1,11 @@
 -- What an insertion into the tree under a root says of the table, where nodes were made free for it before.
-use Rattle.std.proofs.Common.{◌≡◌, ℕ, suc, ◌+◌, ◌-◌, ◌^◌, ◌≤◌, ◌<◌, ◌≢◌, ◌↔◌, IsTrue, Option, Some, None, List, [], ◌∷◌, ◌++◌, map, length, insert, sym, ap, ◌∙◌, subst, inl, inr, append-nil, length-append, arith}
+use Rattle.std.proofs.Common.{◌≡◌, ℕ, suc, ◌+◌, ◌-◌, ◌^◌, ◌≤◌, ◌<◌, ◌≢◌, ◌↔◌, IsTrue, Option, Some, None, List, [], ◌∷◌, ◌++◌, map, length, insert, slice_get, sym, ap, ◌∙◌, subst, inl, inr, append-nil, length-append, arith}
 use Rattle.std.specs.List.{flat_map}
 use Rattle.std.proofs.lemmas.Bool.{cases_lt}
 use Rattle.std.proofs.lemmas.Bool.Decides.{eqb_tells}
 use Rattle.std.proofs.lemmas.List.{length-map}
-use Rattle.bforest_core.specs.Table.{Table, down_from, fresh_nodes, front_of, free_count, slot_count, room, reserved}
+use Rattle.bforest_core.specs.Content.{Content}
+use Rattle.bforest_core.specs.Table.{Table, down_from, fresh_nodes, front_of, free_count, slot_count, room, reserved, IsFullAt}
 use Rattle.bforest_core.specs.Levels.{LevelNode, node, flat, heads, sizes, numbers, Stacked, Topped, Tree, sizes_of}
 use Rattle.bforest_core.specs.Sizes.{leaf_gain, gain_above, growth, need}
 use Rattle.bforest_core.specs.Place.{IsAt, Stands, count, root_of, numbers_of}
@@ -13,6 +14,7 @@ use Rattle.bforest_core.specs.Trees.{tree_of, is_root, IsUnion}
 use Rattle.bforest_core.specs.Change.{Changes, TakesNodes, PlacedUnder, StandsUnder}
 use Rattle.bforest_core.proofs.LevelRows.{flat-append}
 use Rattle.bforest_core.proofs.Tables.{count-append}
+use Rattle.bforest_core.proofs.Lists.{slice_get-append_left}
 use Rattle.bforest_core.proofs.Chains.{length-fresh_nodes, length-down_from}
 use Rattle.bforest_core.proofs.Counts.{once_below, below-one, past-none, few-below}
 use Rattle.bforest_core.proofs.Forests.{root-among}
@@ -20,6 +22,7 @@ use Rattle.bforest_core.proofs.Bounds.{climb-seventeen}
 use Rattle.bforest_core.proofs.Unions.{Rooted, IsPlanted, rooted}
 use Rattle.bforest_core.proofs.Roots.{exchanged}
 use Rattle.bforest_core.proofs.Reserved.{reserved-union, reserved-roots, reserved-then}
+use Rattle.bforest_core.proofs.LeafSpot.{inserted_from}
 use Rattle.bforest_core.proofs.Tops.{root-stands}
 
 -- a row has the entries of each of its nodes
@@ -155,3 +158,42 @@ module _ {K V : Type 0} where
   insertion most old new root place path' indices' size' entry union is low i =
       subst (λ (z : ℕ). Insertion most old new root z place entry path' indices' size') (root-stands most i.tree' path' indices' size' place i.fit i.stands)
       (inserted_root most old new root place path' indices' size' entry union is low i)
+
+  -- an entry came in, with or without new nodes, and the path has as many levels as it can
+  pub record Put (most : ℕ) (old new : Table K V) (root place : ℕ) (entry : K × V) (path' indices' : List ℕ) (size' : ℕ) : Type 0 where
+    pub some : 0 < size'
+    pub low : size' ≤ 17
+    pub is : Insertion most old new root (top_of path' size') place entry path' indices' size'
+    pub enough : need most place (sizes_of (tree_of old.nodes root)) ≤ room old
+
+  -- where the leaf had room
+  pub put-here : (most : ℕ) (old new : Table K V) (root place : ℕ) (path indices : List ℕ) (size : ℕ) (entry : K × V) → IsUnion most old → PlacedUnder old.nodes root path indices size place →
+      Inserted most old new path indices size (tree_of old.nodes root) place entry → Put most old new root place entry path indices size
+  put-here most old new root place path indices size entry union p i =
+      let n = need most place (sizes_of (tree_of old.nodes root)) in
+      let enough : n ≤ free_count old = omega (arith, i.taken_is, ap length i.chain_is, length-append i.taken new.chain) in
+      let levels = under-low most old root place path indices size union p in
+      record {
+        some = levels.0;
+        low = levels.1;
+        is = insertion most old new root place path indices size entry union p.root_is levels.1 (inserted_from most old (reserved old n) new path indices size (tree_of old.nodes root) place entry (reserved-enough old n enough) i);
+        enough = omega (arith, enough);
+      }
+
+  -- where it became two
+  pub put-split : (most : ℕ) (old mid new : Table K V) (root place : ℕ) (path' indices' : List ℕ) (size' : ℕ) (entry : K × V) → IsUnion most old → IsTrue (is_root old.nodes root) → slot_count old ≤ 4294967295 → need most place (sizes_of (tree_of old.nodes root)) ≤ room old →
+      mid ≡ reserved old (need most place (sizes_of (tree_of old.nodes root))) → Inserted most mid new path' indices' size' (tree_of old.nodes root) place entry → Put most old new root place entry path' indices' size'
+  put-split most old mid new root place path' indices' size' entry union is slots enough mid_is i =
+      let n = need most place (sizes_of (tree_of old.nodes root)) in
+      let low : size' ≤ 17 = omega (arith, i.stands.size_is, ap length i.sizes_are, length-map i.tree'.above sizes, growth-low most old root place union is slots) in
+      record {
+        some = omega (arith, i.stands.size_is);
+        low = low;
+        is = insertion most old new root place path' indices' size' entry union is low (inserted_from most mid (reserved old n) new path' indices' size' (tree_of old.nodes root) place entry (sym mid_is) i);
+        enough = enough;
+      }
+
+  -- a full leaf is still full after nodes were made free
+  pub full-reserved : (most : ℕ) (table : Table K V) (n m : ℕ) (content : Content K V) → slice_get table.nodes m ≡ Some content → IsFullAt most table.nodes m → IsFullAt most (reserved table n).nodes m
+  full-reserved most table n m content found full =
+      rw (slice_get-append_left table.nodes (fresh_nodes (slot_count table) (n - free_count table) (front_of table.chain)) m content found) (rw found at full)
