@@ -1,9 +1,10 @@
 -- What an insertion into the tree under a root says of the table, where nodes were made free for it before.
-use Rattle.std.proofs.Common.{◌≡◌, ℕ, suc, ◌+◌, ◌-◌, ◌^◌, ◌≤◌, ◌<◌, ◌≢◌, ◌↔◌, IsTrue, Option, Some, None, List, [], ◌∷◌, ◌++◌, map, length, insert, slice_get, sym, ap, ◌∙◌, subst, inl, inr, append-nil, length-append, arith}
+use Rattle.std.proofs.Common.{◌≡◌, ℕ, suc, ◌+◌, ◌-◌, ◌^◌, ◌≤◌, ◌<◌, ◌≢◌, ◌↔◌, IsTrue, Option, Some, None, Result, Err, List, [], ◌∷◌, ◌++◌, map, length, insert, slice_get, sym, ap, ◌∙◌, subst, inl, inr, append-nil, length-append, arith}
 use Rattle.std.specs.List.{flat_map}
 use Rattle.std.proofs.lemmas.Bool.{cases_lt}
 use Rattle.std.proofs.lemmas.Bool.Decides.{eqb_tells}
 use Rattle.std.proofs.lemmas.List.{length-map}
+use Rattle.bforest_core.specs.declared.path.Path.{Path}
 use Rattle.bforest_core.specs.Content.{Content}
 use Rattle.bforest_core.specs.Table.{Table, down_from, fresh_nodes, front_of, free_count, slot_count, room, reserved, IsFullAt}
 use Rattle.bforest_core.specs.Levels.{LevelNode, node, flat, heads, sizes, numbers, Stacked, Topped, Tree, sizes_of}
@@ -197,3 +198,17 @@ module _ {K V : Type 0} where
   pub full-reserved : (most : ℕ) (table : Table K V) (n m : ℕ) (content : Content K V) → slice_get table.nodes m ≡ Some content → IsFullAt most table.nodes m → IsFullAt most (reserved table n).nodes m
   full-reserved most table n m content found full =
       rw (slice_get-append_left table.nodes (fresh_nodes (slot_count table) (n - free_count table) (front_of table.chain)) m content found) (rw found at full)
+
+  -- by equations of tables and of paths
+  pub put-from : (most : ℕ) (old new new1 : Table K V) (root place : ℕ) (entry : K × V) (most1 : ℕ) (at at1 : Path K V most1) → new1 ≡ new → at1 ≡ at → Put most old new root place entry at.node at.entry at.size → Put most old new1 root place entry at1.node at1.entry at1.size
+  put-from most old new new1 root place entry most1 at at1 e1 e2 p =
+      subst (λ (z : Table K V). Put most old z root place entry at1.node at1.entry at1.size) (sym e1)
+      (subst (λ (z : Path K V most1). Put most old new root place entry z.node z.entry z.size) (sym e2) p)
+
+-- errors of two calls that are one are one as the first call answers them
+pub err-same : {A B E : Type 0} (x : Result A E) (e f : E) (y z : Result B E) → x ≡ Err e → x ≡ Err f → y ≡ Err e → z ≡ Err f → y ≡ z
+err-same x e f y z xe xf ye zf = let same : e ≡ f = cc in ye ∙ ap Err same ∙ sym zf
+
+-- and as the second does
+pub err-back : {A B E : Type 0} (x : Result A E) (e f : E) (y z : Result B E) → x ≡ Err e → y ≡ Err e → z ≡ Err f → y ≡ z → x ≡ Err f
+err-back x e f y z xe ye zf yz = let same : e ≡ f = cc in xe ∙ ap Err same
