@@ -17,13 +17,13 @@ use Rattle.bforest_core.proofs.LevelRows.{flat-append}
 use Rattle.bforest_core.proofs.Tables.{count-append}
 use Rattle.bforest_core.proofs.Lists.{slice_get-append_left}
 use Rattle.bforest_core.proofs.Chains.{length-fresh_nodes, length-down_from}
-use Rattle.bforest_core.proofs.Counts.{once_below, below-one, past-none, few-below}
+use Rattle.bforest_core.proofs.Counts.{once_below, below-one, few-below}
 use Rattle.bforest_core.proofs.Forests.{root-among}
 use Rattle.bforest_core.proofs.Bounds.{climb-seventeen}
 use Rattle.bforest_core.proofs.Unions.{Rooted, IsPlanted, rooted}
 use Rattle.bforest_core.proofs.Roots.{exchanged}
 use Rattle.bforest_core.proofs.Reserved.{reserved-union, reserved-roots, reserved-then}
-use Rattle.bforest_core.proofs.LeafSpot.{inserted_from}
+use Rattle.bforest_core.proofs.LeafSpot.{placed_from, inserted_from}
 use Rattle.bforest_core.proofs.Tops.{root-stands}
 
 -- a row has the entries of each of its nodes
@@ -77,7 +77,7 @@ module _ {K V : Type 0} where
       (omega (arith, p.at.size_is), omega (arith, p.at.size_is, r.low))
 
   -- the same after nodes were made free
-  pub placed-reserved : (most : ℕ) (table : Table K V) (n root place : ℕ) (path indices : List ℕ) (size : ℕ) → IsUnion most table → PlacedUnder table.nodes root path indices size place → Placed most (reserved table n) path indices size (tree_of table.nodes root) place
+  placed-reserved : (most : ℕ) (table : Table K V) (n root place : ℕ) (path indices : List ℕ) (size : ℕ) → IsUnion most table → PlacedUnder table.nodes root path indices size place → Placed most (reserved table n) path indices size (tree_of table.nodes root) place
   placed-reserved most table n root place path indices size union p =
       let same = reserved-roots most table n union root in
       let r = rooted most (reserved table n) root (reserved-union most table n union) (same.0 ∙ p.root_is) in
@@ -181,17 +181,35 @@ module _ {K V : Type 0} where
         enough = omega (arith, enough);
       }
 
-  -- where it became two
-  pub put-split : (most : ℕ) (old mid new : Table K V) (root place : ℕ) (path' indices' : List ℕ) (size' : ℕ) (entry : K × V) → IsUnion most old → IsTrue (is_root old.nodes root) → slot_count old ≤ 4294967295 → need most place (sizes_of (tree_of old.nodes root)) ≤ room old →
-      mid ≡ reserved old (need most place (sizes_of (tree_of old.nodes root))) → Inserted most mid new path' indices' size' (tree_of old.nodes root) place entry → Put most old new root place entry path' indices' size'
-  put-split most old mid new root place path' indices' size' entry union is slots enough mid_is i =
-      let n = need most place (sizes_of (tree_of old.nodes root)) in
-      let low : size' ≤ 17 = omega (arith, i.stands.size_is, ap length i.sizes_are, length-map i.tree'.above sizes, growth-low most old root place union is slots) in
+  -- so many nodes were made free as an insertion needs
+  pub mid-is : (most : ℕ) (old was mid : Table K V) (root place : ℕ) (path indices : List ℕ) (size n : ℕ) → IsUnion most old → PlacedUnder old.nodes root path indices size place → was ≡ old →
+      ((tree : Tree K V) (place : ℕ) → Placed most was path indices size tree place → n ≡ need most place (sizes_of tree)) → mid ≡ reserved was n → mid ≡ reserved old (need most place (sizes_of (tree_of old.nodes root)))
+  mid-is most old was mid root place path indices size n union p was_is needs mid_is =
+      let tree = tree_of old.nodes root in
+      let n_is = needs tree place (placed_from most old was path indices size tree place was_is (placed-under most old root place path indices size union p)) in
+      mid_is ∙ ap (λ z. reserved z n) was_is ∙ ap (λ z. reserved old z) n_is
+
+  -- and the path is at the place still
+  pub placed-mid : (most : ℕ) (old mid : Table K V) (root place : ℕ) (path indices : List ℕ) (size n : ℕ) → IsUnion most old → PlacedUnder old.nodes root path indices size place → mid ≡ reserved old n → Placed most mid path indices size (tree_of old.nodes root) place
+  placed-mid most old mid root place path indices size n union p mid_is =
+      placed_from most (reserved old n) mid path indices size (tree_of old.nodes root) place mid_is (placed-reserved most old n root place path indices size union p)
+
+  -- where the leaf became two, after so many nodes were made free
+  pub put-split : (most : ℕ) (old was mid new : Table K V) (root place : ℕ) (path indices : List ℕ) (size n : ℕ) (path' indices' : List ℕ) (size' : ℕ) (entry : K × V) → IsUnion most old → PlacedUnder old.nodes root path indices size place → was ≡ old → slot_count was ≤ 4294967295 →
+      ((tree : Tree K V) (place : ℕ) → Placed most was path indices size tree place → n ≡ need most place (sizes_of tree)) → ¬ (room was < n) → mid ≡ reserved was n →
+      ((tree : Tree K V) (place : ℕ) → Placed most mid path indices size tree place → Inserted most mid new path' indices' size' tree place entry) → Put most old new root place entry path' indices' size'
+  put-split most old was mid new root place path indices size n path' indices' size' entry union p was_is slots needs enough mid_is inserts =
+      let tree = tree_of old.nodes root in
+      let n_is = needs tree place (placed_from most old was path indices size tree place was_is (placed-under most old root place path indices size union p)) in
+      let mid_old = mid-is most old was mid root place path indices size n union p was_is needs mid_is in
+      let i = inserts tree place (placed-mid most old mid root place path indices size (need most place (sizes_of tree)) union p mid_old) in
+      let slots_old : slot_count old ≤ 4294967295 = omega (arith, slots, ap (λ z. length z.nodes) was_is) in
+      let low : size' ≤ 17 = omega (arith, i.stands.size_is, ap length i.sizes_are, length-map i.tree'.above sizes, growth-low most old root place union p.root_is slots_old) in
       record {
         some = omega (arith, i.stands.size_is);
         low = low;
-        is = insertion most old new root place path' indices' size' entry union is low (inserted_from most mid (reserved old n) new path' indices' size' (tree_of old.nodes root) place entry (sym mid_is) i);
-        enough = enough;
+        is = insertion most old new root place path' indices' size' entry union p.root_is low (inserted_from most mid (reserved old (need most place (sizes_of tree))) new path' indices' size' tree place entry (sym mid_old) i);
+        enough = omega (arith, enough, n_is, ap (λ z. room z) was_is);
       }
 
   -- a full leaf is still full after nodes were made free

@@ -123,8 +123,3 @@ module _ {K V : Type 0} where
 -- a node that does not say that it is full
 pub not_so : {A : Type 0} (full : Bool) → full ≡ false → (IsTrue full ↔ A) → ¬ A
 not_so full none h = λ a. false≢true (sym none ∙ h.1 a)
-
--- a level whose node becomes two needs a node
-pub need_pos : (p : ℕ) (levels : List (List ℕ)) → 1 ≤ need_above (Some p) levels
-need_pos p [] = omega arith
-need_pos p (level ∷ levels) = omega arith

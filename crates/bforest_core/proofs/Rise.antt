@@ -158,7 +158,8 @@ pub need_top : {K : Type 0} (p : ℕ) (rows : List (List (LevelNode K ℕ))) →
 need_top p [] none = refl
 need_top p (row ∷ rows) none = absurd (omega (arith, none))
 
-need_some : (p : ℕ) (levels : List (List ℕ)) → 1 ≤ need_above (Some p) levels
+-- a level whose node becomes two needs a node
+pub need_some : (p : ℕ) (levels : List (List ℕ)) → 1 ≤ need_above (Some p) levels
 need_some p [] = omega arith
 need_some p (level ∷ levels) = omega arith
 

@@ -1,7 +1,7 @@
 -- The node on the top level of a path that stands in a tree is the tree's root.
-use Rattle.std.proofs.Common.{◌≡◌, ℕ, suc, ◌+◌, ◌-◌, ◌≤◌, ◌<◌, List, [], ◌∷◌, ◌++◌, length, get_or, refl, sym, ap, ◌∙◌, subst, length-append, arith}
-use Rattle.bforest_core.specs.Levels.{LevelNode, node, flat, heads, FitRow, Stacked, Tree, IsFit, half_of}
-use Rattle.bforest_core.specs.Place.{first_number, root_above, root_of, IsAt, StandsAbove, Stands, PlacedAt}
+use Rattle.std.proofs.Common.{◌≡◌, ℕ, suc, ◌+◌, ◌-◌, ◌≤◌, List, [], ◌∷◌, ◌++◌, length, get_or, refl, sym, ap, ◌∙◌, subst, length-append, arith}
+use Rattle.bforest_core.specs.Levels.{LevelNode, node, heads, FitRow, Stacked, Tree, IsFit, half_of}
+use Rattle.bforest_core.specs.Place.{first_number, root_above, root_of, StandsAbove, Stands, PlacedAt}
 use Rattle.bforest_core.specs.Climb.{top_of}
 use Rattle.bforest_core.proofs.LevelRows.{heads-append, FitRow-split, least-pos}
 

@@ -38,7 +38,8 @@ module _ {K V : Type 0} where
     pub limit_is : new.limit ≡ old.limit
 
   -- the rows from a level on after a new node came into the level, whose nodes are the list now and whose path goes to
-  -- the place: the rows have these sizes, and their new numbers are those taken, from the front of the chain
+  -- the place: the rows have these sizes, and their new numbers are those taken, from the front of the chain. The root
+  -- is the old one, or one of those taken where there is a level more
   pub record Grown (old new : Table K V) (path indices path' indices' : List ℕ) (level size size' : ℕ) (rows : List (List (LevelNode K ℕ))) (list : List (K × ℕ)) (place : ℕ) (sizes_after : List (List ℕ)) (taken : List ℕ) : Type 0 where
     pub rows' : List (List (LevelNode K ℕ))
     pub above : Above new path' indices' level size' rows' list place
@@ -93,7 +94,8 @@ module _ {K V : Type 0} where
     pub at : PlacedAt path indices size tree place
 
   -- the entry came into the tree at the place, where the path stands now: the nodes have the sizes of `growth`, and the
-  -- new ones are those taken from the front of the chain
+  -- new ones are those taken from the front of the chain. The root is the old one, or one of those taken where there is
+  -- a level more
   pub record Inserted (most : ℕ) (old new : Table K V) (path' indices' : List ℕ) (size' : ℕ) (tree : Tree K V) (place : ℕ) (entry : K × V) : Type 0 where
     pub tree' : Tree K V
     pub taken : List ℕ

@@ -1,13 +1,13 @@
-use Rattle.std.proofs.Common.{rules, ◌≡◌, ℕ, ◌<◌, ◌≤◌, ◌++◌, Err, length, get_or, refl, sym, ap, ◌∙◌, subst, arith}
+use Rattle.std.proofs.Common.{rules, ◌≡◌, ℕ, ◌++◌, Err, length, get_or, refl, ap, ◌∙◌, subst, arith}
 use Rattle.std.proofs.lemmas.Result.{err_from_is_err_and}
-use Rattle.bforest_core.specs.Table.{Table, NeedsGrowth, slot_count, room, reserved}
+use Rattle.bforest_core.specs.Table.{Table, NeedsGrowth, room}
 use Rattle.bforest_core.specs.Levels.{sizes_of}
 use Rattle.bforest_core.specs.Sizes.{need}
 use Rattle.bforest_core.specs.Place.{leaf_content}
 use Rattle.bforest_core.specs.Change.{PlacedUnder}
 use Rattle.bforest_core.specs.Trees.{tree_of}
 use Rattle.bforest_core.proofs.LeafSpot.{leaf_spot, placed_from}
-use Rattle.bforest_core.proofs.Insertion.{placed-under, under-low, placed-reserved, growth-low, reserved-free, full-reserved, Put, put-here, put-split, put-from, err-same, err-back}
+use Rattle.bforest_core.proofs.Insertion.{placed-under, under-low, growth-low, mid-is, placed-mid, reserved-free, full-reserved, Put, put-here, put-split, put-from, err-same, err-back}
 use Rattle.bforest_core.proofs.path.Path.insert.Goals.{then-not-put_here+in_ok-reserve, else-not-put_here}
 use Rattle.bforest_core.proofs.path.Path.insert.Given.{Over}
 use Rattle.bforest_core.proofs.path.Path.insert.Goals as goal
@@ -29,49 +29,47 @@ split_leaf-requires g c =
     let w = c.requires.placed in
     let t0 = c.args.pool.now in
     let ms = c.args.self.now.node in
+    let union = c.requires.union in
     let tree = tree_of t0.nodes w.0 in
     let n = need g.row.N w.1 (sizes_of tree) in
     let pool_is = c.put_here.ensures.pool c.if-not-put_here.true in
-    let p0 = placed-under _ t0 w.0 w.1 _ _ _ c.requires.union w.2 in
-    let n_is : c.needed.result ≡ n = c.needed.ensures.value tree w.1 (placed_from _ t0 c.put_here.new.pool _ _ _ tree w.1 pool_is p0) in
-    let mid_is : c.reserve.new.self ≡ reserved t0 n = c.in_ok-reserve.ensures.ok ∙ ap (λ z. reserved z c.needed.result) pool_is ∙ ap (λ z. reserved t0 z) n_is in
-    let p2 = placed_from _ (reserved t0 n) c.reserve.new.self _ _ _ tree w.1 mid_is (placed-reserved _ t0 n w.0 w.1 _ _ _ c.requires.union w.2) in
-    let d = leaf_spot _ _ _ _ _ tree w.1 p0 in
+    let mid_is = mid-is _ t0 c.put_here.new.pool c.reserve.new.self w.0 w.1 _ _ _ c.needed.result union w.2 pool_is c.needed.ensures.value c.in_ok-reserve.ensures.ok in
+    let d = leaf_spot _ _ _ _ _ tree w.1 (placed-under _ t0 w.0 w.1 _ _ _ union w.2) in
     let full = full-reserved g.row.N t0 n (get_or ms 0 0) (leaf_content (d.l ++ d.r)) d.slot_is (c.put_here.ensures.full c.if-not-put_here.true) in
     let slots = ap (λ (z : Table g.row.K.Denot g.row.V.Denot). length z.nodes) pool_is in
-    (search rules, (search rules, ((under-low _ _ w.0 w.1 _ _ _ c.requires.union w.2).1, (rw mid_is full, (tree, w.1, p2, omega (arith, ap (λ z. length z.chain) mid_is, reserved-free t0 n), growth-low _ t0 w.0 w.1 c.requires.union w.2.root_is (omega (arith, slots, c.in_ok-reserve.ensures.numbers)))))))
-
--- what was put in, under any root of whose tree the path stands
-put_at : (g : Over) (c : goal.Joined-not-put_here g) (root place : ℕ) → PlacedUnder c.args.pool.now.nodes root c.args.self.now.node c.args.self.now.entry c.args.self.now.size place →
-    Put g.row.N c.args.pool.now c.if-not-put_here.pool root place (c.args.key, c.args.value) c.if-not-put_here.self.node c.if-not-put_here.self.entry c.if-not-put_here.self.size
-put_at g c root place p =
-    let t0 = c.args.pool.now in
-    let tree = tree_of t0.nodes root in
-    let union = c.requires.union in
-    let p0 = placed-under g.row.N t0 root place _ _ _ union p in
-    let joined = c.if-not-put_here in
-    elim c.if-not-put_here.branch [
-      | then-not-put_here+in_ok-reserve w ↦
-          let n = need g.row.N place (sizes_of tree) in
-          let pool_is = c.put_here.ensures.pool w.if-not-put_here.true in
-          let n_is : w.needed.result ≡ n = w.needed.ensures.value tree place (placed_from _ t0 c.put_here.new.pool _ _ _ tree place pool_is p0) in
-          let mid_is : w.reserve.new.self ≡ reserved t0 n = w.in_ok-reserve.ensures.ok ∙ ap (λ z. reserved z w.needed.result) pool_is ∙ ap (λ z. reserved t0 z) n_is in
-          let p2 = placed_from _ (reserved t0 n) w.reserve.new.self _ _ _ tree place mid_is (placed-reserved _ t0 n root place _ _ _ union p) in
-          let few : ¬ (room c.put_here.new.pool < w.needed.result) = λ short. (let full = w.in_ok-reserve.ensures.full.1 short in absurd cc) in
-          let enough : n ≤ room t0 = omega (arith, few, n_is, ap (λ z. room z) pool_is) in
-          let slots : slot_count t0 ≤ 4294967295 = omega (arith, ap (λ z. length z.nodes) pool_is, w.in_ok-reserve.ensures.numbers) in
-          put-from _ t0 w.split_leaf.new.pool joined.pool root place _ _ w.split_leaf.new.self joined.self w.pool-is w.self-is
-          (put-split g.row.N t0 w.reserve.new.self w.split_leaf.new.pool root place _ _ _ _ union p.root_is slots enough mid_is (w.split_leaf.ensures.inserted tree place p2))
-      | else-not-put_here w ↦
-          put-from _ t0 c.put_here.new.pool joined.pool root place _ _ c.args.self.now joined.self w.pool-is w.self-is
-          (put-here g.row.N t0 c.put_here.new.pool root place _ _ _ _ union p (c.put_here.ensures.inserted w.if-not-put_here.false tree place p0))
-    ]
+    let levels = under-low _ _ w.0 w.1 _ _ _ union w.2 in
+    let placed = placed-mid _ t0 c.reserve.new.self w.0 w.1 _ _ _ n union w.2 mid_is in
+    (search rules, (search rules, (levels.1, (rw mid_is full, (tree, w.1, placed, omega (arith, ap (λ z. length z.chain) mid_is, reserved-free t0 n), growth-low _ t0 w.0 w.1 union w.2.root_is (omega (arith, slots, c.in_ok-reserve.ensures.numbers)))))))
 
 pub root-requires : goal.root-requires
 root-requires g c =
     let w = c.requires.placed in
-    let put = put_at g c w.0 w.1 w.2 in
+    let joined = c.if-not-put_here in
+    let t0 = c.args.pool.now in
+    let put : Put g.row.N t0 joined.pool w.0 w.1 (c.args.key, c.args.value) joined.self.node joined.self.entry joined.self.size = elim joined.branch [
+      | then-not-put_here+in_ok-reserve v ↦
+          put-from _ t0 v.split_leaf.new.pool joined.pool w.0 w.1 _ _ v.split_leaf.new.self joined.self v.pool-is v.self-is
+          (put-split _ t0 c.put_here.new.pool v.reserve.new.self v.split_leaf.new.pool w.0 w.1 _ _ _ v.needed.result _ _ _ _ c.requires.union w.2 (c.put_here.ensures.pool v.if-not-put_here.true) v.in_ok-reserve.ensures.numbers v.needed.ensures.value (λ short. (let e = v.in_ok-reserve.ensures.full.1 short in absurd cc)) v.in_ok-reserve.ensures.ok v.split_leaf.ensures.inserted)
+      | else-not-put_here v ↦
+          put-from _ t0 c.put_here.new.pool joined.pool w.0 w.1 _ _ c.args.self.now joined.self v.pool-is v.self-is
+          (put-here _ t0 c.put_here.new.pool w.0 w.1 _ _ _ _ c.requires.union w.2 (c.put_here.ensures.inserted v.if-not-put_here.false _ w.1 (placed-under _ t0 w.0 w.1 _ _ _ c.requires.union w.2)))
+    ] in
     (search rules, (put.some, put.low))
+
+-- what was put in, under any root of whose tree the path stands
+put_at : (g : Over) (c : goal.After-root g) (root place : ℕ) → PlacedUnder c.args.pool.now.nodes root c.args.self.now.node c.args.self.now.entry c.args.self.now.size place →
+    Put g.row.N c.args.pool.now c.if-not-put_here.pool root place (c.args.key, c.args.value) c.if-not-put_here.self.node c.if-not-put_here.self.entry c.if-not-put_here.self.size
+put_at g c root place p =
+    let joined = c.if-not-put_here in
+    let t0 = c.args.pool.now in
+    elim joined.branch [
+      | then-not-put_here+in_ok-reserve v ↦
+          put-from _ t0 v.split_leaf.new.pool joined.pool root place _ _ v.split_leaf.new.self joined.self v.pool-is v.self-is
+          (put-split _ t0 c.put_here.new.pool v.reserve.new.self v.split_leaf.new.pool root place _ _ _ v.needed.result _ _ _ _ c.requires.union p (c.put_here.ensures.pool v.if-not-put_here.true) v.in_ok-reserve.ensures.numbers v.needed.ensures.value (λ short. (let e = v.in_ok-reserve.ensures.full.1 short in absurd cc)) v.in_ok-reserve.ensures.ok v.split_leaf.ensures.inserted)
+      | else-not-put_here v ↦
+          put-from _ t0 c.put_here.new.pool joined.pool root place _ _ c.args.self.now joined.self v.pool-is v.self-is
+          (put-here _ t0 c.put_here.new.pool root place _ _ _ _ c.requires.union p (c.put_here.ensures.inserted v.if-not-put_here.false _ place (placed-under _ t0 root place _ _ _ c.requires.union p)))
+    ]
 
 -- the need, as the path counts it
 need_at : (g : Over) (c : goal.After-from_residual g) (root place : ℕ) → PlacedUnder c.args.pool.now.nodes root c.args.self.now.node c.args.self.now.entry c.args.self.now.size place →
@@ -117,18 +115,18 @@ returns-in_err-reserve-clause-refused_pool g c =
     rw e (c.in_err-reserve.ensures.err ∙ c.put_here.ensures.pool c.if-not-put_here.true)
 
 pub returns-clause-inserted : goal.returns-clause-inserted
-returns-clause-inserted g c = λ root place p. rw c.root.ensures (put_at g c.before root place p).is.changes
+returns-clause-inserted g c = λ root place p. rw c.root.ensures (put_at g c root place p).is.changes
 
 pub returns-clause-account : goal.returns-clause-account
-returns-clause-account g c = λ root place p. (put_at g c.before root place p).is.takes
+returns-clause-account g c = λ root place p. (put_at g c root place p).is.takes
 
 pub returns-clause-stands : goal.returns-clause-stands
-returns-clause-stands g c = λ root place p. rw c.root.ensures (put_at g c.before root place p).is.stands
+returns-clause-stands g c = λ root place p. rw c.root.ensures (put_at g c root place p).is.stands
 
 pub returns-clause-same_root : goal.returns-clause-same_root
-returns-clause-same_root g c = λ root place p. rw c.root.ensures (put_at g c.before root place p).is.same_root
+returns-clause-same_root g c = λ root place p. rw c.root.ensures (put_at g c root place p).is.same_root
 
 pub returns-clause-full : goal.returns-clause-full
 returns-clause-full g c = λ root place p.
-    let enough = (put_at g c.before root place p).enough in
+    let enough = (put_at g c root place p).enough in
     (λ is. absurd cc, λ short. absurd (omega (arith, short, enough)))

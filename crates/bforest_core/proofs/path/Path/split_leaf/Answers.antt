@@ -1,11 +1,11 @@
 use Rattle.std.proofs.Common.{rules, ◌≡◌, ◌∷◌, ◌++◌, map, length, get_or, refl, sym, ap, arith}
 use Rattle.std.proofs.lemmas.List.{get_or_default}
 use Rattle.bforest_core.specs.Levels.{heads, sizes}
-use Rattle.bforest_core.proofs.Rise.{above_from, grown_from}
+use Rattle.bforest_core.proofs.Rise.{need_some, above_from, grown_from}
 use Rattle.bforest_core.proofs.LeafSpot.{leaf_spot}
 use Rattle.bforest_core.proofs.LeafHalving.{leaf_full_is}
 use Rattle.bforest_core.proofs.LeafParted.{need_leaf, gain_leaf, inserted}
-use Rattle.bforest_core.proofs.Needs.{leaf_need_full, need_pos}
+use Rattle.bforest_core.proofs.Needs.{leaf_need_full}
 use Rattle.bforest_core.proofs.path.Path.split_leaf.Goals as goal
 
 pub halve_leaf-half-requires : goal.halve_leaf-half-requires
@@ -15,7 +15,7 @@ halve_leaf-half-requires g c =
     let d = leaf_spot _ _ _ _ _ w.0 w.1 w.2 in
     let full = leaf_full_is _ _ (get_or ms 0 0) (d.l ++ d.r) d.slot_is c.requires.full in
     let needs = leaf_need_full _ _ _ _ w.0 w.1 d full in
-    (search rules, (search rules, (omega (arith, w.3, needs, need_pos (length d.before) (map sizes w.0.above)), (c.requires.full, (w.0, w.1, w.2)))))
+    (search rules, (search rules, (omega (arith, w.3, needs, need_some (length d.before) (map sizes w.0.above)), (c.requires.full, (w.0, w.1, w.2)))))
 
 pub insert_above-requires : goal.insert_above-requires
 insert_above-requires g c =
