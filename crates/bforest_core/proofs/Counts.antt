@@ -1,6 +1,6 @@
 -- Counting numbers: lists in which each number stands as often, and what the slots of a table name.
-use Rattle.std.proofs.Common.{◌≡◌, ℕ, zero, suc, ◌≤◌, ◌<◌, nat_lt, if◌then◌else◌, true, false, List, [], ◌∷◌, ◌++◌, length, take, None, refl, sym, ap, ◌∙◌, inl, inr, arith}
-use Rattle.std.specs.List.{flat_map}
+use Rattle.std.proofs.Common.{◌≡◌, ℕ, zero, suc, ◌≤◌, ◌<◌, ◌↔◌, IsTrue, nat_eq, nat_lt, if◌then◌else◌, true, false, List, [], ◌∷◌, ◌++◌, length, take, None, refl, sym, ap, ◌∙◌, inl, inr, arith}
+use Rattle.std.specs.List.{flat_map, list_any}
 use Rattle.std.proofs.lemmas.List.{take_all}
 use Rattle.std.proofs.lemmas.List.Concat.{flat_map-append}
 use Rattle.std.proofs.lemmas.Bool.{cases_lt}
@@ -35,6 +35,15 @@ standing n (m ∷ ms) some =
     elim (eqb_tells m n) [
       | inl w ↦ ([], ms, ap (λ z. z ∷ ms) w.1)
       | inr w ↦ (let r = standing n ms (omega (arith, some, count-other n m ms w.1)) in (m ∷ r.0, r.1, ap (λ z. m ∷ z) r.2))
+    ]
+
+-- a number counts exactly if a search finds it
+pub found-counts : (n : ℕ) (ms : List ℕ) → IsTrue (list_any (λ m. nat_eq m n) ms) ↔ (0 < count n ms)
+found-counts n [] = (λ found. absurd cc, λ some. absurd (omega (arith, some)))
+found-counts n (m ∷ ms) =
+    elim (eqb_tells m n) [
+      | inl w ↦ (let e = w.0 in (λ found. omega (arith, ap (λ z. count z (m ∷ ms)) w.1, count-same m ms), λ some. rw e refl))
+      | inr w ↦ (let e = w.0 in let r = found-counts n ms in (λ found. omega (arith, count-other n m ms w.1, r.0 (rw e at found)), λ some. rw e (r.1 (omega (arith, count-other n m ms w.1, some)))))
     ]
 
 -- lists in which each number stands as often name each number as often
