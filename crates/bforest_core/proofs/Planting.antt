@@ -16,6 +16,16 @@ use Rattle.bforest_core.proofs.Unions.{IsPlanted, rooted}
 use Rattle.bforest_core.proofs.Roots.{planted-union}
 use Rattle.bforest_core.proofs.Reserved.{reserved-union, reserved-then, reserved-roots}
 
+-- a chain with a front
+front_rest : (m : ℕ) (chain : List ℕ) → front_of chain ≡ Some m → (rest : List ℕ) × (chain ≡ m ∷ rest)
+front_rest m [] e = absurd cc
+front_rest m (x ∷ rest) e = (rest, (let same : x ≡ m = cc in ap (λ z. z ∷ rest) same))
+
+-- no slots have no root
+pub no-root : (K V : Type 0) (number : ℕ) → ¬ IsTrue (is_root {K = K} {V = V} [] number)
+unfolding is_root
+no-root K V number is = absurd cc
+
 module _ {K V : Type 0} where
   -- a number of the chain is that of a slot
   chain_within : (most : ℕ) (table : Table K V) (m : ℕ) (rest : List ℕ) → IsUnion most table → table.chain ≡ m ∷ rest → m < length table.nodes
@@ -25,18 +35,9 @@ module _ {K V : Type 0} where
         | inr past ↦ absurd (omega (arith, union.1.account m, past-none m (length table.nodes) past, count-append m (flat_map numbers_of union.0) table.chain, ap (λ z. count m z) is, count-same m rest))
       ]
 
-  front_rest : (m : ℕ) (chain : List ℕ) → front_of chain ≡ Some m → (rest : List ℕ) × (chain ≡ m ∷ rest)
-  front_rest m [] e = absurd cc
-  front_rest m (x ∷ rest) e = (rest, (let same : x ≡ m = cc in ap (λ z. z ∷ rest) same))
-
   -- a table of no slots has no tree
   pub IsUnion-empty : (most n : ℕ) → IsUnion {K = K} {V = V} most (record { nodes = []; chain = []; limit = n })
   IsUnion-empty most n = ([], record { fit = tt; inside = tt; some = tt; low = tt; free = tt; account = λ m. sym (past-none m 0 (omega arith)) })
-
-  -- and no root
-  pub no-root : (number : ℕ) → ¬ IsTrue (is_root {K = K} {V = V} [] number)
-  unfolding is_root
-  no-root number is = absurd cc
 
   -- a tree under a root has an entry, and at most 17 levels
   pub roots-live : (most : ℕ) (table : Table K V) (root : ℕ) → IsUnion most table → IsTrue (is_root table.nodes root) → (flat (tree_of table.nodes root).leaves ≢ []) × (length (sizes_of (tree_of table.nodes root)) ≤ 17)
