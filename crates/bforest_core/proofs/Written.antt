@@ -96,8 +96,7 @@ module _ {K V : Type 0} where
         let at = s.stands.leaf in
         let n = get_or path 0 0 in
         let tree = tree_of table.nodes root in
-        let c = ap (λ z. count n (numbers z)) at.row_is ∙ count-row n at.before n at.entries at.after in
-        (
+        let c = ap (λ z. count n (numbers z)) at.row_is ∙ count-row n at.before n at.entries at.after in (
           is_used table n (leaf_content at.entries) leaf_at (omega (arith, r.apart n, c, count-same n (numbers at.after), count-append n (numbers_of tree) table.chain, count-append n (numbers tree.leaves) (flat_map numbers tree.above))),
           record { content = leaf_content at.entries; is = leaf_at; leaf = tt; within = omega (arith, at.within, keys_count at.entries) },
         )
