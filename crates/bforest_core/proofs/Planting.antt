@@ -1,15 +1,15 @@
 -- A table of no tree, a first entry of a tree, and what a tree under a root has.
-use Rattle.std.proofs.Common.{◌≡◌, ◌≢◌, ℕ, suc, ◌+◌, ◌-◌, ◌≤◌, ◌<◌, IsTrue, Some, List, [], ◌∷◌, ◌++◌, map, length, slice_get, refl, sym, ap, ◌∙◌, subst, inl, inr, length-append, arith}
+use Rattle.std.proofs.Common.{◌≡◌, ◌≢◌, ℕ, ◌-◌, ◌≤◌, ◌<◌, IsTrue, Some, List, [], ◌∷◌, length, refl, sym, ap, ◌∙◌, inl, inr, length-append, arith}
 use Rattle.std.specs.List.{flat_map}
 use Rattle.std.proofs.lemmas.List.{length-map}
 use Rattle.std.proofs.lemmas.Bool.{cases_lt}
-use Rattle.bforest_core.specs.Content.{Content, Leaf}
+use Rattle.bforest_core.specs.Content.{Leaf}
 use Rattle.bforest_core.specs.Table.{Table, front_of, free_count, slot_count, fresh_nodes, down_from, with_front, reserved}
-use Rattle.bforest_core.specs.Levels.{LevelNode, node, flat, sizes, sizes_of, Tree}
+use Rattle.bforest_core.specs.Levels.{node, flat, sizes, sizes_of, Tree}
 use Rattle.bforest_core.specs.Place.{count, numbers_of}
-use Rattle.bforest_core.specs.Trees.{tree_of, is_root, IsForest, IsUnion, OthersKeep}
+use Rattle.bforest_core.specs.Trees.{tree_of, is_root, IsUnion}
 use Rattle.bforest_core.specs.Change.{Changes, TakesNodes}
-use Rattle.bforest_core.proofs.Tables.{count-append, count-same, absent_ne, Takes, takes}
+use Rattle.bforest_core.proofs.Tables.{count-append, count-same, absent_ne, takes}
 use Rattle.bforest_core.proofs.Chains.{length-fresh_nodes, length-down_from}
 use Rattle.bforest_core.proofs.Counts.{past-none}
 use Rattle.bforest_core.proofs.Unions.{IsPlanted, rooted}

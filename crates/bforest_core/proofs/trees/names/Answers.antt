@@ -1,4 +1,4 @@
-use Rattle.std.proofs.Common.{◌≡◌, ℕ, ◌<◌, List, sym, ap, subst, ◌∙◌}
+use Rattle.std.proofs.Common.{ℕ, ◌<◌, List, sym, ap, subst, ◌∙◌}
 use Rattle.bforest_core.specs.Content.{children_of}
 use Rattle.bforest_core.specs.Place.{count}
 use Rattle.bforest_core.proofs.Counts.{found-counts}

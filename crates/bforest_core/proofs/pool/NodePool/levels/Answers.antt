@@ -1,7 +1,7 @@
-use Rattle.std.proofs.Common.{rules, ◌≡◌, ℕ, ◌+◌, ◌-◌, ◌*◌, ◌^◌, ◌<◌, ◌≤◌, List, [], length, sym, subst, arith}
+use Rattle.std.proofs.Common.{rules, ◌≡◌, ℕ, ◌+◌, ◌-◌, ◌*◌, ◌^◌, ◌<◌, ◌≤◌, [], length, subst, arith}
 use Rattle.std.proofs.lemmas.List.{length-map}
 use Rattle.std.proofs.Math.Nat.{le-div_iff_mul-le, mul_comm}
-use Rattle.bforest_core.specs.Levels.{flat, heads, sizes, half_of}
+use Rattle.bforest_core.specs.Levels.{flat, sizes, half_of}
 use Rattle.bforest_core.specs.Trees.{tree_of}
 use Rattle.bforest_core.proofs.Bounds.{leaves-few, depth}
 use Rattle.bforest_core.proofs.Descent.{some_leaf}
