@@ -1,6 +1,6 @@
 -- Counting numbers: lists in which each number stands as often, and what the slots of a table name.
-use Rattle.std.proofs.Common.{◌≡◌, ℕ, zero, suc, ◌≤◌, ◌<◌, nat_lt, if◌then◌else◌, true, false, List, [], ◌∷◌, ◌++◌, length, take, None, refl, sym, ap, ◌∙◌, inl, inr, length-append, arith}
-use Rattle.std.specs.List.{flat_map}
+use Rattle.std.proofs.Common.{◌≡◌, ℕ, zero, suc, ◌+◌, ◌≤◌, ◌<◌, ◌↔◌, IsTrue, nat_eq, nat_lt, if◌then◌else◌, true, false, List, [], ◌∷◌, ◌++◌, length, take, drop, slice_get, Some, None, refl, sym, ap, ◌∙◌, inl, inr, length-append, arith}
+use Rattle.std.specs.List.{flat_map, list_any}
 use Rattle.std.proofs.lemmas.List.{take_all}
 use Rattle.std.proofs.lemmas.List.Concat.{flat_map-append}
 use Rattle.std.proofs.lemmas.Bool.{cases_lt}
@@ -9,7 +9,7 @@ use Rattle.std.proofs.lemmas.Option.{slice_get-get_or}
 use Rattle.bforest_core.specs.Content.{Content, Free, children_of}
 use Rattle.bforest_core.specs.Place.{count}
 use Rattle.bforest_core.specs.Trees.{slot}
-use Rattle.bforest_core.proofs.Seams.{last_taken}
+use Rattle.bforest_core.proofs.Seams.{around, last_taken}
 use Rattle.bforest_core.proofs.Tables.{count-append, count-same, count-other}
 
 -- how often a number stands among those below another
@@ -35,6 +35,15 @@ standing n (m ∷ ms) some =
     elim (eqb_tells m n) [
       | inl w ↦ ([], ms, ap (λ z. z ∷ ms) w.1)
       | inr w ↦ (let r = standing n ms (omega (arith, some, count-other n m ms w.1)) in (m ∷ r.0, r.1, ap (λ z. m ∷ z) r.2))
+    ]
+
+-- a number counts exactly if a search finds it
+pub found-counts : (n : ℕ) (ms : List ℕ) → IsTrue (list_any (λ m. nat_eq m n) ms) ↔ (0 < count n ms)
+found-counts n [] = (λ found. absurd cc, λ some. absurd (omega (arith, some)))
+found-counts n (m ∷ ms) =
+    elim (eqb_tells m n) [
+      | inl w ↦ (let e = w.0 in (λ found. omega (arith, ap (λ z. count z (m ∷ ms)) w.1, count-same m ms), λ some. rw e refl))
+      | inr w ↦ (let e = w.0 in let r = found-counts n ms in (λ found. omega (arith, count-other n m ms w.1, r.0 (rw e at found)), λ some. rw e (r.1 (omega (arith, count-other n m ms w.1, some)))))
     ]
 
 -- lists in which each number stands as often name each number as often
@@ -90,6 +99,19 @@ module _ {K V : Type 0} where
   -- the numbers that the slots of these numbers name
   abbrev pub named_by : List (Content K V) → List ℕ → List ℕ
   named_by slots ms = flat_map (λ m. children_of (slot slots m)) ms
+
+  -- one slot more names its children too
+  pub named-more : (slots : List (Content K V)) (k : ℕ) (content : Content K V) (m : ℕ) → slice_get slots k ≡ Some content → count m (flat_map children_of (take (suc k) slots)) ≡ count m (flat_map children_of (take k slots)) + count m (children_of content)
+  named-more slots k content m found =
+      let a = ap (λ z. count m (flat_map children_of z)) (last_taken slots k content found) ∙ ap (λ z. count m z) (flat_map-append children_of (take k slots) (content ∷ [])) in
+      omega (arith, a, count-append m (flat_map children_of (take k slots)) (children_of content ++ []), count-append m (children_of content) [])
+
+  -- what a slot names, the slots name
+  pub named-slot : (slots : List (Content K V)) (k : ℕ) (content : Content K V) (m : ℕ) → slice_get slots k ≡ Some content → count m (children_of content) ≤ count m (flat_map children_of slots)
+  named-slot slots k content m found =
+      let rest = drop (suc k) slots in
+      let a = ap (λ z. count m (flat_map children_of z)) (sym (around slots k content found)) ∙ ap (λ z. count m z) (flat_map-append children_of (take k slots) (content ∷ rest)) in
+      omega (arith, a, count-append m (flat_map children_of (take k slots)) (children_of content ++ flat_map children_of rest), count-append m (children_of content) (flat_map children_of rest))
 
   -- the first so many slots name what these numbers name
   named-upto : (slots : List (Content K V)) (n : ℕ) → n ≤ length slots → named_by slots (upto n) ≡ flat_map children_of (take n slots)

@@ -7,6 +7,7 @@ use Rattle.bforest_core.specs.Table.{Table}
 use Rattle.bforest_core.specs.Levels.{flat, heads, numbers, Tree, IsFit}
 use Rattle.bforest_core.specs.Place.{IsIn, Stands, count, Distinct, root_of, numbers_of}
 use Rattle.bforest_core.specs.Climb.{Above}
+use Rattle.bforest_core.specs.Descent.{IsRooted}
 use Rattle.bforest_core.specs.Trees.{slot, tree_of, is_root, Every, IsForest, IsUnion, OthersKeep}
 use Rattle.bforest_core.proofs.Tables.{count-append, count-other}
 use Rattle.bforest_core.proofs.Counts.{past-none}
@@ -62,6 +63,12 @@ module _ {K V : Type 0} where
       let r = root-tree most table union.0 root union.1 root_there in
       let s = rooted_at most table root r.0 r.1 r.2 r.4 (subst (λ (z : List (Tree K V)). IsForest most table z) r.3 union.1) in
       subst (λ (z : Tree K V). Rooted most table root z) (sym s.tree_is) s
+
+  -- the tree that is computed from a root lies in the slots
+  pub is-rooted : (most : ℕ) (table : Table K V) (root : ℕ) → IsUnion most table → IsTrue (is_root table.nodes root) → IsRooted most table.nodes root (tree_of table.nodes root)
+  is-rooted most table root union is =
+      let r = rooted most table root union is in
+      record { fit = r.fit; inside = r.inside; root_is = r.root_is; some = r.some; low = r.low }
 
   -- a path that stands in the tree under a root stands on its rows above the leaves
   pub rooted-above : (most : ℕ) (table : Table K V) (root : ℕ) (tree : Tree K V) (path indices : List ℕ) (size place : ℕ) → Rooted most table root tree → (at : Stands path indices size tree place) → Above table path indices 1 size tree.above (heads tree.leaves) (length at.leaf.before)

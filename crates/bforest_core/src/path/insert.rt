@@ -19,8 +19,6 @@ use crate::path::Path;
 use crate::pool::{NodePool, OutOfMemory};
 
 impl<K: Copy, V: Copy, const N: usize> Path<K, V, N> {
-    ghost use Rattle.bforest_core.specs.Lending.{lends_value_at};
-
     /// Puts an entry in here, and answers the tree's root. The path stands at the entry afterwards.
     ///
     /// It takes one node for each full node from the leaf upwards, and one for a new root where all are full; these are had by one
@@ -66,17 +64,6 @@ impl<K: Copy, V: Copy, const N: usize> Path<K, V, N> {
         ensures { result ≡ top_of self.now.node self.now.size }
     {
         self.node[self.size - 1]
-    }
-
-    /// The value of the entry where the path stands, for writing.
-    pub fn value_mut<'a>(&self, pool: &'a mut NodePool<K, V, N>) -> &'a mut V
-        requires union { IsUnion N pool.old }
-        requires stands { (root : ℕ) × (place : ℕ) × StandsUnder pool.old.nodes root self.now.node self.now.entry self.now.size place }
-        ensures* writes_back { sem 𝓛 (lends_value_at K.row V.row N.row pool.entry (get_or self.now.node 0 0) (get_or self.now.entry 0 0) result) }
-        ensures value { (root place : ℕ) → StandsUnder pool.old.nodes root self.now.node self.now.entry self.now.size place → Some result.now ≡ value_at_place (flat (tree_of pool.old.nodes root).leaves) place }
-        ensures written { (root place : ℕ) → StandsUnder pool.old.nodes root self.now.node self.now.entry self.now.size place → (value : V) → Changes N pool.old (with_value_at pool.old (get_or self.now.node 0 0) (get_or self.now.entry 0 0) value) root root (with_value (flat (tree_of pool.old.nodes root).leaves) place value) (sizes_of (tree_of pool.old.nodes root)) }
-    {
-        pool.value_mut(self.node[0], self.entry[0])
     }
 
     // How many nodes an insertion here needs: one for each full node from the leaf upwards, and one for a new root where all are full.
@@ -258,6 +245,21 @@ impl<K: Copy, V: Copy, const N: usize> Path<K, V, N> {
             self.entry[up] = index_behind(entry - 4, moved);
             (halves.crit_key, right, true)
         }
+    }
+}
+
+impl<K: Copy, V: Copy, const N: usize> NodePool<K, V, N> {
+    ghost use Rattle.bforest_core.specs.Lending.{lends_value_at};
+
+    /// The value of the entry where a path stands, for writing.
+    pub fn path_value_mut(&mut self, path: &Path<K, V, N>) -> &mut V
+        requires union { IsUnion N self.old }
+        requires stands { (root : ℕ) × (place : ℕ) × StandsUnder self.old.nodes root path.now.node path.now.entry path.now.size place }
+        ensures* writes_back { sem 𝓛 (lends_value_at K.row V.row N.row self.entry (get_or path.now.node 0 0) (get_or path.now.entry 0 0) result) }
+        ensures value { (root place : ℕ) → StandsUnder self.old.nodes root path.now.node path.now.entry path.now.size place → Some result.now ≡ value_at_place (flat (tree_of self.old.nodes root).leaves) place }
+        ensures written { (root place : ℕ) → StandsUnder self.old.nodes root path.now.node path.now.entry path.now.size place → (value : V) → Changes N self.old (with_value_at self.old (get_or path.now.node 0 0) (get_or path.now.entry 0 0) value) root root (with_value (flat (tree_of self.old.nodes root).leaves) place value) (sizes_of (tree_of self.old.nodes root)) }
+    {
+        self.value_mut(path.node[0], path.entry[0])
     }
 }
 

@@ -1,32 +1,40 @@
-use Rattle.std.proofs.Common.{rules, ◌≡◌, ℕ, suc, ◌+◌, ◌<◌, ◌≤◌, List, [], ◌∷◌, ◌++◌, length, get_or, refl, sym, ap, ◌∙◌, arith}
+use Rattle.std.proofs.Common.{rules, [], arith}
+use Rattle.bforest_core.specs.Trees.{tree_of}
+use Rattle.bforest_core.proofs.Unions.{is-rooted}
 use Rattle.bforest_core.proofs.Whole.{whole_top, whole_under, all_through, stands_for}
 use Rattle.bforest_core.proofs.path.Path.find.Goals as goal
 
 pub descend-level-requires : goal.descend-level-requires
 descend-level-requires g c =
-    let w = c.requires.tree in
     let order = g.C.Comparator.order c.args.comp.now in
     let slots = c.args.pool.now.nodes in
-    (search rules, (search rules, (c.requires.capacity, (w.0.leaves, w.0.above, [], (whole_top g.row.N slots c.args.root w.0 w.1).first, [], whole_under g.row.N slots c.args.root w.0 w.1, w.2, all_through order _ c.args.key, omega (arith, w.1.low)))))
+    let tree = tree_of slots c.args.root in
+    let w = is-rooted g.row.N c.args.pool.now c.args.root c.requires.union c.requires.root in
+    (search rules, (search rules, (c.requires.capacity, (tree.leaves, tree.above, [], (whole_top g.row.N slots c.args.root tree w).first, [], whole_under g.row.N slots c.args.root tree w, c.requires.increasing, all_through order _ c.args.key, omega (arith, w.low)))))
 
 pub overflow_add-self : goal.overflow_add-self
 overflow_add-self g c =
-    let w = c.requires.tree in
     let order = g.C.Comparator.order c.args.comp.now in
     let slots = c.args.pool.now.nodes in
-    let r = c.descend-level.ensures.level w.0.leaves w.0.above [] (whole_top g.row.N slots c.args.root w.0 w.1).first [] (whole_under g.row.N slots c.args.root w.0 w.1) w.2 (all_through order _ c.args.key) in
-    omega (arith, r.0, w.1.low)
+    let tree = tree_of slots c.args.root in
+    let w = is-rooted g.row.N c.args.pool.now c.args.root c.requires.union c.requires.root in
+    let r = c.descend-level.ensures.level tree.leaves tree.above [] (whole_top g.row.N slots c.args.root tree w).first [] (whole_under g.row.N slots c.args.root tree w) c.requires.increasing (all_through order _ c.args.key) in
+    omega (arith, r.0, w.low)
 
 pub returns-clause-value : goal.returns-clause-value
-returns-clause-value g c = λ tree rooted inc.
+returns-clause-value g c =
     let order = g.C.Comparator.order c.args.comp.now in
     let slots = c.args.pool.now.nodes in
-    let r = c.descend-level.ensures.level tree.leaves tree.above [] (whole_top g.row.N slots c.args.root tree rooted).first [] (whole_under g.row.N slots c.args.root tree rooted) inc (all_through order _ c.args.key) in
+    let tree = tree_of slots c.args.root in
+    let w = is-rooted g.row.N c.args.pool.now c.args.root c.requires.union c.requires.root in
+    let r = c.descend-level.ensures.level tree.leaves tree.above [] (whole_top g.row.N slots c.args.root tree w).first [] (whole_under g.row.N slots c.args.root tree w) c.requires.increasing (all_through order _ c.args.key) in
     r.1
 
 pub returns-clause-path : goal.returns-clause-path
-returns-clause-path g c = λ tree rooted inc.
+returns-clause-path g c =
     let order = g.C.Comparator.order c.args.comp.now in
     let slots = c.args.pool.now.nodes in
-    let r = c.descend-level.ensures.level tree.leaves tree.above [] (whole_top g.row.N slots c.args.root tree rooted).first [] (whole_under g.row.N slots c.args.root tree rooted) inc (all_through order _ c.args.key) in
+    let tree = tree_of slots c.args.root in
+    let w = is-rooted g.row.N c.args.pool.now c.args.root c.requires.union c.requires.root in
+    let r = c.descend-level.ensures.level tree.leaves tree.above [] (whole_top g.row.N slots c.args.root tree w).first [] (whole_under g.row.N slots c.args.root tree w) c.requires.increasing (all_through order _ c.args.key) in
     stands_for order tree c.args.key c.args.self.now.node c.args.self.now.entry _ _ _ r.2 (omega (arith, r.0))

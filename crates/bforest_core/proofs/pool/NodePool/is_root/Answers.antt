@@ -1,0 +1,63 @@
+use Rattle.std.proofs.Common.{◌≡◌, ℕ, ◌<◌, ◌≤◌, ◌↔◌, IsTrue, Bool, true, false, not, nat_eq, nat_lt, List, length, slice_get, Some, None, refl, sym, ap, ◌∙◌, inl, inr, arith}
+use Rattle.std.specs.List.{flat_map}
+use Rattle.std.proofs.lemmas.Bool.{cases_lt, false≢true}
+use Rattle.std.proofs.lemmas.Bool.Decides.{eqb_tells}
+use Rattle.std.proofs.lemmas.List.{get_or_past}
+use Rattle.bforest_core.specs.Content.{Content, Inner, Leaf, Free, IsFree, children_of}
+use Rattle.bforest_core.specs.Place.{count}
+use Rattle.bforest_core.specs.Trees.{slot, is_used, is_root}
+use Rattle.bforest_core.proofs.Read.{slot-is}
+use Rattle.bforest_core.proofs.pool.NodePool.is_root.Goals as goal
+use Rattle.bforest_core.proofs.pool.NodePool.is_root.Goals.{then-number-slots, else-number-slots}
+
+-- how often it is named, as a test
+none_named : (n : ℕ) (child : Bool) → (IsTrue child ↔ (0 < n)) → nat_eq n 0 ≡ not child
+none_named n true h = elim (eqb_tells n 0) [ inl w ↦ absurd (omega (arith, w.1, h.0 refl)) | inr w ↦ w.0 ]
+none_named n false h = elim (eqb_tells n 0) [ inl w ↦ w.0 | inr w ↦ absurd (elim (cases_lt 0 n) [ inl some ↦ false≢true (h.1 some) | inr past ↦ w.1 (omega (arith, past)) ]) ]
+
+module _ {K V : Type 0} where
+  used_of : (content : Content K V) (free : Bool) → (IsTrue free ↔ IsFree content) → is_used content ≡ not free
+  used_of (Inner keys children) true h = absurd (h.0 refl)
+  used_of (Inner keys children) false h = refl
+  used_of (Leaf keys vals) true h = absurd (h.0 refl)
+  used_of (Leaf keys vals) false h = refl
+  used_of (Free next) true h = refl
+  used_of (Free next) false h = absurd (false≢true (h.1 tt))
+
+  -- a used slot that none names
+  root_if : (slots : List (Content K V)) (n : ℕ) (content : Content K V) (free child : Bool) → slice_get slots n ≡ Some content → (IsTrue free ↔ IsFree content) → (IsTrue child ↔ (0 < count n (flat_map children_of slots))) → not free ≡ true → not child ≡ is_root slots n
+  unfolding is_root
+  root_if slots n content free child found f c used =
+      let a : is_used (slot slots n) ≡ true = ap is_used (slot-is slots n content found) ∙ used_of content free f ∙ used in
+      let b = none_named (count n (flat_map children_of slots)) child c in
+      rw (a, b) refl
+
+  -- a free slot
+  not_root : (slots : List (Content K V)) (n : ℕ) (content : Content K V) (free : Bool) → slice_get slots n ≡ Some content → (IsTrue free ↔ IsFree content) → not free ≡ false → false ≡ is_root slots n
+  unfolding is_root
+  not_root slots n content free found f used =
+      let a : is_used (slot slots n) ≡ false = ap is_used (slot-is slots n content found) ∙ used_of content free f ∙ used in
+      rw a refl
+
+  -- no slot
+  past_root : (slots : List (Content K V)) (n : ℕ) → length slots ≤ n → false ≡ is_root slots n
+  unfolding is_root
+  past_root slots n past =
+      let a : is_used (slot slots n) ≡ false = ap is_used (get_or_past slots n (Free None) past) in
+      rw a refl
+
+pub returns-then-not-is_free : goal.returns-then-not-is_free
+returns-then-not-is_free g c = record {
+  value = elim c.if-number-slots.branch [
+    | then-number-slots w ↦ root_if c.args.self.now.nodes c.args.node w.node.result.now w.is_free.result c.is_child.result w.node.ensures.value w.is_free.ensures.free c.is_child.ensures (sym w.value-is ∙ c.if-not-is_free.true)
+    | else-number-slots w ↦ (let past : nat_lt c.number.result c.slots.result ≡ false = grind (arith, w.if-number-slots.false) in absurd (false≢true (sym past ∙ sym w.value-is ∙ c.if-not-is_free.true)))
+  ];
+}
+
+pub returns-else-not-is_free : goal.returns-else-not-is_free
+returns-else-not-is_free g c = record {
+  value = c.if-not-is_free.false ∙ elim c.if-number-slots.branch [
+    | then-number-slots w ↦ not_root c.args.self.now.nodes c.args.node w.node.result.now w.is_free.result w.node.ensures.value w.is_free.ensures.free (sym w.value-is ∙ c.if-not-is_free.false)
+    | else-number-slots w ↦ past_root c.args.self.now.nodes c.args.node (omega (arith, w.if-number-slots.false, c.slots.ensures.value, c.number.ensures.value))
+  ];
+}

@@ -1,0 +1,51 @@
+use Rattle.std.proofs.Common.{rules, ◌≡◌, ℕ, ◌+◌, ◌-◌, ◌*◌, ◌^◌, ◌<◌, ◌≤◌, [], length, subst, arith}
+use Rattle.std.proofs.lemmas.List.{length-map}
+use Rattle.std.proofs.Math.Nat.{le-div_iff_mul-le, mul_comm}
+use Rattle.bforest_core.specs.Levels.{flat, sizes, half_of}
+use Rattle.bforest_core.specs.Trees.{tree_of}
+use Rattle.bforest_core.proofs.Bounds.{leaves-few, depth}
+use Rattle.bforest_core.proofs.Descent.{some_leaf}
+use Rattle.bforest_core.proofs.Unions.{is-rooted}
+use Rattle.bforest_core.proofs.Whole.{whole_top, whole_under}
+use Rattle.bforest_core.proofs.pool.NodePool.levels.Goals as goal
+
+pub levels_from-requires : goal.levels_from-requires
+levels_from-requires g c =
+    let slots = c.args.self.now.nodes in
+    let tree = tree_of slots c.args.root in
+    let w = is-rooted g.row.N c.args.self.now c.args.root c.requires.union c.requires.root in
+    (search rules, (c.requires.capacity, (tree.leaves, tree.above, (whole_top g.row.N slots c.args.root tree w).first, [], whole_under g.row.N slots c.args.root tree w, omega (arith, w.low))))
+
+pub returns-clause-value : goal.returns-clause-value
+returns-clause-value g c =
+    let slots = c.args.self.now.nodes in
+    let tree = tree_of slots c.args.root in
+    let w = is-rooted g.row.N c.args.self.now c.args.root c.requires.union c.requires.root in
+    let r = c.levels_from.ensures tree.leaves tree.above (whole_top g.row.N slots c.args.root tree w).first [] (whole_under g.row.N slots c.args.root tree w) in
+    omega (arith, r, length-map tree.above sizes)
+
+pub returns-clause-leaves : goal.returns-clause-leaves
+returns-clause-leaves g c =
+    let tree = tree_of c.args.self.now.nodes c.args.root in
+    let w = is-rooted g.row.N c.args.self.now c.args.root c.requires.union c.requires.root in
+    let one = some_leaf _ c.requires.capacity in
+    let few = leaves-few (half_of g.row.N) g.row.N tree.leaves one w.fit.leaves_fit in
+    (le-div_iff_mul-le one).1 (subst (λ (z : ℕ). z ≤ length (flat tree.leaves) + (half_of g.row.N - 1)) (mul_comm (half_of g.row.N) (length tree.leaves)) few)
+
+pub returns-clause-depth : goal.returns-clause-depth
+returns-clause-depth g c = λ two.
+    let slots = c.args.self.now.nodes in
+    let tree = tree_of slots c.args.root in
+    let w = is-rooted g.row.N c.args.self.now c.args.root c.requires.union c.requires.root in
+    let r = c.levels_from.ensures tree.leaves tree.above (whole_top g.row.N slots c.args.root tree w).first [] (whole_under g.row.N slots c.args.root tree w) in
+    let d = depth (half_of g.row.N) g.row.N (some_leaf _ c.requires.capacity) tree.leaves tree.above w.fit.leaves_fit w.fit.stacked w.fit.topped (omega (arith, r, two)) in
+    let e : length tree.above - 1 ≡ c.levels_from.result - 2 = omega (arith, r) in
+    subst (λ (z : ℕ). half_of g.row.N * 4 ^ z < length (flat tree.leaves)) e d
+
+pub returns-clause-most : goal.returns-clause-most
+returns-clause-most g c =
+    let slots = c.args.self.now.nodes in
+    let tree = tree_of slots c.args.root in
+    let w = is-rooted g.row.N c.args.self.now c.args.root c.requires.union c.requires.root in
+    let r = c.levels_from.ensures tree.leaves tree.above (whole_top g.row.N slots c.args.root tree w).first [] (whole_under g.row.N slots c.args.root tree w) in
+    omega (arith, r, w.low)

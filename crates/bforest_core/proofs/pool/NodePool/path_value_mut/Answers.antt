@@ -1,0 +1,28 @@
+use Rattle.std.proofs.Common.{rules, ◌≡◌, get_or, refl, ap, ◌∙◌, arith}
+use Rattle.std.proofs.lemmas.List.{get_or_default}
+use Rattle.bforest_core.specs.Table.{value_at, with_value_at}
+use Rattle.bforest_core.proofs.Written.{entry-used, value-under, value-written}
+use Rattle.bforest_core.proofs.pool.NodePool.path_value_mut.Goals as goal
+
+pub value_mut-requires : goal.value_mut-requires
+value_mut-requires g c =
+    let s = c.requires.stands in
+    let ms = c.args.path.now.node in
+    let here : get_or ms 0 c.index-path-0.result ≡ get_or ms 0 0 = get_or_default ms 0 c.index-path-0.result 0 (omega arith) in
+    let r = entry-used g.row.N c.args.self.now s.0 s.1 ms c.args.path.now.entry c.args.path.now.size c.requires.union s.2 in
+    (search rules, (rw here r.0, rw here r.1))
+
+pub returns : goal.returns
+returns g c =
+    let ms = c.args.path.now.node in
+    let js = c.args.path.now.entry in
+    let size = c.args.path.now.size in
+    let table = c.args.self.now in
+    let here : get_or ms 0 c.index-path-0.result ≡ get_or ms 0 0 = get_or_default ms 0 c.index-path-0.result 0 (omega arith) in (
+      (refl, λ w. ap (λ z. with_value_at table z (get_or js 0 0) w) here),
+      record {
+        writes_back = tt;
+        value = λ root place s. c.value_mut.ensures.value ∙ ap (λ z. value_at table.nodes z (get_or js 0 0)) here ∙ value-under g.row.N table root place ms js size c.requires.union s;
+        written = λ root place s value. value-written g.row.N table root place ms js size c.requires.union s value;
+      },
+    )
