@@ -1,5 +1,6 @@
 -- A step of a path to the node or the entry before.
-use Rattle.std.proofs.Common.{◌≡◌, ◌≢◌, ℕ, zero, suc, ◌+◌, ◌-◌, ◌≤◌, ◌<◌, List, [], ◌∷◌, ◌++◌, length, get_or, slice_get, Option, Some, None, refl, sym, ap, subst, ◌∙◌, arith, length-append, length-map}
+use Rattle.std.proofs.Common.{◌≡◌, ◌≢◌, ℕ, zero, suc, ◌+◌, ◌-◌, ◌≤◌, ◌<◌, List, [], ◌∷◌, ◌++◌, length, get_or, slice_get, Option, Some, None, refl, sym, ap, subst, ◌∙◌, arith, length-append}
+use Rattle.std.proofs.lemmas.List.{length-map}
 use Rattle.bforest_core.specs.Content.{Content, entry_count}
 use Rattle.bforest_core.specs.Levels.{LevelNode, node, flat, heads, FitRow, Tree, IsFit, half_of}
 use Rattle.bforest_core.specs.Place.{RowIn, leaf_content, inner_content, entry_items, IsAt, StandsAbove, Stands, IsIn, IsPathAt, entry_before}
@@ -84,16 +85,23 @@ module _ {K V : Type 0} (most : ℕ) (one : 1 ≤ half_of most) (slots : List (C
   back_first first none = omega (arith, s.leaf.place_is, none, none_flat s.leaf.before first)
 
 -- the last index of an inner node, and of a leaf
-pub last_child_is : {K : Type 0} (V : Type 0) (e : K × ℕ) (es : List (K × ℕ)) → entry_count {K} {V} (inner_content (e ∷ es)) - 1 ≡ length es
+pub last_child_is : {K : Type 0} (V : Type 0) (e : K × ℕ) (es : List (K × ℕ)) → entry_count {K = K} {V = V} (inner_content (e ∷ es)) - 1 ≡ length es
 last_child_is V e es = omega (arith, item_count es)
 
 pub last_entry_is : {K V : Type 0} (e : K × V) (es : List (K × V)) → entry_count (leaf_content (e ∷ es)) - 1 ≡ length es
 last_entry_is e es = omega (arith, length-map es (λ w. w.0))
 
+-- neither is empty
+pub some_child : {K : Type 0} (V : Type 0) (e : K × ℕ) (es : List (K × ℕ)) → 1 ≤ entry_count {K = K} {V = V} (inner_content (e ∷ es))
+some_child V e es = omega arith
+
+pub some_entry : {K V : Type 0} (e : K × V) (es : List (K × V)) → 1 ≤ entry_count (leaf_content (e ∷ es))
+some_entry e es = omega arith
+
 -- a place that is not the first
 pub before_is : {X : Type 0} (list : List X) (place : ℕ) → 0 < place → slice_get list (place - 1) ≡ entry_before list place
 before_is list zero some = absurd (omega (arith, some))
-before_is list (suc place) some = refl
+before_is list (suc place) some = let e : suc place - 1 ≡ place = omega arith in ap (λ z. slice_get list z) e
 
 module _ {K V : Type 0} (path indices : List ℕ) (tree : Tree K V) (place : ℕ) where
   -- a path with nodes stands at an entry
@@ -105,3 +113,11 @@ module _ {K V : Type 0} (path indices : List ℕ) (tree : Tree K V) (place : ℕ
   pub at_end : (size : ℕ) → size ≡ 0 → IsPathAt path indices size tree place → place ≡ length (flat tree.leaves)
   at_end zero none at = at
   at_end (suc size) none at = absurd (omega (arith, none))
+
+-- the same path stands where it stood
+pub stay : {K V : Type 0} (path indices : List ℕ) (size : ℕ) (path' indices' : List ℕ) (size' : ℕ) (tree : Tree K V) (place place' : ℕ) → path' ≡ path → indices' ≡ indices → size' ≡ size → place' ≡ place → Stands path indices size tree place → Stands path' indices' size' tree place'
+stay path indices size path' indices' size' tree place place' path_is indices_are size_is place_is s =
+    subst (λ (z : List ℕ). Stands z indices' size' tree place') (sym path_is)
+    (subst (λ (z : List ℕ). Stands path z size' tree place') (sym indices_are)
+        (subst (λ (z : ℕ). Stands path indices z tree place') (sym size_is)
+            (subst (λ (z : ℕ). Stands path indices size tree z) (sym place_is) s)))

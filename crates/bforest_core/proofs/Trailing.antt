@@ -1,5 +1,6 @@
 -- The way down to the last entry.
-use Rattle.std.proofs.Common.{◌≡◌, ◌≢◌, ℕ, zero, suc, ◌+◌, ◌-◌, ◌≤◌, ◌<◌, ◌⊎◌, inl, inr, List, [], ◌∷◌, ◌++◌, length, get_or, slice_get, Some, refl, sym, ap, subst, ◌∙◌, arith, append_assoc, append-nil, length-append, length-map}
+use Rattle.std.proofs.Common.{◌≡◌, ◌≢◌, ℕ, zero, suc, ◌+◌, ◌-◌, ◌≤◌, ◌<◌, ◌⊎◌, inl, inr, List, [], ◌∷◌, ◌++◌, length, get_or, slice_get, Some, refl, sym, ap, subst, ◌∙◌, arith, append_assoc, append-nil, length-append}
+use Rattle.std.proofs.lemmas.List.{length-map}
 use Rattle.std.proofs.lemmas.Option.{slice_get_within}
 use Rattle.bforest_core.specs.Content.{Content, IsInner, entry_count}
 use Rattle.bforest_core.specs.Levels.{LevelNode, node, flat, heads, FitRow, Tree, half_of}
@@ -84,7 +85,7 @@ module _ {K V : Type 0} (most : ℕ) (one : 1 ≤ half_of most) (slots : List (C
   count_leaf : (init : List (K × V)) (last : K × V) → entry_count (leaf_content (init ++ last ∷ [])) ≡ suc (length init)
   count_leaf init last = length-map (init ++ last ∷ []) (λ w. w.0) ∙ length-append init (last ∷ []) ∙ omega arith
 
-  count_inner : (init : List (K × ℕ)) (last : K × ℕ) → entry_count {K} {V} (inner_content (init ++ last ∷ [])) ≡ suc (length init)
+  count_inner : (init : List (K × ℕ)) (last : K × ℕ) → entry_count {K = K} {V = V} (inner_content (init ++ last ∷ [])) ≡ suc (length init)
   count_inner init last = item_count (init ++ last ∷ []) ∙ length-append init (last ∷ []) ∙ omega arith
 
   -- what the node's slot holds
@@ -117,7 +118,7 @@ module _ {K V : Type 0} (most : ℕ) (one : 1 ≤ half_of most) (slots : List (C
     pub leaf_index : (s : LeafBack slots leaves lower number count) (last : ℕ) → last ≡ entry_count (leaf_content (s.back.init ++ s.back.last ∷ [])) - 1 → last ≡ length s.back.init
     leaf_index s last e = omega (arith, e, count_leaf s.back.init s.back.last)
 
-    pub inner_index : (s : InnerBack most slots leaves lower number count) (last : ℕ) → last ≡ entry_count {K} {V} (inner_content (s.back.init ++ s.back.last ∷ [])) - 1 → (last ≡ length s.back.init) × (last < entry_count {K} {V} (inner_content (s.back.init ++ s.back.last ∷ [])))
+    pub inner_index : (s : InnerBack most slots leaves lower number count) (last : ℕ) → last ≡ entry_count {K = K} {V = V} (inner_content (s.back.init ++ s.back.last ∷ [])) - 1 → (last ≡ length s.back.init) × (last < entry_count {K = K} {V = V} (inner_content (s.back.init ++ s.back.last ∷ [])))
     inner_index s last e = let n = count_inner s.back.init s.back.last in (omega (arith, e, n), omega (arith, e, n))
 
     -- the last child
