@@ -1,10 +1,10 @@
 -- A step of a path to the node or the entry before.
-use Rattle.std.proofs.Common.{◌≡◌, ◌≢◌, ℕ, zero, suc, ◌+◌, ◌-◌, ◌≤◌, ◌<◌, List, [], ◌∷◌, ◌++◌, length, get_or, slice_get, Option, Some, None, refl, sym, ap, subst, ◌∙◌, arith, length-append}
+use Rattle.std.proofs.Common.{◌≡◌, ◌≢◌, ℕ, zero, suc, ◌+◌, ◌-◌, ◌≤◌, ◌<◌, List, [], ◌∷◌, ◌++◌, length, get_or, slice_get, Some, refl, sym, ap, subst, ◌∙◌, arith, length-append}
 use Rattle.std.proofs.lemmas.List.{length-map}
 use Rattle.bforest_core.specs.Content.{Content, entry_count}
-use Rattle.bforest_core.specs.Levels.{LevelNode, node, flat, heads, FitRow, Tree, IsFit, half_of}
-use Rattle.bforest_core.specs.Place.{RowIn, leaf_content, inner_content, entry_items, IsAt, StandsAbove, Stands, IsIn, IsPathAt, entry_before}
-use Rattle.bforest_core.specs.Steps.{Over, Moved}
+use Rattle.bforest_core.specs.Levels.{LevelNode, node, flat, heads, Tree, IsFit, half_of}
+use Rattle.bforest_core.specs.Place.{RowIn, leaf_content, inner_content, StandsAbove, Stands, IsIn, IsPathAt, entry_before}
+use Rattle.bforest_core.specs.Steps.{Moved}
 use Rattle.bforest_core.proofs.Steps.{Spot, Nth, nth, next_at}
 use Rattle.bforest_core.proofs.Tables.{row-split}
 use Rattle.bforest_core.proofs.Stored.{item_count}
@@ -119,5 +119,5 @@ pub stay : {K V : Type 0} (path indices : List ℕ) (size : ℕ) (path' indices'
 stay path indices size path' indices' size' tree place place' path_is indices_are size_is place_is s =
     subst (λ (z : List ℕ). Stands z indices' size' tree place') (sym path_is)
     (subst (λ (z : List ℕ). Stands path z size' tree place') (sym indices_are)
-        (subst (λ (z : ℕ). Stands path indices z tree place') (sym size_is)
-            (subst (λ (z : ℕ). Stands path indices size tree z) (sym place_is) s)))
+    (subst (λ (z : ℕ). Stands path indices z tree place') (sym size_is)
+    (subst (λ (z : ℕ). Stands path indices size tree z) (sym place_is) s)))

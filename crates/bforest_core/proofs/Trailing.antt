@@ -1,17 +1,15 @@
 -- The way down to the last entry.
-use Rattle.std.proofs.Common.{◌≡◌, ◌≢◌, ℕ, zero, suc, ◌+◌, ◌-◌, ◌≤◌, ◌<◌, ◌⊎◌, inl, inr, List, [], ◌∷◌, ◌++◌, length, get_or, slice_get, Some, refl, sym, ap, subst, ◌∙◌, arith, append_assoc, append-nil, length-append}
+use Rattle.std.proofs.Common.{◌≡◌, ◌≢◌, ℕ, suc, ◌+◌, ◌-◌, ◌≤◌, ◌<◌, ◌⊎◌, inl, inr, List, [], ◌∷◌, ◌++◌, length, get_or, slice_get, Some, refl, sym, ap, subst, ◌∙◌, arith, append_assoc, append-nil, length-append}
 use Rattle.std.proofs.lemmas.List.{length-map}
-use Rattle.std.proofs.lemmas.Option.{slice_get_within}
 use Rattle.bforest_core.specs.Content.{Content, IsInner, entry_count}
 use Rattle.bforest_core.specs.Levels.{LevelNode, node, flat, heads, FitRow, Tree, half_of}
 use Rattle.bforest_core.specs.Place.{RowIn, leaf_content, inner_content, entry_items, IsAt, Stands}
-use Rattle.bforest_core.specs.Descent.{SameAbove, StackedTo, StandsTo, Under, LedLast}
+use Rattle.bforest_core.specs.Descent.{StackedTo, StandsTo, Under, LedLast}
 use Rattle.bforest_core.proofs.LevelRows.{flat-append, FitRow-split}
-use Rattle.bforest_core.proofs.Lists.{slice_get-append-add}
 use Rattle.bforest_core.proofs.Steps.{fit_full}
-use Rattle.bforest_core.proofs.Stored.{some_same, item_count, slice_get_at}
+use Rattle.bforest_core.proofs.Stored.{some_same, item_count}
 use Rattle.bforest_core.proofs.Tables.{row-split}
-use Rattle.bforest_core.proofs.Downward.{Last, last_of, stacked_last, in_last, stands_more, stands_same, Seen, seen}
+use Rattle.bforest_core.proofs.Downward.{last_of, stacked_last, in_last, stands_more, stands_same, seen}
 use Rattle.bforest_core.proofs.Whole.{stands_above}
 
 -- the last node of a row, behind so many

@@ -197,8 +197,8 @@ impl<K: Copy, V: Copy, const N: usize> Path<K, V, N> {
         ensures moved { (place : ℕ) → IsPathAt self.old.node self.old.entry self.old.size (tree_of pool.now.nodes root) place → Stands self.new.node self.new.entry self.new.size (tree_of pool.now.nodes root) (place - 1) }
     {
         if self.size == 0 {
-            let level = self.descend_last(root, 0, pool);
-            self.size = level + 1;
+            let top = self.descend_last(root, 0, pool);
+            self.size = top + 1;
             return Some(self.entry_here(pool));
         }
         if self.prev_entry(pool) {

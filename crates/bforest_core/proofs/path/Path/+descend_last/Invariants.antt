@@ -1,4 +1,4 @@
-use Rattle.std.proofs.Common.{ℕ, ◌-◌}
+use Rattle.std.proofs.Common.{◌-◌}
 use Rattle.bforest_core.proofs.path.Path.+descend_last.Given as goal
 
 abbrev pub decreases-descend_last : goal.decreases-descend_last

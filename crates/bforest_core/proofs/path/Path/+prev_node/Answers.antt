@@ -1,10 +1,8 @@
-use Rattle.std.proofs.Common.{rules, ◌≡◌, ◌≢◌, ℕ, suc, ◌+◌, ◌-◌, ◌<◌, ◌≤◌, IsTrue, false, true, List, [], ◌∷◌, ◌++◌, length, get_or, slice_get, Some, refl, sym, ap, subst, ◌∙◌, arith}
+use Rattle.std.proofs.Common.{rules, ◌≡◌, suc, ◌+◌, ◌-◌, ◌<◌, ◌∷◌, length, get_or, slice_get, Some, sym, ap, ◌∙◌, arith}
 use Rattle.std.proofs.lemmas.List.{get_or_default}
-use Rattle.bforest_core.specs.Content.{entry_count}
-use Rattle.bforest_core.specs.Levels.{LevelNode, flat, heads}
-use Rattle.bforest_core.specs.Place.{inner_content, entry_items}
-use Rattle.bforest_core.specs.Steps.{Over, Moved}
-use Rattle.bforest_core.proofs.Steps.{over_spot, Spot, nth, step_within, step_over, slot_over}
+use Rattle.bforest_core.specs.Levels.{flat, heads}
+use Rattle.bforest_core.specs.Place.{inner_content}
+use Rattle.bforest_core.proofs.Steps.{over_spot, nth, step_within, step_over, slot_over}
 use Rattle.bforest_core.proofs.Backward.{back_place, first_place, last_child_is, some_child}
 use Rattle.bforest_core.proofs.path.Path.+prev_node.Goals as goal
 

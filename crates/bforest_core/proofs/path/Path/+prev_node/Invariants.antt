@@ -1,4 +1,4 @@
-use Rattle.std.proofs.Common.{ℕ, ◌-◌}
+use Rattle.std.proofs.Common.{◌-◌}
 use Rattle.bforest_core.proofs.path.Path.+prev_node.Given as goal
 
 abbrev pub decreases-prev_node : goal.decreases-prev_node

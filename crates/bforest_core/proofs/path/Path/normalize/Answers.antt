@@ -1,7 +1,6 @@
-use Rattle.std.proofs.Common.{rules, ◌≡◌, ◌≢◌, ℕ, suc, ◌<◌, length, get_or, sym, ◌∙◌, arith}
+use Rattle.std.proofs.Common.{rules, ◌<◌, length, get_or, sym, ◌∙◌}
 use Rattle.std.proofs.lemmas.Bool.{false≢true}
 use Rattle.bforest_core.specs.Levels.{heads}
-use Rattle.bforest_core.specs.Place.{Stands}
 use Rattle.bforest_core.proofs.Descent.{some_leaf}
 use Rattle.bforest_core.proofs.Pointed.{pointed_slot, pointed_over, pointed_here, pointed_next, pointed_last}
 use Rattle.bforest_core.proofs.path.Path.normalize.Goals as goal

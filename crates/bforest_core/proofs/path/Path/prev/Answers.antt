@@ -1,4 +1,4 @@
-use Rattle.std.proofs.Common.{rules, ◌≡◌, ◌≢◌, ℕ, suc, ◌+◌, ◌-◌, ◌<◌, ◌≤◌, List, [], ◌∷◌, length, get_or, slice_get, Option, Some, None, refl, sym, ap, subst, ◌∙◌, arith}
+use Rattle.std.proofs.Common.{rules, ◌≡◌, ℕ, ◌+◌, ◌-◌, [], length, slice_get, Some, sym, ap, subst, ◌∙◌, arith}
 use Rattle.bforest_core.specs.Levels.{flat}
 use Rattle.bforest_core.specs.Place.{Stands, entry_before}
 use Rattle.bforest_core.specs.Trees.{tree_of}
@@ -10,8 +10,8 @@ use Rattle.bforest_core.proofs.Trailing.{last_stands}
 use Rattle.bforest_core.proofs.Backward.{before_is, at_entry, at_end, stay}
 use Rattle.bforest_core.proofs.path.Path.prev.Goals as goal
 
-pub descend_last-level-requires : goal.descend_last-level-requires
-descend_last-level-requires g c =
+pub descend_last-top-requires : goal.descend_last-top-requires
+descend_last-top-requires g c =
     let slots = c.args.pool.now.nodes in
     let tree = tree_of slots c.args.root in
     let w = is-rooted g.row.N c.args.pool.now c.args.root c.requires.union c.requires.root in
@@ -24,9 +24,9 @@ overflow_add-self g c =
     let tree = tree_of slots c.args.root in
     let w = is-rooted g.row.N c.args.pool.now c.args.root c.requires.union c.requires.root in
     let one = some_leaf _ c.requires.capacity in
-    let path = c.descend_last-level.new.self in
-    let size = c.descend_last-level.result + 1 in
-    let r = c.descend_last-level.ensures.level tree.leaves tree.above [] (whole_top g.row.N slots c.args.root tree w).first (whole_under g.row.N slots c.args.root tree w) in
+    let path = c.descend_last-top.new.self in
+    let size = c.descend_last-top.result + 1 in
+    let r = c.descend_last-top.ensures.level tree.leaves tree.above [] (whole_top g.row.N slots c.args.root tree w).first (whole_under g.row.N slots c.args.root tree w) in
     let last = length (flat tree.leaves) - 1 in
     let s = last_stands tree c.args.self.now.node c.args.self.now.entry path.node path.entry size r.1 (omega (arith, r.0)) in
     omega (arith, r.0, w.low)
@@ -37,9 +37,9 @@ entry_here-requires g c =
     let tree = tree_of slots c.args.root in
     let w = is-rooted g.row.N c.args.pool.now c.args.root c.requires.union c.requires.root in
     let one = some_leaf _ c.requires.capacity in
-    let path = c.descend_last-level.new.self in
-    let size = c.descend_last-level.result + 1 in
-    let r = c.descend_last-level.ensures.level tree.leaves tree.above [] (whole_top g.row.N slots c.args.root tree w).first (whole_under g.row.N slots c.args.root tree w) in
+    let path = c.descend_last-top.new.self in
+    let size = c.descend_last-top.result + 1 in
+    let r = c.descend_last-top.ensures.level tree.leaves tree.above [] (whole_top g.row.N slots c.args.root tree w).first (whole_under g.row.N slots c.args.root tree w) in
     let last = length (flat tree.leaves) - 1 in
     let s = last_stands tree c.args.self.now.node c.args.self.now.entry path.node path.entry size r.1 (omega (arith, r.0)) in
     (search rules, (search rules, (s.leaf.entries, leaf_slot g.row.N one slots path.node path.entry size tree last w.fit w.inside s, s.leaf.within)))
@@ -50,9 +50,9 @@ returns-then-self-eq0-clause-value g c = λ place at.
     let tree = tree_of slots c.args.root in
     let w = is-rooted g.row.N c.args.pool.now c.args.root c.requires.union c.requires.root in
     let one = some_leaf _ c.requires.capacity in
-    let path = c.descend_last-level.new.self in
-    let size = c.descend_last-level.result + 1 in
-    let r = c.descend_last-level.ensures.level tree.leaves tree.above [] (whole_top g.row.N slots c.args.root tree w).first (whole_under g.row.N slots c.args.root tree w) in
+    let path = c.descend_last-top.new.self in
+    let size = c.descend_last-top.result + 1 in
+    let r = c.descend_last-top.ensures.level tree.leaves tree.above [] (whole_top g.row.N slots c.args.root tree w).first (whole_under g.row.N slots c.args.root tree w) in
     let last = length (flat tree.leaves) - 1 in
     let s = last_stands tree c.args.self.now.node c.args.self.now.entry path.node path.entry size r.1 (omega (arith, r.0)) in
     let end = at_end c.args.self.now.node c.args.self.now.entry tree place c.args.self.now.size c.if-self-eq0.true at in
@@ -66,9 +66,9 @@ returns-then-self-eq0-clause-moved g c = λ place at.
     let tree = tree_of slots c.args.root in
     let w = is-rooted g.row.N c.args.pool.now c.args.root c.requires.union c.requires.root in
     let one = some_leaf _ c.requires.capacity in
-    let path = c.descend_last-level.new.self in
-    let size = c.descend_last-level.result + 1 in
-    let r = c.descend_last-level.ensures.level tree.leaves tree.above [] (whole_top g.row.N slots c.args.root tree w).first (whole_under g.row.N slots c.args.root tree w) in
+    let path = c.descend_last-top.new.self in
+    let size = c.descend_last-top.result + 1 in
+    let r = c.descend_last-top.ensures.level tree.leaves tree.above [] (whole_top g.row.N slots c.args.root tree w).first (whole_under g.row.N slots c.args.root tree w) in
     let last = length (flat tree.leaves) - 1 in
     let s = last_stands tree c.args.self.now.node c.args.self.now.entry path.node path.entry size r.1 (omega (arith, r.0)) in
     let end = at_end c.args.self.now.node c.args.self.now.entry tree place c.args.self.now.size c.if-self-eq0.true at in
