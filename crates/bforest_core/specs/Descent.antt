@@ -1,5 +1,5 @@
 -- Going down a tree: what lies below some of its nodes, and where a path stands there.
-use Rattle.std.specs.Prelude.{◌≡◌, ◌≢◌, ℕ, suc, ◌+◌, ◌≤◌, ◌<◌, true, false, if◌then◌else◌, List, [], ◌∷◌, ◌++◌, length, get_or, slice_get, Some}
+use Rattle.std.specs.Prelude.{◌≡◌, ◌≢◌, ℕ, suc, ◌+◌, ◌-◌, ◌≤◌, ◌<◌, true, false, if◌then◌else◌, List, [], ◌∷◌, ◌++◌, length, get_or, slice_get, Some}
 use Rattle.std.specs.declared.cmp.Ordering.{Ordering}
 use Rattle.std.specs.declared.cmp.Ordering.TheVariants.{Greater}
 use Rattle.bforest_core.specs.Content.{Content}
@@ -81,6 +81,14 @@ module _ {K V : Type 0} (cmp : K → K → Ordering) where
 pub record Led {K V : Type 0} (leaves : List (LevelNode K V)) (lower : List (List (LevelNode K ℕ))) (path indices path' indices' : List ℕ) : Type 0 where
   pub leaf : IsAt leaves (get_or path' 0 0) (get_or indices' 0 0) 0
   pub stands : StandsTo path' indices' 1 lower (length leaf.before) 0
+  pub nodes_above : SameAbove (length lower) path path'
+  pub entries_above : SameAbove (length lower) indices indices'
+
+-- the path stands at the last entry of the leaves, and on the rows from there up to this node of the top; above it is as
+-- before
+pub record LedLast {K V : Type 0} (leaves : List (LevelNode K V)) (lower : List (List (LevelNode K ℕ))) (top : ℕ) (path indices path' indices' : List ℕ) : Type 0 where
+  pub leaf : IsAt leaves (get_or path' 0 0) (get_or indices' 0 0) (length (flat leaves) - 1)
+  pub stands : StandsTo path' indices' 1 lower (length leaf.before) top
   pub nodes_above : SameAbove (length lower) path path'
   pub entries_above : SameAbove (length lower) indices indices'
 

@@ -1,5 +1,5 @@
 -- A tree in a pool's table, and a path in a tree.
-use Rattle.std.specs.Prelude.{◌≡◌, ℕ, suc, ◌+◌, ◌≤◌, ◌<◌, if◌then◌else◌, nat_eq, List, [], ◌∷◌, ◌++◌, map, length, drop, get_or, slice_get, Some}
+use Rattle.std.specs.Prelude.{◌≡◌, ℕ, zero, suc, ◌+◌, ◌≤◌, ◌<◌, if◌then◌else◌, nat_eq, List, [], ◌∷◌, ◌++◌, map, length, drop, get_or, slice_get, Option, Some, None}
 use Rattle.std.specs.List.{flat_map}
 use Rattle.bforest_core.specs.Content.{Content, Inner, Leaf}
 use Rattle.bforest_core.specs.Levels.{LevelNode, node, flat, heads, numbers, Tree}
@@ -98,6 +98,28 @@ pub record PlacedAt {K V : Type 0} (path indices : List ℕ) (size : ℕ) (tree 
   pub above : StandsAbove path indices 1 tree.above (length before)
   pub size_is : size ≡ suc (length tree.above)
 
+-- the path stands in the tree at an entry of a leaf, or behind a leaf's last entry
+pub record PointsAt {K V : Type 0} (path indices : List ℕ) (size : ℕ) (tree : Tree K V) (place : ℕ) : Type 0 where
+  pub before : List (LevelNode K V)
+  pub entries : List (K × V)
+  pub after : List (LevelNode K V)
+  pub leaves_are : tree.leaves ≡ before ++ node (get_or path 0 0) entries ∷ after
+  pub within : get_or indices 0 0 ≤ length entries
+  pub place_is : place ≡ length (flat before) + get_or indices 0 0
+  pub above : StandsAbove path indices 1 tree.above (length before)
+  pub size_is : size ≡ suc (length tree.above)
+
 -- or at the end, with no node
 abbrev pub is_at_end : ℕ → Type 0
 is_at_end size = size ≡ 0
+
+module _ {K V : Type 0} where
+  -- the path stands in the tree at this entry, or with no node at the end, whose place is behind all entries
+  abbrev pub IsPathAt : List ℕ → List ℕ → ℕ → Tree K V → ℕ → Type 0
+  IsPathAt path indices zero tree place = place ≡ length (flat tree.leaves)
+  IsPathAt path indices (suc size) tree place = Stands path indices (suc size) tree place
+
+-- the entry in front of a place
+abbrev pub entry_before : {X : Type 0} → List X → ℕ → Option X
+entry_before list zero = None
+entry_before list (suc place) = slice_get list place

@@ -1,7 +1,7 @@
 //! Reading and writing one node of a pool, by its number.
-ghost use Rattle.std.specs.Prelude.{◌≡◌, ℕ, ◌<◌, ◌≤◌, ◌↔◌, IsTrue, List, length, slice_get, Some, if◌then◌else◌};
+ghost use Rattle.std.specs.Prelude.{◌≡◌, ℕ, ◌-◌, ◌<◌, ◌≤◌, ◌↔◌, IsTrue, List, length, slice_get, Some, if◌then◌else◌};
 ghost use Rattle.std.specs.List.Sorted.{IsStrictlySortedBy};
-ghost use Rattle.bforest_core.specs.Content.{Inner, with_child, Leaf, with_entry};
+ghost use Rattle.bforest_core.specs.Content.{Content, Inner, with_child, Leaf, with_entry, entry_count};
 ghost use Rattle.bforest_core.specs.Descent.{child_index};
 ghost use Rattle.bforest_core.specs.Entries.{IsIncreasing, place, value_for};
 ghost use Rattle.bforest_core.specs.Place.{leaf_content};
@@ -71,6 +71,17 @@ pub(crate) fn look_up<K: Copy, V: Copy, const N: usize, C: Comparator<K>>(
         Ok(index) => (index, Some(values[index])),
         Err(index) => (index, None),
     }
+}
+
+// The index of the last entry or child of a node that has one.
+pub(crate) fn last_index<K: Copy, V: Copy, const N: usize>(
+    pool: &NodePool<K, V, N>,
+    node: Node,
+) -> usize
+    requires some { (content : Content K V) × (slice_get pool.now.nodes node ≡ Some content) × (1 ≤ entry_count content) }
+    ensures last { (content : Content K V) → slice_get pool.now.nodes node ≡ Some content → result ≡ entry_count content - 1 }
+{
+    pool.node(node).entries() - 1
 }
 
 // Puts an entry into a leaf at `index`. Whether there was room.

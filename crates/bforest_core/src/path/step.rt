@@ -1,17 +1,18 @@
-//! Steps from an entry to the next.
+//! Steps from an entry to the next, and to the one before.
 ghost use Rattle.std.specs.Prelude.{◌≡◌, ℕ, suc, ◌+◌, ◌-◌, ◌<◌, ◌≤◌, ◌≢◌, ◌↔◌, IsTrue, false, true, List, [], ◌∷◌, ◌++◌, map, length, get_or, slice_get, slice_set, Some, None, if◌then◌else◌};
 ghost use Rattle.bforest_core.specs.Content.{IsLeafCapacity};
 ghost use Rattle.bforest_core.specs.Table.{IsFullAt};
 ghost use Rattle.bforest_core.specs.Levels.{LevelNode, flat, sizes, Tree, IsFit, sizes_of};
 ghost use Rattle.bforest_core.specs.Sizes.{gain_above, need_above, growth, need};
 ghost use Rattle.bforest_core.specs.Climb.{Above, Grown, Halved, Inserted, LeafHalved, Placed};
-ghost use Rattle.bforest_core.specs.Descent.{GoesThrough, Under, Descended, Led, IsRooted, StandsFor};
+ghost use Rattle.bforest_core.specs.Descent.{GoesThrough, Under, Descended, Led, LedLast, IsRooted, StandsFor};
 ghost use Rattle.bforest_core.specs.Entries.{IsIncreasing, place, value_for};
-ghost use Rattle.bforest_core.specs.Place.{inner_content, entry_items, leaf_content, IsIn, Stands};
+ghost use Rattle.bforest_core.specs.Place.{inner_content, entry_items, leaf_content, IsIn, Stands, PointsAt, IsPathAt, entry_before};
 ghost use Rattle.bforest_core.specs.Trees.{IsUnion, is_root, tree_of};
 ghost use Rattle.bforest_core.specs.Change.{StandsUnder};
 ghost use Rattle.bforest_core.specs.Steps.{Over, Moved};
 
+use crate::access::last_index;
 use crate::number::Node;
 use crate::path::Path;
 use crate::pool::NodePool;
@@ -162,5 +163,114 @@ impl<K: Copy, V: Copy, const N: usize> Path<K, V, N> {
         let child = pool.node(self.node[level + 1]).child(index);
         self.node[level] = child;
         self.entry[level + 1] = index;
+    }
+
+    /// From one past a leaf's last entry it goes to the first entry of the next leaf, or to the end. Anywhere else nothing changes.
+    pub fn normalize(&mut self, pool: &NodePool<K, V, N>)
+        requires capacity { IsLeafCapacity N }
+        requires height { self.old.size ≤ 17 }
+        requires points { self.old.size ≢ 0 → (tree : Tree K V) × (place : ℕ) × IsFit N tree × IsIn pool.now.nodes tree × PointsAt self.old.node self.old.entry self.old.size tree place }
+        ensures moved { self.new.size ≢ 0 → self.old.size ≢ 0 → (tree : Tree K V) (place : ℕ) → IsFit N tree → IsIn pool.now.nodes tree → PointsAt self.old.node self.old.entry self.old.size tree place → Stands self.new.node self.new.entry self.new.size tree place }
+        ensures end { self.new.size ≡ 0 → self.old.size ≢ 0 → (tree : Tree K V) (place : ℕ) → IsFit N tree → IsIn pool.now.nodes tree → PointsAt self.old.node self.old.entry self.old.size tree place → place ≡ length (flat tree.leaves) }
+        ensures stays { self.old.size ≡ 0 → self.new.size ≡ 0 }
+    {
+        if self.size == 0 {
+            return;
+        }
+        if self.has_entry(self.entry[0], pool) {
+            return;
+        }
+        if self.next_node(0, pool) {
+            self.set_entry(0);
+        } else {
+            self.size = 0;
+        }
+    }
+
+    /// Goes to the entry before and answers it; from the end it goes to the last. At the first entry it stays, and answers `None`.
+    pub fn prev(&mut self, root: Node, pool: &NodePool<K, V, N>) -> Option<(K, V)>
+        requires capacity { IsLeafCapacity N }
+        requires union { IsUnion N pool.now }
+        requires root { IsTrue (is_root pool.now.nodes root) }
+        requires stands { self.old.size ≢ 0 → (place : ℕ) × Stands self.old.node self.old.entry self.old.size (tree_of pool.now.nodes root) place }
+        ensures value { (place : ℕ) → IsPathAt self.old.node self.old.entry self.old.size (tree_of pool.now.nodes root) place → result ≡ entry_before (flat (tree_of pool.now.nodes root).leaves) place }
+        ensures moved { (place : ℕ) → IsPathAt self.old.node self.old.entry self.old.size (tree_of pool.now.nodes root) place → Stands self.new.node self.new.entry self.new.size (tree_of pool.now.nodes root) (place - 1) }
+    {
+        if self.size == 0 {
+            let level = self.descend_last(root, 0, pool);
+            self.size = level + 1;
+            return Some(self.entry_here(pool));
+        }
+        if self.prev_entry(pool) {
+            Some(self.entry_here(pool))
+        } else {
+            None
+        }
+    }
+
+    // Goes from `node`, the last of its level, down to the last entry below it. Answers the node's level. So many levels lie above.
+    fn descend_last(&mut self, node: Node, depth: usize, pool: &NodePool<K, V, N>) -> usize
+        requires capacity { IsLeafCapacity N }
+        requires under { (leaves : List (LevelNode K V)) × (lower : List (List (LevelNode K ℕ))) × (a : List (K × ℕ)) × (first : K) × Under N pool.now.nodes leaves lower (a ++ (first, node) ∷ []) × (depth + length lower ≤ 16) }
+        ensures level { (leaves : List (LevelNode K V)) (lower : List (List (LevelNode K ℕ))) (a : List (K × ℕ)) (first : K) → Under N pool.now.nodes leaves lower (a ++ (first, node) ∷ []) → (result ≡ length lower) × LedLast leaves lower (length a) self.old.node self.old.entry self.new.node self.new.entry }
+        ensures size { self.new.size ≡ self.old.size }
+    {
+        let last = last_index(pool, node);
+        if !pool.node(node).is_inner() {
+            self.set_level(0, node, last);
+            return 0;
+        }
+        let child = pool.node(node).child(last);
+        let below = self.descend_last(child, depth + 1, pool);
+        self.set_level(below + 1, node, last);
+        below + 1
+    }
+
+    // Goes to the entry before. At the first it answers false, and nothing changed.
+    fn prev_entry(&mut self, pool: &NodePool<K, V, N>) -> bool
+        requires capacity { IsLeafCapacity N }
+        requires height { self.old.size ≤ 17 }
+        requires stands { (tree : Tree K V) × (place : ℕ) × IsFit N tree × IsIn pool.now.nodes tree × Stands self.old.node self.old.entry self.old.size tree place }
+        ensures moved { result ≡ true → (tree : Tree K V) (place : ℕ) → IsFit N tree → IsIn pool.now.nodes tree → Stands self.old.node self.old.entry self.old.size tree place → (0 < place) × Stands self.new.node self.new.entry self.old.size tree (place - 1) }
+        ensures first { result ≡ false → (tree : Tree K V) (place : ℕ) → IsFit N tree → IsIn pool.now.nodes tree → Stands self.old.node self.old.entry self.old.size tree place → place ≡ 0 }
+        ensures same { result ≡ false → self.new ≡ self.old }
+        ensures size { self.new.size ≡ self.old.size }
+    {
+        let here = self.entry[0];
+        if here > 0 {
+            self.set_entry(here - 1);
+            return true;
+        }
+        let moved = self.prev_node(0, pool);
+        if moved {
+            let last = last_index(pool, self.node[0]);
+            self.set_entry(last);
+        }
+        moved
+    }
+
+    // Moves the path's node on `level` to the one before. Where there is none it answers false, and nothing changed.
+    fn prev_node(&mut self, level: usize, pool: &NodePool<K, V, N>) -> bool
+        requires height { self.old.size ≤ 17 }
+        requires over { (rows : List (List (LevelNode K ℕ))) × (list : List (K × ℕ)) × (place : ℕ) × Over pool.now.nodes self.old.node self.old.entry (suc level) self.old.size rows list place }
+        ensures moved { result ≡ true → (rows : List (List (LevelNode K ℕ))) (list : List (K × ℕ)) (place : ℕ) → Over pool.now.nodes self.old.node self.old.entry (suc level) self.old.size rows list place → (0 < place) × Moved self.old.node self.old.entry self.new.node self.new.entry level rows list (place - 1) }
+        ensures first { result ≡ false → (rows : List (List (LevelNode K ℕ))) (list : List (K × ℕ)) (place : ℕ) → Over pool.now.nodes self.old.node self.old.entry (suc level) self.old.size rows list place → place ≡ 0 }
+        ensures same { result ≡ false → self.new ≡ self.old }
+        ensures size { self.new.size ≡ self.old.size }
+    {
+        if level + 1 == self.size {
+            return false;
+        }
+        let entry = self.entry[level + 1];
+        if entry > 0 {
+            self.go_to_child(level, entry - 1, pool);
+            return true;
+        }
+        let moved = self.prev_node(level + 1, pool);
+        if moved {
+            let last = last_index(pool, self.node[level + 1]);
+            self.go_to_child(level, last, pool);
+        }
+        moved
     }
 }
