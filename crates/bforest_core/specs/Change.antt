@@ -19,6 +19,11 @@ module _ {K V : Type 0} where
     pub new_came : root ≢ root' → ¬ IsTrue (is_root old.nodes root')
     pub limit_is : new.limit ≡ old.limit
 
+  -- the same numbers are roots, and under each stands the same tree
+  abbrev pub KeepsTrees : List (Content K V) → List (Content K V) → Type 0
+  KeepsTrees old new =
+      (number : ℕ) → (is_root new number ≡ is_root old number) × (IsTrue (is_root old number) → tree_of new number ≡ tree_of old number)
+
   -- so many nodes were taken: first from those that lay free, then from new slots
   pub record TakesNodes (count : ℕ) (old new : Table K V) : Type 0 where
     pub slots : slot_count new ≡ slot_count old + (count - free_count old)

@@ -6,8 +6,9 @@ ghost use Rattle.bforest_core.specs.Levels.{LevelNode, flat, sizes, Tree, IsFit,
 ghost use Rattle.bforest_core.specs.Sizes.{gain_above, need_above, growth, need};
 ghost use Rattle.bforest_core.specs.Climb.{Above, Grown, Halved, Inserted, LeafHalved, Placed};
 ghost use Rattle.bforest_core.specs.Descent.{GoesThrough, Under, Descended, Led, IsRooted, StandsFor};
-ghost use Rattle.bforest_core.specs.Entries.{IsIncreasing, place, value_for};
+ghost use Rattle.bforest_core.specs.Entries.{is_present, IsIncreasing, place, value_for};
 ghost use Rattle.bforest_core.specs.Place.{inner_content, entry_items, leaf_content, IsIn, Stands};
+ghost use Rattle.bforest_core.specs.Change.{StandsUnder, PlacedUnder};
 ghost use Rattle.bforest_core.specs.Trees.{IsUnion, is_root, tree_of};
 ghost use Rattle.bforest_core.specs.Steps.{Over, Moved};
 
@@ -32,6 +33,8 @@ impl<K: Copy, V: Copy, const N: usize> Path<K, V, N> {
         requires root { IsTrue (is_root pool.now.nodes root) }
         requires increasing { IsIncreasing (C.order comp.now) (flat (tree_of pool.now.nodes root).leaves) }
         ensures value { result ≡ value_for (C.order comp.now) (flat (tree_of pool.now.nodes root).leaves) key }
+        ensures present { is_present (C.order comp.now) (flat (tree_of pool.now.nodes root).leaves) key ≡ true → StandsUnder pool.now.nodes root self.new.node self.new.entry self.new.size (place (C.order comp.now) (flat (tree_of pool.now.nodes root).leaves) key) }
+        ensures absent { is_present (C.order comp.now) (flat (tree_of pool.now.nodes root).leaves) key ≡ false → PlacedUnder pool.now.nodes root self.new.node self.new.entry self.new.size (place (C.order comp.now) (flat (tree_of pool.now.nodes root).leaves) key) }
         ensures path { StandsFor (C.order comp.now) self.new.node self.new.entry self.new.size (tree_of pool.now.nodes root) key }
     {
         let (level, value) = self.descend(key, root, 0, pool, comp);

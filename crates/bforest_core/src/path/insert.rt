@@ -1,7 +1,7 @@
 //! Putting an entry in where a path is.
 ghost use Rattle.std.specs.Prelude.{insert, IfOk, IsOk, OnOk, OnErr, Ok, Err, ◌≡◌, ℕ, suc, ◌+◌, ◌-◌, ◌<◌, ◌≤◌, ◌≢◌, ◌↔◌, IsTrue, false, true, List, [], ◌∷◌, ◌++◌, map, length, get_or, slice_get, slice_set, Some, None, if◌then◌else◌};
 ghost use Rattle.bforest_core.specs.Content.{IsLeafCapacity};
-ghost use Rattle.bforest_core.specs.Table.{IsFullAt, NeedsGrowth, room, free_count, with_value_at};
+ghost use Rattle.bforest_core.specs.Table.{IsFullAt, NeedsGrowth, room, slot_count, free_count, with_value_at};
 ghost use Rattle.bforest_core.specs.Levels.{LevelNode, flat, sizes, Tree, IsFit, sizes_of};
 ghost use Rattle.bforest_core.specs.Sizes.{gain_above, need_above, growth, need};
 ghost use Rattle.bforest_core.specs.Climb.{top_of, Above, Grown, Halved, Inserted, LeafHalved, Placed};
@@ -55,6 +55,17 @@ impl<K: Copy, V: Copy, const N: usize> Path<K, V, N> {
             self.split_leaf(key, value, pool);
         }
         Ok(self.root())
+    }
+
+    /// Writes the value of the entry where the path stands. No other entry changes, and no node.
+    pub fn set_value(&self, value: V, pool: &mut NodePool<K, V, N>)
+        requires union { IsUnion N pool.old }
+        requires stands { (root : ℕ) × (place : ℕ) × StandsUnder pool.old.nodes root self.now.node self.now.entry self.now.size place }
+        ensures written { (root place : ℕ) → StandsUnder pool.old.nodes root self.now.node self.now.entry self.now.size place → Changes N pool.old pool.new root root (with_value (flat (tree_of pool.old.nodes root).leaves) place value) (sizes_of (tree_of pool.old.nodes root)) }
+        ensures slots { slot_count pool.new ≡ slot_count pool.old }
+        ensures chain { pool.new.chain ≡ pool.old.chain }
+    {
+        *pool.path_value_mut(self) = value;
     }
 
     // The root of the path's tree.
