@@ -1,32 +1,33 @@
 -- What contracts see of a forest and of a handle.
-use Rattle.bforest_core.specs.Entries.{is_present}
-use Rattle.std.specs.Coded.{Coded, code_by, coded_list, coded_ℕ, coded×}
-use Rattle.std.specs.Prelude.{List, None, Option, Some, [], false, length, refl, slice_index_or, ◌+◌, ◌-◌, ◌<◌, ◌≡◌, ◌≢◌, ◌≤◌, ℕ}
+use Rattle.bforest_core.specs.Entries.{is_present, place}
+use Rattle.bforest_core.specs.Levels.{flat, sizes_of as tree_sizes}
+use Rattle.bforest_core.specs.Sizes.{growth, need}
+use Rattle.bforest_core.specs.Table.{Table, free_count, slot_count}
+use Rattle.bforest_core.specs.Trees.{is_root, tree_of}
+use Rattle.std.specs.Prelude.{List, None, Option, Some, [], if◌then◌else◌, ◌+◌, ◌-◌, ◌<◌, ◌≡◌, ◌≢◌, ◌≤◌, ◌∷◌, ℕ}
 use Rattle.std.specs.declared.cmp.Ordering.{Ordering}
 
--- The list of entries under each number, [] where no tree has the number; how many slots lie free; how many there may be. Contracts
--- read a forest by the words below alone.
-pub record Forest (K X : Type 0) : Type 0 where
-  pub lists : List (List (K × X))
-  pub free : ℕ
-  pub limit : ℕ
+-- The table of a forest's nodes. Contracts read it by the words below alone.
+abbrev pub Forest : Type 0 → Type 0 → Type 0
+Forest K X = Table K X
+
+-- the sizes of a tree's leaves
+abbrev pub first_level : List (List ℕ) → List ℕ
+first_level [] = []
+first_level (leaves ∷ levels) = leaves
 
 module _ {K X : Type 0} where
-  abbrev pub forest_code : Coded K → Coded X → Coded (Forest K X)
-  forest_code k x =
-      code_by (List (List (K × X)) × (ℕ × ℕ)) (coded× (coded_list (coded_list (coded× k x))) (coded× coded_ℕ coded_ℕ)) (λ f. (f.lists, (f.free, f.limit))) (λ p. record { lists = p.0; free = p.1.0; limit = p.1.1 }) (λ _. refl)
-
   -- no tree, no slot, and at most n of them
   abbrev pub empty : ℕ → Forest K X
-  empty n = record { lists = []; free = 0; limit = n }
+  empty n = record { nodes = []; chain = []; limit = n }
 
   -- how many slots there are
   abbrev pub slots_of : Forest K X → ℕ
-  slots_of f = length f.lists
+  slots_of f = slot_count f
 
   -- how many slots lie free
   abbrev pub free_of : Forest K X → ℕ
-  free_of f = f.free
+  free_of f = free_count f
 
   -- how many slots there may be
   abbrev pub limit_of : Forest K X → ℕ
@@ -37,26 +38,43 @@ module _ {K X : Type 0} where
   room_of f = free_of f + (limit_of f - slots_of f)
 
   -- the list of a number: [] where no tree has it
-  abbrev pub list_at : Forest K X → ℕ → List (K × X)
-  list_at f n = slice_index_or f.lists n []
+  unfoldable pub list_at : Forest K X → ℕ → List (K × X)
+  list_at f n = if is_root f.nodes n then flat (tree_of f.nodes n).leaves else []
+
+  -- the sizes of its tree's nodes, level by level, the leaves first: [] where no tree has it
+  unfoldable pub sizes_at : Forest K X → ℕ → List (List ℕ)
+  sizes_at f n = if is_root f.nodes n then tree_sizes (tree_of f.nodes n) else []
 
   -- the list that a handle means
   abbrev pub list_of : Forest K X → Option ℕ → List (K × X)
   list_of f None = []
   list_of f (Some n) = list_at f n
 
+  -- the sizes of its tree's nodes
+  abbrev pub sizes_of : Forest K X → Option ℕ → List (List ℕ)
+  sizes_of f None = []
+  sizes_of f (Some n) = sizes_at f n
+
   -- the handle is empty, or a tree has its number
   abbrev pub IsLive : Forest K X → Option ℕ → Type 0
   IsLive f None = Unit {0}
   IsLive f (Some n) = list_at f n ≢ []
 
-  -- f and its handle h become f' and h', which means es; every other number keeps its list or stays without one
+  -- f and its handle h become f' and h', which means es; every other number keeps its list, in nodes of the same sizes, or stays without
+  -- one
   pub record Becomes (f : Forest K X) (h : Option ℕ) (f' : Forest K X) (h' : Option ℕ) (es : List (K × X)) : Type 0 where
     pub live : IsLive f' h'
     pub list : list_of f' h' ≡ es
     pub leaves : h' ≢ h → list_of f' h ≡ []
     pub fresh : h' ≢ h → list_of f h' ≡ []
     pub others : (n : ℕ) → Some n ≢ h → Some n ≢ h' → list_at f' n ≡ list_at f n
+    pub others_sizes : (n : ℕ) → Some n ≢ h → Some n ≢ h' → sizes_at f' n ≡ sizes_at f n
+    pub limit : limit_of f' ≡ limit_of f
+
+  -- every number keeps its list, in nodes of the same sizes, or stays without one
+  pub record Keeps (f f' : Forest K X) : Type 0 where
+    pub lists : (n : ℕ) → list_at f' n ≡ list_at f n
+    pub sizes : (n : ℕ) → sizes_at f' n ≡ sizes_at f n
     pub limit : limit_of f' ≡ limit_of f
 
   -- f becomes f' by taking d slots: first those that lie free, and then added ones
@@ -74,12 +92,10 @@ module _ {K X : Type 0} where
     pub allowed : d ≤ room_of f
 
 module _ {K X : Type 0} (cmp : K → K → Ordering) where
-  -- how many free slots an insertion of k into the list of h takes: a new tree takes one
+  -- how many free slots an insertion of k into the list of h takes
   abbrev pub need_of : Forest K X → Option ℕ → K → ℕ
-  need_of f None k = 1
-  need_of f (Some n) k = 0
+  need_of f h k = if is_present cmp (list_of f h) k then 0 else need 7 (place cmp (list_of f h) k) (sizes_of f h)
 
-  -- For now a tree is one leaf of at most 7 entries: k is absent, and no room is left for it.
-  pub record IsBeyondLeaf (f : Forest K X) (h : Option ℕ) (k : K) : Type 0 where
-    pub absent : is_present cmp (list_of f h) k ≡ false
-    pub full : 7 ≤ length (list_of f h)
+  -- the sizes of the nodes after it
+  abbrev pub sizes_with : Forest K X → Option ℕ → K → List (List ℕ)
+  sizes_with f h k = if is_present cmp (list_of f h) k then sizes_of f h else growth 7 (place cmp (list_of f h) k) (sizes_of f h)

@@ -1,2 +1,4 @@
 pub mod Forest
+pub mod Insertion
 pub mod Layout
+pub mod Memory

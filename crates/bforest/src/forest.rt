@@ -1,34 +1,30 @@
 //! The table of all trees of a forest.
-ghost use Rattle.bforest_core.specs.Entries.{IsIncreasing, is_present, put, value_for};
-ghost use Rattle.bforest.specs.Forest.{Becomes, IsLive, IsTooMany, NeedsGrowth, Takes, empty, free_of, limit_of, list_at, list_of, slots_of};
-ghost use Rattle.std.specs.List.{zip};
-ghost use Rattle.std.specs.Prelude.{IfOk, IsTrue, None, OnErr, OnOk, Some, [], false, length, ◌↔◌, ◌∷◌, ◌≡◌, ◌≢◌, ◌≤◌};
+ghost use Rattle.bforest_core.specs.Entries.{IsIncreasing, put, value_for};
+ghost use Rattle.bforest_core.specs.Trees.{IsUnion};
+ghost use Rattle.bforest.specs.Forest.{Becomes, IsLive, IsTooMany, Keeps, NeedsGrowth, Takes, empty, first_level, free_of, limit_of, list_at, list_of, need_of, room_of, sizes_at, sizes_of, sizes_with, slots_of};
+ghost use Rattle.std.specs.Prelude.{IfOk, IsOk, IsTrue, None, OnErr, OnOk, Some, Err, [], length, ◌+◌, ◌-◌, ◌/◌, ◌^◌, ◌<◌, ◌↔◌, ◌∷◌, ◌≡◌, ◌≢◌, ◌≤◌};
 
-use crate::leaf::Leaf;
 use crate::map::Map;
-use bforest_core::{Comparator, OutOfMemory};
+use crate::tree;
+use bforest_core::{Comparator, Node, NodePool, OutOfMemory};
 use std::alloc::Global;
 use std::marker::Model;
 
 /// Many ordered maps in one table of nodes. It owns all entries; a [`Map`] only names a tree in it.
 #[derive(Drop)]
 pub struct MapForest<K: Copy, V: Copy> {
-    leaves: Vec<Leaf<K, V>>,
-    limit: u32,
-    alloc: Global,
+    pool: NodePool<K, V, 7>,
 }
 
 impl<K: Copy, V: Copy> Model for MapForest<K, V> {
-    ghost use Rattle.bforest.specs.Forest.{Forest, forest_code};
-    ghost use Rattle.bforest.specs.Layout.{IsGrown, forest_of};
+    ghost use Rattle.bforest.specs.Forest.{Forest};
+    ghost use Rattle.bforest_core.specs.Trees.{IsUnion};
 
     ghost Value = { Forest K V };
 
-    ghost coded = { forest_code K.code V.code };
+    ghost view = { λ f. f.pool };
 
-    ghost view = { λ f. forest_of f.leaves.items f.limit };
-
-    ghost invariant = { λ f. IsGrown (forest_of f.leaves.items f.limit) };
+    ghost invariant = { λ f. IsUnion 7 f.pool };
 }
 
 impl<K: Copy, V: Copy> MapForest<K, V> {
@@ -44,9 +40,7 @@ impl<K: Copy, V: Copy> MapForest<K, V> {
         ensures empty { result ≡ empty limit }
     {
         MapForest {
-            leaves: Vec::new(alloc),
-            limit,
-            alloc,
+            pool: NodePool::with_limit(alloc, limit),
         }
     }
 
@@ -55,102 +49,127 @@ impl<K: Copy, V: Copy> MapForest<K, V> {
         ensures count { result ≡ slots_of self.now }
         ensures within { slots_of self.now ≤ limit_of self.now }
     {
-        // There are no more slots than the limit, so their number fits.
-        let _limit = self.limit;
-        self.leaves.len() as u32
+        self.pool.slots()
     }
 
     /// How many slots lie free. Insertions take these before the table grows.
     pub fn free_slots(&self) -> u32
         ensures count { result ≡ free_of self.now }
     {
-        // Each slot is a tree.
-        let _leaves = &self.leaves;
-        0
+        self.pool.free()
     }
 
     /// How many slots the table may have.
     pub fn node_limit(&self) -> u32
         ensures limit { result ≡ limit_of self.now }
     {
-        self.limit
+        self.pool.limit()
     }
 
-    /// Whether a handle is empty or names a tree of this forest: the test for what each call on a handle asks. It compares no keys.
+    /// Makes sure that `n` slots lie free: where fewer do, the table grows once until exactly `n` do. An insertion that needs at most
+    /// so many nodes then succeeds. Where `n` slots lie free already, nothing changes and no memory is taken.
+    ///
+    /// # Errors
+    ///
+    /// `Full` where the limit does not allow so many slots, which is tested first, and `Memory` where the table could not grow. After
+    /// either the forest is as before.
+    pub fn reserve_nodes(&mut self, n: u32) -> Result<(), OutOfMemory>
+        ensures keeps { Keeps self.old self.new }
+        ensures free { OnOk result (n ≤ free_of self.new) }
+        ensures grown { OnOk result (free_of self.old < n → free_of self.new ≡ n) }
+        ensures enough { n ≤ free_of self.old → IsOk result }
+        ensures same { n ≤ free_of self.old → self.new ≡ self.old }
+        ensures refused { OnErr result (self.new ≡ self.old) }
+        ensures full { (result ≡ Err OutOfMemory.Full) ↔ IsTooMany n self.old }
+        ensures memory { result ≡ Err OutOfMemory.Memory → NeedsGrowth n self.old }
+    {
+        tree::reserve(&mut self.pool, n)
+    }
+
+    /// Whether a handle is empty or names a tree of this forest: the test for what each call on a handle asks. It looks at all nodes, and
+    /// compares no keys.
     ///
     /// A handle remembers no forest. One that was made by another forest holds here if this forest has a tree of its number.
     pub fn holds(&self, map: &Map<K, V>) -> bool
         ensures live { IsTrue result ↔ IsLive self.now map.now }
     {
         match map.root {
-            Some(number) => (number as usize) < self.leaves.len(),
+            Some(root) => self.pool.is_root(root),
             None => true,
         }
     }
 
-    /// The leaf of a tree.
-    pub(crate) fn leaf(&self, number: u32) -> &Leaf<K, V>
-        requires { list_at self.now number ≢ [] }
-        ensures { result.now ≡ list_at self.now number }
+    /// The table, for reading.
+    pub(crate) fn pool(&self) -> &NodePool<K, V, 7>
+        ensures same { result.now ≡ self.now }
+        ensures union { IsUnion 7 result.now }
     {
-        &self.leaves[number as usize]
+        &self.pool
     }
 
-    /// The keys of a map's entries, and their values.
-    pub(crate) fn entries(&self, map: &Map<K, V>) -> (&[K], &[V])
-        requires { IsLive self.now map.now }
-        ensures entries { zip result.0.now result.1.now ≡ list_of self.now map.now }
-        ensures even { length result.0.now ≡ length result.1.now }
+    /// The value of a key of a tree.
+    pub(crate) fn get<C: Comparator<K>>(&self, root: Node, key: K, comp: &C) -> Option<V>
+        requires live { list_at self.now root ≢ [] }
+        requires increasing { IsIncreasing (C.order comp.now) (list_at self.now root) }
+        ensures { result ≡ value_for (C.order comp.now) (list_at self.now root) key }
     {
-        match map.root {
-            Some(number) => self.leaf(number).entries(),
-            None => (&[], &[]),
-        }
+        tree::get(&self.pool, root, key, comp)
     }
 
-    /// Puts a value in at a key of a tree, and answers the one that was there.
+    /// How many levels a tree has.
+    pub(crate) fn levels(&self, root: Node) -> usize
+        requires live { list_at self.now root ≢ [] }
+        ensures count { result ≡ length (sizes_at self.now root) }
+        ensures most { result ≤ 17 }
+        ensures depth { 2 ≤ result → 4 ^ (result - 1) < length (list_at self.now root) }
+        ensures leaves { length (first_level (sizes_at self.now root)) ≤ (length (list_at self.now root) + 3) / 4 }
+    {
+        self.pool.levels(root)
+    }
+
+    /// Puts a value in at a key of a tree. Answers the tree's number of now, and the value that was there.
     pub(crate) fn put<C: Comparator<K>>(
         &mut self,
-        number: u32,
+        root: Node,
         key: K,
         value: V,
         comp: &C,
-    ) -> Result<Option<V>, OutOfMemory>
-        requires live { list_at self.old number ≢ [] }
-        requires increasing { IsIncreasing (C.order comp.now) (list_at self.old number) }
+    ) -> Result<(Node, Option<V>), OutOfMemory>
+        requires live { list_at self.old root ≢ [] }
+        requires increasing { IsIncreasing (C.order comp.now) (list_at self.old root) }
+
         ensures ok { IfOk result
-            (λ old. old ≡ value_for (C.order comp.now) (list_at self.old number) key) }
-        ensures put { OnOk result (Becomes self.old (Some number) self.new (Some number)
-            (put (C.order comp.now) (list_at self.old number) key value)) }
-        ensures account { Takes 0 self.old self.new }
+            (λ r. r.1 ≡ value_for (C.order comp.now) (list_at self.old root) key) }
+        ensures put { IfOk result (λ r. Becomes self.old (Some root) self.new (Some r.0)
+            (put (C.order comp.now) (list_at self.old root) key value)) }
+        ensures sizes { IfOk result (λ r. sizes_at self.new r.0
+            ≡ sizes_with (C.order comp.now) self.old (Some root) key) }
+        ensures same_root { IfOk result (λ r. (r.0 ≡ root)
+            ↔ (length (sizes_with (C.order comp.now) self.old (Some root) key) ≡ length (sizes_at self.old root))) }
+        ensures account { OnOk result (Takes (need_of (C.order comp.now) self.old (Some root) key) self.old self.new) }
+
         ensures full { (result ≡ Err OutOfMemory.Full)
-            ↔ ((is_present (C.order comp.now) (list_at self.old number) key ≡ false)
-            × (7 ≤ length (list_at self.old number))) }
-        ensures full_only { result ≢ Err OutOfMemory.Memory }
+            ↔ IsTooMany (need_of (C.order comp.now) self.old (Some root) key) self.old }
+        ensures memory { result ≡ Err OutOfMemory.Memory
+            → NeedsGrowth (need_of (C.order comp.now) self.old (Some root) key) self.old }
+        ensures enough { need_of (C.order comp.now) self.old (Some root) key ≤ free_of self.old → IsOk result }
+        ensures absent { OnErr result (value_for (C.order comp.now) (list_at self.old root) key ≡ None) }
         ensures refused { OnErr result (self.new ≡ self.old) }
     {
-        self.leaves[number as usize].put(key, value, comp)
+        tree::put(&mut self.pool, root, key, value, comp)
     }
 
     /// Adds a tree of one entry, and answers its number.
-    pub(crate) fn plant(&mut self, key: K, value: V) -> Result<u32, OutOfMemory>
+    pub(crate) fn plant(&mut self, key: K, value: V) -> Result<Node, OutOfMemory>
         ensures planted { IfOk result
             (λ n. Becomes self.old None self.new (Some n) ((key, value) ∷ [])) }
+        ensures sizes { IfOk result (λ n. sizes_at self.new n ≡ (1 ∷ []) ∷ []) }
         ensures account { OnOk result (Takes 1 self.old self.new) }
         ensures full { (result ≡ Err OutOfMemory.Full) ↔ IsTooMany 1 self.old }
         ensures memory { result ≡ Err OutOfMemory.Memory → NeedsGrowth 1 self.old }
+        ensures enough { 1 ≤ free_of self.old → IsOk result }
         ensures refused { OnErr result (self.new ≡ self.old) }
     {
-        let number = self.leaves.len();
-        if number >= self.limit as usize {
-            return Err(OutOfMemory::Full);
-        }
-        let Ok(leaf) = Leaf::new(self.alloc, key, value) else {
-            return Err(OutOfMemory::Memory);
-        };
-        match self.leaves.push(leaf) {
-            Ok(()) => Ok(number as u32),
-            Err(_) => Err(OutOfMemory::Memory),
-        }
+        tree::plant(&mut self.pool, key, value)
     }
 }

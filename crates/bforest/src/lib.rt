@@ -6,9 +6,9 @@
 #![tactic(auto)]
 
 mod forest;
-mod leaf;
 mod map;
 mod map_iter;
+mod tree;
 
 pub use bforest_core::{Comparator, OutOfMemory};
 pub use forest::MapForest;

@@ -1,14 +1,15 @@
 //! The handle of one map.
 ghost use Rattle.bforest_core.specs.Entries.{IsIncreasing, put, value_for};
-ghost use Rattle.bforest.specs.Forest.{Becomes, Forest, IsBeyondLeaf, IsLive, IsTooMany, NeedsGrowth, Takes, free_of, list_of, need_of};
+ghost use Rattle.bforest.specs.Forest.{Becomes, Forest, IsLive, IsTooMany, NeedsGrowth, Takes, first_level, free_of, list_of, need_of, sizes_of, sizes_with};
+ghost use Rattle.bforest.specs.Memory.{IsReadable};
 ghost use Rattle.std.specs.Option.{option_map_or};
 ghost use Rattle.std.specs.declared.cmp.Ordering.{Ordering};
 ghost use Rattle.std.specs.Ordering.{is_lt};
-ghost use Rattle.std.specs.Prelude.{IfOk, IsOk, IsSome, IsTrue, None, OnErr, OnOk, [], true, ◌↔◌, ◌≡◌, ◌≤◌, ◌⊎◌};
+ghost use Rattle.std.specs.Prelude.{IfOk, IsOk, IsSome, IsTrue, None, OnErr, OnOk, [], true, ◌↔◌, length, ◌*◌, ◌+◌, ◌-◌, ◌/◌, ◌<◌, ◌^◌, ◌≡◌, ◌≤◌};
 
 use crate::forest::MapForest;
 use crate::map_iter::MapIter;
-use bforest_core::{Comparator, OutOfMemory};
+use bforest_core::{Comparator, Node, OutOfMemory};
 use std::cmp::Ordering;
 use std::default::Default;
 use std::marker::{Model, PhantomData};
@@ -20,7 +21,7 @@ use std::marker::{Model, PhantomData};
 /// [`Map::increases`] tests. Dropping a handle ends no tree.
 #[derive(Drop)]
 pub struct Map<K: Copy, V: Copy> {
-    pub(crate) root: Option<u32>,
+    pub(crate) root: Option<Node>,
     mark: PhantomData<(K, V)>,
 }
 
@@ -83,7 +84,7 @@ impl<K: Copy, V: Copy> Map<K, V> {
         ensures value { result ≡ value_for (C.order comp.now) (list_of forest.now self.now) key }
     {
         match self.root {
-            Some(number) => forest.leaf(number).get(key, comp),
+            Some(root) => forest.get(root, key, comp),
             None => None,
         }
     }
@@ -104,19 +105,22 @@ impl<K: Copy, V: Copy> Map<K, V> {
             (λ old. old ≡ value_for (C.order comp.now) (list_of forest.old self.old) key) }
         ensures put { OnOk result (Becomes forest.old self.old forest.new self.new
             (put (C.order comp.now) (list_of forest.old self.old) key value)) }
+        ensures sizes { OnOk result (sizes_of forest.new self.new
+            ≡ sizes_with (C.order comp.now) forest.old self.old key) }
         ensures same_number { IfOk result (λ old. IsSome old → self.new ≡ self.old) }
+        ensures same_levels { OnOk result ((self.new ≡ self.old)
+            ↔ (length (sizes_of forest.new self.new) ≡ length (sizes_of forest.old self.old))) }
         ensures account { OnOk result
             (Takes (need_of (C.order comp.now) forest.old self.old key) forest.old forest.new) }
         ensures increasing { IsIncreasing (C.order comp.now) (list_of forest.new self.new) }
 
         // When it is refused, and what a refusal leaves.
         ensures full { (result ≡ Err OutOfMemory.Full)
-            ↔ (IsTooMany (need_of (C.order comp.now) forest.old self.old key) forest.old
-            ⊎ IsBeyondLeaf (C.order comp.now) forest.old self.old key) }
+            ↔ IsTooMany (need_of (C.order comp.now) forest.old self.old key) forest.old }
         ensures memory { result ≡ Err OutOfMemory.Memory
             → NeedsGrowth (need_of (C.order comp.now) forest.old self.old key) forest.old }
         ensures succeeds { need_of (C.order comp.now) forest.old self.old key ≤ free_of forest.old
-            → ¬ IsBeyondLeaf (C.order comp.now) forest.old self.old key → IsOk result }
+            → IsOk result }
         ensures absent { OnErr result
             (value_for (C.order comp.now) (list_of forest.old self.old) key ≡ None) }
         ensures refused_forest { OnErr result (forest.new ≡ forest.old) }
@@ -149,31 +153,54 @@ impl<K: Copy, V: Copy> Map<K, V> {
             (λ old. old ≡ value_for (C.order comp.now) (list_of forest.old self.old) key) }
         ensures put { OnOk result (Becomes forest.old self.old forest.new self.new
             (put (C.order comp.now) (list_of forest.old self.old) key value)) }
+        ensures sizes { OnOk result (sizes_of forest.new self.new
+            ≡ sizes_with (C.order comp.now) forest.old self.old key) }
         ensures same_number { IfOk result (λ old. IsSome old → self.new ≡ self.old) }
+        ensures same_levels { OnOk result ((self.new ≡ self.old)
+            ↔ (length (sizes_of forest.new self.new) ≡ length (sizes_of forest.old self.old))) }
         ensures account { OnOk result
             (Takes (need_of (C.order comp.now) forest.old self.old key) forest.old forest.new) }
         ensures increasing { IsIncreasing (C.order comp.now) (list_of forest.new self.new) }
 
         // When it is refused, and what a refusal leaves.
         ensures full { (result ≡ Err OutOfMemory.Full)
-            ↔ (IsTooMany (need_of (C.order comp.now) forest.old self.old key) forest.old
-            ⊎ IsBeyondLeaf (C.order comp.now) forest.old self.old key) }
+            ↔ IsTooMany (need_of (C.order comp.now) forest.old self.old key) forest.old }
         ensures memory { result ≡ Err OutOfMemory.Memory
             → NeedsGrowth (need_of (C.order comp.now) forest.old self.old key) forest.old }
         ensures succeeds { need_of (C.order comp.now) forest.old self.old key ≤ free_of forest.old
-            → ¬ IsBeyondLeaf (C.order comp.now) forest.old self.old key → IsOk result }
+            → IsOk result }
         ensures absent { OnErr result
             (value_for (C.order comp.now) (list_of forest.old self.old) key ≡ None) }
         ensures refused_forest { OnErr result (forest.new ≡ forest.old) }
         ensures refused_handle { OnErr result (self.new ≡ self.old) }
     {
         match self.root {
-            Some(number) => forest.put(number, key, value, comp),
+            Some(root) => {
+                let (root, old) = forest.put(root, key, value, comp)?;
+                self.root = Some(root);
+                Ok(old)
+            }
             None => {
-                let number = forest.plant(key, value)?;
-                self.root = Some(number);
+                let root = forest.plant(key, value)?;
+                self.root = Some(root);
                 Ok(None)
             }
+        }
+    }
+
+    /// How many levels of nodes the map's tree has: none where it is empty, and never more than 17. It reads one node of each level.
+    ///
+    /// A map of `n` entries has at most `(n + 3) / 4` leaves, and with `h` levels, 2 or more, `4 ^ (h - 1)` is less than `n`.
+    pub fn levels(&self, forest: &MapForest<K, V>) -> usize
+        requires live { IsLive forest.now self.now }
+        ensures count { result ≡ length (sizes_of forest.now self.now) }
+        ensures most { result ≤ 17 }
+        ensures depth { 2 ≤ result → 4 ^ (result - 1) < length (list_of forest.now self.now) }
+        ensures leaves { length (first_level (sizes_of forest.now self.now)) ≤ (length (list_of forest.now self.now) + 3) / 4 }
+    {
+        match self.root {
+            Some(root) => forest.levels(root),
+            None => 0,
         }
     }
 
@@ -181,6 +208,7 @@ impl<K: Copy, V: Copy> Map<K, V> {
     pub fn iter<'a>(&self, forest: &'a MapForest<K, V>) -> MapIter<'a, K, V>
         requires live { IsLive forest.now self.now }
         ensures entries { result ≡ list_of forest.now self.now }
+        ensures ready { IsReadable K.row V.row }
     {
         MapIter::new(self, forest)
     }

@@ -1,53 +1,64 @@
 //! Iterators over a map.
 ghost use Rattle.bforest.specs.Forest.{IsLive, list_of};
+ghost use Rattle.bforest.specs.Memory.{IsReadable};
 ghost use Rattle.std.specs.Iterator.{YieldsFirst, item_count};
 ghost use Rattle.std.specs.Prelude.{◌≡◌};
 
 use crate::forest::MapForest;
 use crate::map::Map;
+use bforest_core::{NodePool, Path};
 use std::marker::Model;
 
 /// The entries of a map, in order, and then `None` for ever. Made by `Map::iter`. A step compares nothing.
 #[derive(Drop)]
 pub struct MapIter<'a, K: Copy, V: Copy> {
-    keys: &'a [K],
-    vals: &'a [V],
+    pool: &'a NodePool<K, V, 7>,
+    // At the entry that comes next.
+    path: Path<K, V, 7>,
 }
 
 impl<'a, K: Copy, V: Copy> Model for MapIter<'a, K, V> {
-    ghost use Rattle.std.specs.List.{zip};
-    ghost use Rattle.std.specs.Prelude.{List, length, ◌≡◌};
+    ghost use Rattle.bforest.specs.Layout.{IsReading, entries_from};
+    ghost use Rattle.std.specs.Prelude.{List};
 
     ghost Value = { List (K × V) };
 
-    ghost view = { λ i. zip i.keys.now i.vals.now };
+    ghost view = { λ i. entries_from i.pool.now.nodes i.path.size i.path.node i.path.entry };
 
-    ghost invariant = { λ i. length i.keys.now ≡ length i.vals.now };
+    ghost invariant = { λ i. IsReading i.pool.now i.path.size i.path.node i.path.entry };
 }
 
 impl<'a, K: Copy, V: Copy> MapIter<'a, K, V> {
     /// Over the entries of a map.
     pub(crate) fn new(map: &Map<K, V>, forest: &'a MapForest<K, V>) -> MapIter<'a, K, V>
         requires { IsLive forest.now map.now }
-        ensures { result ≡ list_of forest.now map.now }
+        ensures entries { result ≡ list_of forest.now map.now }
+        ensures ready { IsReadable K.row V.row }
     {
-        let (keys, vals) = forest.entries(map);
-        MapIter { keys, vals }
+        let pool = forest.pool();
+        let mut path = Path::default();
+        if let Some(root) = map.root {
+            path.first(root, pool);
+        }
+        MapIter { pool, path }
     }
 }
 
 impl<'a, K: Copy, V: Copy> Iterator for MapIter<'a, K, V> {
+    ghost use Rattle.bforest.specs.Memory.{IsReadable};
+
     type Item = (K, V);
+
+    ghost can_next = { λ _. IsReadable K.row V.row };
 
     ghost next_gives = { YieldsFirst (λ entries. entries) };
 
     ghost remaining = { item_count (λ entries. entries) };
 
     fn next(&mut self) -> Option<(K, V)> {
-        let (key, keys) = self.keys.split_first()?;
-        let (value, vals) = self.vals.split_first()?;
-        self.keys = keys;
-        self.vals = vals;
-        Some((*key, *value))
+        let (leaf, index) = self.path.leaf_pos()?;
+        let entry = self.pool.node(leaf).entry(index);
+        self.path.next(self.pool);
+        Some(entry)
     }
 }

@@ -1,5 +1,5 @@
-//! Insertions into several maps of one forest, of which one may be refused for want of memory: nothing changes then, and the same
-//! insertion succeeds when it is made again. `tools/refuse_each` runs it with each request for memory refused in turn.
+//! Insertions into a map that grows to three levels, beside another map of the forest. One may be refused for want of memory: nothing
+//! changes then, and the same insertion succeeds when it is made again. `tools/refuse_each` runs it with each request for memory refused in turn.
 #![tactic(auto)]
 
 use bforest::{Map, MapForest, OutOfMemory};
@@ -91,11 +91,9 @@ fn main(rt: HostRuntime) -> io::Result<()> {
     let nothing = Map::new();
     let mut watch = Map::new();
     insert(&mut watch, 7, &mut forest, &nothing, &mut seen);
-    for _ in 0..9 {
-        let mut map = Map::new();
-        for key in 1..8 {
-            insert(&mut map, key, &mut forest, &watch, &mut seen);
-        }
+    let mut map = Map::new();
+    for key in 1..37 {
+        insert(&mut map, key, &mut forest, &watch, &mut seen);
     }
     println!(rt;
         "refused {} right {} slots {} free {}",

@@ -1,6 +1,6 @@
 -- What a line may be answered, and what it leaves of the maps.
 use Rattle.bforest_core.specs.Entries.{IsIncreasing, put, value_for}
-use Rattle.bforest.specs.Forest.{Becomes, IsLive, list_of}
+use Rattle.bforest.specs.Forest.{Becomes, IsLive, free_of, list_of, sizes_of, slots_of}
 use Rattle.bforest_core.specs.declared.pool.OutOfMemory.{OutOfMemory}
 use Rattle.bforest_run.specs.Orders.{order_of}
 use Rattle.bforest_run.specs.declared.line.Handle.{Handle}
@@ -10,7 +10,7 @@ use Rattle.bforest_run.specs.declared.order.Order.{Order}
 use Rattle.bforest_run.specs.declared.store.Answer.TheVariants as answer
 use Rattle.bforest_run.specs.declared.store.Answer.{Answer}
 use Rattle.bforest_run.specs.declared.store.Maps.{Maps}
-use Rattle.std.specs.Prelude.{IsSome, List, MatchResult, None, Option, Result, slice_index_or, slice_set, ◌≡◌, ℕ}
+use Rattle.std.specs.Prelude.{Bool, IsSome, IsTrue, List, MatchResult, None, Option, Result, slice_index_or, length, slice_set, ◌↔◌, ◌≡◌, ℕ}
 
 -- the number that a handle has
 abbrev pub number_of : Maps → Handle → Option ℕ
@@ -43,8 +43,16 @@ abbrev pub Lists : Answer → List (ℕ × ℕ) → Type 0
 Lists (answer.Value value) entries = ⊥
 Lists (answer.Put result) entries = ⊥
 Lists (answer.Pairs pairs) entries = pairs.items ≡ entries
+Lists answer.Done entries = ⊥
+Lists (answer.Truth so) entries = ⊥
+Lists (answer.Counts levels slots free) entries = ⊥
 Lists answer.Dead entries = ⊥
 Lists answer.Unordered entries = ⊥
+
+-- the levels of a handle's tree, and the counts of the table
+abbrev pub counts_of : Maps → Handle → Answer
+counts_of maps handle =
+    answer.Counts (length (sizes_of maps.forest (number_of maps handle))) (slots_of maps.forest) (free_of maps.forest)
 
 -- what a line may be answered, and what it leaves
 abbrev pub Answers : Maps → Line → Answer → Maps → Type 0
@@ -55,4 +63,12 @@ Answers old (line.Insert handle order key value) given new =
 Answers old (line.Iter handle) given new =
     ((IsLive old.forest (number_of old handle) → ⊥) → given ≡ answer.Dead)
     × (IsLive old.forest (number_of old handle) → Lists given (entries_of old handle))
+    × (new ≡ old)
+Answers old (line.Alias from to) given new =
+    (given ≡ answer.Done) × (new ≡ record old { handles = slice_set old.handles to.index (number_of old from) })
+Answers old (line.Holds handle) given new =
+    (so : Bool) × (given ≡ answer.Truth so) × (IsTrue so ↔ IsLive old.forest (number_of old handle)) × (new ≡ old)
+Answers old (line.Stat handle) given new =
+    ((IsLive old.forest (number_of old handle) → ⊥) → given ≡ answer.Dead)
+    × (IsLive old.forest (number_of old handle) → given ≡ counts_of old handle)
     × (new ≡ old)

@@ -1,9 +1,9 @@
 -- The texts of answers.
 use Rattle.bforest_core.specs.declared.pool.OutOfMemory.TheVariants.{Full, Memory}
-use Rattle.bforest_run.specs.declared.store.Answer.TheVariants.{Dead, Pairs, Put, Unordered, Value}
+use Rattle.bforest_run.specs.declared.store.Answer.TheVariants.{Counts, Dead, Done, Pairs, Put, Truth, Unordered, Value}
 use Rattle.bforest_run.specs.declared.store.Answer.{Answer}
 use Rattle.std.specs.Fmt.{decimal}
-use Rattle.std.specs.Prelude.{Err, List, None, Ok, Some, [], codes, ◌++◌, ◌∷◌, ℕ}
+use Rattle.std.specs.Prelude.{Err, false, true, List, None, Ok, Some, [], codes, ◌++◌, ◌∷◌, ℕ}
 
 -- a key and its value, with a colon between them
 abbrev pub entry_text : ℕ × ℕ → List ℕ
@@ -28,5 +28,10 @@ text_of (Put (Ok None)) = codes "new"
 text_of (Put (Err Memory)) = codes "memory"
 text_of (Put (Err Full)) = codes "full"
 text_of (Pairs pairs) = codes "[" ++ entries_text pairs.items ++ codes "]"
+text_of Done = codes "ok"
+text_of (Truth true) = codes "true"
+text_of (Truth false) = codes "false"
+text_of (Counts levels slots free) =
+    codes "levels " ++ decimal levels ++ codes " slots " ++ decimal slots ++ codes " free " ++ decimal free
 text_of Dead = codes "dead"
 text_of Unordered = codes "unordered"

@@ -38,6 +38,19 @@ pub(crate) enum Line {
     Iter {
         handle: Handle,
     },
+    /// To copy a handle's number to another handle.
+    Alias {
+        from: Handle,
+        to: Handle,
+    },
+    /// Whether a handle is empty or names a tree.
+    Holds {
+        handle: Handle,
+    },
+    /// The levels of a tree, and the counts of the table.
+    Stat {
+        handle: Handle,
+    },
 }
 
 /// The line that the words spell, or nothing where it is bad.
@@ -55,6 +68,16 @@ pub(crate) fn parse(words: &[&str]) -> Option<Line> {
             value: number(value)?,
         }),
         ["iter", handle] => Some(Line::Iter {
+            handle: handle_named(handle)?,
+        }),
+        ["alias", from, to] => Some(Line::Alias {
+            from: handle_named(from)?,
+            to: handle_named(to)?,
+        }),
+        ["holds", handle] => Some(Line::Holds {
+            handle: handle_named(handle)?,
+        }),
+        ["stat", handle] => Some(Line::Stat {
             handle: handle_named(handle)?,
         }),
         _ => None,

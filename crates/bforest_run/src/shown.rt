@@ -22,6 +22,14 @@ impl fmt::Display for Shown<'_> {
             Answer::Put(Err(OutOfMemory::Memory)) => write!(f, "memory"),
             Answer::Put(Err(OutOfMemory::Full)) => write!(f, "full"),
             Answer::Pairs(entries) => write!(f, "[{}]", Entries(entries)),
+            Answer::Done => write!(f, "ok"),
+            Answer::Truth(true) => write!(f, "true"),
+            Answer::Truth(false) => write!(f, "false"),
+            Answer::Counts {
+                levels,
+                slots,
+                free,
+            } => write!(f, "levels {levels} slots {slots} free {free}"),
             Answer::Dead => write!(f, "dead"),
             Answer::Unordered => write!(f, "unordered"),
         }

@@ -17,6 +17,16 @@ pub(crate) enum Answer {
     Put(Result<Option<u32>, OutOfMemory>),
     /// All entries.
     Pairs(Vec<(u32, u32)>),
+    /// The call was made, and has nothing to say.
+    Done,
+    /// Whether it is so.
+    Truth(bool),
+    /// The levels of a tree, and the slots of the table, with those that lie free.
+    Counts {
+        levels: usize,
+        slots: u32,
+        free: u32,
+    },
     /// The handle names no tree.
     Dead,
     /// The list of the handle does not increase under the order.
@@ -59,6 +69,9 @@ impl Maps {
                 value,
             } => Ok(self.insert(handle, order, key, value)),
             Line::Iter { handle } => self.iter(alloc, handle),
+            Line::Alias { from, to } => Ok(self.alias(from, to)),
+            Line::Holds { handle } => Ok(self.holds(handle)),
+            Line::Stat { handle } => Ok(self.stat(handle)),
         }
     }
 
@@ -97,6 +110,34 @@ impl Maps {
         }
         let entries = listed(alloc, map, &self.forest)?;
         Ok(Answer::Pairs(entries))
+    }
+
+    fn alias(&mut self, from: Handle, to: Handle) -> Answer
+        ensures { Answers self.old (line.Alias from to) result self.new }
+    {
+        let map = self.handles[from.index].clone();
+        self.handles[to.index] = map;
+        Answer::Done
+    }
+
+    fn holds(&self, handle: Handle) -> Answer
+        ensures { Answers self.now (line.Holds handle) result self.now }
+    {
+        Answer::Truth(self.forest.holds(&self.handles[handle.index]))
+    }
+
+    fn stat(&self, handle: Handle) -> Answer
+        ensures { Answers self.now (line.Stat handle) result self.now }
+    {
+        let map = &self.handles[handle.index];
+        if !self.forest.holds(map) {
+            return Answer::Dead;
+        }
+        Answer::Counts {
+            levels: map.levels(&self.forest),
+            slots: self.forest.slots(),
+            free: self.forest.free_slots(),
+        }
     }
 }
 

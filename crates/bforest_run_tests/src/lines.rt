@@ -67,12 +67,23 @@ fn a_bad_line_is_the_last(rt: HostRuntime) {
 }
 
 #[test]
-fn seven_entries_fill_a_leaf(rt: HostRuntime) {
+fn a_tree_grows_under_its_handle(rt: HostRuntime) {
     answers(
         &rt,
         rt.alloc(),
-        b"insert 0 up 1 1\ninsert 0 up 2 2\ninsert 0 up 3 3\ninsert 0 up 4 4\ninsert 0 up 5 5\ninsert 0 up 6 6\ninsert 0 up 7 7\ninsert 0 up 8 8\ninsert 0 up 7 71\n",
-        b"new\nnew\nnew\nnew\nnew\nnew\nnew\nfull\nold:7\n",
+        b"stat 0\ninsert 0 up 1 10\nalias 0 1\ninsert 0 up 2 20\nget 1 up 2\nstat 1\ninsert 0 up 3 3\ninsert 0 up 4 4\ninsert 0 up 5 5\ninsert 0 up 6 6\ninsert 0 up 7 7\nholds 1\ninsert 0 up 8 8\nholds 1\nholds 0\nget 1 up 1\nstat 1\niter 1\nstat 0\ninsert 0 up 7 71\niter 0\n",
+        b"levels 0 slots 0 free 0\nnew\nok\nnew\n20\nlevels 1 slots 1 free 0\nnew\nnew\nnew\nnew\nnew\ntrue\nnew\nfalse\ntrue\ndead\ndead\ndead\nlevels 2 slots 3 free 0\nold:7\n[1:10 2:20 3:3 4:4 5:5 6:6 7:71 8:8]\n",
+        0,
+    );
+}
+
+#[test]
+fn an_alias_of_an_empty_map_empties_a_handle(rt: HostRuntime) {
+    answers(
+        &rt,
+        rt.alloc(),
+        b"insert 0 up 1 10\nalias 7 0\niter 0\nholds 0\nstat 0\n",
+        b"new\nok\n[]\ntrue\nlevels 0 slots 1 free 0\n",
         0,
     );
 }

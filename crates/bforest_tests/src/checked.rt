@@ -72,3 +72,9 @@ pub(crate) fn entries(
     assert!(rt; forest.holds(map));
     map.iter(forest).collect(alloc)
 }
+
+/// What `levels` answers.
+pub(crate) fn levels(rt: &impl Abort, map: &Numbers, forest: &NumberForest) -> usize {
+    assert!(rt; forest.holds(map));
+    map.levels(forest)
+}

@@ -10,3 +10,5 @@ mod maps;
 mod orders;
 #[cfg(test)]
 mod refusals;
+#[cfg(test)]
+mod trees;

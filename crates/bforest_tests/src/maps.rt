@@ -1,7 +1,7 @@
 //! Maps under their keys' own order.
 
-use crate::checked::{NumberForest, Numbers, entries, get, increases, insert, try_insert};
-use bforest::{Map, MapForest, OutOfMemory};
+use crate::checked::{NumberForest, Numbers, entries, get, insert, try_insert};
+use bforest::{Map, MapForest};
 use std::default::Default;
 use std::test::Fail;
 
@@ -123,28 +123,4 @@ fn a_handle_of_another_forest_is_not_held(rt: HostRuntime) {
     assert_eq!(rt; insert(&rt, &mut map, (1, 10), &mut forest, &()), Ok(None));
     assert!(rt; forest.holds(&map));
     assert!(rt; !other.holds(&map));
-}
-
-// Seven entries fill a leaf, and a tree is one leaf for now.
-#[test]
-fn a_full_leaf_takes_no_new_key(rt: HostRuntime) {
-    let mut forest: NumberForest = MapForest::new(rt.alloc());
-    let mut map = Map::new();
-    for key in 1..8 {
-        assert_eq!(rt;
-            insert(&rt, &mut map, (key, key), &mut forest, &()),
-            Ok(None)
-        );
-    }
-    assert_eq!(rt;
-        insert(&rt, &mut map, (8, 80), &mut forest, &()),
-        Err(OutOfMemory::Full)
-    );
-    assert_eq!(rt;
-        insert(&rt, &mut map, (7, 71), &mut forest, &()),
-        Ok(Some(7))
-    );
-    assert_eq!(rt; get(&rt, &map, 8, &forest, &()), None);
-    assert_eq!(rt; get(&rt, &map, 7, &forest, &()), Some(71));
-    assert!(rt; increases(&rt, &map, &forest, &()));
 }

@@ -7,21 +7,21 @@ use Rattle.std.specs.Map.{keys_of}
 pub entries-init : goal.entries-init
 entries-init g c =
     let whole : c.into_iter-key-iterator.result ≡ list_of c.args.forest.now c.args.self.now = c.into_iter-key-iterator.ensures.into_iter_gives ∙ c.iter-key-items.ensures.entries in
-    subst (IsDownTo (g.C.Comparator.order c.args.comp.now) (list_of c.args.forest.now c.args.self.now) None) (sym whole) (record { down = λ up. up; up = λ up. up })
+    (c.iter-key-items.ensures.ready, subst (IsDownTo (g.C.Comparator.order c.args.comp.now) (list_of c.args.forest.now c.args.self.now) None) (sym whole) (record { down = λ up. up; up = λ up. up }))
 
 pub returns-then-not-follows : goal.returns-then-not-follows
 returns-then-not-follows g c = record {
   increasing = (
     λ no. absurd (cc),
-    λ up. absurd (not_increasing (g.C.Comparator.order c.args.comp.now) (g.met.C.Comparator.total c.args.comp.now) (list_of c.args.forest.now c.args.self.now) c.entries.last c.in-Some.key c.in-Some.field-0-1 c.next.new.self c.entries.key-iterator c.in-Some.ensures.steps (sym c.if-not-follows.true ∙ c.follows.ensures) c.entries.invariant up),
+    λ up. absurd (not_increasing (g.C.Comparator.order c.args.comp.now) (g.met.C.Comparator.total c.args.comp.now) (list_of c.args.forest.now c.args.self.now) c.entries.last c.in-Some.key c.in-Some.field-0-1 c.next.new.self c.entries.key-iterator c.in-Some.ensures.steps (sym c.if-not-follows.true ∙ c.follows.ensures) c.entries.invariant.1 up),
   );
 }
 
 pub entries-preserved : goal.entries-preserved
 entries-preserved g c =
-    IsDownTo-next (g.C.Comparator.order c.args.comp.now) (g.met.C.Comparator.total c.args.comp.now) (list_of c.args.forest.now c.args.self.now) c.entries.last c.in-Some.key c.in-Some.field-0-1 c.next.new.self c.entries.key-iterator c.in-Some.ensures.steps (sym c.if-not-follows.false ∙ c.follows.ensures) c.entries.invariant
+    (c.entries.invariant.0, IsDownTo-next (g.C.Comparator.order c.args.comp.now) (g.met.C.Comparator.total c.args.comp.now) (list_of c.args.forest.now c.args.self.now) c.entries.last c.in-Some.key c.in-Some.field-0-1 c.next.new.self c.entries.key-iterator c.in-Some.ensures.steps (sym c.if-not-follows.false ∙ c.follows.ensures) c.entries.invariant.1)
 
 pub returns : goal.returns
 returns g c =
     let order = g.C.Comparator.order c.args.comp.now in
-    record { increasing = (λ yes. c.entries.invariant.up (subst (λ es. IncreasesAfter order c.entries.last (keys_of es)) (sym c.in-None.ensures.steps.0) (alone order c.entries.last)), λ up. refl) }
+    record { increasing = (λ yes. c.entries.invariant.1.up (subst (λ es. IncreasesAfter order c.entries.last (keys_of es)) (sym c.in-None.ensures.steps.0) (alone order c.entries.last)), λ up. refl) }

@@ -1,18 +1,54 @@
-use Rattle.bforest.proofs.Increasing.{IsIncreasing-one, increasing_after}
+use Rattle.bforest.proofs.Increasing.{IsIncreasing-one}
+use Rattle.bforest.proofs.Putting.{present-told, sizes-kept}
 use Rattle.bforest.proofs.map.Map.try_insert.Goals as goal
+use Rattle.bforest.specs.Forest.{IsTooMany, list_at, list_of, need_of, sizes_of}
+use Rattle.bforest_core.proofs.Ordered.{IsIncreasing-put}
 use Rattle.bforest_core.specs.Entries.{IsIncreasing}
-use Rattle.bforest.specs.Forest.{list_of}
-use Rattle.std.proofs.Common.{Some, subst, sym, ◌∙◌, ◌≡◌}
+use Rattle.bforest_core.proofs.Stored.{some_same}
+use Rattle.std.specs.Option.{is_some}
+use Rattle.std.proofs.Common.{Option, Some, ap, length, subst, sym, ◌∙◌, ◌≡◌, ℕ}
 
-pub returns-in-Some-clause-increasing : goal.returns-in-Some-clause-increasing
-returns-in-Some-clause-increasing g c =
-    let order = g.C.Comparator.order c.args.comp.now in
-    let handle : c.args.self.now ≡ Some c.in-Some.number = sym c.self.view_is ∙ c.in-Some.is in
-    let up = subst (λ h. IsIncreasing order (list_of c.args.forest.now h)) handle c.requires.increasing in
-    subst (λ h. IsIncreasing order (list_of c.put.new.self h)) (sym handle)
-    (increasing_after order (g.met.C.Comparator.total c.args.comp.now) c.args.forest.now c.put.new.self (Some c.in-Some.number) c.args.key c.args.value up c.put.result c.put.ensures.put c.put.ensures.refused)
+pub returns-in_ok-root-in-Some-clause-same_number : goal.returns-in_ok-root-in-Some-clause-same_number
+returns-in_ok-root-in-Some-clause-same_number g c =
+    let cmp = g.C.Comparator.order c.args.comp.now in
+    let f = c.args.forest.now in
+    let handle : c.args.self.now ≡ Some c.in-Some.root = sym c.self.view_is ∙ c.in-Some.is in
+    let told = c.in_ok-root-in-Some.ensures in
+    λ is.
+    let here = present-told cmp (list_at f c.in-Some.root) c.args.key (sym (ap is_some told.ok) ∙ is) in
+    ap Some (told.same_root.1 (ap length (sizes-kept cmp f (Some c.in-Some.root) c.args.key here))) ∙ sym handle
 
-pub returns-in_ok-number-in-None-clause-increasing : goal.returns-in_ok-number-in-None-clause-increasing
-returns-in_ok-number-in-None-clause-increasing g c =
-    let order = g.C.Comparator.order c.args.comp.now in
-    subst (IsIncreasing order) (sym c.in_ok-number-in-None.ensures.planted.list) (IsIncreasing-one order (c.args.key, c.args.value))
+pub returns-in_ok-root-in-Some-clause-same_levels : goal.returns-in_ok-root-in-Some-clause-same_levels
+returns-in_ok-root-in-Some-clause-same_levels g c =
+    let cmp = g.C.Comparator.order c.args.comp.now in
+    let f = c.args.forest.now in
+    let handle : c.args.self.now ≡ Some c.in-Some.root = sym c.self.view_is ∙ c.in-Some.is in
+    let told = c.in_ok-root-in-Some.ensures in (
+      λ same. ap length told.sizes ∙ told.same_root.0 (let e : Some c.in_ok-root-in-Some.root ≡ Some c.in-Some.root = same ∙ handle in some_same c.in_ok-root-in-Some.root c.in-Some.root e) ∙ ap (λ h. length (sizes_of f h)) (sym handle),
+      λ e. ap Some (told.same_root.1 (sym (ap length told.sizes) ∙ e ∙ ap (λ h. length (sizes_of f h)) handle)) ∙ sym handle,
+    )
+
+pub returns-in_ok-root-in-Some-clause-increasing : goal.returns-in_ok-root-in-Some-clause-increasing
+returns-in_ok-root-in-Some-clause-increasing g c =
+    let cmp = g.C.Comparator.order c.args.comp.now in
+    let f = c.args.forest.now in
+    let handle : c.args.self.now ≡ Some c.in-Some.root = sym c.self.view_is ∙ c.in-Some.is in
+    let told = c.in_ok-root-in-Some.ensures in
+    subst (IsIncreasing cmp) (sym told.put.list)
+    (IsIncreasing-put cmp (g.met.C.Comparator.total c.args.comp.now) (list_at f c.in-Some.root) c.args.key c.args.value
+    (subst (λ (h : Option ℕ). IsIncreasing cmp (list_of f h)) handle c.requires.increasing))
+
+pub returns-in_ok-root-in-Some-clause-full : goal.returns-in_ok-root-in-Some-clause-full
+returns-in_ok-root-in-Some-clause-full g c =
+    let cmp = g.C.Comparator.order c.args.comp.now in
+    let f = c.args.forest.now in
+    let handle : c.args.self.now ≡ Some c.in-Some.root = sym c.self.view_is ∙ c.in-Some.is in
+    let told = c.in_ok-root-in-Some.ensures in (
+      λ bad. absurd (cc),
+      λ low. absurd (let bad = told.full.1 (subst (λ (h : Option ℕ). IsTooMany (need_of cmp f h c.args.key) f) handle low) in cc),
+    )
+
+pub returns-in_ok-root-in-None-clause-increasing : goal.returns-in_ok-root-in-None-clause-increasing
+returns-in_ok-root-in-None-clause-increasing g c =
+    let cmp = g.C.Comparator.order c.args.comp.now in
+    subst (IsIncreasing cmp) (sym c.in_ok-root-in-None.ensures.planted.list) (IsIncreasing-one cmp (c.args.key, c.args.value))

@@ -1,0 +1,37 @@
+-- What a call that may be refused leaves.
+use Rattle.bforest.proofs.Changed.{becomes-new}
+use Rattle.bforest.specs.Forest.{Becomes, Forest, free_of}
+use Rattle.bforest_core.proofs.Chains.{length-down_from}
+use Rattle.bforest_core.specs.Change.{Changes}
+use Rattle.bforest_core.specs.Table.{down_from, free_count, reserved, slot_count, with_slots}
+use Rattle.bforest_core.specs.Trees.{IsUnion, is_root}
+use Rattle.std.proofs.Common.{Err, IfOk, IsOk, IsTrue, List, None, Ok, OnErr, OnOk, Result, Some, ap, append-nil, arith, length-append, subst, sym, ◌+◌, ◌-◌, ◌∙◌, ◌≡◌, ◌≤◌, ℕ}
+
+-- an answer that is `Ok`
+pub ok-then : {A E P : Type 0} (r : Result A E) → IsOk r → OnOk r P → P
+ok-then (Ok a) is h = h
+ok-then (Err x) is h = absurd (cc)
+
+module _ {K X : Type 0} where
+  -- a union of trees either way
+  pub union_after : {A E : Type 0} (f f' : Forest K X) (r : Result A E) (P : A → Type 0) → ((a : A) → P a → IsUnion 7 f') → IsUnion 7 f → IfOk r P → OnErr r (f' ≡ f) → IsUnion 7 f'
+  union_after f f' (Ok a) P h u ok err = h a ok
+  union_after f f' (Err x) P h u ok err = subst (λ (z : Forest K X). IsUnion 7 z) (sym err) u
+
+  -- a tree that was planted
+  pub planted : {E : Type 0} (f f' : Forest K X) (r : Result ℕ E) (es : List (K × X)) (ss : List (List ℕ)) → IfOk r (λ n. Changes 7 f f' n n es ss) → IfOk r (λ n. ¬ IsTrue (is_root f.nodes n)) → IfOk r (λ n. Becomes f None f' (Some n) es)
+  planted f f' (Ok n) es ss h new = becomes-new f f' n es ss new h
+  planted f f' (Err x) es ss h new = tt
+
+  -- slots made free keep the limit
+  pub limit-reserved : {A E : Type 0} (f f' : Forest K X) (n : ℕ) (r : Result A E) → OnOk r (f' ≡ reserved f n) → OnErr r (f' ≡ f) → f'.limit ≡ f.limit
+  limit-reserved f f' n (Ok a) ok err = ap (λ z. z.limit) ok
+  limit-reserved f f' n (Err x) ok err = ap (λ z. z.limit) err
+
+  -- how many lie free then
+  pub free-reserved : (f : Forest K X) (n : ℕ) → free_of (reserved f n) ≡ (n - free_of f) + free_of f
+  free-reserved f n = length-append (down_from (slot_count f) (n - free_of f)) f.chain ∙ ap (λ z. z + free_of f) (length-down_from (slot_count f) (n - free_of f))
+
+  -- where so many lie free already nothing changes
+  pub reserved-same : (f : Forest K X) (n : ℕ) → n ≤ free_of f → reserved f n ≡ f
+  reserved-same f n h = let z : n - free_count f ≡ 0 = omega (arith, h) in ap (λ d. with_slots f d) z ∙ ap (λ xs. record f { nodes = xs }) (append-nil f.nodes)

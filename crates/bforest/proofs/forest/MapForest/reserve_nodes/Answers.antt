@@ -1,0 +1,50 @@
+use Rattle.bforest.proofs.After.{free-reserved, limit-reserved, ok-then, reserved-same}
+use Rattle.bforest.proofs.Changed.{grows, keeps}
+use Rattle.bforest.proofs.forest.MapForest.reserve_nodes.Goals as goal
+use Rattle.bforest.specs.Forest.{Forest, Keeps, NeedsGrowth, free_of}
+use Rattle.std.proofs.Common.{IsOk, OnOk, ap, arith, subst, ◌<◌, ◌∙◌, ◌≡◌, ◌≤◌}
+use Rattle.std.proofs.lemmas.Result.{on_ok_weaker}
+
+pub returns-clause-keeps : goal.returns-clause-keeps
+returns-clause-keeps g c =
+    let p = c.self.inside.pool in
+    let f = c.args.self.now in
+    let new = c.reserve.new.pool in
+    let n = c.args.n in
+    subst (λ (z : Forest g.row.K.Denot g.row.V.Denot). Keeps z new) c.self.view_is
+    (keeps p new c.reserve.ensures.trees (limit-reserved p new n c.reserve.result c.reserve.ensures.ok c.reserve.ensures.err))
+
+pub returns-clause-free : goal.returns-clause-free
+returns-clause-free g c =
+    let p = c.self.inside.pool in
+    let f = c.args.self.now in
+    let new = c.reserve.new.pool in
+    let n = c.args.n in
+    on_ok_weaker c.reserve.result (λ is. let e = ap (λ z. free_of z) is ∙ free-reserved p n in omega (arith, e)) c.reserve.ensures.ok
+
+pub returns-clause-grown : goal.returns-clause-grown
+returns-clause-grown g c =
+    let p = c.self.inside.pool in
+    let f = c.args.self.now in
+    let new = c.reserve.new.pool in
+    let n = c.args.n in
+    subst (λ (z : Forest g.row.K.Denot g.row.V.Denot). OnOk c.reserve.result (free_of z < n → free_of new ≡ n)) c.self.view_is
+    (on_ok_weaker c.reserve.result (λ is low. let e = ap (λ z. free_of z) is ∙ free-reserved p n in omega (arith, e, low)) c.reserve.ensures.ok)
+
+pub returns-clause-same : goal.returns-clause-same
+returns-clause-same g c =
+    let p = c.self.inside.pool in
+    let f = c.args.self.now in
+    let new = c.reserve.new.pool in
+    let n = c.args.n in
+    subst (λ (z : Forest g.row.K.Denot g.row.V.Denot). n ≤ free_of z → new ≡ z) c.self.view_is
+    (λ low. ok-then c.reserve.result (c.reserve.ensures.enough low) c.reserve.ensures.ok ∙ reserved-same p n low)
+
+pub returns-clause-memory : goal.returns-clause-memory
+returns-clause-memory g c =
+    let p = c.self.inside.pool in
+    let f = c.args.self.now in
+    let new = c.reserve.new.pool in
+    let n = c.args.n in
+    λ bad. subst (λ (z : Forest g.row.K.Denot g.row.V.Denot). NeedsGrowth n z) c.self.view_is (grows n p (c.reserve.ensures.memory bad))
+
