@@ -3,7 +3,7 @@ use Rattle.bforest.specs.Forest.{Becomes, Forest, Keeps, NeedsGrowth, Takes, lis
 use Rattle.bforest.specs.Insertion.{need_under, sizes_under}
 use Rattle.bforest_core.proofs.Unions.{rooted}
 use Rattle.bforest_core.specs.Change.{Changes, KeepsTrees, TakesNodes}
-use Rattle.bforest_core.specs.Entries.{is_present, place}
+use Rattle.bforest_nodes.specs.Entries.{is_present, place}
 use Rattle.bforest_core.specs.Levels.{flat, sizes_of as tree_sizes}
 use Rattle.bforest_core.specs.Sizes.{growth, need}
 use Rattle.bforest_core.specs.Table.{NeedsGrowth as NodesNeedGrowth}

@@ -1,7 +1,7 @@
 -- Keys that increase, from the last one that was seen.
-use Rattle.bforest_core.specs.Entries.{IsIncreasing, put}
+use Rattle.bforest_nodes.specs.Entries.{IsIncreasing, put}
 use Rattle.bforest.specs.Forest.{Becomes, Forest, list_of}
-use Rattle.bforest_core.proofs.Ordered.{IsIncreasing-put, above}
+use Rattle.bforest_nodes.proofs.Ordered.{IsIncreasing-put, above}
 use Rattle.std.proofs.Common.{Err, List, None, Ok, Option, Result, Some, [], ap, false, refl, subst, sym, true, ◌∷◌, ◌≡◌, ℕ}
 use Rattle.std.specs.Cmp.{IsTotalOrder}
 use Rattle.std.specs.List.Sorted.{IsStrictlySortedBy}

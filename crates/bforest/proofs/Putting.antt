@@ -1,8 +1,8 @@
 -- What an insertion needs and leaves, where its key is present and where it is absent.
 use Rattle.bforest.specs.Forest.{Forest, list_of, sizes_of as forest_sizes, sizes_with}
 use Rattle.bforest.specs.Insertion.{need_under, sizes_under}
-use Rattle.bforest_core.specs.Content.{Content}
-use Rattle.bforest_core.specs.Entries.{entry_for, is_present, place, value_for}
+use Rattle.bforest_nodes.specs.Content.{Content}
+use Rattle.bforest_nodes.specs.Entries.{entry_for, is_present, place, value_for}
 use Rattle.bforest_core.specs.Levels.{flat, sizes_of}
 use Rattle.bforest_core.specs.Sizes.{growth, need}
 use Rattle.bforest_core.specs.Trees.{tree_of}

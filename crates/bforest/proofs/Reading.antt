@@ -7,7 +7,7 @@ use Rattle.bforest_core.proofs.Tables.{count-append, count-same}
 use Rattle.bforest_core.proofs.Unions.{rooted}
 use Rattle.bforest_core.specs.Change.{StandsUnder}
 use Rattle.bforest_core.specs.Climb.{top_of}
-use Rattle.bforest_core.specs.Content.{Content, IsLeaf, entry_count, keys_of, vals_of}
+use Rattle.bforest_nodes.specs.Content.{Content, IsLeaf, entry_count, keys_of, vals_of}
 use Rattle.bforest_core.specs.Levels.{IsFit, LevelNode, flat, node, numbers}
 use Rattle.bforest_core.specs.Place.{IsIn, Stands, count, leaf_content, numbers_of}
 use Rattle.bforest_core.specs.Table.{Table}

@@ -2,7 +2,7 @@
 use Rattle.bforest_core.proofs.Planting.{planted-alloc}
 use Rattle.bforest_core.proofs.Reserved.{reserved-roots, reserved-union}
 use Rattle.bforest_core.specs.Change.{Changes, KeepsTrees, TakesNodes}
-use Rattle.bforest_core.specs.Content.{Leaf}
+use Rattle.bforest_nodes.specs.Content.{Leaf}
 use Rattle.bforest_core.specs.Table.{Table, front_of, reserved, with_front}
 use Rattle.bforest_core.specs.Trees.{IsUnion, is_root}
 use Rattle.std.proofs.Common.{Err, IfOk, IsTrue, Ok, OnErr, OnOk, Result, Some, [], refl, subst, sym, ◌∷◌, ◌≡◌, ◌≤◌, ℕ}

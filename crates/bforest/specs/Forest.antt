@@ -1,5 +1,5 @@
 -- What contracts see of a forest and of a handle.
-use Rattle.bforest_core.specs.Entries.{is_present, place}
+use Rattle.bforest_nodes.specs.Entries.{is_present, place}
 use Rattle.bforest_core.specs.Levels.{flat, sizes_of as tree_sizes}
 use Rattle.bforest_core.specs.Sizes.{growth, need}
 use Rattle.bforest_core.specs.Table.{Table, free_count, slot_count}

@@ -1,6 +1,6 @@
 -- What an insertion of a key into the tree under a root needs, and the sizes that it leaves.
-use Rattle.bforest_core.specs.Content.{Content}
-use Rattle.bforest_core.specs.Entries.{is_present, place}
+use Rattle.bforest_nodes.specs.Content.{Content}
+use Rattle.bforest_nodes.specs.Entries.{is_present, place}
 use Rattle.bforest_core.specs.Levels.{flat, sizes_of}
 use Rattle.bforest_core.specs.Sizes.{growth, need}
 use Rattle.bforest_core.specs.Trees.{tree_of}

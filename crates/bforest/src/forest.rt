@@ -1,5 +1,5 @@
 //! The table of all trees of a forest.
-ghost use Rattle.bforest_core.specs.Entries.{IsIncreasing, put, value_for};
+ghost use Rattle.bforest_nodes.specs.Entries.{IsIncreasing, put, value_for};
 ghost use Rattle.bforest_core.specs.Trees.{IsUnion};
 ghost use Rattle.bforest.specs.Forest.{Becomes, IsLive, IsTooMany, Keeps, NeedsGrowth, Takes, empty, first_level, free_of, limit_of, list_at, list_of, need_of, room_of, sizes_at, sizes_of, sizes_with, slots_of};
 ghost use Rattle.std.specs.Prelude.{IfOk, IsOk, IsTrue, None, OnErr, OnOk, Some, Err, [], length, ◌+◌, ◌-◌, ◌/◌, ◌^◌, ◌<◌, ◌↔◌, ◌∷◌, ◌≡◌, ◌≢◌, ◌≤◌};

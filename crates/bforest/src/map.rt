@@ -1,5 +1,5 @@
 //! The handle of one map.
-ghost use Rattle.bforest_core.specs.Entries.{IsIncreasing, put, value_for};
+ghost use Rattle.bforest_nodes.specs.Entries.{IsIncreasing, put, value_for};
 ghost use Rattle.bforest.specs.Forest.{Becomes, Forest, IsLive, IsTooMany, NeedsGrowth, Takes, first_level, free_of, list_of, need_of, sizes_of, sizes_with};
 ghost use Rattle.bforest.specs.Memory.{IsReadable};
 ghost use Rattle.std.specs.Option.{option_map_or};

@@ -5,7 +5,7 @@ use Rattle.std.proofs.lemmas.Bool.{cases_lt, false≢true}
 use Rattle.std.proofs.lemmas.List.{get_or_past}
 use Rattle.std.proofs.lemmas.Bool.Decides.{eqb_tells}
 use Rattle.std.proofs.lemmas.List.Sums.{sum_by-cons, sum_by-append}
-use Rattle.bforest_core.specs.Content.{Content, Free, children_of}
+use Rattle.bforest_nodes.specs.Content.{Content, Free, children_of}
 use Rattle.bforest_core.specs.Table.{Table}
 use Rattle.bforest_core.specs.Levels.{LevelNode, node, sizes, numbers, sizes_of, Tree}
 use Rattle.bforest_core.specs.Place.{count, root_of, numbers_of}

@@ -1,7 +1,7 @@
 -- A step of a path to the node or the entry before.
 use Rattle.std.proofs.Common.{◌≡◌, ◌≢◌, ℕ, zero, suc, ◌+◌, ◌-◌, ◌≤◌, ◌<◌, List, [], ◌∷◌, ◌++◌, length, get_or, slice_get, Some, refl, sym, ap, subst, ◌∙◌, arith, length-append}
 use Rattle.std.proofs.lemmas.List.{length-map}
-use Rattle.bforest_core.specs.Content.{Content, entry_count}
+use Rattle.bforest_nodes.specs.Content.{Content, entry_count}
 use Rattle.bforest_core.specs.Levels.{LevelNode, node, flat, heads, Tree, IsFit, half_of}
 use Rattle.bforest_core.specs.Place.{RowIn, leaf_content, inner_content, StandsAbove, Stands, IsIn, IsPathAt, entry_before}
 use Rattle.bforest_core.specs.Steps.{Moved}

@@ -6,7 +6,7 @@ use Rattle.std.proofs.lemmas.Option.{slice_get_within}
 use Rattle.std.proofs.lemmas.Bool.{or_parts}
 use Rattle.std.proofs.lemmas.Bool.Decides.{Decides-eqb, not_from_Decides, eqb_tells}
 use Rattle.std.proofs.lemmas.Map.Keys.{IsDistinct-cons}
-use Rattle.bforest_core.specs.Content.{Content, Free}
+use Rattle.bforest_nodes.specs.Content.{Content, Free}
 use Rattle.bforest_core.specs.Chain.{chain_from, IsChain}
 use Rattle.bforest_core.specs.Table.{front_of, down_from, front_of_new, fresh_nodes}
 use Rattle.bforest_core.proofs.Lists.{slice_get-append_left, slice_get-push, slice_get-set_other, slice_get-set_same}

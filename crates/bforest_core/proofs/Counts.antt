@@ -6,10 +6,10 @@ use Rattle.std.proofs.lemmas.List.Concat.{flat_map-append}
 use Rattle.std.proofs.lemmas.Bool.{cases_lt}
 use Rattle.std.proofs.lemmas.Bool.Decides.{eqb_tells}
 use Rattle.std.proofs.lemmas.Option.{slice_get-get_or}
-use Rattle.bforest_core.specs.Content.{Content, Free, children_of}
+use Rattle.bforest_nodes.specs.Content.{Content, Free, children_of}
 use Rattle.bforest_core.specs.Place.{count}
 use Rattle.bforest_core.specs.Trees.{slot}
-use Rattle.bforest_core.proofs.Seams.{around, last_taken}
+use Rattle.bforest_nodes.proofs.Seams.{around, last_taken}
 use Rattle.bforest_core.proofs.Tables.{count-append, count-same, count-other}
 
 -- how often a number stands among those below another

@@ -8,12 +8,12 @@ use Rattle.std.specs.Map.{keys_of}
 use Rattle.std.specs.Option.{is_some, option_map}
 use Rattle.std.specs.declared.cmp.Ordering.{Ordering}
 use Rattle.std.specs.declared.cmp.Ordering.TheVariants.{Less, Equal, Greater}
-use Rattle.bforest_core.specs.Content.{Content, Inner, Leaf, IsInner, IsLeafCapacity}
-use Rattle.bforest_core.specs.Entries.{IsIncreasing, place, entry_for, is_present, value_for, value_at_place}
+use Rattle.bforest_nodes.specs.Content.{Content, Inner, Leaf, IsInner, IsLeafCapacity}
+use Rattle.bforest_nodes.specs.Entries.{IsIncreasing, place, entry_for, is_present, value_for, value_at_place}
 use Rattle.bforest_core.specs.Levels.{LevelNode, node, flat, heads, FitRow, half_of}
 use Rattle.bforest_core.specs.Place.{RowIn, RowsIn, leaf_content, inner_content, entry_keys, entry_items, IsAt}
 use Rattle.bforest_core.specs.Descent.{SameAbove, StackedTo, StandsTo, child_index, IsFrom, IsUpTo, GoesThrough, Under, IsPlaced, Descended}
-use Rattle.bforest_core.proofs.Found.{place-present}
+use Rattle.bforest_nodes.proofs.Found.{place-present}
 use Rattle.bforest_core.proofs.LeafSearch.{items-read}
 use Rattle.bforest_core.proofs.LevelRows.{flat-append, FitRow-split}
 use Rattle.bforest_core.proofs.Stored.{some_same, slice_get_at}

@@ -5,8 +5,8 @@ use Rattle.std.specs.List.{AllByRecursion}
 use Rattle.std.specs.Map.{keys_of}
 use Rattle.std.specs.declared.cmp.Ordering.{Ordering}
 use Rattle.std.specs.declared.cmp.Ordering.TheVariants.{Less, Equal, Greater}
-use Rattle.bforest_core.specs.Content.{Content}
-use Rattle.bforest_core.specs.Entries.{IsIncreasing}
+use Rattle.bforest_nodes.specs.Content.{Content}
+use Rattle.bforest_nodes.specs.Entries.{IsIncreasing}
 use Rattle.bforest_core.specs.Levels.{LevelNode, node, flat, heads, head_of, FitRow}
 use Rattle.bforest_core.specs.Place.{RowIn, RowsIn, inner_content, IsAt}
 use Rattle.bforest_core.specs.Descent.{StackedTo, StandsTo, IsUpTo, IsFrom}

@@ -1,7 +1,7 @@
 -- A step of a path from entry to entry of a tree.
 use Rattle.std.proofs.Common.{◌≡◌, ◌≢◌, ℕ, zero, suc, ◌+◌, ◌≤◌, ◌<◌, List, [], ◌∷◌, ◌++◌, length, get_or, slice_get, Option, Some, None, refl, sym, ap, subst, ◌∙◌, arith, length-append}
 use Rattle.std.proofs.lemmas.Option.{slice_get_within}
-use Rattle.bforest_core.specs.Content.{Content, Leaf}
+use Rattle.bforest_nodes.specs.Content.{Content, Leaf}
 use Rattle.bforest_core.specs.Levels.{LevelNode, node, flat, heads, FitRow, Tree, IsFit, half_of}
 use Rattle.bforest_core.specs.Place.{RowIn, leaf_content, entry_keys, entry_items, IsAt, StandsAbove, Stands, IsIn}
 use Rattle.bforest_core.specs.Climb.{SameBelow}

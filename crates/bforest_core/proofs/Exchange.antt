@@ -4,7 +4,7 @@ use Rattle.std.specs.List.{flat_map}
 use Rattle.std.proofs.lemmas.List.{map-append}
 use Rattle.std.proofs.lemmas.List.Concat.{flat_map-append}
 use Rattle.std.proofs.lemmas.Bool.{cases_lt}
-use Rattle.bforest_core.specs.Content.{Content, IsFree}
+use Rattle.bforest_nodes.specs.Content.{Content, IsFree}
 use Rattle.bforest_core.specs.Table.{Table}
 use Rattle.bforest_core.specs.Levels.{flat, numbers, Tree, IsFit}
 use Rattle.bforest_core.specs.Place.{IsIn, leaf_content, count, root_of, numbers_of}

@@ -1,7 +1,7 @@
 -- The first key of the left-most leaf stands in no inner node: where it changes, the rows above change in no table.
 use Rattle.std.proofs.Common.{◌≡◌, ℕ, suc, ◌+◌, ◌<◌, List, [], ◌∷◌, ◌++◌, map, length, get_or, Some, refl, sym, ap, ◌∙◌, subst, arith}
 use Rattle.std.specs.List.{flat_map}
-use Rattle.bforest_core.specs.Content.{Content, Inner}
+use Rattle.bforest_nodes.specs.Content.{Content, Inner}
 use Rattle.bforest_core.specs.Table.{Table}
 use Rattle.bforest_core.specs.Levels.{LevelNode, node, flat, heads, sizes, numbers, FitRow, Stacked, Topped}
 use Rattle.bforest_core.specs.Place.{RowIn, RowsIn, inner_content, count, entry_keys, entry_items, IsAt, StandsAbove, root_above}

@@ -5,7 +5,7 @@ use Rattle.std.proofs.lemmas.List.{map-append, get_or_past}
 use Rattle.std.proofs.lemmas.List.Concat.{flat_map-append}
 use Rattle.std.proofs.lemmas.Bool.{and_parts, cases_lt}
 use Rattle.std.proofs.lemmas.Bool.Decides.{eqb_tells}
-use Rattle.bforest_core.specs.Content.{Content, Inner, Leaf, Free, IsFree, children_of}
+use Rattle.bforest_nodes.specs.Content.{Content, Inner, Leaf, Free, IsFree, children_of}
 use Rattle.bforest_core.specs.Table.{Table}
 use Rattle.bforest_core.specs.Levels.{LevelNode, node, flat, heads, numbers, Stacked, Tree, IsFit, half_of}
 use Rattle.bforest_core.specs.Place.{RowIn, RowsIn, IsIn, leaf_content, inner_content, entry_items, count, root_above, root_of, numbers_of}

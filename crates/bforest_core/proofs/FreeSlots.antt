@@ -3,7 +3,7 @@ use Rattle.std.proofs.Common.{◌≡◌, ℕ, ◌<◌, Option, List, [], ◌∷�
 use Rattle.std.specs.Option.{unwrap_or}
 use Rattle.std.proofs.lemmas.Bool.Decides.{eqb_tells}
 use Rattle.std.proofs.lemmas.Option.{unwrap_or-slice_get}
-use Rattle.bforest_core.specs.Content.{Content, Free, IsFree}
+use Rattle.bforest_nodes.specs.Content.{Content, Free, IsFree}
 use Rattle.bforest_core.specs.Chain.{IsChain}
 use Rattle.bforest_core.specs.Table.{Table, front_of, slot_count, with_freed}
 use Rattle.bforest_core.specs.Place.{count}

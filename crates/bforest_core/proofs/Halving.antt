@@ -1,7 +1,7 @@
 -- A full node that is halved, with a new child in one half.
 use Rattle.std.proofs.Common.{◌≡◌, ℕ, ◌-◌, ◌≤◌, ◌<◌, ◌≢◌, nat_lt, if◌then◌else◌, List, [], ◌∷◌, ◌++◌, length, drop, get_or, slice_get, Some, refl, sym, ap, ◌∙◌, subst, append_assoc, length-append, arith}
-use Rattle.bforest_core.specs.declared.node.SplitOff.{SplitOff}
-use Rattle.bforest_core.specs.Content.{Content, IsCut, left_half, with_child}
+use Rattle.bforest_nodes.specs.declared.node.SplitOff.{SplitOff}
+use Rattle.bforest_nodes.specs.Content.{Content, IsCut, left_half, with_child}
 use Rattle.bforest_core.specs.Table.{Table, with_node, with_front, front_of, IsUsed, IsFullAt, IsSplitAt}
 use Rattle.bforest_core.specs.Levels.{LevelNode, head_of}
 use Rattle.bforest_core.specs.Place.{inner_content, entry_keys, count}

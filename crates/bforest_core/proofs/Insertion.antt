@@ -5,7 +5,7 @@ use Rattle.std.proofs.lemmas.Bool.{cases_lt}
 use Rattle.std.proofs.lemmas.Bool.Decides.{eqb_tells}
 use Rattle.std.proofs.lemmas.List.{length-map}
 use Rattle.bforest_core.specs.declared.path.Path.{Path}
-use Rattle.bforest_core.specs.Content.{Content}
+use Rattle.bforest_nodes.specs.Content.{Content}
 use Rattle.bforest_core.specs.Table.{Table, down_from, fresh_nodes, front_of, free_count, slot_count, room, reserved, IsFullAt}
 use Rattle.bforest_core.specs.Levels.{LevelNode, node, flat, heads, sizes, numbers, Stacked, Topped, Tree, sizes_of}
 use Rattle.bforest_core.specs.Sizes.{leaf_gain, gain_above, growth, need}

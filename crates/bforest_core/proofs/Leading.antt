@@ -1,7 +1,7 @@
 -- The way down to the first entry.
 use Rattle.std.proofs.Common.{◌≡◌, ◌≢◌, ℕ, zero, suc, ◌+◌, ◌≤◌, ◌<◌, ◌⊎◌, inl, inr, List, [], ◌∷◌, ◌++◌, length, get_or, slice_get, Some, refl, sym, ap, subst, ◌∙◌, arith, length-append}
 use Rattle.std.proofs.lemmas.Option.{slice_get_within}
-use Rattle.bforest_core.specs.Content.{Content, IsInner}
+use Rattle.bforest_nodes.specs.Content.{Content, IsInner}
 use Rattle.bforest_core.specs.Levels.{LevelNode, node, flat, heads, FitRow, half_of}
 use Rattle.bforest_core.specs.Place.{RowIn, leaf_content, inner_content, IsAt}
 use Rattle.bforest_core.specs.Descent.{SameAbove, StackedTo, StandsTo, Under, Led}

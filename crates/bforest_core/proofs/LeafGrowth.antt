@@ -1,7 +1,7 @@
 -- An insertion into a leaf, as a change of its tree: with room, and where the leaf became two.
 use Rattle.std.proofs.Common.{◌≡◌, ℕ, suc, ◌+◌, ◌≤◌, ◌<◌, ◌≢◌, IsTrue, List, [], ◌∷◌, ◌++◌, length, slice_get, Some, refl, sym, ap, ◌∙◌, subst, length-append, arith}
 use Rattle.std.specs.List.{flat_map}
-use Rattle.bforest_core.specs.Content.{Content}
+use Rattle.bforest_nodes.specs.Content.{Content}
 use Rattle.bforest_core.specs.Table.{Table}
 use Rattle.bforest_core.specs.Levels.{LevelNode, node, flat, heads, numbers, Stacked, Topped, Tree, IsFit, half_of}
 use Rattle.bforest_core.specs.Place.{RowsIn, IsIn, leaf_content, count, Distinct, numbers_of}

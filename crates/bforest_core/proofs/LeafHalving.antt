@@ -1,7 +1,7 @@
 -- A full leaf that is halved, with a new entry in one half.
 use Rattle.std.proofs.Common.{◌≡◌, ℕ, suc, ◌+◌, ◌-◌, ◌/◌, ◌≤◌, ◌<◌, ◌≢◌, nat_le, true, false, if◌then◌else◌, List, [], ◌∷◌, ◌++◌, length, get_or, slice_get, Some, refl, sym, ap, ◌∙◌, subst, append_assoc, length-append, length-set, arith}
-use Rattle.bforest_core.specs.declared.node.SplitOff.{SplitOff}
-use Rattle.bforest_core.specs.Content.{Content, IsCut, IsLeafCapacity, left_half, with_entry}
+use Rattle.bforest_nodes.specs.declared.node.SplitOff.{SplitOff}
+use Rattle.bforest_nodes.specs.Content.{Content, IsCut, IsLeafCapacity, left_half, with_entry}
 use Rattle.bforest_core.specs.Table.{Table, with_node, with_front, front_of, IsUsed, IsFullAt, IsSplitAt}
 use Rattle.bforest_core.specs.Levels.{Tree, half_of}
 use Rattle.bforest_core.specs.Place.{leaf_content, count}

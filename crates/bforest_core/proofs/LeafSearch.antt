@@ -3,11 +3,11 @@ use Rattle.std.proofs.Common.{◌≡◌, ℕ, zero, suc, ◌<◌, true, false, L
 use Rattle.std.proofs.lemmas.List.{length-map}
 use Rattle.std.specs.declared.cmp.Ordering.{Ordering}
 use Rattle.std.specs.List.Sorted.{IsStrictlySortedBy}
-use Rattle.bforest_core.specs.Content.{Content, Leaf}
-use Rattle.bforest_core.specs.Search.{search_of}
-use Rattle.bforest_core.specs.Entries.{IsIncreasing, place, value_for, value_at_place, is_present}
+use Rattle.bforest_nodes.specs.Content.{Content, Leaf}
+use Rattle.bforest_nodes.specs.Search.{search_of}
+use Rattle.bforest_nodes.specs.Entries.{IsIncreasing, place, value_for, value_at_place, is_present}
 use Rattle.bforest_core.specs.Place.{leaf_content, entry_keys, entry_items}
-use Rattle.bforest_core.proofs.Found.{search_of-keys_of, present_at, absent_at, value_for-present, value_for-absent, place-present}
+use Rattle.bforest_nodes.proofs.Found.{search_of-keys_of, present_at, absent_at, value_for-present, value_for-absent, place-present}
 
 -- the value of an entry, read in the list of the values
 pub items-read : {K X : Type 0} (es : List (K × X)) (i : ℕ) → slice_get (entry_items es) i ≡ value_at_place es i

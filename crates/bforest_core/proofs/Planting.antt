@@ -3,7 +3,7 @@ use Rattle.std.proofs.Common.{◌≡◌, ◌≢◌, ℕ, ◌-◌, ◌≤◌, ◌
 use Rattle.std.specs.List.{flat_map}
 use Rattle.std.proofs.lemmas.List.{length-map}
 use Rattle.std.proofs.lemmas.Bool.{cases_lt}
-use Rattle.bforest_core.specs.Content.{Leaf}
+use Rattle.bforest_nodes.specs.Content.{Leaf}
 use Rattle.bforest_core.specs.Table.{Table, front_of, free_count, slot_count, fresh_nodes, down_from, with_front, reserved}
 use Rattle.bforest_core.specs.Levels.{node, flat, sizes, sizes_of, Tree}
 use Rattle.bforest_core.specs.Place.{count, numbers_of}

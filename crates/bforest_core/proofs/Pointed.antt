@@ -1,6 +1,6 @@
 -- A path at an entry of a leaf, or behind a leaf's last entry.
 use Rattle.std.proofs.Common.{◌≡◌, ◌≢◌, ℕ, suc, ◌≤◌, ◌<◌, List, ◌∷◌, ◌++◌, length, get_or, slice_get, Some, sym, ap, subst, ◌∙◌, arith, length-append}
-use Rattle.bforest_core.specs.Content.{Content}
+use Rattle.bforest_nodes.specs.Content.{Content}
 use Rattle.bforest_core.specs.Levels.{LevelNode, node, flat, heads, Tree, IsFit, half_of}
 use Rattle.bforest_core.specs.Place.{RowIn, leaf_content, StandsAbove, Stands, PlacedAt, PointsAt, IsIn}
 use Rattle.bforest_core.specs.Steps.{Over, Moved}

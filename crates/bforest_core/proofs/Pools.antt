@@ -5,7 +5,7 @@ use Rattle.std.specs.Option.{IsSome}
 use Rattle.std.proofs.lemmas.List.{length-append}
 use Rattle.std.proofs.lemmas.Map.Keys.{IsDistinct-tail, IsDistinct-head}
 use Rattle.std.proofs.lemmas.Map.Steps.{length-le_from_distinct_below}
-use Rattle.bforest_core.specs.Content.{Content, Free, IsLeafCapacity}
+use Rattle.bforest_nodes.specs.Content.{Content, Free, IsLeafCapacity}
 use Rattle.bforest_core.specs.Chain.{next_of, chain_from, IsChain, IsPool}
 use Rattle.bforest_core.specs.Table.{down_from, front_of_new, fresh_nodes}
 use Rattle.bforest_core.proofs.Chains.{none_apart, IsDistinct-front, length-fresh_nodes, length-down_from, chain_from-is, length-chain_from-none, IsChain-set, IsChain-below, IsChain-fresh, IsChain-freed, IsDistinct-fresh}

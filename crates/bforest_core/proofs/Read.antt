@@ -3,7 +3,7 @@ use Rattle.std.proofs.Common.{◌≡◌, ℕ, suc, ◌+◌, ◌-◌, ◌≤◌, 
 use Rattle.std.specs.List.{flat_map, zip}
 use Rattle.std.proofs.lemmas.List.{length-map, map-append, take_at, drop_at}
 use Rattle.std.proofs.lemmas.Option.{get_or_from_slice_get}
-use Rattle.bforest_core.specs.Content.{Content, Free, children_of}
+use Rattle.bforest_nodes.specs.Content.{Content, Free, children_of}
 use Rattle.bforest_core.specs.Levels.{LevelNode, node, flat, heads, numbers, FitRow, Stacked, Tree, IsFit, half_of}
 use Rattle.bforest_core.specs.Place.{RowIn, RowsIn, IsIn, leaf_content, inner_content, entry_keys, entry_items, root_above, root_of}
 use Rattle.bforest_core.specs.Trees.{slot, entries_of, levels_below, leaf_row, inner_row, inner_rows, tree_of}

@@ -3,7 +3,7 @@ use Rattle.std.proofs.Common.{◌≡◌, ℕ, zero, suc, ◌+◌, ◌-◌, ◌�
 use Rattle.std.specs.List.{flat_map}
 use Rattle.std.proofs.lemmas.Bool.{cases_lt}
 use Rattle.std.proofs.lemmas.Option.{slice_get-get_or}
-use Rattle.bforest_core.specs.Content.{Content, Free, IsFree}
+use Rattle.bforest_nodes.specs.Content.{Content, Free, IsFree}
 use Rattle.bforest_core.specs.Table.{Table, down_from, fresh_nodes, front_of, front_of_new, free_count, slot_count, with_slots, reserved}
 use Rattle.bforest_core.specs.Levels.{Tree}
 use Rattle.bforest_core.specs.Place.{count, numbers_of}

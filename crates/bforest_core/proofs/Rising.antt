@@ -10,12 +10,12 @@ use Rattle.std.specs.Option.{is_some, option_and_then, option_map}
 use Rattle.std.specs.Ordering.{is_eq, is_lt, ordering_reverse}
 use Rattle.std.specs.declared.cmp.Ordering.{Ordering}
 use Rattle.std.specs.declared.cmp.Ordering.TheVariants.{Less, Equal, Greater}
-use Rattle.bforest_core.specs.Search.{count_less, is_equal_at}
-use Rattle.bforest_core.specs.Entries.{IsIncreasing, place, entry_for, is_present, value_for}
+use Rattle.bforest_nodes.specs.Search.{count_less, is_equal_at}
+use Rattle.bforest_nodes.specs.Entries.{IsIncreasing, place, entry_for, is_present, value_for}
 use Rattle.bforest_core.specs.Descent.{child_index, IsFrom, IsUpTo, GoesThrough}
-use Rattle.bforest_core.proofs.Searched.{count_less-yes, count_less-no}
-use Rattle.bforest_core.proofs.Ordered.{place-later, place-here}
-use Rattle.bforest_core.proofs.Found.{place-present}
+use Rattle.bforest_nodes.proofs.Searched.{count_less-yes, count_less-no}
+use Rattle.bforest_nodes.proofs.Ordered.{place-later, place-here}
+use Rattle.bforest_nodes.proofs.Found.{place-present}
 use Rattle.bforest_core.proofs.Lists.{slice_get-append-add}
 
 -- a property of all keys, over a list in two parts

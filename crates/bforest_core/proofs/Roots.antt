@@ -1,6 +1,6 @@
 -- What a change of the tree under a root says to a caller who has no witness: of roots, and of the trees computed from them.
 use Rattle.std.proofs.Common.{◌≡◌, ℕ, ◌+◌, ◌<◌, ◌≢◌, IsTrue, List, [], ◌∷◌, ◌++◌, length, slice_get, refl, sym, subst, arith}
-use Rattle.bforest_core.specs.Content.{IsFree}
+use Rattle.bforest_nodes.specs.Content.{IsFree}
 use Rattle.bforest_core.specs.Table.{Table}
 use Rattle.bforest_core.specs.Levels.{Tree}
 use Rattle.bforest_core.specs.Place.{count, root_of, numbers_of}

@@ -1,8 +1,8 @@
 -- A path where a search ended, as the place that an insertion asks for and the entry that it found.
 use Rattle.std.proofs.Common.{◌≡◌, ℕ, IsTrue, true, false, List}
 use Rattle.std.specs.declared.cmp.Ordering.{Ordering}
-use Rattle.bforest_core.specs.Content.{Content}
-use Rattle.bforest_core.specs.Entries.{place, is_present}
+use Rattle.bforest_nodes.specs.Content.{Content}
+use Rattle.bforest_nodes.specs.Entries.{place, is_present}
 use Rattle.bforest_core.specs.Levels.{flat}
 use Rattle.bforest_core.specs.Descent.{StandsFor}
 use Rattle.bforest_core.specs.Trees.{tree_of, is_root}

@@ -2,7 +2,7 @@
 use Rattle.std.proofs.Common.{◌≡◌, ℕ, zero, suc, ◌+◌, ◌<◌, ◌≢◌, false, nat_eq, List, [], ◌∷◌, ◌++◌, length, set, slice_get, Some, refl, sym, ap, ◌∙◌, inl, inr, append_assoc, length-set, arith}
 use Rattle.std.specs.List.{flat_map, list_any}
 use Rattle.std.proofs.lemmas.Bool.Decides.{eqb_tells}
-use Rattle.bforest_core.specs.Content.{Content}
+use Rattle.bforest_nodes.specs.Content.{Content}
 use Rattle.bforest_core.specs.Table.{Table, with_node, with_front, front_of, IsUsed}
 use Rattle.bforest_core.proofs.Lists.{slice_get-set_same}
 use Rattle.std.proofs.lemmas.Option.{slice_get_within}

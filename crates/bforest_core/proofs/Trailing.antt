@@ -1,7 +1,7 @@
 -- The way down to the last entry.
 use Rattle.std.proofs.Common.{◌≡◌, ◌≢◌, ℕ, suc, ◌+◌, ◌-◌, ◌≤◌, ◌<◌, ◌⊎◌, inl, inr, List, [], ◌∷◌, ◌++◌, length, get_or, slice_get, Some, refl, sym, ap, subst, ◌∙◌, arith, append_assoc, append-nil, length-append}
 use Rattle.std.proofs.lemmas.List.{length-map}
-use Rattle.bforest_core.specs.Content.{Content, IsInner, entry_count}
+use Rattle.bforest_nodes.specs.Content.{Content, IsInner, entry_count}
 use Rattle.bforest_core.specs.Levels.{LevelNode, node, flat, heads, FitRow, Tree, half_of}
 use Rattle.bforest_core.specs.Place.{RowIn, leaf_content, inner_content, entry_items, IsAt, Stands}
 use Rattle.bforest_core.specs.Descent.{StackedTo, StandsTo, Under, LedLast}

@@ -1,7 +1,7 @@
 -- How a `NodePool` keeps its chain. No public clause cites this module.
 use Rattle.std.specs.Prelude.{◌≡◌, ℕ, ◌≤◌, List, [], ◌∷◌, length, slice_get, nat_eq, Option, Some, None, zero, suc}
 use Rattle.std.specs.List.{IsDistinct}
-use Rattle.bforest_core.specs.Content.{Content, Inner, Leaf, Free, IsLeafCapacity}
+use Rattle.bforest_nodes.specs.Content.{Content, Inner, Leaf, Free, IsLeafCapacity}
 
 module _ {K V : Type 0} where
   -- the next free node that a slot names

@@ -1,10 +1,10 @@
 -- What a node and a pool end as, where a `&mut` into them is returned.
 use Rattle.std.specs.Prelude.{ℕ}
 use Rattle.std.specs.Borrow.{Lends, Fml, RattleType, MutBor}
-use Rattle.bforest_core.specs.Content.{Content}
+use Rattle.bforest_nodes.specs.Content.{Content}
 use Rattle.bforest_core.specs.Table.{Table, with_node, with_value_at}
 use Rattle.bforest_core.specs.contracts.pool.NodePool.{the_row}
-use Rattle.bforest_core.specs.contracts.node.NodeData.{the_row as node_row}
+use Rattle.bforest_nodes.specs.contracts.node.NodeData.{the_row as node_row}
 
 module _ (K V N : RattleType) where
   -- once the borrow r ends, the slot has what r shows last

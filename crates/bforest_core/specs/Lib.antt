@@ -1,14 +1,6 @@
-pub mod Search
-pub mod Entries
-pub mod Content
-pub mod Number
-pub mod Layout
-pub mod LendingRow
-pub mod LendingNode
 pub mod Table
 pub mod Chain
 pub mod Lending
-pub mod LendingEntries
 pub mod Levels
 pub mod Sizes
 pub mod Place

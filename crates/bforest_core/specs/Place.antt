@@ -1,7 +1,7 @@
 -- A tree in a pool's table, and a path in a tree.
 use Rattle.std.specs.Prelude.{◌≡◌, ℕ, zero, suc, ◌+◌, ◌≤◌, ◌<◌, if◌then◌else◌, nat_eq, List, [], ◌∷◌, ◌++◌, map, length, drop, get_or, slice_get, Option, Some, None}
 use Rattle.std.specs.List.{flat_map}
-use Rattle.bforest_core.specs.Content.{Content, Inner, Leaf}
+use Rattle.bforest_nodes.specs.Content.{Content, Inner, Leaf}
 use Rattle.bforest_core.specs.Levels.{LevelNode, node, flat, heads, numbers, Tree}
 
 -- the keys of some entries

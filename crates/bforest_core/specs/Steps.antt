@@ -1,6 +1,6 @@
 -- Steps of a path from node to node.
 use Rattle.std.specs.Prelude.{◌≡◌, ℕ, suc, ◌+◌, List, length, get_or, slice_get, Some}
-use Rattle.bforest_core.specs.Content.{Content}
+use Rattle.bforest_nodes.specs.Content.{Content}
 use Rattle.bforest_core.specs.Levels.{LevelNode, Stacked}
 use Rattle.bforest_core.specs.Place.{RowsIn, StandsAbove}
 use Rattle.bforest_core.specs.Climb.{SameBelow}

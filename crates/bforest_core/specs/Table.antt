@@ -1,8 +1,8 @@
 -- What a contract sees of a `NodePool`: numbered nodes, the chain of the free ones, and a limit.
 use Rattle.std.specs.Prelude.{◌≡◌, ℕ, ◌+◌, ◌-◌, ◌*◌, ◌<◌, ◌≤◌, false, List, [], ◌∷◌, ◌++◌, length, slice_set, nat_eq, Option, Some, None, IfSome, slice_get, slice_index_or, option_and_then, zero, suc}
 use Rattle.std.specs.List.{list_any, IsDistinct}
-use Rattle.bforest_core.specs.Content.{Content, Free, IsLeaf, vals_of, with_value, IsFree, IsCut, entry_count, entry_capacity, left_half, IsSameKind, Balances}
-use Rattle.bforest_core.specs.declared.node.SplitOff.{SplitOff}
+use Rattle.bforest_nodes.specs.Content.{Content, Free, IsLeaf, vals_of, with_value, IsFree, IsCut, entry_count, entry_capacity, left_half, IsSameKind, Balances}
+use Rattle.bforest_nodes.specs.declared.node.SplitOff.{SplitOff}
 
 -- the content of each slot, the numbers of the free slots from the front of the chain on, and how
 -- many slots there may be

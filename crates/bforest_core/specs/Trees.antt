@@ -1,7 +1,7 @@
 -- The trees of a table: computed, and as a witness.
 use Rattle.std.specs.Prelude.{◌≡◌, ℕ, zero, suc, ◌≤◌, ◌↔◌, ◌≢◌, Bool, true, false, if◌then◌else◌, nat_lt, nat_eq, ◌&&◌, IsTrue, None, List, [], ◌∷◌, ◌++◌, map, length, take, drop, slice_index_or}
 use Rattle.std.specs.List.{flat_map, zip}
-use Rattle.bforest_core.specs.Content.{Content, Inner, Leaf, Free, IsFree, children_of}
+use Rattle.bforest_nodes.specs.Content.{Content, Inner, Leaf, Free, IsFree, children_of}
 use Rattle.bforest_core.specs.Table.{Table}
 use Rattle.bforest_core.specs.Levels.{LevelNode, node, flat, heads, Tree, IsFit}
 use Rattle.bforest_core.specs.Place.{IsIn, numbers_of, count}

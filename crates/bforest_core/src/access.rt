@@ -1,14 +1,13 @@
 //! Reading and writing one node of a pool, by its number.
 ghost use Rattle.std.specs.Prelude.{◌≡◌, ℕ, ◌-◌, ◌<◌, ◌≤◌, ◌↔◌, IsTrue, List, length, slice_get, Some, if◌then◌else◌};
 ghost use Rattle.std.specs.List.Sorted.{IsStrictlySortedBy};
-ghost use Rattle.bforest_core.specs.Content.{Content, Inner, with_child, Leaf, with_entry, entry_count};
+ghost use Rattle.bforest_nodes.specs.Content.{Content, Inner, with_child, Leaf, with_entry, entry_count};
 ghost use Rattle.bforest_core.specs.Descent.{child_index};
-ghost use Rattle.bforest_core.specs.Entries.{IsIncreasing, place, value_for};
+ghost use Rattle.bforest_nodes.specs.Entries.{IsIncreasing, place, value_for};
 ghost use Rattle.bforest_core.specs.Place.{leaf_content};
 ghost use Rattle.bforest_core.specs.Table.{IsUsed, with_node};
 
-use crate::comparator::Comparator;
-use crate::number::Node;
+use bforest_nodes::{Comparator, Node};
 use crate::pool::NodePool;
 
 // Puts a child and its first key into an inner node, behind the child at `index`. Whether there was room.

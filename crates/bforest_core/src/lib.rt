@@ -7,18 +7,10 @@
 #![tactic(auto)]
 
 mod access;
-mod comparator;
-mod entries;
-mod lent;
-mod node;
-mod number;
 mod path;
 mod pool;
-mod row;
 mod trees;
 
-pub use comparator::Comparator;
-pub use node::{NodeData, Removed, SplitOff};
-pub use number::{Node, PackedNode, SetValue};
+pub use bforest_nodes::{Comparator, Node, NodeData, PackedNode, Removed, SetValue, SplitOff};
 pub use path::Path;
 pub use pool::{NodePool, OutOfMemory};

@@ -5,7 +5,7 @@ mod find;
 mod insert;
 mod step;
 
-use crate::number::Node;
+use bforest_nodes::Node;
 use std::marker::PhantomData;
 
 /// The nodes from a leaf to the root, the leaf first, each with an index: of an entry in the leaf, and in an inner node of the child that

@@ -1,11 +1,10 @@
 //! Numbered nodes, of which the free ones form a chain.
 ghost use Rattle.std.specs.Prelude.{◌≡◌, ◌≢◌, ℕ, ◌+◌, ◌-◌, ◌<◌, ◌≤◌, ◌↔◌, ◌++◌, length, IsTrue, IsOk, IfOk, OnOk, OnErr, Ok, Err, Some, None, [], ◌∷◌, slice_get, slice_set, vec_len};
 ghost use Rattle.std.specs.Borrow.{sem, LendsBoth, Array};
-ghost use Rattle.bforest_core.specs.Content.{Inner, Leaf, IsLeafCapacity};
+ghost use Rattle.bforest_nodes.specs.Content.{Inner, Leaf, IsLeafCapacity};
 ghost use Rattle.bforest_core.specs.Table.{slot_count, free_count, room, NeedsGrowth, IsUsed, IsTable, reserved, without_front, with_front, with_freed, fresh_nodes, front_of, front_of_new, IsFullAt, IsSplitAt, IsUnderflowedAt, IsBalancedAt, IsEntryAt, value_at};
 
-use crate::node::{NodeData, SplitOff};
-use crate::number::{Node, PackedNode};
+use bforest_nodes::{Node, NodeData, PackedNode, SplitOff};
 use std::alloc::{AllocError, Global};
 use std::marker::Model;
 

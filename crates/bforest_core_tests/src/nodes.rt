@@ -1,5 +1,5 @@
 //! Nodes whose contents are known, and what they are compared with.
-ghost use Rattle.bforest_core.specs.Content.{Free, Inner, IsInner, IsLeaf, IsLeafCapacity, Leaf};
+ghost use Rattle.bforest_nodes.specs.Content.{Free, Inner, IsInner, IsLeaf, IsLeafCapacity, Leaf};
 ghost use Rattle.std.specs.Prelude.{None, length, ◌+◌, ◌<◌, ◌≡◌, ◌≤◌};
 
 use bforest_core::{Node, NodeData};

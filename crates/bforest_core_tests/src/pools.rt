@@ -1,5 +1,5 @@
 //! The table of nodes: what is reserved, handed out, freed and ended.
-ghost use Rattle.bforest_core.specs.Content.{Leaf};
+ghost use Rattle.bforest_nodes.specs.Content.{Leaf};
 ghost use Rattle.bforest_core.specs.Table.{IsUsed, with_node};
 ghost use Rattle.std.specs.Prelude.{Some, [], length, slice_get, ◌<◌, ◌∷◌, ◌≡◌, ◌≢◌, ◌≤◌};
 

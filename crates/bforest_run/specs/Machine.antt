@@ -1,5 +1,5 @@
 -- What a line may be answered, and what it leaves of the maps.
-use Rattle.bforest_core.specs.Entries.{IsIncreasing, put, value_for}
+use Rattle.bforest_nodes.specs.Entries.{IsIncreasing, put, value_for}
 use Rattle.bforest.specs.Forest.{Becomes, IsLive, free_of, list_of, sizes_of, slots_of}
 use Rattle.bforest_core.specs.declared.pool.OutOfMemory.{OutOfMemory}
 use Rattle.bforest_run.specs.Orders.{order_of}

@@ -1,5 +1,5 @@
 //! What a caller can prove of maps from their contracts alone.
-ghost use Rattle.bforest_core.specs.Entries.{IsIncreasing, is_present, put, value_for};
+ghost use Rattle.bforest_nodes.specs.Entries.{IsIncreasing, is_present, put, value_for};
 ghost use Rattle.bforest.specs.Forest.{Becomes, IsLive, list_of};
 ghost use Rattle.std.specs.Ordering.{is_eq};
 ghost use Rattle.std.specs.Prelude.{IfOk, IsOk, OnOk, Some, false, true, ◌≡◌, ◌≢◌};

@@ -1,9 +1,9 @@
 use Rattle.bforest.proofs.Putting.{absent-none, need-absent, need-present, present-some, sizes-absent, sizes-present}
 use Rattle.bforest.proofs.tree.put.Goals as goal
 use Rattle.bforest.specs.Insertion.{sizes_under}
-use Rattle.bforest_core.proofs.Found.{put-absent, put-present}
+use Rattle.bforest_nodes.proofs.Found.{put-absent, put-present}
 use Rattle.bforest_core.specs.Change.{Changes, TakesNodes}
-use Rattle.bforest_core.specs.Entries.{place, with_value}
+use Rattle.bforest_nodes.specs.Entries.{place, with_value}
 use Rattle.bforest_core.specs.Levels.{flat, sizes_of}
 use Rattle.bforest_core.specs.Table.{NeedsGrowth, free_count, room}
 use Rattle.bforest_core.specs.Trees.{tree_of}

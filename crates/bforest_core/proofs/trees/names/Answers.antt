@@ -1,5 +1,5 @@
 use Rattle.std.proofs.Common.{ℕ, ◌<◌, List, sym, ap, subst, ◌∙◌}
-use Rattle.bforest_core.specs.Content.{children_of}
+use Rattle.bforest_nodes.specs.Content.{children_of}
 use Rattle.bforest_core.specs.Place.{count}
 use Rattle.bforest_core.proofs.Counts.{found-counts}
 use Rattle.bforest_core.proofs.trees.names.Goals as goal

@@ -1,5 +1,5 @@
 use Rattle.std.proofs.Common.{◌≡◌, take}
-use Rattle.bforest_core.specs.Content.{Leaf}
+use Rattle.bforest_nodes.specs.Content.{Leaf}
 use Rattle.bforest_core_tests.proofs.nodes.leaf_with.Given as goal
 
 abbrev pub invariant-loop-index : goal.invariant-loop-index

@@ -1,6 +1,6 @@
 use Rattle.bforest.proofs.Changed.{seen}
 use Rattle.bforest.proofs.forest.MapForest.get.Goals as goal
-use Rattle.bforest_core.specs.Entries.{IsIncreasing, value_for}
+use Rattle.bforest_nodes.specs.Entries.{IsIncreasing, value_for}
 use Rattle.std.proofs.Common.{List, rules, subst, sym, ◌≡◌}
 
 pub get-requires : goal.get-requires

@@ -4,7 +4,7 @@ use Rattle.bforest.proofs.forest.MapForest.put.Goals as goal
 use Rattle.bforest.specs.Forest.{Becomes, Forest, NeedsGrowth, Takes, free_of, need_of, room_of, sizes_at, sizes_with}
 use Rattle.bforest.specs.Insertion.{need_under, sizes_under}
 use Rattle.bforest_core.specs.Change.{Changes}
-use Rattle.bforest_core.specs.Entries.{IsIncreasing, put, value_for}
+use Rattle.bforest_nodes.specs.Entries.{IsIncreasing, put, value_for}
 use Rattle.bforest_core.specs.Levels.{flat, sizes_of as tree_sizes}
 use Rattle.bforest_core.specs.Trees.{tree_of}
 use Rattle.bforest_core.specs.declared.pool.OutOfMemory.{OutOfMemory}

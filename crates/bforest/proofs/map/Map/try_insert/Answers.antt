@@ -2,8 +2,8 @@ use Rattle.bforest.proofs.Increasing.{IsIncreasing-one}
 use Rattle.bforest.proofs.Putting.{present-told, sizes-kept}
 use Rattle.bforest.proofs.map.Map.try_insert.Goals as goal
 use Rattle.bforest.specs.Forest.{IsTooMany, list_at, list_of, need_of, sizes_of}
-use Rattle.bforest_core.proofs.Ordered.{IsIncreasing-put}
-use Rattle.bforest_core.specs.Entries.{IsIncreasing}
+use Rattle.bforest_nodes.proofs.Ordered.{IsIncreasing-put}
+use Rattle.bforest_nodes.specs.Entries.{IsIncreasing}
 use Rattle.bforest_core.proofs.Stored.{some_same}
 use Rattle.std.specs.Option.{is_some}
 use Rattle.std.proofs.Common.{Option, Some, ap, length, subst, sym, ◌∙◌, ◌≡◌, ℕ}

@@ -1,11 +1,11 @@
 use Rattle.std.proofs.Common.{rules, ◌≡◌, ◌≢◌, ℕ, suc, ◌+◌, ◌-◌, ◌<◌, ◌≤◌, IsTrue, false, true, List, [], ◌∷◌, ◌++◌, map, length, get_or, set, slice_get, slice_set, Some, refl, sym, ap, subst, ◌∙◌, arith}
 use Rattle.std.proofs.lemmas.List.{get_or_default, get_or-set_same, get_or-set_other}
 use Rattle.std.proofs.lemmas.Bool.{false≢true}
-use Rattle.bforest_core.specs.Content.{Content, Inner, IsInner, IsLeafCapacity}
+use Rattle.bforest_nodes.specs.Content.{Content, Inner, IsInner, IsLeafCapacity}
 use Rattle.bforest_core.specs.Levels.{LevelNode, flat, half_of}
 use Rattle.bforest_core.specs.Place.{leaf_content, inner_content, entry_keys, entry_items}
 use Rattle.bforest_core.specs.Descent.{GoesThrough, Under, Descended}
-use Rattle.bforest_core.specs.Entries.{IsIncreasing, place, value_for}
+use Rattle.bforest_nodes.specs.Entries.{IsIncreasing, place, value_for}
 use Rattle.bforest_core.proofs.Rising.{increasing_rest}
 use Rattle.bforest_core.proofs.Descent.{some_leaf, in_slots, leaf_case, inner_case, inner_count, onward, leaf_value, placed, landed, passed}
 use Rattle.bforest_core.proofs.path.Path.+descend.Goals as goal

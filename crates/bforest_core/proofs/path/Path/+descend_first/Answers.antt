@@ -1,7 +1,7 @@
 use Rattle.std.proofs.Common.{rules, ◌≡◌, ◌≢◌, ℕ, suc, ◌+◌, ◌-◌, ◌<◌, ◌≤◌, IsTrue, false, true, List, [], ◌∷◌, ◌++◌, length, get_or, slice_get, Some, refl, sym, ap, subst, ◌∙◌, arith}
 use Rattle.std.proofs.lemmas.List.{get_or-set_other}
 use Rattle.std.proofs.lemmas.Bool.{false≢true}
-use Rattle.bforest_core.specs.Content.{Content, IsInner, entry_count, children_of}
+use Rattle.bforest_nodes.specs.Content.{Content, IsInner, entry_count, children_of}
 use Rattle.bforest_core.specs.Levels.{flat}
 use Rattle.bforest_core.specs.Descent.{Under}
 use Rattle.bforest_core.specs.Place.{inner_content, entry_items}

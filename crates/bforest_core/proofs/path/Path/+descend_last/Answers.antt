@@ -2,7 +2,7 @@ use Rattle.std.proofs.Common.{rules, ◌≡◌, ℕ, ◌+◌, ◌-◌, ◌<◌, 
 use Rattle.std.proofs.lemmas.List.{get_or-set_other}
 use Rattle.std.proofs.lemmas.Bool.{false≢true}
 use Rattle.std.proofs.lemmas.Option.{slice_get_within}
-use Rattle.bforest_core.specs.Content.{Content, IsInner, entry_count, children_of}
+use Rattle.bforest_nodes.specs.Content.{Content, IsInner, entry_count, children_of}
 use Rattle.bforest_core.specs.Levels.{flat}
 use Rattle.bforest_core.specs.Descent.{Under}
 use Rattle.bforest_core.specs.Place.{inner_content, leaf_content}

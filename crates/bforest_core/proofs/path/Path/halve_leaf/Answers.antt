@@ -1,6 +1,6 @@
 use Rattle.std.proofs.Common.{rules, ◌≡◌, ℕ, ◌-◌, ◌≤◌, ◌<◌, true, Bool, if◌then◌else◌, ◌∷◌, ◌++◌, length, set, get_or, slice_get, Some, refl, sym, ap, ◌∙◌, subst, arith, length-append}
 use Rattle.std.proofs.lemmas.List.{get_or_default, get_or-set_same, get_or-set_other}
-use Rattle.bforest_core.specs.Content.{Content}
+use Rattle.bforest_nodes.specs.Content.{Content}
 use Rattle.bforest_core.specs.Table.{Table, IsUsed, with_node}
 use Rattle.bforest_core.specs.Place.{leaf_content, entry_keys, entry_items}
 use Rattle.bforest_core.proofs.Tables.{is_used}

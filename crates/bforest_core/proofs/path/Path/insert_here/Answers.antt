@@ -1,7 +1,7 @@
 use Rattle.std.proofs.Common.{rules, ◌≡◌, ℕ, ◌<◌, false, true, List, ◌∷◌, ◌++◌, length, drop, set, get_or, slice_get, Some, sym, ap, ◌∙◌, arith, IsTrue, ◌↔◌, Bool, if◌then◌else◌}
 use Rattle.std.proofs.lemmas.Bool.{false≢true}
 use Rattle.std.proofs.lemmas.List.{get_or_default, get_or-set_same, get_or-set_other}
-use Rattle.bforest_core.specs.Content.{with_child}
+use Rattle.bforest_nodes.specs.Content.{with_child}
 use Rattle.bforest_core.specs.Table.{Table, with_node}
 use Rattle.bforest_core.specs.Place.{inner_content, entry_keys, entry_items}
 use Rattle.bforest_core.proofs.Tables.{is_used, puts, with_node_here}

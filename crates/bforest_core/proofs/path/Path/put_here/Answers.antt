@@ -1,7 +1,7 @@
 use Rattle.std.proofs.Common.{rules, ◌≡◌, ℕ, ◌<◌, false, true, List, ◌∷◌, ◌++◌, length, get_or, slice_get, Some, sym, ap, ◌∙◌, arith, IsTrue, ◌↔◌, Bool, if◌then◌else◌, length-append}
 use Rattle.std.proofs.lemmas.Bool.{false≢true}
 use Rattle.std.proofs.lemmas.List.{get_or_default}
-use Rattle.bforest_core.specs.Content.{with_entry}
+use Rattle.bforest_nodes.specs.Content.{with_entry}
 use Rattle.bforest_core.specs.Table.{Table, with_node}
 use Rattle.bforest_core.specs.Place.{leaf_content, entry_keys, entry_items}
 use Rattle.bforest_core.proofs.Tables.{is_used, puts, with_node_here}

@@ -1,6 +1,6 @@
 use Rattle.std.proofs.Common.{rules, ◌≡◌, ℕ, ◌+◌, ◌-◌, ◌<◌, ◌∷◌, ◌++◌, length, slice_get, sym, ap, subst, ◌∙◌, arith}
 use Rattle.std.proofs.lemmas.Bool.{false≢true}
-use Rattle.bforest_core.specs.Content.{IsInner, entry_count, children_of}
+use Rattle.bforest_nodes.specs.Content.{IsInner, entry_count, children_of}
 use Rattle.bforest_core.specs.Levels.{flat}
 use Rattle.bforest_core.specs.Descent.{Under}
 use Rattle.bforest_core.specs.Place.{inner_content}

@@ -1,7 +1,7 @@
 use Rattle.std.proofs.Common.{◌≡◌, suc, ◌+◌, take, slice_get, Some, refl, sym, ap, ◌∙◌, inl, inr, arith}
 use Rattle.std.specs.List.{flat_map}
 use Rattle.std.proofs.lemmas.Bool.{cases_lt, false≢true}
-use Rattle.bforest_core.specs.Content.{children_of}
+use Rattle.bforest_nodes.specs.Content.{children_of}
 use Rattle.bforest_core.specs.Place.{count}
 use Rattle.bforest_core.proofs.Counts.{named-more, named-slot}
 use Rattle.bforest_core.proofs.pool.NodePool.is_child.Goals as goal

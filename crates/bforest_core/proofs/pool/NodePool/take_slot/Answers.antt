@@ -1,6 +1,6 @@
 use Rattle.std.proofs.Common.{rules, refl, arith, ◌<◌, ◌≡◌, Some, length, sym, ap, ◌∙◌, subst}
 use Rattle.std.proofs.lemmas.Option.{slice_get_read, slice_get_within}
-use Rattle.bforest_core.specs.Content.{Free, IsFree}
+use Rattle.bforest_nodes.specs.Content.{Free, IsFree}
 use Rattle.bforest_core.proofs.Pools.{first_some, front_is_free, IsPool-taken}
 use Rattle.bforest_core.proofs.pool.NodePool.take_slot.Goals as goal
 

@@ -1,7 +1,0 @@
-use Rattle.bforest_core.proofs.comparator.UnitComparator.search.Given as goal
-use Rattle.bforest_core.specs.Search.{count_less}
-use Rattle.std.proofs.Common.{take, ◌≡◌}
-
--- the lesser keys before the index are counted
-abbrev pub invariant-loop-x : goal.invariant-loop-x
-invariant-loop-x g l = l.less ≡ count_less g.K.Ord.cmp (take l.x-index l.s) l.k

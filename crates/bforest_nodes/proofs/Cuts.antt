@@ -1,0 +1,69 @@
+-- Nodes that are cut in two, and joined again.
+use Rattle.std.proofs.Common.{◌≡◌, ℕ, ◌+◌, ◌-◌, ◌<◌, ◌≤◌, suc, List, [], ◌∷◌, ◌++◌, length, take, drop, slice_get, Some, refl, sym, ap, ◌∙◌, arith, append_assoc}
+use Rattle.std.proofs.Math.Seq.{take-append-add}
+use Rattle.std.proofs.lemmas.List.{take-append-drop, length-append, length-take}
+use Rattle.bforest_nodes.proofs.Seams.{around, drop-append-add, front_at, key_at, slice_get-append-add, slice_get-drop}
+use Rattle.bforest_nodes.specs.Content.{Content, Inner, Leaf, Free, IsFree, joined, IsCut, Balances, left_share}
+
+module _ {K V : Type 0} where
+  -- an inner node whose first so many keys end with the separator
+  pub IsCut-inner : (keys front : List K) (children : List ℕ) (key : K) (count : ℕ) → take count keys ≡ front ++ key ∷ [] → length front + 1 ≡ count → IsCut {V = V} (Inner keys children) count (Inner front (take count children)) key (Inner (drop count keys) (drop count children))
+  IsCut-inner keys front children key count e len = record {
+    left_is = ap (λ ks. Inner ks (take count children)) (front_at keys front key count e len);
+    key_is = key_at keys front key count e len;
+    right_is = refl;
+  }
+
+  -- both parts of a cut, joined, are the whole
+  pub joined-cut : (whole left right : Content K V) (key : K) (count : ℕ) → 0 < count → (IsFree whole → ⊥) → IsCut whole count left key right → joined left key right ≡ whole
+  joined-cut (Inner keys children) left right key count some used cut =
+      let seam : suc (count - 1) ≡ count = omega arith in
+      let keys_are : take (count - 1) keys ++ key ∷ drop count keys ≡ keys = rw seam at (around keys (count - 1) key cut.key_is) in
+      rw (cut.left_is, cut.right_is, keys_are, take-append-drop count children)
+  joined-cut (Leaf keys vals) left right key count some used cut =
+      rw (cut.left_is, cut.right_is, take-append-drop count keys, take-append-drop count vals)
+  joined-cut (Free next) left right key count some used cut = absurd (used tt)
+
+  -- the left neighbour takes the first children of the right one
+  pub Balances-inner : (n moved : ℕ) (kl kr new : List K) (cl cr : List ℕ) (crit key : K)
+      → length cl ≡ length kl + 1 → length cr ≡ length kr + 1 → length cr ≤ 8 → length cl < 4 → 8 < length cl + length cr
+      → length cl + moved ≡ left_share (length cl + length cr)
+      → (kl ++ crit ∷ []) ++ take moved kr ≡ new ++ key ∷ []
+      → Balances {V = V} n (Inner kl cl) crit (Inner kr cr) (Some key) (Inner new (cl ++ take moved cr)) (Inner (drop moved kr) (drop moved cr))
+  Balances-inner n moved kl kr new cl cr crit key ls rs most under many count_is e =
+      let count = left_share (length cl + length cr) in
+      let keys = kl ++ crit ∷ kr in
+      let front = kl ++ crit ∷ [] in
+      let keys_are : keys ≡ front ++ kr = sym (append_assoc kl (crit ∷ []) kr) in
+      let place : count ≡ length front + moved = omega (arith, length-append kl (crit ∷ [])) in
+      let child_place : count ≡ length cl + moved = omega arith in
+      let taken : take count keys ≡ new ++ key ∷ [] = rw (keys_are, place) (take-append-add front kr moved ∙ e) in
+      let rest : drop count keys ≡ drop moved kr = rw (keys_are, place) (drop-append-add front kr moved) in
+      let taken_children : take count (cl ++ cr) ≡ cl ++ take moved cr = rw child_place (take-append-add cl cr moved) in
+      let rest_children : drop count (cl ++ cr) ≡ drop moved cr = rw child_place (drop-append-add cl cr moved) in
+      let len : length new + 1 ≡ count = omega (arith, ap length e, length-append new (key ∷ []), length-append front (take moved kr), length-append kl (crit ∷ []), length-take moved kr) in
+      let cut = rw (taken_children, rest, rest_children) at (IsCut-inner keys new (cl ++ cr) key count taken len) in
+      record {
+        merges = λ few. absurd (omega arith);
+        shares = λ _. (key, refl, cut, joined-cut (Inner keys (cl ++ cr)) _ _ key count (omega arith) (λ free. free) cut);
+      }
+
+  -- the left neighbour takes the first entries of the right one
+  pub Balances-leaf : (n moved : ℕ) (kl kr : List K) (vl vr : List V) (crit key : K)
+      → length kl ≡ length vl → length kr ≡ length vr → n < length kl + length kr → 0 < length kr
+      → length kl + moved ≡ left_share (length kl + length kr)
+      → slice_get (drop moved kr) 0 ≡ Some key
+      → Balances n (Leaf kl vl) crit (Leaf kr vr) (Some key) (Leaf (kl ++ take moved kr) (vl ++ take moved vr)) (Leaf (drop moved kr) (drop moved vr))
+  Balances-leaf n moved kl kr vl vr crit key ls rs many some count_is first =
+      let count = left_share (length kl + length kr) in
+      let place : count ≡ length kl + moved = omega arith in
+      let val_place : count ≡ length vl + moved = omega arith in
+      let cut : IsCut (Leaf (kl ++ kr) (vl ++ vr)) count (Leaf (kl ++ take moved kr) (vl ++ take moved vr)) key (Leaf (drop moved kr) (drop moved vr)) = record {
+        left_is = ap (λ ks. Leaf ks (vl ++ take moved vr)) (sym (take-append-add kl kr moved) ∙ ap (λ k. take k (kl ++ kr)) (sym place)) ∙ ap (λ vs. Leaf (take count (kl ++ kr)) vs) (sym (take-append-add vl vr moved) ∙ ap (λ k. take k (vl ++ vr)) (sym val_place));
+        key_is = ap (slice_get (kl ++ kr)) place ∙ slice_get-append-add kl kr moved ∙ sym (slice_get-drop kr moved) ∙ first;
+        right_is = ap (λ ks. Leaf ks (drop moved vr)) (sym (drop-append-add kl kr moved) ∙ ap (λ k. drop k (kl ++ kr)) (sym place)) ∙ ap (λ vs. Leaf (drop count (kl ++ kr)) vs) (sym (drop-append-add vl vr moved) ∙ ap (λ k. drop k (vl ++ vr)) (sym val_place));
+      } in
+      record {
+        merges = λ few. absurd (omega arith);
+        shares = λ _. (key, refl, cut, joined-cut (Leaf (kl ++ kr) (vl ++ vr)) _ _ key count (omega arith) (λ free. free) cut);
+      }

@@ -1,0 +1,10 @@
+pub mod Searched
+pub mod Found
+pub mod Ordered
+pub mod Lookups
+pub mod Seams
+pub mod Rows
+pub mod Cuts
+mod ArrayMemory
+mod Prefixes
+mod States

@@ -1,0 +1,90 @@
+-- What a binary search finds among keys that increase.
+use Rattle.std.proofs.Common.{◌≡◌, ℕ, zero, suc, ◌+◌, ◌<◌, ◌≤◌, Bool, true, false, cond, List, [], ◌∷◌, length, refl, sym, ap, subst, ◌∙◌, arith, Result, Ok, Err, get_or, ⊎_elim, if◌then◌else◌}
+use borrow.Author.Tests.{ltb-true, ltb-false}
+use lib.Dec.{ltb}
+use Rattle.std.specs.Option.{option_map_or}
+use Rattle.std.proofs.lemmas.Bool.{cases_Bool}
+use Rattle.std.proofs.lemmas.Option.{slice_get-get_or, slice_get_past}
+use Rattle.std.proofs.lemmas.List.Sorted.{searchable_from_sorted}
+use Rattle.std.specs.declared.cmp.Ordering.{Ordering}
+use Rattle.std.specs.declared.cmp.Ordering.TheVariants.{Less, Equal, Greater}
+use Rattle.std.specs.Ordering.{is_lt, is_eq, is_gt, ordering_reverse, ordering_index}
+use Rattle.std.specs.List.Sorted.{IsStrictlySortedBy, IsBinarySearchResult, IsSearchInRange, IsNonDecreasingBy}
+use Rattle.std.specs.Cmp.{IsTotalOrder}
+use Rattle.std.proofs.lemmas.Cmp.{alike_right}
+use Rattle.std.proofs.lemmas.List.Sums.{sum_by-cons}
+use Rattle.std.proofs.lemmas.Map.Keys.{Less-from_sorted}
+use Rattle.bforest_nodes.specs.Search.{count_less, is_equal_at, search_of}
+
+module _ {K : Type 0} (cmp : K → K → Ordering) where
+  -- a first key that is less counts
+  pub count_less-yes : (x : K) (xs : List K) (k : K) → is_lt (cmp x k) ≡ true → count_less cmp (x ∷ xs) k ≡ suc (count_less cmp xs k)
+  count_less-yes x xs k h = sum_by-cons (λ y. cond (is_lt (cmp y k)) 1 0) x xs ∙ ap (λ b. cond b 1 0 + count_less cmp xs k) h ∙ omega arith
+
+  -- and another does not
+  pub count_less-no : (x : K) (xs : List K) (k : K) → is_lt (cmp x k) ≡ false → count_less cmp (x ∷ xs) k ≡ count_less cmp xs k
+  count_less-no x xs k h = sum_by-cons (λ y. cond (is_lt (cmp y k)) 1 0) x xs ∙ ap (λ b. cond b 1 0 + count_less cmp xs k) h ∙ omega arith
+
+  -- the first i keys are less and the others are not
+  pub count_less-from_parts : (ks : List K) (k : K) (i : ℕ) → i ≤ length ks → ((j : ℕ) (d : K) → j < i → is_lt (cmp (get_or ks j d) k) ≡ true) → ((j : ℕ) (d : K) → i ≤ j → j < length ks → is_lt (cmp (get_or ks j d) k) ≡ false) → count_less cmp ks k ≡ i
+  count_less-from_parts [] k i le low high = omega arith
+  count_less-from_parts (x ∷ xs) k zero le low high = count_less-no x xs k (high 0 x (omega arith) (omega arith)) ∙ count_less-from_parts xs k zero (omega arith) (λ j d h. absurd (omega arith)) (λ j d h g. high (suc j) d (omega arith) (omega arith))
+  count_less-from_parts (x ∷ xs) k (suc i) le low high = count_less-yes x xs k (low 0 x (omega arith)) ∙ ap suc (count_less-from_parts xs k i (omega arith) (λ j d h. low (suc j) d (omega arith)) (λ j d h g. high (suc j) d (omega arith) (omega arith)))
+
+  module _ (o : IsTotalOrder cmp) (ks : List K) (k : K) (sorted : IsStrictlySortedBy cmp ks) where
+    -- before a key that is not greater all are less
+    before : (i j : ℕ) (d : K) → j < i → i < length ks → is_gt (cmp (get_or ks i d) k) ≡ false → is_lt (cmp (get_or ks j d) k) ≡ true
+    before i j d lt within h = go (cmp (get_or ks i d) k) refl h
+      where
+        go : (r : Ordering) → cmp (get_or ks i d) k ≡ r → is_gt r ≡ false → is_lt (cmp (get_or ks j d) k) ≡ true
+        go Less e h = ap is_lt (o.trans _ _ _ (Less-from_sorted cmp ks j i d sorted lt within) e)
+        go Equal e h = ap is_lt (sym (alike_right o _ _ (get_or ks j d) e) ∙ Less-from_sorted cmp ks j i d sorted lt within)
+        go Greater e h = absurd (cc)
+
+    -- after one that is not less all are not less
+    after : (i j : ℕ) (d : K) → i < j → j < length ks → is_lt (cmp (get_or ks i d) k) ≡ false → is_lt (cmp (get_or ks j d) k) ≡ false
+    after i j d lt within h = go (cmp (get_or ks j d) k) refl
+      where
+        go : (r : Ordering) → cmp (get_or ks j d) k ≡ r → is_lt (cmp (get_or ks j d) k) ≡ false
+        go Less e = let bad : cmp (get_or ks i d) k ≡ Less = o.trans _ _ _ (Less-from_sorted cmp ks i j d sorted lt within) e in let no : is_lt (cmp (get_or ks i d) k) ≡ true = ap is_lt bad in absurd (cc)
+        go Equal e = ap is_lt e
+        go Greater e = ap is_lt e
+
+    -- the same from it on
+    not_before : (i j : ℕ) (d : K) → i ≤ j → j < length ks → is_lt (cmp (get_or ks i d) k) ≡ false → is_lt (cmp (get_or ks j d) k) ≡ false
+    not_before i j d le within h = ⊎_elim
+        (λ t. after i j d (ltb-true i j t) within h)
+        (λ t. let e : i ≡ j = omega (arith, ltb-false i j t) in subst (λ n. is_lt (cmp (get_or ks n d) k) ≡ false) e h)
+        (cases_Bool (ltb i j))
+
+    -- the answers rise along the keys
+    rises : IsNonDecreasingBy (λ y. ordering_index (cmp y k)) ks
+    rises = searchable_from_sorted o (λ y. y) ks k (λ j d low within. let e = Less-from_sorted cmp ks j (j + 1) d sorted (omega arith) within in ap is_lt (o.antisymm _ _ ∙ ap ordering_reverse e))
+
+    -- a count, and whether the key there compares equal, make the answer
+    by_test : (i : ℕ) (b : Bool) → count_less cmp ks k ≡ i → is_equal_at cmp ks k i ≡ b → search_of cmp ks k ≡ (if b then Ok i else Err i)
+    by_test i b e h = λ j. if both j then Ok (e j) else Err (e j)
+      where
+        both : is_equal_at cmp ks k (count_less cmp ks k) ≡ b
+        both = ap (is_equal_at cmp ks k) e ∙ h
+
+    -- whether the key inside the list compares equal
+    test_at : (i : ℕ) (b : Bool) → i < length ks → is_eq (cmp (get_or ks i k) k) ≡ b → is_equal_at cmp ks k i ≡ b
+    test_at i b within h = ap (λ t. option_map_or (λ x. is_eq (cmp x k)) t false) (slice_get-get_or ks i k within) ∙ h
+
+    -- a binary search's answer
+    pub searched : (r : Result ℕ ℕ) → IsSearchInRange r (length ks) → IsBinarySearchResult (λ y. cmp y k) ks r → r ≡ search_of cmp ks k
+    searched (Ok i) within h =
+        let count : count_less cmp ks k ≡ i = count_less-from_parts ks k i (omega arith)
+        (λ j d lt. before i j d lt within (ap is_gt (h d)))
+        (λ j d le in_list. not_before i j d le in_list (ap is_lt (h d))) in
+        sym (by_test i true count (test_at i true within (ap is_eq (h k))))
+    searched (Err i) within h =
+        let p = h rises in
+        let count : count_less cmp ks k ≡ i = count_less-from_parts ks k i within
+        (λ j d lt. ap is_lt (p.0 j d (omega arith) lt))
+        (λ j d le in_list. ap is_lt (p.1 j d le in_list)) in
+        sym (by_test i false count (⊎_elim
+        (λ t. test_at i false (ltb-true i (length ks) t) (ap is_eq (p.1 i k (omega arith) (ltb-true i (length ks) t))))
+        (λ t. ap (λ o. option_map_or (λ x. is_eq (cmp x k)) o false) (slice_get_past ks i (ltb-false i (length ks) t)))
+        (cases_Bool (ltb i (length ks)))))

@@ -1,0 +1,23 @@
+use Rattle.std.proofs.Common.{arith, rules, ◌≡◌, ◌+◌, ◌-◌, ◌≤◌, ℕ, length, take, sym, ◌∙◌}
+use Rattle.bforest_nodes.proofs.Cuts.{Balances-inner}
+use Rattle.bforest_nodes.proofs.Rows.{last_front}
+use Rattle.bforest_nodes.proofs.node.NodeData.balance_inner.Goals as goal
+
+pub returns : goal.returns
+returns g c =
+    let b = c.in-Branch-Branch in
+    let left = rw b.is-0 at c.self.view_is in
+    let right = rw b.is-1 at c.rhs.view_is in
+    let keys_len : length (take b.size b.keys.items) ≡ b.size = search rules in
+    let right_len : length (take b.right_size b.right_keys.items) ≡ b.right_size = search rules in
+    let tree_len : length (take (b.size + 1) b.tree.items) ≡ b.size + 1 = search rules in
+    let right_tree_len : length (take (b.right_size + 1) b.right_tree.items) ≡ b.right_size + 1 = search rules in
+    let under = rw (← left) at c.requires.underflowed in
+    let fits : b.right_size ≤ 7 = (rw b.is-1 at c.rhs.invariant).1 in
+    let moved : ℕ = c.div_ceil.result - (b.size + 1) in
+    let few : moved ≤ b.right_size = omega (arith, under) in
+    let behind : b.size + moved + 1 ≡ b.size + 1 + moved = omega arith in
+    let rest : b.right_size - moved + 1 ≡ b.right_size + 1 - moved = omega arith in
+    let whole = sym (rw c.push.ensures at c.append.ensures) ∙ last_front _ _ _ _ (omega arith) c.at.ensures in
+    rw (← left, ← right, behind, rest, c.append-in-Branch-Branch.ensures, c.remove_front.ensures, c.remove_front-in-Branch-Branch.ensures)
+    (Balances-inner _ _ _ _ _ _ _ _ _ (omega arith) (omega arith) (omega (arith, fits)) (omega arith) (omega arith) (omega (arith, under)) whole)

@@ -1,0 +1,19 @@
+use Rattle.std.proofs.Common.{arith, rules, ◌≡◌, length, take}
+use Rattle.bforest_nodes.proofs.Cuts.{Balances-leaf}
+use Rattle.bforest_nodes.proofs.node.NodeData.balance_leaf.Goals as goal
+
+pub returns : goal.returns
+returns g c =
+    let b = c.in-Entries-Entries in
+    let l = b.field-0-0 in
+    let r = b.field-0-1 in
+    let left = rw b.is-0 at c.self.view_is in
+    let right = rw b.is-1 at c.rhs.view_is in
+    let keys_len : length (take l.size l.keys.items) ≡ l.size = search rules in
+    let right_len : length (take r.size r.keys.items) ≡ r.size = search rules in
+    let vals_len : length (take l.size l.vals.items) ≡ l.size = search rules in
+    let right_vals_len : length (take r.size r.vals.items) ≡ r.size = search rules in
+    let under = rw (← left) at c.requires.underflowed in
+    let some = rw (← right) at c.requires.rhs_filled in
+    rw (← left, ← right, c.append.ensures, c.append-in-Entries-Entries.ensures, c.remove_front.ensures, c.remove_front-in-Entries-Entries.ensures)
+    (Balances-leaf _ _ _ _ _ _ _ _ (omega (arith, keys_len, vals_len)) (omega (arith, right_len, right_vals_len)) (omega (arith, keys_len, right_len)) (omega (arith, some)) (omega (arith, under, keys_len, right_len)) (rw c.remove_front.ensures at c.at.ensures))

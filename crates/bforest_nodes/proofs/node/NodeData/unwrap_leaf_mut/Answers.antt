@@ -1,0 +1,25 @@
+use Rattle.std.proofs.Common.{◌≡◌, ◌≤◌, length, take, refl, sym, ap, ◌∙◌, arith, rules}
+use Rattle.std.proofs.lemmas.List.{length-take-le}
+use Rattle.bforest_nodes.specs.Content.{Leaf}
+use Rattle.bforest_nodes.proofs.Prefixes.{over_front}
+use Rattle.bforest_nodes.proofs.node.NodeData.unwrap_leaf_mut.Goals as goal
+
+pub returns : goal.returns
+returns g c =
+    let e = c.in-Entries.entries in
+    let keys = e.keys.items in
+    let vals = e.vals.items in
+    let fits = (rw c.in-Entries.is at c.self.invariant).1 in
+    let keys_room : e.size ≤ length keys = search rules in
+    let vals_room : e.size ≤ length vals = search rules in
+    let keys_count = length-take-le e.size keys keys_room in
+    let vals_count = length-take-le e.size vals vals_room in
+    let keys_read : c.parts_mut.result.0.now ≡ take e.size keys = rw c.in-Entries.is at c.parts_mut.ensures.keys in
+    let vals_read : c.parts_mut.result.1.now ≡ take e.size vals = rw c.in-Entries.is at c.parts_mut.ensures.vals in (
+      (refl, λ w. rw (← c.self.view_is, c.in-Entries.is) (ap (Leaf (take e.size keys)) (over_front e.size vals w vals_room))),
+      record {
+        writes_back = tt;
+        value = rw (← c.self.view_is, c.in-Entries.is) (λ i. Leaf (sym keys_read i) (sym vals_read i));
+        shape = rw (← c.self.view_is, c.in-Entries.is) (keys_count ∙ sym vals_count, omega arith);
+      },
+    )

@@ -1,0 +1,569 @@
+//! What a node holds: the children of an inner node, the entries of a leaf, or the next free slot.
+ghost use Rattle.bforest_nodes.specs.Content.{Balances, Free, HasShape, Inner, IsCut, IsFree, IsInner, IsLeaf, IsLeafCapacity, IsSameKind, Leaf, children_of, entry_capacity, entry_count, joined, keys_of, left_half, removed_answer, vals_of, with_child, with_entry, with_key, without_child, without_entry};
+ghost use Rattle.std.specs.Borrow.{sem};
+ghost use Rattle.std.specs.Prelude.{IfOk, IsTrue, None, Some, Ok, [], if◌then◌else◌, length, nat_le, slice_get, ◌*◌, ◌+◌, ◌-◌, ◌/◌, ◌<◌, ◌^◌, ◌↔◌, ◌∷◌, ◌≡◌, ◌≤◌};
+
+use crate::entries::Entries;
+use crate::number::{Node, PackedNode};
+use crate::row::Row;
+use std::alloc::{AllocError, Global};
+use std::marker::Model;
+
+/// How many children an inner node has at most.
+const INNER_SIZE: usize = 8;
+
+/// How a node stands after one of its children or entries was removed, by how many are left and how many it can hold.
+#[derive(Clone, Copy, Debug, PartialEq, Eq)]
+pub enum Removed {
+    /// At least half full, and the removed one was not the last.
+    Healthy,
+    /// At least half full, and the removed one was the last.
+    Rightmost,
+    /// Less than half full, and not empty: the node wants balancing with its right neighbour.
+    Underflow,
+    /// None is left.
+    Empty,
+}
+
+/// What `split` made: how many children or entries each half has, and the key between them.
+#[derive(Drop)]
+pub struct SplitOff<K> {
+    /// Of the left half.
+    pub lhs_entries: usize,
+    /// Of the right half.
+    pub rhs_entries: usize,
+    /// The first key of a leaf's right half; of an inner node the key between the halves, which is in neither.
+    pub crit_key: K,
+}
+
+// How the entries lie in a node: the size counts keys, of which an inner node has one less than children.
+#[derive(Drop)]
+enum State<K, V, const N: usize> {
+    Branch(u8, Row<K, 7>, Row<Node, 8>),
+    Entries(Entries<K, V, N>),
+    Vacant(PackedNode),
+}
+
+/// A node of a B+-tree, or a free slot. `N` is how many entries a leaf can hold: an odd number from 3 to 255. An inner node has 1 to 8
+/// children and one key fewer.
+///
+/// The entries lie inline, so that no call on a node takes memory or gives it back. No call compares keys. What a call costs is at most a
+/// move of a node's entries within it, and for `split` and `balance` a move of entries to the other node.
+#[derive(Drop)]
+pub struct NodeData<K, V, const N: usize> {
+    state: State<K, V, N>,
+}
+
+impl<K, V, const N: usize> Model for NodeData<K, V, N> {
+    ghost use Rattle.bforest_nodes.specs.Content.{Content, IsLeafCapacity};
+
+    ghost Value = { Content K V };
+
+    ghost use Rattle.bforest_nodes.specs.Layout.{Fits, content_of};
+
+    ghost view = { λ a. content_of a.state };
+
+    ghost invariant = { λ a. IsLeafCapacity N × Fits a.state };
+}
+
+impl<K: Copy, V: Copy, const N: usize> NodeData<K, V, N> {
+    ghost use Rattle.bforest_nodes.specs.LendingNode.{lends_vals, lends_value};
+
+    /// A free node with no next one. It takes no memory and always succeeds, since the room for the entries is the node's own.
+    pub fn new(_alloc: Global) -> Result<Self, AllocError>
+        requires capacity { IsLeafCapacity N }
+        ensures ok { result ≡ Ok (Free None) }
+    {
+        Ok(NodeData {
+            state: State::Vacant(PackedNode::none()),
+        })
+    }
+
+    /// Whether the slot is free.
+    pub fn is_free(&self) -> bool
+        ensures free { IsTrue result ↔ IsFree self.now }
+    {
+        matches!(self.state, State::Vacant(_))
+    }
+
+    /// Whether it is an inner node.
+    pub fn is_inner(&self) -> bool
+        ensures inner { IsTrue result ↔ IsInner self.now }
+    {
+        matches!(self.state, State::Branch(_, _, _))
+    }
+
+    /// The number of children of an inner node, or of entries of a leaf.
+    pub fn entries(&self) -> usize
+        requires used { ¬ IsFree self.now }
+        ensures value { result ≡ entry_count self.now }
+        ensures shape { HasShape N self.now }
+    {
+        match &self.state {
+            State::Branch(size, keys, tree) => {
+                let _keys = keys.front(*size as usize);
+                tree.front(*size as usize + 1).len()
+            }
+            State::Entries(Entries { size, keys, vals }) => {
+                let _vals = vals.front(*size as usize);
+                keys.front(*size as usize).len()
+            }
+            State::Vacant(_) => unreachable!(),
+        }
+    }
+
+    /// Whether an inner node has 8 children, or a leaf `N` entries.
+    pub fn is_full(&self) -> bool
+        requires used { ¬ IsFree self.now }
+        ensures full { IsTrue result ↔ (entry_count self.now ≡ entry_capacity N self.now) }
+    {
+        match &self.state {
+            State::Branch(size, _, tree) => tree.front(*size as usize + 1).len() == INNER_SIZE,
+            State::Entries(Entries { size, keys, .. }) => keys.front(*size as usize).len() == N,
+            State::Vacant(_) => unreachable!(),
+        }
+    }
+
+    // Becomes a free node, before this one in the chain.
+    pub fn make_free(&mut self, next: PackedNode)
+        ensures { self.new ≡ Free next }
+    {
+        self.state = State::Vacant(next);
+    }
+
+    // The node after this free one in the chain.
+    pub fn next_free(&self) -> PackedNode
+        requires { IsFree self.now }
+        ensures { self.now ≡ Free result }
+    {
+        match &self.state {
+            State::Vacant(next) => *next,
+            _ => unreachable!(),
+        }
+    }
+
+    /// Becomes an inner node of two children, whatever it held.
+    pub fn inner(&mut self, left: Node, key: K, right: Node)
+        ensures node { self.new ≡ Inner (key ∷ []) (left ∷ right ∷ []) }
+    {
+        let mut tree = Row { items: [right; 8] };
+        tree.items[0] = left;
+        self.state = State::Branch(1, Row { items: [key; 7] }, tree);
+    }
+
+    /// Becomes a leaf of one entry, whatever it held.
+    pub fn leaf(&mut self, key: K, value: V)
+        ensures node { self.new ≡ Leaf (key ∷ []) (value ∷ []) }
+    {
+        self.state = State::Entries(Entries {
+            size: 1,
+            keys: Row { items: [key; N] },
+            vals: Row { items: [value; N] },
+        });
+    }
+
+    /// The keys and the children of an inner node.
+    pub fn unwrap_inner(&self) -> (&[K], &[Node])
+        requires inner { IsInner self.now }
+        ensures value { self.now ≡ Inner result.0.now result.1.now }
+        ensures shape { HasShape N self.now }
+    {
+        match &self.state {
+            State::Branch(size, keys, tree) => {
+                (keys.front(*size as usize), tree.front(*size as usize + 1))
+            }
+            _ => unreachable!(),
+        }
+    }
+
+    /// The keys and the values of a leaf.
+    pub fn unwrap_leaf(&self) -> (&[K], &[V])
+        requires leaf { IsLeaf self.now }
+        ensures value { self.now ≡ Leaf result.0.now result.1.now }
+        ensures shape { HasShape N self.now }
+    {
+        match &self.state {
+            State::Entries(Entries { size, keys, vals }) => {
+                (keys.front(*size as usize), vals.front(*size as usize))
+            }
+            _ => unreachable!(),
+        }
+    }
+
+    /// The value of a leaf's entry, for writing.
+    pub fn value_mut(&mut self, index: usize) -> &mut V
+        requires leaf { IsLeaf self.old }
+        requires within { index < entry_count self.old }
+        ensures* writes_back { sem 𝓛 (lends_value K.row V.row N.row self.entry index result) }
+        ensures value { slice_get (vals_of self.old) index ≡ Some result.now }
+    {
+        match &mut self.state {
+            State::Entries(entries) => entries.vals.at_mut(index),
+            _ => unreachable!(),
+        }
+    }
+
+    /// The keys of a leaf, and its values for writing.
+    pub fn unwrap_leaf_mut(&mut self) -> (&[K], &mut [V])
+        requires { IsLeaf self.old }
+        ensures* writes_back { sem 𝓛 (lends_vals K.row V.row N.row self.entry result.1) }
+        ensures value { self.old ≡ Leaf result.0.now result.1.now }
+        ensures shape { HasShape N self.old }
+    {
+        match &mut self.state {
+            State::Entries(entries) => entries.parts_mut(),
+            _ => unreachable!(),
+        }
+    }
+
+    /// The child of an inner node at `index`.
+    pub fn child(&self, index: usize) -> Node
+        requires inner { IsInner self.now }
+        requires within { index < entry_count self.now }
+        ensures child { slice_get (children_of self.now) index ≡ Some result }
+    {
+        match &self.state {
+            State::Branch(size, _, tree) => tree.at(*size as usize + 1, index),
+            _ => unreachable!(),
+        }
+    }
+
+    /// The key between the children of an inner node at `index` and at `index + 1`.
+    pub fn separator(&self, index: usize) -> K
+        requires inner { IsInner self.now }
+        requires within { index < length (keys_of self.now) }
+        ensures key { slice_get (keys_of self.now) index ≡ Some result }
+    {
+        match &self.state {
+            State::Branch(size, keys, _) => keys.at(*size as usize, index),
+            _ => unreachable!(),
+        }
+    }
+
+    /// The key and the value of a leaf's entry.
+    pub fn entry(&self, index: usize) -> (K, V)
+        requires leaf { IsLeaf self.now }
+        requires within { index < entry_count self.now }
+        ensures key { slice_get (keys_of self.now) index ≡ Some result.0 }
+        ensures value { slice_get (vals_of self.now) index ≡ Some result.1 }
+    {
+        match &self.state {
+            State::Entries(Entries { size, keys, vals }) => {
+                let len = *size as usize;
+                (keys.at(len, index), vals.at(len, index))
+            }
+            _ => unreachable!(),
+        }
+    }
+
+    /// Writes the key between the children of an inner node at `index` and at `index + 1`.
+    pub fn set_separator(&mut self, index: usize, key: K)
+        requires inner { IsInner self.old }
+        requires within { index < length (keys_of self.old) }
+        ensures node { self.new ≡ with_key self.old index key }
+    {
+        match &mut self.state {
+            State::Branch(size, keys, _) => keys.set(*size as usize, index, key),
+            _ => unreachable!(),
+        }
+    }
+
+    /// The first key of a leaf, which separates it from its left neighbour.
+    pub fn leaf_crit_key(&self) -> K
+        requires leaf { IsLeaf self.now }
+        requires filled { 0 < entry_count self.now }
+        ensures key { slice_get (keys_of self.now) 0 ≡ Some result }
+    {
+        match &self.state {
+            State::Entries(Entries { size, keys, .. }) => keys.at(*size as usize, 0),
+            _ => unreachable!(),
+        }
+    }
+
+    /// Puts the entry in at `index`. Where the leaf has `N` entries it answers false, and the leaf is unchanged.
+    pub fn try_leaf_insert(&mut self, index: usize, key: K, value: V) -> bool
+        requires leaf { IsLeaf self.old }
+        requires within { index ≤ entry_count self.old }
+        ensures room { IsTrue result ↔ (entry_count self.old < N) }
+        ensures node { self.new ≡ (if result then with_entry self.old index key value else self.old) }
+    {
+        match &mut self.state {
+            State::Entries(Entries { size, keys, vals }) => {
+                let len = *size as usize;
+                if len >= N {
+                    return false;
+                }
+                keys.insert(len, index, key);
+                vals.insert(len, index, value);
+                *size = (len + 1) as u8;
+                true
+            }
+            _ => unreachable!(),
+        }
+    }
+
+    /// Puts the key in at `index`, and the node behind it at `index + 1`. Where there are 8 children it answers false, and the node is
+    /// unchanged.
+    pub fn try_inner_insert(&mut self, index: usize, key: K, node: Node) -> bool
+        requires inner { IsInner self.old }
+        requires within { index ≤ length (keys_of self.old) }
+        ensures room { IsTrue result ↔ (entry_count self.old < 8) }
+        ensures node { self.new ≡ (if result then with_child self.old index key node else self.old) }
+    {
+        match &mut self.state {
+            State::Branch(size, keys, tree) => {
+                let len = *size as usize;
+                if len >= INNER_SIZE - 1 {
+                    return false;
+                }
+                keys.insert(len, index, key);
+                tree.insert(len + 1, index + 1, node);
+                *size = (len + 1) as u8;
+                true
+            }
+            _ => unreachable!(),
+        }
+    }
+
+    /// Takes out the child at `index` and the key before it, which for the first child is the first key. With a single child it answers
+    /// `Empty` and leaves the node as it was.
+    pub fn inner_remove(&mut self, index: usize) -> Removed
+        requires inner { IsInner self.old }
+        requires within { index < entry_count self.old }
+        ensures answer { result ≡ removed_answer 8 index (entry_count self.old - 1) }
+        ensures node { self.new ≡ without_child self.old index }
+    {
+        match &mut self.state {
+            State::Branch(size, keys, tree) => {
+                let left = *size as usize;
+                if left > 0 {
+                    tree.remove(left + 1, index);
+                    keys.remove(left, index.saturating_sub(1));
+                    *size = (left - 1) as u8;
+                }
+                answer_of(index, left, INNER_SIZE)
+            }
+            _ => unreachable!(),
+        }
+    }
+
+    /// Takes out the entry at `index`.
+    pub fn leaf_remove(&mut self, index: usize) -> Removed
+        requires leaf { IsLeaf self.old }
+        requires within { index < entry_count self.old }
+        ensures answer { result ≡ removed_answer N index (entry_count self.old - 1) }
+        ensures node { self.new ≡ without_entry self.old index }
+    {
+        match &mut self.state {
+            State::Entries(Entries { size, keys, vals }) => {
+                let len = *size as usize;
+                keys.remove(len, index);
+                vals.remove(len, index);
+                *size = (len - 1) as u8;
+                answer_of(index, len - 1, N)
+            }
+            _ => unreachable!(),
+        }
+    }
+
+    /// Halves a full node, at which an insertion at `insert_index` had no room. The right half goes to `rhs`, whatever that held.
+    ///
+    /// A leaf keeps `N / 2` entries where the insertion index is at most `N / 2`, else one more, so that both halves have `(N + 1) / 2`
+    /// once the insertion is made. An inner node keeps four children, four go to the right, and the key between these stays in neither.
+    pub fn split(&mut self, insert_index: usize, rhs: &mut Self) -> SplitOff<K>
+        requires used { ¬ IsFree self.old }
+        requires full { entry_count self.old ≡ entry_capacity N self.old }
+        ensures left_entries { result.lhs_entries ≡ left_half N self.old insert_index }
+        ensures all_entries { result.lhs_entries + result.rhs_entries ≡ entry_count self.old }
+        ensures cut { IsCut self.old result.lhs_entries self.new result.crit_key rhs.new }
+        ensures rejoins { joined self.new result.crit_key rhs.new ≡ self.old }
+    {
+        if self.is_inner() {
+            self.split_inner(rhs)
+        } else {
+            self.split_leaf(insert_index, rhs)
+        }
+    }
+
+    // Cuts a full inner node behind its first four children.
+    fn split_inner(&mut self, rhs: &mut Self) -> SplitOff<K>
+        requires inner { IsInner self.old }
+        requires full { entry_count self.old ≡ 8 }
+        ensures left_entries { result.lhs_entries ≡ 4 }
+        ensures right_entries { result.rhs_entries ≡ 4 }
+        ensures cut { IsCut self.old 4 self.new result.crit_key rhs.new }
+    {
+        match &mut self.state {
+            State::Branch(size, keys, tree) => {
+                let len = *size as usize;
+                rhs.state = State::Branch(
+                    (len - 4) as u8,
+                    keys.tail(len, 4),
+                    tree.tail(len + 1, 4),
+                );
+                *size = 3;
+                SplitOff {
+                    lhs_entries: 4,
+                    rhs_entries: len - 3,
+                    crit_key: keys.at(len, 3),
+                }
+            }
+            _ => unreachable!(),
+        }
+    }
+
+    // Cuts a full leaf, at which an insertion at `insert_index` had no room.
+    fn split_leaf(&mut self, insert_index: usize, rhs: &mut Self) -> SplitOff<K>
+        requires leaf { IsLeaf self.old }
+        requires full { entry_count self.old ≡ N }
+        ensures left_entries { result.lhs_entries ≡ left_half N self.old insert_index }
+        ensures some { 0 < result.lhs_entries }
+        ensures all_entries { result.lhs_entries + result.rhs_entries ≡ entry_count self.old }
+        ensures cut { IsCut self.old result.lhs_entries self.new result.crit_key rhs.new }
+    {
+        match &mut self.state {
+            State::Entries(Entries { size, keys, vals }) => {
+                let len = *size as usize;
+                let half = left_half_of(len, insert_index);
+                rhs.state = State::Entries(Entries {
+                    size: (len - half) as u8,
+                    keys: keys.tail(len, half),
+                    vals: vals.tail(len, half),
+                });
+                *size = half as u8;
+                SplitOff {
+                    lhs_entries: half,
+                    rhs_entries: len - half,
+                    crit_key: keys.at(len, half),
+                }
+            }
+            _ => unreachable!(),
+        }
+    }
+
+    /// Balances an underflowed node with its right neighbour, from which `crit_key` separates it, and answers the key that separates them
+    /// afterwards.
+    ///
+    /// Where one node can hold everything, all goes to the right one and the answer is `None`; what the left one holds then is left open.
+    /// Otherwise the right one gets half, rounded down, and the left one the rest.
+    pub fn balance(&mut self, crit_key: K, rhs: &mut Self) -> Option<K>
+        requires kind { IsSameKind self.old rhs.old }
+        requires filled { 0 < entry_count self.old }
+        requires rhs_filled { 0 < entry_count rhs.old }
+        requires underflowed { 2 * entry_count self.old < entry_capacity N self.old }
+        ensures balanced { Balances N self.old crit_key rhs.old result self.new rhs.new }
+    {
+        if self.is_inner() {
+            self.balance_inner(crit_key, rhs)
+        } else {
+            self.balance_leaf(crit_key, rhs)
+        }
+    }
+
+    // Balances two inner nodes.
+    fn balance_inner(&mut self, crit_key: K, rhs: &mut Self) -> Option<K>
+        requires inner { IsInner self.old }
+        requires rhs_inner { IsInner rhs.old }
+        requires filled { 0 < entry_count self.old }
+        requires rhs_filled { 0 < entry_count rhs.old }
+        requires underflowed { entry_count self.old < 4 }
+        ensures { Balances N self.old crit_key rhs.old result self.new rhs.new }
+    {
+        match (&mut self.state, &mut rhs.state) {
+            (State::Branch(size, keys, tree), State::Branch(right_size, right_keys, right_tree)) =>
+                {
+                    let len = *size as usize;
+                    let right_len = *right_size as usize;
+                    keys.push(len, crit_key);
+                    if len + right_len + 2 <= INNER_SIZE {
+                        right_keys.put_before(right_len, keys, len + 1);
+                        right_tree.put_before(right_len + 1, tree, len + 1);
+                        *right_size = (len + right_len + 1) as u8;
+                        return None;
+                    }
+                    let moved = (len + right_len + 2).div_ceil(2) - (len + 1);
+                    keys.append(len + 1, right_keys, right_len, moved);
+                    tree.append(len + 1, right_tree, right_len + 1, moved);
+                    right_keys.remove_front(right_len, moved);
+                    right_tree.remove_front(right_len + 1, moved);
+                    *size = (len + moved) as u8;
+                    *right_size = (right_len - moved) as u8;
+                    Some(keys.at(len + 1 + moved, len + moved))
+                }
+            _ => unreachable!(),
+        }
+    }
+
+    // Balances two leaves.
+    fn balance_leaf(&mut self, crit_key: K, rhs: &mut Self) -> Option<K>
+        requires leaf { IsLeaf self.old }
+        requires rhs_leaf { IsLeaf rhs.old }
+        requires rhs_filled { 0 < entry_count rhs.old }
+        requires underflowed { 2 * entry_count self.old < N }
+        ensures { Balances N self.old crit_key rhs.old result self.new rhs.new }
+    {
+        let _crit_key = crit_key;
+        match (&mut self.state, &mut rhs.state) {
+            (
+                State::Entries(Entries { size, keys, vals }),
+                State::Entries(
+                    Entries {
+                        size: right_size,
+                        keys: right_keys,
+                        vals: right_vals,
+                    },
+                ),
+            ) => {
+                let len = *size as usize;
+                let right_len = *right_size as usize;
+                if len + right_len <= N {
+                    right_keys.put_before(right_len, keys, len);
+                    right_vals.put_before(right_len, vals, len);
+                    *right_size = (len + right_len) as u8;
+                    return None;
+                }
+                let moved = (len + right_len).div_ceil(2) - len;
+                keys.append(len, right_keys, right_len, moved);
+                vals.append(len, right_vals, right_len, moved);
+                right_keys.remove_front(right_len, moved);
+                right_vals.remove_front(right_len, moved);
+                *size = (len + moved) as u8;
+                *right_size = (right_len - moved) as u8;
+                Some(right_keys.at(right_len - moved, 0))
+            }
+            _ => unreachable!(),
+        }
+    }
+}
+
+// How a node of this capacity stands with so many entries, after the one at `index` was removed.
+fn answer_of(index: usize, left: usize, most: usize) -> Removed
+    requires { left < 2 ^ 32 }
+    ensures { result ≡ removed_answer most index left }
+{
+    if 2 * left >= most {
+        if index == left {
+            Removed::Rightmost
+        } else {
+            Removed::Healthy
+        }
+    } else if left > 0 {
+        Removed::Underflow
+    } else {
+        Removed::Empty
+    }
+}
+
+// How many entries of a full leaf of this capacity stay in its left half.
+fn left_half_of(most: usize, insert_index: usize) -> usize
+    requires { IsLeafCapacity most }
+    ensures half { result ≡ (if nat_le insert_index (most / 2) then most / 2 else (most + 1) / 2) }
+    ensures some { 0 < result }
+    ensures within { result < most }
+{
+    if insert_index <= most / 2 {
+        most / 2
+    } else {
+        most / 2 + 1
+    }
+}

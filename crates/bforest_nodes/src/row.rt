@@ -1,0 +1,133 @@
+//! Elements that lie inline in a node, of which the node says how many count.
+ghost use Rattle.std.specs.Prelude.{◌≡◌, ◌+◌, ◌-◌, ◌<◌, ◌≤◌, ◌∷◌, ◌++◌, [], take, drop, insert, remove, length, slice_get, slice_set, Some};
+ghost use Rattle.std.specs.Borrow.{sem};
+
+use crate::lent;
+
+/// Room for `N` elements. What lies behind those that count has no meaning.
+#[derive(Clone, Copy)]
+pub(crate) struct Row<T, const N: usize> {
+    pub(crate) items: [T; N],
+}
+
+impl<T: Copy, const N: usize> Row<T, N> {
+    ghost use Rattle.bforest_nodes.specs.LendingRow.{lends_at, lends_front};
+
+    /// The first `len` elements.
+    pub(crate) fn front(&self, len: usize) -> &[T]
+        requires { len ≤ N }
+        ensures value { result.now ≡ take len self.now.items }
+        ensures len { length result.now ≡ len }
+    {
+        &self.items[..len]
+    }
+
+    /// The element at an index of the first `len`.
+    #[tactic(auto, using(crate::proofs::Rows::at_front))]
+    pub(crate) fn at(&self, len: usize, index: usize) -> T
+        requires room { len ≤ N }
+        requires within { index < len }
+        ensures { slice_get (take len self.now.items) index ≡ Some result }
+    {
+        self.items[index]
+    }
+
+    /// The element at an index, for writing.
+    pub(crate) fn at_mut(&mut self, index: usize) -> &mut T
+        requires { index < N }
+        ensures* writes_back { sem 𝓛 (lends_at T.row N.row self.entry index result) }
+        ensures value { slice_get self.old.items index ≡ Some result.now }
+    {
+        lent::element_mut(&mut self.items, index)
+    }
+
+    /// The first `len` elements, for writing.
+    pub(crate) fn front_mut(&mut self, len: usize) -> &mut [T]
+        requires { len ≤ N }
+        ensures* writes_back { sem 𝓛 (lends_front T.row N.row self.entry result) }
+        ensures value { result.now ≡ take len self.old.items }
+    {
+        lent::front_mut(&mut self.items, len)
+    }
+
+    /// Writes the element at an index of the first `len`.
+    #[tactic(auto, using(crate::proofs::Rows::set_front))]
+    pub(crate) fn set(&mut self, len: usize, index: usize, x: T)
+        requires room { len ≤ N }
+        requires within { index < len }
+        ensures { take len self.new.items ≡ slice_set (take len self.old.items) index x }
+    {
+        self.items[index] = x;
+    }
+
+    /// Puts an element behind the first `len`.
+    pub(crate) fn push(&mut self, len: usize, x: T)
+        requires { len < N }
+        ensures { take (len + 1) self.new.items ≡ take len self.old.items ++ x ∷ [] }
+    {
+        self.items[len] = x;
+    }
+
+    /// Puts an element in at an index of the first `len`.
+    #[tactic(auto, using(crate::proofs::Rows::inserted))]
+    pub(crate) fn insert(&mut self, len: usize, index: usize, x: T)
+        requires room { len < N }
+        requires within { index ≤ len }
+        ensures { take (len + 1) self.new.items ≡ insert (take len self.old.items) index x }
+    {
+        self.items.copy_within(index..len, index + 1);
+        self.items[index] = x;
+    }
+
+    /// Takes out the element at an index of the first `len`.
+    #[tactic(auto, using(crate::proofs::Rows::removed))]
+    pub(crate) fn remove(&mut self, len: usize, index: usize)
+        requires room { len ≤ N }
+        requires within { index < len }
+        ensures { take (len - 1) self.new.items ≡ remove (take len self.old.items) index }
+    {
+        self.items.copy_within(index + 1..len, index);
+    }
+
+    /// The elements of the first `len` behind the first `at`.
+    #[tactic(auto, using(crate::proofs::Rows::removed_front))]
+    pub(crate) fn tail(&self, len: usize, at: usize) -> Self
+        requires room { len ≤ N }
+        requires within { at ≤ len }
+        ensures { take (len - at) result.items ≡ drop at (take len self.now.items) }
+    {
+        let mut row = *self;
+        row.items.copy_within(at..len, 0);
+        row
+    }
+
+    /// Puts the first `count` elements of `front` before the first `len` of this row.
+    pub(crate) fn put_before(&mut self, len: usize, front: &Self, count: usize)
+        requires { count + len ≤ N }
+        ensures { take (count + len) self.new.items ≡ take count front.now.items ++ take len self.old.items }
+    {
+        self.items.copy_within(..len, count);
+        self.items[..count].copy_from_slice(front.front(count));
+    }
+
+    /// Puts the first `count` of the first `from_len` elements of `from` behind the first `len` of this row.
+    pub(crate) fn append(&mut self, len: usize, from: &Self, from_len: usize, count: usize)
+        requires room { len + count ≤ N }
+        requires from_room { from_len ≤ N }
+        requires within { count ≤ from_len }
+        ensures { take (len + count) self.new.items ≡ take len self.old.items ++ take count (take from_len from.now.items) }
+    {
+        let items = &mut self.items[..];
+        items[len..len + count].copy_from_slice(from.front(count));
+    }
+
+    /// Takes out the first `count` of the first `len` elements.
+    #[tactic(auto, using(crate::proofs::Rows::removed_front))]
+    pub(crate) fn remove_front(&mut self, len: usize, count: usize)
+        requires room { len ≤ N }
+        requires within { count ≤ len }
+        ensures { take (len - count) self.new.items ≡ drop count (take len self.old.items) }
+    {
+        self.items.copy_within(count..len, 0);
+    }
+}
