@@ -1,4 +1,4 @@
-//! Tests of `bforest_core`: worked nodes, each public call at a concrete type, and both ends of a leaf's capacity.
+//! Tests of `bforest_core`: worked nodes and trees, each public call at a concrete type, and both ends of a leaf's capacity.
 #![tactic(auto)]
 
 #[cfg(test)]
@@ -13,3 +13,11 @@ mod pools;
 mod readings;
 #[cfg(test)]
 mod removals;
+#[cfg(test)]
+mod shapes;
+#[cfg(test)]
+mod tree;
+#[cfg(test)]
+mod trees;
+#[cfg(test)]
+mod worked;

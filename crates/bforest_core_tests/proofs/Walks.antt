@@ -1,0 +1,37 @@
+-- A path that stands in a tree, or at its end, may go on, and does so after a step.
+use Rattle.std.proofs.Common.{◌≡◌, ◌≢◌, ℕ, suc, ◌≤◌, IsTrue, List, Option, None, Some, refl, ap, arith, length}
+use Rattle.bforest_core.specs.Change.{StandsUnder}
+use Rattle.bforest_nodes.specs.Content.{Content}
+use Rattle.bforest_core.specs.Levels.{Tree, IsFit}
+use Rattle.bforest_core.specs.Place.{IsIn, Stands}
+use Rattle.bforest_core.specs.Table.{Table}
+use Rattle.bforest_core.specs.Trees.{IsUnion, tree_of}
+use Rattle.bforest_core.proofs.Unions.{rooted}
+use Rattle.bforest_core_tests.specs.Ordered.{CanGoOn}
+
+-- at an entry of the tree under a root
+pub go-from : (n : ℕ) (table : Table ℕ ℕ) (root : ℕ) (path indices : List ℕ) (size place : ℕ) → IsUnion n table → StandsUnder table.nodes root path indices size place → CanGoOn n table.nodes path indices size
+go-from n table root path indices size place union s =
+    let r = rooted n table root union s.root_is in record {
+      low = omega (arith, s.stands.size_is, r.low);
+      stands = λ some. (tree_of table.nodes root, place, r.fit, r.inside, r.low, s.stands);
+    }
+
+module _ (n : ℕ) (slots : List (Content ℕ ℕ)) (path indices : List ℕ) (size : ℕ) where
+  -- what a step asks
+  pub go-step : CanGoOn n slots path indices size → size ≢ 0 → (tree : Tree ℕ ℕ) × (place : ℕ) × IsFit n tree × IsIn slots tree × Stands path indices size tree place
+  go-step can some = let w = can.stands some in (w.0, w.1, w.2, w.3, w.5)
+
+  -- what it leaves
+  pub go-on : (path' indices' : List ℕ) (size' : ℕ) (answer : Option (ℕ × ℕ)) → CanGoOn n slots path indices size →
+      (answer ≢ None → (tree : Tree ℕ ℕ) (place : ℕ) → IsFit n tree → IsIn slots tree → Stands path indices size tree place → Stands path' indices' size' tree (suc place)) →
+      (answer ≡ None → size' ≡ 0) → (size ≡ 0 → answer ≡ None) → CanGoOn n slots path' indices' size'
+  go-on path' indices' size' None can moved end stays =
+      let none = end refl in record { low = omega (arith, none); stands = λ some. absurd (some none) }
+  go-on path' indices' size' (Some entry) can moved end stays =
+      let some : size ≢ 0 = λ none. (let e = stays none in absurd cc) in
+      let w = can.stands some in
+      let s = moved (λ e. absurd cc) w.0 w.1 w.2 w.3 w.5 in record {
+        low = omega (arith, s.size_is, w.4);
+        stands = λ some'. (w.0, suc w.1, w.2, w.3, w.4, s);
+      }

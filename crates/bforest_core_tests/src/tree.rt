@@ -1,0 +1,272 @@
+//! A tree of numbers in a pool of its own. That it is a tree, with its keys in order, is part of its type, so that tests loop over its calls.
+ghost use Rattle.bforest_nodes.specs.Content.{IsLeafCapacity};
+ghost use Rattle.bforest_core.specs.Trees.{IsUnion};
+ghost use Rattle.bforest_core_tests.specs.Ordered.{CanGoOn, IsOrderedAt};
+ghost use Rattle.std.specs.Prelude.{IfOk, OnErr, ℕ, ◌<◌, ◌≡◌, ◌≢◌};
+
+use bforest_core::{Node, NodePool, OutOfMemory, Path};
+use std::alloc::Global;
+use std::marker::Model;
+use std::process::Abort;
+
+/// A pool of numbers under numbers.
+type Pool<const N: usize> = NodePool<u32, u32, N>;
+
+/// A tree of numbers under numbers, or none, and nothing else in its pool.
+#[derive(Drop)]
+pub(crate) struct Tree<const N: usize> {
+    pool: NodePool<u32, u32, N>,
+    root: Option<Node>,
+}
+
+impl<const N: usize> Model for Tree<N> {
+    ghost use Rattle.bforest_core.specs.Table.{Table};
+    ghost use Rattle.bforest_core_tests.specs.Ordered.{IsOrdered};
+    ghost use Rattle.std.specs.Prelude.{ℕ, Option};
+
+    ghost Value = { Table ℕ ℕ × Option ℕ };
+
+    ghost view = { λ t. (t.pool, t.root) };
+
+    ghost invariant = { λ t. IsOrdered N t.pool t.root };
+}
+
+impl<const N: usize> Tree<N> {
+    /// No tree, in a pool of at most so many slots.
+    pub(crate) fn new(alloc: Global, limit: u32) -> Self
+        requires { IsLeafCapacity N }
+    {
+        Tree {
+            pool: NodePool::with_limit(alloc, limit),
+            root: None,
+        }
+    }
+
+    /// Puts an entry in, or writes the value where the key is present.
+    pub(crate) fn insert(&mut self, key: u32, value: u32) -> Result<(), OutOfMemory> {
+        let root = match self.root {
+            Some(root) => put(&mut self.pool, root, key, value)?,
+            None => plant(&mut self.pool, key, value)?,
+        };
+        self.root = Some(root);
+        Ok(())
+    }
+
+    /// Adds one to the value of a key, and says whether it is present.
+    pub(crate) fn count(&mut self, key: u32) -> bool {
+        match self.root {
+            Some(root) => count_at(&mut self.pool, root, key),
+            None => false,
+        }
+    }
+
+    /// The value of a key.
+    pub(crate) fn get(&self, key: u32) -> Option<u32> {
+        let mut path = Path::default();
+        path.find(key, self.root?, &self.pool, &())
+    }
+
+    /// The number of the leaf where a search for a key ends, and its place there.
+    pub(crate) fn position(&self, key: u32) -> Option<(u32, usize)> {
+        let mut path = Path::default();
+        path.find(key, self.root?, &self.pool, &());
+        let (leaf, index) = path.leaf_pos()?;
+        Some((leaf.number(), index))
+    }
+
+    /// The root's number.
+    pub(crate) fn root(&self) -> Option<u32> {
+        Some(self.root?.number())
+    }
+
+    /// How many levels the tree has.
+    pub(crate) fn levels(&self) -> usize {
+        match self.root {
+            Some(root) => self.pool.levels(root),
+            None => 0,
+        }
+    }
+
+    /// How many slots the pool has.
+    pub(crate) fn slots(&self) -> u32 {
+        self.pool.slots()
+    }
+
+    /// How many of its slots are free.
+    pub(crate) fn free(&self) -> u32 {
+        self.pool.free()
+    }
+
+    /// Whether a root has this number.
+    pub(crate) fn is_root(&self, number: u32) -> bool
+        requires { number < 4294967295 }
+    {
+        self.pool.is_root(Node::new(number))
+    }
+
+    /// The keys of a leaf, or those between the children of an inner node. Where the node is, the indices say: that of a child of the
+    /// root, of a child of this one, and so on. There are none where no such node is.
+    pub(crate) fn keys(&self, way: &[usize]) -> &[u32] {
+        match self.node_at(way) {
+            Some(node) => keys(&self.pool, node),
+            None => &[],
+        }
+    }
+
+    // The node to which these indices lead.
+    fn node_at(&self, way: &[usize]) -> Option<Node> {
+        let mut node = self.root?;
+        for index in way {
+            node = child(&self.pool, node, *index)?;
+        }
+        Some(node)
+    }
+
+    /// The number of the node to which these indices lead.
+    pub(crate) fn number_at(&self, way: &[usize]) -> Option<u32> {
+        Some(self.node_at(way)?.number())
+    }
+
+    /// Walks from the first entry on, which has to give 1 to `most`, each under itself, and nothing from then on.
+    pub(crate) fn assert_counts_to(&self, rt: &impl Abort, most: u32) {
+        let mut path = Path::default();
+        if let Some(root) = self.root {
+            assert_eq!(rt; first(&mut path, root, &self.pool), (1, 1));
+            for key in 2..=most {
+                assert_eq!(rt; next(&mut path, &self.pool), Some((key, key)));
+            }
+            assert_eq!(rt; next(&mut path, &self.pool), None);
+            assert_eq!(rt; next(&mut path, &self.pool), None);
+        }
+    }
+}
+
+/// A tree of these keys, each of whose values is its key, which came in in this order.
+pub(crate) fn tree_of<const N: usize>(rt: &impl Abort, alloc: Global, keys: &[u32]) -> Tree<N>
+    requires { IsLeafCapacity N }
+{
+    let mut tree = Tree::new(alloc, 100);
+    for key in keys {
+        assert_eq!(rt; tree.insert(*key, *key), Ok(()));
+    }
+    tree
+}
+
+/// A tree of 1 to `most`, which came in in this order.
+pub(crate) fn ascending<const N: usize>(rt: &impl Abort, alloc: Global, most: u32) -> Tree<N>
+    requires { IsLeafCapacity N }
+{
+    let mut tree = Tree::new(alloc, 100);
+    for key in 1..=most {
+        assert_eq!(rt; tree.insert(key, key), Ok(()));
+    }
+    tree
+}
+
+/// A tree of 1 to `most`, of which the greatest came in first.
+pub(crate) fn descending<const N: usize>(rt: &impl Abort, alloc: Global, most: u32) -> Tree<N>
+    requires { IsLeafCapacity N }
+{
+    let mut tree = Tree::new(alloc, 100);
+    for key in (1..=most).rev() {
+        assert_eq!(rt; tree.insert(key, key), Ok(()));
+    }
+    tree
+}
+
+// Makes a tree of one entry, and answers its root.
+fn plant<const N: usize>(pool: &mut Pool<N>, key: u32, value: u32) -> Result<Node, OutOfMemory>
+    requires capacity { IsLeafCapacity N }
+    requires union { IsUnion N pool.old }
+    ensures planted { IfOk result (λ root. IsUnion N pool.new × IsOrderedAt pool.new.nodes root) }
+    ensures refused { OnErr result (pool.new ≡ pool.old) }
+{
+    pool.alloc_node(key, value)
+}
+
+// Puts an entry into a tree, or writes the value where the key is present. Answers the root.
+fn put<const N: usize>(
+    pool: &mut Pool<N>,
+    root: Node,
+    key: u32,
+    value: u32,
+) -> Result<Node, OutOfMemory>
+    requires capacity { IsLeafCapacity N }
+    requires union { IsUnion N pool.old }
+    requires ordered { IsOrderedAt pool.old.nodes root }
+    ensures put { IfOk result (λ root'. IsUnion N pool.new × IsOrderedAt pool.new.nodes root') }
+    ensures refused { OnErr result (pool.new ≡ pool.old) }
+{
+    let mut path = Path::default();
+    if path.find(key, root, pool, &()).is_some() {
+        path.set_value(value, pool);
+        Ok(root)
+    } else {
+        path.insert(key, value, pool)
+    }
+}
+
+// Adds one to the value of a key, and says whether it is present.
+fn count_at<const N: usize>(pool: &mut Pool<N>, root: Node, key: u32) -> bool
+    requires capacity { IsLeafCapacity N }
+    requires union { IsUnion N pool.old }
+    requires ordered { IsOrderedAt pool.old.nodes root }
+    ensures union { IsUnion N pool.new }
+    ensures ordered { IsOrderedAt pool.new.nodes root }
+{
+    let mut path = Path::default();
+    match path.find(key, root, pool, &()) {
+        Some(value) => {
+            *pool.path_value_mut(&path) = value.wrapping_add(1);
+            true
+        }
+        None => false,
+    }
+}
+
+// The keys of a node, none where it is free.
+fn keys<const N: usize>(pool: &Pool<N>, node: Node) -> &[u32] {
+    if node.number() >= pool.slots() {
+        return &[];
+    }
+    let content = pool.node(node);
+    if content.is_inner() {
+        content.unwrap_inner().0
+    } else if content.is_free() {
+        &[]
+    } else {
+        content.unwrap_leaf().0
+    }
+}
+
+// The child of an inner node at an index, if there is one.
+fn child<const N: usize>(pool: &Pool<N>, node: Node, index: usize) -> Option<Node> {
+    if node.number() >= pool.slots() {
+        return None;
+    }
+    let content = pool.node(node);
+    if content.is_inner() {
+        content.unwrap_inner().1.get(index).copied()
+    } else {
+        None
+    }
+}
+
+// Goes to a tree's first entry.
+fn first<const N: usize>(path: &mut Path<u32, u32, N>, root: Node, pool: &Pool<N>) -> (u32, u32)
+    requires capacity { IsLeafCapacity N }
+    requires union { IsUnion N pool.now }
+    requires ordered { IsOrderedAt pool.now.nodes root }
+    ensures { CanGoOn N pool.now.nodes path.new.node path.new.entry path.new.size }
+{
+    path.first(root, pool)
+}
+
+// Goes to the next entry.
+fn next<const N: usize>(path: &mut Path<u32, u32, N>, pool: &Pool<N>) -> Option<(u32, u32)>
+    requires capacity { IsLeafCapacity N }
+    requires stands { CanGoOn N pool.now.nodes path.old.node path.old.entry path.old.size }
+    ensures { CanGoOn N pool.now.nodes path.new.node path.new.entry path.new.size }
+{
+    path.next(pool)
+}

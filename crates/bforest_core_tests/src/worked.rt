@@ -1,0 +1,31 @@
+//! Sizes of trees that were worked out by hand, against the definitions in the contracts. The bodies are empty: the clauses are evaluated.
+ghost use Rattle.bforest_core.specs.Sizes.{need};
+ghost use Rattle.bforest_core_tests.specs.Worked.{grown};
+ghost use Rattle.std.specs.List.{range_with_len};
+ghost use Rattle.std.specs.Prelude.{[], replicate, ◌∷◌, ◌≡◌};
+
+fn thirty_six_keys_each_put_in_first()
+    ensures { grown 7 (replicate 36 0) []
+        ≡ (4 ∷ 4 ∷ 4 ∷ 4 ∷ 4 ∷ 4 ∷ 4 ∷ 4 ∷ 4 ∷ []) ∷ (5 ∷ 4 ∷ []) ∷ (2 ∷ []) ∷ [] }
+{}
+
+fn thirty_six_keys_each_put_in_last()
+    ensures { grown 7 (range_with_len 0 36) []
+        ≡ (4 ∷ 4 ∷ 4 ∷ 4 ∷ 4 ∷ 4 ∷ 4 ∷ 4 ∷ 4 ∷ []) ∷ (4 ∷ 5 ∷ []) ∷ (2 ∷ []) ∷ [] }
+{}
+
+fn nodes_for_the_36th_key()
+    ensures { need 7 35 (grown 7 (range_with_len 0 35) []) ≡ 3 }
+{}
+
+fn four_keys_in_the_least_leaves()
+    ensures { grown 3 (range_with_len 0 4) [] ≡ (2 ∷ 2 ∷ []) ∷ (2 ∷ []) ∷ [] }
+{}
+
+#[test]
+fn sizes_are_those_worked_by_hand() {
+    thirty_six_keys_each_put_in_first();
+    thirty_six_keys_each_put_in_last();
+    nodes_for_the_36th_key();
+    four_keys_in_the_least_leaves();
+}
