@@ -7,8 +7,8 @@ ghost use Rattle.bforest_nodes.specs.Entries.{IsIncreasing, place, value_for};
 ghost use Rattle.bforest_core.specs.Place.{leaf_content};
 ghost use Rattle.bforest_core.specs.Table.{IsUsed, with_node};
 
-use bforest_nodes::{Comparator, Node};
 use crate::pool::NodePool;
+use bforest_nodes::{Comparator, Node};
 
 // Puts a child and its first key into an inner node, behind the child at `index`. Whether there was room.
 pub(crate) fn put_child<K: Copy, V: Copy, const N: usize>(

@@ -8,8 +8,8 @@ ghost use Rattle.bforest_core.specs.Place.{count};
 ghost use Rattle.bforest_core.specs.Table.{slot_count};
 ghost use Rattle.bforest_core.specs.Trees.{IsUnion, is_root, tree_of};
 
-use bforest_nodes::{Node, NodeData};
 use crate::pool::NodePool;
+use bforest_nodes::{Node, NodeData};
 
 impl<K: Copy, V: Copy, const N: usize> NodePool<K, V, N> {
     /// Whether this is the number of a root: of a used slot that no inner node names. It looks at all slots.

@@ -12,10 +12,10 @@ ghost use Rattle.bforest_core.specs.Change.{StandsUnder, PlacedUnder};
 ghost use Rattle.bforest_core.specs.Trees.{IsUnion, is_root, tree_of};
 ghost use Rattle.bforest_core.specs.Steps.{Over, Moved};
 
-use bforest_nodes::{Comparator, Node};
 use crate::access::{follow, look_up};
 use crate::path::Path;
 use crate::pool::NodePool;
+use bforest_nodes::{Comparator, Node};
 
 impl<K: Copy, V: Copy, const N: usize> Path<K, V, N> {
     /// Goes to where a search for `key` ends in the tree under `root`, and answers the key's value. Where the key is absent, the path stands

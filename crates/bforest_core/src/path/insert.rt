@@ -13,10 +13,10 @@ ghost use Rattle.bforest_core.specs.Change.{Changes, TakesNodes, PlacedUnder, St
 ghost use Rattle.std.specs.Borrow.{sem};
 ghost use Rattle.bforest_core.specs.Steps.{Over, Moved};
 
-use bforest_nodes::Node;
 use crate::access::{put_child, put_entry};
 use crate::path::Path;
 use crate::pool::{NodePool, OutOfMemory};
+use bforest_nodes::Node;
 
 impl<K: Copy, V: Copy, const N: usize> Path<K, V, N> {
     /// Puts an entry in here, and answers the tree's root. The path stands at the entry afterwards.

@@ -12,10 +12,10 @@ ghost use Rattle.bforest_core.specs.Trees.{IsUnion, is_root, tree_of};
 ghost use Rattle.bforest_core.specs.Change.{StandsUnder};
 ghost use Rattle.bforest_core.specs.Steps.{Over, Moved};
 
-use bforest_nodes::Node;
 use crate::access::last_index;
 use crate::path::Path;
 use crate::pool::NodePool;
+use bforest_nodes::Node;
 
 impl<K: Copy, V: Copy, const N: usize> Path<K, V, N> {
     /// Goes to the first entry of the tree under `root`, and answers it.

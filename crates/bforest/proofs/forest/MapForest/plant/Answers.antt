@@ -42,4 +42,3 @@ returns-clause-memory g c =
     let p = c.self.inside.pool in
     let f = c.args.self.now in
     λ bad. subst (λ (z : Forest g.row.K.Denot g.row.V.Denot). NeedsGrowth 1 z) c.self.view_is (grows 1 p (c.plant.ensures.memory bad))
-

@@ -47,4 +47,3 @@ returns-clause-memory g c =
     let new = c.reserve.new.pool in
     let n = c.args.n in
     λ bad. subst (λ (z : Forest g.row.K.Denot g.row.V.Denot). NeedsGrowth n z) c.self.view_is (grows n p (c.reserve.ensures.memory bad))
-
