@@ -124,14 +124,14 @@ impl<K: Copy, V: Copy, const N: usize> NodeData<K, V, N> {
         }
     }
 
-    // Becomes a free node, before this one in the chain.
+    /// The node, whatever it held, becomes a free one, before this one in the chain. For the pool alone.
     pub fn make_free(&mut self, next: PackedNode)
         ensures { self.new ≡ Free next }
     {
         self.state = State::Vacant(next);
     }
 
-    // The node after this free one in the chain.
+    /// The node after this free one in the chain. For the pool alone.
     pub fn next_free(&self) -> PackedNode
         requires { IsFree self.now }
         ensures { self.now ≡ Free result }
