@@ -6,3 +6,4 @@ pub mod After
 pub mod Tops
 pub mod Reading
 pub mod Rooms
+pub mod Accounts

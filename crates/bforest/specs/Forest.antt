@@ -4,12 +4,18 @@ use Rattle.bforest_core.specs.Levels.{flat, sizes_of as tree_sizes}
 use Rattle.bforest_core.specs.Sizes.{growth, need}
 use Rattle.bforest_core.specs.Table.{Table, free_count, slot_count}
 use Rattle.bforest_core.specs.Trees.{is_root, tree_of}
-use Rattle.std.specs.Prelude.{List, None, Option, Some, [], if◌then◌else◌, ◌+◌, ◌-◌, ◌<◌, ◌≡◌, ◌≢◌, ◌≤◌, ◌∷◌, ℕ}
+use Rattle.std.specs.List.{sum_by}
+use Rattle.std.specs.Prelude.{List, None, Option, Some, [], if◌then◌else◌, length, suc, zero, ◌+◌, ◌++◌, ◌-◌, ◌<◌, ◌≡◌, ◌≢◌, ◌≤◌, ◌∷◌, ℕ}
 use Rattle.std.specs.declared.cmp.Ordering.{Ordering}
 
 -- The table of a forest's nodes. Contracts read it by the words below alone.
 abbrev pub Forest : Type 0 → Type 0 → Type 0
 Forest K X = Table K X
+
+-- the numbers below one, from 0 on
+abbrev pub numbers_below : ℕ → List ℕ
+numbers_below zero = []
+numbers_below (suc n) = numbers_below n ++ n ∷ []
 
 -- the sizes of a tree's leaves
 abbrev pub first_level : List (List ℕ) → List ℕ
@@ -44,6 +50,14 @@ module _ {K X : Type 0} where
   -- the sizes of its tree's nodes, level by level, the leaves first: [] where no tree has it
   unfoldable pub sizes_at : Forest K X → ℕ → List (List ℕ)
   sizes_at f n = if is_root f.nodes n then tree_sizes (tree_of f.nodes n) else []
+
+  -- how many nodes its tree has
+  abbrev pub nodes_at : Forest K X → ℕ → ℕ
+  nodes_at f n = sum_by (λ (level : List ℕ). length level) (sizes_at f n)
+
+  -- the free slots and the nodes of all trees add up to the slots
+  abbrev pub IsAccounted : Forest K X → Type 0
+  IsAccounted f = slots_of f ≡ free_of f + sum_by (nodes_at f) (numbers_below (slots_of f))
 
   -- the list that a handle means
   abbrev pub list_of : Forest K X → Option ℕ → List (K × X)

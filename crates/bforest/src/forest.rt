@@ -1,7 +1,7 @@
 //! The table of all trees of a forest.
 ghost use Rattle.bforest_nodes.specs.Entries.{IsIncreasing, put, value_for};
 ghost use Rattle.bforest_core.specs.Trees.{IsUnion};
-ghost use Rattle.bforest.specs.Forest.{Becomes, IsLive, IsTooMany, Keeps, NeedsGrowth, Takes, empty, first_level, free_of, limit_of, list_at, list_of, need_of, room_of, sizes_at, sizes_of, sizes_with, slots_of};
+ghost use Rattle.bforest.specs.Forest.{Becomes, IsAccounted, IsLive, IsTooMany, Keeps, NeedsGrowth, Takes, empty, first_level, free_of, limit_of, list_at, list_of, need_of, room_of, sizes_at, sizes_of, sizes_with, slots_of};
 ghost use Rattle.std.specs.Prelude.{IfOk, IsOk, IsTrue, None, OnErr, OnOk, Some, Err, [], length, ◌+◌, ◌-◌, ◌/◌, ◌^◌, ◌<◌, ◌↔◌, ◌∷◌, ◌≡◌, ◌≢◌, ◌≤◌};
 
 use crate::map::Map;
@@ -48,6 +48,7 @@ impl<K: Copy, V: Copy> MapForest<K, V> {
     pub fn slots(&self) -> u32
         ensures count { result ≡ slots_of self.now }
         ensures within { slots_of self.now ≤ limit_of self.now }
+        ensures account { IsAccounted self.now }
     {
         self.pool.slots()
     }
