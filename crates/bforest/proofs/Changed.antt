@@ -98,6 +98,8 @@ module _ {K X : Type 0} where
     list = list-root f' r' c.root_is ∙ c.list_is;
     leaves = λ ne. list-none f' r (c.old_gone (λ (e : r ≡ r'). ne (ap Some (sym e))));
     fresh = λ ne. list-none f r' (c.new_came (λ (e : r ≡ r'). ne (ap Some (sym e))));
+    leaves_sizes = λ ne. sizes-none f' r (c.old_gone (λ (e : r ≡ r'). ne (ap Some (sym e))));
+    fresh_sizes = λ ne. sizes-none f r' (c.new_came (λ (e : r ≡ r'). ne (ap Some (sym e))));
     others = λ n ne ne'. same_list f f' n (c.others n (λ (e : n ≡ r). ne (ap Some e)) (λ (e : n ≡ r'). ne' (ap Some e)));
     others_sizes = λ n ne ne'. same_sizes f f' n (c.others n (λ (e : n ≡ r). ne (ap Some e)) (λ (e : n ≡ r'). ne' (ap Some e)));
     limit = c.limit_is;
@@ -110,6 +112,8 @@ module _ {K X : Type 0} where
     list = list-root f' n c.root_is ∙ c.list_is;
     leaves = λ ne. refl;
     fresh = λ ne. list-none f n gone;
+    leaves_sizes = λ ne. refl;
+    fresh_sizes = λ ne. sizes-none f n gone;
     others = λ m ne ne'. same_list f f' m (c.others m (λ (e : m ≡ n). ne' (ap Some e)) (λ (e : m ≡ n). ne' (ap Some e)));
     others_sizes = λ m ne ne'. same_sizes f f' m (c.others m (λ (e : m ≡ n). ne' (ap Some e)) (λ (e : m ≡ n). ne' (ap Some e)));
     limit = c.limit_is;

@@ -7,3 +7,4 @@ pub mod Tops
 pub mod Reading
 pub mod Rooms
 pub mod Accounts
+pub mod Becoming

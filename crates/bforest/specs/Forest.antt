@@ -81,6 +81,8 @@ module _ {K X : Type 0} where
     pub list : list_of f' h' ≡ es
     pub leaves : h' ≢ h → list_of f' h ≡ []
     pub fresh : h' ≢ h → list_of f h' ≡ []
+    pub leaves_sizes : h' ≢ h → sizes_of f' h ≡ []
+    pub fresh_sizes : h' ≢ h → sizes_of f h' ≡ []
     pub others : (n : ℕ) → Some n ≢ h → Some n ≢ h' → list_at f' n ≡ list_at f n
     pub others_sizes : (n : ℕ) → Some n ≢ h → Some n ≢ h' → sizes_at f' n ≡ sizes_at f n
     pub limit : limit_of f' ≡ limit_of f

@@ -9,6 +9,8 @@ mod maps;
 #[cfg(test)]
 mod orders;
 #[cfg(test)]
+mod plain;
+#[cfg(test)]
 mod refusals;
 #[cfg(test)]
 mod trees;

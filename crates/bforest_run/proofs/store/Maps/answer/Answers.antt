@@ -1,0 +1,8 @@
+use Rattle.bforest_run.proofs.store.Maps.answer.Goals as goal
+use Rattle.bforest_run.specs.Machine.{Answers}
+use Rattle.bforest_run.specs.declared.line.Line.{Line}
+use Rattle.std.proofs.Common.{subst, sym}
+
+pub returns-in-Stat-clause-answer : goal.returns-in-Stat-clause-answer
+returns-in-Stat-clause-answer c =
+    subst (λ (z : Line). Answers c.args.self.now z c.stat.result c.args.self.now) (sym c.in-Stat.is) c.stat.ensures
