@@ -255,38 +255,34 @@ module _ {K V : Type 0} (cmp : K → K → Ordering) (o : IsTotalOrder cmp) (mos
           entries_above = λ i low. entries i (λ z. omega (arith, z, low));
         })
 
-    -- one level of it
-    pub passed : (s : InnerStep cmp most slots leaves lower a number key) (index child : ℕ) (w : Onward cmp s.row s.before (s.e ∷ s.es) index child key) (path indices path' indices' path'' indices'' : List ℕ) (high : ℕ) → high ≡ suc (length s.rows) → Descended cmp leaves s.rows key (length w.a) path indices path' indices' →
-        get_or path'' high 0 ≡ number → get_or indices'' high 0 ≡ index → ((i : ℕ) → i ≢ high → get_or path'' i 0 ≡ get_or path' i 0) → ((i : ℕ) → i ≢ high → get_or indices'' i 0 ≡ get_or indices' i 0) →
-        (high ≡ length lower) × Descended cmp leaves lower key (length a) path indices path'' indices''
+    -- one level of it, whose place in the path was written before
+    pub passed : (s : InnerStep cmp most slots leaves lower a number key) (index child : ℕ) (w : Onward cmp s.row s.before (s.e ∷ s.es) index child key) (path indices path' indices' path'' indices'' : List ℕ) (high : ℕ) → high ≡ length lower → Descended cmp leaves s.rows key (length w.a) path' indices' path'' indices'' →
+        get_or path' high 0 ≡ number → get_or indices' high 0 ≡ index → ((i : ℕ) → i ≢ high → get_or path' i 0 ≡ get_or path i 0) → ((i : ℕ) → i ≢ high → get_or indices' i 0 ≡ get_or indices i 0) → Descended cmp leaves lower key (length a) path indices path'' indices''
     passed s index child w path indices path' indices' path'' indices'' high high_is d m_is j_is nodes entries =
-        let count_is : length lower ≡ suc (length s.rows) = ap length s.lower_is ∙ length-append s.rows (s.row ∷ []) ∙ omega arith in
+        let count_is = inner_count s in
+        let m_at : get_or path'' high 0 ≡ number = d.nodes_above high (omega (arith, high_is, count_is)) ∙ m_is in
+        let j_at : get_or indices'' high 0 ≡ index = d.entries_above high (omega (arith, high_is, count_is)) ∙ j_is in
         let at : IsAt s.row (get_or path'' high 0) (get_or indices'' high 0) (length w.a) = record {
           before = s.before;
           entries = s.e ∷ s.es;
           after = s.after;
-          row_is = s.row_is ∙ ap (λ z. s.before ++ node z (s.e ∷ s.es) ∷ s.after) (sym m_is);
-          within = omega (arith, j_is, w.within);
-          place_is = w.place_is ∙ ap (λ z. length (flat s.before) + z) (sym j_is);
+          row_is = s.row_is ∙ ap (λ z. s.before ++ node z (s.e ∷ s.es) ∷ s.after) (sym m_at);
+          within = omega (arith, j_at, w.within);
+          place_is = w.place_is ∙ ap (λ z. length (flat s.before) + z) (sym j_at);
         } in
-        let m0 = nodes 0 (λ z. omega (arith, z, high_is)) in
-        let j0 = entries 0 (λ z. omega (arith, z, high_is)) in
-        let below = stands_same path' indices' path'' indices'' 1 s.rows (length d.leaf.before) (length w.a) (λ i low. nodes i (λ z. omega (arith, z, low, high_is))) (λ i low. entries i (λ z. omega (arith, z, low, high_is))) d.stands in
-        let more = stands_more path'' indices'' 1 s.rows s.row (length d.leaf.before) (length w.a) high below (omega (arith, high_is)) at in (
-          high_is ∙ sym count_is,
-          record {
-            leaf = record {
-              before = d.leaf.before;
-              entries = d.leaf.entries;
-              after = d.leaf.after;
-              row_is = d.leaf.row_is ∙ ap (λ z. d.leaf.before ++ node z d.leaf.entries ∷ d.leaf.after) (sym m0);
-              within = omega (arith, j0, d.leaf.within);
-              place_is = d.leaf.place_is ∙ ap (λ z. length (flat d.leaf.before) + z) (sym j0);
-              found = λ yes. omega (arith, j0, d.leaf.found yes);
-              first = λ no z. d.leaf.first no (sym j0 ∙ z);
-            };
-            stands = subst (λ (z : List (List (LevelNode K ℕ))). StandsTo path'' indices'' 1 z (length d.leaf.before) (length a)) (sym s.lower_is) (subst (λ (z : ℕ). StandsTo path'' indices'' 1 (s.rows ++ s.row ∷ []) (length d.leaf.before) z) s.before_is more);
-            nodes_above = λ i low. nodes i (λ z. omega (arith, z, low, high_is, count_is)) ∙ d.nodes_above i (omega (arith, low, count_is));
-            entries_above = λ i low. entries i (λ z. omega (arith, z, low, high_is, count_is)) ∙ d.entries_above i (omega (arith, low, count_is));
-          },
-        )
+        let more = stands_more path'' indices'' 1 s.rows s.row (length d.leaf.before) (length w.a) high d.stands (omega (arith, high_is, count_is)) at in
+        record {
+          leaf = d.leaf;
+          stands = subst (λ (z : List (List (LevelNode K ℕ))). StandsTo path'' indices'' 1 z (length d.leaf.before) (length a)) (sym s.lower_is) (subst (λ (z : ℕ). StandsTo path'' indices'' 1 (s.rows ++ s.row ∷ []) (length d.leaf.before) z) s.before_is more);
+          nodes_above = λ i low. d.nodes_above i (omega (arith, low, count_is)) ∙ nodes i (λ z. omega (arith, z, low, high_is));
+          entries_above = λ i low. d.entries_above i (omega (arith, low, count_is)) ∙ entries i (λ z. omega (arith, z, low, high_is));
+        }
+
+  module _ (lower : List (List (LevelNode K ℕ))) (a : List (K × ℕ)) (first : K) (number : ℕ) (b : List (K × ℕ)) (key : K) (u : Under most slots leaves lower (a ++ (first, number) ∷ b)) (inc : IsIncreasing cmp (flat leaves)) (g : GoesThrough cmp a first b key) where
+    -- with no row below, it stands in a leaf
+    pub leaf_at : length lower ≡ 0 → LeafStep cmp slots leaves lower a number key
+    leaf_at none = elim (step lower a first number b key u inc g) [ inl s ↦ s | inr s ↦ absurd (omega (arith, none, inner_count lower a number key s)) ]
+
+    -- with a row below, it stands in an inner node
+    pub inner_at : (length lower ≡ 0 → ⊥) → InnerStep cmp most slots leaves lower a number key
+    inner_at some = elim (step lower a first number b key u inc g) [ inl s ↦ absurd (some (ap length s.lower_is)) | inr s ↦ s ]

@@ -10,6 +10,7 @@ mod access;
 mod path;
 mod pool;
 mod trees;
+mod value;
 
 pub use bforest_nodes::{Comparator, Node, NodeData, PackedNode, Removed, SetValue, SplitOff};
 pub use path::Path;

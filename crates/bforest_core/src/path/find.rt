@@ -36,32 +36,32 @@ impl<K: Copy, V: Copy, const N: usize> Path<K, V, N> {
         ensures absent { is_present (C.order comp.now) (flat (tree_of pool.now.nodes root).leaves) key ≡ false → PlacedUnder pool.now.nodes root self.new.node self.new.entry self.new.size (place (C.order comp.now) (flat (tree_of pool.now.nodes root).leaves) key) }
         ensures path { StandsFor (C.order comp.now) self.new.node self.new.entry self.new.size (tree_of pool.now.nodes root) key }
     {
-        let (level, value) = self.descend(key, root, 0, pool, comp);
-        self.size = level + 1;
-        value
+        let levels = pool.levels(root);
+        self.size = levels;
+        self.descend(key, root, levels - 1, pool, comp)
     }
 
-    // Goes from `node` down to where a search for `key` ends. Answers the node's level, and the key's value. So many levels lie above.
+    // Goes from `node` on `level` down to where a search for `key` ends. Answers the key's value.
     fn descend<C: Comparator<K>>(
         &mut self,
         key: K,
         node: Node,
-        depth: usize,
+        level: usize,
         pool: &NodePool<K, V, N>,
         comp: &C,
-    ) -> (usize, Option<V>)
+    ) -> Option<V>
         requires capacity { IsLeafCapacity N }
-        requires under { (leaves : List (LevelNode K V)) × (lower : List (List (LevelNode K ℕ))) × (a : List (K × ℕ)) × (first : K) × (b : List (K × ℕ)) × Under N pool.now.nodes leaves lower (a ++ (first, node) ∷ b) × IsIncreasing (C.order comp.now) (flat leaves) × GoesThrough (C.order comp.now) a first b key × (depth + length lower ≤ 16) }
-        ensures level { (leaves : List (LevelNode K V)) (lower : List (List (LevelNode K ℕ))) (a : List (K × ℕ)) (first : K) (b : List (K × ℕ)) → Under N pool.now.nodes leaves lower (a ++ (first, node) ∷ b) → IsIncreasing (C.order comp.now) (flat leaves) → GoesThrough (C.order comp.now) a first b key → (result.0 ≡ length lower) × (result.1 ≡ value_for (C.order comp.now) (flat leaves) key) × Descended (C.order comp.now) leaves lower key (length a) self.old.node self.old.entry self.new.node self.new.entry }
+        requires height { level ≤ 16 }
+        requires under { (leaves : List (LevelNode K V)) × (lower : List (List (LevelNode K ℕ))) × (a : List (K × ℕ)) × (first : K) × (b : List (K × ℕ)) × Under N pool.now.nodes leaves lower (a ++ (first, node) ∷ b) × IsIncreasing (C.order comp.now) (flat leaves) × GoesThrough (C.order comp.now) a first b key × (level ≡ length lower) }
+        ensures descended { (leaves : List (LevelNode K V)) (lower : List (List (LevelNode K ℕ))) (a : List (K × ℕ)) (first : K) (b : List (K × ℕ)) → Under N pool.now.nodes leaves lower (a ++ (first, node) ∷ b) → IsIncreasing (C.order comp.now) (flat leaves) → GoesThrough (C.order comp.now) a first b key → level ≡ length lower → (result ≡ value_for (C.order comp.now) (flat leaves) key) × Descended (C.order comp.now) leaves lower key (length a) self.old.node self.old.entry self.new.node self.new.entry }
         ensures size { self.new.size ≡ self.old.size }
     {
-        if !pool.node(node).is_inner() {
-            return (0, self.find_here(key, node, pool, comp));
+        if level == 0 {
+            return self.find_here(key, node, pool, comp);
         }
         let (index, child) = follow(pool, node, key, comp);
-        let (below, value) = self.descend(key, child, depth + 1, pool, comp);
-        self.set_level(below + 1, node, index);
-        (below + 1, value)
+        self.set_level(level, node, index);
+        self.descend(key, child, level - 1, pool, comp)
     }
 
     // Goes to the place of `key` in the leaf `node`. Answers the key's value.

@@ -1,5 +1,5 @@
-use Rattle.std.proofs.Common.{ℕ, ◌-◌}
+use Rattle.std.proofs.Common.{ℕ}
 use Rattle.bforest_core.proofs.path.Path.+descend.Given as goal
 
 abbrev pub decreases-descend : goal.decreases-descend
-decreases-descend g l = 17 - l.depth
+decreases-descend g l = l.level

@@ -1,0 +1,5 @@
+use Rattle.std.proofs.Common.{ℕ, ◌-◌}
+use Rattle.bforest_core.proofs.pool.NodePool.+value_below.Given as goal
+
+abbrev pub decreases-value_below : goal.decreases-value_below
+decreases-value_below g l = 17 - l.depth
