@@ -60,7 +60,7 @@ pub(crate) fn get<K: Copy, V: Copy, const N: usize, C: Comparator<K>>(
     requires increasing { IsIncreasing (C.order comp.now) (flat (tree_of pool.now.nodes root).leaves) }
     ensures { result ≡ value_for (C.order comp.now) (flat (tree_of pool.now.nodes root).leaves) key }
 {
-    Path::default().find(key, root, pool, comp)
+    pool.value_of(key, root, comp)
 }
 
 /// Puts a value in at a key of the tree under a root. Answers the root of now, and the value that was there.

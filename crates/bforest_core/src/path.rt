@@ -4,6 +4,7 @@ ghost use Rattle.std.specs.Prelude.{◌≡◌, ◌≢◌, Some, None, get_or, sl
 mod find;
 mod insert;
 mod step;
+mod value;
 
 use bforest_nodes::Node;
 use std::marker::PhantomData;

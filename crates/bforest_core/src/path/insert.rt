@@ -10,7 +10,6 @@ ghost use Rattle.bforest_nodes.specs.Entries.{value_at_place, with_value, IsIncr
 ghost use Rattle.bforest_core.specs.Place.{inner_content, entry_items, leaf_content, IsIn, Stands};
 ghost use Rattle.bforest_core.specs.Trees.{IsUnion, is_root, tree_of};
 ghost use Rattle.bforest_core.specs.Change.{Changes, TakesNodes, PlacedUnder, StandsUnder};
-ghost use Rattle.std.specs.Borrow.{sem};
 ghost use Rattle.bforest_core.specs.Steps.{Over, Moved};
 
 use crate::access::{put_child, put_entry};
@@ -51,21 +50,10 @@ impl<K: Copy, V: Copy, const N: usize> Path<K, V, N> {
         ensures refused_path { OnErr result (self.new ≡ self.old) }
     {
         if !self.put_here(key, value, pool) {
-            pool.reserve(self.needed(pool))?;
+            pool.reserve(self.needed_here(pool))?;
             self.split_leaf(key, value, pool);
         }
         Ok(self.root())
-    }
-
-    /// Writes the value of the entry where the path stands. No other entry changes, and no node.
-    pub fn set_value(&self, value: V, pool: &mut NodePool<K, V, N>)
-        requires union { IsUnion N pool.old }
-        requires stands { (root : ℕ) × (place : ℕ) × StandsUnder pool.old.nodes root self.now.node self.now.entry self.now.size place }
-        ensures written { (root place : ℕ) → StandsUnder pool.old.nodes root self.now.node self.now.entry self.now.size place → Changes N pool.old pool.new root root (with_value (flat (tree_of pool.old.nodes root).leaves) place value) (sizes_of (tree_of pool.old.nodes root)) }
-        ensures slots { slot_count pool.new ≡ slot_count pool.old }
-        ensures chain { pool.new.chain ≡ pool.old.chain }
-    {
-        *pool.path_value_mut(self) = value;
     }
 
     // The root of the path's tree.
@@ -77,8 +65,18 @@ impl<K: Copy, V: Copy, const N: usize> Path<K, V, N> {
         self.node[self.size - 1]
     }
 
-    // How many nodes an insertion here needs: one for each full node from the leaf upwards, and one for a new root where all are full.
-    fn needed(&self, pool: &NodePool<K, V, N>) -> u32
+    /// How many nodes an insertion here takes: one for each full node from the leaf upwards, and one for a new root where all are full.
+    pub fn needed(&self, pool: &NodePool<K, V, N>) -> u32
+        requires capacity { IsLeafCapacity N }
+        requires union { IsUnion N pool.now }
+        requires placed { (root : ℕ) × (place : ℕ) × PlacedUnder pool.now.nodes root self.now.node self.now.entry self.now.size place }
+        ensures value { (root place : ℕ) → PlacedUnder pool.now.nodes root self.now.node self.now.entry self.now.size place → result ≡ need N place (sizes_of (tree_of pool.now.nodes root)) }
+    {
+        self.needed_here(pool)
+    }
+
+    // The same of a path whose tree is not named by its root.
+    fn needed_here(&self, pool: &NodePool<K, V, N>) -> u32
         requires height { self.now.size ≤ 17 }
         requires placed { (tree : Tree K V) × (place : ℕ) × Placed N pool.now self.now.node self.now.entry self.now.size tree place }
         ensures value { (tree : Tree K V) (place : ℕ) → Placed N pool.now self.now.node self.now.entry self.now.size tree place → result ≡ need N place (sizes_of tree) }
@@ -256,21 +254,6 @@ impl<K: Copy, V: Copy, const N: usize> Path<K, V, N> {
             self.entry[up] = index_behind(entry - 4, moved);
             (halves.crit_key, right, true)
         }
-    }
-}
-
-impl<K: Copy, V: Copy, const N: usize> NodePool<K, V, N> {
-    ghost use Rattle.bforest_core.specs.Lending.{lends_value_at};
-
-    /// The value of the entry where a path stands, for writing.
-    pub fn path_value_mut(&mut self, path: &Path<K, V, N>) -> &mut V
-        requires union { IsUnion N self.old }
-        requires stands { (root : ℕ) × (place : ℕ) × StandsUnder self.old.nodes root path.now.node path.now.entry path.now.size place }
-        ensures* writes_back { sem 𝓛 (lends_value_at K.row V.row N.row self.entry (get_or path.now.node 0 0) (get_or path.now.entry 0 0) result) }
-        ensures value { (root place : ℕ) → StandsUnder self.old.nodes root path.now.node path.now.entry path.now.size place → Some result.now ≡ value_at_place (flat (tree_of self.old.nodes root).leaves) place }
-        ensures written { (root place : ℕ) → StandsUnder self.old.nodes root path.now.node path.now.entry path.now.size place → (value : V) → Changes N self.old (with_value_at self.old (get_or path.now.node 0 0) (get_or path.now.entry 0 0) value) root root (with_value (flat (tree_of self.old.nodes root).leaves) place value) (sizes_of (tree_of self.old.nodes root)) }
-    {
-        self.value_mut(path.node[0], path.entry[0])
     }
 }
 

@@ -17,8 +17,8 @@ put_here-requires g c =
     let w = c.requires.placed in
     (search rules, (search rules, (tree_of c.args.pool.now.nodes w.0, w.1, placed-under _ _ w.0 w.1 _ _ _ c.requires.union w.2)))
 
-pub needed-requires : goal.needed-requires
-needed-requires g c =
+pub needed_here-requires : goal.needed_here-requires
+needed_here-requires g c =
     let w = c.requires.placed in
     let pool_is = c.put_here.ensures.pool c.if-not-put_here.true in
     let placed = placed-under _ _ w.0 w.1 _ _ _ c.requires.union w.2 in
@@ -33,7 +33,7 @@ split_leaf-requires g c =
     let tree = tree_of t0.nodes w.0 in
     let n = need g.row.N w.1 (sizes_of tree) in
     let pool_is = c.put_here.ensures.pool c.if-not-put_here.true in
-    let mid_is = mid-is _ t0 c.put_here.new.pool c.reserve.new.self w.0 w.1 _ _ _ c.needed.result union w.2 pool_is c.needed.ensures.value c.in_ok-reserve.ensures.ok in
+    let mid_is = mid-is _ t0 c.put_here.new.pool c.reserve.new.self w.0 w.1 _ _ _ c.needed_here.result union w.2 pool_is c.needed_here.ensures.value c.in_ok-reserve.ensures.ok in
     let d = leaf_spot _ _ _ _ _ tree w.1 (placed-under _ t0 w.0 w.1 _ _ _ union w.2) in
     let full = full-reserved g.row.N t0 n (get_or ms 0 0) (leaf_content (d.l ++ d.r)) d.slot_is (c.put_here.ensures.full c.if-not-put_here.true) in
     let slots = ap (λ (z : Table g.row.K.Denot g.row.V.Denot). length z.nodes) pool_is in
@@ -49,7 +49,7 @@ root-requires g c =
     let put : Put g.row.N t0 joined.pool w.0 w.1 (c.args.key, c.args.value) joined.self.node joined.self.entry joined.self.size = elim joined.branch [
       | then-not-put_here+in_ok-reserve v ↦
           put-from _ t0 v.split_leaf.new.pool joined.pool w.0 w.1 _ _ v.split_leaf.new.self joined.self v.pool-is v.self-is
-          (put-split _ t0 c.put_here.new.pool v.reserve.new.self v.split_leaf.new.pool w.0 w.1 _ _ _ v.needed.result _ _ _ _ c.requires.union w.2 (c.put_here.ensures.pool v.if-not-put_here.true) v.in_ok-reserve.ensures.numbers v.needed.ensures.value (λ short. (let e = v.in_ok-reserve.ensures.full.1 short in absurd cc)) v.in_ok-reserve.ensures.ok v.split_leaf.ensures.inserted)
+          (put-split _ t0 c.put_here.new.pool v.reserve.new.self v.split_leaf.new.pool w.0 w.1 _ _ _ v.needed_here.result _ _ _ _ c.requires.union w.2 (c.put_here.ensures.pool v.if-not-put_here.true) v.in_ok-reserve.ensures.numbers v.needed_here.ensures.value (λ short. (let e = v.in_ok-reserve.ensures.full.1 short in absurd cc)) v.in_ok-reserve.ensures.ok v.split_leaf.ensures.inserted)
       | else-not-put_here v ↦
           put-from _ t0 c.put_here.new.pool joined.pool w.0 w.1 _ _ c.args.self.now joined.self v.pool-is v.self-is
           (put-here _ t0 c.put_here.new.pool w.0 w.1 _ _ _ _ c.requires.union w.2 (c.put_here.ensures.inserted v.if-not-put_here.false _ w.1 (placed-under _ t0 w.0 w.1 _ _ _ c.requires.union w.2)))
@@ -65,7 +65,7 @@ put_at g c root place p =
     elim joined.branch [
       | then-not-put_here+in_ok-reserve v ↦
           put-from _ t0 v.split_leaf.new.pool joined.pool root place _ _ v.split_leaf.new.self joined.self v.pool-is v.self-is
-          (put-split _ t0 c.put_here.new.pool v.reserve.new.self v.split_leaf.new.pool root place _ _ _ v.needed.result _ _ _ _ c.requires.union p (c.put_here.ensures.pool v.if-not-put_here.true) v.in_ok-reserve.ensures.numbers v.needed.ensures.value (λ short. (let e = v.in_ok-reserve.ensures.full.1 short in absurd cc)) v.in_ok-reserve.ensures.ok v.split_leaf.ensures.inserted)
+          (put-split _ t0 c.put_here.new.pool v.reserve.new.self v.split_leaf.new.pool root place _ _ _ v.needed_here.result _ _ _ _ c.requires.union p (c.put_here.ensures.pool v.if-not-put_here.true) v.in_ok-reserve.ensures.numbers v.needed_here.ensures.value (λ short. (let e = v.in_ok-reserve.ensures.full.1 short in absurd cc)) v.in_ok-reserve.ensures.ok v.split_leaf.ensures.inserted)
       | else-not-put_here v ↦
           put-from _ t0 c.put_here.new.pool joined.pool root place _ _ c.args.self.now joined.self v.pool-is v.self-is
           (put-here _ t0 c.put_here.new.pool root place _ _ _ _ c.requires.union p (c.put_here.ensures.inserted v.if-not-put_here.false _ place (placed-under _ t0 root place _ _ _ c.requires.union p)))
@@ -73,11 +73,11 @@ put_at g c root place p =
 
 -- the need, as the path counts it
 need_at : (g : Over) (c : goal.After-from_residual g) (root place : ℕ) → PlacedUnder c.args.pool.now.nodes root c.args.self.now.node c.args.self.now.entry c.args.self.now.size place →
-    c.needed.result ≡ need g.row.N place (sizes_of (tree_of c.args.pool.now.nodes root))
+    c.needed_here.result ≡ need g.row.N place (sizes_of (tree_of c.args.pool.now.nodes root))
 need_at g c root place p =
     let t0 = c.args.pool.now in
     let tree = tree_of t0.nodes root in
-    c.needed.ensures.value tree place (placed_from _ t0 c.put_here.new.pool _ _ _ tree place (c.put_here.ensures.pool c.if-not-put_here.true) (placed-under g.row.N t0 root place _ _ _ c.requires.union p))
+    c.needed_here.ensures.value tree place (placed_from _ t0 c.put_here.new.pool _ _ _ tree place (c.put_here.ensures.pool c.if-not-put_here.true) (placed-under g.row.N t0 root place _ _ _ c.requires.union p))
 
 -- the error is that of the reservation
 err_at : (g : Over) (c : goal.After-from_residual g) → c.from_residual.result ≡ Err c.in_err-reserve.field-0.0
@@ -100,7 +100,7 @@ returns-in_err-reserve-clause-memory g c = λ root place p is.
     let n_is = need_at g c root place p in
     let pool_is = c.put_here.ensures.pool c.if-not-put_here.true in
     let grows = c.in_err-reserve.ensures.memory (err-same c.from_residual.result c.in_err-reserve.field-0.0 _ _ _ (err_at g c) is refl refl) in
-    subst (λ (z : ℕ). NeedsGrowth z c.args.pool.now) n_is (subst (λ (z : Table g.row.K.Denot g.row.V.Denot). NeedsGrowth c.needed.result z) pool_is grows)
+    subst (λ (z : ℕ). NeedsGrowth z c.args.pool.now) n_is (subst (λ (z : Table g.row.K.Denot g.row.V.Denot). NeedsGrowth c.needed_here.result z) pool_is grows)
 
 pub returns-in_err-reserve-clause-enough : goal.returns-in_err-reserve-clause-enough
 returns-in_err-reserve-clause-enough g c = λ root place p enough.
