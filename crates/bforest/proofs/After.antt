@@ -1,9 +1,9 @@
 -- What a call that may be refused leaves.
 use Rattle.bforest.proofs.Changed.{becomes-new}
-use Rattle.bforest.specs.Forest.{Becomes, Forest, free_of}
-use Rattle.bforest_core.proofs.Chains.{length-down_from}
+use Rattle.bforest.specs.Forest.{Becomes, Forest, free_of, slots_of}
+use Rattle.bforest_core.proofs.Chains.{length-down_from, length-fresh_nodes}
 use Rattle.bforest_core.specs.Change.{Changes}
-use Rattle.bforest_core.specs.Table.{down_from, free_count, reserved, slot_count, with_slots}
+use Rattle.bforest_core.specs.Table.{down_from, free_count, fresh_nodes, front_of, reserved, slot_count, with_slots}
 use Rattle.bforest_core.specs.Trees.{IsUnion, is_root}
 use Rattle.std.proofs.Common.{Err, IfOk, IsOk, IsTrue, List, None, Ok, OnErr, OnOk, Result, Some, ap, append-nil, arith, length-append, subst, sym, ◌+◌, ◌-◌, ◌∙◌, ◌≡◌, ◌≤◌, ℕ}
 
@@ -31,6 +31,10 @@ module _ {K X : Type 0} where
   -- how many lie free then
   pub free-reserved : (f : Forest K X) (n : ℕ) → free_of (reserved f n) ≡ (n - free_of f) + free_of f
   free-reserved f n = length-append (down_from (slot_count f) (n - free_of f)) f.chain ∙ ap (λ z. z + free_of f) (length-down_from (slot_count f) (n - free_of f))
+
+  -- how many slots there are then
+  pub slots-reserved : (f : Forest K X) (n : ℕ) → slots_of (reserved f n) ≡ slots_of f + (n - free_of f)
+  slots-reserved f n = length-append f.nodes (fresh_nodes (slot_count f) (n - free_of f) (front_of f.chain)) ∙ ap (λ z. slots_of f + z) (length-fresh_nodes K X (slot_count f) (n - free_of f) (front_of f.chain))
 
   -- where so many lie free already nothing changes
   pub reserved-same : (f : Forest K X) (n : ℕ) → n ≤ free_of f → reserved f n ≡ f

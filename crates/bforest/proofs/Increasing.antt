@@ -1,14 +1,12 @@
 -- Keys that increase, from the last one that was seen.
-use Rattle.bforest_nodes.specs.Entries.{IsIncreasing, put}
-use Rattle.bforest.specs.Forest.{Becomes, Forest, list_of}
-use Rattle.bforest_nodes.proofs.Ordered.{IsIncreasing-put, above}
-use Rattle.std.proofs.Common.{Err, List, None, Ok, Option, Result, Some, [], ap, false, refl, subst, sym, true, ◌∷◌, ◌≡◌, ℕ}
+use Rattle.bforest_nodes.specs.Entries.{IsIncreasing}
+use Rattle.bforest_nodes.proofs.Ordered.{above}
+use Rattle.std.proofs.Common.{List, None, Option, Some, [], ap, false, refl, subst, sym, true, ◌∷◌, ◌≡◌, ℕ}
 use Rattle.std.specs.Cmp.{IsTotalOrder}
 use Rattle.std.specs.List.Sorted.{IsStrictlySortedBy}
 use Rattle.std.specs.Map.{keys_of}
 use Rattle.std.specs.Option.{option_map_or}
 use Rattle.std.specs.Ordering.{is_lt}
-use Rattle.std.specs.Result.{OnErr, OnOk}
 use Rattle.std.specs.declared.cmp.Ordering.{Ordering}
 use Rattle.std.specs.declared.cmp.Ordering.TheVariants.{Equal, Greater, Less}
 
@@ -72,8 +70,3 @@ module _ {K X : Type 0} (cmp : K → K → Ordering) where
   pub IsIncreasing-one : (e : K × X) → IsIncreasing cmp (e ∷ [])
   unfolding IsStrictlySortedBy
   IsIncreasing-one e = (tt, tt)
-
--- an insertion that keeps the handle, or is refused, keeps the list increasing
-pub increasing_after : {K X A E : Type 0} (cmp : K → K → Ordering) (o : IsTotalOrder cmp) (f f' : Forest K X) (h : Option ℕ) (k : K) (v : X) → IsIncreasing cmp (list_of f h) → (r : Result A E) → OnOk r (Becomes f h f' h (put cmp (list_of f h) k v)) → OnErr r (f' ≡ f) → IsIncreasing cmp (list_of f' h)
-increasing_after cmp o f f' h k v up (Ok a) b e = subst (IsIncreasing cmp) (sym b.list) (IsIncreasing-put cmp o (list_of f h) k v up)
-increasing_after cmp o f f' h k v up (Err x) b e = subst (IsIncreasing cmp) (λ j. list_of (sym e j) h) up

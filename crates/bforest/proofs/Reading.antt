@@ -1,9 +1,9 @@
 -- Where an iterator's path stands, what is left, and a step of it.
-use Rattle.bforest.proofs.Tops.{tops}
 use Rattle.bforest.specs.Layout.{IsReading, entries_from, place_in}
 use Rattle.bforest_core.proofs.Entered.{entry_is, leaf_slot, pair_read}
 use Rattle.bforest_core.proofs.Stored.{some_same}
 use Rattle.bforest_core.proofs.Tables.{count-append, count-same}
+use Rattle.bforest_core.proofs.Tops.{root-stands}
 use Rattle.bforest_core.proofs.Unions.{rooted}
 use Rattle.bforest_core.specs.Change.{StandsUnder}
 use Rattle.bforest_core.specs.Climb.{top_of}
@@ -61,7 +61,7 @@ module _ {K V : Type 0} where
       let s = u.stands in
       let r = rooted 7 table root union u.root_is in
       let once : count (get_or path 0 0) (numbers tree.leaves) ≤ 1 = omega (arith, r.apart (get_or path 0 0), count-append (get_or path 0 0) (numbers_of tree) table.chain, count-append (get_or path 0 0) (numbers tree.leaves) (flat_map numbers tree.above)) in
-      let top : top_of path size ≡ root = sym (tops 7 (omega arith) tree path indices size place r.fit s) ∙ r.root_is in
+      let top : top_of path size ≡ root = sym (root-stands 7 tree path indices size place r.fit s) ∙ r.root_is in
       let at : place_in tree.leaves (get_or path 0 0) (get_or indices 0 0) ≡ place =
       ap (λ z. place_in z (get_or path 0 0) (get_or indices 0 0)) s.leaf.row_is ∙ place_by s.leaf.before (get_or path 0 0) s.leaf.entries s.leaf.after (get_or indices 0 0) (subst (λ z. count (get_or path 0 0) (numbers z) ≤ 1) s.leaf.row_is once) ∙ sym s.leaf.place_is in
       let some : (size == 0) ≡ false = elim (eqb_tells size 0) [ inl w ↦ absurd (omega (arith, w.1, s.size_is)) | inr w ↦ w.0 ] in

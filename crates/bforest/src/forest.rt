@@ -78,6 +78,7 @@ impl<K: Copy, V: Copy> MapForest<K, V> {
         ensures keeps { Keeps self.old self.new }
         ensures free { OnOk result (n ≤ free_of self.new) }
         ensures grown { OnOk result (free_of self.old < n → free_of self.new ≡ n) }
+        ensures slots { OnOk result (slots_of self.new ≡ slots_of self.old + (n - free_of self.old)) }
         ensures enough { n ≤ free_of self.old → IsOk result }
         ensures same { n ≤ free_of self.old → self.new ≡ self.old }
         ensures refused { OnErr result (self.new ≡ self.old) }

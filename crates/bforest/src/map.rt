@@ -136,8 +136,8 @@ impl<K: Copy, V: Copy> Map<K, V> {
     ///
     /// # Errors
     ///
-    /// `Full` where fewer nodes can be had than the entry needs. For now also where the key is absent from a map of 7 entries, since a
-    /// tree is one leaf. `Memory` where the table had to grow and the memory was refused. Nothing has changed then.
+    /// `Full` where fewer nodes can be had than the entry needs. `Memory` where the table had to grow and the memory was refused. Nothing has
+    /// changed then.
     pub fn try_insert<C: Comparator<K>>(
         &mut self,
         key: K,

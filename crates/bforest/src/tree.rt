@@ -1,9 +1,8 @@
 //! The calls on one tree of a pool, once for every kind of forest.
 ghost use Rattle.bforest_core.specs.Change.{Changes, KeepsTrees, TakesNodes};
 ghost use Rattle.bforest_nodes.specs.Content.{IsLeafCapacity};
-ghost use Rattle.bforest_nodes.specs.Entries.{IsIncreasing, is_present, place, put, value_for};
+ghost use Rattle.bforest_nodes.specs.Entries.{IsIncreasing, put, value_for};
 ghost use Rattle.bforest_core.specs.Levels.{flat, sizes_of};
-ghost use Rattle.bforest_core.specs.Sizes.{growth, need};
 ghost use Rattle.bforest_core.specs.Table.{NeedsGrowth, free_count, reserved, room};
 ghost use Rattle.bforest_core.specs.Trees.{IsUnion, is_root, tree_of};
 ghost use Rattle.bforest.specs.Insertion.{need_under, sizes_under};

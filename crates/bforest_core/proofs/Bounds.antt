@@ -87,10 +87,12 @@ some_grew : (k : Option ℕ) (levels : List (List ℕ)) → length (gain_above k
 some_grew None levels e = absurd (omega (arith, e))
 some_grew (Some q) levels e = (q, refl)
 
-below_lt : (a b : ℕ) → a < b → nat_lt a b ≡ true
+-- a number below another, as the sizes ask it
+pub below_lt : (a b : ℕ) → a < b → nat_lt a b ≡ true
 below_lt a b h = grind arith
 
-above_lt : (a b : ℕ) → b ≤ a → nat_lt a b ≡ false
+-- one not below it
+pub above_lt : (a b : ℕ) → b ≤ a → nat_lt a b ≡ false
 above_lt a b h = grind arith
 
 -- a node with room stays one

@@ -3,6 +3,7 @@ use Rattle.std.proofs.Common.{◌≡◌, ◌⊎◌, nat_le, ◌/◌, ℕ, suc, �
 use Rattle.std.proofs.lemmas.Bool.{cases_lt}
 use Rattle.bforest_core.specs.Levels.{LevelNode, node, flat, head_of, heads, sizes, FitRow}
 use Rattle.bforest_core.specs.Sizes.{inner_gain, past, leaf_gain}
+use Rattle.bforest_core.proofs.Bounds.{below_lt, above_lt}
 use Rattle.bforest_core.proofs.LevelRows.{flat-append, heads-append, FitRow-split, FitRow-join}
 
 module _ {K X : Type 0} where
@@ -33,12 +34,6 @@ module _ {K X : Type 0} where
       let s = FitRow-split half most before (node m es) (z ∷ after) f in
       FitRow-join half most before (node m xs) (node n ys ∷ z ∷ after) s.0 (hx, mx, (hy, my, s.1.2))
 
-here_lt : (a b : ℕ) → a < b → nat_lt a b ≡ true
-here_lt a b h = grind arith
-
-past_lt : (a b : ℕ) → b ≤ a → nat_lt a b ≡ false
-past_lt a b h = grind arith
-
 -- a change of a level behind these nodes
 abbrev behind : {K X : Type 0} → List (LevelNode K X) → Option ℕ × List ℕ → Option ℕ × List ℕ
 behind [] change = change
@@ -57,32 +52,32 @@ module _ {K X : Type 0} where
   gain_behind [] s e after low = let z : 0 + e ≡ e = omega arith in ap (λ w. inner_gain w (s ∷ after)) z
   gain_behind (node m es ∷ before) s e after low =
       let len : length (flat (node m es ∷ before)) + e ≡ length es + (length (flat before) + e) = omega (arith, length-append es (flat before)) in
-      let a = past_lt (length es + (length (flat before) + e)) (length es) (omega arith) in
+      let a = above_lt (length es + (length (flat before) + e)) (length es) (omega arith) in
       let d : length es + (length (flat before) + e) - length es ≡ length (flat before) + e = omega arith in
       rw (len, a, d) (ap (λ z. past (length es) z) (gain_behind before s e after low))
 
   -- the sizes of a level with one more entry, in a node with room
   pub gain_room : (before : List (LevelNode K X)) (s e : ℕ) (after : List ℕ) → e < s → s < 8 → inner_gain (length (flat before) + e) (sizes before ++ s ∷ after) ≡ (None, sizes before ++ suc s ∷ after)
   gain_room before s e after low room =
-      let a = here_lt e s low in
-      let b = here_lt s 8 room in
+      let a = below_lt e s low in
+      let b = below_lt s 8 room in
       let one : inner_gain e (s ∷ after) ≡ (None, suc s ∷ after) = rw (a, b) refl in
       gain_behind before s e after low ∙ ap (λ z. behind before z) one ∙ behind_none before (suc s ∷ after)
 
   -- in a full node
   pub gain_full : (before : List (LevelNode K X)) (s e left right : ℕ) (after : List ℕ) → e < s → s ≡ 8 → (if nat_lt e 4 then 5 ∷ 4 ∷ after else 4 ∷ 5 ∷ after) ≡ left ∷ right ∷ after → inner_gain (length (flat before) + e) (sizes before ++ s ∷ after) ≡ (Some (length before), sizes before ++ left ∷ right ∷ after)
   gain_full before s e left right after low full halves =
-      let a = here_lt e s low in
-      let b = past_lt s 8 (omega arith) in
+      let a = below_lt e s low in
+      let b = above_lt s 8 (omega arith) in
       let one : inner_gain e (s ∷ after) ≡ (Some 0, left ∷ right ∷ after) = rw (a, b) (ap (λ z. (Some 0, z)) halves) in
       gain_behind before s e after low ∙ ap (λ z. behind before z) one ∙ behind_some before (left ∷ right ∷ after)
 
 -- the sizes of the halves
 pub halves_left : (e left right : ℕ) (after : List ℕ) → e < 4 → left ≡ 5 → right ≡ 4 → (if nat_lt e 4 then 5 ∷ 4 ∷ after else 4 ∷ 5 ∷ after) ≡ left ∷ right ∷ after
-halves_left e left right after low l r = rw (here_lt e 4 low, l, r) refl
+halves_left e left right after low l r = rw (below_lt e 4 low, l, r) refl
 
 pub halves_right : (e left right : ℕ) (after : List ℕ) → 4 ≤ e → left ≡ 4 → right ≡ 5 → (if nat_lt e 4 then 5 ∷ 4 ∷ after else 4 ∷ 5 ∷ after) ≡ left ∷ right ∷ after
-halves_right e left right after high l r = rw (past_lt e 4 high, l, r) refl
+halves_right e left right after high l r = rw (above_lt e 4 high, l, r) refl
 
 -- a full node becomes two
 pub gain_some : {K X : Type 0} (before : List (LevelNode K X)) (s e : ℕ) (after : List ℕ) → e < s → s ≡ 8 → (inner_gain (length (flat before) + e) (sizes before ++ s ∷ after)).0 ≡ Some (length before)
@@ -113,7 +108,7 @@ module _ {K X : Type 0} where
   pub leaf_room : (most : ℕ) (before : List (LevelNode K X)) (s e : ℕ) (after : List ℕ) → e ≤ s → (before ≡ []) ⊎ (1 ≤ e) → s < most → leaf_gain most (length (flat before) + e) (sizes before ++ s ∷ after) ≡ (None, sizes before ++ suc s ∷ after)
   leaf_room most before s e after low at room =
       let a = here_le e s low in
-      let b = here_lt s most room in
+      let b = below_lt s most room in
       let one : leaf_gain most e (s ∷ after) ≡ (None, suc s ∷ after) = rw (a, b) refl in
       leaf_behind most before s e after low at ∙ ap (λ z. behind before z) one ∙ behind_none before (suc s ∷ after)
 
@@ -121,6 +116,6 @@ module _ {K X : Type 0} where
   pub leaf_full : (most : ℕ) (before : List (LevelNode K X)) (s e : ℕ) (after : List ℕ) → e ≤ s → (before ≡ []) ⊎ (1 ≤ e) → s ≡ most → leaf_gain most (length (flat before) + e) (sizes before ++ s ∷ after) ≡ (Some (length before), sizes before ++ (most + 1) / 2 ∷ (most + 1) / 2 ∷ after)
   leaf_full most before s e after low at full =
       let a = here_le e s low in
-      let b = past_lt s most (omega arith) in
+      let b = above_lt s most (omega arith) in
       let one : leaf_gain most e (s ∷ after) ≡ (Some 0, (most + 1) / 2 ∷ (most + 1) / 2 ∷ after) = rw (a, b) refl in
       leaf_behind most before s e after low at ∙ ap (λ z. behind before z) one ∙ behind_some before ((most + 1) / 2 ∷ (most + 1) / 2 ∷ after)

@@ -1,11 +1,10 @@
 //! What a pool tells of the trees in it.
-ghost use Rattle.std.specs.Prelude.{◌≡◌, ℕ, ◌+◌, ◌-◌, ◌*◌, ◌/◌, ◌^◌, ◌<◌, ◌≤◌, ◌↔◌, IsTrue, List, ◌∷◌, ◌++◌, length};
+ghost use Rattle.std.specs.Prelude.{◌≡◌, ℕ, ◌+◌, ◌-◌, ◌*◌, ◌/◌, ◌^◌, ◌<◌, ◌≤◌, ◌↔◌, IsTrue, List, ◌∷◌, length};
 ghost use Rattle.std.specs.List.{flat_map};
 ghost use Rattle.bforest_nodes.specs.Content.{IsLeafCapacity, children_of};
 ghost use Rattle.bforest_core.specs.Levels.{LevelNode, flat, half_of, sizes_of};
 ghost use Rattle.bforest_core.specs.Descent.{Under};
 ghost use Rattle.bforest_core.specs.Place.{count};
-ghost use Rattle.bforest_core.specs.Table.{slot_count};
 ghost use Rattle.bforest_core.specs.Trees.{IsUnion, is_root, tree_of};
 
 use crate::pool::NodePool;

@@ -1,16 +1,12 @@
 //! Going to where a key is.
-ghost use Rattle.std.specs.Prelude.{◌≡◌, ℕ, suc, ◌+◌, ◌-◌, ◌<◌, ◌≤◌, ◌≢◌, ◌↔◌, IsTrue, false, true, List, [], ◌∷◌, ◌++◌, map, length, get_or, slice_get, slice_set, Some, None, if◌then◌else◌};
+ghost use Rattle.std.specs.Prelude.{◌≡◌, ℕ, ◌+◌, ◌-◌, ◌<◌, ◌≤◌, IsTrue, false, true, List, ◌∷◌, ◌++◌, length, get_or, slice_get, slice_set, Some};
 ghost use Rattle.bforest_nodes.specs.Content.{IsLeafCapacity};
-ghost use Rattle.bforest_core.specs.Table.{IsFullAt};
-ghost use Rattle.bforest_core.specs.Levels.{LevelNode, flat, sizes, Tree, IsFit, sizes_of};
-ghost use Rattle.bforest_core.specs.Sizes.{gain_above, need_above, growth, need};
-ghost use Rattle.bforest_core.specs.Climb.{Above, Grown, Halved, Inserted, LeafHalved, Placed};
-ghost use Rattle.bforest_core.specs.Descent.{GoesThrough, Under, Descended, Led, IsRooted, StandsFor};
+ghost use Rattle.bforest_core.specs.Levels.{LevelNode, flat};
+ghost use Rattle.bforest_core.specs.Descent.{GoesThrough, Under, Descended, StandsFor};
 ghost use Rattle.bforest_nodes.specs.Entries.{is_present, IsIncreasing, place, value_for};
-ghost use Rattle.bforest_core.specs.Place.{inner_content, entry_items, leaf_content, IsIn, Stands};
+ghost use Rattle.bforest_core.specs.Place.{leaf_content};
 ghost use Rattle.bforest_core.specs.Change.{StandsUnder, PlacedUnder};
 ghost use Rattle.bforest_core.specs.Trees.{IsUnion, is_root, tree_of};
-ghost use Rattle.bforest_core.specs.Steps.{Over, Moved};
 
 use crate::access::{follow, look_up};
 use crate::path::Path;

@@ -1,16 +1,13 @@
 //! Putting an entry in where a path is.
-ghost use Rattle.std.specs.Prelude.{insert, IfOk, IsOk, OnOk, OnErr, Ok, Err, ◌≡◌, ℕ, suc, ◌+◌, ◌-◌, ◌<◌, ◌≤◌, ◌≢◌, ◌↔◌, IsTrue, false, true, List, [], ◌∷◌, ◌++◌, map, length, get_or, slice_get, slice_set, Some, None, if◌then◌else◌};
+ghost use Rattle.std.specs.Prelude.{insert, IfOk, IsOk, OnOk, OnErr, Ok, Err, ◌≡◌, ℕ, suc, ◌+◌, ◌-◌, ◌<◌, ◌≤◌, ◌↔◌, false, true, List, [], ◌∷◌, ◌++◌, map, length, get_or, Some, if◌then◌else◌};
 ghost use Rattle.bforest_nodes.specs.Content.{IsLeafCapacity};
-ghost use Rattle.bforest_core.specs.Table.{IsFullAt, NeedsGrowth, room, slot_count, free_count, with_value_at};
-ghost use Rattle.bforest_core.specs.Levels.{LevelNode, flat, sizes, Tree, IsFit, sizes_of};
+ghost use Rattle.bforest_core.specs.Table.{IsFullAt, NeedsGrowth, room, free_count};
+ghost use Rattle.bforest_core.specs.Levels.{LevelNode, flat, sizes, Tree, sizes_of};
 ghost use Rattle.bforest_core.specs.Sizes.{gain_above, need_above, growth, need};
 ghost use Rattle.bforest_core.specs.Climb.{top_of, Above, Grown, Halved, Inserted, LeafHalved, Placed};
-ghost use Rattle.bforest_core.specs.Descent.{GoesThrough, Under, Descended, Led, IsRooted, StandsFor};
-ghost use Rattle.bforest_nodes.specs.Entries.{value_at_place, with_value, IsIncreasing, place, value_for};
-ghost use Rattle.bforest_core.specs.Place.{inner_content, entry_items, leaf_content, IsIn, Stands};
-ghost use Rattle.bforest_core.specs.Trees.{IsUnion, is_root, tree_of};
+ghost use Rattle.bforest_nodes.specs.Entries.{place};
+ghost use Rattle.bforest_core.specs.Trees.{IsUnion, tree_of};
 ghost use Rattle.bforest_core.specs.Change.{Changes, TakesNodes, PlacedUnder, StandsUnder};
-ghost use Rattle.bforest_core.specs.Steps.{Over, Moved};
 
 use crate::access::{put_child, put_entry};
 use crate::path::Path;

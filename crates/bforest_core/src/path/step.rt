@@ -1,12 +1,9 @@
 //! Steps from an entry to the next, and to the one before.
-ghost use Rattle.std.specs.Prelude.{◌≡◌, ℕ, suc, ◌+◌, ◌-◌, ◌<◌, ◌≤◌, ◌≢◌, ◌↔◌, IsTrue, false, true, List, [], ◌∷◌, ◌++◌, map, length, get_or, slice_get, slice_set, Some, None, if◌then◌else◌};
+ghost use Rattle.std.specs.Prelude.{◌≡◌, ℕ, suc, ◌+◌, ◌-◌, ◌<◌, ◌≤◌, ◌≢◌, ◌↔◌, IsTrue, false, true, List, [], ◌∷◌, ◌++◌, length, get_or, slice_get, Some, None, if◌then◌else◌};
 ghost use Rattle.bforest_nodes.specs.Content.{IsLeafCapacity};
-ghost use Rattle.bforest_core.specs.Table.{IsFullAt};
-ghost use Rattle.bforest_core.specs.Levels.{LevelNode, flat, sizes, Tree, IsFit, sizes_of};
-ghost use Rattle.bforest_core.specs.Sizes.{gain_above, need_above, growth, need};
-ghost use Rattle.bforest_core.specs.Climb.{Above, Grown, Halved, Inserted, LeafHalved, Placed};
-ghost use Rattle.bforest_core.specs.Descent.{GoesThrough, Under, Descended, Led, LedLast, IsRooted, StandsFor};
-ghost use Rattle.bforest_nodes.specs.Entries.{IsIncreasing, place, value_for};
+ghost use Rattle.bforest_core.specs.Levels.{LevelNode, flat, Tree, IsFit};
+ghost use Rattle.bforest_core.specs.Descent.{Under, Led, LedLast};
+ghost use Rattle.bforest_nodes.specs.Entries.{place};
 ghost use Rattle.bforest_core.specs.Place.{inner_content, entry_items, leaf_content, IsIn, Stands, PointsAt, IsPathAt, entry_before};
 ghost use Rattle.bforest_core.specs.Trees.{IsUnion, is_root, tree_of};
 ghost use Rattle.bforest_core.specs.Change.{StandsUnder};

@@ -1,8 +1,8 @@
-use Rattle.bforest.proofs.After.{free-reserved, limit-reserved, ok-then, reserved-same}
+use Rattle.bforest.proofs.After.{free-reserved, limit-reserved, ok-then, reserved-same, slots-reserved}
 use Rattle.bforest.proofs.Changed.{grows, keeps}
 use Rattle.bforest.proofs.forest.MapForest.reserve_nodes.Goals as goal
-use Rattle.bforest.specs.Forest.{Forest, Keeps, NeedsGrowth, free_of}
-use Rattle.std.proofs.Common.{IsOk, OnOk, ap, arith, subst, ◌<◌, ◌∙◌, ◌≡◌, ◌≤◌}
+use Rattle.bforest.specs.Forest.{Forest, Keeps, NeedsGrowth, free_of, slots_of}
+use Rattle.std.proofs.Common.{IsOk, OnOk, ap, arith, subst, ◌+◌, ◌-◌, ◌<◌, ◌∙◌, ◌≡◌, ◌≤◌}
 use Rattle.std.proofs.lemmas.Result.{on_ok_weaker}
 
 pub returns-clause-keeps : goal.returns-clause-keeps
@@ -30,6 +30,14 @@ returns-clause-grown g c =
     let n = c.args.n in
     subst (λ (z : Forest g.row.K.Denot g.row.V.Denot). OnOk c.reserve.result (free_of z < n → free_of new ≡ n)) c.self.view_is
     (on_ok_weaker c.reserve.result (λ is low. let e = ap (λ z. free_of z) is ∙ free-reserved p n in omega (arith, e, low)) c.reserve.ensures.ok)
+
+pub returns-clause-slots : goal.returns-clause-slots
+returns-clause-slots g c =
+    let p = c.self.inside.pool in
+    let new = c.reserve.new.pool in
+    let n = c.args.n in
+    subst (λ (z : Forest g.row.K.Denot g.row.V.Denot). OnOk c.reserve.result (slots_of new ≡ slots_of z + (n - free_of z))) c.self.view_is
+    (on_ok_weaker c.reserve.result (λ is. ap (λ z. slots_of z) is ∙ slots-reserved p n) c.reserve.ensures.ok)
 
 pub returns-clause-same : goal.returns-clause-same
 returns-clause-same g c =
