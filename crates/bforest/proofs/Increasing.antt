@@ -1,7 +1,7 @@
 -- Keys that increase, from the last one that was seen.
 use Rattle.bforest_nodes.specs.Entries.{IsIncreasing}
 use Rattle.bforest_nodes.proofs.Ordered.{above}
-use Rattle.std.proofs.Common.{List, None, Option, Some, [], ap, false, refl, subst, sym, true, ◌∷◌, ◌≡◌, ℕ}
+use Rattle.std.proofs.Common.{List, None, Option, Some, [], ap, false, refl, subst, true, ◌∷◌, ◌≡◌}
 use Rattle.std.specs.Cmp.{IsTotalOrder}
 use Rattle.std.specs.List.Sorted.{IsStrictlySortedBy}
 use Rattle.std.specs.Map.{keys_of}

@@ -1,25 +1,24 @@
 -- The way down of a search: one level of it, and its end in a leaf.
-use Rattle.std.proofs.Common.{◌≡◌, ◌≢◌, ℕ, zero, suc, ◌+◌, ◌≤◌, ◌<◌, ◌⊎◌, inl, inr, true, false, List, [], ◌∷◌, ◌++◌, length, get_or, slice_get, Option, Some, None, refl, sym, ap, subst, ◌∙◌, arith, append_assoc, length-append, rules}
+use Rattle.std.proofs.Common.{◌≡◌, ◌≢◌, ℕ, suc, ◌+◌, ◌≤◌, ◌<◌, ◌⊎◌, inl, inr, List, [], ◌∷◌, ◌++◌, length, get_or, slice_get, Some, refl, sym, ap, subst, ◌∙◌, arith, append_assoc, length-append}
 use Rattle.std.proofs.lemmas.Option.{slice_get_within}
 use Rattle.std.specs.Cmp.{IsTotalOrder}
-use Rattle.std.specs.List.Sorted.{IsStrictlySortedBy}
 use Rattle.std.specs.List.{AllByRecursion}
 use Rattle.std.specs.Map.{keys_of}
 use Rattle.std.specs.Option.{is_some, option_map}
 use Rattle.std.specs.declared.cmp.Ordering.{Ordering}
-use Rattle.std.specs.declared.cmp.Ordering.TheVariants.{Less, Equal, Greater}
-use Rattle.bforest_nodes.specs.Content.{Content, Inner, Leaf, IsInner, IsLeafCapacity}
-use Rattle.bforest_nodes.specs.Entries.{IsIncreasing, place, entry_for, is_present, value_for, value_at_place}
+use Rattle.std.specs.declared.cmp.Ordering.TheVariants.{Less, Greater}
+use Rattle.bforest_nodes.specs.Content.{Content, IsInner, IsLeafCapacity}
+use Rattle.bforest_nodes.specs.Entries.{IsIncreasing, place, is_present, value_for}
 use Rattle.bforest_core.specs.Levels.{LevelNode, node, flat, heads, FitRow, half_of}
-use Rattle.bforest_core.specs.Place.{RowIn, RowsIn, leaf_content, inner_content, entry_keys, entry_items, IsAt}
-use Rattle.bforest_core.specs.Descent.{SameAbove, StackedTo, StandsTo, child_index, IsFrom, IsUpTo, GoesThrough, Under, IsPlaced, Descended}
+use Rattle.bforest_core.specs.Place.{RowIn, leaf_content, inner_content, entry_keys, entry_items, IsAt}
+use Rattle.bforest_core.specs.Descent.{StandsTo, child_index, IsFrom, IsUpTo, GoesThrough, Under, IsPlaced, Descended}
 use Rattle.bforest_nodes.proofs.Found.{place-present}
 use Rattle.bforest_core.proofs.LeafSearch.{items-read}
 use Rattle.bforest_core.proofs.LevelRows.{flat-append, FitRow-split}
 use Rattle.bforest_core.proofs.Stored.{some_same, slice_get_at}
 use Rattle.bforest_core.proofs.Tables.{row-split}
-use Rattle.bforest_core.proofs.Rising.{all_less, increasing_split, increasing_rest, all_before, all_greater, place_between, entry_between, place-le, first_passed, sides, Sides}
-use Rattle.bforest_core.proofs.Downward.{Last, last_of, stacked_last, in_last, stands_more, stands_same, Seen, seen, heads_increasing, upto_flat, stacked_increasing}
+use Rattle.bforest_core.proofs.Rising.{all_less, increasing_split, increasing_rest, all_before, all_greater, place_between, entry_between, place-le, first_passed, sides}
+use Rattle.bforest_core.proofs.Downward.{last_of, stacked_last, in_last, stands_more, seen, heads_increasing, upto_flat, stacked_increasing}
 
 pub some_leaf : (n : ℕ) → IsLeafCapacity n → 1 ≤ half_of n
 some_leaf n c = omega (arith, c.least)

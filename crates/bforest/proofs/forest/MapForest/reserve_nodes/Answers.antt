@@ -2,7 +2,7 @@ use Rattle.bforest.proofs.After.{free-reserved, limit-reserved, ok-then, reserve
 use Rattle.bforest.proofs.Changed.{grows, keeps}
 use Rattle.bforest.proofs.forest.MapForest.reserve_nodes.Goals as goal
 use Rattle.bforest.specs.Forest.{Forest, Keeps, NeedsGrowth, free_of, slots_of}
-use Rattle.std.proofs.Common.{IsOk, OnOk, ap, arith, subst, ◌+◌, ◌-◌, ◌<◌, ◌∙◌, ◌≡◌, ◌≤◌}
+use Rattle.std.proofs.Common.{OnOk, ap, arith, subst, ◌+◌, ◌-◌, ◌<◌, ◌∙◌, ◌≡◌, ◌≤◌}
 use Rattle.std.proofs.lemmas.Result.{on_ok_weaker}
 
 pub returns-clause-keeps : goal.returns-clause-keeps

@@ -1,7 +1,6 @@
-use Rattle.std.proofs.Common.{rules, ◌≡◌, ℕ, ◌+◌, ◌-◌, ◌<◌, ◌≤◌, List, [], ◌∷◌, ◌++◌, length, get_or, refl, sym, ap, subst, ◌∙◌, arith}
+use Rattle.std.proofs.Common.{rules, ℕ, ◌-◌, ◌<◌, List, ◌∷◌, get_or, sym, ap, subst, ◌∙◌, arith}
 use Rattle.std.proofs.lemmas.List.{get_or-set_same, get_or-set_other}
 use Rattle.bforest_nodes.specs.Entries.{place}
-use Rattle.bforest_core.specs.Levels.{LevelNode}
 use Rattle.bforest_core.specs.Place.{entry_keys, entry_items}
 use Rattle.bforest_core.specs.Descent.{Under}
 use Rattle.bforest_core.proofs.Rising.{increasing_rest}
@@ -63,16 +62,33 @@ descend-requires g t c κs within =
     let d = onward order o g.row.N one slots w.0 w.1 w.2 c.args.node key s c.follow-index.result.0 c.follow-index.result.1
     (c.follow-index.ensures.index (entry_keys s.es) (entry_items (s.e ∷ s.es)) s.slot_is) (c.follow-index.ensures.child (entry_keys s.es) (entry_items (s.e ∷ s.es)) s.slot_is) in
     let n = inner_count order o g.row.N one slots w.0 w.1 w.2 c.args.node key s in
-    let less : c.args.level - 1 < t = omega (arith, c.decreases, w.8, n) in
-    (
+    let less : c.args.level - 1 < t = omega (arith, c.decreases, w.8, n) in (
       less,
-      (within.0, (within.1.0, ((λ a m. search rules), (within.1.1, (search rules, (search rules, (
-        c.requires.capacity,
+      (
+        within.0,
         (
-          omega (arith, c.requires.height),
-          (w.0, s.rows, d.a, d.first, d.b, subst (λ (z : List (g.row.K.Denot × ℕ)). Under g.row.N slots w.0 s.rows z) d.flat_is s.under, w.6, d.through, omega (arith, w.8, n)),
+          within.1.0,
+          (
+            (λ a m. search rules),
+            (
+              within.1.1,
+              (
+                search rules,
+                (
+                  search rules,
+                  (
+                    c.requires.capacity,
+                    (
+                      omega (arith, c.requires.height),
+                      (w.0, s.rows, d.a, d.first, d.b, subst (λ (z : List (g.row.K.Denot × ℕ)). Under g.row.N slots w.0 s.rows z) d.flat_is s.under, w.6, d.through, omega (arith, w.8, n)),
+                    ),
+                  ),
+                ),
+              ),
+            ),
+          ),
         ),
-      ))))))),
+      ),
     )
 
 pub returns-clause-descended : goal.returns-clause-descended

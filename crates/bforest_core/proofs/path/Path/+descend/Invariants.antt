@@ -1,4 +1,3 @@
-use Rattle.std.proofs.Common.{ℕ}
 use Rattle.bforest_core.proofs.path.Path.+descend.Given as goal
 
 abbrev pub decreases-descend : goal.decreases-descend

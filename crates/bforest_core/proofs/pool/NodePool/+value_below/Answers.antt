@@ -1,6 +1,5 @@
-use Rattle.std.proofs.Common.{rules, ◌≡◌, ℕ, ◌+◌, ◌-◌, ◌<◌, List, ◌∷◌, ◌++◌, length, sym, subst, ◌∙◌, arith}
+use Rattle.std.proofs.Common.{rules, ℕ, ◌+◌, ◌-◌, ◌<◌, List, ◌∷◌, sym, subst, ◌∙◌, arith}
 use Rattle.std.proofs.lemmas.Bool.{false≢true}
-use Rattle.bforest_core.specs.Levels.{LevelNode, flat}
 use Rattle.bforest_core.specs.Place.{entry_keys, entry_items}
 use Rattle.bforest_core.specs.Descent.{Under}
 use Rattle.bforest_core.proofs.Rising.{increasing_rest}
