@@ -3,6 +3,8 @@ ghost use Rattle.std.specs.Prelude.{◌≡◌, ◌≢◌, Some, None, get_or, sl
 
 mod find;
 mod insert;
+mod merge;
+mod remove;
 mod step;
 
 use bforest_nodes::Node;
