@@ -101,7 +101,7 @@ impl<K: Copy, V: Copy, const N: usize> Path<K, V, N> {
     }
 
     // Balances the path's leaf, which lost an entry, with its right neighbour. Whether it went into it.
-    fn settle_leaf(&mut self, pool: &mut NodePool<K, V, N>) -> bool
+    pub(super) fn settle_leaf(&mut self, pool: &mut NodePool<K, V, N>) -> bool
         requires capacity { IsLeafCapacity N }
         requires height { self.old.size ≤ 17 }
         requires pending { (before : List (LevelNode K V)) × (n : ℕ) × (es : List (K × V)) × (after : List (LevelNode K V)) × (rest : List (List (LevelNode K ℕ))) × OnLevel leaf_content (half_of N) N pool.old self.old.node self.old.entry 0 self.old.size before n es after rest }
