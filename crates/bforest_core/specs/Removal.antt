@@ -1,11 +1,11 @@
 -- What the calls of a path say of the rows above a level, and of a whole tree, when an entry goes.
-use Rattle.std.specs.Prelude.{◌≡◌, ◌≢◌, ℕ, suc, ◌+◌, ◌-◌, ◌≤◌, ◌<◌, ◌↔◌, true, false, List, [], ◌∷◌, ◌++◌, map, length, get_or, slice_get}
+use Rattle.std.specs.Prelude.{remove, ◌≡◌, ◌≢◌, ℕ, suc, ◌+◌, ◌-◌, ◌≤◌, ◌<◌, ◌↔◌, true, false, List, [], ◌∷◌, ◌++◌, map, length, get_or, slice_get}
 use Rattle.std.specs.List.{flat_map}
 use Rattle.bforest_nodes.specs.Content.{Content, IsFree}
 use Rattle.bforest_core.specs.Table.{Table}
-use Rattle.bforest_core.specs.Levels.{LevelNode, node, flat, heads, sizes, numbers, FitRow, Solid, Stacked, Topped, least}
-use Rattle.bforest_core.specs.Sizes.{settled}
-use Rattle.bforest_core.specs.Place.{RowIn, RowsIn, inner_content, count, Distinct, root_above}
+use Rattle.bforest_core.specs.Levels.{LevelNode, node, flat, heads, sizes, numbers, FitRow, Solid, Stacked, Topped, least, Tree, IsFit, half_of, sizes_of}
+use Rattle.bforest_core.specs.Sizes.{settled, shrink}
+use Rattle.bforest_core.specs.Place.{RowIn, RowsIn, IsIn, leaf_content, inner_content, count, Distinct, root_above, root_of, numbers_of, Stands, IsPathAt}
 use Rattle.bforest_core.specs.Climb.{Above, SameBelow, top_of}
 use Rattle.bforest_core.specs.Trees.{slot, Every}
 
@@ -119,6 +119,14 @@ module _ {K V : Type 0} where
     pub root_is : root_above list rows' ≡ top_of path size
     pub frees : Frees old new (flat_map numbers rows) freed
 
+  -- the rows over a level, up to this root, where the path has so many levels: they lie in the table, apart from its chain
+  pub record UpTo (table : Table K V) (size : ℕ) (rows : List (List (LevelNode K ℕ))) (list : List (K × ℕ)) (root : ℕ) : Type 0 where
+    pub stacked : Stacked list rows
+    pub inside : RowsIn table.nodes rows
+    pub height : suc (length rows) ≡ size
+    pub root_is : root_above list rows ≡ root
+    pub apart : Distinct (flat_map numbers rows ++ table.chain)
+
   -- the rows after roots with a single child went: those up to the first of a single node
   pub record Trimmed (old new : Table K V) (size size' : ℕ) (rows : List (List (LevelNode K ℕ))) (list : List (K × ℕ)) (root root' : ℕ) (freed : List ℕ) : Type 0 where
     pub rows' : List (List (LevelNode K ℕ))
@@ -127,7 +135,65 @@ module _ {K V : Type 0} where
     pub stacked : Stacked list rows'
     pub topped : Topped list rows'
     pub size_is : suc (length rows') ≡ size'
-    pub freed_are : (number : ℕ) → count number freed ≡ count number (flat_map numbers discarded)
+    pub freed_is : (number : ℕ) → count number freed ≡ count number (flat_map numbers discarded)
     pub root_is : root_above list rows' ≡ root'
-    pub same_is : (root' ≡ root) ↔ (size' ≡ size)
+    pub same_root : size' ≡ size → root' ≡ root
+    pub old_root : size' ≢ size → 0 < count root freed
     pub frees : Frees old new (flat_map numbers discarded) freed
+
+  -- the path stands at an entry of a fit tree, whose leaves have at most so many, and which lies in the table, apart from
+  -- its chain
+  pub record StandsIn (most : ℕ) (table : Table K V) (path indices : List ℕ) (size : ℕ) (tree : Tree K V) (place : ℕ) : Type 0 where
+    pub fit : IsFit most tree
+    pub inside : IsIn table.nodes tree
+    pub apart : Distinct (numbers_of tree ++ table.chain)
+    pub low : length tree.above ≤ 16
+    pub stands : Stands path indices size tree place
+
+  -- the entry at the place went out of the path's leaf, which has others: the path is where it was, at the next entry or
+  -- behind the leaf's last
+  pub record LeafLoss (most : ℕ) (old new : Table K V) (path indices : List ℕ) (size : ℕ) (tree : Tree K V) (place : ℕ) : Type 0 where
+    pub before : List (LevelNode K V)
+    pub entries : List (K × V)
+    pub after : List (LevelNode K V)
+    pub rest : List (List (LevelNode K ℕ))
+    pub inside : RowIn leaf_content new.nodes (before ++ node (get_or path 0 0) entries ∷ after)
+    pub solid : Solid (half_of most) most before
+    pub fits : FitRow (half_of most) most after
+    pub some : 1 ≤ length entries
+    pub lost_one : least (half_of most) after ≤ suc (length entries)
+    pub most_is : length entries ≤ most
+    pub above : Above new path indices 1 size rest (heads (before ++ node (get_or path 0 0) entries ∷ after)) (length (heads before))
+    pub entry_was : get_or indices 0 0 ≤ length entries
+    pub apart : Distinct ((numbers (before ++ node (get_or path 0 0) entries ∷ after) ++ flat_map numbers rest) ++ new.chain)
+    pub flat_is : flat (before ++ node (get_or path 0 0) entries ∷ after) ≡ remove (flat tree.leaves) place
+    pub place_is : place ≡ length (flat before) + get_or indices 0 0
+    pub sizes_were : sizes tree.leaves ≡ sizes before ++ suc (length entries) ∷ sizes after
+    pub rest_sizes : map sizes rest ≡ map sizes tree.above
+    pub numbers_are : (number : ℕ) → count number (numbers (before ++ node (get_or path 0 0) entries ∷ after) ++ flat_map numbers rest) ≡ count number (numbers_of tree)
+    pub frees : Frees old new (numbers_of tree) []
+
+  -- the entry at the place went out of the tree, which is under this root now and not empty, and the path is where it was:
+  -- the nodes have the sizes of `shrink`, and those freed lie in front of the chain
+  pub record Removed (most : ℕ) (old new : Table K V) (path' indices' : List ℕ) (size' : ℕ) (tree : Tree K V) (place root' : ℕ) : Type 0 where
+    pub tree' : Tree K V
+    pub freed : List ℕ
+    pub flat_is : flat tree'.leaves ≡ remove (flat tree.leaves) place
+    pub sizes_are : sizes_of tree' ≡ shrink most place (sizes_of tree)
+    pub fit : IsFit most tree'
+    pub inside : IsIn new.nodes tree'
+    pub some : 1 ≤ length (flat tree'.leaves)
+    pub at : IsPathAt path' indices' size' tree' place
+    pub numbers_are : (number : ℕ) → count number (numbers_of tree') + count number freed ≡ count number (numbers_of tree)
+    pub root_is : root_of tree' ≡ root'
+    pub same_root : length tree'.above ≡ length tree.above → root' ≡ root_of tree
+    pub old_root : length tree'.above ≢ length tree.above → 0 < count (root_of tree) freed
+    pub low : length tree'.above ≤ length tree.above
+    pub frees : Frees old new (numbers_of tree) freed
+
+  -- the only entry of the tree went, and its node
+  pub record Emptied (old new : Table K V) (tree : Tree K V) : Type 0 where
+    pub single : length (flat tree.leaves) ≡ 1
+    pub freed : List ℕ
+    pub freed_is : (number : ℕ) → count number freed ≡ count number (numbers_of tree)
+    pub frees : Frees old new (numbers_of tree) freed

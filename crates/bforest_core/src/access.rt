@@ -1,7 +1,7 @@
 //! Reading and writing one node of a pool, by its number.
 ghost use Rattle.std.specs.Prelude.{◌≡◌, ℕ, ◌-◌, ◌<◌, ◌≤◌, ◌↔◌, IsTrue, List, length, slice_get, Some, if◌then◌else◌};
 ghost use Rattle.std.specs.List.Sorted.{IsStrictlySortedBy};
-ghost use Rattle.bforest_nodes.specs.Content.{Content, Inner, IsFree, with_child, Leaf, with_entry, with_key, without_child, removed_answer, entry_count};
+ghost use Rattle.bforest_nodes.specs.Content.{Content, Inner, IsFree, with_child, Leaf, with_entry, with_key, without_child, without_entry, removed_answer, entry_count};
 ghost use Rattle.bforest_core.specs.Descent.{child_index};
 ghost use Rattle.bforest_nodes.specs.Entries.{IsIncreasing, place, value_for};
 ghost use Rattle.bforest_core.specs.Place.{leaf_content};
@@ -159,4 +159,25 @@ pub(crate) fn remove_child<K: Copy, V: Copy, const N: usize>(
     ensures answer { (keys : List K) (children : List ℕ) → slice_get pool.old.nodes node ≡ Some (Inner keys children) → result ≡ removed_answer 8 index (length children - 1) }
 {
     pool.node_mut(node).inner_remove(index)
+}
+
+// Takes an entry out of a leaf.
+pub(crate) fn remove_entry<K: Copy, V: Copy, const N: usize>(
+    pool: &mut NodePool<K, V, N>,
+    node: Node,
+    index: usize,
+)
+    requires used { IsUsed pool.old node }
+    requires leaf { (keys : List K) × (vals : List V) × (slice_get pool.old.nodes node ≡ Some (Leaf keys vals)) × (index < length keys) }
+    ensures { (keys : List K) (vals : List V) → slice_get pool.old.nodes node ≡ Some (Leaf keys vals) → pool.new ≡ with_node pool.old node (without_entry (Leaf keys vals) index) }
+{
+    let _answer = pool.node_mut(node).leaf_remove(index);
+}
+
+// The first key of a leaf.
+pub(crate) fn leaf_key<K: Copy, V: Copy, const N: usize>(pool: &NodePool<K, V, N>, node: Node) -> K
+    requires { (keys : List K) × (vals : List V) × (slice_get pool.now.nodes node ≡ Some (Leaf keys vals)) × (0 < length keys) }
+    ensures { (keys : List K) (vals : List V) → slice_get pool.now.nodes node ≡ Some (Leaf keys vals) → slice_get keys 0 ≡ Some result }
+{
+    pool.node(node).leaf_crit_key()
 }
