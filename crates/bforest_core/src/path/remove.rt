@@ -1,5 +1,5 @@
 //! Taking out the entry where a path is.
-ghost use Rattle.std.specs.Prelude.{remove, true, false, IfSome, ◌≡◌, ℕ, suc, ◌+◌, ◌-◌, ◌<◌, ◌≤◌, ◌↔◌, IsTrue, List, [], ◌∷◌, ◌++◌, length, get_or, Some, None};
+ghost use Rattle.std.specs.Prelude.{remove, true, false, IfSome, ◌≡◌, ℕ, suc, ◌+◌, ◌-◌, ◌<◌, ◌≤◌, ◌↔◌, IsTrue, List, [], ◌∷◌, ◌++◌, length, get_or, slice_get, Some, None};
 ghost use Rattle.bforest_nodes.specs.Content.{IsLeafCapacity};
 ghost use Rattle.bforest_core.specs.Levels.{LevelNode, flat, sizes_of, Tree};
 ghost use Rattle.bforest_core.specs.Sizes.{shrink};

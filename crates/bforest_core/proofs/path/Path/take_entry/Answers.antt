@@ -1,0 +1,1 @@
+use Rattle.bforest_core.proofs.LeafLoss.{leaf_at}
