@@ -118,7 +118,7 @@ impl<K: Copy, V: Copy, const N: usize> Path<K, V, N> {
     }
 
     // Moves the path's node on `level` to the next one. Where there is none it answers false, and nothing changed.
-    fn next_node(&mut self, level: usize, pool: &NodePool<K, V, N>) -> bool
+    pub(super) fn next_node(&mut self, level: usize, pool: &NodePool<K, V, N>) -> bool
         requires height { self.old.size ≤ 17 }
         requires over { (rows : List (List (LevelNode K ℕ))) × (list : List (K × ℕ)) × (place : ℕ) × Over pool.now.nodes self.old.node self.old.entry (suc level) self.old.size rows list place }
         ensures moved { result ≡ true → (rows : List (List (LevelNode K ℕ))) (list : List (K × ℕ)) (place : ℕ) → Over pool.now.nodes self.old.node self.old.entry (suc level) self.old.size rows list place → Moved self.old.node self.old.entry self.new.node self.new.entry level rows list (suc place) }
