@@ -17,6 +17,10 @@ use Rattle.bforest_core.proofs.TakeLeft.{Across, across_cut}
 use Rattle.bforest_core.proofs.Loosen.{heads-put}
 use Rattle.bforest_core.proofs.Zipper.{stands-same}
 
+use Rattle.std.specs.Prelude.{Bool, false}
+use Rattle.bforest_core.specs.Steps.{Over, Moved}
+use Rattle.bforest_core.proofs.Stored.{slice_get_at, some_same}
+
 second : {X Y : Type 0} (f : X → Y) (l : List X) (x y : X) (r : List X) → slice_get (map f (l ++ x ∷ y ∷ r)) (suc (length l)) ≡ Some (f y)
 second f [] x y r = refl
 second f (z ∷ l) x y r = second f l x y r
@@ -115,12 +119,9 @@ module _ {K V : Type 0} where
       slice_get (drop 1 (entry_keys (d.q.l ++ x ∷ d.q.r))) (get_or indices up 0) ≡ Some key → slice_get (entry_items (d.q.l ++ x ∷ d.q.r)) (get_or indices up 0 + 1) ≡ Some next → NextIs (Some (key, next)) b
   next_within t path indices up size rows a x b d key next more k_is n_is =
       let w = within d.q.l x d.q.r (get_or indices up 0) d.q.entry_is more in
-      let key_is : w.y.0 ≡ key = some_is w.y.0 key (sym w.key_is ∙ k_is) in
-      let next_is : w.y.1 ≡ next = some_is w.y.1 next (sym w.item_is ∙ n_is) in
+      let key_is : w.y.0 ≡ key = some_same w.y.0 key (sym w.key_is ∙ k_is) in
+      let next_is : w.y.1 ≡ next = some_same w.y.1 next (sym w.item_is ∙ n_is) in
       (w.ys ++ flat d.q.after, d.q.b_is ∙ ap (λ z. z ++ flat d.q.after) w.r_is ∙ ap (λ z. (z, w.y.1) ∷ (w.ys ++ flat d.q.after)) key_is ∙ ap (λ z. (key, z) ∷ (w.ys ++ flat d.q.after)) next_is)
-    where
-      some_is : {A : Type 0} (x y : A) → Some x ≡ Some y → x ≡ y
-      some_is x y e = cc
 
   pub next_none : (t : Table K V) (path indices : List ℕ) (up size : ℕ) (rows : List (List (LevelNode K ℕ))) (a : List (K × ℕ)) (x : K × ℕ) (b : List (K × ℕ)) (d : Spot t path indices up size rows a x b) → length (d.q.l ++ x ∷ d.q.r) ≤ get_or indices up 0 + 1 → heads d.q.after ≡ [] → b ≡ []
   next_none t path indices up size rows a x b d less none =
@@ -256,3 +257,24 @@ module _ {K V : Type 0} where
       q.rows_are ∙ ap (λ z. (q.before ++ node num (z ++ x ∷ q.r) ∷ q.after) ∷ q.rest) o.l_is ∙ ap (λ z. (q.before ++ node num ((o.z ∷ o.zs) ++ x ∷ z) ∷ q.after) ∷ q.rest) o.r_is ∙ ap (λ z. (q.before ++ node num ((o.z ∷ o.zs) ++ x ∷ []) ∷ z) ∷ q.rest) o.after_is in
       let a_is : a ≡ flat q.before ++ (o.z ∷ o.zs) = q.a_is ∙ ap (λ z. flat q.before ++ z) o.l_is in
       subst (λ (z : List (List (LevelNode K ℕ))). Rebuilt t u path indices path indices up size z (a ++ x ∷ (key, n) ∷ b) (length a) (map sizes z) []) (sym rows_are) (rw (a_is, o.b_is) w)
+
+  -- rows above a level, for a step on it
+  pub over-above : (t : Table K V) (path indices : List ℕ) (level size : ℕ) (rows : List (List (LevelNode K ℕ))) (list : List (K × ℕ)) (place : ℕ) → Above t path indices level size rows list place → Over t.nodes path indices level size rows list place
+  over-above t path indices level size rows list place p = record { stacked = p.stacked; inside = p.inside; stands = p.stands; height = p.height }
+
+  -- a step is made where there is a next node
+  pub must_move : (t : Table K V) (path indices : List ℕ) (level size : ℕ) (rows : List (List (LevelNode K ℕ))) (a : List (K × ℕ)) (x y : K × ℕ) (b : List (K × ℕ)) (moved : Bool) →
+      (moved ≡ false → suc (length a) ≡ length (a ++ x ∷ y ∷ b)) → moved ≡ true
+  must_move t path indices level size rows a x y b true last = refl
+  must_move t path indices level size rows a x y b false last = absurd (omega (arith, last refl, length-append a (x ∷ y ∷ b)))
+
+  -- the rows after a step, with another index below them
+  pub entered_next : (t : Table K V) (path indices path' indices' indices2 : List ℕ) (level size : ℕ) (rows : List (List (LevelNode K ℕ))) (a : List (K × ℕ)) (x y : K × ℕ) (b : List (K × ℕ)) → Above t path indices (suc level) size rows (a ++ x ∷ y ∷ b) (length a) →
+      Moved path indices path' indices' level rows (a ++ x ∷ y ∷ b) (suc (length a)) → ((i : ℕ) → suc level ≤ i → get_or indices2 i 0 ≡ get_or indices' i 0) → Above t path' indices2 (suc level) size rows (a ++ x ∷ y ∷ b) (suc (length a)) × (get_or path' level 0 ≡ y.1)
+  entered_next t path indices path' indices' indices2 level size rows a x y b p m same =
+      let len : length (a ++ x ∷ []) ≡ suc (length a) = length-append a (x ∷ []) ∙ omega arith in
+      let found : slice_get (a ++ x ∷ y ∷ b) (suc (length a)) ≡ Some y = ap (λ z. slice_get z (suc (length a))) (sym (append_assoc a (x ∷ []) (y ∷ b))) ∙ slice_get_at (a ++ x ∷ []) y b (suc (length a)) len in
+      let head_is : m.head ≡ y = some_same m.head y (sym m.head_is ∙ found) in (
+        record { stacked = p.stacked; inside = p.inside; stands = stands-same path' indices' path' indices2 (suc level) rows (suc (length a)) (λ i high. refl) same m.stands; height = p.height; apart = p.apart },
+        m.node_is ∙ ap (λ z. z.1) head_is,
+      )

@@ -12,7 +12,7 @@ use Rattle.bforest_core.specs.Removal.{Rebuilt, Frees, OnLevel, Healed, Joined}
 use Rattle.bforest_core.proofs.LevelRows.{flat-append, heads-append, sizes-append, numbers-append, FitRow-join, Solid-full, least-pos, least-le, Solid-more, head-is, HeadIs}
 use Rattle.bforest_core.proofs.Tables.{count-append, count-same, count-row, row-split, row-join, row-same, row-put_two, row-drop_put, rows-same, ne_from_count, absent_ne, Puts, slice_get-set_apart}
 use Rattle.bforest_core.proofs.Frees.{frees-refl}
-use Rattle.bforest_core.proofs.Zipper.{apart_here, above_two}
+use Rattle.bforest_core.proofs.Zipper.{apart_here, above_two, stands-same}
 use Rattle.bforest_core.proofs.Balance.{IsHalf, IsStored, PutsTwo, AllRight, Spread}
 use Rattle.bforest_core.proofs.Frees.{freed-is}
 
