@@ -4,6 +4,7 @@ ghost use Rattle.std.specs.Prelude.{◌≡◌, ◌≢◌, Some, None, get_or, sl
 mod find;
 mod insert;
 mod merge;
+mod neighbour;
 mod remove;
 mod step;
 

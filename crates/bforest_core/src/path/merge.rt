@@ -4,82 +4,14 @@ ghost use Rattle.bforest_nodes.specs.Content.{IsLeafCapacity};
 ghost use Rattle.bforest_core.specs.Levels.{LevelNode, sizes, half_of};
 ghost use Rattle.bforest_core.specs.Sizes.{loss_above};
 ghost use Rattle.bforest_core.specs.Place.{inner_content, leaf_content};
-ghost use Rattle.bforest_core.specs.Climb.{Above, NextIs};
+ghost use Rattle.bforest_core.specs.Climb.{Above};
 ghost use Rattle.bforest_core.specs.Removal.{Rebuilt, OnLevel, Loosened, Healed, Joined, Dropped};
 
-use crate::access::{child, entries, remove_child, separator, set_separator};
+use crate::access::{entries, remove_child, separator, set_separator};
 use crate::path::Path;
 use crate::pool::NodePool;
-use bforest_nodes::Node;
 
 impl<K: Copy, V: Copy, const N: usize> Path<K, V, N> {
-    // The right neighbour of the path's node below level `up`, which may have another parent, with the key between the two.
-    pub(super) fn right_sibling(
-        &self,
-        up: usize,
-        pool: &NodePool<K, V, N>,
-    ) -> Option<(K, Node)>
-        requires height { self.now.size ≤ 17 }
-        requires pending { (rows : List (List (LevelNode K ℕ))) × (a : List (K × ℕ)) × (x : K × ℕ) × (b : List (K × ℕ)) × Above pool.now self.now.node self.now.entry up self.now.size rows (a ++ x ∷ b) (length a) }
-        ensures { (rows : List (List (LevelNode K ℕ))) (a : List (K × ℕ)) (x : K × ℕ) (b : List (K × ℕ)) → Above pool.now self.now.node self.now.entry up self.now.size rows (a ++ x ∷ b) (length a) → NextIs result b }
-    {
-        if up == self.size {
-            return None;
-        }
-        let n = self.node[up];
-        let e = self.entry[up];
-        if e + 1 < entries(pool, n) {
-            Some((separator(pool, n, e), child(pool, n, e + 1)))
-        } else {
-            match self.right_sibling(up + 1, pool) {
-                None => None,
-                Some(next) => Some((next.0, child(pool, next.1, 0))),
-            }
-        }
-    }
-
-    // Renews the key between the path's node below level `up` and its right neighbour.
-    pub(super) fn rekey_next(
-        &self,
-        up: usize,
-        key: K,
-        pool: &mut NodePool<K, V, N>,
-    )
-        requires height { self.now.size ≤ 17 }
-        requires pending { (rows : List (List (LevelNode K ℕ))) × (a : List (K × ℕ)) × (x : K × ℕ) × (k : K) × (n : ℕ) × (b : List (K × ℕ)) × Above pool.old self.now.node self.now.entry up self.now.size rows (a ++ x ∷ (k, n) ∷ b) (length a) }
-        ensures { (rows : List (List (LevelNode K ℕ))) (a : List (K × ℕ)) (x : K × ℕ) (k : K) (n : ℕ) (b : List (K × ℕ)) → Above pool.old self.now.node self.now.entry up self.now.size rows (a ++ x ∷ (k, n) ∷ b) (length a) → Rebuilt pool.old pool.new self.now.node self.now.entry self.now.node self.now.entry up self.now.size rows (a ++ x ∷ (key, n) ∷ b) (length a) (map sizes rows) [] }
-    {
-        let n = self.node[up];
-        let e = self.entry[up];
-        if e + 1 < entries(pool, n) {
-            set_separator(pool, n, e, key);
-        } else {
-            self.rekey_next(up + 1, key, pool);
-        }
-    }
-
-    // Renews the first key of the path's node below level `up`: in the table its separator, if it has one.
-    pub(super) fn rekey_here(
-        &self,
-        up: usize,
-        key: K,
-        pool: &mut NodePool<K, V, N>,
-    )
-        requires height { self.now.size ≤ 17 }
-        requires pending { (rows : List (List (LevelNode K ℕ))) × (a : List (K × ℕ)) × (k : K) × (n : ℕ) × (b : List (K × ℕ)) × Above pool.old self.now.node self.now.entry up self.now.size rows (a ++ (k, n) ∷ b) (length a) }
-        ensures { (rows : List (List (LevelNode K ℕ))) (a : List (K × ℕ)) (k : K) (n : ℕ) (b : List (K × ℕ)) → Above pool.old self.now.node self.now.entry up self.now.size rows (a ++ (k, n) ∷ b) (length a) → Rebuilt pool.old pool.new self.now.node self.now.entry self.now.node self.now.entry up self.now.size rows (a ++ (key, n) ∷ b) (length a) (map sizes rows) [] }
-    {
-        if up >= self.size {
-            return;
-        }
-        let e = self.entry[up];
-        if e > 0 {
-            set_separator(pool, self.node[up], e - 1, key);
-        } else {
-            self.rekey_here(up + 1, key, pool);
-        }
-    }
-
     // Takes the entry at the path out of level `up`, and gives the next one its key.
     fn take_left(&self, up: usize, pool: &mut NodePool<K, V, N>)
         requires height { self.now.size ≤ 17 }
@@ -112,8 +44,8 @@ impl<K: Copy, V: Copy, const N: usize> Path<K, V, N> {
         let n = self.node[0];
         let left = entries(pool, n);
         if left > N / 2 {
-            if self.entry[0] == left && self.next_node(0, pool) {
-                self.set_entry(0);
+            if self.entry[0] == left {
+                self.enter_next(0, pool);
             }
             return false;
         }
@@ -148,8 +80,8 @@ impl<K: Copy, V: Copy, const N: usize> Path<K, V, N> {
         let n = self.node[level];
         let left = entries(pool, n);
         if left >= 4 {
-            if self.entry[level] == left && self.next_node(level, pool) {
-                self.entry[level] = 0;
+            if self.entry[level] == left {
+                self.enter_next(level, pool);
             }
             return false;
         }
