@@ -40,7 +40,7 @@ pub leaf_count : {K V : Type 0} (es fs : List (K × V)) (c : Option (Content K V
 leaf_count es fs c e f = let same : entry_keys es ≡ entry_keys fs = cc in sym (leaf_keys es) ∙ ap length same ∙ leaf_keys fs
 
 -- a row that is not seen from above has no nodes
-no_nodes : {K X : Type 0} (half most : ℕ) → 1 ≤ half → (row : List (LevelNode K X)) → FitRow half most row → heads row ≡ [] → row ≡ []
+pub no_nodes : {K X : Type 0} (half most : ℕ) → 1 ≤ half → (row : List (LevelNode K X)) → FitRow half most row → heads row ≡ [] → row ≡ []
 no_nodes half most one [] f e = refl
 no_nodes half most one (node n [] ∷ row) f e = absurd (omega (arith, f.0, least-pos half one row))
 no_nodes half most one (node n (x ∷ es) ∷ row) f e = absurd cc

@@ -29,7 +29,7 @@ top_rows hs ms js level row (row2 ∷ rows) place s st =
     top_rows (heads row) ms js (suc level) row2 rows (length st.0.before) s.2 st.1 ∙ ap (λ z. get_or ms z 0) here
 
 -- the leaves and the rows above them
-top_tree : {K V : Type 0} (leaves : List (LevelNode K V)) (above : List (List (LevelNode K ℕ))) (ms js : List ℕ) (size place : ℕ) (before : List (LevelNode K V)) (es : List (K × V)) (after : List (LevelNode K V)) → leaves ≡ before ++ node (get_or ms 0 0) es ∷ after → 1 ≤ length es →
+pub top_tree : {K V : Type 0} (leaves : List (LevelNode K V)) (above : List (List (LevelNode K ℕ))) (ms js : List ℕ) (size place : ℕ) (before : List (LevelNode K V)) (es : List (K × V)) (after : List (LevelNode K V)) → leaves ≡ before ++ node (get_or ms 0 0) es ∷ after → 1 ≤ length es →
     Stacked (heads leaves) above → StandsAbove ms js 1 above place → size ≡ suc (length above) → root_above (heads leaves) above ≡ top_of ms size
 top_tree leaves [] ms js size place before es after is some s st size_is =
     let here : 0 ≡ size - 1 = omega (arith, size_is) in
