@@ -192,3 +192,86 @@ module _ {K V : Type 0} where
         above = rw full at st;
         size_is = omega (arith, h.above.height, size_is);
       }
+
+  -- the leaf went into its neighbour, and the rows above lost its entry
+  pub joined_untrimmed : (most : ℕ) (old mid mid2 new : Table K V) (path indices path1 indices1 path' indices' : List ℕ) (size : ℕ) (tree : Tree K V) (place : ℕ) (freed : List ℕ) → StandsIn most old path indices size tree place → (l : LeafLoss most old mid path indices size tree place) →
+      (j : Joined leaf_content (half_of most) most mid mid2 path indices path1 indices1 0 size l.before (get_or path 0 0) l.entries l.after l.rest) →
+      (r : Rebuilt mid2 new path1 indices1 path' indices' 1 size l.rest (heads l.before ++ (j.first.0, j.right) ∷ heads j.after') (length (heads l.before)) (loss_above (Some (length (heads l.before))) (map sizes l.rest)) freed) →
+      Untrimmed most old new tree place (l.before ++ node j.right (l.entries ++ j.right_entries) ∷ j.after') r.rows' (freed ++ get_or path 0 0 ∷ [])
+  joined_untrimmed most old mid mid2 new path indices path1 indices1 path' indices' size tree place freed s l j r =
+      let n = get_or path 0 0 in
+      let row : List (LevelNode K V) = l.before ++ node n l.entries ∷ l.after in
+      let both : List (K × V) = l.entries ++ j.right_entries in
+      let row2 : List (LevelNode K V) = l.before ++ node j.right both ∷ j.after' in
+      let least_one : 1 ≤ most = omega (arith, l.some, l.most_is) in
+      let half : 1 ≤ half_of most = omega (arith, least_one) in
+      let full = Solid-full (half_of most) most half l.before l.solid in
+      let some : 1 ≤ length both = omega (arith, l.some, length-append l.entries j.right_entries) in
+      let flats : flat row2 ≡ flat row = flat-append l.before (node j.right both ∷ j.after') ∙ ap (λ z. flat l.before ++ z) (append_assoc l.entries j.right_entries (flat j.after')) ∙ sym (flat-append l.before (node n l.entries ∷ node j.right j.right_entries ∷ j.after')) ∙ ap (λ z. flat (l.before ++ node n l.entries ∷ z)) (sym j.after_is) in
+      let hs2 : heads l.before ++ (j.first.0, j.right) ∷ heads j.after' ≡ heads row2 = sym (heads-append l.before (node j.right both ∷ j.after') ∙ ap (λ z. heads l.before ++ (head_of j.right (z ++ j.right_entries) ++ heads j.after')) j.entries_are) in
+      let l1 = ap (λ z. loss most place z) l.sizes_were ∙ ap (λ z. loss most z (sizes l.before ++ suc (length l.entries) ∷ sizes l.after)) l.place_is ∙ loss_at most l.before (length l.entries) (get_or indices 0 0) (sizes l.after) (omega (arith, l.entry_was)) in
+      let l2 = l1 ∙ ap (λ z. (placed (length l.before) z.0, sizes l.before ++ z.1)) j.outcome in
+      let c0 = λ (m : ℕ). ap (λ z. count m (numbers (l.before ++ node n l.entries ∷ z))) j.after_is in
+      let c1 = λ (m : ℕ). count-row m l.before n l.entries (node j.right j.right_entries ∷ j.after') in
+      let c2 = λ (m : ℕ). count-row m l.before j.right both j.after' in
+      let c4 = λ (m : ℕ). count-append m (numbers row) (flat_map numbers l.rest) in
+      let c5 = λ (m : ℕ). count-append m (numbers row2) (flat_map numbers r.rows') in
+      let c6 = λ (m : ℕ). count-append m (numbers row ++ flat_map numbers l.rest) mid.chain in
+      let c10 = λ (m : ℕ). count-append m freed (n ∷ []) in
+      let stacked : Stacked (heads row2) r.rows' = subst (λ (z : List (K × ℕ)). Stacked z r.rows') hs2 r.above.stacked in
+      let number_is : get_or path' 0 0 ≡ j.right = r.nodes_below 0 (omega arith) ∙ j.number_is in
+      let st = r.above.stands in
+      record {
+        flat_is = flats ∙ l.flat_is;
+        sizes_are = ap (λ z. z ∷ map sizes r.rows') (sizes-append l.before (node j.right both ∷ j.after')) ∙ ap (λ z. (sizes l.before ++ length both ∷ sizes j.after') ∷ z) (r.sizes_are ∙ ap (λ z. loss_above (Some z) (map sizes l.rest)) full ∙ ap (λ z. loss_above (Some (length l.before)) z) l.rest_sizes)
+        ∙ sym (ap (λ z. z.1 ∷ loss_above z.0 (map sizes tree.above)) l2);
+        half = half;
+        leaves_fit = j.fit;
+        leaves_in = row-same leaf_content mid2.nodes new.nodes row2 (λ m more. r.frees.others m (omega (arith, more, l.apart m, c0 m, c1 m, c2 m, c4 m, c6 m))) j.inside;
+        some = omega (arith, ap length (flat-append l.before (node j.right both ∷ j.after')), length-append (flat l.before) (both ++ flat j.after'), length-append both (flat j.after'), some);
+        stacked = stacked;
+        rows_in = r.above.inside;
+        height = omega (arith, r.above.height, s.stands.size_is);
+        numbers_are = λ m. omega (arith, l.numbers_are m, r.numbers_are m, c0 m, c1 m, c2 m, c4 m, c5 m, c10 m);
+        root_is = top_tree row2 r.rows' path' indices' size (length l.before) l.before both j.after' (ap (λ z. l.before ++ node z both ∷ j.after') (sym number_is)) some stacked (rw full at st) (omega (arith, r.above.height)) ∙ r.same_top ∙ j.same_top ∙ sym (root-stands most tree path indices size place s.fit s.stands);
+        frees = record {
+          others = λ m none. r.frees.others m (omega (arith, none, l.numbers_are m, c4 m)) ∙ j.frees.others m (omega (arith, none, l.numbers_are m, c4 m)) ∙ l.frees.others m none;
+          freed_are = freed-then mid2 new (flat_map numbers l.rest) (n ∷ []) freed r.frees (λ m more. omega (arith, more, l.apart m, c0 m, c1 m, c4 m, c6 m)) j.frees.freed_are;
+          chain_is = r.frees.chain_is ∙ ap (λ z. freed ++ z) (j.frees.chain_is ∙ ap (λ z. n ∷ z) l.frees.chain_is) ∙ sym (append_assoc freed (n ∷ []) old.chain);
+          slots_are = r.frees.slots_are ∙ j.frees.slots_are ∙ l.frees.slots_are;
+          limit_is = r.frees.limit_is ∙ j.frees.limit_is ∙ l.frees.limit_is;
+        };
+      }
+
+  -- and the path stands at the place, in what is left of the rows
+  pub joined_stands : (most : ℕ) (old mid mid2 new new2 : Table K V) (path indices path1 indices1 path' indices' path2 indices2 : List ℕ) (size : ℕ) (tree : Tree K V) (place : ℕ) (freed : List ℕ) → StandsIn most old path indices size tree place → (l : LeafLoss most old mid path indices size tree place) →
+      (j : Joined leaf_content (half_of most) most mid mid2 path indices path1 indices1 0 size l.before (get_or path 0 0) l.entries l.after l.rest) →
+      (r : Rebuilt mid2 new path1 indices1 path' indices' 1 size l.rest (heads l.before ++ (j.first.0, j.right) ∷ heads j.after') (length (heads l.before)) (loss_above (Some (length (heads l.before))) (map sizes l.rest)) freed) →
+      (size1 size2 root root' : ℕ) (gone : List ℕ) → (t : Trimmed new new2 size1 size2 r.rows' (heads (l.before ++ node j.right (l.entries ++ j.right_entries) ∷ j.after')) root root' gone) → path2 ≡ path' → indices2 ≡ indices' → 0 < length j.right_entries →
+      Stands path2 indices2 size2 (record { leaves = l.before ++ node j.right (l.entries ++ j.right_entries) ∷ j.after'; above = t.rows' }) place
+  joined_stands most old mid mid2 new new2 path indices path1 indices1 path' indices' path2 indices2 size tree place freed s l j r size1 size2 root root' gone t path_is indices_is more =
+      let both : List (K × V) = l.entries ++ j.right_entries in
+      let row2 : List (LevelNode K V) = l.before ++ node j.right both ∷ j.after' in
+      let least_one : 1 ≤ most = omega (arith, l.some, l.most_is) in
+      let half : 1 ≤ half_of most = omega (arith, least_one) in
+      let full = Solid-full (half_of most) most half l.before l.solid in
+      let number_is : get_or path2 0 0 ≡ j.right = ap (λ z. get_or z 0 0) path_is ∙ r.nodes_below 0 (omega arith) ∙ j.number_is in
+      let entry_is : get_or indices2 0 0 ≡ get_or indices 0 0 = ap (λ z. get_or z 0 0) indices_is ∙ r.entries_below 0 (omega arith) ∙ j.entry_is in
+      let st : StandsAbove path' indices' 1 (t.rows' ++ t.discarded) (length (heads l.before)) = subst (λ (z : List (List (LevelNode K ℕ))). StandsAbove path' indices' 1 z (length (heads l.before))) t.rows_are r.above.stands in
+      let low : length (heads l.before) < length (heads row2) = omega (arith, full, ap length (heads-append l.before (node j.right both ∷ j.after')), length-append (heads l.before) (head_of j.right both ++ heads j.after'), ap (λ z. length (head_of j.right (z ++ j.right_entries) ++ heads j.after')) j.entries_are) in
+      let below = stands-below path' indices' 1 (heads row2) t.rows' t.discarded (length (heads l.before)) low t.stacked st in
+      let below2 : StandsAbove path2 indices2 1 t.rows' (length (heads l.before)) = subst (λ (z : List ℕ). StandsAbove z indices2 1 t.rows' (length (heads l.before))) (sym path_is) (subst (λ (z : List ℕ). StandsAbove path' z 1 t.rows' (length (heads l.before))) (sym indices_is) below) in
+      record {
+        leaf = record { before = l.before; entries = both; after = j.after'; row_is = ap (λ z. l.before ++ node z both ∷ j.after') (sym number_is); within = omega (arith, entry_is, l.entry_was, length-append l.entries j.right_entries, more); place_is = omega (arith, l.place_is, entry_is) };
+        above = rw full at below2;
+        size_is = sym t.size_is;
+      }
+
+  -- the neighbour is not empty
+  pub joined_more : (most : ℕ) (old mid mid2 : Table K V) (path indices path1 indices1 : List ℕ) (size : ℕ) (tree : Tree K V) (place : ℕ) → (l : LeafLoss most old mid path indices size tree place) →
+      (j : Joined leaf_content (half_of most) most mid mid2 path indices path1 indices1 0 size l.before (get_or path 0 0) l.entries l.after l.rest) → 0 < length j.right_entries
+  joined_more most old mid mid2 path indices path1 indices1 size tree place l j =
+      let least_one : 1 ≤ most = omega (arith, l.some, l.most_is) in
+      let half : 1 ≤ half_of most = omega (arith, least_one) in
+      let fits : FitRow (half_of most) most (node j.right j.right_entries ∷ j.after') = subst (λ (z : List (LevelNode K V)). FitRow (half_of most) most z) j.after_is l.fits in
+      omega (arith, fits.0, least-pos (half_of most) half j.after')
