@@ -30,7 +30,7 @@ module _ {K V : Type 0} where
       record { first = h.first.0; above = subst (λ (z : List (K × ℕ)). Above v path indices 1 size l.rest z (length (heads l.before))) is l.above }
 
   -- half of a leaf is something
-  loss_half : (most : ℕ) (t v : Table K V) (path indices : List ℕ) (size : ℕ) (tree : Tree K V) (place : ℕ) → (l : LeafLoss most t v path indices size tree place) → 1 ≤ half_of most
+  pub loss_half : (most : ℕ) (t v : Table K V) (path indices : List ℕ) (size : ℕ) (tree : Tree K V) (place : ℕ) → (l : LeafLoss most t v path indices size tree place) → 1 ≤ half_of most
   loss_half most t v path indices size tree place l = let one : 1 ≤ most = omega (arith, l.some, l.most_is) in omega (arith, one)
 
   -- no leaf follows
