@@ -23,7 +23,7 @@ remove_map f [] r x = refl
 remove_map f (z ∷ l) r x = ap (λ w. f z ∷ w) (remove_map f l r x)
 
 -- an entry out of a node
-remove_flat : {K V : Type 0} (before : List (LevelNode K V)) (n : ℕ) (l : List (K × V)) (x : K × V) (r : List (K × V)) (after : List (LevelNode K V)) →
+pub remove_flat : {K V : Type 0} (before : List (LevelNode K V)) (n : ℕ) (l : List (K × V)) (x : K × V) (r : List (K × V)) (after : List (LevelNode K V)) →
     remove (flat (before ++ node n (l ++ x ∷ r) ∷ after)) (length (flat before) + length l) ≡ flat (before ++ node n (l ++ r) ∷ after)
 remove_flat before n l x r after =
     let whole : flat (before ++ node n (l ++ x ∷ r) ∷ after) ≡ (flat before ++ l) ++ x ∷ (r ++ flat after) =

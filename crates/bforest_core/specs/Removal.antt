@@ -192,8 +192,10 @@ module _ {K V : Type 0} where
     pub frees : Frees old new (numbers_of tree) freed
 
   -- the only entry of the tree went, and its node
-  pub record Emptied (old new : Table K V) (tree : Tree K V) : Type 0 where
+  pub record Emptied (most : ℕ) (old new : Table K V) (tree : Tree K V) (place : ℕ) : Type 0 where
     pub single : length (flat tree.leaves) ≡ 1
+    pub none_left : shrink most place (sizes_of tree) ≡ []
+    pub levels_are : sizes_of tree ≡ (1 ∷ []) ∷ []
     pub freed : List ℕ
     pub freed_is : (number : ℕ) → count number freed ≡ count number (numbers_of tree)
     pub frees : Frees old new (numbers_of tree) freed

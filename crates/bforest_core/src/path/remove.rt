@@ -51,7 +51,7 @@ impl<K: Copy, V: Copy, const N: usize> Path<K, V, N> {
         requires stands { (tree : Tree K V) × (place : ℕ) × StandsIn N pool.old self.old.node self.old.entry self.old.size tree place × (root_of tree ≡ root) }
         requires single { (x : K × V) × (slice_get pool.old.nodes (get_or self.old.node 0 0) ≡ Some (leaf_content (x ∷ []))) }
         ensures removed { (tree : Tree K V) (place : ℕ) → StandsIn N pool.old self.old.node self.old.entry self.old.size tree place → IfSome result (λ root'. Removed N pool.old pool.new self.new.node self.new.entry self.new.size tree place root') }
-        ensures emptied { result ≡ None → (tree : Tree K V) (place : ℕ) → StandsIn N pool.old self.old.node self.old.entry self.old.size tree place → Emptied pool.old pool.new tree }
+        ensures emptied { result ≡ None → (tree : Tree K V) (place : ℕ) → StandsIn N pool.old self.old.node self.old.entry self.old.size tree place → Emptied N pool.old pool.new tree place }
         ensures end { self.new.size ≡ 0 }
     {
         pool.free_node(self.node[0]);
