@@ -1,10 +1,10 @@
 //! Taking out the entry where a path is.
-ghost use Rattle.std.specs.Prelude.{remove, true, false, IfSome, ◌≡◌, ℕ, suc, ◌+◌, ◌-◌, ◌<◌, ◌≤◌, ◌↔◌, IsTrue, List, [], ◌∷◌, ◌++◌, length, get_or, slice_get, Some, None};
+ghost use Rattle.std.specs.Prelude.{remove, true, false, IfSome, ◌≡◌, ◌≢◌, ℕ, suc, ◌+◌, ◌-◌, ◌<◌, ◌≤◌, ◌↔◌, IsTrue, List, [], ◌∷◌, ◌++◌, length, get_or, slice_get, Some, None};
 ghost use Rattle.bforest_nodes.specs.Content.{IsLeafCapacity};
 ghost use Rattle.bforest_core.specs.Levels.{LevelNode, flat, sizes_of, Tree};
 ghost use Rattle.bforest_core.specs.Sizes.{shrink};
 ghost use Rattle.bforest_core.specs.Table.{Table};
-ghost use Rattle.bforest_core.specs.Place.{IsPathAt, leaf_content, root_of};
+ghost use Rattle.bforest_core.specs.Place.{IsPathAt, leaf_content, root_of, count};
 ghost use Rattle.bforest_core.specs.Removal.{UpTo, Trimmed, StandsIn, LeafLoss, Removed, Emptied};
 ghost use Rattle.bforest_core.specs.Change.{Changes, Ends, GivesNodes, StandsUnder};
 ghost use Rattle.bforest_core.specs.Trees.{IsUnion, tree_of};
@@ -35,6 +35,8 @@ impl<K: Copy, V: Copy, const N: usize> Path<K, V, N> {
         ensures last { (root place : ℕ) → StandsUnder pool.old.nodes root self.old.node self.old.entry self.old.size place → (result ≡ None) ↔ (length (flat (tree_of pool.old.nodes root).leaves) ≡ 1) }
         ensures ended { result ≡ None → (root place : ℕ) → StandsUnder pool.old.nodes root self.old.node self.old.entry self.old.size place → Ends N pool.old pool.new root }
         ensures end { result ≡ None → self.new.size ≡ 0 }
+        ensures none_left { result ≡ None → (root place : ℕ) → StandsUnder pool.old.nodes root self.old.node self.old.entry self.old.size place → shrink N place (sizes_of (tree_of pool.old.nodes root)) ≡ [] }
+        ensures freed_root { (root place : ℕ) → StandsUnder pool.old.nodes root self.old.node self.old.entry self.old.size place → result ≢ Some root → 0 < count root pool.new.chain }
     {
         let root = self.root();
         if entries(pool, self.node[0]) == 1 {
