@@ -141,3 +141,40 @@ module _ {K V : Type 0} where
         none_left = i.none_left;
         freed_root = omega (arith, among, i.freed_is root, ap (λ z. count z (numbers_of tree)) r.root_is, ap (λ z. count root z) i.frees.chain_is, count-append root i.freed old.chain);
       }
+
+  -- either of the two, as the answer says
+  abbrev pub Outcome : ℕ → Table K V → Table K V → ℕ → ℕ → List ℕ → List ℕ → ℕ → Option ℕ → Type 0
+  Outcome most old new root place path' indices' size' None = Ending most old new root place
+  Outcome most old new root place path' indices' size' (Some root') = Removal most old new root root' place path' indices' size'
+
+  pub outcome : (most : ℕ) (old new : Table K V) (root place : ℕ) (path indices : List ℕ) (size : ℕ) (path' indices' : List ℕ) (size' : ℕ) (found : Option ℕ) → IsUnion most old → StandsUnder old.nodes root path indices size place →
+      IfSome found (λ root'. Removed most old new path' indices' size' (tree_of old.nodes root) place root') → (found ≡ None → Emptied most old new (tree_of old.nodes root) place) → Outcome most old new root place path' indices' size' found
+  outcome most old new root place path indices size path' indices' size' None union s removed emptied = ending most old new root place path indices size union s (emptied refl)
+  outcome most old new root place path indices size path' indices' size' (Some root') union s removed emptied = removal most old new root place path indices size path' indices' size' root' union s removed
+
+  -- what both say
+  pub record Said (most : ℕ) (old new : Table K V) (root place : ℕ) (path' indices' : List ℕ) (size' : ℕ) (found : Option ℕ) : Type 0 where
+    pub some : IfSome found (λ root'. Removal most old new root root' place path' indices' size')
+    pub gives : GivesNodes (sizes_of (tree_of old.nodes root)) (shrink most place (sizes_of (tree_of old.nodes root))) old new
+    pub last : (found ≡ None) ↔ (length (flat (tree_of old.nodes root).leaves) ≡ 1)
+    pub ended : found ≡ None → Ends most old new root
+    pub none_left : found ≡ None → shrink most place (sizes_of (tree_of old.nodes root)) ≡ []
+    pub freed_root : found ≢ Some root → 0 < count root new.chain
+
+  pub said : (most : ℕ) (old new : Table K V) (root place : ℕ) (path' indices' : List ℕ) (size' : ℕ) (found : Option ℕ) → Outcome most old new root place path' indices' size' found → Said most old new root place path' indices' size' found
+  said most old new root place path' indices' size' None e = record {
+    some = tt;
+    gives = e.gives;
+    last = (λ is. e.single, λ is. refl);
+    ended = λ is. e.ends;
+    none_left = λ is. e.none_left;
+    freed_root = λ ne. e.freed_root;
+  }
+  said most old new root place path' indices' size' (Some root') r = record {
+    some = r;
+    gives = r.gives;
+    last = (λ is. absurd cc, λ one. absurd (r.others one));
+    ended = λ is. absurd cc;
+    none_left = λ is. absurd cc;
+    freed_root = λ ne. r.freed_root (λ (e : root' ≡ root). ne (ap Some e));
+  }
