@@ -1,8 +1,8 @@
 -- Leaves and inner nodes as stored, for the calls on two neighbours.
-use Rattle.std.proofs.Common.{◌≡◌, ℕ, zero, suc, ◌+◌, ◌-◌, ◌*◌, ◌/◌, ◌≤◌, ◌<◌, ◌≢◌, ◌⊎◌, true, false, nat_lt, nat_le, List, [], ◌∷◌, ◌++◌, map, length, take, drop, set, slice_get, Some, None, Option, refl, sym, ap, ◌∙◌, subst, inl, inr, append_assoc, length-append, arith, rules}
-use Rattle.std.proofs.lemmas.List.{append-nil, length-map, map-append, take_at, drop_at, length-drop}
+use Rattle.std.proofs.Common.{◌≡◌, ℕ, suc, ◌+◌, ◌-◌, ◌/◌, ◌≤◌, ◌<◌, ◌≢◌, List, [], ◌∷◌, ◌++◌, length, set, slice_get, Some, None, refl, sym, ap, ◌∙◌, subst, inl, inr, length-append, arith}
+use Rattle.std.proofs.lemmas.List.{length-map, map-append}
 use Rattle.std.proofs.lemmas.Bool.{cases_lt}
-use Rattle.bforest_nodes.specs.Content.{Content, Inner, Leaf, Free, IsSameKind, entry_count, entry_capacity, joined, IsCut, Balances, left_share, first_part, last_part, separator}
+use Rattle.bforest_nodes.specs.Content.{Content, Inner, Leaf, IsSameKind, entry_count, entry_capacity, joined, IsCut, Balances, left_share}
 use Rattle.bforest_core.specs.Table.{Table, with_node, IsBalancedAt}
 use Rattle.bforest_core.proofs.Lists.{slice_get-set_same}
 use Rattle.std.proofs.lemmas.Option.{slice_get_within}

@@ -1,10 +1,10 @@
 -- What an inner node holds after a child was taken out.
-use Rattle.std.proofs.Common.{◌≡◌, ℕ, zero, suc, ◌+◌, ◌-◌, ◌≤◌, ◌<◌, ◌≢◌, true, false, nat_eq, ◌==◌, if◌then◌else◌, List, [], ◌∷◌, ◌++◌, map, length, take, drop, set, slice_get, Some, None, refl, sym, ap, ◌∙◌, subst, inl, inr, append_assoc, length-append, arith, rules}
+use Rattle.std.proofs.Common.{◌≡◌, ℕ, zero, suc, ◌-◌, ◌≤◌, List, [], ◌∷◌, ◌++◌, length, drop, set, slice_get, Some, refl, sym, ap, ◌∙◌, inl, inr, append_assoc, length-append, arith}
 use Rattle.std.specs.List.{remove}
-use Rattle.std.proofs.lemmas.List.{append-nil, length-map, map-append, take_at, drop_at, set_at}
+use Rattle.std.proofs.lemmas.List.{append-nil, length-map, map-append, set_at}
 use Rattle.std.proofs.lemmas.Bool.Decides.{eqb_tells}
-use Rattle.bforest_nodes.specs.Content.{Content, Inner, Leaf, Free, without_child}
-use Rattle.bforest_core.specs.Place.{inner_content, leaf_content, entry_keys, entry_items}
+use Rattle.bforest_nodes.specs.Content.{Inner, without_child}
+use Rattle.bforest_core.specs.Place.{inner_content, entry_keys, entry_items}
 
 use Rattle.bforest_core.proofs.Stored.{slice_get_at, some_same}
 

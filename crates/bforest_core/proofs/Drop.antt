@@ -1,22 +1,21 @@
 -- The right-most node of a level went: its entry goes, and the nodes that this leaves empty.
-use Rattle.std.proofs.Common.{◌≡◌, ℕ, zero, suc, ◌+◌, ◌-◌, ◌≤◌, ◌<◌, ◌≢◌, true, false, Option, List, [], ◌∷◌, ◌++◌, map, length, drop, get_or, slice_get, Some, None, refl, sym, ap, ◌∙◌, subst, append_assoc, length-append, length-set, arith, rules}
+use Rattle.std.proofs.Common.{◌≡◌, ℕ, suc, ◌+◌, ◌-◌, ◌≤◌, ◌≢◌, List, [], ◌∷◌, ◌++◌, map, length, get_or, slice_get, Some, refl, sym, ap, ◌∙◌, subst, append_assoc, length-append, length-set, arith}
 use Rattle.std.specs.List.{flat_map}
 use Rattle.std.proofs.lemmas.List.{append-nil}
-use Rattle.bforest_nodes.specs.Content.{Content, Inner, Free, without_child}
+use Rattle.bforest_nodes.specs.Content.{Free, without_child}
 use Rattle.bforest_core.specs.Table.{Table, with_node, with_freed, front_of}
-use Rattle.bforest_core.specs.Levels.{LevelNode, node, flat, heads, head_of, sizes, numbers, FitRow, Solid, Stacked, least}
-use Rattle.bforest_core.specs.Sizes.{settled, loss_above}
-use Rattle.bforest_core.specs.Place.{RowIn, RowsIn, inner_content, count, Distinct, IsAt, StandsAbove, root_above, first_number}
+use Rattle.bforest_core.specs.Levels.{LevelNode, node, flat, heads, sizes, numbers, FitRow, Solid, Stacked}
+use Rattle.bforest_core.specs.Sizes.{loss_above}
+use Rattle.bforest_core.specs.Place.{RowIn, inner_content, count, StandsAbove, root_above}
 use Rattle.bforest_core.specs.Climb.{Above, top_of}
-use Rattle.bforest_core.specs.Removal.{Frees, Dropped}
-use Rattle.bforest_core.proofs.LevelRows.{flat-append, heads-append, sizes-append, numbers-append, FitRow-join, FitRow-split, Solid-full, least-pos}
-use Rattle.bforest_core.proofs.Tables.{count-append, count-same, count-row, row-split, row-put, row-same, rows-same, ne_from_count, absent_ne, Puts, puts, slice_get-set_apart}
+use Rattle.bforest_core.specs.Removal.{Dropped}
+use Rattle.bforest_core.proofs.LevelRows.{flat-append, heads-append, sizes-append, FitRow-join, FitRow-split, Solid-full, least-pos}
+use Rattle.bforest_core.proofs.Tables.{count-append, count-same, count-row, row-split, row-put, row-same, rows-same, ne_from_count, absent_ne, puts, slice_get-set_apart}
 use Rattle.bforest_core.proofs.Frees.{frees-puts}
-use Rattle.bforest_core.proofs.Zipper.{Parent, Cut_above, Facts, facts}
+use Rattle.bforest_core.proofs.Zipper.{Cut_above, facts}
 use Rattle.bforest_core.proofs.Zipper.{Spot}
 use Rattle.bforest_core.proofs.Contents.{removed_last}
 use Rattle.bforest_core.proofs.Loosen.{heads-put}
-use Rattle.bforest_core.proofs.Losses.{placed}
 use Rattle.bforest_core.proofs.Merge.{loss_level}
 use Rattle.bforest_core.proofs.Tops.{top_rows}
 use Rattle.bforest_core.proofs.Downward.{last_of}

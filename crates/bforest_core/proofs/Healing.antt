@@ -1,17 +1,17 @@
 -- The steps of settling a level, over plain values.
-use Rattle.std.proofs.Common.{◌≡◌, ℕ, zero, suc, ◌+◌, ◌-◌, ◌*◌, ◌/◌, ◌≤◌, ◌<◌, ◌≢◌, ◌⊎◌, true, false, List, [], ◌∷◌, ◌++◌, map, length, drop, set, get_or, slice_get, Some, None, refl, sym, ap, ◌∙◌, subst, inl, inr, append_assoc, length-append, arith, rules}
+use Rattle.std.proofs.Common.{◌≡◌, ℕ, suc, ◌≤◌, ◌<◌, ◌≢◌, List, [], ◌∷◌, ◌++◌, map, length, set, get_or, slice_get, Some, None, refl, sym, ap, ◌∙◌, subst, inr, length-append, arith}
 use Rattle.std.specs.List.{flat_map}
-use Rattle.bforest_nodes.specs.Content.{Content, Free, IsFree}
+use Rattle.bforest_nodes.specs.Content.{Content}
 use Rattle.bforest_core.specs.Table.{Table, IsUsed, IsUnderflowedAt, IsBalancedAt, with_freed}
-use Rattle.bforest_core.specs.Levels.{LevelNode, node, flat, heads, head_of, sizes, numbers, FitRow, Solid, Stacked, least}
-use Rattle.bforest_core.specs.Place.{RowIn, RowsIn, inner_content, count, Distinct, IsAt, StandsAbove}
+use Rattle.bforest_core.specs.Levels.{LevelNode, node, flat, heads, head_of, sizes, numbers, FitRow}
+use Rattle.bforest_core.specs.Place.{count}
 use Rattle.bforest_core.specs.Climb.{Above, SameBelow, top_of}
-use Rattle.bforest_core.specs.Removal.{Rebuilt, Frees, OnLevel, Healed, Joined}
-use Rattle.bforest_core.proofs.LevelRows.{heads-append, least-pos, head-is, HeadIs}
+use Rattle.bforest_core.specs.Removal.{Rebuilt, OnLevel, Healed, Joined}
+use Rattle.bforest_core.proofs.LevelRows.{heads-append, least-pos, head-is}
 use Rattle.bforest_core.proofs.Tables.{count-append, row-split, is_used, rows-same}
 use Rattle.bforest_core.proofs.Zipper.{apart_here}
 use Rattle.bforest_core.proofs.Balance.{IsHalf, IsStored, PutsTwo, AllRight, Spread, all_right_at, spread_at}
-use Rattle.bforest_core.proofs.Settle.{settle_stay, settle_move, settle_spread, settle_join, apart_two, Apart}
+use Rattle.bforest_core.proofs.Settle.{settle_stay, settle_move, settle_spread, settle_join, apart_two}
 
 same_head : {A : Type 0} (p q : A) (xs ys : List A) → p ∷ xs ≡ q ∷ ys → p ≡ q
 same_head p q xs ys e = cc

@@ -1,15 +1,13 @@
 -- An entry out of the rows above a level: its row settled, then those above.
-use Rattle.std.proofs.Common.{◌≡◌, ℕ, zero, suc, ◌+◌, ◌-◌, ◌≤◌, ◌<◌, ◌≢◌, true, false, Option, List, [], ◌∷◌, ◌++◌, map, length, get_or, slice_get, Some, None, refl, sym, ap, ◌∙◌, subst, append_assoc, length-append, arith, rules}
+use Rattle.std.proofs.Common.{◌≡◌, ℕ, suc, ◌+◌, ◌≤◌, List, [], ◌∷◌, ◌++◌, map, length, get_or, Some, refl, sym, ap, ◌∙◌, subst, append_assoc, length-append, arith}
 use Rattle.std.specs.List.{flat_map}
-use Rattle.bforest_nodes.specs.Content.{Content}
 use Rattle.bforest_core.specs.Table.{Table}
-use Rattle.bforest_core.specs.Levels.{LevelNode, node, flat, heads, head_of, sizes, numbers, FitRow, Solid, Stacked, least}
-use Rattle.bforest_core.specs.Sizes.{settled, loss, loss_above}
-use Rattle.bforest_core.specs.Place.{RowIn, RowsIn, inner_content, count, Distinct, IsAt, StandsAbove}
-use Rattle.bforest_core.specs.Climb.{Above, SameBelow}
-use Rattle.bforest_core.specs.Removal.{Rebuilt, Frees, OnLevel, Loosened, Healed, Joined}
+use Rattle.bforest_core.specs.Levels.{LevelNode, node, flat, heads, head_of, sizes, numbers, FitRow, Stacked}
+use Rattle.bforest_core.specs.Sizes.{settled, loss_above}
+use Rattle.bforest_core.specs.Place.{RowIn, inner_content, count}
+use Rattle.bforest_core.specs.Removal.{Rebuilt, Loosened, Healed, Joined}
 use Rattle.bforest_core.proofs.LevelRows.{flat-append, heads-append, sizes-append, FitRow-split, Solid-full, least-pos}
-use Rattle.bforest_core.proofs.Tables.{count-append, count-same, count-row, row-same}
+use Rattle.bforest_core.proofs.Tables.{count-append, count-row, row-same}
 use Rattle.bforest_core.proofs.Zipper.{stands_here}
 use Rattle.bforest_core.proofs.Losses.{loss_at, placed}
 use Rattle.bforest_core.proofs.Frees.{freed-then}

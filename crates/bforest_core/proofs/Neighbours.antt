@@ -1,17 +1,16 @@
 -- The right neighbour of a node, under the same parent or another; its key renewed; the path moved to it.
-use Rattle.std.proofs.Common.{◌≡◌, ℕ, zero, suc, ◌+◌, ◌-◌, ◌≤◌, ◌<◌, ◌≢◌, true, false, Option, List, [], ◌∷◌, ◌++◌, map, length, drop, set, get_or, slice_get, Some, None, refl, sym, ap, ◌∙◌, subst, append_assoc, length-append, arith, rules}
+use Rattle.std.proofs.Common.{◌≡◌, ℕ, suc, ◌+◌, ◌≤◌, ◌<◌, true, false, List, [], ◌∷◌, ◌++◌, map, length, drop, set, get_or, slice_get, Some, refl, sym, ap, ◌∙◌, subst, append_assoc, length-append, arith}
 use Rattle.std.specs.List.{flat_map}
-use Rattle.std.proofs.lemmas.List.{append-nil, get_or-set_other, get_or-set_same}
-use Rattle.bforest_nodes.specs.Content.{Content, Inner, with_key}
+use Rattle.bforest_nodes.specs.Content.{Inner, with_key}
 use Rattle.bforest_core.specs.Table.{Table, with_node}
-use Rattle.bforest_core.specs.Levels.{LevelNode, node, flat, heads, head_of, sizes, numbers, FitRow, Solid, Stacked, least}
-use Rattle.bforest_core.specs.Place.{RowIn, RowsIn, inner_content, count, Distinct, IsAt, StandsAbove, entry_keys, entry_items}
-use Rattle.bforest_core.specs.Climb.{Above, NextIs, SameBelow}
-use Rattle.bforest_core.specs.Removal.{Rebuilt, Frees}
-use Rattle.bforest_core.proofs.LevelRows.{flat-append, heads-append, sizes-append, numbers-append, FitRow-join, FitRow-split, least-pos, head-is, HeadIs, Solid-more}
+use Rattle.bforest_core.specs.Levels.{LevelNode, node, flat, heads, head_of, sizes, numbers, FitRow, Stacked}
+use Rattle.bforest_core.specs.Place.{RowIn, inner_content, count, StandsAbove, entry_keys, entry_items}
+use Rattle.bforest_core.specs.Climb.{Above, NextIs}
+use Rattle.bforest_core.specs.Removal.{Rebuilt}
+use Rattle.bforest_core.proofs.LevelRows.{flat-append, heads-append, sizes-append, FitRow-join, least-pos, head-is}
 use Rattle.bforest_core.proofs.Tables.{count-append, count-same, count-row, row-split, row-join, row-same, row-put, rows-same, ne_from_count, Puts, puts}
 use Rattle.bforest_core.proofs.Frees.{frees-puts, frees-wider}
-use Rattle.bforest_core.proofs.Zipper.{Parent, Cut_above, Facts, facts, stands_here}
+use Rattle.bforest_core.proofs.Zipper.{Cut_above, facts, stands_here}
 use Rattle.bforest_core.proofs.Zipper.{Spot}
 use Rattle.bforest_core.proofs.TakeLeft.{Across, across_cut}
 use Rattle.bforest_core.proofs.Loosen.{heads-put}

@@ -1,16 +1,16 @@
 -- The first key of a node renewed in the rows above its level.
-use Rattle.std.proofs.Common.{◌≡◌, ℕ, zero, suc, ◌+◌, ◌-◌, ◌≤◌, ◌<◌, ◌≢◌, List, [], ◌∷◌, ◌++◌, map, length, drop, set, get_or, slice_get, Some, None, refl, sym, ap, ◌∙◌, subst, append_assoc, length-append, arith, rules}
+use Rattle.std.proofs.Common.{◌≡◌, ℕ, suc, ◌+◌, ◌-◌, ◌≤◌, ◌<◌, List, [], ◌∷◌, ◌++◌, map, length, drop, set, get_or, refl, sym, ap, ◌∙◌, subst, append_assoc, length-append, arith}
 use Rattle.std.specs.List.{flat_map}
-use Rattle.bforest_nodes.specs.Content.{Content, Inner, with_key}
+use Rattle.bforest_nodes.specs.Content.{Inner, with_key}
 use Rattle.bforest_core.specs.Table.{Table, with_node}
-use Rattle.bforest_core.specs.Levels.{LevelNode, node, flat, heads, head_of, sizes, numbers, FitRow, Solid, Stacked, least}
-use Rattle.bforest_core.specs.Place.{RowIn, RowsIn, inner_content, count, Distinct, IsAt, StandsAbove, entry_keys, entry_items}
+use Rattle.bforest_core.specs.Levels.{LevelNode, node, flat, heads, sizes, numbers, Stacked}
+use Rattle.bforest_core.specs.Place.{RowIn, inner_content, count, StandsAbove, entry_keys, entry_items}
 use Rattle.bforest_core.specs.Climb.{Above}
-use Rattle.bforest_core.specs.Removal.{Rebuilt, Frees}
+use Rattle.bforest_core.specs.Removal.{Rebuilt}
 use Rattle.bforest_core.proofs.LevelRows.{flat-append, heads-append, sizes-append, FitRow-join}
-use Rattle.bforest_core.proofs.Tables.{count-append, count-same, count-row, row-split, row-join, row-same, row-put, rows-same, ne_from_count, Puts, puts}
+use Rattle.bforest_core.proofs.Tables.{count-append, count-same, count-row, row-split, row-join, row-same, row-put, rows-same, ne_from_count, puts}
 use Rattle.bforest_core.proofs.Frees.{frees-puts, frees-refl, frees-wider}
-use Rattle.bforest_core.proofs.Zipper.{Parent, Cut_above, Facts, facts, stands_here}
+use Rattle.bforest_core.proofs.Zipper.{Cut_above, facts, stands_here}
 use Rattle.bforest_core.proofs.Zipper.{Spot}
 use Rattle.bforest_core.proofs.Loosen.{heads-put}
 

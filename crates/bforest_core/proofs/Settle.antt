@@ -1,19 +1,19 @@
 -- A node that lost an entry: it stays, or is balanced with its right neighbour.
-use Rattle.std.proofs.Common.{◌≡◌, ℕ, zero, suc, ◌+◌, ◌-◌, ◌*◌, ◌/◌, ◌≤◌, ◌<◌, ◌≢◌, ◌⊎◌, true, false, nat_lt, nat_le, List, [], ◌∷◌, ◌++◌, map, length, drop, set, get_or, slice_get, Some, None, refl, sym, ap, ◌∙◌, subst, inl, inr, append_assoc, length-append, length-set, arith, rules}
+use Rattle.std.proofs.Common.{◌≡◌, ℕ, zero, suc, ◌+◌, ◌-◌, ◌*◌, ◌/◌, ◌≤◌, ◌<◌, ◌≢◌, ◌⊎◌, true, false, nat_lt, nat_le, List, [], ◌∷◌, ◌++◌, map, length, set, get_or, slice_get, Some, refl, sym, ap, ◌∙◌, subst, inl, inr, append_assoc, length-append, length-set, arith}
 use Rattle.std.specs.List.{flat_map}
 use Rattle.std.proofs.lemmas.List.{append-nil, get_or-set_other, get_or-set_same}
 use Rattle.bforest_nodes.specs.Content.{Content, Free}
-use Rattle.bforest_core.specs.Table.{Table, with_node, with_freed, front_of}
-use Rattle.bforest_core.specs.Levels.{LevelNode, node, flat, heads, head_of, sizes, numbers, FitRow, Solid, Stacked, least}
+use Rattle.bforest_core.specs.Table.{Table, with_freed, front_of}
+use Rattle.bforest_core.specs.Levels.{LevelNode, node, flat, heads, head_of, sizes, numbers, FitRow, Stacked, least}
 use Rattle.bforest_core.specs.Sizes.{settled}
-use Rattle.bforest_core.specs.Place.{RowIn, RowsIn, inner_content, count, Distinct, IsAt, StandsAbove}
+use Rattle.bforest_core.specs.Place.{RowIn, count, Distinct}
 use Rattle.bforest_core.specs.Climb.{Above, SameBelow, top_of}
-use Rattle.bforest_core.specs.Removal.{Rebuilt, Frees, OnLevel, Healed, Joined}
-use Rattle.bforest_core.proofs.LevelRows.{flat-append, heads-append, sizes-append, numbers-append, FitRow-join, Solid-full, least-pos, least-le, Solid-more, head-is, HeadIs}
-use Rattle.bforest_core.proofs.Tables.{count-append, count-same, count-row, row-split, row-join, row-same, row-put_two, row-drop_put, rows-same, ne_from_count, absent_ne, Puts, slice_get-set_apart}
+use Rattle.bforest_core.specs.Removal.{Rebuilt, OnLevel, Healed, Joined}
+use Rattle.bforest_core.proofs.LevelRows.{flat-append, heads-append, sizes-append, numbers-append, FitRow-join, least-le, Solid-more}
+use Rattle.bforest_core.proofs.Tables.{count-append, count-same, count-row, row-same, row-put_two, row-drop_put, rows-same, ne_from_count, absent_ne, slice_get-set_apart}
 use Rattle.bforest_core.proofs.Frees.{frees-refl}
-use Rattle.bforest_core.proofs.Zipper.{apart_here, above_two, stands-same}
-use Rattle.bforest_core.proofs.Balance.{IsHalf, IsStored, PutsTwo, AllRight, Spread}
+use Rattle.bforest_core.proofs.Zipper.{above_two, stands-same}
+use Rattle.bforest_core.proofs.Balance.{IsHalf, AllRight, Spread}
 use Rattle.bforest_core.proofs.Frees.{freed-is}
 
 yes_lt : (a b : ℕ) → a < b → nat_lt a b ≡ true

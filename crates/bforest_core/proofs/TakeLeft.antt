@@ -1,15 +1,14 @@
 -- The steps of `take_left`, over plain values.
-use Rattle.std.proofs.Common.{◌≡◌, ℕ, zero, suc, ◌+◌, ◌-◌, ◌≤◌, ◌<◌, ◌≢◌, List, [], ◌∷◌, ◌++◌, map, length, drop, set, get_or, slice_get, Some, None, refl, sym, ap, ◌∙◌, subst, append_assoc, length-append, arith, rules}
+use Rattle.std.proofs.Common.{◌≡◌, ℕ, suc, ◌+◌, ◌-◌, ◌≤◌, ◌<◌, List, [], ◌∷◌, ◌++◌, map, length, drop, set, get_or, slice_get, Some, refl, sym, ap, ◌∙◌, subst, length-append, arith}
 use Rattle.std.specs.List.{flat_map}
-use Rattle.std.proofs.lemmas.List.{append-nil, length-map, length-drop}
-use Rattle.bforest_nodes.specs.Content.{Content, Inner, without_child, entry_count}
+use Rattle.bforest_nodes.specs.Content.{Inner, without_child}
 use Rattle.bforest_core.specs.Table.{Table, with_node}
-use Rattle.bforest_core.specs.Levels.{LevelNode, node, flat, heads, head_of, sizes, numbers, FitRow, Solid, Stacked, least}
-use Rattle.bforest_core.specs.Place.{RowIn, RowsIn, inner_content, count, Distinct, IsAt, StandsAbove, entry_keys, entry_items}
+use Rattle.bforest_core.specs.Levels.{LevelNode, node, flat, heads, sizes, numbers, FitRow, Stacked}
+use Rattle.bforest_core.specs.Place.{inner_content, StandsAbove, entry_keys, entry_items}
 use Rattle.bforest_core.specs.Climb.{Above}
-use Rattle.bforest_core.specs.Removal.{Rebuilt, Frees, OnLevel, Loosened}
+use Rattle.bforest_core.specs.Removal.{Rebuilt, Loosened}
 use Rattle.bforest_core.proofs.LevelRows.{heads-append, least-pos}
-use Rattle.bforest_core.proofs.Tables.{Puts, puts, puts-then, count-append}
+use Rattle.bforest_core.proofs.Tables.{puts, puts-then, count-append}
 use Rattle.bforest_core.proofs.Zipper.{Cut_above, facts, Spot}
 use Rattle.bforest_core.proofs.Stored.{some_same}
 use Rattle.bforest_core.proofs.Contents.{removed_same, removed_last, last_key}

@@ -1,16 +1,14 @@
-use Rattle.std.proofs.Common.{rules, ◌≡◌, ℕ, suc, ◌+◌, ◌-◌, ◌<◌, ◌≤◌, ◌≢◌, Option, List, [], ◌∷◌, ◌++◌, map, length, get_or, slice_get, drop, Some, None, true, false, arith, refl, sym, ap, ◌∙◌, subst, add-one, length-append}
+use Rattle.std.proofs.Common.{rules, ◌≡◌, ℕ, suc, ◌+◌, ◌-◌, ◌<◌, [], ◌∷◌, ◌++◌, map, length, get_or, slice_get, drop, Some, arith, ◌∙◌, subst, add-one, length-append}
 use Rattle.std.proofs.lemmas.List.{get_or_default}
-use Rattle.bforest_nodes.specs.Content.{Content}
-use Rattle.bforest_core.specs.Levels.{LevelNode, node, flat, heads, sizes}
+use Rattle.bforest_core.specs.Levels.{heads, sizes}
 use Rattle.bforest_core.specs.Place.{inner_content, entry_keys, entry_items}
 use Rattle.bforest_core.specs.Sizes.{loss_above}
-use Rattle.bforest_core.specs.Climb.{Above}
 use Rattle.bforest_core.specs.Removal.{Dropped}
 use Rattle.bforest_core.proofs.Tables.{is_used}
 use Rattle.bforest_core.proofs.Zipper.{above_two}
-use Rattle.bforest_core.proofs.Zipper.{spot, Spot}
+use Rattle.bforest_core.proofs.Zipper.{spot}
 use Rattle.bforest_core.proofs.Stored.{item_count}
-use Rattle.bforest_core.proofs.Drop.{last_form, drop_keep, emptied, Emptied, drop_empty}
+use Rattle.bforest_core.proofs.Drop.{last_form, drop_keep, emptied, drop_empty}
 use Rattle.bforest_core.proofs.path.Path.+drop_above.Goals as goal
 
 pub entries-requires : goal.entries-requires

@@ -1,7 +1,5 @@
-use Rattle.std.proofs.Common.{rules, ◌≡◌, ℕ, suc, ◌+◌, ◌-◌, ◌<◌, ◌≤◌, List, [], ◌∷◌, ◌++◌, map, length, get_or, Some, None, true, false, arith, refl, sym, ap, ◌∙◌, subst, add-one}
-use Rattle.bforest_core.specs.Levels.{LevelNode, node, flat, heads, sizes}
-use Rattle.bforest_core.specs.Climb.{Above}
-use Rattle.bforest_core.specs.Removal.{Rebuilt, OnLevel, Loosened, Healed, Joined}
+use Rattle.std.proofs.Common.{rules, ◌+◌, ◌-◌, ◌<◌, [], ◌∷◌, ◌++◌, length, get_or, arith, add-one}
+use Rattle.bforest_core.specs.Levels.{heads}
 use Rattle.bforest_core.proofs.Zipper.{above_two}
 use Rattle.bforest_core.proofs.Merge.{merge_healed, merge_again}
 use Rattle.bforest_core.proofs.path.Path.+merge_above.Goals as goal

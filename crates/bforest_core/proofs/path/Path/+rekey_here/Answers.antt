@@ -1,14 +1,11 @@
-use Rattle.std.proofs.Common.{rules, ◌≡◌, ℕ, suc, ◌+◌, ◌-◌, ◌<◌, ◌≤◌, ◌≢◌, Option, List, [], ◌∷◌, ◌++◌, map, length, get_or, slice_get, drop, Some, None, true, false, arith, refl, sym, ap, ◌∙◌, subst, add-one, length-append}
+use Rattle.std.proofs.Common.{rules, ◌≡◌, ◌+◌, ◌-◌, ◌<◌, ◌∷◌, ◌++◌, get_or, slice_get, drop, Some, arith, add-one}
 use Rattle.std.proofs.lemmas.List.{get_or_default}
-use Rattle.bforest_nodes.specs.Content.{Content}
-use Rattle.bforest_core.specs.Levels.{LevelNode, node, flat, heads, sizes}
+use Rattle.bforest_core.specs.Levels.{heads}
 use Rattle.bforest_core.specs.Place.{inner_content, entry_keys, entry_items}
-use Rattle.bforest_core.specs.Climb.{Above}
-use Rattle.bforest_core.specs.Removal.{Rebuilt}
 use Rattle.bforest_core.proofs.Tables.{is_used}
-use Rattle.bforest_core.proofs.Zipper.{spot, Spot}
-use Rattle.bforest_core.proofs.Stored.{item_count, key_count}
-use Rattle.bforest_core.proofs.Neighbours.{up_above, UpAbove}
+use Rattle.bforest_core.proofs.Zipper.{spot}
+use Rattle.bforest_core.proofs.Stored.{key_count}
+use Rattle.bforest_core.proofs.Neighbours.{up_above}
 use Rattle.bforest_core.proofs.Rekey.{rekey_top, rekey_parent, rekey_first}
 use Rattle.bforest_core.proofs.path.Path.+rekey_here.Goals as goal
 

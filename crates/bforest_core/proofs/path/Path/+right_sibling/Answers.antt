@@ -1,12 +1,11 @@
-use Rattle.std.proofs.Common.{rules, ◌≡◌, ℕ, suc, ◌+◌, ◌-◌, ◌<◌, ◌≤◌, ◌≢◌, Option, List, [], ◌∷◌, ◌++◌, map, length, get_or, slice_get, drop, Some, None, true, false, arith, refl, sym, ap, ◌∙◌, subst, add-one}
+use Rattle.std.proofs.Common.{rules, ◌≡◌, ℕ, ◌+◌, ◌-◌, ◌<◌, ◌≤◌, Option, ◌∷◌, ◌++◌, length, get_or, slice_get, drop, Some, arith, ◌∙◌, subst, add-one}
 use Rattle.std.proofs.lemmas.List.{get_or_default}
-use Rattle.bforest_nodes.specs.Content.{Content}
-use Rattle.bforest_core.specs.Levels.{LevelNode, node, flat, heads, sizes}
+use Rattle.bforest_core.specs.Levels.{heads}
 use Rattle.bforest_core.specs.Place.{inner_content, entry_keys, entry_items}
-use Rattle.bforest_core.specs.Climb.{Above, NextIs}
-use Rattle.bforest_core.proofs.Zipper.{spot, Spot}
+use Rattle.bforest_core.specs.Climb.{NextIs}
+use Rattle.bforest_core.proofs.Zipper.{spot}
 use Rattle.bforest_core.proofs.Stored.{key_count, item_count}
-use Rattle.bforest_core.proofs.Neighbours.{none_at_top, up_above, UpAbove, next_within, next_none, next_of, slot_next, next_across}
+use Rattle.bforest_core.proofs.Neighbours.{up_above, next_within, next_none, next_of, slot_next, next_across}
 use Rattle.bforest_core.proofs.path.Path.+right_sibling.Goals as goal
 
 pub overflow_add-e : goal.overflow_add-e

@@ -1,13 +1,11 @@
-use Rattle.std.proofs.Common.{rules, ◌≡◌, ℕ, suc, ◌+◌, ◌-◌, ◌<◌, ◌≤◌, ◌≢◌, List, [], ◌∷◌, ◌++◌, map, length, get_or, slice_get, drop, set, Some, None, true, false, Fits, w64, Bor, MutBor, arith, refl, sym, ap, ◌∙◌, subst, add-one}
+use Rattle.std.proofs.Common.{rules, ◌≡◌, ◌<◌, ◌∷◌, ◌++◌, length, get_or, slice_get, drop, set, Some, arith, refl, ap, ◌∙◌, add-one}
 use Rattle.std.proofs.lemmas.List.{get_or_default}
-use Rattle.bforest_nodes.specs.Content.{Content, entry_count, with_key}
-use Rattle.bforest_core.specs.Levels.{LevelNode, node, flat, heads, sizes}
-use Rattle.bforest_core.specs.Place.{inner_content, leaf_content, entry_keys, entry_items, count}
-use Rattle.bforest_core.specs.Climb.{Above, NextIs, SameBelow}
-use Rattle.bforest_core.specs.Removal.{Rebuilt, OnLevel, Loosened, Healed, Joined}
-use Rattle.bforest_core.proofs.Tables.{is_used, puts, Puts}
+use Rattle.bforest_nodes.specs.Content.{with_key}
+use Rattle.bforest_core.specs.Levels.{heads}
+use Rattle.bforest_core.specs.Place.{inner_content, entry_keys, entry_items, count}
+use Rattle.bforest_core.proofs.Tables.{is_used, puts}
 use Rattle.bforest_core.proofs.Zipper.{above_two}
-use Rattle.bforest_core.proofs.Zipper.{spot, Spot}
+use Rattle.bforest_core.proofs.Zipper.{spot}
 use Rattle.bforest_core.proofs.Stored.{key_count, item_count}
 use Rattle.bforest_core.proofs.TakeLeft.{across, across_cut, across_above, take_same, take_over, moved_key}
 use Rattle.bforest_core.proofs.path.Path.take_left.Goals as goal
