@@ -8,6 +8,7 @@ use Rattle.bforest_core.specs.Place.{inner_content, entry_keys, entry_items}
 
 use Rattle.bforest_core.proofs.Stored.{slice_get_at, some_same}
 
+-- an item taken out between two lists
 pub remove_at : {A : Type 0} → (p : List A) (y : A) (ys : List A) (n : ℕ) → length p ≡ n → remove (p ++ y ∷ ys) n ≡ p ++ ys
 remove_at [] y ys zero e = refl
 remove_at [] y ys (suc n) e = absurd (omega (arith, e))
@@ -15,6 +16,7 @@ remove_at (z ∷ p) y ys zero e = absurd (omega (arith, e))
 remove_at (z ∷ p) y ys (suc n) e = ap (λ w. z ∷ w) (remove_at p y ys n (omega (arith, e)))
 
 module _ {K : Type 0} (V : Type 0) where
+  -- of two children or more one goes with the key before it
   pub without_some : (ks : List K) (cs : List ℕ) (index : ℕ) → 2 ≤ length cs → without_child {V = V} (Inner ks cs) index ≡ Inner (remove ks (index - 1)) (remove cs index)
   without_some ks cs index two = elim (eqb_tells (length cs) 1) [ inl w ↦ absurd (let e = w.1 in omega (arith, e, two)) | inr w ↦ (let e = w.0 in rw e refl) ]
 
@@ -59,5 +61,6 @@ module _ {K : Type 0} (V : Type 0) where
       ∙ ap (λ w. Inner (entry_keys l) (remove w (suc n))) (map-append (λ (w : K × ℕ). w.1) (z ∷ l) (x ∷ []))
       ∙ ap (λ w. Inner (entry_keys l) w) (remove_at (entry_items (z ∷ l)) x.1 [] (suc n) il ∙ append-nil (entry_items (z ∷ l)))
 
+  -- the key before the last child
   pub last_key : (z : K × ℕ) (l : List (K × ℕ)) (x : K × ℕ) (e : ℕ) → suc (length l) ≡ e → slice_get (drop 1 (entry_keys ((z ∷ l) ++ x ∷ []))) (e - 1) ≡ Some x.0
   last_key z l x e h = ap (λ w. slice_get w (e - 1)) (map-append (λ (w : K × ℕ). w.0) l (x ∷ [])) ∙ slice_get_at (entry_keys l) x.0 [] (e - 1) (length-map l (λ (w : K × ℕ). w.0) ∙ omega (arith, h))

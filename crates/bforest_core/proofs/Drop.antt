@@ -116,6 +116,7 @@ module _ {K V : Type 0} where
       FitRow-solid (node m es ∷ []) s = (omega (arith, s.0), s.1, tt)
       FitRow-solid (node m es ∷ next ∷ ns) s = (s.0, s.1, FitRow-solid (next ∷ ns) s.2)
 
+  -- the parent of the path keeps others
   pub drop_keep : (t u : Table K V) (path indices : List ℕ) (up size : ℕ) (rows : List (List (LevelNode K ℕ))) (a : List (K × ℕ)) (x : K × ℕ) (d : Spot t path indices up size rows a x []) → length (d.q.l ++ x ∷ d.q.r) ≢ 1 →
       u ≡ with_node t (get_or path up 0) (without_child (inner_content (d.q.l ++ x ∷ d.q.r)) (get_or indices up 0)) → Dropped t u path size rows a (loss_above (Some (length a)) (map sizes rows)) []
   drop_keep t u path indices up size rows a x d more u_is =
@@ -182,6 +183,7 @@ module _ {K V : Type 0} where
         };
       }
 
+  -- an empty parent and what stands in front of it
   pub emptied : (t v : Table K V) (path indices : List ℕ) (up size : ℕ) (rows : List (List (LevelNode K ℕ))) (a : List (K × ℕ)) (x : K × ℕ) (d : Spot t path indices up size rows a x []) → 1 ≤ length a → length (d.q.l ++ x ∷ d.q.r) ≡ 1 → v ≡ with_freed t (get_or path up 0) → Emptied t v path indices up size rows a x
   emptied t v path indices up size rows a x d some one v_is =
       let q = d.q in
@@ -200,6 +202,7 @@ module _ {K V : Type 0} where
           (subst (λ (w : List (LevelNode K ℕ)). StandsAbove path indices (suc up) rest (length (heads w))) z.is st) v_is e_is
           (rows_are ∙ ap (λ w. (w ++ node (get_or path up 0) (x ∷ []) ∷ []) ∷ rest) z.is) (a_is ∙ append-nil (flat (b ∷ before)) ∙ ap flat z.is)
 
+  -- an empty parent went, and so did its own entry
   pub drop_empty : (t v u : Table K V) (path indices : List ℕ) (up size : ℕ) (rows : List (List (LevelNode K ℕ))) (a : List (K × ℕ)) (x : K × ℕ) (freed : List ℕ) (m : Emptied t v path indices up size rows a x) → v ≡ with_freed t (get_or path up 0) →
       Dropped v u path size m.rest (heads m.init ++ (m.w.0, m.q) ∷ []) (loss_above (Some (suc (length (heads m.init)))) (map sizes m.rest)) freed → Dropped t u path size rows a (loss_above (Some (length a)) (map sizes rows)) (freed ++ get_or path up 0 ∷ [])
   drop_empty t v u path indices up size rows a x freed m v_is r =

@@ -10,10 +10,12 @@ use Rattle.bforest_core.proofs.Tables.{count-append, count-same, count-row, row-
 use Rattle.bforest_core.proofs.Frees.{frees-puts}
 use Rattle.bforest_core.proofs.Zipper.{Cut_above, facts}
 
+-- a node's first key does not change with a later entry's item
 pub head-other : {K X : Type 0} (n : ℕ) (l : List (K × X)) (k : K) (x y : X) (r s : List (K × X)) → head_of n (l ++ (k, x) ∷ r) ≡ head_of n (l ++ (k, y) ∷ s)
 head-other n [] k x y r s = refl
 head-other n (z ∷ l) k x y r s = refl
 
+-- nor do the heads of a row
 pub heads-put : {K X : Type 0} (before : List (LevelNode K X)) (n : ℕ) (es fs : List (K × X)) (after : List (LevelNode K X)) → head_of n es ≡ head_of n fs → heads (before ++ node n es ∷ after) ≡ heads (before ++ node n fs ∷ after)
 heads-put before n es fs after e = heads-append before _ ∙ ap (λ w. heads before ++ (w ++ heads after)) e ∙ sym (heads-append before _)
 

@@ -20,6 +20,7 @@ loss_level q before m e p after levels all all_is low p_is q_is =
     ap (λ z. loss_above (Some p) z) all_is ∙ rw (p_is, ← q_is) (ap (λ z. z.1 ∷ loss_above z.0 levels) l)
 
 module _ {K V : Type 0} where
+  -- the level healed, and all above it stays
   pub merge_healed : (t u v : Table K V) (path indices path' indices' : List ℕ) (up size : ℕ) (rows : List (List (LevelNode K ℕ))) (hs : List (K × ℕ)) (p : ℕ) → (l : Loosened t u path indices up size rows hs p) →
       Healed inner_content 4 8 u v path indices path' indices' up size l.before (get_or path up 0) l.entries l.after l.rest → Rebuilt t v path indices path' indices' up size rows hs p (loss_above (Some p) (map sizes rows)) []
   merge_healed t u v path indices path' indices' up size rows hs p l h =
@@ -58,6 +59,7 @@ module _ {K V : Type 0} where
         same_top = h.same_top;
       }
 
+  -- two nodes of the level joined, and the level above lost one
   pub merge_joined : (t u w v : Table K V) (path indices path1 indices1 path' indices' : List ℕ) (up size : ℕ) (rows : List (List (LevelNode K ℕ))) (hs : List (K × ℕ)) (p : ℕ) (freed : List ℕ) → (l : Loosened t u path indices up size rows hs p) →
       (j : Joined inner_content 4 8 u w path indices path1 indices1 up size l.before (get_or path up 0) l.entries l.after l.rest) →
       Rebuilt w v path1 indices1 path' indices' (suc up) size l.rest (heads l.before ++ (j.first.0, j.right) ∷ heads j.after') (length (heads l.before)) (loss_above (Some (length (heads l.before))) (map sizes l.rest)) freed →

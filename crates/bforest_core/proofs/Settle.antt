@@ -45,6 +45,7 @@ settled_spread : (q m r : ℕ) (after : List ℕ) → 1 ≤ m → 2 * m < q → 
 settled_spread q zero r after one h more = absurd (omega arith)
 settled_spread q (suc m) r after one h more = let e = yes_lt (2 * suc m) q h in let f = no_le (suc m + r) q more in rw (e, f) refl
 
+-- a path is as it was
 pub same-refl : (up : ℕ) (path : List ℕ) → SameBelow up path path
 same-refl up path = λ i low. refl
 
@@ -138,6 +139,7 @@ module _ {K V X : Type 0} (content : List (K × X) → Content K V) (half most :
     pub none_chain : count n t.chain ≡ 0
     pub none_chain_q : count q t.chain ≡ 0
 
+  -- two neighbours of a level
   pub apart_two : (t : Table K V) (before : List (LevelNode K X)) (n : ℕ) (es : List (K × X)) (q : ℕ) (fs : List (K × X)) (after : List (LevelNode K X)) (rest : List (List (LevelNode K ℕ))) → Distinct ((numbers (before ++ node n es ∷ node q fs ∷ after) ++ flat_map numbers rest) ++ t.chain) → Apart t before n q after rest
   apart_two t before n es q fs after rest d =
       let row : List (LevelNode K X) = before ++ node n es ∷ node q fs ∷ after in

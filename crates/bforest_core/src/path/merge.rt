@@ -131,8 +131,8 @@ impl<K: Copy, V: Copy, const N: usize> Path<K, V, N> {
             pool.free_node(n);
             self.drop_above(up + 1, pool);
         } else {
-            let e = self.entry[up];
-            let _answer = remove_child(pool, n, e);
+            let last = self.entry[up];
+            let _answer = remove_child(pool, n, last);
         }
     }
 }

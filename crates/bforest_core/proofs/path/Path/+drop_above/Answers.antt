@@ -50,7 +50,6 @@ free_node-requires g t c =
     let es = d.q.l ++ x ∷ d.q.r in
     let num' = get_or path up c.index-self-up.result in
     let here : num' ≡ get_or path up 0 = get_or_default path up c.index-self-up.result 0 (omega (arith, low)) in
-    let slot : slice_get t0.nodes num' ≡ Some (inner_content es) = rw here d.f.slot_is in
     let used = is_used t0 (get_or path up 0) (inner_content es) d.f.slot_is d.f.none_chain in
     (search rules, rw here used)
 

@@ -47,7 +47,6 @@ rekey_here-requires g t c κs within =
     let size = c.args.self.now.size in
     let low : up < size = omega (arith, c.if-up-self.false) in
     let d = spot t0 path indices up size rows a (k, n) b p low in
-    let es = d.q.l ++ (k, n) ∷ d.q.r in
     let u = up_above t0 path indices up size rows a (k, n) b d in
     let falls : size - (up + 1) < t = omega (arith, c.decreases, low) in
     (falls, (within.0, (within.1, ((λ a' m'. search rules), (search rules, (search rules, (c.requires.height, (d.q.rest, heads d.q.before, u.k, get_or path up 0, heads d.q.after, rw add-one u.above))))))))
@@ -76,7 +75,6 @@ returns-else-e-gt0 g t c = λ rows a k n b p.
     let size = c.args.self.now.size in
     let low : up < size = omega (arith, c.if-up-self.false) in
     let d = spot t0 path indices up size rows a (k, n) b p low in
-    let es = d.q.l ++ (k, n) ∷ d.q.r in
     let u = up_above t0 path indices up size rows a (k, n) b d in
     rekey_first t0 c.rekey_here.new.pool path indices up size rows a k n b c.args.key d c.if-e-gt0.false (rw add-one at (c.rekey_here.ensures d.q.rest (heads d.q.before) u.k (get_or path up 0) (heads d.q.after) (rw add-one u.above)))
 

@@ -27,10 +27,6 @@ overflow_add-e g t c =
     let size = c.args.self.now.size in
     let low : up < size = above_two t0 path indices up size rows a x (k, n) b (length a) p in
     let d = spot t0 path indices up size rows a x ((k, n) ∷ b) p low in
-    let es = d.q.l ++ x ∷ d.q.r in
-    let num' = get_or path up c.index-self-up.result in
-    let here : num' ≡ get_or path up 0 = get_or_default path up c.index-self-up.result 0 (omega (arith, low)) in
-    let slot : slice_get t0.nodes num' ≡ Some (inner_content es) = rw here d.f.slot_is in
     let small : get_or indices up 0 < 8 = omega (arith, d.count_is, d.most_is) in
     search rules
 

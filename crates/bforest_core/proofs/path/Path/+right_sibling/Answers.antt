@@ -23,10 +23,6 @@ overflow_add-e g t c =
     let size = c.args.self.now.size in
     let low : up < size = omega (arith, p.height, c.if-up-self.false) in
     let d = spot t0 path indices up size rows a x b p low in
-    let es = d.q.l ++ x ∷ d.q.r in
-    let num' = get_or path up c.index-self-up.result in
-    let here : num' ≡ get_or path up 0 = get_or_default path up c.index-self-up.result 0 (omega (arith, low)) in
-    let slot : slice_get t0.nodes num' ≡ Some (inner_content es) = rw here d.f.slot_is in
     let small : get_or indices up 0 < 8 = omega (arith, d.count_is, d.most_is) in
     search rules
 
@@ -110,12 +106,6 @@ right_sibling-requires g t c κs within =
     let size = c.args.self.now.size in
     let low : up < size = omega (arith, p.height, c.if-up-self.false) in
     let d = spot t0 path indices up size rows a x b p low in
-    let es = d.q.l ++ x ∷ d.q.r in
-    let num' = get_or path up c.index-self-up.result in
-    let here : num' ≡ get_or path up 0 = get_or_default path up c.index-self-up.result 0 (omega (arith, low)) in
-    let slot : slice_get t0.nodes num' ≡ Some (inner_content es) = rw here d.f.slot_is in
-    let cnt : c.entries.result ≡ length es = c.entries.ensures (inner_content es) slot ∙ item_count es in
-    let less : length es ≤ get_or indices up 0 + 1 = omega (arith, cnt, c.if-e-entries.false) in
     let u = up_above t0 path indices up size rows a x b d in
     let falls : size - (up + 1) < t = omega (arith, c.decreases, low) in
     (falls, (within.0, (within.1, ((λ a' m'. search rules), (search rules, (search rules, (c.requires.height, (d.q.rest, heads d.q.before, (u.k, get_or path up 0), heads d.q.after, rw add-one u.above))))))))
@@ -135,12 +125,6 @@ child-requires-in-Some g t c =
     let size = c.args.self.now.size in
     let low : up < size = omega (arith, p.height, c.if-up-self.false) in
     let d = spot t0 path indices up size rows a x b p low in
-    let es = d.q.l ++ x ∷ d.q.r in
-    let num' = get_or path up c.index-self-up.result in
-    let here : num' ≡ get_or path up 0 = get_or_default path up c.index-self-up.result 0 (omega (arith, low)) in
-    let slot : slice_get t0.nodes num' ≡ Some (inner_content es) = rw here d.f.slot_is in
-    let cnt : c.entries.result ≡ length es = c.entries.ensures (inner_content es) slot ∙ item_count es in
-    let less : length es ≤ get_or indices up 0 + 1 = omega (arith, cnt, c.if-e-entries.false) in
     let u = up_above t0 path indices up size rows a x b d in
     let nx = subst (λ (r : Option (g.row.K.Denot × ℕ)). NextIs r (heads d.q.after)) c.in-Some.is (c.right_sibling.ensures d.q.rest (heads d.q.before) (u.k, get_or path up 0) (heads d.q.after) (rw add-one u.above)) in
     let n = next_of d.q.after c.in-Some.next.0 c.in-Some.next.1 nx.0 d.f.fit.2 nx.1 in
