@@ -23,10 +23,10 @@ impl<K: Copy, V: Copy, const N: usize> Path<K, V, N> {
         if up == self.size {
             return None;
         }
-        let n = self.node[up];
-        let e = self.entry[up];
-        if e + 1 < entries(pool, n) {
-            Some((separator(pool, n, e), child(pool, n, e + 1)))
+        let parent = self.node[up];
+        let index = self.entry[up];
+        if index + 1 < entries(pool, parent) {
+            Some((separator(pool, parent, index), child(pool, parent, index + 1)))
         } else {
             match self.right_sibling(up + 1, pool) {
                 None => None,
@@ -46,10 +46,10 @@ impl<K: Copy, V: Copy, const N: usize> Path<K, V, N> {
         requires pending { (rows : List (List (LevelNode K ℕ))) × (a : List (K × ℕ)) × (x : K × ℕ) × (k : K) × (n : ℕ) × (b : List (K × ℕ)) × Above pool.old self.now.node self.now.entry up self.now.size rows (a ++ x ∷ (k, n) ∷ b) (length a) }
         ensures { (rows : List (List (LevelNode K ℕ))) (a : List (K × ℕ)) (x : K × ℕ) (k : K) (n : ℕ) (b : List (K × ℕ)) → Above pool.old self.now.node self.now.entry up self.now.size rows (a ++ x ∷ (k, n) ∷ b) (length a) → Rebuilt pool.old pool.new self.now.node self.now.entry self.now.node self.now.entry up self.now.size rows (a ++ x ∷ (key, n) ∷ b) (length a) (map sizes rows) [] }
     {
-        let n = self.node[up];
-        let e = self.entry[up];
-        if e + 1 < entries(pool, n) {
-            set_separator(pool, n, e, key);
+        let parent = self.node[up];
+        let index = self.entry[up];
+        if index + 1 < entries(pool, parent) {
+            set_separator(pool, parent, index, key);
         } else {
             self.rekey_next(up + 1, key, pool);
         }
@@ -69,9 +69,9 @@ impl<K: Copy, V: Copy, const N: usize> Path<K, V, N> {
         if up >= self.size {
             return;
         }
-        let e = self.entry[up];
-        if e > 0 {
-            set_separator(pool, self.node[up], e - 1, key);
+        let index = self.entry[up];
+        if index > 0 {
+            set_separator(pool, self.node[up], index - 1, key);
         } else {
             self.rekey_here(up + 1, key, pool);
         }

@@ -29,7 +29,7 @@ set_separator-requires g t c =
     let num' = get_or path up c.index-self-up.result in
     let here : num' ≡ get_or path up 0 = get_or_default path up c.index-self-up.result 0 (omega (arith, low)) in
     let slot : slice_get t0.nodes num' ≡ Some (inner_content es) = rw here d.f.slot_is in
-    (search rules, (rw here (is_used t0 (get_or path up 0) (inner_content es) d.f.slot_is d.f.none_chain), (drop 1 (entry_keys es), entry_items es, slot, omega (arith, key_count es, d.count_is, c.if-e-gt0.true))))
+    (search rules, (rw here (is_used t0 (get_or path up 0) (inner_content es) d.f.slot_is d.f.none_chain), (drop 1 (entry_keys es), entry_items es, slot, omega (arith, key_count es, d.count_is, c.if-index-gt0.true))))
 
 pub rekey_here-requires : goal.rekey_here-requires
 rekey_here-requires g t c κs within =
@@ -51,8 +51,8 @@ rekey_here-requires g t c κs within =
     let falls : size - (up + 1) < t = omega (arith, c.decreases, low) in
     (falls, (within.0, (within.1, ((λ a' m'. search rules), (search rules, (search rules, (c.requires.height, (d.q.rest, heads d.q.before, u.k, get_or path up 0, heads d.q.after, rw add-one u.above))))))))
 
-pub returns-then-e-gt0 : goal.returns-then-e-gt0
-returns-then-e-gt0 g t c = λ rows a k n b p.
+pub returns-then-index-gt0 : goal.returns-then-index-gt0
+returns-then-index-gt0 g t c = λ rows a k n b p.
     let t0 = c.args.pool.now in
     let path = c.args.self.now.node in
     let indices = c.args.self.now.entry in
@@ -64,10 +64,10 @@ returns-then-e-gt0 g t c = λ rows a k n b p.
     let num' = get_or path up c.index-self-up.result in
     let here : num' ≡ get_or path up 0 = get_or_default path up c.index-self-up.result 0 (omega (arith, low)) in
     let slot : slice_get t0.nodes num' ≡ Some (inner_content es) = rw here d.f.slot_is in
-    rekey_parent t0 c.set_separator.new.pool path indices up size rows a k n b c.args.key d c.if-e-gt0.true (rw here at (c.set_separator.ensures (drop 1 (entry_keys es)) (entry_items es) slot))
+    rekey_parent t0 c.set_separator.new.pool path indices up size rows a k n b c.args.key d c.if-index-gt0.true (rw here at (c.set_separator.ensures (drop 1 (entry_keys es)) (entry_items es) slot))
 
-pub returns-else-e-gt0 : goal.returns-else-e-gt0
-returns-else-e-gt0 g t c = λ rows a k n b p.
+pub returns-else-index-gt0 : goal.returns-else-index-gt0
+returns-else-index-gt0 g t c = λ rows a k n b p.
     let t0 = c.args.pool.now in
     let path = c.args.self.now.node in
     let indices = c.args.self.now.entry in
@@ -76,7 +76,7 @@ returns-else-e-gt0 g t c = λ rows a k n b p.
     let low : up < size = omega (arith, c.if-up-self.false) in
     let d = spot t0 path indices up size rows a (k, n) b p low in
     let u = up_above t0 path indices up size rows a (k, n) b d in
-    rekey_first t0 c.rekey_here.new.pool path indices up size rows a k n b c.args.key d c.if-e-gt0.false (rw add-one at (c.rekey_here.ensures d.q.rest (heads d.q.before) u.k (get_or path up 0) (heads d.q.after) (rw add-one u.above)))
+    rekey_first t0 c.rekey_here.new.pool path indices up size rows a k n b c.args.key d c.if-index-gt0.false (rw add-one at (c.rekey_here.ensures d.q.rest (heads d.q.before) u.k (get_or path up 0) (heads d.q.after) (rw add-one u.above)))
 
 pub returns-then-up-self : goal.returns-then-up-self
 returns-then-up-self g t c = λ rows a k n b p. rekey_top _ _ _ _ _ rows a k n b c.args.key p c.if-up-self.true

@@ -10,8 +10,8 @@ use Rattle.bforest_core.proofs.TakeLeft.{across, across_cut, across_above}
 use Rattle.bforest_core.proofs.Neighbours.{rekey_same, rekey_over}
 use Rattle.bforest_core.proofs.path.Path.+rekey_next.Goals as goal
 
-pub overflow_add-e : goal.overflow_add-e
-overflow_add-e g t c =
+pub overflow_add-index : goal.overflow_add-index
+overflow_add-index g t c =
     let w = c.requires.pending in
     let rows = w.0 in
     let a = w.1 in
@@ -75,7 +75,7 @@ set_separator-requires g t c =
     let here : num' ≡ get_or path up 0 = get_or_default path up c.index-self-up.result 0 (omega (arith, low)) in
     let slot : slice_get t0.nodes num' ≡ Some (inner_content es) = rw here d.f.slot_is in
     let cnt : c.entries.result ≡ length es = c.entries.ensures (inner_content es) slot ∙ item_count es in
-    (search rules, (rw here (is_used t0 (get_or path up 0) (inner_content es) d.f.slot_is d.f.none_chain), (drop 1 (entry_keys es), entry_items es, slot, omega (arith, cnt, c.if-e-entries.true, key_count es))))
+    (search rules, (rw here (is_used t0 (get_or path up 0) (inner_content es) d.f.slot_is d.f.none_chain), (drop 1 (entry_keys es), entry_items es, slot, omega (arith, cnt, c.if-index-entries.true, key_count es))))
 
 pub rekey_next-requires : goal.rekey_next-requires
 rekey_next-requires g t c κs within =
@@ -99,14 +99,14 @@ rekey_next-requires g t c κs within =
     let here : num' ≡ get_or path up 0 = get_or_default path up c.index-self-up.result 0 (omega (arith, low)) in
     let slot : slice_get t0.nodes num' ≡ Some (inner_content es) = rw here d.f.slot_is in
     let cnt : c.entries.result ≡ length es = c.entries.ensures (inner_content es) slot ∙ item_count es in
-    let less : length es ≤ get_or indices up 0 + 1 = omega (arith, cnt, c.if-e-entries.false) in
+    let less : length es ≤ get_or indices up 0 + 1 = omega (arith, cnt, c.if-index-entries.false) in
     let o = across t0 path indices up size rows a x (k, n) b d less in
     let ab = across_above t0 path indices up size d.q.before o.z o.zs x o.q (k, n) o.ys o.rest d.q.rest (across_cut t0 path indices up size rows a x (k, n) b d o) d.q.stands in
     let falls : size - (up + 1) < t = omega (arith, c.decreases, low) in
     (falls, (within.0, (within.1, ((λ a' m'. search rules), (search rules, (search rules, (c.requires.height, (d.q.rest, heads d.q.before, (o.z.0, get_or path up 0), k, o.q, heads o.rest, rw add-one ab))))))))
 
-pub returns-then-e-entries : goal.returns-then-e-entries
-returns-then-e-entries g t c = λ rows a x k n b p.
+pub returns-then-index-entries : goal.returns-then-index-entries
+returns-then-index-entries g t c = λ rows a x k n b p.
     let t0 = c.args.pool.now in
     let path = c.args.self.now.node in
     let indices = c.args.self.now.entry in
@@ -119,10 +119,10 @@ returns-then-e-entries g t c = λ rows a x k n b p.
     let here : num' ≡ get_or path up 0 = get_or_default path up c.index-self-up.result 0 (omega (arith, low)) in
     let slot : slice_get t0.nodes num' ≡ Some (inner_content es) = rw here d.f.slot_is in
     let cnt : c.entries.result ≡ length es = c.entries.ensures (inner_content es) slot ∙ item_count es in
-    rekey_same t0 c.set_separator.new.pool path indices up size rows a x k n b c.args.key d (omega (arith, cnt, c.if-e-entries.true)) (rw here at (c.set_separator.ensures (drop 1 (entry_keys es)) (entry_items es) slot))
+    rekey_same t0 c.set_separator.new.pool path indices up size rows a x k n b c.args.key d (omega (arith, cnt, c.if-index-entries.true)) (rw here at (c.set_separator.ensures (drop 1 (entry_keys es)) (entry_items es) slot))
 
-pub returns-else-e-entries : goal.returns-else-e-entries
-returns-else-e-entries g t c = λ rows a x k n b p.
+pub returns-else-index-entries : goal.returns-else-index-entries
+returns-else-index-entries g t c = λ rows a x k n b p.
     let t0 = c.args.pool.now in
     let path = c.args.self.now.node in
     let indices = c.args.self.now.entry in
@@ -135,7 +135,7 @@ returns-else-e-entries g t c = λ rows a x k n b p.
     let here : num' ≡ get_or path up 0 = get_or_default path up c.index-self-up.result 0 (omega (arith, low)) in
     let slot : slice_get t0.nodes num' ≡ Some (inner_content es) = rw here d.f.slot_is in
     let cnt : c.entries.result ≡ length es = c.entries.ensures (inner_content es) slot ∙ item_count es in
-    let less : length es ≤ get_or indices up 0 + 1 = omega (arith, cnt, c.if-e-entries.false) in
+    let less : length es ≤ get_or indices up 0 + 1 = omega (arith, cnt, c.if-index-entries.false) in
     let o = across t0 path indices up size rows a x (k, n) b d less in
     let ab = across_above t0 path indices up size d.q.before o.z o.zs x o.q (k, n) o.ys o.rest d.q.rest (across_cut t0 path indices up size rows a x (k, n) b d o) d.q.stands in
     rekey_over t0 c.rekey_next.new.pool path indices up size rows a x k n b c.args.key d o (rw add-one at (c.rekey_next.ensures d.q.rest (heads d.q.before) (o.z.0, get_or path up 0) k o.q (heads o.rest) (rw add-one ab)))

@@ -8,8 +8,8 @@ use Rattle.bforest_core.proofs.Stored.{key_count, item_count}
 use Rattle.bforest_core.proofs.Neighbours.{up_above, next_within, next_none, next_of, slot_next, next_across}
 use Rattle.bforest_core.proofs.path.Path.+right_sibling.Goals as goal
 
-pub overflow_add-e : goal.overflow_add-e
-overflow_add-e g t c =
+pub overflow_add-index : goal.overflow_add-index
+overflow_add-index g t c =
     let w = c.requires.pending in
     let rows = w.0 in
     let a = w.1 in
@@ -67,7 +67,7 @@ separator-requires g t c =
     let here : num' ≡ get_or path up 0 = get_or_default path up c.index-self-up.result 0 (omega (arith, low)) in
     let slot : slice_get t0.nodes num' ≡ Some (inner_content es) = rw here d.f.slot_is in
     let cnt : c.entries.result ≡ length es = c.entries.ensures (inner_content es) slot ∙ item_count es in
-    (search rules, (drop 1 (entry_keys es), entry_items es, slot, omega (arith, cnt, c.if-e-entries.true, key_count es)))
+    (search rules, (drop 1 (entry_keys es), entry_items es, slot, omega (arith, cnt, c.if-index-entries.true, key_count es)))
 
 pub child-requires : goal.child-requires
 child-requires g t c =
@@ -89,7 +89,7 @@ child-requires g t c =
     let here : num' ≡ get_or path up 0 = get_or_default path up c.index-self-up.result 0 (omega (arith, low)) in
     let slot : slice_get t0.nodes num' ≡ Some (inner_content es) = rw here d.f.slot_is in
     let cnt : c.entries.result ≡ length es = c.entries.ensures (inner_content es) slot ∙ item_count es in
-    (search rules, (drop 1 (entry_keys es), entry_items es, slot, omega (arith, cnt, c.if-e-entries.true, item_count es)))
+    (search rules, (drop 1 (entry_keys es), entry_items es, slot, omega (arith, cnt, c.if-index-entries.true, item_count es)))
 
 pub right_sibling-requires : goal.right_sibling-requires
 right_sibling-requires g t c κs within =
@@ -131,8 +131,8 @@ child-requires-in-Some g t c =
     let slot_q = slot_next t0 path indices up size rows a x b d c.in-Some.next.0 c.in-Some.next.1 n in
     (search rules, (drop 1 (entry_keys (n.f ∷ n.fs)), entry_items (n.f ∷ n.fs), slot_q, omega arith))
 
-pub returns-then-e-entries : goal.returns-then-e-entries
-returns-then-e-entries g t c = λ rows a x b p.
+pub returns-then-index-entries : goal.returns-then-index-entries
+returns-then-index-entries g t c = λ rows a x b p.
     let t0 = c.args.pool.now in
     let path = c.args.self.now.node in
     let indices = c.args.self.now.entry in
@@ -145,7 +145,7 @@ returns-then-e-entries g t c = λ rows a x b p.
     let here : num' ≡ get_or path up 0 = get_or_default path up c.index-self-up.result 0 (omega (arith, low)) in
     let slot : slice_get t0.nodes num' ≡ Some (inner_content es) = rw here d.f.slot_is in
     let cnt : c.entries.result ≡ length es = c.entries.ensures (inner_content es) slot ∙ item_count es in
-    next_within t0 path indices up size rows a x b d c.separator.result c.child.result (omega (arith, cnt, c.if-e-entries.true)) (c.separator.ensures (drop 1 (entry_keys es)) (entry_items es) slot) (c.child.ensures (drop 1 (entry_keys es)) (entry_items es) slot)
+    next_within t0 path indices up size rows a x b d c.separator.result c.child.result (omega (arith, cnt, c.if-index-entries.true)) (c.separator.ensures (drop 1 (entry_keys es)) (entry_items es) slot) (c.child.ensures (drop 1 (entry_keys es)) (entry_items es) slot)
 
 pub returns-in-None : goal.returns-in-None
 returns-in-None g t c = λ rows a x b p.
@@ -161,7 +161,7 @@ returns-in-None g t c = λ rows a x b p.
     let here : num' ≡ get_or path up 0 = get_or_default path up c.index-self-up.result 0 (omega (arith, low)) in
     let slot : slice_get t0.nodes num' ≡ Some (inner_content es) = rw here d.f.slot_is in
     let cnt : c.entries.result ≡ length es = c.entries.ensures (inner_content es) slot ∙ item_count es in
-    let less : length es ≤ get_or indices up 0 + 1 = omega (arith, cnt, c.if-e-entries.false) in
+    let less : length es ≤ get_or indices up 0 + 1 = omega (arith, cnt, c.if-index-entries.false) in
     let u = up_above t0 path indices up size rows a x b d in
     let nx = subst (λ (r : Option (g.row.K.Denot × ℕ)). NextIs r (heads d.q.after)) c.in-None.is (c.right_sibling.ensures d.q.rest (heads d.q.before) (u.k, get_or path up 0) (heads d.q.after) (rw add-one u.above)) in
     next_none t0 path indices up size rows a x b d less nx
@@ -180,7 +180,7 @@ returns-in-Some g t c = λ rows a x b p.
     let here : num' ≡ get_or path up 0 = get_or_default path up c.index-self-up.result 0 (omega (arith, low)) in
     let slot : slice_get t0.nodes num' ≡ Some (inner_content es) = rw here d.f.slot_is in
     let cnt : c.entries.result ≡ length es = c.entries.ensures (inner_content es) slot ∙ item_count es in
-    let less : length es ≤ get_or indices up 0 + 1 = omega (arith, cnt, c.if-e-entries.false) in
+    let less : length es ≤ get_or indices up 0 + 1 = omega (arith, cnt, c.if-index-entries.false) in
     let u = up_above t0 path indices up size rows a x b d in
     let nx = subst (λ (r : Option (g.row.K.Denot × ℕ)). NextIs r (heads d.q.after)) c.in-Some.is (c.right_sibling.ensures d.q.rest (heads d.q.before) (u.k, get_or path up 0) (heads d.q.after) (rw add-one u.above)) in
     let n = next_of d.q.after c.in-Some.next.0 c.in-Some.next.1 nx.0 d.f.fit.2 nx.1 in
