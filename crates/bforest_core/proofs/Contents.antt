@@ -5,7 +5,6 @@ use Rattle.std.proofs.lemmas.List.{append-nil, length-map, map-append, set_at}
 use Rattle.std.proofs.lemmas.Bool.Decides.{eqb_tells}
 use Rattle.bforest_nodes.specs.Content.{Inner, without_child}
 use Rattle.bforest_core.specs.Place.{inner_content, entry_keys, entry_items}
-
 use Rattle.bforest_core.proofs.Stored.{slice_get_at, some_same}
 
 -- an item taken out between two lists

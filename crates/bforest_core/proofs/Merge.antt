@@ -98,7 +98,7 @@ module _ {K V : Type 0} where
           apart = λ m. omega (arith, l.on_level.apart m, r.numbers_are m, c0 m, c1 m, c2 m, c4 m, c5 m, c6 m, c7 m, c8 m, c9 m);
         };
         sizes_are = ap (λ z. z ∷ map sizes r.rows') (sizes-append l.before (node j.right both ∷ j.after')) ∙ ap (λ z. (sizes l.before ++ length both ∷ sizes j.after') ∷ z) (r.sizes_are ∙ ap (λ z. loss_above (Some z) (map sizes l.rest)) full)
-        ∙ sym (ss ∙ ap (λ z. (sizes l.before ++ z.1) ∷ loss_above (placed (length l.before) z.0) (map sizes l.rest)) j.outcome);
+            ∙ sym (ss ∙ ap (λ z. (sizes l.before ++ z.1) ∷ loss_above (placed (length l.before) z.0) (map sizes l.rest)) j.outcome);
         numbers_are = λ m. omega (arith, l.numbers_are m, r.numbers_are m, c0 m, c1 m, c2 m, c4 m, c5 m, c10 m);
         frees = record {
           others = λ m none. r.frees.others m (omega (arith, none, l.numbers_are m, c4 m)) ∙ j.frees.others m (omega (arith, none, l.numbers_are m, c4 m)) ∙ l.frees.others m none;

@@ -15,7 +15,6 @@ use Rattle.bforest_core.proofs.Zipper.{Spot}
 use Rattle.bforest_core.proofs.TakeLeft.{Across, across_cut}
 use Rattle.bforest_core.proofs.Loosen.{heads-put}
 use Rattle.bforest_core.proofs.Zipper.{stands-same}
-
 use Rattle.std.specs.Prelude.{Bool, false}
 use Rattle.bforest_core.specs.Steps.{Over, Moved}
 use Rattle.bforest_core.proofs.Stored.{slice_get_at, some_same}

@@ -86,6 +86,7 @@ module _ {K V X : Type 0} (content : List (K × X) → Content K V) (half most :
       enough [] w = p.some
       enough (x ∷ xs) (inl h) = h
       enough (x ∷ xs) (inr e) = absurd cc
+
       judged : (xs : List (LevelNode K X)) → (half ≤ length es) ⊎ (xs ≡ []) → settled most (length es) (sizes xs) ≡ (false, length es ∷ sizes xs)
       judged [] w = settled_last most (length es) p.some
       judged (node k fs ∷ xs) (inl h) = settled_healthy most (length es) (length fs) (sizes xs) p.some (omega (arith, hm.lo, h))

@@ -66,11 +66,7 @@ impl<K: Copy, V: Copy, const N: usize> Path<K, V, N> {
     }
 
     // Balances the inner node at `level`, which lost an entry, with its right neighbour. Whether it went into it.
-    fn settle_inner(
-        &mut self,
-        level: usize,
-        pool: &mut NodePool<K, V, N>,
-    ) -> bool
+    fn settle_inner(&mut self, level: usize, pool: &mut NodePool<K, V, N>) -> bool
         requires height { self.old.size ≤ 17 }
         requires pending { (before : List (LevelNode K ℕ)) × (n : ℕ) × (es : List (K × ℕ)) × (after : List (LevelNode K ℕ)) × (rest : List (List (LevelNode K ℕ))) × OnLevel inner_content 4 8 pool.old self.old.node self.old.entry level self.old.size before n es after rest }
         ensures healed { result ≡ false → (before : List (LevelNode K ℕ)) (n : ℕ) (es : List (K × ℕ)) (after : List (LevelNode K ℕ)) (rest : List (List (LevelNode K ℕ))) → OnLevel inner_content 4 8 pool.old self.old.node self.old.entry level self.old.size before n es after rest → Healed inner_content 4 8 pool.old pool.new self.old.node self.old.entry self.new.node self.new.entry level self.old.size before n es after rest }
@@ -103,11 +99,7 @@ impl<K: Copy, V: Copy, const N: usize> Path<K, V, N> {
 
     // The path's node below level `up` went into its right neighbour: its entry is taken out of the level, and the
     // neighbour gets its key.
-    pub(super) fn merge_above(
-        &mut self,
-        up: usize,
-        pool: &mut NodePool<K, V, N>,
-    )
+    pub(super) fn merge_above(&mut self, up: usize, pool: &mut NodePool<K, V, N>)
         requires height { self.old.size ≤ 17 }
         requires pending { (rows : List (List (LevelNode K ℕ))) × (a : List (K × ℕ)) × (k : K) × (m : ℕ) × (k2 : K) × (n : ℕ) × (b : List (K × ℕ)) × Above pool.old self.old.node self.old.entry up self.old.size rows (a ++ (k, m) ∷ (k2, n) ∷ b) (length a) }
         ensures merged { (rows : List (List (LevelNode K ℕ))) (a : List (K × ℕ)) (k : K) (m : ℕ) (k2 : K) (n : ℕ) (b : List (K × ℕ)) → Above pool.old self.old.node self.old.entry up self.old.size rows (a ++ (k, m) ∷ (k2, n) ∷ b) (length a) → (freed : List ℕ) × Rebuilt pool.old pool.new self.old.node self.old.entry self.new.node self.new.entry up self.old.size rows (a ++ (k, n) ∷ b) (length a) (loss_above (Some (length a)) (map sizes rows)) freed }

@@ -11,9 +11,28 @@ merge_above-requires g t c κs within =
     let l = c.take_left.ensures w.0 w.1 w.2 w.3 w.4 w.5 w.6 w.7 in
     let j = c.settle_inner.ensures.joined c.if-settle_inner.true l.before _ l.entries l.after l.rest l.on_level in
     let less : c.settle_inner.new.self.size - (c.args.up + 1) < t = omega (arith, c.decreases, low, c.settle_inner.ensures.size) in
-    let size = c.settle_inner.ensures.size in
-    (less, (within.0, (within.1, ((λ a m. search rules), (search rules, (search rules, (omega (arith, c.requires.height, size),
-      (l.rest, heads l.before, j.first.0, get_or c.args.self.now.node c.args.up 0, j.key, j.right, heads j.after', rw (add-one, size) j.above))))))))
+    let size = c.settle_inner.ensures.size in (
+      less,
+      (
+        within.0,
+        (
+          within.1,
+          (
+            (λ a m. search rules),
+            (
+              search rules,
+              (
+                search rules,
+                (
+                  omega (arith, c.requires.height, size),
+                  (l.rest, heads l.before, j.first.0, get_or c.args.self.now.node c.args.up 0, j.key, j.right, heads j.after', rw (add-one, size) j.above),
+                ),
+              ),
+            ),
+          ),
+        ),
+      ),
+    )
 
 pub returns-then-settle_inner-clause-merged : goal.returns-then-settle_inner-clause-merged
 returns-then-settle_inner-clause-merged g t c = λ rows a k m k2 n b p.

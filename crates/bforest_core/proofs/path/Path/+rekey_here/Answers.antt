@@ -12,20 +12,14 @@ use Rattle.bforest_core.proofs.path.Path.+rekey_here.Goals as goal
 pub set_separator-requires : goal.set_separator-requires
 set_separator-requires g t c =
     let w = c.requires.pending in
-    let rows = w.0 in
-    let a = w.1 in
-    let k = w.2 in
-    let n = w.3 in
-    let b = w.4 in
-    let p = w.5 in
     let t0 = c.args.pool.now in
     let path = c.args.self.now.node in
     let indices = c.args.self.now.entry in
     let up = c.args.up in
     let size = c.args.self.now.size in
     let low : up < size = omega (arith, c.if-up-self.false) in
-    let d = spot t0 path indices up size rows a (k, n) b p low in
-    let es = d.q.l ++ (k, n) ∷ d.q.r in
+    let d = spot t0 path indices up size w.0 w.1 (w.2, w.3) w.4 w.5 low in
+    let es = d.q.l ++ (w.2, w.3) ∷ d.q.r in
     let num' = get_or path up c.index-self-up.result in
     let here : num' ≡ get_or path up 0 = get_or_default path up c.index-self-up.result 0 (omega (arith, low)) in
     let slot : slice_get t0.nodes num' ≡ Some (inner_content es) = rw here d.f.slot_is in
@@ -34,20 +28,14 @@ set_separator-requires g t c =
 pub rekey_here-requires : goal.rekey_here-requires
 rekey_here-requires g t c κs within =
     let w = c.requires.pending in
-    let rows = w.0 in
-    let a = w.1 in
-    let k = w.2 in
-    let n = w.3 in
-    let b = w.4 in
-    let p = w.5 in
     let t0 = c.args.pool.now in
     let path = c.args.self.now.node in
     let indices = c.args.self.now.entry in
     let up = c.args.up in
     let size = c.args.self.now.size in
     let low : up < size = omega (arith, c.if-up-self.false) in
-    let d = spot t0 path indices up size rows a (k, n) b p low in
-    let u = up_above t0 path indices up size rows a (k, n) b d in
+    let d = spot t0 path indices up size w.0 w.1 (w.2, w.3) w.4 w.5 low in
+    let u = up_above t0 path indices up size w.0 w.1 (w.2, w.3) w.4 d in
     let falls : size - (up + 1) < t = omega (arith, c.decreases, low) in
     (falls, (within.0, (within.1, ((λ a' m'. search rules), (search rules, (search rules, (c.requires.height, (d.q.rest, heads d.q.before, u.k, get_or path up 0, heads d.q.after, rw add-one u.above))))))))
 

@@ -13,41 +13,27 @@ use Rattle.bforest_core.proofs.path.Path.+rekey_next.Goals as goal
 pub overflow_add-index : goal.overflow_add-index
 overflow_add-index g t c =
     let w = c.requires.pending in
-    let rows = w.0 in
-    let a = w.1 in
-    let x = w.2 in
-    let k = w.3 in
-    let n = w.4 in
-    let b = w.5 in
-    let p = w.6 in
     let t0 = c.args.pool.now in
     let path = c.args.self.now.node in
     let indices = c.args.self.now.entry in
     let up = c.args.up in
     let size = c.args.self.now.size in
-    let low : up < size = above_two t0 path indices up size rows a x (k, n) b (length a) p in
-    let d = spot t0 path indices up size rows a x ((k, n) ∷ b) p low in
+    let low : up < size = above_two t0 path indices up size w.0 w.1 w.2 (w.3, w.4) w.5 (length w.1) w.6 in
+    let d = spot t0 path indices up size w.0 w.1 w.2 ((w.3, w.4) ∷ w.5) w.6 low in
     let small : get_or indices up 0 < 8 = omega (arith, d.count_is, d.most_is) in
     search rules
 
 pub entries-requires : goal.entries-requires
 entries-requires g t c =
     let w = c.requires.pending in
-    let rows = w.0 in
-    let a = w.1 in
-    let x = w.2 in
-    let k = w.3 in
-    let n = w.4 in
-    let b = w.5 in
-    let p = w.6 in
     let t0 = c.args.pool.now in
     let path = c.args.self.now.node in
     let indices = c.args.self.now.entry in
     let up = c.args.up in
     let size = c.args.self.now.size in
-    let low : up < size = above_two t0 path indices up size rows a x (k, n) b (length a) p in
-    let d = spot t0 path indices up size rows a x ((k, n) ∷ b) p low in
-    let es = d.q.l ++ x ∷ d.q.r in
+    let low : up < size = above_two t0 path indices up size w.0 w.1 w.2 (w.3, w.4) w.5 (length w.1) w.6 in
+    let d = spot t0 path indices up size w.0 w.1 w.2 ((w.3, w.4) ∷ w.5) w.6 low in
+    let es = d.q.l ++ w.2 ∷ d.q.r in
     let num' = get_or path up c.index-self-up.result in
     let here : num' ≡ get_or path up 0 = get_or_default path up c.index-self-up.result 0 (omega (arith, low)) in
     let slot : slice_get t0.nodes num' ≡ Some (inner_content es) = rw here d.f.slot_is in
@@ -56,21 +42,14 @@ entries-requires g t c =
 pub set_separator-requires : goal.set_separator-requires
 set_separator-requires g t c =
     let w = c.requires.pending in
-    let rows = w.0 in
-    let a = w.1 in
-    let x = w.2 in
-    let k = w.3 in
-    let n = w.4 in
-    let b = w.5 in
-    let p = w.6 in
     let t0 = c.args.pool.now in
     let path = c.args.self.now.node in
     let indices = c.args.self.now.entry in
     let up = c.args.up in
     let size = c.args.self.now.size in
-    let low : up < size = above_two t0 path indices up size rows a x (k, n) b (length a) p in
-    let d = spot t0 path indices up size rows a x ((k, n) ∷ b) p low in
-    let es = d.q.l ++ x ∷ d.q.r in
+    let low : up < size = above_two t0 path indices up size w.0 w.1 w.2 (w.3, w.4) w.5 (length w.1) w.6 in
+    let d = spot t0 path indices up size w.0 w.1 w.2 ((w.3, w.4) ∷ w.5) w.6 low in
+    let es = d.q.l ++ w.2 ∷ d.q.r in
     let num' = get_or path up c.index-self-up.result in
     let here : num' ≡ get_or path up 0 = get_or_default path up c.index-self-up.result 0 (omega (arith, low)) in
     let slot : slice_get t0.nodes num' ≡ Some (inner_content es) = rw here d.f.slot_is in
@@ -80,30 +59,23 @@ set_separator-requires g t c =
 pub rekey_next-requires : goal.rekey_next-requires
 rekey_next-requires g t c κs within =
     let w = c.requires.pending in
-    let rows = w.0 in
-    let a = w.1 in
-    let x = w.2 in
-    let k = w.3 in
-    let n = w.4 in
-    let b = w.5 in
-    let p = w.6 in
     let t0 = c.args.pool.now in
     let path = c.args.self.now.node in
     let indices = c.args.self.now.entry in
     let up = c.args.up in
     let size = c.args.self.now.size in
-    let low : up < size = above_two t0 path indices up size rows a x (k, n) b (length a) p in
-    let d = spot t0 path indices up size rows a x ((k, n) ∷ b) p low in
-    let es = d.q.l ++ x ∷ d.q.r in
+    let low : up < size = above_two t0 path indices up size w.0 w.1 w.2 (w.3, w.4) w.5 (length w.1) w.6 in
+    let d = spot t0 path indices up size w.0 w.1 w.2 ((w.3, w.4) ∷ w.5) w.6 low in
+    let es = d.q.l ++ w.2 ∷ d.q.r in
     let num' = get_or path up c.index-self-up.result in
     let here : num' ≡ get_or path up 0 = get_or_default path up c.index-self-up.result 0 (omega (arith, low)) in
     let slot : slice_get t0.nodes num' ≡ Some (inner_content es) = rw here d.f.slot_is in
     let cnt : c.entries.result ≡ length es = c.entries.ensures (inner_content es) slot ∙ item_count es in
     let less : length es ≤ get_or indices up 0 + 1 = omega (arith, cnt, c.if-index-entries.false) in
-    let o = across t0 path indices up size rows a x (k, n) b d less in
-    let ab = across_above t0 path indices up size d.q.before o.z o.zs x o.q (k, n) o.ys o.rest d.q.rest (across_cut t0 path indices up size rows a x (k, n) b d o) d.q.stands in
+    let o = across t0 path indices up size w.0 w.1 w.2 (w.3, w.4) w.5 d less in
+    let ab = across_above t0 path indices up size d.q.before o.z o.zs w.2 o.q (w.3, w.4) o.ys o.rest d.q.rest (across_cut t0 path indices up size w.0 w.1 w.2 (w.3, w.4) w.5 d o) d.q.stands in
     let falls : size - (up + 1) < t = omega (arith, c.decreases, low) in
-    (falls, (within.0, (within.1, ((λ a' m'. search rules), (search rules, (search rules, (c.requires.height, (d.q.rest, heads d.q.before, (o.z.0, get_or path up 0), k, o.q, heads o.rest, rw add-one ab))))))))
+    (falls, (within.0, (within.1, ((λ a' m'. search rules), (search rules, (search rules, (c.requires.height, (d.q.rest, heads d.q.before, (o.z.0, get_or path up 0), w.3, o.q, heads o.rest, rw add-one ab))))))))
 
 pub returns-then-index-entries : goal.returns-then-index-entries
 returns-then-index-entries g t c = λ rows a x k n b p.

@@ -11,37 +11,27 @@ use Rattle.bforest_core.proofs.path.Path.+right_sibling.Goals as goal
 pub overflow_add-index : goal.overflow_add-index
 overflow_add-index g t c =
     let w = c.requires.pending in
-    let rows = w.0 in
-    let a = w.1 in
-    let x = w.2 in
-    let b = w.3 in
-    let p = w.4 in
     let t0 = c.args.pool.now in
     let path = c.args.self.now.node in
     let indices = c.args.self.now.entry in
     let up = c.args.up in
     let size = c.args.self.now.size in
-    let low : up < size = omega (arith, p.height, c.if-up-self.false) in
-    let d = spot t0 path indices up size rows a x b p low in
+    let low : up < size = omega (arith, w.4.height, c.if-up-self.false) in
+    let d = spot t0 path indices up size w.0 w.1 w.2 w.3 w.4 low in
     let small : get_or indices up 0 < 8 = omega (arith, d.count_is, d.most_is) in
     search rules
 
 pub entries-requires : goal.entries-requires
 entries-requires g t c =
     let w = c.requires.pending in
-    let rows = w.0 in
-    let a = w.1 in
-    let x = w.2 in
-    let b = w.3 in
-    let p = w.4 in
     let t0 = c.args.pool.now in
     let path = c.args.self.now.node in
     let indices = c.args.self.now.entry in
     let up = c.args.up in
     let size = c.args.self.now.size in
-    let low : up < size = omega (arith, p.height, c.if-up-self.false) in
-    let d = spot t0 path indices up size rows a x b p low in
-    let es = d.q.l ++ x ∷ d.q.r in
+    let low : up < size = omega (arith, w.4.height, c.if-up-self.false) in
+    let d = spot t0 path indices up size w.0 w.1 w.2 w.3 w.4 low in
+    let es = d.q.l ++ w.2 ∷ d.q.r in
     let num' = get_or path up c.index-self-up.result in
     let here : num' ≡ get_or path up 0 = get_or_default path up c.index-self-up.result 0 (omega (arith, low)) in
     let slot : slice_get t0.nodes num' ≡ Some (inner_content es) = rw here d.f.slot_is in
@@ -50,19 +40,14 @@ entries-requires g t c =
 pub separator-requires : goal.separator-requires
 separator-requires g t c =
     let w = c.requires.pending in
-    let rows = w.0 in
-    let a = w.1 in
-    let x = w.2 in
-    let b = w.3 in
-    let p = w.4 in
     let t0 = c.args.pool.now in
     let path = c.args.self.now.node in
     let indices = c.args.self.now.entry in
     let up = c.args.up in
     let size = c.args.self.now.size in
-    let low : up < size = omega (arith, p.height, c.if-up-self.false) in
-    let d = spot t0 path indices up size rows a x b p low in
-    let es = d.q.l ++ x ∷ d.q.r in
+    let low : up < size = omega (arith, w.4.height, c.if-up-self.false) in
+    let d = spot t0 path indices up size w.0 w.1 w.2 w.3 w.4 low in
+    let es = d.q.l ++ w.2 ∷ d.q.r in
     let num' = get_or path up c.index-self-up.result in
     let here : num' ≡ get_or path up 0 = get_or_default path up c.index-self-up.result 0 (omega (arith, low)) in
     let slot : slice_get t0.nodes num' ≡ Some (inner_content es) = rw here d.f.slot_is in
@@ -72,19 +57,14 @@ separator-requires g t c =
 pub child-requires : goal.child-requires
 child-requires g t c =
     let w = c.requires.pending in
-    let rows = w.0 in
-    let a = w.1 in
-    let x = w.2 in
-    let b = w.3 in
-    let p = w.4 in
     let t0 = c.args.pool.now in
     let path = c.args.self.now.node in
     let indices = c.args.self.now.entry in
     let up = c.args.up in
     let size = c.args.self.now.size in
-    let low : up < size = omega (arith, p.height, c.if-up-self.false) in
-    let d = spot t0 path indices up size rows a x b p low in
-    let es = d.q.l ++ x ∷ d.q.r in
+    let low : up < size = omega (arith, w.4.height, c.if-up-self.false) in
+    let d = spot t0 path indices up size w.0 w.1 w.2 w.3 w.4 low in
+    let es = d.q.l ++ w.2 ∷ d.q.r in
     let num' = get_or path up c.index-self-up.result in
     let here : num' ≡ get_or path up 0 = get_or_default path up c.index-self-up.result 0 (omega (arith, low)) in
     let slot : slice_get t0.nodes num' ≡ Some (inner_content es) = rw here d.f.slot_is in
@@ -94,41 +74,31 @@ child-requires g t c =
 pub right_sibling-requires : goal.right_sibling-requires
 right_sibling-requires g t c κs within =
     let w = c.requires.pending in
-    let rows = w.0 in
-    let a = w.1 in
-    let x = w.2 in
-    let b = w.3 in
-    let p = w.4 in
     let t0 = c.args.pool.now in
     let path = c.args.self.now.node in
     let indices = c.args.self.now.entry in
     let up = c.args.up in
     let size = c.args.self.now.size in
-    let low : up < size = omega (arith, p.height, c.if-up-self.false) in
-    let d = spot t0 path indices up size rows a x b p low in
-    let u = up_above t0 path indices up size rows a x b d in
+    let low : up < size = omega (arith, w.4.height, c.if-up-self.false) in
+    let d = spot t0 path indices up size w.0 w.1 w.2 w.3 w.4 low in
+    let u = up_above t0 path indices up size w.0 w.1 w.2 w.3 d in
     let falls : size - (up + 1) < t = omega (arith, c.decreases, low) in
     (falls, (within.0, (within.1, ((λ a' m'. search rules), (search rules, (search rules, (c.requires.height, (d.q.rest, heads d.q.before, (u.k, get_or path up 0), heads d.q.after, rw add-one u.above))))))))
 
 pub child-requires-in-Some : goal.child-requires-in-Some
 child-requires-in-Some g t c =
     let w = c.requires.pending in
-    let rows = w.0 in
-    let a = w.1 in
-    let x = w.2 in
-    let b = w.3 in
-    let p = w.4 in
     let t0 = c.args.pool.now in
     let path = c.args.self.now.node in
     let indices = c.args.self.now.entry in
     let up = c.args.up in
     let size = c.args.self.now.size in
-    let low : up < size = omega (arith, p.height, c.if-up-self.false) in
-    let d = spot t0 path indices up size rows a x b p low in
-    let u = up_above t0 path indices up size rows a x b d in
+    let low : up < size = omega (arith, w.4.height, c.if-up-self.false) in
+    let d = spot t0 path indices up size w.0 w.1 w.2 w.3 w.4 low in
+    let u = up_above t0 path indices up size w.0 w.1 w.2 w.3 d in
     let nx = subst (λ (r : Option (g.row.K.Denot × ℕ)). NextIs r (heads d.q.after)) c.in-Some.is (c.right_sibling.ensures d.q.rest (heads d.q.before) (u.k, get_or path up 0) (heads d.q.after) (rw add-one u.above)) in
     let n = next_of d.q.after c.in-Some.next.0 c.in-Some.next.1 nx.0 d.f.fit.2 nx.1 in
-    let slot_q = slot_next t0 path indices up size rows a x b d c.in-Some.next.0 c.in-Some.next.1 n in
+    let slot_q = slot_next t0 path indices up size w.0 w.1 w.2 w.3 d c.in-Some.next.0 c.in-Some.next.1 n in
     (search rules, (drop 1 (entry_keys (n.f ∷ n.fs)), entry_items (n.f ∷ n.fs), slot_q, omega arith))
 
 pub returns-then-index-entries : goal.returns-then-index-entries
