@@ -1,8 +1,8 @@
 -- Leaves and inner nodes as stored, for the calls on two neighbours.
-use Rattle.std.proofs.Common.{◌≡◌, ℕ, zero, suc, ◌+◌, ◌-◌, ◌*◌, ◌/◌, ◌≤◌, ◌<◌, ◌≢◌, ◌⊎◌, true, false, nat_lt, nat_le, List, [], ◌∷◌, ◌++◌, map, length, take, drop, set, slice_get, Some, None, Option, refl, sym, ap, ◌∙◌, subst, inl, inr, append_assoc, length-append, arith, rules}
-use Rattle.std.proofs.lemmas.List.{append-nil, length-map, map-append, take_at, drop_at, length-drop}
+use Rattle.std.proofs.Common.{◌≡◌, ℕ, suc, ◌+◌, ◌-◌, ◌/◌, ◌≤◌, ◌<◌, ◌≢◌, List, [], ◌∷◌, ◌++◌, length, set, slice_get, Some, None, refl, sym, ap, ◌∙◌, subst, inl, inr, length-append, arith}
+use Rattle.std.proofs.lemmas.List.{length-map, map-append}
 use Rattle.std.proofs.lemmas.Bool.{cases_lt}
-use Rattle.bforest_nodes.specs.Content.{Content, Inner, Leaf, Free, IsSameKind, entry_count, entry_capacity, joined, IsCut, Balances, left_share, first_part, last_part, separator}
+use Rattle.bforest_nodes.specs.Content.{Content, Inner, Leaf, IsSameKind, entry_count, entry_capacity, joined, IsCut, Balances, left_share}
 use Rattle.bforest_core.specs.Table.{Table, with_node, IsBalancedAt}
 use Rattle.bforest_core.proofs.Lists.{slice_get-set_same}
 use Rattle.std.proofs.lemmas.Option.{slice_get_within}
@@ -33,6 +33,7 @@ module _ {K : Type 0} where
   items-app : {X : Type 0} (xs ys : List (K × X)) → entry_items (xs ++ ys) ≡ entry_items xs ++ entry_items ys
   items-app xs ys = map-append (λ w. w.1) xs ys
 
+  -- inner nodes are
   pub inner_stored : {V : Type 0} (n : ℕ) → IsStored {K = K} {V = V} inner_content n 8
   inner_stored {V} n = record {
     count_is = λ es. length-map es (λ (w : K × ℕ). w.1);
@@ -42,6 +43,7 @@ module _ {K : Type 0} where
     cuts = inner_cuts V;
   }
 
+  -- so are leaves
   pub leaf_stored : {V : Type 0} (n : ℕ) → IsStored {K = K} {V = V} leaf_content n n
   leaf_stored {V} n = record {
     count_is = λ es. length-map es (λ (w : K × V). w.0);
@@ -61,6 +63,7 @@ module _ {K V X : Type 0} (content : List (K × X) → Content K V) where
     pub slots_are : length u.nodes ≡ length t.nodes
     pub limit_is : u.limit ≡ t.limit
 
+  -- two writes, one after the other
   pub puts_two : (t u : Table K V) (n q : ℕ) (c d old_n old_q : Content K V) → slice_get t.nodes n ≡ Some old_n → slice_get t.nodes q ≡ Some old_q → n ≢ q → u ≡ with_node (with_node t n c) q d → PutsTwo t u n q c d
   puts_two t u n q c d old_n old_q fn fq ne is =
       let ln = slice_get_within t.nodes n old_n fn in
@@ -94,6 +97,7 @@ module _ {K V X : Type 0} (content : List (K × X) → Content K V) where
     pub key_is : key ≡ y.0
     pub two : PutsTwo t u n q (content (x ∷ xs)) (content (y ∷ ys))
 
+  -- where all fits, balancing puts all into the right one
   pub all_right_at : (t u : Table K V) (cap most n q : ℕ) (e : K × X) (es : List (K × X)) (f : K × X) (fs : List (K × X)) → IsStored content cap most → n ≢ q → slice_get t.nodes n ≡ Some (content (e ∷ es)) → slice_get t.nodes q ≡ Some (content (f ∷ fs)) →
       IsBalancedAt cap t n f.0 q None u → AllRight t u most n q (e ∷ es) (f ∷ fs)
   all_right_at t u cap most n q e es f fs s ne fn fq b =
@@ -134,6 +138,7 @@ module _ {K V X : Type 0} (content : List (K × X) → Content K V) where
         two = puts_two t u n q (content (x ∷ xs)) (content (c.x ∷ c.r)) (content es) (content fs) fn fq ne (after ∙ ap (λ z. with_node (with_node t n z) q new_right) p.left_is ∙ ap (λ z. with_node (with_node t n (content (x ∷ xs))) q z) p.right_is);
       }
 
+  -- else it cuts them in two
   pub spread_at : (t u : Table K V) (cap most n q : ℕ) (e : K × X) (es : List (K × X)) (f : K × X) (fs : List (K × X)) (key : K) → IsStored content cap most → n ≢ q → 2 ≤ most → slice_get t.nodes n ≡ Some (content (e ∷ es)) → slice_get t.nodes q ≡ Some (content (f ∷ fs)) →
       IsBalancedAt cap t n f.0 q (Some key) u → Spread t u most n q (e ∷ es) (f ∷ fs) key
   spread_at t u cap most n q e es f fs key s ne two fn fq b =

@@ -1,13 +1,13 @@
 -- What an inner node holds after a child was taken out.
-use Rattle.std.proofs.Common.{◌≡◌, ℕ, zero, suc, ◌+◌, ◌-◌, ◌≤◌, ◌<◌, ◌≢◌, true, false, nat_eq, ◌==◌, if◌then◌else◌, List, [], ◌∷◌, ◌++◌, map, length, take, drop, set, slice_get, Some, None, refl, sym, ap, ◌∙◌, subst, inl, inr, append_assoc, length-append, arith, rules}
+use Rattle.std.proofs.Common.{◌≡◌, ℕ, zero, suc, ◌-◌, ◌≤◌, List, [], ◌∷◌, ◌++◌, length, drop, set, slice_get, Some, refl, sym, ap, ◌∙◌, inl, inr, append_assoc, length-append, arith}
 use Rattle.std.specs.List.{remove}
-use Rattle.std.proofs.lemmas.List.{append-nil, length-map, map-append, take_at, drop_at, set_at}
+use Rattle.std.proofs.lemmas.List.{append-nil, length-map, map-append, set_at}
 use Rattle.std.proofs.lemmas.Bool.Decides.{eqb_tells}
-use Rattle.bforest_nodes.specs.Content.{Content, Inner, Leaf, Free, without_child}
-use Rattle.bforest_core.specs.Place.{inner_content, leaf_content, entry_keys, entry_items}
-
+use Rattle.bforest_nodes.specs.Content.{Inner, without_child}
+use Rattle.bforest_core.specs.Place.{inner_content, entry_keys, entry_items}
 use Rattle.bforest_core.proofs.Stored.{slice_get_at, some_same}
 
+-- an item taken out between two lists
 pub remove_at : {A : Type 0} → (p : List A) (y : A) (ys : List A) (n : ℕ) → length p ≡ n → remove (p ++ y ∷ ys) n ≡ p ++ ys
 remove_at [] y ys zero e = refl
 remove_at [] y ys (suc n) e = absurd (omega (arith, e))
@@ -15,6 +15,7 @@ remove_at (z ∷ p) y ys zero e = absurd (omega (arith, e))
 remove_at (z ∷ p) y ys (suc n) e = ap (λ w. z ∷ w) (remove_at p y ys n (omega (arith, e)))
 
 module _ {K : Type 0} (V : Type 0) where
+  -- of two children or more one goes with the key before it
   pub without_some : (ks : List K) (cs : List ℕ) (index : ℕ) → 2 ≤ length cs → without_child {V = V} (Inner ks cs) index ≡ Inner (remove ks (index - 1)) (remove cs index)
   without_some ks cs index two = elim (eqb_tells (length cs) 1) [ inl w ↦ absurd (let e = w.1 in omega (arith, e, two)) | inr w ↦ (let e = w.0 in rw e refl) ]
 
@@ -59,5 +60,6 @@ module _ {K : Type 0} (V : Type 0) where
       ∙ ap (λ w. Inner (entry_keys l) (remove w (suc n))) (map-append (λ (w : K × ℕ). w.1) (z ∷ l) (x ∷ []))
       ∙ ap (λ w. Inner (entry_keys l) w) (remove_at (entry_items (z ∷ l)) x.1 [] (suc n) il ∙ append-nil (entry_items (z ∷ l)))
 
+  -- the key before the last child
   pub last_key : (z : K × ℕ) (l : List (K × ℕ)) (x : K × ℕ) (e : ℕ) → suc (length l) ≡ e → slice_get (drop 1 (entry_keys ((z ∷ l) ++ x ∷ []))) (e - 1) ≡ Some x.0
   last_key z l x e h = ap (λ w. slice_get w (e - 1)) (map-append (λ (w : K × ℕ). w.0) l (x ∷ [])) ∙ slice_get_at (entry_keys l) x.0 [] (e - 1) (length-map l (λ (w : K × ℕ). w.0) ∙ omega (arith, h))

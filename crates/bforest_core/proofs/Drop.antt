@@ -1,22 +1,21 @@
 -- The right-most node of a level went: its entry goes, and the nodes that this leaves empty.
-use Rattle.std.proofs.Common.{◌≡◌, ℕ, zero, suc, ◌+◌, ◌-◌, ◌≤◌, ◌<◌, ◌≢◌, true, false, Option, List, [], ◌∷◌, ◌++◌, map, length, drop, get_or, slice_get, Some, None, refl, sym, ap, ◌∙◌, subst, append_assoc, length-append, length-set, arith, rules}
+use Rattle.std.proofs.Common.{◌≡◌, ℕ, suc, ◌+◌, ◌-◌, ◌≤◌, ◌≢◌, List, [], ◌∷◌, ◌++◌, map, length, get_or, slice_get, Some, refl, sym, ap, ◌∙◌, subst, append_assoc, length-append, length-set, arith}
 use Rattle.std.specs.List.{flat_map}
 use Rattle.std.proofs.lemmas.List.{append-nil}
-use Rattle.bforest_nodes.specs.Content.{Content, Inner, Free, without_child}
+use Rattle.bforest_nodes.specs.Content.{Free, without_child}
 use Rattle.bforest_core.specs.Table.{Table, with_node, with_freed, front_of}
-use Rattle.bforest_core.specs.Levels.{LevelNode, node, flat, heads, head_of, sizes, numbers, FitRow, Solid, Stacked, least}
-use Rattle.bforest_core.specs.Sizes.{settled, loss_above}
-use Rattle.bforest_core.specs.Place.{RowIn, RowsIn, inner_content, count, Distinct, IsAt, StandsAbove, root_above, first_number}
+use Rattle.bforest_core.specs.Levels.{LevelNode, node, flat, heads, sizes, numbers, FitRow, Solid, Stacked}
+use Rattle.bforest_core.specs.Sizes.{loss_above}
+use Rattle.bforest_core.specs.Place.{RowIn, inner_content, count, StandsAbove, root_above}
 use Rattle.bforest_core.specs.Climb.{Above, top_of}
-use Rattle.bforest_core.specs.Removal.{Frees, Dropped}
-use Rattle.bforest_core.proofs.LevelRows.{flat-append, heads-append, sizes-append, numbers-append, FitRow-join, FitRow-split, Solid-full, least-pos}
-use Rattle.bforest_core.proofs.Tables.{count-append, count-same, count-row, row-split, row-put, row-same, rows-same, ne_from_count, absent_ne, Puts, puts, slice_get-set_apart}
+use Rattle.bforest_core.specs.Removal.{Dropped}
+use Rattle.bforest_core.proofs.LevelRows.{flat-append, heads-append, sizes-append, FitRow-join, FitRow-split, Solid-full, least-pos}
+use Rattle.bforest_core.proofs.Tables.{count-append, count-same, count-row, row-split, row-put, row-same, rows-same, ne_from_count, absent_ne, puts, slice_get-set_apart}
 use Rattle.bforest_core.proofs.Frees.{frees-puts}
-use Rattle.bforest_core.proofs.Zipper.{Parent, Cut_above, Facts, facts}
+use Rattle.bforest_core.proofs.Zipper.{Cut_above, facts}
 use Rattle.bforest_core.proofs.Zipper.{Spot}
 use Rattle.bforest_core.proofs.Contents.{removed_last}
 use Rattle.bforest_core.proofs.Loosen.{heads-put}
-use Rattle.bforest_core.proofs.Losses.{placed}
 use Rattle.bforest_core.proofs.Merge.{loss_level}
 use Rattle.bforest_core.proofs.Tops.{top_rows}
 use Rattle.bforest_core.proofs.Downward.{last_of}
@@ -117,6 +116,7 @@ module _ {K V : Type 0} where
       FitRow-solid (node m es ∷ []) s = (omega (arith, s.0), s.1, tt)
       FitRow-solid (node m es ∷ next ∷ ns) s = (s.0, s.1, FitRow-solid (next ∷ ns) s.2)
 
+  -- the parent of the path keeps others
   pub drop_keep : (t u : Table K V) (path indices : List ℕ) (up size : ℕ) (rows : List (List (LevelNode K ℕ))) (a : List (K × ℕ)) (x : K × ℕ) (d : Spot t path indices up size rows a x []) → length (d.q.l ++ x ∷ d.q.r) ≢ 1 →
       u ≡ with_node t (get_or path up 0) (without_child (inner_content (d.q.l ++ x ∷ d.q.r)) (get_or indices up 0)) → Dropped t u path size rows a (loss_above (Some (length a)) (map sizes rows)) []
   drop_keep t u path indices up size rows a x d more u_is =
@@ -183,6 +183,7 @@ module _ {K V : Type 0} where
         };
       }
 
+  -- an empty parent and what stands in front of it
   pub emptied : (t v : Table K V) (path indices : List ℕ) (up size : ℕ) (rows : List (List (LevelNode K ℕ))) (a : List (K × ℕ)) (x : K × ℕ) (d : Spot t path indices up size rows a x []) → 1 ≤ length a → length (d.q.l ++ x ∷ d.q.r) ≡ 1 → v ≡ with_freed t (get_or path up 0) → Emptied t v path indices up size rows a x
   emptied t v path indices up size rows a x d some one v_is =
       let q = d.q in
@@ -201,6 +202,7 @@ module _ {K V : Type 0} where
           (subst (λ (w : List (LevelNode K ℕ)). StandsAbove path indices (suc up) rest (length (heads w))) z.is st) v_is e_is
           (rows_are ∙ ap (λ w. (w ++ node (get_or path up 0) (x ∷ []) ∷ []) ∷ rest) z.is) (a_is ∙ append-nil (flat (b ∷ before)) ∙ ap flat z.is)
 
+  -- an empty parent went, and so did its own entry
   pub drop_empty : (t v u : Table K V) (path indices : List ℕ) (up size : ℕ) (rows : List (List (LevelNode K ℕ))) (a : List (K × ℕ)) (x : K × ℕ) (freed : List ℕ) (m : Emptied t v path indices up size rows a x) → v ≡ with_freed t (get_or path up 0) →
       Dropped v u path size m.rest (heads m.init ++ (m.w.0, m.q) ∷ []) (loss_above (Some (suc (length (heads m.init)))) (map sizes m.rest)) freed → Dropped t u path size rows a (loss_above (Some (length a)) (map sizes rows)) (freed ++ get_or path up 0 ∷ [])
   drop_empty t v u path indices up size rows a x freed m v_is r =

@@ -1,5 +1,5 @@
 -- Changes of some numbers of a table, of which some are freed: none, one after another, and of more numbers.
-use Rattle.std.proofs.Common.{◌≡◌, ℕ, ◌<◌, List, [], ◌∷◌, ◌++◌, slice_get, Some, refl, sym, ap, ◌∙◌, subst, append_assoc, arith}
+use Rattle.std.proofs.Common.{◌≡◌, ℕ, ◌<◌, List, [], ◌++◌, slice_get, Some, refl, sym, ap, ◌∙◌, subst, append_assoc, arith}
 use Rattle.std.proofs.lemmas.Option.{slice_get_within}
 use Rattle.bforest_nodes.specs.Content.{Content, IsFree}
 use Rattle.bforest_core.specs.Table.{Table, with_freed}

@@ -1,22 +1,21 @@
 -- An entry taken out of the row above a level.
-use Rattle.std.proofs.Common.{◌≡◌, ℕ, zero, suc, ◌+◌, ◌-◌, ◌≤◌, ◌<◌, ◌≢◌, List, [], ◌∷◌, ◌++◌, map, length, drop, get_or, slice_get, Some, None, refl, sym, ap, ◌∙◌, subst, append_assoc, length-append, arith, rules}
+use Rattle.std.proofs.Common.{◌≡◌, ℕ, suc, ◌+◌, ◌≤◌, ◌<◌, List, [], ◌∷◌, ◌++◌, map, length, get_or, slice_get, refl, sym, ap, ◌∙◌, subst, append_assoc, length-append, arith}
 use Rattle.std.specs.List.{flat_map}
-use Rattle.std.proofs.lemmas.List.{append-nil}
-use Rattle.bforest_nodes.specs.Content.{Content, Inner}
 use Rattle.bforest_core.specs.Table.{Table}
-use Rattle.bforest_core.specs.Levels.{LevelNode, node, flat, heads, head_of, sizes, numbers, FitRow, Solid, Stacked, least}
-use Rattle.bforest_core.specs.Place.{RowIn, RowsIn, inner_content, count, Distinct, IsAt, StandsAbove, entry_keys, entry_items}
-use Rattle.bforest_core.specs.Climb.{Above}
-use Rattle.bforest_core.specs.Removal.{Rebuilt, Frees, OnLevel, Loosened}
-use Rattle.bforest_core.proofs.LevelRows.{flat-append, heads-append, sizes-append, numbers-append, FitRow-split, FitRow-join, Solid-full, least-pos, least-le}
-use Rattle.bforest_core.proofs.Tables.{count-append, count-same, count-row, row-split, row-join, row-same, row-put, rows-same, ne_from_count, absent_ne, Puts}
-use Rattle.bforest_core.proofs.Frees.{frees-puts, frees-wider, frees-then}
-use Rattle.bforest_core.proofs.Zipper.{Cut_above, facts, Facts, apart_here}
+use Rattle.bforest_core.specs.Levels.{LevelNode, node, flat, heads, head_of, sizes, numbers, Stacked}
+use Rattle.bforest_core.specs.Place.{RowIn, inner_content, count, StandsAbove}
+use Rattle.bforest_core.specs.Removal.{Rebuilt, Loosened}
+use Rattle.bforest_core.proofs.LevelRows.{flat-append, heads-append, sizes-append, least-pos}
+use Rattle.bforest_core.proofs.Tables.{count-append, count-same, count-row, row-split, row-join, row-same, row-put, rows-same, ne_from_count, Puts}
+use Rattle.bforest_core.proofs.Frees.{frees-puts}
+use Rattle.bforest_core.proofs.Zipper.{Cut_above, facts}
 
+-- a node's first key does not change with a later entry's item
 pub head-other : {K X : Type 0} (n : ℕ) (l : List (K × X)) (k : K) (x y : X) (r s : List (K × X)) → head_of n (l ++ (k, x) ∷ r) ≡ head_of n (l ++ (k, y) ∷ s)
 head-other n [] k x y r s = refl
 head-other n (z ∷ l) k x y r s = refl
 
+-- nor do the heads of a row
 pub heads-put : {K X : Type 0} (before : List (LevelNode K X)) (n : ℕ) (es fs : List (K × X)) (after : List (LevelNode K X)) → head_of n es ≡ head_of n fs → heads (before ++ node n es ∷ after) ≡ heads (before ++ node n fs ∷ after)
 heads-put before n es fs after e = heads-append before _ ∙ ap (λ w. heads before ++ (w ++ heads after)) e ∙ sym (heads-append before _)
 

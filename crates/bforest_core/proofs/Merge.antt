@@ -1,15 +1,13 @@
 -- An entry out of the rows above a level: its row settled, then those above.
-use Rattle.std.proofs.Common.{◌≡◌, ℕ, zero, suc, ◌+◌, ◌-◌, ◌≤◌, ◌<◌, ◌≢◌, true, false, Option, List, [], ◌∷◌, ◌++◌, map, length, get_or, slice_get, Some, None, refl, sym, ap, ◌∙◌, subst, append_assoc, length-append, arith, rules}
+use Rattle.std.proofs.Common.{◌≡◌, ℕ, suc, ◌+◌, ◌≤◌, List, [], ◌∷◌, ◌++◌, map, length, get_or, Some, refl, sym, ap, ◌∙◌, subst, append_assoc, length-append, arith}
 use Rattle.std.specs.List.{flat_map}
-use Rattle.bforest_nodes.specs.Content.{Content}
 use Rattle.bforest_core.specs.Table.{Table}
-use Rattle.bforest_core.specs.Levels.{LevelNode, node, flat, heads, head_of, sizes, numbers, FitRow, Solid, Stacked, least}
-use Rattle.bforest_core.specs.Sizes.{settled, loss, loss_above}
-use Rattle.bforest_core.specs.Place.{RowIn, RowsIn, inner_content, count, Distinct, IsAt, StandsAbove}
-use Rattle.bforest_core.specs.Climb.{Above, SameBelow}
-use Rattle.bforest_core.specs.Removal.{Rebuilt, Frees, OnLevel, Loosened, Healed, Joined}
+use Rattle.bforest_core.specs.Levels.{LevelNode, node, flat, heads, head_of, sizes, numbers, FitRow, Stacked}
+use Rattle.bforest_core.specs.Sizes.{settled, loss_above}
+use Rattle.bforest_core.specs.Place.{RowIn, inner_content, count}
+use Rattle.bforest_core.specs.Removal.{Rebuilt, Loosened, Healed, Joined}
 use Rattle.bforest_core.proofs.LevelRows.{flat-append, heads-append, sizes-append, FitRow-split, Solid-full, least-pos}
-use Rattle.bforest_core.proofs.Tables.{count-append, count-same, count-row, row-same}
+use Rattle.bforest_core.proofs.Tables.{count-append, count-row, row-same}
 use Rattle.bforest_core.proofs.Zipper.{stands_here}
 use Rattle.bforest_core.proofs.Losses.{loss_at, placed}
 use Rattle.bforest_core.proofs.Frees.{freed-then}
@@ -22,6 +20,7 @@ loss_level q before m e p after levels all all_is low p_is q_is =
     ap (λ z. loss_above (Some p) z) all_is ∙ rw (p_is, ← q_is) (ap (λ z. z.1 ∷ loss_above z.0 levels) l)
 
 module _ {K V : Type 0} where
+  -- the level healed, and all above it stays
   pub merge_healed : (t u v : Table K V) (path indices path' indices' : List ℕ) (up size : ℕ) (rows : List (List (LevelNode K ℕ))) (hs : List (K × ℕ)) (p : ℕ) → (l : Loosened t u path indices up size rows hs p) →
       Healed inner_content 4 8 u v path indices path' indices' up size l.before (get_or path up 0) l.entries l.after l.rest → Rebuilt t v path indices path' indices' up size rows hs p (loss_above (Some p) (map sizes rows)) []
   merge_healed t u v path indices path' indices' up size rows hs p l h =
@@ -60,6 +59,7 @@ module _ {K V : Type 0} where
         same_top = h.same_top;
       }
 
+  -- two nodes of the level joined, and the level above lost one
   pub merge_joined : (t u w v : Table K V) (path indices path1 indices1 path' indices' : List ℕ) (up size : ℕ) (rows : List (List (LevelNode K ℕ))) (hs : List (K × ℕ)) (p : ℕ) (freed : List ℕ) → (l : Loosened t u path indices up size rows hs p) →
       (j : Joined inner_content 4 8 u w path indices path1 indices1 up size l.before (get_or path up 0) l.entries l.after l.rest) →
       Rebuilt w v path1 indices1 path' indices' (suc up) size l.rest (heads l.before ++ (j.first.0, j.right) ∷ heads j.after') (length (heads l.before)) (loss_above (Some (length (heads l.before))) (map sizes l.rest)) freed →
@@ -98,7 +98,7 @@ module _ {K V : Type 0} where
           apart = λ m. omega (arith, l.on_level.apart m, r.numbers_are m, c0 m, c1 m, c2 m, c4 m, c5 m, c6 m, c7 m, c8 m, c9 m);
         };
         sizes_are = ap (λ z. z ∷ map sizes r.rows') (sizes-append l.before (node j.right both ∷ j.after')) ∙ ap (λ z. (sizes l.before ++ length both ∷ sizes j.after') ∷ z) (r.sizes_are ∙ ap (λ z. loss_above (Some z) (map sizes l.rest)) full)
-        ∙ sym (ss ∙ ap (λ z. (sizes l.before ++ z.1) ∷ loss_above (placed (length l.before) z.0) (map sizes l.rest)) j.outcome);
+            ∙ sym (ss ∙ ap (λ z. (sizes l.before ++ z.1) ∷ loss_above (placed (length l.before) z.0) (map sizes l.rest)) j.outcome);
         numbers_are = λ m. omega (arith, l.numbers_are m, r.numbers_are m, c0 m, c1 m, c2 m, c4 m, c5 m, c10 m);
         frees = record {
           others = λ m none. r.frees.others m (omega (arith, none, l.numbers_are m, c4 m)) ∙ j.frees.others m (omega (arith, none, l.numbers_are m, c4 m)) ∙ l.frees.others m none;

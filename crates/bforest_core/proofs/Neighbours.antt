@@ -1,22 +1,20 @@
 -- The right neighbour of a node, under the same parent or another; its key renewed; the path moved to it.
-use Rattle.std.proofs.Common.{◌≡◌, ℕ, zero, suc, ◌+◌, ◌-◌, ◌≤◌, ◌<◌, ◌≢◌, true, false, Option, List, [], ◌∷◌, ◌++◌, map, length, drop, set, get_or, slice_get, Some, None, refl, sym, ap, ◌∙◌, subst, append_assoc, length-append, arith, rules}
+use Rattle.std.proofs.Common.{◌≡◌, ℕ, suc, ◌+◌, ◌≤◌, ◌<◌, true, false, List, [], ◌∷◌, ◌++◌, map, length, drop, set, get_or, slice_get, Some, refl, sym, ap, ◌∙◌, subst, append_assoc, length-append, arith}
 use Rattle.std.specs.List.{flat_map}
-use Rattle.std.proofs.lemmas.List.{append-nil, get_or-set_other, get_or-set_same}
-use Rattle.bforest_nodes.specs.Content.{Content, Inner, with_key}
+use Rattle.bforest_nodes.specs.Content.{Inner, with_key}
 use Rattle.bforest_core.specs.Table.{Table, with_node}
-use Rattle.bforest_core.specs.Levels.{LevelNode, node, flat, heads, head_of, sizes, numbers, FitRow, Solid, Stacked, least}
-use Rattle.bforest_core.specs.Place.{RowIn, RowsIn, inner_content, count, Distinct, IsAt, StandsAbove, entry_keys, entry_items}
-use Rattle.bforest_core.specs.Climb.{Above, NextIs, SameBelow}
-use Rattle.bforest_core.specs.Removal.{Rebuilt, Frees}
-use Rattle.bforest_core.proofs.LevelRows.{flat-append, heads-append, sizes-append, numbers-append, FitRow-join, FitRow-split, least-pos, head-is, HeadIs, Solid-more}
+use Rattle.bforest_core.specs.Levels.{LevelNode, node, flat, heads, head_of, sizes, numbers, FitRow, Stacked}
+use Rattle.bforest_core.specs.Place.{RowIn, inner_content, count, StandsAbove, entry_keys, entry_items}
+use Rattle.bforest_core.specs.Climb.{Above, NextIs}
+use Rattle.bforest_core.specs.Removal.{Rebuilt}
+use Rattle.bforest_core.proofs.LevelRows.{flat-append, heads-append, sizes-append, FitRow-join, least-pos, head-is}
 use Rattle.bforest_core.proofs.Tables.{count-append, count-same, count-row, row-split, row-join, row-same, row-put, rows-same, ne_from_count, Puts, puts}
 use Rattle.bforest_core.proofs.Frees.{frees-puts, frees-wider}
-use Rattle.bforest_core.proofs.Zipper.{Parent, Cut_above, Facts, facts, stands_here}
+use Rattle.bforest_core.proofs.Zipper.{Cut_above, facts, stands_here}
 use Rattle.bforest_core.proofs.Zipper.{Spot}
 use Rattle.bforest_core.proofs.TakeLeft.{Across, across_cut}
 use Rattle.bforest_core.proofs.Loosen.{heads-put}
 use Rattle.bforest_core.proofs.Zipper.{stands-same}
-
 use Rattle.std.specs.Prelude.{Bool, false}
 use Rattle.bforest_core.specs.Steps.{Over, Moved}
 use Rattle.bforest_core.proofs.Stored.{slice_get_at, some_same}
@@ -49,6 +47,7 @@ pub record Within {K : Type 0} (l : List (K × ℕ)) (x : K × ℕ) (r : List (K
   pub key_is : slice_get (drop 1 (entry_keys (l ++ x ∷ r))) e ≡ Some y.0
   pub item_is : slice_get (entry_items (l ++ x ∷ r)) (e + 1) ≡ Some y.1
 
+-- the next entry of a node
 pub within : {K : Type 0} (l : List (K × ℕ)) (x : K × ℕ) (r : List (K × ℕ)) (e : ℕ) → length l ≡ e → e + 1 < length (l ++ x ∷ r) → Within l x r e
 within l x [] e l_is more = absurd (omega (arith, more, l_is, length-append l (x ∷ [])))
 within l x (y ∷ ys) e l_is more =
@@ -59,6 +58,7 @@ nothing_right : {K : Type 0} (l : List (K × ℕ)) (x : K × ℕ) (r : List (K �
 nothing_right l x [] e l_is less = refl
 nothing_right l x (y ∷ r) e l_is less = absurd (omega (arith, less, l_is, length-append l (x ∷ y ∷ r)))
 
+-- the next node of a row, under its first key
 pub record NextNode {K : Type 0} (after : List (LevelNode K ℕ)) (k : K) (q : ℕ) : Type 0 where
   pub f : K × ℕ
   pub fs : List (K × ℕ)
@@ -69,6 +69,7 @@ pub record NextNode {K : Type 0} (after : List (LevelNode K ℕ)) (k : K) (q : �
 same_head : {A : Type 0} (p q : A) (xs ys : List A) → p ∷ xs ≡ q ∷ ys → p ≡ q
 same_head p q xs ys e = cc
 
+-- a row that is not empty as it is seen
 pub next_of : {K : Type 0} (after : List (LevelNode K ℕ)) (k : K) (q : ℕ) (cs : List (K × ℕ)) → FitRow 4 8 after → heads after ≡ (k, q) ∷ cs → NextNode after k q
 next_of [] k q cs f e = absurd cc
 next_of (node m [] ∷ after) k q cs f e = absurd (let g = f.0 in omega (arith, g, least-pos 4 (omega arith) after))
@@ -76,6 +77,7 @@ next_of {K} (node m (x ∷ xs) ∷ after) k q cs f e =
     let kq = same_head {A = K × ℕ} (x.0, m) (k, q) (heads after) cs e in
     record { f = x; fs = xs; rest = after; after_is = ap (λ z. node z (x ∷ xs) ∷ after) (ap (λ z. z.1) kq); k_is = ap (λ z. z.0) (sym kq) }
 
+-- a row that nothing is seen of has no entries
 pub none_of : {K : Type 0} (after : List (LevelNode K ℕ)) → FitRow 4 8 after → heads after ≡ [] → flat after ≡ []
 none_of [] f e = refl
 none_of (node m [] ∷ after) f e = absurd (let g = f.0 in omega (arith, g, least-pos 4 (omega arith) after))
@@ -88,6 +90,7 @@ module _ {K V : Type 0} where
   none_at_top t path indices up size [] a x [] p h e = refl
   none_at_top t path indices up size [] a x (y ∷ b) p h e = absurd (omega (arith, h.stacked, length-append a (x ∷ y ∷ b)))
 
+  -- the rows one level up, under the path's node
   pub record UpAbove (t : Table K V) (path indices : List ℕ) (up size : ℕ) (before : List (LevelNode K ℕ)) (n : ℕ) (after : List (LevelNode K ℕ)) (rest : List (List (LevelNode K ℕ))) : Type 0 where
     pub k : K
     pub above : Above t path indices (suc up) size rest (heads before ++ (k, n) ∷ heads after) (length (heads before))
@@ -115,6 +118,7 @@ module _ {K V : Type 0} where
         };
       }
 
+  -- the neighbour under the same parent
   pub next_within : (t : Table K V) (path indices : List ℕ) (up size : ℕ) (rows : List (List (LevelNode K ℕ))) (a : List (K × ℕ)) (x : K × ℕ) (b : List (K × ℕ)) (d : Spot t path indices up size rows a x b) (key : K) (next : ℕ) → get_or indices up 0 + 1 < length (d.q.l ++ x ∷ d.q.r) →
       slice_get (drop 1 (entry_keys (d.q.l ++ x ∷ d.q.r))) (get_or indices up 0) ≡ Some key → slice_get (entry_items (d.q.l ++ x ∷ d.q.r)) (get_or indices up 0 + 1) ≡ Some next → NextIs (Some (key, next)) b
   next_within t path indices up size rows a x b d key next more k_is n_is =
@@ -123,6 +127,7 @@ module _ {K V : Type 0} where
       let next_is : w.y.1 ≡ next = some_same w.y.1 next (sym w.item_is ∙ n_is) in
       (w.ys ++ flat d.q.after, d.q.b_is ∙ ap (λ z. z ++ flat d.q.after) w.r_is ∙ ap (λ z. (z, w.y.1) ∷ (w.ys ++ flat d.q.after)) key_is ∙ ap (λ z. (key, z) ∷ (w.ys ++ flat d.q.after)) next_is)
 
+  -- no neighbour
   pub next_none : (t : Table K V) (path indices : List ℕ) (up size : ℕ) (rows : List (List (LevelNode K ℕ))) (a : List (K × ℕ)) (x : K × ℕ) (b : List (K × ℕ)) (d : Spot t path indices up size rows a x b) → length (d.q.l ++ x ∷ d.q.r) ≤ get_or indices up 0 + 1 → heads d.q.after ≡ [] → b ≡ []
   next_none t path indices up size rows a x b d less none =
       d.q.b_is ∙ ap (λ z. z ++ flat d.q.after) (nothing_right d.q.l x d.q.r (get_or indices up 0) d.q.entry_is less) ∙ none_of d.q.after d.f.fit.2 none
@@ -133,6 +138,7 @@ module _ {K V : Type 0} where
       let i = (row-split inner_content t.nodes d.q.before (node (get_or path up 0) (d.q.l ++ x ∷ d.q.r) ∷ d.q.after) d.f.inside).1.1 in
       (subst (λ (z : List (LevelNode K ℕ)). RowIn inner_content t.nodes z) n.after_is i).0
 
+  -- the neighbour under the next parent
   pub next_across : (t : Table K V) (path indices : List ℕ) (up size : ℕ) (rows : List (List (LevelNode K ℕ))) (a : List (K × ℕ)) (x : K × ℕ) (b : List (K × ℕ)) (d : Spot t path indices up size rows a x b) (k : K) (q : ℕ) (n : NextNode d.q.after k q) (next : ℕ) → length (d.q.l ++ x ∷ d.q.r) ≤ get_or indices up 0 + 1 →
       slice_get (entry_items (n.f ∷ n.fs)) 0 ≡ Some next → NextIs (Some (k, next)) b
   next_across t path indices up size rows a x b d k q n next less is =
@@ -196,6 +202,7 @@ module _ {K V : Type 0} where
       let two = puts t u n (inner_content (l ++ x ∷ (key, w.1) ∷ r)) (inner_content (l ++ x ∷ w ∷ r)) f.slot_is (u_is ∙ ap (λ z. with_node t n z) content_is) in
       rw (hy, hb) (rekey_at t u path indices up size before l x w r after rest key p l_is st two)
 
+  -- the same, where the rows are cut at the path
   pub rekey_same : (t u : Table K V) (path indices : List ℕ) (up size : ℕ) (rows : List (List (LevelNode K ℕ))) (a : List (K × ℕ)) (x : K × ℕ) (k : K) (n : ℕ) (b : List (K × ℕ)) (key : K) (d : Spot t path indices up size rows a x ((k, n) ∷ b)) → get_or indices up 0 + 1 < length (d.q.l ++ x ∷ d.q.r) →
       u ≡ with_node t (get_or path up 0) (Inner (set (drop 1 (entry_keys (d.q.l ++ x ∷ d.q.r))) (get_or indices up 0) key) (entry_items (d.q.l ++ x ∷ d.q.r))) → Rebuilt t u path indices path indices up size rows (a ++ x ∷ (key, n) ∷ b) (length a) (map sizes rows) []
   rekey_same t u path indices up size rows a x k n b key d more u_is =
@@ -246,6 +253,7 @@ module _ {K V : Type 0} where
         same_top = refl;
       }
 
+  -- the same, where the rows are cut at the path
   pub rekey_over : (t u : Table K V) (path indices : List ℕ) (up size : ℕ) (rows : List (List (LevelNode K ℕ))) (a : List (K × ℕ)) (x : K × ℕ) (k : K) (n : ℕ) (b : List (K × ℕ)) (key : K) (d : Spot t path indices up size rows a x ((k, n) ∷ b)) (o : Across d.q.l d.q.r d.q.after (k, n) b) →
       Rebuilt t u path indices path indices (suc up) size d.q.rest (heads d.q.before ++ (o.z.0, get_or path up 0) ∷ (key, o.q) ∷ heads o.rest) (length (heads d.q.before)) (map sizes d.q.rest) [] → Rebuilt t u path indices path indices up size rows (a ++ x ∷ (key, n) ∷ b) (length a) (map sizes rows) []
   rekey_over t u path indices up size rows a x k n b key d o reb =

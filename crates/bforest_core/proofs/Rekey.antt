@@ -1,16 +1,16 @@
 -- The first key of a node renewed in the rows above its level.
-use Rattle.std.proofs.Common.{◌≡◌, ℕ, zero, suc, ◌+◌, ◌-◌, ◌≤◌, ◌<◌, ◌≢◌, List, [], ◌∷◌, ◌++◌, map, length, drop, set, get_or, slice_get, Some, None, refl, sym, ap, ◌∙◌, subst, append_assoc, length-append, arith, rules}
+use Rattle.std.proofs.Common.{◌≡◌, ℕ, suc, ◌+◌, ◌-◌, ◌≤◌, ◌<◌, List, [], ◌∷◌, ◌++◌, map, length, drop, set, get_or, refl, sym, ap, ◌∙◌, subst, append_assoc, length-append, arith}
 use Rattle.std.specs.List.{flat_map}
-use Rattle.bforest_nodes.specs.Content.{Content, Inner, with_key}
+use Rattle.bforest_nodes.specs.Content.{Inner, with_key}
 use Rattle.bforest_core.specs.Table.{Table, with_node}
-use Rattle.bforest_core.specs.Levels.{LevelNode, node, flat, heads, head_of, sizes, numbers, FitRow, Solid, Stacked, least}
-use Rattle.bforest_core.specs.Place.{RowIn, RowsIn, inner_content, count, Distinct, IsAt, StandsAbove, entry_keys, entry_items}
+use Rattle.bforest_core.specs.Levels.{LevelNode, node, flat, heads, sizes, numbers, Stacked}
+use Rattle.bforest_core.specs.Place.{RowIn, inner_content, count, StandsAbove, entry_keys, entry_items}
 use Rattle.bforest_core.specs.Climb.{Above}
-use Rattle.bforest_core.specs.Removal.{Rebuilt, Frees}
+use Rattle.bforest_core.specs.Removal.{Rebuilt}
 use Rattle.bforest_core.proofs.LevelRows.{flat-append, heads-append, sizes-append, FitRow-join}
-use Rattle.bforest_core.proofs.Tables.{count-append, count-same, count-row, row-split, row-join, row-same, row-put, rows-same, ne_from_count, Puts, puts}
+use Rattle.bforest_core.proofs.Tables.{count-append, count-same, count-row, row-split, row-join, row-same, row-put, rows-same, ne_from_count, puts}
 use Rattle.bforest_core.proofs.Frees.{frees-puts, frees-refl, frees-wider}
-use Rattle.bforest_core.proofs.Zipper.{Parent, Cut_above, Facts, facts, stands_here}
+use Rattle.bforest_core.proofs.Zipper.{Cut_above, facts, stands_here}
 use Rattle.bforest_core.proofs.Zipper.{Spot}
 use Rattle.bforest_core.proofs.Loosen.{heads-put}
 
@@ -117,6 +117,7 @@ module _ {K V : Type 0} where
         same_top = refl;
       }
 
+  -- the separator in the parent of the path
   pub rekey_parent : (t u : Table K V) (path indices : List ℕ) (up size : ℕ) (rows : List (List (LevelNode K ℕ))) (a : List (K × ℕ)) (k : K) (n : ℕ) (b : List (K × ℕ)) (key : K) (d : Spot t path indices up size rows a (k, n) b) → 0 < get_or indices up 0 →
       u ≡ with_node t (get_or path up 0) (Inner (set (drop 1 (entry_keys (d.q.l ++ (k, n) ∷ d.q.r))) (get_or indices up 0 - 1) key) (entry_items (d.q.l ++ (k, n) ∷ d.q.r))) → Rebuilt t u path indices path indices up size rows (a ++ (key, n) ∷ b) (length a) (map sizes rows) []
   rekey_parent t u path indices up size rows a k n b key d some u_is =
@@ -131,6 +132,7 @@ module _ {K V : Type 0} where
           let w = rekey_in t u path indices up size d.q.before z l (k, n) d.q.r d.q.after d.q.rest key p e_is d.q.stands u_is in
           subst (λ (y : List (List (LevelNode K ℕ))). Rebuilt t u path indices path indices up size y (a ++ (key, n) ∷ b) (length a) (map sizes y) []) (sym rows_are) (let b_is = d.q.b_is in rw (a_is, b_is) w)
 
+  -- no separator there: the key is that of the parent
   pub rekey_first : (t u : Table K V) (path indices : List ℕ) (up size : ℕ) (rows : List (List (LevelNode K ℕ))) (a : List (K × ℕ)) (k : K) (n : ℕ) (b : List (K × ℕ)) (key : K) (d : Spot t path indices up size rows a (k, n) b) → get_or indices up 0 ≤ 0 →
       Rebuilt t u path indices path indices (suc up) size d.q.rest (heads d.q.before ++ (key, get_or path up 0) ∷ heads d.q.after) (length (heads d.q.before)) (map sizes d.q.rest) [] → Rebuilt t u path indices path indices up size rows (a ++ (key, n) ∷ b) (length a) (map sizes rows) []
   rekey_first t u path indices up size rows a k n b key d none reb =

@@ -1,19 +1,19 @@
 -- A node that lost an entry: it stays, or is balanced with its right neighbour.
-use Rattle.std.proofs.Common.{◌≡◌, ℕ, zero, suc, ◌+◌, ◌-◌, ◌*◌, ◌/◌, ◌≤◌, ◌<◌, ◌≢◌, ◌⊎◌, true, false, nat_lt, nat_le, List, [], ◌∷◌, ◌++◌, map, length, drop, set, get_or, slice_get, Some, None, refl, sym, ap, ◌∙◌, subst, inl, inr, append_assoc, length-append, length-set, arith, rules}
+use Rattle.std.proofs.Common.{◌≡◌, ℕ, zero, suc, ◌+◌, ◌-◌, ◌*◌, ◌/◌, ◌≤◌, ◌<◌, ◌≢◌, ◌⊎◌, true, false, nat_lt, nat_le, List, [], ◌∷◌, ◌++◌, map, length, set, get_or, slice_get, Some, refl, sym, ap, ◌∙◌, subst, inl, inr, append_assoc, length-append, length-set, arith}
 use Rattle.std.specs.List.{flat_map}
 use Rattle.std.proofs.lemmas.List.{append-nil, get_or-set_other, get_or-set_same}
 use Rattle.bforest_nodes.specs.Content.{Content, Free}
-use Rattle.bforest_core.specs.Table.{Table, with_node, with_freed, front_of}
-use Rattle.bforest_core.specs.Levels.{LevelNode, node, flat, heads, head_of, sizes, numbers, FitRow, Solid, Stacked, least}
+use Rattle.bforest_core.specs.Table.{Table, with_freed, front_of}
+use Rattle.bforest_core.specs.Levels.{LevelNode, node, flat, heads, head_of, sizes, numbers, FitRow, Stacked, least}
 use Rattle.bforest_core.specs.Sizes.{settled}
-use Rattle.bforest_core.specs.Place.{RowIn, RowsIn, inner_content, count, Distinct, IsAt, StandsAbove}
+use Rattle.bforest_core.specs.Place.{RowIn, count, Distinct}
 use Rattle.bforest_core.specs.Climb.{Above, SameBelow, top_of}
-use Rattle.bforest_core.specs.Removal.{Rebuilt, Frees, OnLevel, Healed, Joined}
-use Rattle.bforest_core.proofs.LevelRows.{flat-append, heads-append, sizes-append, numbers-append, FitRow-join, Solid-full, least-pos, least-le, Solid-more, head-is, HeadIs}
-use Rattle.bforest_core.proofs.Tables.{count-append, count-same, count-row, row-split, row-join, row-same, row-put_two, row-drop_put, rows-same, ne_from_count, absent_ne, Puts, slice_get-set_apart}
+use Rattle.bforest_core.specs.Removal.{Rebuilt, OnLevel, Healed, Joined}
+use Rattle.bforest_core.proofs.LevelRows.{flat-append, heads-append, sizes-append, numbers-append, FitRow-join, least-le, Solid-more}
+use Rattle.bforest_core.proofs.Tables.{count-append, count-same, count-row, row-same, row-put_two, row-drop_put, rows-same, ne_from_count, absent_ne, slice_get-set_apart}
 use Rattle.bforest_core.proofs.Frees.{frees-refl}
-use Rattle.bforest_core.proofs.Zipper.{apart_here, above_two, stands-same}
-use Rattle.bforest_core.proofs.Balance.{IsHalf, IsStored, PutsTwo, AllRight, Spread}
+use Rattle.bforest_core.proofs.Zipper.{above_two, stands-same}
+use Rattle.bforest_core.proofs.Balance.{IsHalf, AllRight, Spread}
 use Rattle.bforest_core.proofs.Frees.{freed-is}
 
 yes_lt : (a b : ℕ) → a < b → nat_lt a b ≡ true
@@ -45,6 +45,7 @@ settled_spread : (q m r : ℕ) (after : List ℕ) → 1 ≤ m → 2 * m < q → 
 settled_spread q zero r after one h more = absurd (omega arith)
 settled_spread q (suc m) r after one h more = let e = yes_lt (2 * suc m) q h in let f = no_le (suc m + r) q more in rw (e, f) refl
 
+-- a path is as it was
 pub same-refl : (up : ℕ) (path : List ℕ) → SameBelow up path path
 same-refl up path = λ i low. refl
 
@@ -85,6 +86,7 @@ module _ {K V X : Type 0} (content : List (K × X) → Content K V) (half most :
       enough [] w = p.some
       enough (x ∷ xs) (inl h) = h
       enough (x ∷ xs) (inr e) = absurd cc
+
       judged : (xs : List (LevelNode K X)) → (half ≤ length es) ⊎ (xs ≡ []) → settled most (length es) (sizes xs) ≡ (false, length es ∷ sizes xs)
       judged [] w = settled_last most (length es) p.some
       judged (node k fs ∷ xs) (inl h) = settled_healthy most (length es) (length fs) (sizes xs) p.some (omega (arith, hm.lo, h))
@@ -138,6 +140,7 @@ module _ {K V X : Type 0} (content : List (K × X) → Content K V) (half most :
     pub none_chain : count n t.chain ≡ 0
     pub none_chain_q : count q t.chain ≡ 0
 
+  -- two neighbours of a level
   pub apart_two : (t : Table K V) (before : List (LevelNode K X)) (n : ℕ) (es : List (K × X)) (q : ℕ) (fs : List (K × X)) (after : List (LevelNode K X)) (rest : List (List (LevelNode K ℕ))) → Distinct ((numbers (before ++ node n es ∷ node q fs ∷ after) ++ flat_map numbers rest) ++ t.chain) → Apart t before n q after rest
   apart_two t before n es q fs after rest d =
       let row : List (LevelNode K X) = before ++ node n es ∷ node q fs ∷ after in

@@ -1,15 +1,14 @@
 -- The steps of `take_left`, over plain values.
-use Rattle.std.proofs.Common.{◌≡◌, ℕ, zero, suc, ◌+◌, ◌-◌, ◌≤◌, ◌<◌, ◌≢◌, List, [], ◌∷◌, ◌++◌, map, length, drop, set, get_or, slice_get, Some, None, refl, sym, ap, ◌∙◌, subst, append_assoc, length-append, arith, rules}
+use Rattle.std.proofs.Common.{◌≡◌, ℕ, suc, ◌+◌, ◌-◌, ◌≤◌, ◌<◌, List, [], ◌∷◌, ◌++◌, map, length, drop, set, get_or, slice_get, Some, refl, sym, ap, ◌∙◌, subst, length-append, arith}
 use Rattle.std.specs.List.{flat_map}
-use Rattle.std.proofs.lemmas.List.{append-nil, length-map, length-drop}
-use Rattle.bforest_nodes.specs.Content.{Content, Inner, without_child, entry_count}
+use Rattle.bforest_nodes.specs.Content.{Inner, without_child}
 use Rattle.bforest_core.specs.Table.{Table, with_node}
-use Rattle.bforest_core.specs.Levels.{LevelNode, node, flat, heads, head_of, sizes, numbers, FitRow, Solid, Stacked, least}
-use Rattle.bforest_core.specs.Place.{RowIn, RowsIn, inner_content, count, Distinct, IsAt, StandsAbove, entry_keys, entry_items}
+use Rattle.bforest_core.specs.Levels.{LevelNode, node, flat, heads, sizes, numbers, FitRow, Stacked}
+use Rattle.bforest_core.specs.Place.{inner_content, StandsAbove, entry_keys, entry_items}
 use Rattle.bforest_core.specs.Climb.{Above}
-use Rattle.bforest_core.specs.Removal.{Rebuilt, Frees, OnLevel, Loosened}
+use Rattle.bforest_core.specs.Removal.{Rebuilt, Loosened}
 use Rattle.bforest_core.proofs.LevelRows.{heads-append, least-pos}
-use Rattle.bforest_core.proofs.Tables.{Puts, puts, puts-then, count-append}
+use Rattle.bforest_core.proofs.Tables.{puts, puts-then, count-append}
 use Rattle.bforest_core.proofs.Zipper.{Cut_above, facts, Spot}
 use Rattle.bforest_core.proofs.Stored.{some_same}
 use Rattle.bforest_core.proofs.Contents.{removed_same, removed_last, last_key}
@@ -60,6 +59,7 @@ module _ {K V : Type 0} where
       let two = puts s u n (inner_content (l ++ (x.0, w.1) ∷ r)) _ one.here (u_is ∙ ap (λ z. with_node s n z) (removed_same V l x w r key (get_or indices up 0) l_is k)) in
       rw (hy, hb) (loosen_same t u path indices up size before l x w r after rest p l_is st (puts-then t s u n _ _ one two))
 
+  -- the key and the entry under one parent
   pub take_same : (t s u : Table K V) (path indices : List ℕ) (up size : ℕ) (rows : List (List (LevelNode K ℕ))) (a : List (K × ℕ)) (k : K) (m : ℕ) (k2 : K) (n : ℕ) (b : List (K × ℕ)) (key : K) → (d : Spot t path indices up size rows a (k, m) ((k2, n) ∷ b)) →
       get_or indices up 0 + 1 < length (d.q.l ++ (k, m) ∷ d.q.r) → slice_get (drop 1 (entry_keys (d.q.l ++ (k, m) ∷ d.q.r))) (get_or indices up 0 - 1) ≡ Some key →
       s ≡ with_node t (get_or path up 0) (Inner (set (drop 1 (entry_keys (d.q.l ++ (k, m) ∷ d.q.r))) (get_or indices up 0) key) (entry_items (d.q.l ++ (k, m) ∷ d.q.r))) →
@@ -71,6 +71,7 @@ module _ {K V : Type 0} where
       subst (λ (z : List (List (LevelNode K ℕ))). Loosened t u path indices up size z (a ++ (k, n) ∷ b) (length a)) (sym q.rows_are)
       (subst (λ (z : List (K × ℕ)). Loosened t u path indices up size ((q.before ++ node (get_or path up 0) (q.l ++ (k, m) ∷ q.r) ∷ q.after) ∷ q.rest) (z ++ (k, n) ∷ b) (length z)) (sym q.a_is) w)
 
+  -- where the node is the last of its parent, the neighbour is the first of the next
   pub across : (t : Table K V) (path indices : List ℕ) (up size : ℕ) (rows : List (List (LevelNode K ℕ))) (a : List (K × ℕ)) (x y : K × ℕ) (b : List (K × ℕ)) → (d : Spot t path indices up size rows a x (y ∷ b)) → length (d.q.l ++ x ∷ d.q.r) ≤ get_or indices up 0 + 1 → Across d.q.l d.q.r d.q.after y b
   across t path indices up size rows a x y b d less =
       let q = d.q in across_at (get_or path up 0) q.l x q.r q.after y b d.f.fit q.b_is (omega (arith, less, q.entry_is))
@@ -102,6 +103,7 @@ module _ {K V : Type 0} where
         apart = λ m. omega (arith, p.apart m, c3 m, c4 m, c7 m);
       }
 
+  -- the key under the next parent, and then the entry
   pub take_over : (t v u : Table K V) (path indices : List ℕ) (up size : ℕ) (rows : List (List (LevelNode K ℕ))) (a : List (K × ℕ)) (k : K) (m : ℕ) (k2 : K) (n : ℕ) (b : List (K × ℕ)) → (d : Spot t path indices up size rows a (k, m) ((k2, n) ∷ b)) → (o : Across d.q.l d.q.r d.q.after (k2, n) b) →
       Rebuilt t v path indices path indices (suc up) size d.q.rest (heads d.q.before ++ (o.z.0, get_or path up 0) ∷ (k, o.q) ∷ heads o.rest) (length (heads d.q.before)) (map sizes d.q.rest) [] →
       slice_get v.nodes (get_or path up 0) ≡ Some (inner_content (d.q.l ++ (k, m) ∷ d.q.r)) →

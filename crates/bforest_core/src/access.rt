@@ -100,7 +100,10 @@ pub(crate) fn put_entry<K: Copy, V: Copy, const N: usize>(
 }
 
 // The number of children or entries.
-pub(crate) fn entries<K: Copy, V: Copy, const N: usize>(pool: &NodePool<K, V, N>, node: Node) -> usize
+pub(crate) fn entries<K: Copy, V: Copy, const N: usize>(
+    pool: &NodePool<K, V, N>,
+    node: Node,
+) -> usize
     requires { (content : Content K V) × (slice_get pool.now.nodes node ≡ Some content) × (¬ IsFree content) }
     ensures { (content : Content K V) → slice_get pool.now.nodes node ≡ Some content → result ≡ entry_count content }
 {

@@ -11,11 +11,7 @@ use bforest_nodes::Node;
 
 impl<K: Copy, V: Copy, const N: usize> Path<K, V, N> {
     // The right neighbour of the path's node below level `up`, which may have another parent, with the key between the two.
-    pub(super) fn right_sibling(
-        &self,
-        up: usize,
-        pool: &NodePool<K, V, N>,
-    ) -> Option<(K, Node)>
+    pub(super) fn right_sibling(&self, up: usize, pool: &NodePool<K, V, N>) -> Option<(K, Node)>
         requires height { self.now.size ≤ 17 }
         requires pending { (rows : List (List (LevelNode K ℕ))) × (a : List (K × ℕ)) × (x : K × ℕ) × (b : List (K × ℕ)) × Above pool.now self.now.node self.now.entry up self.now.size rows (a ++ x ∷ b) (length a) }
         ensures { (rows : List (List (LevelNode K ℕ))) (a : List (K × ℕ)) (x : K × ℕ) (b : List (K × ℕ)) → Above pool.now self.now.node self.now.entry up self.now.size rows (a ++ x ∷ b) (length a) → NextIs result b }
@@ -23,10 +19,13 @@ impl<K: Copy, V: Copy, const N: usize> Path<K, V, N> {
         if up == self.size {
             return None;
         }
-        let n = self.node[up];
-        let e = self.entry[up];
-        if e + 1 < entries(pool, n) {
-            Some((separator(pool, n, e), child(pool, n, e + 1)))
+        let parent = self.node[up];
+        let index = self.entry[up];
+        if index + 1 < entries(pool, parent) {
+            Some((
+                separator(pool, parent, index),
+                child(pool, parent, index + 1),
+            ))
         } else {
             match self.right_sibling(up + 1, pool) {
                 None => None,
@@ -36,32 +35,22 @@ impl<K: Copy, V: Copy, const N: usize> Path<K, V, N> {
     }
 
     // Renews the key between the path's node below level `up` and its right neighbour.
-    pub(super) fn rekey_next(
-        &self,
-        up: usize,
-        key: K,
-        pool: &mut NodePool<K, V, N>,
-    )
+    pub(super) fn rekey_next(&self, up: usize, key: K, pool: &mut NodePool<K, V, N>)
         requires height { self.now.size ≤ 17 }
         requires pending { (rows : List (List (LevelNode K ℕ))) × (a : List (K × ℕ)) × (x : K × ℕ) × (k : K) × (n : ℕ) × (b : List (K × ℕ)) × Above pool.old self.now.node self.now.entry up self.now.size rows (a ++ x ∷ (k, n) ∷ b) (length a) }
         ensures { (rows : List (List (LevelNode K ℕ))) (a : List (K × ℕ)) (x : K × ℕ) (k : K) (n : ℕ) (b : List (K × ℕ)) → Above pool.old self.now.node self.now.entry up self.now.size rows (a ++ x ∷ (k, n) ∷ b) (length a) → Rebuilt pool.old pool.new self.now.node self.now.entry self.now.node self.now.entry up self.now.size rows (a ++ x ∷ (key, n) ∷ b) (length a) (map sizes rows) [] }
     {
-        let n = self.node[up];
-        let e = self.entry[up];
-        if e + 1 < entries(pool, n) {
-            set_separator(pool, n, e, key);
+        let parent = self.node[up];
+        let index = self.entry[up];
+        if index + 1 < entries(pool, parent) {
+            set_separator(pool, parent, index, key);
         } else {
             self.rekey_next(up + 1, key, pool);
         }
     }
 
     // Renews the first key of the path's node below level `up`: in the table its separator, if it has one.
-    pub(super) fn rekey_here(
-        &self,
-        up: usize,
-        key: K,
-        pool: &mut NodePool<K, V, N>,
-    )
+    pub(super) fn rekey_here(&self, up: usize, key: K, pool: &mut NodePool<K, V, N>)
         requires height { self.now.size ≤ 17 }
         requires pending { (rows : List (List (LevelNode K ℕ))) × (a : List (K × ℕ)) × (k : K) × (n : ℕ) × (b : List (K × ℕ)) × Above pool.old self.now.node self.now.entry up self.now.size rows (a ++ (k, n) ∷ b) (length a) }
         ensures { (rows : List (List (LevelNode K ℕ))) (a : List (K × ℕ)) (k : K) (n : ℕ) (b : List (K × ℕ)) → Above pool.old self.now.node self.now.entry up self.now.size rows (a ++ (k, n) ∷ b) (length a) → Rebuilt pool.old pool.new self.now.node self.now.entry self.now.node self.now.entry up self.now.size rows (a ++ (key, n) ∷ b) (length a) (map sizes rows) [] }
@@ -69,9 +58,9 @@ impl<K: Copy, V: Copy, const N: usize> Path<K, V, N> {
         if up >= self.size {
             return;
         }
-        let e = self.entry[up];
-        if e > 0 {
-            set_separator(pool, self.node[up], e - 1, key);
+        let index = self.entry[up];
+        if index > 0 {
+            set_separator(pool, self.node[up], index - 1, key);
         } else {
             self.rekey_here(up + 1, key, pool);
         }

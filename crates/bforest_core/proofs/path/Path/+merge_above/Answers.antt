@@ -1,7 +1,5 @@
-use Rattle.std.proofs.Common.{rules, ◌≡◌, ℕ, suc, ◌+◌, ◌-◌, ◌<◌, ◌≤◌, List, [], ◌∷◌, ◌++◌, map, length, get_or, Some, None, true, false, arith, refl, sym, ap, ◌∙◌, subst, add-one}
-use Rattle.bforest_core.specs.Levels.{LevelNode, node, flat, heads, sizes}
-use Rattle.bforest_core.specs.Climb.{Above}
-use Rattle.bforest_core.specs.Removal.{Rebuilt, OnLevel, Loosened, Healed, Joined}
+use Rattle.std.proofs.Common.{rules, ◌+◌, ◌-◌, ◌<◌, [], ◌∷◌, ◌++◌, length, get_or, arith, add-one}
+use Rattle.bforest_core.specs.Levels.{heads}
 use Rattle.bforest_core.proofs.Zipper.{above_two}
 use Rattle.bforest_core.proofs.Merge.{merge_healed, merge_again}
 use Rattle.bforest_core.proofs.path.Path.+merge_above.Goals as goal
@@ -13,9 +11,28 @@ merge_above-requires g t c κs within =
     let l = c.take_left.ensures w.0 w.1 w.2 w.3 w.4 w.5 w.6 w.7 in
     let j = c.settle_inner.ensures.joined c.if-settle_inner.true l.before _ l.entries l.after l.rest l.on_level in
     let less : c.settle_inner.new.self.size - (c.args.up + 1) < t = omega (arith, c.decreases, low, c.settle_inner.ensures.size) in
-    let size = c.settle_inner.ensures.size in
-    (less, (within.0, (within.1, ((λ a m. search rules), (search rules, (search rules, (omega (arith, c.requires.height, size),
-      (l.rest, heads l.before, j.first.0, get_or c.args.self.now.node c.args.up 0, j.key, j.right, heads j.after', rw (add-one, size) j.above))))))))
+    let size = c.settle_inner.ensures.size in (
+      less,
+      (
+        within.0,
+        (
+          within.1,
+          (
+            (λ a m. search rules),
+            (
+              search rules,
+              (
+                search rules,
+                (
+                  omega (arith, c.requires.height, size),
+                  (l.rest, heads l.before, j.first.0, get_or c.args.self.now.node c.args.up 0, j.key, j.right, heads j.after', rw (add-one, size) j.above),
+                ),
+              ),
+            ),
+          ),
+        ),
+      ),
+    )
 
 pub returns-then-settle_inner-clause-merged : goal.returns-then-settle_inner-clause-merged
 returns-then-settle_inner-clause-merged g t c = λ rows a k m k2 n b p.

@@ -1,4 +1,4 @@
-use Rattle.std.proofs.Common.{◌≡◌, ◌≢◌, ℕ, suc, ◌+◌, ◌-◌, ◌<◌, ◌≤◌, List, [], ◌∷◌, ◌++◌, length, get_or, set, refl, sym, ap, ◌∙◌, arith}
+use Rattle.std.proofs.Common.{suc, ◌∷◌, ◌++◌, length, set, refl, ◌∙◌, arith}
 use Rattle.std.proofs.lemmas.List.{get_or-set_other}
 use Rattle.bforest_core.proofs.Neighbours.{over-above, must_move, entered_next}
 use Rattle.bforest_core.proofs.Zipper.{above_two}
@@ -19,7 +19,6 @@ pub returns-clause-nodes_below : goal.returns-clause-nodes_below
 returns-clause-nodes_below g c =
     let w = c.requires.pending in
     let s0 = c.args.self.now in
-    let s1 = c.next_node-moved.new.self in
     let list = w.1 ++ w.2 ∷ w.3 ∷ w.4 in
     let o = over-above c.args.pool.now s0.node s0.entry (suc c.args.level) s0.size w.0 list (length w.1) w.5 in
     let yes = must_move c.args.pool.now s0.node s0.entry (suc c.args.level) s0.size w.0 w.1 w.2 w.3 w.4 c.next_node-moved.result (λ no. c.next_node-moved.ensures.last no w.0 list (length w.1) o) in

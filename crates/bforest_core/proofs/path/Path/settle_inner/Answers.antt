@@ -1,15 +1,13 @@
-use Rattle.std.proofs.Common.{rules, ◌≡◌, ℕ, suc, ◌+◌, ◌-◌, ◌<◌, ◌≤◌, ◌≢◌, List, [], ◌∷◌, ◌++◌, map, length, get_or, slice_get, Some, None, Option, true, false, arith, refl, sym, ap, ◌∙◌, subst, inl, inr, add-one}
+use Rattle.std.proofs.Common.{rules, ◌≡◌, ℕ, ◌<◌, length, get_or, Option, arith, ap, ◌∙◌, subst, inl, add-one}
 use Rattle.std.proofs.lemmas.List.{get_or_default}
-use Rattle.bforest_nodes.specs.Content.{Content}
-use Rattle.bforest_core.specs.Levels.{LevelNode, node, flat, heads, sizes}
+use Rattle.bforest_core.specs.Levels.{heads}
 use Rattle.bforest_core.specs.Place.{inner_content, count}
-use Rattle.bforest_core.specs.Climb.{Above, NextIs, SameBelow}
-use Rattle.bforest_core.specs.Removal.{Rebuilt, OnLevel, Healed, Joined}
+use Rattle.bforest_core.specs.Climb.{NextIs}
 use Rattle.bforest_core.proofs.Stored.{item_count}
 use Rattle.bforest_core.proofs.Balance.{IsHalf, inner_stored}
 use Rattle.bforest_core.proofs.Tables.{is_used}
 use Rattle.bforest_core.proofs.Settle.{settle_stay}
-use Rattle.bforest_core.proofs.Healing.{slot_here, none_here, used_here, Near, near_next, near_past, near_above, headed, settle_last, settle_past, underflowed, near_spread, near_right, spread_above, heal_spread, join_right}
+use Rattle.bforest_core.proofs.Healing.{slot_here, none_here, used_here, near_next, near_past, near_above, headed, settle_last, settle_past, underflowed, near_spread, near_right, spread_above, heal_spread, join_right}
 use Rattle.bforest_core.proofs.path.Path.settle_inner.Goals as goal
 
 half_inner : IsHalf 4 8
@@ -97,9 +95,6 @@ rekey_next-requires g c =
     let p = w.5 in
     let num = get_or c.args.self.now.node c.args.level c.index-self-level.result in
     let here : num ≡ n = get_or_default c.args.self.now.node c.args.level c.index-self-level.result 0 (omega (arith, p.above.height)) ∙ p.number_is in
-    let slot = slot_here inner_content 4 8 half_inner _ _ _ _ _ before n es after rest p in
-    let cnt : c.entries-left.result ≡ length es = c.entries-left.ensures (inner_content es) (rw here slot) ∙ item_count es in
-    let under : length es < 4 = omega (arith, cnt, c.if-left-ge4.false) in
     let h = headed inner_content 4 8 half_inner _ _ _ _ _ before n es after rest p in
     let k = c.in-Some.next.0 in
     let q = c.in-Some.next.1 in
@@ -124,9 +119,6 @@ free_node-requires g c =
     let p = w.5 in
     let num = get_or c.args.self.now.node c.args.level c.index-self-level.result in
     let here : num ≡ n = get_or_default c.args.self.now.node c.args.level c.index-self-level.result 0 (omega (arith, p.above.height)) ∙ p.number_is in
-    let slot = slot_here inner_content 4 8 half_inner _ _ _ _ _ before n es after rest p in
-    let cnt : c.entries-left.result ≡ length es = c.entries-left.ensures (inner_content es) (rw here slot) ∙ item_count es in
-    let under : length es < 4 = omega (arith, cnt, c.if-left-ge4.false) in
     let h = headed inner_content 4 8 half_inner _ _ _ _ _ before n es after rest p in
     let k = c.in-Some.next.0 in
     let q = c.in-Some.next.1 in

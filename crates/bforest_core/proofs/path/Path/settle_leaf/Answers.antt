@@ -1,15 +1,13 @@
-use Rattle.std.proofs.Common.{rules, ◌≡◌, ℕ, suc, ◌+◌, ◌-◌, ◌<◌, ◌≤◌, ◌≢◌, List, [], ◌∷◌, ◌++◌, map, length, get_or, slice_get, Some, None, Option, true, false, arith, refl, sym, ap, ◌∙◌, subst, inl, inr, add-one}
+use Rattle.std.proofs.Common.{rules, ◌≡◌, ℕ, ◌<◌, length, get_or, Option, arith, ap, ◌∙◌, subst, inl}
 use Rattle.std.proofs.lemmas.List.{get_or_default}
-use Rattle.bforest_nodes.specs.Content.{Content, IsLeafCapacity}
-use Rattle.bforest_core.specs.Levels.{LevelNode, node, flat, heads, sizes, half_of}
+use Rattle.bforest_nodes.specs.Content.{IsLeafCapacity}
+use Rattle.bforest_core.specs.Levels.{heads, half_of}
 use Rattle.bforest_core.specs.Place.{leaf_content, count}
-use Rattle.bforest_core.specs.Climb.{Above, NextIs, SameBelow}
-use Rattle.bforest_core.specs.Removal.{Rebuilt, OnLevel, Healed, Joined}
-use Rattle.bforest_core.proofs.Stored.{item_count}
-use Rattle.bforest_core.proofs.Balance.{IsHalf, IsStored, leaf_stored}
+use Rattle.bforest_core.specs.Climb.{NextIs}
+use Rattle.bforest_core.proofs.Balance.{IsHalf, leaf_stored}
 use Rattle.bforest_core.proofs.Tables.{is_used}
 use Rattle.bforest_core.proofs.Settle.{settle_stay}
-use Rattle.bforest_core.proofs.Healing.{slot_here, none_here, used_here, Near, near_next, near_past, near_above, headed, settle_last, settle_past, underflowed, near_spread, near_right, spread_above, heal_spread, join_right}
+use Rattle.bforest_core.proofs.Healing.{slot_here, none_here, used_here, near_next, near_past, near_above, headed, settle_last, settle_past, underflowed, near_spread, near_right, spread_above, heal_spread, join_right}
 use Rattle.bforest_core.proofs.path.Path.settle_leaf.Goals as goal
 
 half_leaf : (n : ℕ) → IsLeafCapacity n → IsHalf (half_of n) n
@@ -97,9 +95,6 @@ rekey_next-requires g c =
     let p = w.5 in
     let num = get_or c.args.self.now.node 0 c.index-self-0.result in
     let here : num ≡ n = get_or_default c.args.self.now.node 0 c.index-self-0.result 0 (omega (arith, p.above.height)) ∙ p.number_is in
-    let slot = slot_here leaf_content (half_of g.row.N) g.row.N (half_leaf g.row.N c.requires.capacity) _ _ _ _ _ before n es after rest p in
-    let cnt : c.entries-left.result ≡ length es = c.entries-left.ensures (leaf_content es) (rw here slot) ∙ (leaf_stored g.row.N).count_is es in
-    let under : length es < half_of g.row.N = omega (arith, cnt, c.if-left.false, c.requires.capacity.odd) in
     let h = headed leaf_content (half_of g.row.N) g.row.N (half_leaf g.row.N c.requires.capacity) _ _ _ _ _ before n es after rest p in
     let k = c.in-Some.next.0 in
     let q = c.in-Some.next.1 in
@@ -124,9 +119,6 @@ free_node-requires g c =
     let p = w.5 in
     let num = get_or c.args.self.now.node 0 c.index-self-0.result in
     let here : num ≡ n = get_or_default c.args.self.now.node 0 c.index-self-0.result 0 (omega (arith, p.above.height)) ∙ p.number_is in
-    let slot = slot_here leaf_content (half_of g.row.N) g.row.N (half_leaf g.row.N c.requires.capacity) _ _ _ _ _ before n es after rest p in
-    let cnt : c.entries-left.result ≡ length es = c.entries-left.ensures (leaf_content es) (rw here slot) ∙ (leaf_stored g.row.N).count_is es in
-    let under : length es < half_of g.row.N = omega (arith, cnt, c.if-left.false, c.requires.capacity.odd) in
     let h = headed leaf_content (half_of g.row.N) g.row.N (half_leaf g.row.N c.requires.capacity) _ _ _ _ _ before n es after rest p in
     let k = c.in-Some.next.0 in
     let q = c.in-Some.next.1 in
