@@ -34,7 +34,7 @@ length-sum : (xs : List ℕ) → length xs ≡ sum_by (λ (n : ℕ). 1) xs
 length-sum [] = refl
 length-sum (x ∷ xs) = omega (arith, length-sum xs, sum_by-cons (λ (n : ℕ). 1) x xs)
 
-length-same : (xs ys : List ℕ) → ((n : ℕ) → count n xs ≡ count n ys) → length xs ≡ length ys
+pub length-same : (xs ys : List ℕ) → ((n : ℕ) → count n xs ≡ count n ys) → length xs ≡ length ys
 length-same xs ys same = omega (arith, length-sum xs, length-sum ys, sum-same (λ n. 1) xs ys same)
 
 length-upto : (n : ℕ) → length (upto n) ≡ n

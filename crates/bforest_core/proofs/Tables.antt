@@ -1,5 +1,5 @@
 -- Counting numbers, and rows that a change of the table leaves as they are.
-use Rattle.std.proofs.Common.{◌≡◌, ℕ, zero, suc, ◌+◌, ◌<◌, ◌≢◌, false, nat_eq, List, [], ◌∷◌, ◌++◌, length, set, slice_get, Some, refl, sym, ap, ◌∙◌, inl, inr, append_assoc, length-set, arith}
+use Rattle.std.proofs.Common.{◌≡◌, ℕ, zero, suc, ◌+◌, ◌<◌, ◌≢◌, false, nat_eq, List, [], ◌∷◌, ◌++◌, length, set, slice_get, Some, refl, sym, ap, ◌∙◌, inl, inr, length-set, arith}
 use Rattle.std.specs.List.{flat_map, list_any}
 use Rattle.std.proofs.lemmas.Bool.Decides.{eqb_tells}
 use Rattle.bforest_nodes.specs.Content.{Content}
@@ -8,7 +8,6 @@ use Rattle.bforest_core.proofs.Lists.{slice_get-set_same}
 use Rattle.std.proofs.lemmas.Option.{slice_get_within}
 use Rattle.bforest_core.specs.Levels.{LevelNode, node, numbers}
 use Rattle.bforest_core.specs.Place.{RowIn, RowsIn, inner_content, count}
-use Rattle.bforest_core.specs.Climb.{Frees}
 use Rattle.bforest_core.proofs.LevelRows.{numbers-append}
 
 pub count-append : (n : ℕ) (xs ys : List ℕ) → count n (xs ++ ys) ≡ count n xs + count n ys
@@ -146,33 +145,6 @@ module _ {K V : Type 0} where
     chain_is = q.chain_is ∙ p.chain_is;
     slots_are = q.slots_are ∙ p.slots_are;
     limit_is = q.limit_is ∙ p.limit_is;
-  }
-
-  pub frees-refl : (t : Table K V) (own : List ℕ) → Frees t t own []
-  frees-refl t own = record { others = λ m z. refl; chain_is = refl; slots_are = refl; limit_is = refl }
-
-  pub frees-then : (t u v : Table K V) (own one two : List ℕ) → Frees t u own one → Frees u v own two → Frees t v own (two ++ one)
-  frees-then t u v own one two p q = record {
-    others = λ m z. q.others m z ∙ p.others m z;
-    chain_is = q.chain_is ∙ ap (λ z. two ++ z) p.chain_is ∙ sym (append_assoc two one t.chain);
-    slots_are = q.slots_are ∙ p.slots_are;
-    limit_is = q.limit_is ∙ p.limit_is;
-  }
-
-  pub frees-wider : (t u : Table K V) (own wide freed : List ℕ) → ((m : ℕ) → count m wide ≡ 0 → count m own ≡ 0) → Frees t u own freed → Frees t u wide freed
-  frees-wider t u own wide freed w p = record {
-    others = λ m z. p.others m (w m z);
-    chain_is = p.chain_is;
-    slots_are = p.slots_are;
-    limit_is = p.limit_is;
-  }
-
-  pub frees-puts : (t u : Table K V) (n : ℕ) (c : Content K V) (own : List ℕ) → 0 < count n own → Puts t u n c → Frees t u own []
-  frees-puts t u n c own some p = record {
-    others = λ m z. p.same m (λ (e : m ≡ n). let h = ap (λ w. count w own) e in omega (arith, h, z, some));
-    chain_is = p.chain_is;
-    slots_are = p.slots_are;
-    limit_is = p.limit_is;
   }
 
   -- the front of the chain written, and taken off it

@@ -1,8 +1,9 @@
 -- The node on the top level of a path that stands in a tree is the tree's root.
-use Rattle.std.proofs.Common.{◌≡◌, ℕ, suc, ◌+◌, ◌-◌, ◌≤◌, List, [], ◌∷◌, ◌++◌, length, get_or, refl, sym, ap, ◌∙◌, subst, length-append, arith}
+use Rattle.std.proofs.Common.{◌≡◌, ℕ, suc, ◌+◌, ◌-◌, ◌≤◌, ◌<◌, List, [], ◌∷◌, ◌++◌, length, get_or, refl, sym, ap, ◌∙◌, subst, length-append, arith}
+use Rattle.bforest_core.specs.Table.{Table}
 use Rattle.bforest_core.specs.Levels.{LevelNode, node, heads, FitRow, Stacked, Tree, IsFit, half_of}
 use Rattle.bforest_core.specs.Place.{first_number, root_above, root_of, StandsAbove, Stands, PlacedAt}
-use Rattle.bforest_core.specs.Climb.{top_of}
+use Rattle.bforest_core.specs.Climb.{Above, top_of}
 use Rattle.bforest_core.proofs.LevelRows.{heads-append, FitRow-split, least-pos}
 
 -- a level of one node
@@ -18,7 +19,7 @@ top_row row before n (e ∷ es) after is some one =
     ap first_number hs ∙ only (heads before) (e.0, n) (heads after) (ap length (sym hs) ∙ one)
 
 -- the rows above a level
-top_rows : {K : Type 0} (hs : List (K × ℕ)) (ms js : List ℕ) (level : ℕ) (row : List (LevelNode K ℕ)) (rows : List (List (LevelNode K ℕ))) (place : ℕ) → Stacked hs (row ∷ rows) → StandsAbove ms js level (row ∷ rows) place → root_above hs (row ∷ rows) ≡ get_or ms (level + length rows) 0
+pub top_rows : {K : Type 0} (hs : List (K × ℕ)) (ms js : List ℕ) (level : ℕ) (row : List (LevelNode K ℕ)) (rows : List (List (LevelNode K ℕ))) (place : ℕ) → Stacked hs (row ∷ rows) → StandsAbove ms js level (row ∷ rows) place → root_above hs (row ∷ rows) ≡ get_or ms (level + length rows) 0
 top_rows hs ms js level row [] place s st =
     let at = st.0 in
     let here : level ≡ level + 0 = omega arith in
@@ -28,7 +29,7 @@ top_rows hs ms js level row (row2 ∷ rows) place s st =
     top_rows (heads row) ms js (suc level) row2 rows (length st.0.before) s.2 st.1 ∙ ap (λ z. get_or ms z 0) here
 
 -- the leaves and the rows above them
-top_tree : {K V : Type 0} (leaves : List (LevelNode K V)) (above : List (List (LevelNode K ℕ))) (ms js : List ℕ) (size place : ℕ) (before : List (LevelNode K V)) (es : List (K × V)) (after : List (LevelNode K V)) → leaves ≡ before ++ node (get_or ms 0 0) es ∷ after → 1 ≤ length es →
+pub top_tree : {K V : Type 0} (leaves : List (LevelNode K V)) (above : List (List (LevelNode K ℕ))) (ms js : List ℕ) (size place : ℕ) (before : List (LevelNode K V)) (es : List (K × V)) (after : List (LevelNode K V)) → leaves ≡ before ++ node (get_or ms 0 0) es ∷ after → 1 ≤ length es →
     Stacked (heads leaves) above → StandsAbove ms js 1 above place → size ≡ suc (length above) → root_above (heads leaves) above ≡ top_of ms size
 top_tree leaves [] ms js size place before es after is some s st size_is =
     let here : 0 ≡ size - 1 = omega (arith, size_is) in
@@ -51,3 +52,10 @@ module _ {K V : Type 0} where
       let f = FitRow-split (half_of most) most at.before (node n at.entries) at.after row in
       let half : 1 ≤ half_of most = omega (arith, one) in
       top_tree tree.leaves tree.above ms js size (length at.before) at.before at.entries at.after at.leaves_are (omega (arith, f.1.0, least-pos (half_of most) half at.after)) fit.stacked at.above at.size_is
+
+  -- two paths through the same rows have one root
+  pub top-same : (t : Table K V) (path indices path' indices' : List ℕ) (level size : ℕ) (rows : List (List (LevelNode K ℕ))) (list : List (K × ℕ)) (place place' : ℕ) → Above t path indices level size rows list place → Above t path' indices' level size rows list place' → level < size → top_of path' size ≡ top_of path size
+  top-same t path indices path' indices' level size [] list place place' p q low = absurd (omega (arith, p.height, low))
+  top-same t path indices path' indices' level size (row ∷ rows) list place place' p q low =
+      let high : level + length rows ≡ size - 1 = omega (arith, p.height) in
+      ap (λ z. get_or path' z 0) (sym high) ∙ sym (top_rows list path' indices' level row rows place' q.stacked q.stands) ∙ top_rows list path indices level row rows place p.stacked p.stands ∙ ap (λ z. get_or path z 0) high

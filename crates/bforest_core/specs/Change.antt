@@ -1,10 +1,15 @@
 -- What a call that changes one tree of a table says of it and of the others.
-use Rattle.std.specs.Prelude.{◌≡◌, ◌≢◌, ℕ, ◌+◌, ◌-◌, IsTrue, List}
+use Rattle.std.specs.Prelude.{◌≡◌, ◌≢◌, ℕ, ◌+◌, ◌-◌, ◌++◌, IsTrue, List, length}
+use Rattle.std.specs.List.{sum_by}
 use Rattle.bforest_core.specs.Table.{Table, slot_count, free_count}
 use Rattle.bforest_nodes.specs.Content.{Content}
 use Rattle.bforest_core.specs.Levels.{flat, sizes_of}
 use Rattle.bforest_core.specs.Place.{Stands, PlacedAt}
 use Rattle.bforest_core.specs.Trees.{tree_of, is_root, IsUnion, OthersKeep}
+
+-- how many nodes a tree of these sizes has
+abbrev pub node_count : List (List ℕ) → ℕ
+node_count levels = sum_by (λ (level : List ℕ). length level) levels
 
 module _ {K V : Type 0} where
   -- the tree under a root became one with this list and these sizes, perhaps under another root, which had no tree and
@@ -28,6 +33,21 @@ module _ {K V : Type 0} where
   pub record TakesNodes (count : ℕ) (old new : Table K V) : Type 0 where
     pub slots : slot_count new ≡ slot_count old + (count - free_count old)
     pub free : free_count new ≡ free_count old - count
+
+  -- the tree under a root is gone: it is no root now, and every other root kept its tree
+  pub record Ends (most : ℕ) (old new : Table K V) (root : ℕ) : Type 0 where
+    pub union : IsUnion most new
+    pub root_gone : ¬ IsTrue (is_root new.nodes root)
+    pub others : OthersKeep old.nodes new.nodes root root
+    pub limit_is : new.limit ≡ old.limit
+
+  -- a tree of these sizes before became one of those after by giving nodes back: they lie in front of the chain, and the
+  -- slots are as many
+  pub record GivesNodes (before after : List (List ℕ)) (old new : Table K V) : Type 0 where
+    pub given : List ℕ
+    pub chain_is : new.chain ≡ given ++ old.chain
+    pub slots : slot_count new ≡ slot_count old
+    pub count_is : length given + node_count after ≡ node_count before
 
   -- the path stands in the tree under this root, at this entry
   pub record StandsUnder (slots : List (Content K V)) (root : ℕ) (path indices : List ℕ) (size place : ℕ) : Type 0 where

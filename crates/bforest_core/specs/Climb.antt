@@ -30,13 +30,6 @@ module _ {K V : Type 0} where
     pub height : level + length rows ≡ size
     pub apart : Distinct (flat_map numbers rows ++ table.chain)
 
-  -- but for the slots of these numbers nothing has changed, and the freed ones are in front of the chain
-  pub record Frees (old new : Table K V) (own freed : List ℕ) : Type 0 where
-    pub others : (number : ℕ) → count number own ≡ 0 → slice_get new.nodes number ≡ slice_get old.nodes number
-    pub chain_is : new.chain ≡ freed ++ old.chain
-    pub slots_are : length new.nodes ≡ length old.nodes
-    pub limit_is : new.limit ≡ old.limit
-
   -- the rows from a level on after a new node came into the level, whose nodes are the list now and whose path goes to
   -- the place: the rows have these sizes, and their new numbers are those taken, from the front of the chain. The root
   -- is the old one, or one of those taken where there is a level more

@@ -9,3 +9,4 @@ pub mod Trees
 pub mod Descent
 pub mod Steps
 pub mod Change
+pub mod Removal

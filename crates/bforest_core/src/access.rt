@@ -1,14 +1,14 @@
 //! Reading and writing one node of a pool, by its number.
 ghost use Rattle.std.specs.Prelude.{◌≡◌, ℕ, ◌-◌, ◌<◌, ◌≤◌, ◌↔◌, IsTrue, List, length, slice_get, Some, if◌then◌else◌};
 ghost use Rattle.std.specs.List.Sorted.{IsStrictlySortedBy};
-ghost use Rattle.bforest_nodes.specs.Content.{Content, Inner, with_child, Leaf, with_entry, entry_count};
+ghost use Rattle.bforest_nodes.specs.Content.{Content, Inner, IsFree, with_child, Leaf, with_entry, with_key, without_child, without_entry, removed_answer, entry_count};
 ghost use Rattle.bforest_core.specs.Descent.{child_index};
 ghost use Rattle.bforest_nodes.specs.Entries.{IsIncreasing, place, value_for};
 ghost use Rattle.bforest_core.specs.Place.{leaf_content};
 ghost use Rattle.bforest_core.specs.Table.{IsUsed, with_node};
 
 use crate::pool::NodePool;
-use bforest_nodes::{Comparator, Node};
+use bforest_nodes::{Comparator, Node, Removed};
 
 // Puts a child and its first key into an inner node, behind the child at `index`. Whether there was room.
 pub(crate) fn put_child<K: Copy, V: Copy, const N: usize>(
@@ -97,4 +97,90 @@ pub(crate) fn put_entry<K: Copy, V: Copy, const N: usize>(
     ensures node { (keys : List K) (vals : List V) → slice_get pool.old.nodes node ≡ Some (Leaf keys vals) → pool.new ≡ with_node pool.old node (if result then with_entry (Leaf keys vals) index key value else Leaf keys vals) }
 {
     pool.node_mut(node).try_leaf_insert(index, key, value)
+}
+
+// The number of children or entries.
+pub(crate) fn entries<K: Copy, V: Copy, const N: usize>(
+    pool: &NodePool<K, V, N>,
+    node: Node,
+) -> usize
+    requires { (content : Content K V) × (slice_get pool.now.nodes node ≡ Some content) × (¬ IsFree content) }
+    ensures { (content : Content K V) → slice_get pool.now.nodes node ≡ Some content → result ≡ entry_count content }
+{
+    pool.node(node).entries()
+}
+
+// A separator of an inner node.
+pub(crate) fn separator<K: Copy, V: Copy, const N: usize>(
+    pool: &NodePool<K, V, N>,
+    node: Node,
+    index: usize,
+) -> K
+    requires { (keys : List K) × (children : List ℕ) × (slice_get pool.now.nodes node ≡ Some (Inner keys children)) × (index < length keys) }
+    ensures { (keys : List K) (children : List ℕ) → slice_get pool.now.nodes node ≡ Some (Inner keys children) → slice_get keys index ≡ Some result }
+{
+    let (keys, _) = pool.node(node).unwrap_inner();
+    keys[index]
+}
+
+// A child of an inner node.
+pub(crate) fn child<K: Copy, V: Copy, const N: usize>(
+    pool: &NodePool<K, V, N>,
+    node: Node,
+    index: usize,
+) -> Node
+    requires { (keys : List K) × (children : List ℕ) × (slice_get pool.now.nodes node ≡ Some (Inner keys children)) × (index < length children) }
+    ensures { (keys : List K) (children : List ℕ) → slice_get pool.now.nodes node ≡ Some (Inner keys children) → slice_get children index ≡ Some result }
+{
+    let (_, children) = pool.node(node).unwrap_inner();
+    children[index]
+}
+
+// Writes a separator of an inner node.
+pub(crate) fn set_separator<K: Copy, V: Copy, const N: usize>(
+    pool: &mut NodePool<K, V, N>,
+    node: Node,
+    index: usize,
+    key: K,
+)
+    requires used { IsUsed pool.old node }
+    requires inner { (keys : List K) × (children : List ℕ) × (slice_get pool.old.nodes node ≡ Some (Inner keys children)) × (index < length keys) }
+    ensures { (keys : List K) (children : List ℕ) → slice_get pool.old.nodes node ≡ Some (Inner keys children) → pool.new ≡ with_node pool.old node (with_key (Inner keys children) index key) }
+{
+    pool.node_mut(node).set_separator(index, key);
+}
+
+// Takes out a child of an inner node, and the key before it.
+pub(crate) fn remove_child<K: Copy, V: Copy, const N: usize>(
+    pool: &mut NodePool<K, V, N>,
+    node: Node,
+    index: usize,
+) -> Removed
+    requires used { IsUsed pool.old node }
+    requires inner { (keys : List K) × (children : List ℕ) × (slice_get pool.old.nodes node ≡ Some (Inner keys children)) × (index < length children) }
+    ensures node { (keys : List K) (children : List ℕ) → slice_get pool.old.nodes node ≡ Some (Inner keys children) → pool.new ≡ with_node pool.old node (without_child (Inner keys children) index) }
+    ensures answer { (keys : List K) (children : List ℕ) → slice_get pool.old.nodes node ≡ Some (Inner keys children) → result ≡ removed_answer 8 index (length children - 1) }
+{
+    pool.node_mut(node).inner_remove(index)
+}
+
+// Takes an entry out of a leaf.
+pub(crate) fn remove_entry<K: Copy, V: Copy, const N: usize>(
+    pool: &mut NodePool<K, V, N>,
+    node: Node,
+    index: usize,
+)
+    requires used { IsUsed pool.old node }
+    requires leaf { (keys : List K) × (vals : List V) × (slice_get pool.old.nodes node ≡ Some (Leaf keys vals)) × (index < length keys) }
+    ensures { (keys : List K) (vals : List V) → slice_get pool.old.nodes node ≡ Some (Leaf keys vals) → pool.new ≡ with_node pool.old node (without_entry (Leaf keys vals) index) }
+{
+    let _answer = pool.node_mut(node).leaf_remove(index);
+}
+
+// The first key of a leaf.
+pub(crate) fn leaf_key<K: Copy, V: Copy, const N: usize>(pool: &NodePool<K, V, N>, node: Node) -> K
+    requires { (keys : List K) × (vals : List V) × (slice_get pool.now.nodes node ≡ Some (Leaf keys vals)) × (0 < length keys) }
+    ensures { (keys : List K) (vals : List V) → slice_get pool.now.nodes node ≡ Some (Leaf keys vals) → slice_get keys 0 ≡ Some result }
+{
+    pool.node(node).leaf_crit_key()
 }

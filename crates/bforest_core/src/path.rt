@@ -3,6 +3,9 @@ ghost use Rattle.std.specs.Prelude.{◌≡◌, ◌≢◌, Some, None, get_or, sl
 
 mod find;
 mod insert;
+mod merge;
+mod neighbour;
+mod remove;
 mod step;
 mod value;
 

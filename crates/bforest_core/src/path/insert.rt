@@ -54,7 +54,7 @@ impl<K: Copy, V: Copy, const N: usize> Path<K, V, N> {
     }
 
     // The root of the path's tree.
-    fn root(&self) -> Node
+    pub(super) fn root(&self) -> Node
         requires some { 0 < self.now.size }
         requires height { self.now.size ≤ 17 }
         ensures { result ≡ top_of self.now.node self.now.size }

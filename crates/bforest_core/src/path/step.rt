@@ -105,7 +105,7 @@ impl<K: Copy, V: Copy, const N: usize> Path<K, V, N> {
     }
 
     // Goes to this entry of the path's leaf.
-    fn set_entry(&mut self, index: usize)
+    pub(super) fn set_entry(&mut self, index: usize)
         ensures nodes { self.new.node ≡ self.old.node }
         ensures here { get_or self.new.entry 0 0 ≡ index }
         ensures above { (level : ℕ) → level ≢ 0 → get_or self.new.entry level 0 ≡ get_or self.old.entry level 0 }
@@ -115,7 +115,7 @@ impl<K: Copy, V: Copy, const N: usize> Path<K, V, N> {
     }
 
     // Moves the path's node on `level` to the next one. Where there is none it answers false, and nothing changed.
-    fn next_node(&mut self, level: usize, pool: &NodePool<K, V, N>) -> bool
+    pub(super) fn next_node(&mut self, level: usize, pool: &NodePool<K, V, N>) -> bool
         requires height { self.old.size ≤ 17 }
         requires over { (rows : List (List (LevelNode K ℕ))) × (list : List (K × ℕ)) × (place : ℕ) × Over pool.now.nodes self.old.node self.old.entry (suc level) self.old.size rows list place }
         ensures moved { result ≡ true → (rows : List (List (LevelNode K ℕ))) (list : List (K × ℕ)) (place : ℕ) → Over pool.now.nodes self.old.node self.old.entry (suc level) self.old.size rows list place → Moved self.old.node self.old.entry self.new.node self.new.entry level rows list (suc place) }

@@ -1,0 +1,49 @@
+use Rattle.std.proofs.Common.{rules, ◌+◌, ◌-◌, ◌<◌, [], ◌∷◌, ◌++◌, length, get_or, arith, add-one}
+use Rattle.bforest_core.specs.Levels.{heads}
+use Rattle.bforest_core.proofs.Zipper.{above_two}
+use Rattle.bforest_core.proofs.Merge.{merge_healed, merge_again}
+use Rattle.bforest_core.proofs.path.Path.+merge_above.Goals as goal
+
+pub merge_above-requires : goal.merge_above-requires
+merge_above-requires g t c κs within =
+    let w = c.requires.pending in
+    let low = above_two _ _ _ _ _ w.0 w.1 (w.2, w.3) (w.4, w.5) w.6 _ w.7 in
+    let l = c.take_left.ensures w.0 w.1 w.2 w.3 w.4 w.5 w.6 w.7 in
+    let j = c.settle_inner.ensures.joined c.if-settle_inner.true l.before _ l.entries l.after l.rest l.on_level in
+    let less : c.settle_inner.new.self.size - (c.args.up + 1) < t = omega (arith, c.decreases, low, c.settle_inner.ensures.size) in
+    let size = c.settle_inner.ensures.size in (
+      less,
+      (
+        within.0,
+        (
+          within.1,
+          (
+            (λ a m. search rules),
+            (
+              search rules,
+              (
+                search rules,
+                (
+                  omega (arith, c.requires.height, size),
+                  (l.rest, heads l.before, j.first.0, get_or c.args.self.now.node c.args.up 0, j.key, j.right, heads j.after', rw (add-one, size) j.above),
+                ),
+              ),
+            ),
+          ),
+        ),
+      ),
+    )
+
+pub returns-then-settle_inner-clause-merged : goal.returns-then-settle_inner-clause-merged
+returns-then-settle_inner-clause-merged g t c = λ rows a k m k2 n b p.
+    let l = c.take_left.ensures rows a k m k2 n b p in
+    let j = c.settle_inner.ensures.joined c.if-settle_inner.true l.before _ l.entries l.after l.rest l.on_level in
+    let size = c.settle_inner.ensures.size in
+    let r = c.merge_above.ensures.merged l.rest (heads l.before) j.first.0 (get_or c.args.self.now.node c.args.up 0) j.key j.right (heads j.after') (rw (add-one, size) j.above) in
+    (_, merge_again _ _ _ _ _ _ _ _ _ _ _ _ _ _ rows (a ++ (k, n) ∷ b) (length a) l j (omega arith) size r.0 r.1)
+
+pub returns-else-settle_inner-clause-merged : goal.returns-else-settle_inner-clause-merged
+returns-else-settle_inner-clause-merged g t c = λ rows a k m k2 n b p.
+    let l = c.take_left.ensures rows a k m k2 n b p in
+    let h = c.settle_inner.ensures.healed c.if-settle_inner.false l.before _ l.entries l.after l.rest l.on_level in
+    ([], merge_healed _ _ _ _ _ _ _ _ _ rows (a ++ (k, n) ∷ b) (length a) l h)

@@ -1,0 +1,111 @@
+use Rattle.std.proofs.Common.{rules, ◌≡◌, ◌≢◌, ℕ, Some, None, List, [], ◌∷◌, ◌++◌, get_or, length, refl, sym, ap, ◌∙◌, length-append, arith}
+use Rattle.std.proofs.lemmas.List.{get_or_default}
+use Rattle.bforest_core.specs.Place.{leaf_content}
+use Rattle.bforest_core.specs.Trees.{tree_of}
+use Rattle.bforest_core.specs.Change.{StandsUnder}
+use Rattle.bforest_core.proofs.Tops.{root-stands}
+use Rattle.bforest_core.proofs.LeafLoss.{leaf_keys, leaf_at}
+use Rattle.bforest_core.proofs.Removal.{stands_in, Removal, removal, Said, outcome, said, if_some, one_slot, more_slot}
+use Rattle.bforest_core.proofs.path.Path.remove.Given.{Over}
+use Rattle.bforest_core.proofs.path.Path.remove.Goals as goal
+
+pub root-root-requires : goal.root-root-requires
+root-root-requires g c =
+    let w = c.requires.stands in
+    let s = stands_in _ _ w.0 w.1 _ _ _ c.requires.union w.2 in
+    (search rules, (omega (arith, s.stands.size_is), omega (arith, s.stands.size_is, s.low)))
+
+pub entries-requires : goal.entries-requires
+entries-requires g c =
+    let w = c.requires.stands in
+    let path = c.args.self.now.node in
+    let d = leaf_at _ _ _ _ _ _ w.1 (stands_in _ _ w.0 w.1 _ _ _ c.requires.union w.2) in
+    let here : get_or path 0 c.index-self-0.result ≡ get_or path 0 0 = get_or_default path 0 c.index-self-0.result 0 (omega arith) in
+    (search rules, (leaf_content (d.l ++ d.x ∷ d.r), rw here d.slot_is, λ free. free))
+
+pub remove_leaf-requires : goal.remove_leaf-requires
+remove_leaf-requires g c =
+    let w = c.requires.stands in
+    let path = c.args.self.now.node in
+    let s = stands_in _ _ w.0 w.1 _ _ _ c.requires.union w.2 in
+    let tree = tree_of c.args.pool.now.nodes w.0 in
+    let d = leaf_at _ _ _ _ _ _ w.1 s in
+    let es = d.l ++ d.x ∷ d.r in
+    let here : get_or path 0 c.index-self-0.result ≡ get_or path 0 0 = get_or_default path 0 c.index-self-0.result 0 (omega arith) in
+    let counted = c.entries.ensures (leaf_content es) (rw here d.slot_is) in
+    let slot = one_slot es _ (omega (arith, counted, c.if-entries-eq1.true, leaf_keys es)) d.slot_is in
+    (search rules, (search rules, (c.requires.capacity, ((tree, w.1, s, root-stands g.row.N tree path _ _ w.1 s.fit s.stands ∙ sym c.root-root.ensures), (slot.0, slot.1)))))
+
+pub remove_entry-requires : goal.remove_entry-requires
+remove_entry-requires g c =
+    let w = c.requires.stands in
+    let path = c.args.self.now.node in
+    let s = stands_in _ _ w.0 w.1 _ _ _ c.requires.union w.2 in
+    let tree = tree_of c.args.pool.now.nodes w.0 in
+    let d = leaf_at _ _ _ _ _ _ w.1 s in
+    let es = d.l ++ d.x ∷ d.r in
+    let here : get_or path 0 c.index-self-0.result ≡ get_or path 0 0 = get_or_default path 0 c.index-self-0.result 0 (omega arith) in
+    let counted = c.entries.ensures (leaf_content es) (rw here d.slot_is) in
+    let more : length es ≢ 1 = λ one. c.if-entries-eq1.false (omega (arith, counted, one, leaf_keys es)) in
+    let slot = more_slot es _ (omega (arith, length-append d.l (d.x ∷ d.r))) more d.slot_is in
+    (search rules, (search rules, (c.requires.capacity, ((tree, w.1, s, root-stands g.row.N tree path _ _ w.1 s.fit s.stands ∙ sym c.root-root.ensures), (slot.0, slot.1, slot.2, slot.3)))))
+
+-- what the removal of a leaf says
+leaf_said : (g : Over) (c : goal.After-remove_leaf g) (root place : ℕ) → StandsUnder c.args.pool.now.nodes root c.args.self.now.node c.args.self.now.entry c.args.self.now.size place →
+    Said g.row.N c.args.pool.now c.remove_leaf.new.pool root place c.remove_leaf.new.self.node c.remove_leaf.new.self.entry c.remove_leaf.new.self.size c.remove_leaf.result
+leaf_said g c root place u =
+    let s = stands_in g.row.N c.args.pool.now root place _ _ _ c.requires.union u in
+    let tree = tree_of c.args.pool.now.nodes root in
+    said g.row.N c.args.pool.now c.remove_leaf.new.pool root place c.remove_leaf.new.self.node c.remove_leaf.new.self.entry c.remove_leaf.new.self.size c.remove_leaf.result
+    (outcome g.row.N c.args.pool.now c.remove_leaf.new.pool root place _ _ _ c.remove_leaf.new.self.node c.remove_leaf.new.self.entry c.remove_leaf.new.self.size c.remove_leaf.result c.requires.union u (c.remove_leaf.ensures.removed tree place s) (λ none. c.remove_leaf.ensures.emptied none tree place s))
+
+-- and that of an entry from a leaf that has others
+entry_said : (g : Over) (c : goal.After-remove_entry g) (root place : ℕ) → StandsUnder c.args.pool.now.nodes root c.args.self.now.node c.args.self.now.entry c.args.self.now.size place →
+    Said g.row.N c.args.pool.now c.remove_entry.new.pool root place c.remove_entry.new.self.node c.remove_entry.new.self.entry c.remove_entry.new.self.size (Some c.remove_entry.result)
+entry_said g c root place u =
+    let s = stands_in g.row.N c.args.pool.now root place _ _ _ c.requires.union u in
+    let tree = tree_of c.args.pool.now.nodes root in
+    said g.row.N c.args.pool.now c.remove_entry.new.pool root place c.remove_entry.new.self.node c.remove_entry.new.self.entry c.remove_entry.new.self.size (Some c.remove_entry.result)
+    (removal g.row.N c.args.pool.now c.remove_entry.new.pool root place _ _ _ c.remove_entry.new.self.node c.remove_entry.new.self.entry c.remove_entry.new.self.size c.remove_entry.result c.requires.union u (c.remove_entry.ensures tree place s))
+
+pub returns-then-entries-eq1-clause-removed : goal.returns-then-entries-eq1-clause-removed
+returns-then-entries-eq1-clause-removed g c = λ root place u. if_some _ _ c.remove_leaf.result (λ root' r. r.changes) (leaf_said g c root place u).some
+
+pub returns-then-entries-eq1-clause-account : goal.returns-then-entries-eq1-clause-account
+returns-then-entries-eq1-clause-account g c = λ root place u. (leaf_said g c root place u).gives
+
+pub returns-then-entries-eq1-clause-stands : goal.returns-then-entries-eq1-clause-stands
+returns-then-entries-eq1-clause-stands g c = λ root place u. if_some _ _ c.remove_leaf.result (λ root' r. r.at) (leaf_said g c root place u).some
+
+pub returns-then-entries-eq1-clause-same_root : goal.returns-then-entries-eq1-clause-same_root
+returns-then-entries-eq1-clause-same_root g c = λ root place u. if_some _ _ c.remove_leaf.result (λ root' r. r.same_root) (leaf_said g c root place u).some
+
+pub returns-then-entries-eq1-clause-last : goal.returns-then-entries-eq1-clause-last
+returns-then-entries-eq1-clause-last g c = λ root place u. (leaf_said g c root place u).last
+
+pub returns-then-entries-eq1-clause-ended : goal.returns-then-entries-eq1-clause-ended
+returns-then-entries-eq1-clause-ended g c = λ none root place u. (leaf_said g c root place u).ended none
+
+pub returns-then-entries-eq1-clause-none_left : goal.returns-then-entries-eq1-clause-none_left
+returns-then-entries-eq1-clause-none_left g c = λ none root place u. (leaf_said g c root place u).none_left none
+
+pub returns-then-entries-eq1-clause-freed_root : goal.returns-then-entries-eq1-clause-freed_root
+returns-then-entries-eq1-clause-freed_root g c = λ root place u ne. (leaf_said g c root place u).freed_root ne
+
+pub returns-else-entries-eq1-clause-removed : goal.returns-else-entries-eq1-clause-removed
+returns-else-entries-eq1-clause-removed g c = λ root place u. (entry_said g c root place u).some.changes
+
+pub returns-else-entries-eq1-clause-account : goal.returns-else-entries-eq1-clause-account
+returns-else-entries-eq1-clause-account g c = λ root place u. (entry_said g c root place u).gives
+
+pub returns-else-entries-eq1-clause-stands : goal.returns-else-entries-eq1-clause-stands
+returns-else-entries-eq1-clause-stands g c = λ root place u. (entry_said g c root place u).some.at
+
+pub returns-else-entries-eq1-clause-same_root : goal.returns-else-entries-eq1-clause-same_root
+returns-else-entries-eq1-clause-same_root g c = λ root place u. (entry_said g c root place u).some.same_root
+
+pub returns-else-entries-eq1-clause-last : goal.returns-else-entries-eq1-clause-last
+returns-else-entries-eq1-clause-last g c = λ root place u. (entry_said g c root place u).last
+
+pub returns-else-entries-eq1-clause-freed_root : goal.returns-else-entries-eq1-clause-freed_root
+returns-else-entries-eq1-clause-freed_root g c = λ root place u ne. (entry_said g c root place u).freed_root ne

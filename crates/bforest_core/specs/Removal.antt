@@ -1,0 +1,201 @@
+-- What the calls of a path say of the rows above a level, and of a whole tree, when an entry goes.
+use Rattle.std.specs.Prelude.{remove, ◌≡◌, ◌≢◌, ℕ, suc, ◌+◌, ◌-◌, ◌≤◌, ◌<◌, ◌↔◌, true, false, List, [], ◌∷◌, ◌++◌, map, length, get_or, slice_get}
+use Rattle.std.specs.List.{flat_map}
+use Rattle.bforest_nodes.specs.Content.{Content, IsFree}
+use Rattle.bforest_core.specs.Table.{Table}
+use Rattle.bforest_core.specs.Levels.{LevelNode, node, flat, heads, sizes, numbers, FitRow, Solid, Stacked, Topped, least, Tree, IsFit, half_of, sizes_of}
+use Rattle.bforest_core.specs.Sizes.{settled, shrink}
+use Rattle.bforest_core.specs.Place.{RowIn, RowsIn, IsIn, leaf_content, inner_content, count, Distinct, root_above, root_of, numbers_of, Stands, IsPathAt}
+use Rattle.bforest_core.specs.Climb.{Above, SameBelow, top_of}
+use Rattle.bforest_core.specs.Trees.{slot, Every}
+
+module _ {K V : Type 0} where
+  -- but for the slots of these numbers nothing has changed; the freed ones lie free, in front of the chain
+  pub record Frees (old new : Table K V) (own freed : List ℕ) : Type 0 where
+    pub others : (number : ℕ) → count number own ≡ 0 → slice_get new.nodes number ≡ slice_get old.nodes number
+    pub freed_are : Every (λ (number : ℕ). IsFree (slot new.nodes number)) freed
+    pub chain_is : new.chain ≡ freed ++ old.chain
+    pub slots_are : length new.nodes ≡ length old.nodes
+    pub limit_is : new.limit ≡ old.limit
+
+  -- the rows from a level on after a change of the level, whose nodes are the list now and whose path goes to the
+  -- place: the rows have these sizes, and of their numbers those freed have gone
+  pub record Rebuilt (old new : Table K V) (path indices path' indices' : List ℕ) (level size : ℕ) (rows : List (List (LevelNode K ℕ))) (list : List (K × ℕ)) (place : ℕ) (sizes_after : List (List ℕ)) (freed : List ℕ) : Type 0 where
+    pub rows' : List (List (LevelNode K ℕ))
+    pub above : Above new path' indices' level size rows' list place
+    pub sizes_are : map sizes rows' ≡ sizes_after
+    pub numbers_are : (number : ℕ) → count number (flat_map numbers rows') + count number freed ≡ count number (flat_map numbers rows)
+    pub frees : Frees old new (flat_map numbers rows) freed
+    pub nodes_below : SameBelow level path path'
+    pub entries_below : SameBelow level indices indices'
+    pub same_top : top_of path' size ≡ top_of path size
+
+  -- a level with a node that lost an entry and may be under half full: the path goes through it, to an entry of it or,
+  -- behind its last one, to the first of the next node
+  pub record OnLevel {X : Type 0} (content : List (K × X) → Content K V) (half most : ℕ) (table : Table K V) (path indices : List ℕ) (level size : ℕ)
+      (before : List (LevelNode K X)) (number : ℕ) (entries : List (K × X)) (after : List (LevelNode K X)) (rest : List (List (LevelNode K ℕ))) : Type 0 where
+    pub inside : RowIn content table.nodes (before ++ node number entries ∷ after)
+    pub solid : Solid half most before
+    pub fits : FitRow half most after
+    pub some : 1 ≤ length entries
+    pub lost_one : least half after ≤ suc (length entries)
+    pub most_is : length entries ≤ most
+    pub above : Above table path indices (suc level) size rest (heads (before ++ node number entries ∷ after)) (length (heads before))
+    pub number_is : get_or path level 0 ≡ number
+    pub entry_was : get_or indices level 0 ≤ length entries
+    pub entry_within : get_or indices level 0 < length (entries ++ flat after)
+    pub apart : Distinct ((numbers (before ++ node number entries ∷ after) ++ flat_map numbers rest) ++ table.chain)
+
+  -- the rows from a level on after an entry of the level's row was taken out: they stand over this list, but for the
+  -- row's node that lost the entry
+  pub record Loosened (old new : Table K V) (path indices : List ℕ) (level size : ℕ) (rows : List (List (LevelNode K ℕ))) (list : List (K × ℕ)) (place : ℕ) : Type 0 where
+    pub before : List (LevelNode K ℕ)
+    pub entries : List (K × ℕ)
+    pub after : List (LevelNode K ℕ)
+    pub rest : List (List (LevelNode K ℕ))
+    pub on_level : OnLevel inner_content 4 8 new path indices level size before (get_or path level 0) entries after rest
+    pub list_is : flat (before ++ node (get_or path level 0) entries ∷ after) ≡ list
+    pub place_is : place ≡ length (flat before) + get_or indices level 0
+    pub sizes_were : map sizes rows ≡ (sizes before ++ suc (length entries) ∷ sizes after) ∷ map sizes rest
+    pub numbers_are : (number : ℕ) → count number (numbers (before ++ node (get_or path level 0) entries ∷ after) ++ flat_map numbers rest) ≡ count number (flat_map numbers rows)
+    pub frees : Frees old new (flat_map numbers rows) []
+
+  -- the level healed: its row and those above it fit, and the path goes where it went
+  pub record Healed {X : Type 0} (content : List (K × X) → Content K V) (half most : ℕ) (old new : Table K V) (path indices path' indices' : List ℕ) (level size : ℕ)
+      (before : List (LevelNode K X)) (number : ℕ) (entries : List (K × X)) (after : List (LevelNode K X)) (rest : List (List (LevelNode K ℕ))) : Type 0 where
+    pub before' : List (LevelNode K X)
+    pub number' : ℕ
+    pub entries' : List (K × X)
+    pub after' : List (LevelNode K X)
+    pub rest' : List (List (LevelNode K ℕ))
+    pub stays : (settled most (length entries) (sizes after)).0 ≡ false
+    pub inside : RowIn content new.nodes (before' ++ node number' entries' ∷ after')
+    pub fit : FitRow half most (before' ++ node number' entries' ∷ after')
+    pub list_is : flat (before' ++ node number' entries' ∷ after') ≡ flat (before ++ node number entries ∷ after)
+    pub above : Above new path' indices' (suc level) size rest' (heads (before' ++ node number' entries' ∷ after')) (length (heads before'))
+    pub number_is : get_or path' level 0 ≡ number'
+    pub within : get_or indices' level 0 < length entries'
+    pub place_is : length (flat before') + get_or indices' level 0 ≡ length (flat before) + get_or indices level 0
+    pub sizes_are : sizes (before' ++ node number' entries' ∷ after') ≡ sizes before ++ (settled most (length entries) (sizes after)).1
+    pub rest_sizes : map sizes rest' ≡ map sizes rest
+    pub row_numbers : numbers (before' ++ node number' entries' ∷ after') ≡ numbers (before ++ node number entries ∷ after)
+    pub rest_numbers : (m : ℕ) → count m (flat_map numbers rest') ≡ count m (flat_map numbers rest)
+    pub frees : Frees old new (numbers (before ++ node number entries ∷ after) ++ flat_map numbers rest) []
+    pub nodes_below : SameBelow level path path'
+    pub entries_below : SameBelow level indices indices'
+    pub same_top : top_of path' size ≡ top_of path size
+
+  -- the node went into its right neighbour, where the path goes now; the level above names both still
+  pub record Joined {X : Type 0} (content : List (K × X) → Content K V) (half most : ℕ) (old new : Table K V) (path indices path' indices' : List ℕ) (level size : ℕ)
+      (before : List (LevelNode K X)) (number : ℕ) (entries : List (K × X)) (after : List (LevelNode K X)) (rest : List (List (LevelNode K ℕ))) : Type 0 where
+    pub first : K × X
+    pub others : List (K × X)
+    pub key : K
+    pub right : ℕ
+    pub right_entries : List (K × X)
+    pub after' : List (LevelNode K X)
+    pub entries_are : entries ≡ first ∷ others
+    pub after_is : after ≡ node right right_entries ∷ after'
+    pub outcome : settled most (length entries) (sizes after) ≡ (true, length (entries ++ right_entries) ∷ sizes after')
+    pub inside : RowIn content new.nodes (before ++ node right (entries ++ right_entries) ∷ after')
+    pub fit : FitRow half most (before ++ node right (entries ++ right_entries) ∷ after')
+    pub above : Above new path' indices' (suc level) size rest (heads before ++ (first.0, number) ∷ (key, right) ∷ heads after') (length (heads before))
+    pub number_is : get_or path' level 0 ≡ right
+    pub entry_is : get_or indices' level 0 ≡ get_or indices level 0
+    pub frees : Frees old new (numbers (before ++ node number entries ∷ after)) (number ∷ [])
+    pub nodes_below : SameBelow level path path'
+    pub entries_below : SameBelow level indices indices'
+    pub same_top : top_of path' size ≡ top_of path size
+
+  -- the rows from a level on after the level's right-most node went: the path is at the end, and through the rows
+  -- there is none
+  pub record Dropped (old new : Table K V) (path : List ℕ) (size : ℕ) (rows : List (List (LevelNode K ℕ))) (list : List (K × ℕ)) (sizes_after : List (List ℕ)) (freed : List ℕ) : Type 0 where
+    pub rows' : List (List (LevelNode K ℕ))
+    pub stacked : Stacked list rows'
+    pub inside : RowsIn new.nodes rows'
+    pub height : length rows' ≡ length rows
+    pub sizes_are : map sizes rows' ≡ sizes_after
+    pub numbers_are : (number : ℕ) → count number (flat_map numbers rows') + count number freed ≡ count number (flat_map numbers rows)
+    pub root_is : root_above list rows' ≡ top_of path size
+    pub frees : Frees old new (flat_map numbers rows) freed
+
+  -- the rows over a level, up to this root, where the path has so many levels: they lie in the table, apart from its chain
+  pub record UpTo (table : Table K V) (size : ℕ) (rows : List (List (LevelNode K ℕ))) (list : List (K × ℕ)) (root : ℕ) : Type 0 where
+    pub stacked : Stacked list rows
+    pub inside : RowsIn table.nodes rows
+    pub height : suc (length rows) ≡ size
+    pub root_is : root_above list rows ≡ root
+    pub apart : Distinct (flat_map numbers rows ++ table.chain)
+
+  -- the rows after roots with a single child went: those up to the first of a single node
+  pub record Trimmed (old new : Table K V) (size size' : ℕ) (rows : List (List (LevelNode K ℕ))) (list : List (K × ℕ)) (root root' : ℕ) (freed : List ℕ) : Type 0 where
+    pub rows' : List (List (LevelNode K ℕ))
+    pub discarded : List (List (LevelNode K ℕ))
+    pub rows_are : rows ≡ rows' ++ discarded
+    pub stacked : Stacked list rows'
+    pub topped : Topped list rows'
+    pub size_is : suc (length rows') ≡ size'
+    pub freed_is : (number : ℕ) → count number freed ≡ count number (flat_map numbers discarded)
+    pub root_is : root_above list rows' ≡ root'
+    pub same_root : size' ≡ size → root' ≡ root
+    pub old_root : size' ≢ size → 0 < count root freed
+    pub frees : Frees old new (flat_map numbers discarded) freed
+
+  -- the path stands at an entry of a fit tree, whose leaves have at most so many, and which lies in the table, apart from
+  -- its chain
+  pub record StandsIn (most : ℕ) (table : Table K V) (path indices : List ℕ) (size : ℕ) (tree : Tree K V) (place : ℕ) : Type 0 where
+    pub fit : IsFit most tree
+    pub inside : IsIn table.nodes tree
+    pub apart : Distinct (numbers_of tree ++ table.chain)
+    pub low : length tree.above ≤ 16
+    pub stands : Stands path indices size tree place
+
+  -- the entry at the place went out of the path's leaf, which has others: the path is where it was, at the next entry or
+  -- behind the leaf's last
+  pub record LeafLoss (most : ℕ) (old new : Table K V) (path indices : List ℕ) (size : ℕ) (tree : Tree K V) (place : ℕ) : Type 0 where
+    pub before : List (LevelNode K V)
+    pub entries : List (K × V)
+    pub after : List (LevelNode K V)
+    pub rest : List (List (LevelNode K ℕ))
+    pub inside : RowIn leaf_content new.nodes (before ++ node (get_or path 0 0) entries ∷ after)
+    pub solid : Solid (half_of most) most before
+    pub fits : FitRow (half_of most) most after
+    pub some : 1 ≤ length entries
+    pub lost_one : least (half_of most) after ≤ suc (length entries)
+    pub most_is : length entries ≤ most
+    pub above : Above new path indices 1 size rest (heads (before ++ node (get_or path 0 0) entries ∷ after)) (length (heads before))
+    pub entry_was : get_or indices 0 0 ≤ length entries
+    pub apart : Distinct ((numbers (before ++ node (get_or path 0 0) entries ∷ after) ++ flat_map numbers rest) ++ new.chain)
+    pub flat_is : flat (before ++ node (get_or path 0 0) entries ∷ after) ≡ remove (flat tree.leaves) place
+    pub place_is : place ≡ length (flat before) + get_or indices 0 0
+    pub sizes_were : sizes tree.leaves ≡ sizes before ++ suc (length entries) ∷ sizes after
+    pub rest_sizes : map sizes rest ≡ map sizes tree.above
+    pub numbers_are : (number : ℕ) → count number (numbers (before ++ node (get_or path 0 0) entries ∷ after) ++ flat_map numbers rest) ≡ count number (numbers_of tree)
+    pub frees : Frees old new (numbers_of tree) []
+
+  -- the entry at the place went out of the tree, which is under this root now and not empty, and the path is where it was:
+  -- the nodes have the sizes of `shrink`, and those freed lie in front of the chain
+  pub record Removed (most : ℕ) (old new : Table K V) (path' indices' : List ℕ) (size' : ℕ) (tree : Tree K V) (place root' : ℕ) : Type 0 where
+    pub tree' : Tree K V
+    pub freed : List ℕ
+    pub flat_is : flat tree'.leaves ≡ remove (flat tree.leaves) place
+    pub sizes_are : sizes_of tree' ≡ shrink most place (sizes_of tree)
+    pub fit : IsFit most tree'
+    pub inside : IsIn new.nodes tree'
+    pub some : 1 ≤ length (flat tree'.leaves)
+    pub at : IsPathAt path' indices' size' tree' place
+    pub numbers_are : (number : ℕ) → count number (numbers_of tree') + count number freed ≡ count number (numbers_of tree)
+    pub root_is : root_of tree' ≡ root'
+    pub same_root : length tree'.above ≡ length tree.above → root' ≡ root_of tree
+    pub old_root : length tree'.above ≢ length tree.above → 0 < count (root_of tree) freed
+    pub low : length tree'.above ≤ length tree.above
+    pub frees : Frees old new (numbers_of tree) freed
+
+  -- the only entry of the tree went, and its node
+  pub record Emptied (most : ℕ) (old new : Table K V) (tree : Tree K V) (place : ℕ) : Type 0 where
+    pub single : length (flat tree.leaves) ≡ 1
+    pub none_left : shrink most place (sizes_of tree) ≡ []
+    pub levels_are : sizes_of tree ≡ (1 ∷ []) ∷ []
+    pub freed : List ℕ
+    pub freed_is : (number : ℕ) → count number freed ≡ count number (numbers_of tree)
+    pub frees : Frees old new (numbers_of tree) freed

@@ -1,0 +1,130 @@
+//! Taking a node out of the rows above it, on the way up, and healing what is left too small.
+ghost use Rattle.std.specs.Prelude.{◌≡◌, ℕ, suc, ◌+◌, ◌-◌, ◌<◌, ◌≤◌, List, [], ◌∷◌, ◌++◌, map, length, get_or, Some, None, true, false};
+ghost use Rattle.bforest_nodes.specs.Content.{IsLeafCapacity};
+ghost use Rattle.bforest_core.specs.Levels.{LevelNode, sizes, half_of};
+ghost use Rattle.bforest_core.specs.Sizes.{loss_above};
+ghost use Rattle.bforest_core.specs.Place.{inner_content, leaf_content};
+ghost use Rattle.bforest_core.specs.Climb.{Above};
+ghost use Rattle.bforest_core.specs.Removal.{Rebuilt, OnLevel, Loosened, Healed, Joined, Dropped};
+
+use crate::access::{entries, remove_child, separator, set_separator};
+use crate::path::Path;
+use crate::pool::NodePool;
+
+impl<K: Copy, V: Copy, const N: usize> Path<K, V, N> {
+    // Takes the entry at the path out of level `up`, and gives the next one its key.
+    fn take_left(&self, up: usize, pool: &mut NodePool<K, V, N>)
+        requires height { self.now.size ≤ 17 }
+        requires pending { (rows : List (List (LevelNode K ℕ))) × (a : List (K × ℕ)) × (k : K) × (m : ℕ) × (k2 : K) × (n : ℕ) × (b : List (K × ℕ)) × Above pool.old self.now.node self.now.entry up self.now.size rows (a ++ (k, m) ∷ (k2, n) ∷ b) (length a) }
+        ensures { (rows : List (List (LevelNode K ℕ))) (a : List (K × ℕ)) (k : K) (m : ℕ) (k2 : K) (n : ℕ) (b : List (K × ℕ)) → Above pool.old self.now.node self.now.entry up self.now.size rows (a ++ (k, m) ∷ (k2, n) ∷ b) (length a) → Loosened pool.old pool.new self.now.node self.now.entry up self.now.size rows (a ++ (k, n) ∷ b) (length a) }
+    {
+        let parent = self.node[up];
+        let index = self.entry[up];
+        if index + 1 < entries(pool, parent) {
+            // At the first child the key is removed with it.
+            let key = separator(pool, parent, index.saturating_sub(1));
+            set_separator(pool, parent, index, key);
+            let _answer = remove_child(pool, parent, index);
+        } else {
+            let key = separator(pool, parent, index - 1);
+            self.rekey_next(up + 1, key, pool);
+            let _answer = remove_child(pool, parent, index);
+        }
+    }
+
+    // Balances the path's leaf, which lost an entry, with its right neighbour. Whether it went into it.
+    pub(super) fn settle_leaf(&mut self, pool: &mut NodePool<K, V, N>) -> bool
+        requires capacity { IsLeafCapacity N }
+        requires height { self.old.size ≤ 17 }
+        requires pending { (before : List (LevelNode K V)) × (n : ℕ) × (es : List (K × V)) × (after : List (LevelNode K V)) × (rest : List (List (LevelNode K ℕ))) × OnLevel leaf_content (half_of N) N pool.old self.old.node self.old.entry 0 self.old.size before n es after rest }
+        ensures healed { result ≡ false → (before : List (LevelNode K V)) (n : ℕ) (es : List (K × V)) (after : List (LevelNode K V)) (rest : List (List (LevelNode K ℕ))) → OnLevel leaf_content (half_of N) N pool.old self.old.node self.old.entry 0 self.old.size before n es after rest → Healed leaf_content (half_of N) N pool.old pool.new self.old.node self.old.entry self.new.node self.new.entry 0 self.old.size before n es after rest }
+        ensures joined { result ≡ true → (before : List (LevelNode K V)) (n : ℕ) (es : List (K × V)) (after : List (LevelNode K V)) (rest : List (List (LevelNode K ℕ))) → OnLevel leaf_content (half_of N) N pool.old self.old.node self.old.entry 0 self.old.size before n es after rest → Joined leaf_content (half_of N) N pool.old pool.new self.old.node self.old.entry self.new.node self.new.entry 0 self.old.size before n es after rest }
+        ensures size { self.new.size ≡ self.old.size }
+    {
+        let leaf = self.node[0];
+        let left = entries(pool, leaf);
+        if left > N / 2 {
+            if self.entry[0] == left {
+                self.enter_next(0, pool);
+            }
+            return false;
+        }
+        match self.right_sibling(1, pool) {
+            None => false,
+            Some(next) => match pool.balance_nodes(leaf, next.0, next.1) {
+                Some(new_key) => {
+                    self.rekey_next(1, new_key, pool);
+                    false
+                }
+                None => {
+                    pool.free_node(leaf);
+                    self.node[0] = next.1;
+                    true
+                }
+            },
+        }
+    }
+
+    // Balances the inner node at `level`, which lost an entry, with its right neighbour. Whether it went into it.
+    fn settle_inner(&mut self, level: usize, pool: &mut NodePool<K, V, N>) -> bool
+        requires height { self.old.size ≤ 17 }
+        requires pending { (before : List (LevelNode K ℕ)) × (n : ℕ) × (es : List (K × ℕ)) × (after : List (LevelNode K ℕ)) × (rest : List (List (LevelNode K ℕ))) × OnLevel inner_content 4 8 pool.old self.old.node self.old.entry level self.old.size before n es after rest }
+        ensures healed { result ≡ false → (before : List (LevelNode K ℕ)) (n : ℕ) (es : List (K × ℕ)) (after : List (LevelNode K ℕ)) (rest : List (List (LevelNode K ℕ))) → OnLevel inner_content 4 8 pool.old self.old.node self.old.entry level self.old.size before n es after rest → Healed inner_content 4 8 pool.old pool.new self.old.node self.old.entry self.new.node self.new.entry level self.old.size before n es after rest }
+        ensures joined { result ≡ true → (before : List (LevelNode K ℕ)) (n : ℕ) (es : List (K × ℕ)) (after : List (LevelNode K ℕ)) (rest : List (List (LevelNode K ℕ))) → OnLevel inner_content 4 8 pool.old self.old.node self.old.entry level self.old.size before n es after rest → Joined inner_content 4 8 pool.old pool.new self.old.node self.old.entry self.new.node self.new.entry level self.old.size before n es after rest }
+        ensures size { self.new.size ≡ self.old.size }
+    {
+        let here = self.node[level];
+        let left = entries(pool, here);
+        if left >= 4 {
+            if self.entry[level] == left {
+                self.enter_next(level, pool);
+            }
+            return false;
+        }
+        match self.right_sibling(level + 1, pool) {
+            None => false,
+            Some(next) => match pool.balance_nodes(here, next.0, next.1) {
+                Some(new_key) => {
+                    self.rekey_next(level + 1, new_key, pool);
+                    false
+                }
+                None => {
+                    pool.free_node(here);
+                    self.node[level] = next.1;
+                    true
+                }
+            },
+        }
+    }
+
+    // The path's node below level `up` went into its right neighbour: its entry is taken out of the level, and the
+    // neighbour gets its key.
+    pub(super) fn merge_above(&mut self, up: usize, pool: &mut NodePool<K, V, N>)
+        requires height { self.old.size ≤ 17 }
+        requires pending { (rows : List (List (LevelNode K ℕ))) × (a : List (K × ℕ)) × (k : K) × (m : ℕ) × (k2 : K) × (n : ℕ) × (b : List (K × ℕ)) × Above pool.old self.old.node self.old.entry up self.old.size rows (a ++ (k, m) ∷ (k2, n) ∷ b) (length a) }
+        ensures merged { (rows : List (List (LevelNode K ℕ))) (a : List (K × ℕ)) (k : K) (m : ℕ) (k2 : K) (n : ℕ) (b : List (K × ℕ)) → Above pool.old self.old.node self.old.entry up self.old.size rows (a ++ (k, m) ∷ (k2, n) ∷ b) (length a) → (freed : List ℕ) × Rebuilt pool.old pool.new self.old.node self.old.entry self.new.node self.new.entry up self.old.size rows (a ++ (k, n) ∷ b) (length a) (loss_above (Some (length a)) (map sizes rows)) freed }
+        ensures size { self.new.size ≡ self.old.size }
+    {
+        self.take_left(up, pool);
+        if self.settle_inner(up, pool) {
+            self.merge_above(up + 1, pool);
+        }
+    }
+
+    // The path's node below level `up` was the right-most and is empty: its entry is taken out of the level, and the
+    // nodes that this leaves empty go too.
+    pub(super) fn drop_above(&self, up: usize, pool: &mut NodePool<K, V, N>)
+        requires height { self.now.size ≤ 17 }
+        requires pending { (rows : List (List (LevelNode K ℕ))) × (a : List (K × ℕ)) × (y : K × ℕ) × (x : K × ℕ) × Above pool.old self.now.node self.now.entry up self.now.size rows (a ++ y ∷ x ∷ []) (suc (length a)) }
+        ensures { (rows : List (List (LevelNode K ℕ))) (a : List (K × ℕ)) (y : K × ℕ) (x : K × ℕ) → Above pool.old self.now.node self.now.entry up self.now.size rows (a ++ y ∷ x ∷ []) (suc (length a)) → (freed : List ℕ) × Dropped pool.old pool.new self.now.node self.now.size rows (a ++ y ∷ []) (loss_above (Some (suc (length a))) (map sizes rows)) freed }
+    {
+        let parent = self.node[up];
+        if entries(pool, parent) == 1 {
+            pool.free_node(parent);
+            self.drop_above(up + 1, pool);
+        } else {
+            let last = self.entry[up];
+            let _answer = remove_child(pool, parent, last);
+        }
+    }
+}

@@ -1,0 +1,83 @@
+//! The node to the right of a path's node, under the same parent or another: found, entered, and its key renewed in the rows above.
+ghost use Rattle.std.specs.Prelude.{◌≡◌, ℕ, suc, ◌≤◌, List, [], ◌∷◌, ◌++◌, map, length, get_or};
+ghost use Rattle.bforest_core.specs.Levels.{LevelNode, sizes};
+ghost use Rattle.bforest_core.specs.Climb.{Above, NextIs, SameBelow, top_of};
+ghost use Rattle.bforest_core.specs.Removal.{Rebuilt};
+
+use crate::access::{child, entries, separator, set_separator};
+use crate::path::Path;
+use crate::pool::NodePool;
+use bforest_nodes::Node;
+
+impl<K: Copy, V: Copy, const N: usize> Path<K, V, N> {
+    // The right neighbour of the path's node below level `up`, which may have another parent, with the key between the two.
+    pub(super) fn right_sibling(&self, up: usize, pool: &NodePool<K, V, N>) -> Option<(K, Node)>
+        requires height { self.now.size ≤ 17 }
+        requires pending { (rows : List (List (LevelNode K ℕ))) × (a : List (K × ℕ)) × (x : K × ℕ) × (b : List (K × ℕ)) × Above pool.now self.now.node self.now.entry up self.now.size rows (a ++ x ∷ b) (length a) }
+        ensures { (rows : List (List (LevelNode K ℕ))) (a : List (K × ℕ)) (x : K × ℕ) (b : List (K × ℕ)) → Above pool.now self.now.node self.now.entry up self.now.size rows (a ++ x ∷ b) (length a) → NextIs result b }
+    {
+        if up == self.size {
+            return None;
+        }
+        let parent = self.node[up];
+        let index = self.entry[up];
+        if index + 1 < entries(pool, parent) {
+            Some((
+                separator(pool, parent, index),
+                child(pool, parent, index + 1),
+            ))
+        } else {
+            match self.right_sibling(up + 1, pool) {
+                None => None,
+                Some(next) => Some((next.0, child(pool, next.1, 0))),
+            }
+        }
+    }
+
+    // Renews the key between the path's node below level `up` and its right neighbour.
+    pub(super) fn rekey_next(&self, up: usize, key: K, pool: &mut NodePool<K, V, N>)
+        requires height { self.now.size ≤ 17 }
+        requires pending { (rows : List (List (LevelNode K ℕ))) × (a : List (K × ℕ)) × (x : K × ℕ) × (k : K) × (n : ℕ) × (b : List (K × ℕ)) × Above pool.old self.now.node self.now.entry up self.now.size rows (a ++ x ∷ (k, n) ∷ b) (length a) }
+        ensures { (rows : List (List (LevelNode K ℕ))) (a : List (K × ℕ)) (x : K × ℕ) (k : K) (n : ℕ) (b : List (K × ℕ)) → Above pool.old self.now.node self.now.entry up self.now.size rows (a ++ x ∷ (k, n) ∷ b) (length a) → Rebuilt pool.old pool.new self.now.node self.now.entry self.now.node self.now.entry up self.now.size rows (a ++ x ∷ (key, n) ∷ b) (length a) (map sizes rows) [] }
+    {
+        let parent = self.node[up];
+        let index = self.entry[up];
+        if index + 1 < entries(pool, parent) {
+            set_separator(pool, parent, index, key);
+        } else {
+            self.rekey_next(up + 1, key, pool);
+        }
+    }
+
+    // Renews the first key of the path's node below level `up`: in the table its separator, if it has one.
+    pub(super) fn rekey_here(&self, up: usize, key: K, pool: &mut NodePool<K, V, N>)
+        requires height { self.now.size ≤ 17 }
+        requires pending { (rows : List (List (LevelNode K ℕ))) × (a : List (K × ℕ)) × (k : K) × (n : ℕ) × (b : List (K × ℕ)) × Above pool.old self.now.node self.now.entry up self.now.size rows (a ++ (k, n) ∷ b) (length a) }
+        ensures { (rows : List (List (LevelNode K ℕ))) (a : List (K × ℕ)) (k : K) (n : ℕ) (b : List (K × ℕ)) → Above pool.old self.now.node self.now.entry up self.now.size rows (a ++ (k, n) ∷ b) (length a) → Rebuilt pool.old pool.new self.now.node self.now.entry self.now.node self.now.entry up self.now.size rows (a ++ (key, n) ∷ b) (length a) (map sizes rows) [] }
+    {
+        if up >= self.size {
+            return;
+        }
+        let index = self.entry[up];
+        if index > 0 {
+            set_separator(pool, self.node[up], index - 1, key);
+        } else {
+            self.rekey_here(up + 1, key, pool);
+        }
+    }
+
+    // Goes to the first entry of the next node on `level`, where there is one.
+    pub(super) fn enter_next(&mut self, level: usize, pool: &NodePool<K, V, N>)
+        requires height { self.old.size ≤ 17 }
+        requires pending { (rows : List (List (LevelNode K ℕ))) × (a : List (K × ℕ)) × (x : K × ℕ) × (y : K × ℕ) × (b : List (K × ℕ)) × Above pool.now self.old.node self.old.entry (suc level) self.old.size rows (a ++ x ∷ y ∷ b) (length a) }
+        ensures moved { (rows : List (List (LevelNode K ℕ))) (a : List (K × ℕ)) (x : K × ℕ) (y : K × ℕ) (b : List (K × ℕ)) → Above pool.now self.old.node self.old.entry (suc level) self.old.size rows (a ++ x ∷ y ∷ b) (length a) → Above pool.now self.new.node self.new.entry (suc level) self.old.size rows (a ++ x ∷ y ∷ b) (suc (length a)) × (get_or self.new.node level 0 ≡ y.1) }
+        ensures first { get_or self.new.entry level 0 ≡ 0 }
+        ensures nodes_below { SameBelow level self.old.node self.new.node }
+        ensures entries_below { SameBelow level self.old.entry self.new.entry }
+        ensures same_top { top_of self.new.node self.old.size ≡ top_of self.old.node self.old.size }
+        ensures size { self.new.size ≡ self.old.size }
+    {
+        let _moved = self.next_node(level, pool);
+        self.entry[level] = 0;
+    }
+}

@@ -1,0 +1,140 @@
+//! Taking out the entry where a path is.
+ghost use Rattle.std.specs.Prelude.{remove, true, false, IfSome, ◌≡◌, ◌≢◌, ℕ, suc, ◌+◌, ◌-◌, ◌<◌, ◌≤◌, ◌↔◌, IsTrue, List, [], ◌∷◌, ◌++◌, length, get_or, slice_get, Some, None};
+ghost use Rattle.bforest_nodes.specs.Content.{IsLeafCapacity};
+ghost use Rattle.bforest_core.specs.Levels.{LevelNode, flat, sizes_of, Tree};
+ghost use Rattle.bforest_core.specs.Sizes.{shrink};
+ghost use Rattle.bforest_core.specs.Table.{Table};
+ghost use Rattle.bforest_core.specs.Place.{IsPathAt, leaf_content, root_of, count};
+ghost use Rattle.bforest_core.specs.Removal.{UpTo, Trimmed, StandsIn, LeafLoss, Removed, Emptied};
+ghost use Rattle.bforest_core.specs.Change.{Changes, Ends, GivesNodes, StandsUnder};
+ghost use Rattle.bforest_core.specs.Trees.{IsUnion, tree_of};
+
+use crate::access::{child, entries, leaf_key, remove_entry};
+use crate::path::Path;
+use crate::pool::NodePool;
+use bforest_nodes::Node;
+
+impl<K: Copy, V: Copy, const N: usize> Path<K, V, N> {
+    /// Takes the entry here out, and answers the root of its tree, or nothing where it was the tree's last entry, whose node is freed
+    /// with it. The path goes to the entry that followed, or to the end. It takes no memory.
+    ///
+    /// Where a leaf falls under half full it is filled from its right neighbour, or goes into it, and so on upwards; a root with a single
+    /// child is discarded. Freed nodes lie in front of the chain.
+    pub fn remove(&mut self, pool: &mut NodePool<K, V, N>) -> Option<Node>
+        requires capacity { IsLeafCapacity N }
+        requires union { IsUnion N pool.old }
+        requires stands { (root : ℕ) × (place : ℕ) × StandsUnder pool.old.nodes root self.old.node self.old.entry self.old.size place }
+
+        // What a removal leaves.
+        ensures removed { (root place : ℕ) → StandsUnder pool.old.nodes root self.old.node self.old.entry self.old.size place → IfSome result (λ root'. Changes N pool.old pool.new root root' (remove (flat (tree_of pool.old.nodes root).leaves) place) (shrink N place (sizes_of (tree_of pool.old.nodes root)))) }
+        ensures account { (root place : ℕ) → StandsUnder pool.old.nodes root self.old.node self.old.entry self.old.size place → GivesNodes (sizes_of (tree_of pool.old.nodes root)) (shrink N place (sizes_of (tree_of pool.old.nodes root))) pool.old pool.new }
+        ensures stands { (root place : ℕ) → StandsUnder pool.old.nodes root self.old.node self.old.entry self.old.size place → IfSome result (λ root'. IsPathAt self.new.node self.new.entry self.new.size (tree_of pool.new.nodes root') place) }
+        ensures same_root { (root place : ℕ) → StandsUnder pool.old.nodes root self.old.node self.old.entry self.old.size place → IfSome result (λ root'. (root' ≡ root) ↔ (length (shrink N place (sizes_of (tree_of pool.old.nodes root))) ≡ length (sizes_of (tree_of pool.old.nodes root)))) }
+
+        // When it was the last entry, and what is left then.
+        ensures last { (root place : ℕ) → StandsUnder pool.old.nodes root self.old.node self.old.entry self.old.size place → (result ≡ None) ↔ (length (flat (tree_of pool.old.nodes root).leaves) ≡ 1) }
+        ensures ended { result ≡ None → (root place : ℕ) → StandsUnder pool.old.nodes root self.old.node self.old.entry self.old.size place → Ends N pool.old pool.new root }
+        ensures end { result ≡ None → self.new.size ≡ 0 }
+        ensures none_left { result ≡ None → (root place : ℕ) → StandsUnder pool.old.nodes root self.old.node self.old.entry self.old.size place → shrink N place (sizes_of (tree_of pool.old.nodes root)) ≡ [] }
+        ensures freed_root { (root place : ℕ) → StandsUnder pool.old.nodes root self.old.node self.old.entry self.old.size place → result ≢ Some root → 0 < count root pool.new.chain }
+    {
+        let root = self.root();
+        if entries(pool, self.node[0]) == 1 {
+            self.remove_leaf(root, pool)
+        } else {
+            Some(self.remove_entry(root, pool))
+        }
+    }
+
+    // Takes out the only entry of the path's leaf, with the leaf, and goes to the end: only the right-most leaf has so few. Answers the
+    // tree's root, or nothing where there is no tree any more.
+    fn remove_leaf(&mut self, root: Node, pool: &mut NodePool<K, V, N>) -> Option<Node>
+        requires capacity { IsLeafCapacity N }
+        requires stands { (tree : Tree K V) × (place : ℕ) × StandsIn N pool.old self.old.node self.old.entry self.old.size tree place × (root_of tree ≡ root) }
+        requires single { (x : K × V) × (slice_get pool.old.nodes (get_or self.old.node 0 0) ≡ Some (leaf_content (x ∷ []))) }
+        ensures removed { (tree : Tree K V) (place : ℕ) → StandsIn N pool.old self.old.node self.old.entry self.old.size tree place → IfSome result (λ root'. Removed N pool.old pool.new self.new.node self.new.entry self.new.size tree place root') }
+        ensures emptied { result ≡ None → (tree : Tree K V) (place : ℕ) → StandsIn N pool.old self.old.node self.old.entry self.old.size tree place → Emptied N pool.old pool.new tree place }
+        ensures end { self.new.size ≡ 0 }
+    {
+        pool.free_node(self.node[0]);
+        if self.size == 1 {
+            self.size = 0;
+            return None;
+        }
+        self.drop_above(1, pool);
+        let top = self.trim(root, pool);
+        self.size = 0;
+        Some(top)
+    }
+
+    // Takes the entry out of the path's leaf, which has others. Answers the tree's root.
+    fn remove_entry(&mut self, root: Node, pool: &mut NodePool<K, V, N>) -> Node
+        requires capacity { IsLeafCapacity N }
+        requires stands { (tree : Tree K V) × (place : ℕ) × StandsIn N pool.old self.old.node self.old.entry self.old.size tree place × (root_of tree ≡ root) }
+        requires others { (x y : K × V) × (es : List (K × V)) × (slice_get pool.old.nodes (get_or self.old.node 0 0) ≡ Some (leaf_content (x ∷ y ∷ es))) }
+        ensures { (tree : Tree K V) (place : ℕ) → StandsIn N pool.old self.old.node self.old.entry self.old.size tree place → Removed N pool.old pool.new self.new.node self.new.entry self.new.size tree place result }
+    {
+        self.take_entry(pool);
+        if self.is_past_end(pool) {
+            self.size = 0;
+            return root;
+        }
+        if self.settle_leaf(pool) {
+            self.merge_above(1, pool);
+            self.trim(root, pool)
+        } else {
+            root
+        }
+    }
+
+    // Takes the entry out of the path's leaf, which has others. Where it was the first, the rows above get the key of the next.
+    fn take_entry(&self, pool: &mut NodePool<K, V, N>)
+        requires stands { (tree : Tree K V) × (place : ℕ) × StandsIn N pool.old self.now.node self.now.entry self.now.size tree place }
+        requires others { (x y : K × V) × (es : List (K × V)) × (slice_get pool.old.nodes (get_or self.now.node 0 0) ≡ Some (leaf_content (x ∷ y ∷ es))) }
+        ensures { (tree : Tree K V) (place : ℕ) → StandsIn N pool.old self.now.node self.now.entry self.now.size tree place → LeafLoss N pool.old pool.new self.now.node self.now.entry self.now.size tree place }
+    {
+        let leaf = self.node[0];
+        let index = self.entry[0];
+        remove_entry(pool, leaf, index);
+        if index > 0 {
+            return;
+        }
+        let key = leaf_key(pool, leaf);
+        self.rekey_here(1, key, pool);
+    }
+
+    // Whether the path is behind its leaf's last entry, and no leaf follows.
+    fn is_past_end(&self, pool: &NodePool<K, V, N>) -> bool
+        requires capacity { IsLeafCapacity N }
+        requires height { self.now.size ≤ 17 }
+        requires lost { (old : Table K V) × (tree : Tree K V) × (place : ℕ) × LeafLoss N old pool.now self.now.node self.now.entry self.now.size tree place }
+        ensures past { result ≡ true → (old : Table K V) (tree : Tree K V) (place : ℕ) → (l : LeafLoss N old pool.now self.now.node self.now.entry self.now.size tree place) → (l.after ≡ []) × (get_or self.now.entry 0 0 ≡ length l.entries) }
+        ensures within { result ≡ false → (old : Table K V) (tree : Tree K V) (place : ℕ) → (l : LeafLoss N old pool.now self.now.node self.now.entry self.now.size tree place) → get_or self.now.entry 0 0 < length (l.entries ++ flat l.after) }
+    {
+        if self.entry[0] < entries(pool, self.node[0]) {
+            return false;
+        }
+        self.right_sibling(1, pool).is_none()
+    }
+
+    // Discards roots with a single child, from `root` downwards, and frees them. Answers the root that stays; of the path's levels as many
+    // go.
+    fn trim(&mut self, root: Node, pool: &mut NodePool<K, V, N>) -> Node
+        requires height { self.old.size ≤ 17 }
+        requires rooted { (rows : List (List (LevelNode K ℕ))) × (list : List (K × ℕ)) × UpTo pool.old self.old.size rows list root }
+        ensures trimmed { (rows : List (List (LevelNode K ℕ))) (list : List (K × ℕ)) → UpTo pool.old self.old.size rows list root → (freed : List ℕ) × Trimmed pool.old pool.new self.old.size self.new.size rows list root result freed }
+        ensures nodes { self.new.node ≡ self.old.node }
+        ensures entries { self.new.entry ≡ self.old.entry }
+    {
+        if self.size == 1 {
+            return root;
+        }
+        if entries(pool, root) > 1 {
+            return root;
+        }
+        let only = child(pool, root, 0);
+        pool.free_node(root);
+        self.size -= 1;
+        self.trim(only, pool)
+    }
+}
