@@ -71,7 +71,7 @@ module _ {K X : Type 0} where
       record { root = r; list = sym (list-root p n r) ∙ ap (λ z. list_at z n) is; sizes = sym (sizes-root p n r) ∙ ap (λ z. sizes_at z n) is }
 
   -- a number that keeps its tree, or stays without one, keeps its list
-  same_list : (f f' : Forest K X) (n : ℕ) → (IsTrue (is_root f'.nodes n) ↔ IsTrue (is_root f.nodes n)) × (IsTrue (is_root f.nodes n) → tree_of f'.nodes n ≡ tree_of f.nodes n) → list_at f' n ≡ list_at f n
+  pub same_list : (f f' : Forest K X) (n : ℕ) → (IsTrue (is_root f'.nodes n) ↔ IsTrue (is_root f.nodes n)) × (IsTrue (is_root f.nodes n) → tree_of f'.nodes n ≡ tree_of f.nodes n) → list_at f' n ≡ list_at f n
   unfolding list_at
   same_list f f' n k = go (is_root f'.nodes n) (is_root f.nodes n) k.0 k.1
     where
@@ -81,7 +81,7 @@ module _ {K X : Type 0} where
       go false true k t = absurd (let bad = k.1 refl in cc)
       go false false k t = refl
 
-  same_sizes : (f f' : Forest K X) (n : ℕ) → (IsTrue (is_root f'.nodes n) ↔ IsTrue (is_root f.nodes n)) × (IsTrue (is_root f.nodes n) → tree_of f'.nodes n ≡ tree_of f.nodes n) → sizes_at f' n ≡ sizes_at f n
+  pub same_sizes : (f f' : Forest K X) (n : ℕ) → (IsTrue (is_root f'.nodes n) ↔ IsTrue (is_root f.nodes n)) × (IsTrue (is_root f.nodes n) → tree_of f'.nodes n ≡ tree_of f.nodes n) → sizes_at f' n ≡ sizes_at f n
   unfolding sizes_at
   same_sizes f f' n k = go (is_root f'.nodes n) (is_root f.nodes n) k.0 k.1
     where

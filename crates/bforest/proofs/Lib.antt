@@ -7,3 +7,7 @@ pub mod Reading
 pub mod Rooms
 pub mod Accounts
 pub mod Becoming
+pub mod Cutting
+pub mod Following
+pub mod Sifting
+pub mod Kept

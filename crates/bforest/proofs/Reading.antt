@@ -8,7 +8,7 @@ use Rattle.bforest_core.proofs.Unions.{rooted}
 use Rattle.bforest_core.specs.Change.{StandsUnder}
 use Rattle.bforest_core.specs.Climb.{top_of}
 use Rattle.bforest_nodes.specs.Content.{Content, IsLeaf, entry_count, keys_of, vals_of}
-use Rattle.bforest_core.specs.Levels.{IsFit, LevelNode, flat, node, numbers}
+use Rattle.bforest_core.specs.Levels.{IsFit, LevelNode, flat, half_of, node, numbers}
 use Rattle.bforest_core.specs.Place.{IsIn, Stands, count, leaf_content, numbers_of}
 use Rattle.bforest_core.specs.Table.{Table}
 use Rattle.bforest_core.specs.Trees.{IsUnion, is_root, tree_of}
@@ -55,17 +55,21 @@ module _ {K X : Type 0} where
 
 module _ {K V : Type 0} where
   -- what is left where a path stands at a place
-  pub standing : (table : Table K V) (root size place : ℕ) (path indices : List ℕ) → IsUnion 7 table → StandsUnder table.nodes root path indices size place → entries_from table.nodes size path indices ≡ drop place (flat (tree_of table.nodes root).leaves)
-  standing table root size place path indices union u =
+  pub standing-in : (most : ℕ) → 1 ≤ half_of most → (table : Table K V) (root size place : ℕ) (path indices : List ℕ) → IsUnion most table → StandsUnder table.nodes root path indices size place → entries_from table.nodes size path indices ≡ drop place (flat (tree_of table.nodes root).leaves)
+  standing-in most one table root size place path indices union u =
       let tree = tree_of table.nodes root in
       let s = u.stands in
-      let r = rooted 7 table root union u.root_is in
+      let r = rooted most table root union u.root_is in
       let once : count (get_or path 0 0) (numbers tree.leaves) ≤ 1 = omega (arith, r.apart (get_or path 0 0), count-append (get_or path 0 0) (numbers_of tree) table.chain, count-append (get_or path 0 0) (numbers tree.leaves) (flat_map numbers tree.above)) in
-      let top : top_of path size ≡ root = sym (root-stands 7 tree path indices size place r.fit s) ∙ r.root_is in
+      let top : top_of path size ≡ root = sym (root-stands most tree path indices size place r.fit s) ∙ r.root_is in
       let at : place_in tree.leaves (get_or path 0 0) (get_or indices 0 0) ≡ place =
       ap (λ z. place_in z (get_or path 0 0) (get_or indices 0 0)) s.leaf.row_is ∙ place_by s.leaf.before (get_or path 0 0) s.leaf.entries s.leaf.after (get_or indices 0 0) (subst (λ z. count (get_or path 0 0) (numbers z) ≤ 1) s.leaf.row_is once) ∙ sym s.leaf.place_is in
       let some : (size == 0) ≡ false = elim (eqb_tells size 0) [ inl w ↦ absurd (omega (arith, w.1, s.size_is)) | inr w ↦ w.0 ] in
       (λ j. if some j then [] else drop (place_in (tree_of table.nodes (top j)).leaves (get_or path 0 0) (get_or indices 0 0)) (flat (tree_of table.nodes (top j)).leaves)) ∙ ap (λ p. drop p (flat tree.leaves)) at
+
+  -- so it is in a forest of maps
+  pub standing : (table : Table K V) (root size place : ℕ) (path indices : List ℕ) → IsUnion 7 table → StandsUnder table.nodes root path indices size place → entries_from table.nodes size path indices ≡ drop place (flat (tree_of table.nodes root).leaves)
+  standing table root size place path indices union u = standing-in 7 (omega arith) table root size place path indices union u
 
   -- nothing at the end
   pub ended : (table : Table K V) (size : ℕ) (path indices : List ℕ) → size ≡ 0 → entries_from table.nodes size path indices ≡ []

@@ -1,7 +1,8 @@
 -- What contracts see of a forest and of a handle.
 use Rattle.bforest_nodes.specs.Entries.{is_present, place}
+use Rattle.bforest_core.specs.Change.{node_count}
 use Rattle.bforest_core.specs.Levels.{flat, sizes_of as tree_sizes}
-use Rattle.bforest_core.specs.Sizes.{growth, need}
+use Rattle.bforest_core.specs.Sizes.{growth, need, shrink}
 use Rattle.bforest_core.specs.Table.{Table, free_count, slot_count}
 use Rattle.bforest_core.specs.Trees.{is_root, tree_of}
 use Rattle.std.specs.List.{sum_by}
@@ -53,7 +54,7 @@ module _ {K X : Type 0} where
 
   -- how many nodes its tree has
   abbrev pub nodes_at : Forest K X → ℕ → ℕ
-  nodes_at f n = sum_by (λ (level : List ℕ). length level) (sizes_at f n)
+  nodes_at f n = node_count (sizes_at f n)
 
   -- the free slots and the nodes of all trees add up to the slots
   abbrev pub IsAccounted : Forest K X → Type 0
@@ -98,6 +99,11 @@ module _ {K X : Type 0} where
     pub slots : slots_of f' ≡ slots_of f + (d - free_of f)
     pub free : free_of f' ≡ free_of f - d
 
+  -- f becomes f' by giving back the slots by which a tree of the second sizes has fewer nodes than one of the first: they lie free now
+  pub record Gives (before after : List (List ℕ)) (f f' : Forest K X) : Type 0 where
+    pub slots : slots_of f' ≡ slots_of f
+    pub free : free_of f' + node_count after ≡ free_of f + node_count before
+
   -- d slots can't be had
   abbrev pub IsTooMany : ℕ → Forest K X → Type 0
   IsTooMany d f = room_of f < d
@@ -115,3 +121,7 @@ module _ {K X : Type 0} (cmp : K → K → Ordering) where
   -- the sizes of the nodes after it
   abbrev pub sizes_with : Forest K X → Option ℕ → K → List (List ℕ)
   sizes_with f h k = if is_present cmp (list_of f h) k then sizes_of f h else growth 7 (place cmp (list_of f h) k) (sizes_of f h)
+
+  -- the sizes of the nodes after a removal of k
+  abbrev pub sizes_without : Forest K X → Option ℕ → K → List (List ℕ)
+  sizes_without f h k = if is_present cmp (list_of f h) k then shrink 7 (place cmp (list_of f h) k) (sizes_of f h) else sizes_of f h

@@ -1,10 +1,12 @@
 //! The table of all trees of a forest.
-ghost use Rattle.bforest_nodes.specs.Entries.{IsIncreasing, put, value_for};
+ghost use Rattle.bforest_nodes.specs.Entries.{IsIncreasing, cut, put, value_for};
 ghost use Rattle.bforest_core.specs.Trees.{IsUnion};
-ghost use Rattle.bforest.specs.Forest.{Becomes, IsAccounted, IsLive, IsTooMany, Keeps, NeedsGrowth, Takes, empty, first_level, free_of, limit_of, list_at, list_of, need_of, room_of, sizes_at, sizes_of, sizes_with, slots_of};
+ghost use Rattle.bforest.specs.Retain.{MayAskEach, Retains};
+ghost use Rattle.bforest.specs.Forest.{Becomes, Gives, IsAccounted, IsLive, IsTooMany, Keeps, NeedsGrowth, Takes, empty, first_level, free_of, limit_of, list_at, list_of, need_of, room_of, sizes_at, sizes_of, sizes_with, sizes_without, slots_of};
 ghost use Rattle.std.specs.Prelude.{IfOk, IsOk, IsTrue, None, OnErr, OnOk, Some, Err, [], length, ◌+◌, ◌-◌, ◌/◌, ◌^◌, ◌<◌, ◌↔◌, ◌∷◌, ◌≡◌, ◌≢◌, ◌≤◌};
 
 use crate::map::Map;
+use crate::predicate::Predicate;
 use crate::tree;
 use bforest_core::{Comparator, Node, NodePool, OutOfMemory};
 use std::alloc::Global;
@@ -42,6 +44,14 @@ impl<K: Copy, V: Copy> MapForest<K, V> {
         MapForest {
             pool: NodePool::with_limit(alloc, limit),
         }
+    }
+
+    /// Ends all trees: no slot is left, and the limit stays. Only empty handles are live then, until trees are made. The memory of the
+    /// table is kept for later slots. Constant time.
+    pub fn clear(&mut self)
+        ensures empty { self.new ≡ empty (limit_of self.old) }
+    {
+        self.pool.clear();
     }
 
     /// How many slots the table has: one for each node, and one for each node that lies free.
@@ -173,5 +183,51 @@ impl<K: Copy, V: Copy> MapForest<K, V> {
         ensures refused { OnErr result (self.new ≡ self.old) }
     {
         tree::plant(&mut self.pool, key, value)
+    }
+
+    /// Takes a key out of a tree. Answers the tree's number of now, or nothing where that was the last entry, and the key's value.
+    pub(crate) fn cut<C: Comparator<K>>(
+        &mut self,
+        root: Node,
+        key: K,
+        comp: &C,
+    ) -> (Option<Node>, Option<V>)
+        requires live { list_at self.old root ≢ [] }
+        requires increasing { IsIncreasing (C.order comp.now) (list_at self.old root) }
+        ensures value { result.1 ≡ value_for (C.order comp.now) (list_at self.old root) key }
+        ensures cut { Becomes self.old (Some root) self.new result.0
+            (cut (C.order comp.now) (list_at self.old root) key) }
+        ensures sizes { sizes_of self.new result.0
+            ≡ sizes_without (C.order comp.now) self.old (Some root) key }
+        ensures same_root { (result.0 ≡ Some root)
+            ↔ (length (sizes_without (C.order comp.now) self.old (Some root) key) ≡ length (sizes_at self.old root)) }
+        ensures account { Gives (sizes_at self.old root) (sizes_without (C.order comp.now) self.old (Some root) key) self.old self.new }
+        ensures absent { result.1 ≡ None → self.new ≡ self.old }
+    {
+        tree::cut(&mut self.pool, root, key, comp)
+    }
+
+    /// Ends a tree.
+    pub(crate) fn end(&mut self, root: Node)
+        requires live { list_at self.old root ≢ [] }
+        ensures ended { Becomes self.old (Some root) self.new None [] }
+        ensures account { Gives (sizes_at self.old root) [] self.old self.new }
+    {
+        tree::end(&mut self.pool, root);
+    }
+
+    /// Asks a predicate of each entry of a tree, in order, and keeps those answered yes. Answers the tree's number of now, or nothing
+    /// where no entry stays.
+    pub(crate) fn retain<P: Predicate<K, V>>(&mut self, root: Node, predicate: P) -> Option<Node>
+        requires live { list_at self.old root ≢ [] }
+        requires callable { MayAskEach P.step P.may predicate (list_at self.old root) }
+        ensures kept { Retains P.step 7 predicate 0 (list_at self.old root) (sizes_at self.old root)
+            (list_of self.new result) (sizes_of self.new result) }
+        ensures changed { Becomes self.old (Some root) self.new result (list_of self.new result) }
+        ensures same_root { (result ≡ Some root)
+            ↔ (length (sizes_of self.new result) ≡ length (sizes_at self.old root)) }
+        ensures account { Gives (sizes_at self.old root) (sizes_of self.new result) self.old self.new }
+    {
+        tree::retain(&mut self.pool, root, predicate)
     }
 }

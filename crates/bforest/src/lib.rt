@@ -8,6 +8,7 @@
 mod forest;
 mod map;
 mod map_iter;
+mod predicate;
 mod tree;
 
 pub use bforest_core::{Comparator, OutOfMemory};

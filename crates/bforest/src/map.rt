@@ -1,7 +1,8 @@
 //! The handle of one map.
-ghost use Rattle.bforest_nodes.specs.Entries.{IsIncreasing, put, value_for};
-ghost use Rattle.bforest.specs.Forest.{Becomes, Forest, IsLive, IsTooMany, NeedsGrowth, Takes, first_level, free_of, list_of, need_of, sizes_of, sizes_with};
+ghost use Rattle.bforest_nodes.specs.Entries.{IsIncreasing, cut, put, value_for};
+ghost use Rattle.bforest.specs.Forest.{Becomes, Forest, Gives, IsLive, IsTooMany, NeedsGrowth, Takes, first_level, free_of, list_of, need_of, sizes_of, sizes_with, sizes_without};
 ghost use Rattle.bforest.specs.Memory.{IsReadable};
+ghost use Rattle.bforest.specs.Retain.{Answers, MayAsk, MayAskEach, Retains};
 ghost use Rattle.std.specs.Option.{option_map_or};
 ghost use Rattle.std.specs.declared.cmp.Ordering.{Ordering};
 ghost use Rattle.std.specs.Ordering.{is_lt};
@@ -9,6 +10,7 @@ ghost use Rattle.std.specs.Prelude.{IfOk, IsOk, IsSome, IsTrue, None, OnErr, OnO
 
 use crate::forest::MapForest;
 use crate::map_iter::MapIter;
+use crate::predicate::Asked;
 use bforest_core::{Comparator, Node, OutOfMemory};
 use std::cmp::Ordering;
 use std::default::Default;
@@ -185,6 +187,78 @@ impl<K: Copy, V: Copy> Map<K, V> {
                 self.root = Some(root);
                 Ok(None)
             }
+        }
+    }
+
+    /// Takes the entry whose key compares equal to `key` out, and answers its value, or `None` where there is none and nothing changes.
+    /// One search, as in [`Map::get`], and then it takes no memory and reads at most two nodes of each level: a leaf that falls under
+    /// half full is filled from its right neighbour or joined with it, and so on upwards (docs/RULES.md, removal). Nodes that are left
+    /// over lie free.
+    pub fn remove<C: Comparator<K>>(
+        &mut self,
+        key: K,
+        forest: &mut MapForest<K, V>,
+        comp: &C,
+    ) -> Option<V>
+        requires live { IsLive forest.old self.old }
+        requires increasing { IsIncreasing (C.order comp.now) (list_of forest.old self.old) }
+        ensures value { result ≡ value_for (C.order comp.now) (list_of forest.old self.old) key }
+        ensures cut { Becomes forest.old self.old forest.new self.new
+            (cut (C.order comp.now) (list_of forest.old self.old) key) }
+        ensures sizes { sizes_of forest.new self.new
+            ≡ sizes_without (C.order comp.now) forest.old self.old key }
+        ensures same_levels { (self.new ≡ self.old)
+            ↔ (length (sizes_of forest.new self.new) ≡ length (sizes_of forest.old self.old)) }
+        ensures account { Gives (sizes_of forest.old self.old) (sizes_of forest.new self.new)
+            forest.old forest.new }
+        ensures increasing { IsIncreasing (C.order comp.now) (list_of forest.new self.new) }
+        ensures absent_forest { result ≡ None → forest.new ≡ forest.old }
+        ensures absent_handle { result ≡ None → self.new ≡ self.old }
+    {
+        match self.root {
+            Some(root) => {
+                let (root, value) = forest.cut(root, key, comp);
+                self.root = root;
+                value
+            }
+            None => None,
+        }
+    }
+
+    /// Ends the map's tree: the handle is empty then, and all nodes of the tree lie free. It reads each node of the tree, compares no
+    /// keys and takes no memory. Other handles of the same number are no longer live.
+    pub fn clear(&mut self, forest: &mut MapForest<K, V>)
+        requires live { IsLive forest.old self.old }
+        ensures handle { self.new ≡ None }
+        ensures cleared { Becomes forest.old self.old forest.new self.new [] }
+        ensures account { Gives (sizes_of forest.old self.old) [] forest.old forest.new }
+    {
+        if let Some(root) = self.root {
+            forest.end(root);
+            self.root = None;
+        }
+    }
+
+    /// Asks once for each entry, in order, and keeps those answered `true`, with the value as the predicate left it. It compares no keys
+    /// and takes no memory. Each entry answered `false` is a removal, so nodes are joined and freed as in [`Map::remove`].
+    pub fn retain<F: FnMut(K, &mut V) -> bool>(&mut self, forest: &mut MapForest<K, V>, predicate: F)
+        requires live { IsLive forest.old self.old }
+        requires callable { MayAskEach (Answers F.FnMut) (MayAsk F.FnMut) predicate
+            (list_of forest.old self.old) }
+        ensures kept { Retains (Answers F.FnMut) 7 predicate 0
+            (list_of forest.old self.old) (sizes_of forest.old self.old)
+            (list_of forest.new self.new) (sizes_of forest.new self.new) }
+        ensures changed { Becomes forest.old self.old forest.new self.new (list_of forest.new self.new) }
+        ensures same_levels { (self.new ≡ self.old)
+            ↔ (length (sizes_of forest.new self.new) ≡ length (sizes_of forest.old self.old)) }
+        ensures account { Gives (sizes_of forest.old self.old) (sizes_of forest.new self.new)
+            forest.old forest.new }
+        ensures increasing { (order : K → K → Ordering)
+            → IsIncreasing order (list_of forest.old self.old)
+            → IsIncreasing order (list_of forest.new self.new) }
+    {
+        if let Some(root) = self.root {
+            self.root = forest.retain(root, Asked { predicate });
         }
     }
 

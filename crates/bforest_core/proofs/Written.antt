@@ -5,7 +5,7 @@ use Rattle.bforest_nodes.specs.Content.{Leaf, vals_of, with_value as content_wit
 use Rattle.bforest_core.specs.Table.{Table, IsUsed, IsEntryAt, value_at, with_node, with_value_at}
 use Rattle.bforest_nodes.specs.Entries.{with_value, value_at_place}
 use Rattle.bforest_core.specs.Levels.{LevelNode, node, flat, head_of, heads, sizes, sizes_of, numbers, FitRow, Stacked, Topped, Tree, half_of}
-use Rattle.bforest_core.specs.Place.{RowIn, leaf_content, entry_keys, entry_items, count, numbers_of, root_of, root_above}
+use Rattle.bforest_core.specs.Place.{RowIn, leaf_content, entry_keys, entry_items, count, numbers_of, root_of, root_above, Stands}
 use Rattle.bforest_core.specs.Trees.{tree_of, is_root, IsUnion, OthersKeep}
 use Rattle.bforest_core.specs.Change.{Changes, StandsUnder}
 use Rattle.bforest_core.proofs.LevelRows.{flat-append, heads-append, sizes-append, numbers-append, FitRow-split, FitRow-join}
@@ -110,8 +110,8 @@ module _ {K V : Type 0} where
         ∙ items-read at.entries (get_or indices 0 0)
         ∙ ap (λ z. option_map (λ (e : K × V). e.1) z) (x.1 ∙ sym (ap (λ z. slice_get (flat (tree_of table.nodes root).leaves) z) at.place_is ∙ entry_at (tree_of table.nodes root).leaves at.before (get_or path 0 0) at.entries at.after (get_or indices 0 0) x.0 at.row_is x.1))
 
-    -- another value there: the tree has it at the place
-    pub value-written : (v : V) → Changes most table (with_value_at table (get_or path 0 0) (get_or indices 0 0) v) root root (with_value (flat (tree_of table.nodes root).leaves) place v) (sizes_of (tree_of table.nodes root))
+    -- another value there: the tree has it at the place, and the path stands where it stood
+    pub value-written : (v : V) → Changes most table (with_value_at table (get_or path 0 0) (get_or indices 0 0) v) root root (with_value (flat (tree_of table.nodes root).leaves) place v) (sizes_of (tree_of table.nodes root)) × StandsUnder (with_value_at table (get_or path 0 0) (get_or indices 0 0) v).nodes root path indices size place
     value-written v =
         let r = rooted most table root union s.root_is in
         let at = s.stands.leaf in
@@ -152,13 +152,23 @@ module _ {K V : Type 0} where
         (λ m zero_is. w.same m (λ (is : m ≡ n). (let d = ap (λ z. count z (numbers_of tree)) is in omega (arith, zero_is, d, c, parts n, count-same n (numbers at.after))))) in
         let e1 : IsTrue (is_root new.nodes root) × (tree_of new.nodes root ≡ tree') × OthersKeep table.nodes new.nodes root root =
         subst (λ (z : ℕ). IsTrue (is_root new.nodes z) × (tree_of new.nodes z ≡ tree') × OthersKeep table.nodes new.nodes root z) same_root (e0.root_is, e0.tree_is, e0.others) in
-        record {
-          union = e0.union;
-          root_is = e1.0;
-          list_is = ap (λ (z : Tree K V). flat z.leaves) e1.1 ∙ fl;
-          sizes_are = ap (λ (z : Tree K V). sizes_of z) e1.1 ∙ ap (λ z. z ∷ map sizes tree.above) (sizes-written at.before n at.entries at.after i v ∙ ap sizes (sym at.row_is));
-          others = e1.2;
-          old_gone = λ ne. absurd (ne refl);
-          new_came = λ ne. absurd (ne refl);
-          limit_is = w.limit_is;
-        }
+        (
+          record {
+            union = e0.union;
+            root_is = e1.0;
+            list_is = ap (λ (z : Tree K V). flat z.leaves) e1.1 ∙ fl;
+            sizes_are = ap (λ (z : Tree K V). sizes_of z) e1.1 ∙ ap (λ z. z ∷ map sizes tree.above) (sizes-written at.before n at.entries at.after i v ∙ ap sizes (sym at.row_is));
+            others = e1.2;
+            old_gone = λ ne. absurd (ne refl);
+            new_came = λ ne. absurd (ne refl);
+            limit_is = w.limit_is;
+          },
+          record {
+            root_is = e1.0;
+            stands = subst (λ (z : Tree K V). Stands path indices size z place) (sym e1.1) (record {
+              leaf = record { before = at.before; entries = with_value at.entries i v; after = at.after; row_is = refl; within = omega (arith, at.within, length-written at.entries i v); place_is = at.place_is };
+              above = s.stands.above;
+              size_is = s.stands.size_is;
+            });
+          },
+        )

@@ -9,6 +9,10 @@ use Rattle.bforest_core.specs.Place.{RowIn, RowsIn, IsIn, leaf_content, inner_co
 use Rattle.bforest_core.specs.Climb.{Above, SameBelow, top_of}
 use Rattle.bforest_core.specs.Trees.{slot, Every}
 
+-- the numbers of some leaves, and of the inner nodes over them
+abbrev pub numbers_under : {K V : Type 0} → List (LevelNode K V) → List (List (LevelNode K ℕ)) → List ℕ
+numbers_under leaves lower = numbers leaves ++ flat_map numbers lower
+
 module _ {K V : Type 0} where
   -- but for the slots of these numbers nothing has changed; the freed ones lie free, in front of the chain
   pub record Frees (old new : Table K V) (own freed : List ℕ) : Type 0 where
@@ -17,6 +21,12 @@ module _ {K V : Type 0} where
     pub chain_is : new.chain ≡ freed ++ old.chain
     pub slots_are : length new.nodes ≡ length old.nodes
     pub limit_is : new.limit ≡ old.limit
+
+  -- all these nodes lie free now, in front of the chain, and nothing else has changed
+  pub record GivesAll (old new : Table K V) (own : List ℕ) : Type 0 where
+    pub given : List ℕ
+    pub frees : Frees old new own given
+    pub counted : (number : ℕ) → count number given ≡ count number own
 
   -- the rows from a level on after a change of the level, whose nodes are the list now and whose path goes to the
   -- place: the rows have these sizes, and of their numbers those freed have gone

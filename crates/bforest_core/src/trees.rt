@@ -1,10 +1,13 @@
 //! What a pool tells of the trees in it.
-ghost use Rattle.std.specs.Prelude.{◌≡◌, ℕ, ◌+◌, ◌-◌, ◌*◌, ◌/◌, ◌^◌, ◌<◌, ◌≤◌, ◌↔◌, IsTrue, List, ◌∷◌, length};
+ghost use Rattle.std.specs.Prelude.{◌≡◌, ℕ, ◌+◌, ◌-◌, ◌*◌, ◌/◌, ◌^◌, ◌<◌, ◌≤◌, ◌↔◌, IsTrue, List, [], ◌∷◌, ◌++◌, length, slice_get, Some};
 ghost use Rattle.std.specs.List.{flat_map};
-ghost use Rattle.bforest_nodes.specs.Content.{IsLeafCapacity, children_of};
+ghost use Rattle.bforest_nodes.specs.Content.{Content, IsLeafCapacity, children_of};
+ghost use Rattle.bforest_core.specs.Change.{Ends, GivesNodes};
 ghost use Rattle.bforest_core.specs.Levels.{LevelNode, flat, half_of, sizes_of};
 ghost use Rattle.bforest_core.specs.Descent.{Under};
-ghost use Rattle.bforest_core.specs.Place.{count};
+ghost use Rattle.bforest_core.specs.Place.{count, Distinct};
+ghost use Rattle.bforest_core.specs.Removal.{GivesAll, numbers_under};
+ghost use Rattle.bforest_core.specs.Table.{slot_count};
 ghost use Rattle.bforest_core.specs.Trees.{IsUnion, is_root, tree_of};
 
 use crate::pool::NodePool;
@@ -16,6 +19,40 @@ impl<K: Copy, V: Copy, const N: usize> NodePool<K, V, N> {
         ensures value { result ≡ is_root self.now.nodes node }
     {
         node.number() < self.slots() && !self.node(node).is_free() && !self.is_child(node)
+    }
+
+    /// Ends the tree under a root: all its nodes are freed, and lie in front of the chain. It reads each inner node twice for each of its
+    /// children, and takes no memory.
+    pub fn free_tree(&mut self, root: Node)
+        requires capacity { IsLeafCapacity N }
+        requires union { IsUnion N self.old }
+        requires root { IsTrue (is_root self.old.nodes root) }
+        ensures ended { Ends N self.old self.new root }
+        ensures account { GivesNodes (sizes_of (tree_of self.old.nodes root)) [] self.old self.new }
+    {
+        self.free_under(root, 0);
+    }
+
+    // Frees a node and all that are below it. So many levels lie above.
+    fn free_under(&mut self, node: Node, depth: usize)
+        requires capacity { IsLeafCapacity N }
+        requires under { (leaves : List (LevelNode K V)) × (lower : List (List (LevelNode K ℕ))) × (first : K) × Under N self.old.nodes leaves lower ((first, node) ∷ []) × Distinct (numbers_under leaves lower ++ self.old.chain) × (depth + length lower ≤ 16) }
+        ensures { (leaves : List (LevelNode K V)) (lower : List (List (LevelNode K ℕ))) (first : K) → Under N self.old.nodes leaves lower ((first, node) ∷ []) → Distinct (numbers_under leaves lower ++ self.old.chain) → GivesAll self.old self.new (numbers_under leaves lower) }
+    {
+        for index in 0..self.child_count(node) {
+            let child = self.node(node).child(index);
+            self.free_under(child, depth + 1);
+        }
+        self.free_node(node);
+    }
+
+    // How many children a node has: none where it is a leaf.
+    fn child_count(&self, node: Node) -> usize
+        requires { node < slot_count self.now }
+        ensures { (content : Content K V) → slice_get self.now.nodes node ≡ Some content → result ≡ length (children_of content) }
+    {
+        let node = self.node(node);
+        if node.is_inner() { node.entries() } else { 0 }
     }
 
     // Whether an inner node names this node.

@@ -1,7 +1,7 @@
 -- What a search among the keys of entries finds.
-use Rattle.bforest_nodes.specs.Entries.{entry_for, is_present, place, put, search_for, value_at_place, value_for, with_value}
+use Rattle.bforest_nodes.specs.Entries.{cut, entry_for, is_present, place, put, search_for, value_at_place, value_for, with_value}
 use Rattle.bforest_nodes.specs.Search.{count_less, is_equal_at, search_of}
-use Rattle.std.proofs.Common.{Bool, Err, List, None, Ok, Option, Some, [], ap, arith, cond, false, if◌then◌else◌, insert, length, refl, slice_get, suc, sym, true, zero, ◌+◌, ◌<◌, ◌∙◌, ◌∷◌, ◌≡◌, ℕ}
+use Rattle.std.proofs.Common.{Bool, Err, List, None, Ok, Option, Some, [], ap, arith, cond, false, if◌then◌else◌, insert, length, refl, remove, slice_get, suc, sym, true, zero, ◌+◌, ◌<◌, ◌∙◌, ◌∷◌, ◌≡◌, ℕ}
 use Rattle.std.proofs.lemmas.List.Sums.{sum_by-cons}
 use Rattle.std.specs.Map.{keys_of}
 use Rattle.std.specs.Option.{is_some, option_and_then, option_map}
@@ -79,6 +79,14 @@ module _ {K X : Type 0} (cmp : K → K → Ordering) where
     pub put-present : (v : X) → is_present cmp es k ≡ true → put cmp es k v ≡ with_value es (place cmp es k) v
     put-present v h = λ j. if h j then with_value es (place cmp es k) v else insert es (place cmp es k) (k, v)
 
-    -- and at an absent one
+    -- what a removal does at one
+    pub cut-present : is_present cmp es k ≡ true → cut cmp es k ≡ remove es (place cmp es k)
+    cut-present h = λ j. if h j then remove es (place cmp es k) else es
+
+    -- and at an absent one, where nothing goes
+    pub cut-absent : is_present cmp es k ≡ false → cut cmp es k ≡ es
+    cut-absent h = λ j. if h j then remove es (place cmp es k) else es
+
+    -- what an insertion does at an absent one
     pub put-absent : (v : X) → is_present cmp es k ≡ false → put cmp es k v ≡ insert es (place cmp es k) (k, v)
     put-absent v h = λ j. if h j then with_value es (place cmp es k) v else insert es (place cmp es k) (k, v)

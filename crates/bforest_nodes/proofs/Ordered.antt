@@ -1,7 +1,7 @@
 -- Lists of entries that increase stay so.
-use Rattle.bforest_nodes.proofs.Found.{put-absent, put-present, value_for-absent}
-use Rattle.bforest_nodes.specs.Entries.{IsIncreasing, is_present, place, put, value_for, with_value}
-use Rattle.std.proofs.Common.{Bool, List, None, Some, [], ap, arith, cond, false, if◌then◌else◌, insert, refl, slice_get, subst, suc, sym, true, zero, ◌+◌, ◌∙◌, ◌∷◌, ◌≡◌, ℕ}
+use Rattle.bforest_nodes.proofs.Found.{cut-absent, cut-present, put-absent, put-present, value_for-absent}
+use Rattle.bforest_nodes.specs.Entries.{IsIncreasing, cut, is_present, place, put, value_for, with_value}
+use Rattle.std.proofs.Common.{Bool, List, None, Some, [], ap, arith, cond, false, if◌then◌else◌, insert, refl, remove, slice_get, subst, suc, sym, true, zero, ◌+◌, ◌∙◌, ◌∷◌, ◌≡◌, ℕ}
 use Rattle.std.proofs.lemmas.List.Sums.{sum_by-cons}
 use Rattle.std.specs.Cmp.{IsTotalOrder}
 use Rattle.std.specs.List.Sorted.{IsStrictlySortedBy}
@@ -95,3 +95,27 @@ module _ {K X : Type 0} (cmp : K → K → Ordering) (o : IsTotalOrder cmp) wher
       go : (b : Bool) → is_present cmp es k ≡ b → IsIncreasing cmp (put cmp es k v)
       go true t = subst (IsIncreasing cmp) (sym (put-present cmp es k v t)) (IsIncreasing-with_value cmp es (place cmp es k) v h)
       go false t = subst (IsIncreasing cmp) (sym (put-absent cmp es k v t)) (IsIncreasing-insert es k v h (value_for-absent cmp es k t))
+
+module _ {K X : Type 0} (cmp : K → K → Ordering) where
+  -- what holds of all keys holds of those that stay
+  all-remove : (P : K → Type 0) (es : List (K × X)) (p : ℕ) → AllByRecursion P (keys_of es) → AllByRecursion P (keys_of (remove es p))
+  all-remove P [] zero h = tt
+  all-remove P [] (suc p) h = tt
+  all-remove P (e ∷ es) zero h = h.1
+  all-remove P (e ∷ es) (suc p) h = (h.0, all-remove P es p h.1)
+
+  -- without an entry a list still increases
+  pub IsIncreasing-remove : (es : List (K × X)) (p : ℕ) → IsIncreasing cmp es → IsIncreasing cmp (remove es p)
+  unfolding IsStrictlySortedBy
+  IsIncreasing-remove [] zero h = tt
+  IsIncreasing-remove [] (suc p) h = tt
+  IsIncreasing-remove (e ∷ es) zero h = h.1
+  IsIncreasing-remove (e ∷ es) (suc p) h = (all-remove (λ y. cmp e.0 y ≡ Less) es p h.0, IsIncreasing-remove es p h.1)
+
+  -- so it does without a key's
+  pub IsIncreasing-cut : (es : List (K × X)) (k : K) → IsIncreasing cmp es → IsIncreasing cmp (cut cmp es k)
+  IsIncreasing-cut es k h = go (is_present cmp es k) refl
+    where
+      go : (b : Bool) → is_present cmp es k ≡ b → IsIncreasing cmp (cut cmp es k)
+      go true t = subst (IsIncreasing cmp) (sym (cut-present cmp es k t)) (IsIncreasing-remove es (place cmp es k) h)
+      go false t = subst (IsIncreasing cmp) (sym (cut-absent cmp es k t)) h

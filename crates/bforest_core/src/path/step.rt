@@ -96,6 +96,19 @@ impl<K: Copy, V: Copy, const N: usize> Path<K, V, N> {
         index < pool.node(self.node[0]).entries()
     }
 
+    /// The entry here, or `None` at the end.
+    pub fn entry(&self, pool: &NodePool<K, V, N>) -> Option<(K, V)>
+        requires capacity { IsLeafCapacity N }
+        requires stands { self.now.size ≢ 0 → (tree : Tree K V) × (place : ℕ) × IsFit N tree × IsIn pool.now.nodes tree × Stands self.now.node self.now.entry self.now.size tree place }
+        ensures value { (tree : Tree K V) (place : ℕ) → IsFit N tree → IsIn pool.now.nodes tree → IsPathAt self.now.node self.now.entry self.now.size tree place → result ≡ slice_get (flat tree.leaves) place }
+    {
+        if self.size == 0 {
+            None
+        } else {
+            Some(self.entry_here(pool))
+        }
+    }
+
     // The path's entry.
     fn entry_here(&self, pool: &NodePool<K, V, N>) -> (K, V)
         requires { (entries : List (K × V)) × (slice_get pool.now.nodes (get_or self.now.node 0 0) ≡ Some (leaf_content entries)) × (get_or self.now.entry 0 0 < length entries) }

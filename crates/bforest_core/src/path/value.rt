@@ -16,6 +16,7 @@ impl<K: Copy, V: Copy, const N: usize> Path<K, V, N> {
         requires union { IsUnion N pool.old }
         requires stands { (root : ℕ) × (place : ℕ) × StandsUnder pool.old.nodes root self.now.node self.now.entry self.now.size place }
         ensures written { (root place : ℕ) → StandsUnder pool.old.nodes root self.now.node self.now.entry self.now.size place → Changes N pool.old pool.new root root (with_value (flat (tree_of pool.old.nodes root).leaves) place value) (sizes_of (tree_of pool.old.nodes root)) }
+        ensures stands { (root place : ℕ) → StandsUnder pool.old.nodes root self.now.node self.now.entry self.now.size place → StandsUnder pool.new.nodes root self.now.node self.now.entry self.now.size place }
         ensures slots { slot_count pool.new ≡ slot_count pool.old }
         ensures chain { pool.new.chain ≡ pool.old.chain }
     {
@@ -33,6 +34,7 @@ impl<K: Copy, V: Copy, const N: usize> NodePool<K, V, N> {
         ensures* writes_back { sem 𝓛 (lends_value_at K.row V.row N.row self.entry (get_or path.now.node 0 0) (get_or path.now.entry 0 0) result) }
         ensures value { (root place : ℕ) → StandsUnder self.old.nodes root path.now.node path.now.entry path.now.size place → Some result.now ≡ value_at_place (flat (tree_of self.old.nodes root).leaves) place }
         ensures written { (root place : ℕ) → StandsUnder self.old.nodes root path.now.node path.now.entry path.now.size place → (value : V) → Changes N self.old (with_value_at self.old (get_or path.now.node 0 0) (get_or path.now.entry 0 0) value) root root (with_value (flat (tree_of self.old.nodes root).leaves) place value) (sizes_of (tree_of self.old.nodes root)) }
+        ensures stands { (root place : ℕ) → StandsUnder self.old.nodes root path.now.node path.now.entry path.now.size place → (value : V) → StandsUnder (with_value_at self.old (get_or path.now.node 0 0) (get_or path.now.entry 0 0) value).nodes root path.now.node path.now.entry path.now.size place }
     {
         self.value_mut(path.node[0], path.entry[0])
     }

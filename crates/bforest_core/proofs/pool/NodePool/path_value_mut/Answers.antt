@@ -23,6 +23,7 @@ returns g c =
       record {
         writes_back = tt;
         value = λ root place s. c.value_mut.ensures.value ∙ ap (λ z. value_at table.nodes z (get_or js 0 0)) here ∙ value-under g.row.N table root place ms js size c.requires.union s;
-        written = λ root place s value. value-written g.row.N table root place ms js size c.requires.union s value;
+        written = λ root place s value. (value-written g.row.N table root place ms js size c.requires.union s value).0;
+        stands = λ root place s value. (value-written g.row.N table root place ms js size c.requires.union s value).1;
       },
     )

@@ -1,0 +1,36 @@
+use Rattle.std.proofs.Common.{rules, ◌≡◌, ◌+◌, [], arith}
+use Rattle.bforest_core.specs.Change.{node_count}
+use Rattle.bforest_core.specs.Place.{numbers_of}
+use Rattle.bforest_core.specs.Trees.{tree_of}
+use Rattle.bforest_core.proofs.Account.{length-same, nodes-count}
+use Rattle.bforest_core.proofs.Roots.{uprooted-union}
+use Rattle.bforest_core.proofs.Unions.{is-rooted, rooted}
+use Rattle.bforest_core.proofs.Whole.{whole_top, whole_under}
+use Rattle.bforest_core.proofs.pool.NodePool.free_tree.Goals as goal
+
+pub free_under-requires : goal.free_under-requires
+free_under-requires g c =
+    let slots = c.args.self.now.nodes in
+    let tree = tree_of slots c.args.root in
+    let w = is-rooted g.row.N c.args.self.now c.args.root c.requires.union c.requires.root in
+    let r = rooted g.row.N c.args.self.now c.args.root c.requires.union c.requires.root in
+    (search rules, (c.requires.capacity, (tree.leaves, tree.above, (whole_top g.row.N slots c.args.root tree w).first, whole_under g.row.N slots c.args.root tree w, r.apart, omega (arith, w.low))))
+
+pub returns-clause-ended : goal.returns-clause-ended
+returns-clause-ended g c =
+    let slots = c.args.self.now.nodes in
+    let tree = tree_of slots c.args.root in
+    let w = is-rooted g.row.N c.args.self.now c.args.root c.requires.union c.requires.root in
+    let r = rooted g.row.N c.args.self.now c.args.root c.requires.union c.requires.root in
+    let all = c.free_under.ensures tree.leaves tree.above (whole_top g.row.N slots c.args.root tree w).first (whole_under g.row.N slots c.args.root tree w) r.apart in
+    let gone = uprooted-union g.row.N c.args.self.now c.free_under.new.self c.args.root all.given c.requires.union c.requires.root all.frees.chain_is all.frees.freed_are all.frees.slots_are all.counted all.frees.others in
+    record { union = gone.0; root_gone = gone.1; others = gone.2; limit_is = all.frees.limit_is }
+
+pub returns-clause-account : goal.returns-clause-account
+returns-clause-account g c =
+    let slots = c.args.self.now.nodes in
+    let tree = tree_of slots c.args.root in
+    let w = is-rooted g.row.N c.args.self.now c.args.root c.requires.union c.requires.root in
+    let r = rooted g.row.N c.args.self.now c.args.root c.requires.union c.requires.root in
+    let all = c.free_under.ensures tree.leaves tree.above (whole_top g.row.N slots c.args.root tree w).first (whole_under g.row.N slots c.args.root tree w) r.apart in
+    record { given = all.given; chain_is = all.frees.chain_is; slots = all.frees.slots_are; count_is = omega (arith, length-same all.given (numbers_of tree) all.counted, nodes-count tree) }
