@@ -190,27 +190,29 @@ module _ {K V : Type 0} where
       let c3 = λ (m : ℕ). count-append m (numbers row ++ flat_map numbers tree.above) t.chain in
       let c4 = λ (m : ℕ). count-append m (numbers row) (flat_map numbers tree.above) in
       let c5 = λ (m : ℕ). count-append m (numbers front) (flat_map numbers r.rows') in
-      let c10 = λ (m : ℕ). count-append m freed (n ∷ []) in
-      (r.rows', record {
-        flat_is = sym (ap (λ z. remove (flat z) place) d.leaves_are ∙ ap (λ z. remove (flat row) z) (d.place_is ∙ z0) ∙ remove_flat front n [] d.x [] [] ∙ flat-append front (node n [] ∷ []) ∙ append-nil (flat front));
-        sizes_are = ap (λ z. sizes front ∷ z) r.sizes_are ∙ ap (λ z. sizes front ∷ loss_above (Some z) (map sizes tree.above)) len ∙ ap (λ z. z ∷ loss_above (Some (length front)) (map sizes tree.above)) (sym (append-nil (sizes front))) ∙ sym (ap (λ z. z.1 ∷ loss_above z.0 (map sizes tree.above)) l1);
-        half = d.half;
-        leaves_fit = fit_solid (half_of most) most d.half front d.solid;
-        leaves_in = row-same leaf_content v.nodes u.nodes front (λ m some. r.frees.others m (omega (arith, some, d.apart m, c1 m, c3 m, c4 m))) in_v;
-        some = omega (arith, heads-flat front, full, len);
-        stacked = subst (λ (z : List (K × ℕ)). Stacked z r.rows') (sym hs) r.stacked;
-        rows_in = r.inside;
-        height = r.height;
-        numbers_are = λ m. omega (arith, c0 m, c1 m, c2 m, c5 m, c10 m, r.numbers_are m);
-        root_is = ap (λ z. root_above z r.rows') hs ∙ r.root_is ∙ sym (root-stands most tree path indices size place s.fit s.stands);
-        frees = record {
-          others = λ m none. r.frees.others m (omega (arith, none, c2 m)) ∙ other m (absent_ne m n [] (omega (arith, none, c0 m, c1 m, c2 m)));
-          freed_are = freed-then v u (flat_map numbers tree.above) (n ∷ []) freed r.frees (λ m some. omega (arith, some, d.apart m, c1 m, c3 m, c4 m)) (freed-is t v n (leaf_content (d.x ∷ [])) d.slot_is c.freed_is, tt);
-          chain_is = r.frees.chain_is ∙ ap (λ z. freed ++ z.chain) c.freed_is ∙ sym (append_assoc freed (n ∷ []) t.chain);
-          slots_are = r.frees.slots_are ∙ ap (λ z. length z.nodes) c.freed_is ∙ length-set t.nodes n (Free (front_of t.chain));
-          limit_is = r.frees.limit_is ∙ ap (λ z. z.limit) c.freed_is;
-        };
-      })
+      let c10 = λ (m : ℕ). count-append m freed (n ∷ []) in (
+        r.rows',
+        record {
+          flat_is = sym (ap (λ z. remove (flat z) place) d.leaves_are ∙ ap (λ z. remove (flat row) z) (d.place_is ∙ z0) ∙ remove_flat front n [] d.x [] [] ∙ flat-append front (node n [] ∷ []) ∙ append-nil (flat front));
+          sizes_are = ap (λ z. sizes front ∷ z) r.sizes_are ∙ ap (λ z. sizes front ∷ loss_above (Some z) (map sizes tree.above)) len ∙ ap (λ z. z ∷ loss_above (Some (length front)) (map sizes tree.above)) (sym (append-nil (sizes front))) ∙ sym (ap (λ z. z.1 ∷ loss_above z.0 (map sizes tree.above)) l1);
+          half = d.half;
+          leaves_fit = fit_solid (half_of most) most d.half front d.solid;
+          leaves_in = row-same leaf_content v.nodes u.nodes front (λ m some. r.frees.others m (omega (arith, some, d.apart m, c1 m, c3 m, c4 m))) in_v;
+          some = omega (arith, heads-flat front, full, len);
+          stacked = subst (λ (z : List (K × ℕ)). Stacked z r.rows') (sym hs) r.stacked;
+          rows_in = r.inside;
+          height = r.height;
+          numbers_are = λ m. omega (arith, c0 m, c1 m, c2 m, c5 m, c10 m, r.numbers_are m);
+          root_is = ap (λ z. root_above z r.rows') hs ∙ r.root_is ∙ sym (root-stands most tree path indices size place s.fit s.stands);
+          frees = record {
+            others = λ m none. r.frees.others m (omega (arith, none, c2 m)) ∙ other m (absent_ne m n [] (omega (arith, none, c0 m, c1 m, c2 m)));
+            freed_are = freed-then v u (flat_map numbers tree.above) (n ∷ []) freed r.frees (λ m some. omega (arith, some, d.apart m, c1 m, c3 m, c4 m)) (freed-is t v n (leaf_content (d.x ∷ [])) d.slot_is c.freed_is, tt);
+            chain_is = r.frees.chain_is ∙ ap (λ z. freed ++ z.chain) c.freed_is ∙ sym (append_assoc freed (n ∷ []) t.chain);
+            slots_are = r.frees.slots_are ∙ ap (λ z. length z.nodes) c.freed_is ∙ length-set t.nodes n (Free (front_of t.chain));
+            limit_is = r.frees.limit_is ∙ ap (λ z. z.limit) c.freed_is;
+          };
+        },
+      )
 
   -- and roots with a single child went: the path is at the end
   pub drop_removed : (most : ℕ) (t v u u2 : Table K V) (path indices path' indices' : List ℕ) (size size2 : ℕ) (tree : Tree K V) (place root root' : ℕ) → StandsIn most t path indices size tree place → root_of tree ≡ root → (c : LeafDrop most t v path indices size tree place) →

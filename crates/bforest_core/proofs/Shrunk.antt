@@ -224,7 +224,7 @@ module _ {K V : Type 0} where
       record {
         flat_is = flats ∙ l.flat_is;
         sizes_are = ap (λ z. z ∷ map sizes r.rows') (sizes-append l.before (node j.right both ∷ j.after')) ∙ ap (λ z. (sizes l.before ++ length both ∷ sizes j.after') ∷ z) (r.sizes_are ∙ ap (λ z. loss_above (Some z) (map sizes l.rest)) full ∙ ap (λ z. loss_above (Some (length l.before)) z) l.rest_sizes)
-        ∙ sym (ap (λ z. z.1 ∷ loss_above z.0 (map sizes tree.above)) l2);
+            ∙ sym (ap (λ z. z.1 ∷ loss_above z.0 (map sizes tree.above)) l2);
         half = half;
         leaves_fit = j.fit;
         leaves_in = row-same leaf_content mid2.nodes new.nodes row2 (λ m more. r.frees.others m (omega (arith, more, l.apart m, c0 m, c1 m, c2 m, c4 m, c6 m))) j.inside;

@@ -8,7 +8,7 @@ pub is_past_end-requires : goal.is_past_end-requires
 is_past_end-requires g c =
     let s = c.requires.stands in
     let l = c.take_entry.ensures s.0 s.1 s.2 in
-    (search rules, (search rules, (c.requires.capacity, (omega (arith, s.2.low, s.2.stands.size_is), (c.args.pool.now, s.0, s.1, l)))))
+    (search rules, (search rules, (omega (arith, s.2.low, s.2.stands.size_is), (c.args.pool.now, s.0, s.1, l))))
 
 pub returns-then-is_past_end : goal.returns-then-is_past_end
 returns-then-is_past_end g c = λ tree place s.
