@@ -1,20 +1,20 @@
 -- The only entry of a leaf goes, and the leaf with it: it is the right-most.
-use Rattle.std.proofs.Common.{◌≡◌, ◌≢◌, ℕ, zero, suc, ◌+◌, ◌≤◌, ◌<◌, true, false, Some, None, List, [], ◌∷◌, ◌++◌, map, length, get_or, slice_get, refl, sym, ap, ◌∙◌, subst, append_assoc, append-nil, length-append, length-set, arith}
+use Rattle.std.proofs.Common.{◌≡◌, ◌≢◌, ℕ, suc, ◌+◌, ◌≤◌, Some, List, [], ◌∷◌, ◌++◌, map, length, get_or, slice_get, refl, sym, ap, ◌∙◌, subst, append_assoc, append-nil, length-append, length-set, arith}
 use Rattle.std.specs.List.{flat_map, remove}
-use Rattle.bforest_nodes.specs.Content.{Content, Free, IsLeafCapacity}
+use Rattle.bforest_nodes.specs.Content.{Free, IsLeafCapacity}
 use Rattle.bforest_core.specs.Table.{Table, with_freed, front_of}
-use Rattle.bforest_core.specs.Levels.{LevelNode, node, flat, head_of, heads, sizes, numbers, FitRow, Solid, Stacked, Topped, Tree, IsFit, half_of, sizes_of}
+use Rattle.bforest_core.specs.Levels.{LevelNode, node, flat, heads, sizes, numbers, FitRow, Solid, Stacked, Topped, Tree, half_of, sizes_of}
 use Rattle.bforest_core.specs.Sizes.{loss, loss_above, shrink}
-use Rattle.bforest_core.specs.Place.{RowIn, RowsIn, leaf_content, count, Distinct, root_above, root_of, numbers_of, IsPathAt}
+use Rattle.bforest_core.specs.Place.{RowIn, leaf_content, count, Distinct, root_above, root_of, numbers_of}
 use Rattle.bforest_core.specs.Climb.{Above}
-use Rattle.bforest_core.specs.Removal.{Frees, Dropped, UpTo, Trimmed, StandsIn, Removed, Emptied}
-use Rattle.bforest_core.proofs.LevelRows.{flat-append, heads-append, sizes-append, Solid-full, least-pos}
-use Rattle.bforest_core.proofs.Tables.{count-append, count-same, count-row, row-split, row-same, rows-same, ne_from_count, absent_ne, slice_get-set_apart}
+use Rattle.bforest_core.specs.Removal.{Dropped, UpTo, Trimmed, StandsIn, Removed, Emptied}
+use Rattle.bforest_core.proofs.LevelRows.{flat-append, heads-append, sizes-append, Solid-full}
+use Rattle.bforest_core.proofs.Tables.{count-append, count-row, row-split, row-same, rows-same, ne_from_count, absent_ne, slice_get-set_apart}
 use Rattle.bforest_core.proofs.Tops.{root-stands}
-use Rattle.bforest_core.proofs.Losses.{loss_at, placed}
+use Rattle.bforest_core.proofs.Losses.{loss_at}
 use Rattle.bforest_core.proofs.Frees.{freed-then, freed-is}
 use Rattle.bforest_core.proofs.Trim.{heads-flat, frees-one}
-use Rattle.bforest_core.proofs.LeafLoss.{remove_flat, leaf_count, LeafAt, leaf_at}
+use Rattle.bforest_core.proofs.LeafLoss.{remove_flat, leaf_count, leaf_at}
 use Rattle.bforest_core.proofs.Shrunk.{Untrimmed, up_to, trimmed_removed}
 
 -- solid nodes fit as a row

@@ -1,18 +1,17 @@
 -- The entry where a path stands, taken out of its leaf, which has others.
-use Rattle.std.proofs.Common.{◌≡◌, ◌≢◌, ℕ, zero, suc, ◌+◌, ◌≤◌, ◌<◌, Some, None, Option, List, [], ◌∷◌, ◌++◌, map, length, get_or, slice_get, refl, sym, ap, ◌∙◌, subst, append_assoc, length-append, arith}
+use Rattle.std.proofs.Common.{◌≡◌, ◌≢◌, ℕ, suc, ◌+◌, ◌≤◌, ◌<◌, Some, Option, List, [], ◌∷◌, ◌++◌, map, length, get_or, slice_get, refl, sym, ap, ◌∙◌, subst, append_assoc, length-append, arith}
 use Rattle.std.specs.List.{flat_map, remove}
 use Rattle.std.proofs.lemmas.List.{length-map}
 use Rattle.bforest_nodes.specs.Content.{Content, Leaf, without_entry}
 use Rattle.bforest_core.specs.Table.{Table, with_node}
-use Rattle.bforest_core.specs.Levels.{LevelNode, node, flat, head_of, heads, sizes, numbers, least, FitRow, Solid, Stacked, Tree, IsFit, half_of}
+use Rattle.bforest_core.specs.Levels.{LevelNode, node, flat, head_of, heads, sizes, numbers, FitRow, Solid, Stacked, Tree, half_of}
 use Rattle.bforest_core.specs.Place.{RowIn, leaf_content, entry_keys, count, Distinct, numbers_of}
-use Rattle.bforest_core.specs.Climb.{Above, NextIs}
-use Rattle.bforest_core.specs.Removal.{Frees, Rebuilt, StandsIn, LeafLoss}
-use Rattle.bforest_core.proofs.LevelRows.{flat-append, heads-append, sizes-append, FitRow-split, Solid-full, least-le, least-pos, HeadIs, head-is}
-use Rattle.bforest_core.proofs.Tables.{count-append, count-same, count-row, row-split, row-put, row-same, rows-same, ne_from_count, absent_ne, Puts, puts}
-use Rattle.bforest_core.proofs.Zipper.{Cut, cut, apart_here}
+use Rattle.bforest_core.specs.Climb.{Above}
+use Rattle.bforest_core.specs.Removal.{Rebuilt, StandsIn, LeafLoss}
+use Rattle.bforest_core.proofs.LevelRows.{flat-append, heads-append, sizes-append, FitRow-split, Solid-full, least-pos}
+use Rattle.bforest_core.proofs.Tables.{count-append, count-same, count-row, row-split, row-put, row-same, rows-same, ne_from_count, Puts, puts}
+use Rattle.bforest_core.proofs.Zipper.{cut, apart_here}
 use Rattle.bforest_core.proofs.Frees.{frees-refl}
-use Rattle.bforest_core.proofs.Trim.{heads-flat}
 
 remove_between : {A : Type 0} (p s : List A) (x : A) → remove (p ++ x ∷ s) (length p) ≡ p ++ s
 remove_between [] s x = refl

@@ -1,20 +1,20 @@
 -- What a removal from the tree under a root says of the table.
-use Rattle.std.proofs.Common.{◌≡◌, ◌≢◌, ℕ, zero, suc, ◌+◌, ◌≤◌, ◌<◌, ◌↔◌, IsTrue, Option, Some, None, IfSome, List, [], ◌∷◌, ◌++◌, map, length, get_or, slice_get, refl, sym, ap, ◌∙◌, subst, inl, inr, length-append, arith}
+use Rattle.std.proofs.Common.{◌≡◌, ◌≢◌, ℕ, zero, suc, ◌+◌, ◌≤◌, ◌<◌, ◌↔◌, Option, Some, None, IfSome, List, [], ◌∷◌, ◌++◌, length, get_or, refl, sym, ap, ◌∙◌, subst, inl, inr, length-append, arith}
 use Rattle.std.specs.List.{remove}
 use Rattle.std.proofs.lemmas.Bool.Decides.{eqb_tells}
 use Rattle.std.proofs.lemmas.List.{length-map}
 use Rattle.bforest_nodes.specs.Content.{Content}
 use Rattle.bforest_core.specs.Table.{Table}
-use Rattle.bforest_core.specs.Levels.{LevelNode, node, flat, sizes, Tree, sizes_of}
+use Rattle.bforest_core.specs.Levels.{node, flat, sizes, Tree, sizes_of}
 use Rattle.bforest_core.specs.Sizes.{shrink}
 use Rattle.bforest_core.specs.Place.{leaf_content, count, root_of, numbers_of, Stands, IsPathAt}
-use Rattle.bforest_core.specs.Trees.{tree_of, is_root, IsUnion}
+use Rattle.bforest_core.specs.Trees.{tree_of, IsUnion}
 use Rattle.bforest_core.specs.Change.{Changes, Ends, GivesNodes, StandsUnder, node_count}
 use Rattle.bforest_core.specs.Removal.{StandsIn, Removed, Emptied}
 use Rattle.bforest_core.proofs.LevelRows.{flat-append}
 use Rattle.bforest_core.proofs.Tables.{count-append}
 use Rattle.bforest_core.proofs.Forests.{root-among}
-use Rattle.bforest_core.proofs.Unions.{Rooted, IsPlanted, rooted}
+use Rattle.bforest_core.proofs.Unions.{IsPlanted, rooted}
 use Rattle.bforest_core.proofs.Roots.{exchanged-freed, uprooted-union}
 use Rattle.bforest_core.proofs.Account.{length-same, nodes-count}
 

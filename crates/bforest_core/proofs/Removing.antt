@@ -1,18 +1,17 @@
 -- An entry out of a tree, put together from the calls that take it out.
-use Rattle.std.proofs.Common.{◌≡◌, ◌≢◌, ℕ, zero, suc, ◌+◌, ◌≤◌, ◌<◌, true, false, Some, None, List, [], ◌∷◌, ◌++◌, map, length, get_or, slice_get, refl, sym, ap, ◌∙◌, subst, append_assoc, append-nil, length-append, arith}
-use Rattle.std.specs.List.{flat_map, remove}
+use Rattle.std.proofs.Common.{◌≡◌, ℕ, suc, ◌+◌, Some, List, [], ◌∷◌, ◌++◌, map, length, get_or, refl, sym, ap, ◌∙◌, subst, length-append, arith}
 use Rattle.bforest_core.specs.Table.{Table}
-use Rattle.bforest_core.specs.Levels.{LevelNode, node, flat, head_of, heads, sizes, numbers, FitRow, Stacked, Topped, Tree, IsFit, half_of, sizes_of}
+use Rattle.bforest_core.specs.Levels.{LevelNode, node, flat, heads, sizes, numbers, FitRow, Tree, half_of}
 use Rattle.bforest_core.specs.Sizes.{loss_above}
-use Rattle.bforest_core.specs.Place.{leaf_content, root_of, StandsAbove, Stands, IsPathAt}
-use Rattle.bforest_core.specs.Climb.{Above, top_of}
-use Rattle.bforest_core.specs.Removal.{Rebuilt, OnLevel, Healed, Joined, UpTo, Trimmed, StandsIn, LeafLoss, Removed}
-use Rattle.bforest_core.proofs.LevelRows.{flat-append, sizes-append, FitRow-join}
+use Rattle.bforest_core.specs.Place.{leaf_content, root_of}
+use Rattle.bforest_core.specs.Climb.{Above}
+use Rattle.bforest_core.specs.Removal.{Rebuilt, Healed, Joined, UpTo, Trimmed, StandsIn, LeafLoss, Removed}
+use Rattle.bforest_core.proofs.LevelRows.{flat-append}
 use Rattle.bforest_core.proofs.Bounds.{FitRow-full}
 use Rattle.bforest_core.proofs.Tops.{root-stands}
 use Rattle.bforest_core.proofs.Trim.{length-sizes}
 use Rattle.bforest_core.proofs.PastEnd.{loss_half}
-use Rattle.bforest_core.proofs.Shrunk.{path-at, Untrimmed, up_to, trimmed_removed, whole_removed, past_untrimmed, healed_untrimmed, healed_stands, joined_untrimmed, joined_stands, joined_more}
+use Rattle.bforest_core.proofs.Shrunk.{path-at, up_to, trimmed_removed, whole_removed, past_untrimmed, healed_untrimmed, healed_stands, joined_untrimmed, joined_stands, joined_more}
 
 -- the numbers of a row are as many as its nodes
 length-numbers : {K X : Type 0} (row : List (LevelNode K X)) → length (numbers row) ≡ length row

@@ -1,14 +1,13 @@
 -- Roots with a single child, which go: from the root down, and in the sizes from the leaves up.
-use Rattle.std.proofs.Common.{◌≡◌, ◌≢◌, ℕ, zero, suc, ◌+◌, ◌-◌, ◌≤◌, ◌<◌, Some, List, [], ◌∷◌, ◌++◌, map, length, get_or, slice_get, refl, sym, ap, ◌∙◌, subst, inl, inr, append_assoc, append-nil, length-append, length-set, arith}
+use Rattle.std.proofs.Common.{◌≡◌, ◌≢◌, ℕ, suc, ◌+◌, ◌-◌, ◌≤◌, ◌<◌, Some, List, [], ◌∷◌, ◌++◌, map, length, get_or, slice_get, refl, sym, ap, ◌∙◌, subst, inl, inr, append_assoc, append-nil, length-append, length-set, arith}
 use Rattle.std.specs.List.{flat_map}
-use Rattle.std.proofs.lemmas.List.{map-append}
 use Rattle.std.proofs.lemmas.List.Concat.{flat_map-append}
 use Rattle.std.proofs.lemmas.Bool.Decides.{eqb_tells}
 use Rattle.bforest_nodes.specs.Content.{Content, Free, entry_count}
 use Rattle.bforest_core.specs.Table.{Table, with_freed, front_of}
-use Rattle.bforest_core.specs.Levels.{LevelNode, node, flat, heads, sizes, numbers, FitRow, Stacked, Topped}
+use Rattle.bforest_core.specs.Levels.{LevelNode, node, flat, heads, sizes, numbers, Stacked, Topped}
 use Rattle.bforest_core.specs.Sizes.{trimmed}
-use Rattle.bforest_core.specs.Place.{RowsIn, inner_content, count, Distinct, root_above, first_number, StandsAbove}
+use Rattle.bforest_core.specs.Place.{RowsIn, inner_content, count, root_above, first_number, StandsAbove}
 use Rattle.bforest_core.specs.Removal.{Frees, UpTo, Trimmed}
 use Rattle.bforest_core.proofs.LevelRows.{least-pos}
 use Rattle.bforest_core.proofs.Bounds.{FitRow-full}

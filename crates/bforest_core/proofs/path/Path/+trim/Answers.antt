@@ -1,5 +1,5 @@
-use Rattle.std.proofs.Common.{rules, ◌≡◌, ℕ, ◌-◌, ◌<◌, ◌≤◌, List, [], ◌∷◌, ◌++◌, length, slice_get, Some, refl, arith}
-use Rattle.bforest_core.specs.Place.{inner_content, entry_keys, entry_items}
+use Rattle.std.proofs.Common.{rules, ◌≡◌, ◌-◌, ◌<◌, [], ◌∷◌, ◌++◌, refl, arith}
+use Rattle.bforest_core.specs.Place.{inner_content}
 use Rattle.bforest_core.proofs.Stored.{item_count, some_same}
 use Rattle.bforest_core.proofs.Tables.{is_used}
 use Rattle.bforest_core.proofs.Trim.{top_in, trim_leaf, trim_stays, only_in, trim_down, trim_then}

@@ -1,4 +1,4 @@
-use Rattle.std.proofs.Common.{rules, ◌≡◌, List, [], ◌∷◌, ◌++◌, get_or, refl, sym, ap, ◌∙◌, arith}
+use Rattle.std.proofs.Common.{rules, get_or, ◌∙◌, arith}
 use Rattle.bforest_core.specs.Levels.{heads}
 use Rattle.bforest_core.proofs.PastEnd.{on_leaf}
 use Rattle.bforest_core.proofs.Removing.{stands_root, past_removed, healed_removed, joined_above, joined_rest, joined_row, joined_up, joined_removed}
