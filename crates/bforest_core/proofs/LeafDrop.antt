@@ -71,6 +71,7 @@ module _ {K V : Type 0} where
     pub none_rows : count (get_or path 0 0) (flat_map numbers tree.above) ≡ 0
     pub none_chain : count (get_or path 0 0) t.chain ≡ 0
 
+  -- a leaf of one entry is the last
   pub last_leaf : (most : ℕ) (t : Table K V) (path indices : List ℕ) (size : ℕ) (tree : Tree K V) (place : ℕ) (y : K × V) → IsLeafCapacity most → StandsIn most t path indices size tree place → slice_get t.nodes (get_or path 0 0) ≡ Some (leaf_content (y ∷ [])) → LastLeaf most t path indices size tree place
   last_leaf most t path indices size tree place y capacity s slot =
       let d = leaf_at most t path indices size tree place s in
@@ -136,6 +137,7 @@ module _ {K V : Type 0} where
     pub above : Above v path indices 1 size tree.above (heads init ++ (w.0, number) ∷ (d.x.0, get_or path 0 0) ∷ []) (suc (length (heads init)))
     pub freed_is : v ≡ with_freed t (get_or path 0 0)
 
+  -- they are found where there is a level above
   pub leaf_drop : (most : ℕ) (t v : Table K V) (path indices : List ℕ) (size : ℕ) (tree : Tree K V) (place : ℕ) → StandsIn most t path indices size tree place → LastLeaf most t path indices size tree place → size ≢ 1 → v ≡ with_freed t (get_or path 0 0) → LeafDrop most t v path indices size tree place
   leaf_drop most t v path indices size tree place s d more is =
       let n = get_or path 0 0 in

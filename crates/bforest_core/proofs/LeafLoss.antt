@@ -78,6 +78,7 @@ module _ {K V : Type 0} where
     pub none_rows : count (get_or path 0 0) (flat_map numbers tree.above) ≡ 0
     pub none_chain : count (get_or path 0 0) t.chain ≡ 0
 
+  -- a path that stands in a tree finds this
   pub leaf_at : (most : ℕ) (t : Table K V) (path indices : List ℕ) (size : ℕ) (tree : Tree K V) (place : ℕ) → StandsIn most t path indices size tree place → LeafAt most t path indices size tree place
   leaf_at most t path indices size tree place s =
       let at = s.stands.leaf in
@@ -235,6 +236,7 @@ module _ {K V : Type 0} where
     pub slot_is : slice_get u.nodes (get_or path 0 0) ≡ Some (leaf_content (next ∷ others))
     pub above : Above u path indices 1 size tree.above (heads d.before ++ (d.x.0, get_or path 0 0) ∷ heads d.after) (length (heads d.before))
 
+  -- it is found where the path was at the first entry
   pub first_out : (most : ℕ) (t u : Table K V) (path indices : List ℕ) (size : ℕ) (tree : Tree K V) (place : ℕ) → (d : LeafAt most t path indices size tree place) → 1 ≤ length (d.l ++ d.r) → Puts t u (get_or path 0 0) (leaf_content (d.l ++ d.r)) → get_or indices 0 0 ≤ 0 → FirstOut most t u path indices size tree place d
   first_out most t u path indices size tree place d more w first =
       let n = get_or path 0 0 in

@@ -21,6 +21,7 @@ module _ {K V : Type 0} where
     pub first : K
     pub above : Above v path indices 1 size rest (a ++ (first, get_or path 0 0) ∷ b) (length a)
 
+  -- the rows above have this form
   pub loss_form : (most : ℕ) (t v : Table K V) (path indices : List ℕ) (size : ℕ) (tree : Tree K V) (place : ℕ) → (l : LeafLoss most t v path indices size tree place) → LossForm v path indices size l.rest (heads l.before) (heads l.after)
   loss_form most t v path indices size tree place l =
       let n = get_or path 0 0 in

@@ -123,6 +123,7 @@ module _ {K V : Type 0} where
     pub none_left : shrink most place (sizes_of (tree_of old.nodes root)) ≡ []
     pub freed_root : 0 < count root new.chain
 
+  -- the last entry went out of the tree under a root
   pub ending : (most : ℕ) (old new : Table K V) (root place : ℕ) (path indices : List ℕ) (size : ℕ) → IsUnion most old → StandsUnder old.nodes root path indices size place → Emptied most old new (tree_of old.nodes root) place → Ending most old new root place
   ending most old new root place path indices size union s i =
       let tree = tree_of old.nodes root in
@@ -147,6 +148,7 @@ module _ {K V : Type 0} where
   Outcome most old new root place path' indices' size' None = Ending most old new root place
   Outcome most old new root place path' indices' size' (Some root') = Removal most old new root root' place path' indices' size'
 
+  -- as the call for a leaf of one entry says
   pub outcome : (most : ℕ) (old new : Table K V) (root place : ℕ) (path indices : List ℕ) (size : ℕ) (path' indices' : List ℕ) (size' : ℕ) (found : Option ℕ) → IsUnion most old → StandsUnder old.nodes root path indices size place →
       IfSome found (λ root'. Removed most old new path' indices' size' (tree_of old.nodes root) place root') → (found ≡ None → Emptied most old new (tree_of old.nodes root) place) → Outcome most old new root place path' indices' size' found
   outcome most old new root place path indices size path' indices' size' None union s removed emptied = ending most old new root place path indices size union s (emptied refl)
@@ -161,6 +163,7 @@ module _ {K V : Type 0} where
     pub none_left : found ≡ None → shrink most place (sizes_of (tree_of old.nodes root)) ≡ []
     pub freed_root : found ≢ Some root → 0 < count root new.chain
 
+  -- each of the two says so
   pub said : (most : ℕ) (old new : Table K V) (root place : ℕ) (path' indices' : List ℕ) (size' : ℕ) (found : Option ℕ) → Outcome most old new root place path' indices' size' found → Said most old new root place path' indices' size' found
   said most old new root place path' indices' size' None e = record {
     some = tt;

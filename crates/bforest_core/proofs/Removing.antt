@@ -66,6 +66,7 @@ module _ {K V : Type 0} where
     pub freed : List ℕ
     pub r : Rebuilt mid2 new path1 indices1 path' indices' 1 size l.rest (heads l.before ++ (j.first.0, j.right) ∷ heads j.after') (length (heads l.before)) (loss_above (Some (length (heads l.before))) (map sizes l.rest)) freed
 
+  -- as the calls say
   pub joined_rest : (most : ℕ) (old mid mid2 new : Table K V) (path indices path1 indices1 path' indices' : List ℕ) (size size1 : ℕ) (tree : Tree K V) (place : ℕ) → (l : LeafLoss most old mid path indices size tree place) →
       Joined leaf_content (half_of most) most mid mid2 path indices path1 indices1 0 size l.before (get_or path 0 0) l.entries l.after l.rest → size1 ≡ size →
       ((rows : List (List (LevelNode K ℕ))) (a : List (K × ℕ)) (k : K) (m : ℕ) (k2 : K) (n : ℕ) (b : List (K × ℕ)) → Above mid2 path1 indices1 1 size1 rows (a ++ (k, m) ∷ (k2, n) ∷ b) (length a) → (freed : List ℕ) × Rebuilt mid2 new path1 indices1 path' indices' 1 size1 rows (a ++ (k, n) ∷ b) (length a) (loss_above (Some (length a)) (map sizes rows)) freed) →
@@ -84,6 +85,7 @@ module _ {K V : Type 0} where
   abbrev pub joined_row : {most : ℕ} {old mid mid2 new : Table K V} {path indices path1 indices1 path' indices' : List ℕ} {size : ℕ} {tree : Tree K V} {place : ℕ} → JoinedRest most old mid mid2 new path indices path1 indices1 path' indices' size tree place → List (LevelNode K V)
   joined_row d = d.l.before ++ node d.j.right (d.l.entries ++ d.j.right_entries) ∷ d.j.after'
 
+  -- the rows are what the call that discards roots asks for
   pub joined_up : (most : ℕ) (old mid mid2 new : Table K V) (path indices path1 indices1 path' indices' : List ℕ) (size size2 : ℕ) (tree : Tree K V) (place root : ℕ) → StandsIn most old path indices size tree place → root_of tree ≡ root → (d : JoinedRest most old mid mid2 new path indices path1 indices1 path' indices' size tree place) → size2 ≡ size →
       UpTo new size2 d.r.rows' (heads (joined_row d)) root
   joined_up most old mid mid2 new path indices path1 indices1 path' indices' size size2 tree place root s root_is d size_is =
