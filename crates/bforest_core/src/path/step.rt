@@ -102,7 +102,8 @@ impl<K: Copy, V: Copy, const N: usize> Path<K, V, N> {
         requires stands { self.now.size ≢ 0 → (tree : Tree K V) × (place : ℕ) × IsFit N tree × IsIn pool.now.nodes tree × Stands self.now.node self.now.entry self.now.size tree place }
         ensures value { (tree : Tree K V) (place : ℕ) → IsFit N tree → IsIn pool.now.nodes tree → IsPathAt self.now.node self.now.entry self.now.size tree place → result ≡ slice_get (flat tree.leaves) place }
     {
-        if self.size == 0 {
+        let levels = self.size;
+        if levels == 0 {
             None
         } else {
             Some(self.entry_here(pool))
