@@ -1,7 +1,7 @@
 -- What a predicate that stays as it was keeps.
 use Rattle.bforest.specs.Retain.{Retains}
 use Rattle.bforest_core.specs.Sizes.{shrink}
-use Rattle.std.proofs.Common.{Bool, List, [], ap, cond, false, if◌then◌else◌, map, refl, subst, suc, true, ◌∙◌, ◌∷◌, ◌≡◌, ℕ}
+use Rattle.std.proofs.Common.{Bool, List, [], cond, false, if◌then◌else◌, map, refl, subst, suc, true, ◌∙◌, ◌∷◌, ◌≡◌, ℕ}
 use Rattle.std.specs.Prelude.{filter}
 
 -- an image of what stays

@@ -1,6 +1,6 @@
 //! A forest with its handles, and what it answers.
-ghost use Rattle.bforest.specs.Forest.{IsLive, empty, list_of};
-ghost use Rattle.bforest_run.specs.Machine.{is_listed};
+ghost use Rattle.bforest.specs.Forest.{Becomes, IsLive, empty, list_of};
+ghost use Rattle.bforest_run.specs.Machine.{is_listed, retained};
 ghost use Rattle.std.specs.Prelude.{IfOk, None, OnErr, replicate, unwrap_or, ◌≡◌};
 
 use crate::line::{HANDLE_COUNT, Handle, Line};
@@ -154,11 +154,7 @@ impl Maps {
         if !self.forest.holds(map) {
             return Answer::Dead;
         }
-        let keys = keys.as_slice();
-        map.retain(
-            &mut self.forest,
-            |key, value| keeps(order, put, keys, key, value),
-        );
+        keep_listed(map, &mut self.forest, order, put, &keys);
         Answer::Done
     }
 
@@ -208,6 +204,21 @@ fn listed(
     ensures { IfOk result (λ entries. entries.items ≡ list_of forest.now map.now) }
 {
     map.iter(forest).collect(alloc)
+}
+
+/// Keeps the entries whose keys are listed, with this value if there is one.
+fn keep_listed(
+    map: &mut Map<u32, u32>,
+    forest: &mut MapForest<u32, u32>,
+    order: Order,
+    put: Option<u32>,
+    keys: &[u32],
+)
+    requires { IsLive forest.old map.old }
+    ensures { Becomes forest.old map.old forest.new map.new
+        (retained order put keys.now (list_of forest.old map.old)) }
+{
+    map.retain(forest, |key, value| keeps(order, put, keys, key, value));
 }
 
 /// Writes the value, if there is one, and says whether one of the keys compares equal to the entry's.
