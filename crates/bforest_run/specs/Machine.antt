@@ -1,6 +1,6 @@
 -- What a line may be answered, and what it leaves of the maps.
-use Rattle.bforest_nodes.specs.Entries.{IsIncreasing, put, value_for}
-use Rattle.bforest.specs.Forest.{Becomes, IsLive, free_of, list_of, sizes_of, slots_of}
+use Rattle.bforest_nodes.specs.Entries.{IsIncreasing, cut, put, value_for}
+use Rattle.bforest.specs.Forest.{Becomes, IsLive, empty, free_of, limit_of, list_of, sizes_of, slots_of}
 use Rattle.bforest_core.specs.declared.pool.OutOfMemory.{OutOfMemory}
 use Rattle.bforest_run.specs.Orders.{order_of}
 use Rattle.bforest_run.specs.declared.line.Handle.{Handle}
@@ -10,7 +10,9 @@ use Rattle.bforest_run.specs.declared.order.Order.{Order}
 use Rattle.bforest_run.specs.declared.store.Answer.TheVariants as answer
 use Rattle.bforest_run.specs.declared.store.Answer.{Answer}
 use Rattle.bforest_run.specs.declared.store.Maps.{Maps}
-use Rattle.std.specs.Prelude.{Bool, IsSome, IsTrue, List, MatchResult, None, Option, Result, slice_index_or, length, slice_set, ◌↔◌, ◌≡◌, ℕ}
+use Rattle.std.specs.List.{list_any}
+use Rattle.std.specs.Ordering.{is_eq}
+use Rattle.std.specs.Prelude.{Bool, IsSome, IsTrue, List, MatchResult, None, Option, Result, [], filter, length, map, slice_index_or, slice_set, unwrap_or, ◌↔◌, ◌≡◌, ℕ}
 
 -- the number that a handle has
 abbrev pub number_of : Maps → Handle → Option ℕ
@@ -38,6 +40,32 @@ Inserts old handle order key value result new =
     × Becomes old.forest (number_of old handle) new.forest (number_of new handle) (put (order_of order) (entries_of old handle) key value))
     (λ _. (value_for (order_of order) (entries_of old handle) key ≡ None) × (new ≡ old))
 
+-- A removal answers the value that was there and takes the entry out of its own tree's list; where the key is absent nothing changes.
+-- Each other handle keeps its number.
+pub record Removes (old : Maps) (handle : Handle) (order : Order) (key : ℕ) (value : Option ℕ) (new : Maps) : Type 0 where
+  pub found : value ≡ value_for (order_of order) (entries_of old handle) key
+  pub handles : new.handles ≡ slice_set old.handles handle.index (number_of new handle)
+  pub cut : Becomes old.forest (number_of old handle) new.forest (number_of new handle) (cut (order_of order) (entries_of old handle) key)
+  pub absent : value ≡ None → new ≡ old
+
+-- The handle's tree ends and the handle is empty. Each other handle keeps its number.
+pub record Clears (old : Maps) (handle : Handle) (new : Maps) : Type 0 where
+  pub handles : new.handles ≡ slice_set old.handles handle.index None
+  pub cleared : Becomes old.forest (number_of old handle) new.forest None []
+
+-- whether one of the keys compares equal to k
+abbrev pub is_listed : Order → List ℕ → ℕ → Bool
+is_listed order keys k = list_any (λ listed. is_eq (order_of order listed k)) keys
+
+-- the entries whose keys are listed, with the value if there is one, else with their own
+abbrev pub retained : Order → Option ℕ → List ℕ → List (ℕ × ℕ) → List (ℕ × ℕ)
+retained order put keys entries = map (λ e. (e.0, unwrap_or put e.1)) (filter (λ e. is_listed order keys e.0) entries)
+
+-- The entries whose keys are listed stay in the handle's tree, with the value if there is one. Each other handle keeps its number.
+pub record KeepsListed (old : Maps) (handle : Handle) (order : Order) (put : Option ℕ) (keys : List ℕ) (new : Maps) : Type 0 where
+  pub handles : new.handles ≡ slice_set old.handles handle.index (number_of new handle)
+  pub kept : Becomes old.forest (number_of old handle) new.forest (number_of new handle) (retained order put keys (entries_of old handle))
+
 -- the answer has all entries
 abbrev pub Lists : Answer → List (ℕ × ℕ) → Type 0
 Lists (answer.Value value) entries = ⊥
@@ -60,12 +88,22 @@ Answers old (line.Get handle order key) given new =
     Checks old handle order given new ((given ≡ answer.Value (value_for (order_of order) (entries_of old handle) key)) × (new ≡ old))
 Answers old (line.Insert handle order key value) given new =
     Checks old handle order given new ((result : Result (Option ℕ) OutOfMemory) × (given ≡ answer.Put result) × Inserts old handle order key value result new)
+Answers old (line.Remove handle order key) given new =
+    Checks old handle order given new ((value : Option ℕ) × (given ≡ answer.Value value) × Removes old handle order key value new)
+Answers old (line.Clear handle) given new =
+    ((IsLive old.forest (number_of old handle) → ⊥) → (given ≡ answer.Dead) × (new ≡ old))
+    × (IsLive old.forest (number_of old handle) → (given ≡ answer.Done) × Clears old handle new)
 Answers old (line.Iter handle) given new =
     ((IsLive old.forest (number_of old handle) → ⊥) → given ≡ answer.Dead)
     × (IsLive old.forest (number_of old handle) → Lists given (entries_of old handle))
     × (new ≡ old)
+Answers old (line.Retain handle order put keys) given new =
+    ((IsLive old.forest (number_of old handle) → ⊥) → (given ≡ answer.Dead) × (new ≡ old))
+    × (IsLive old.forest (number_of old handle) → (given ≡ answer.Done) × KeepsListed old handle order put keys.items new)
 Answers old (line.Alias from to) given new =
     (given ≡ answer.Done) × (new ≡ record old { handles = slice_set old.handles to.index (number_of old from) })
+Answers old line.Wipe given new =
+    (given ≡ answer.Done) × (new ≡ record old { forest = empty (limit_of old.forest) })
 Answers old (line.Holds handle) given new =
     (so : Bool) × (given ≡ answer.Truth so) × (IsTrue so ↔ IsLive old.forest (number_of old handle)) × (new ≡ old)
 Answers old (line.Stat handle) given new =

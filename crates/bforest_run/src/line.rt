@@ -7,6 +7,7 @@ ghost use Rattle.std.specs.Prelude.{◌<◌, ◌≡◌};
 ghost use Rattle.std.specs.Str.Parse.{digits_value};
 
 use crate::order::Order;
+use std::alloc::{AllocError, Global};
 
 /// How many handles lines can name.
 pub(crate) const HANDLE_COUNT: usize = 8;
@@ -19,7 +20,7 @@ pub(crate) struct Handle {
 }
 
 /// What a line asks for.
-#[derive(Clone, Copy)]
+#[derive(Drop)]
 pub(crate) enum Line {
     /// The value of a key.
     Get {
@@ -34,15 +35,34 @@ pub(crate) enum Line {
         key: u32,
         value: u32,
     },
+    /// To take a key out.
+    Remove {
+        handle: Handle,
+        order: Order,
+        key: u32,
+    },
+    /// To end a tree.
+    Clear {
+        handle: Handle,
+    },
     /// All entries.
     Iter {
         handle: Handle,
+    },
+    /// To put a value in at every key, if there is one, and to keep the entries of the keys that compare equal to one of these.
+    Retain {
+        handle: Handle,
+        order: Order,
+        put: Option<u32>,
+        keys: Vec<u32>,
     },
     /// To copy a handle's number to another handle.
     Alias {
         from: Handle,
         to: Handle,
     },
+    /// To end all trees.
+    Wipe,
     /// Whether a handle is empty or names a tree.
     Holds {
         handle: Handle,
@@ -54,7 +74,15 @@ pub(crate) enum Line {
 }
 
 /// The line that the words spell, or nothing where it is bad.
-pub(crate) fn parse(words: &[&str]) -> Option<Line> {
+pub(crate) fn parse(alloc: Global, words: &[&str]) -> Result<Option<Line>, AllocError> {
+    match words {
+        ["retain", handle, order, put, keys @ ..] => retaining(alloc, handle, order, put, keys),
+        _ => Ok(simple(words)),
+    }
+}
+
+/// The line that the words spell, if it has no list of words.
+fn simple(words: &[&str]) -> Option<Line> {
     match words {
         ["get", handle, order, key] => Some(Line::Get {
             handle: handle_named(handle)?,
@@ -67,6 +95,14 @@ pub(crate) fn parse(words: &[&str]) -> Option<Line> {
             key: number(key)?,
             value: number(value)?,
         }),
+        ["remove", handle, order, key] => Some(Line::Remove {
+            handle: handle_named(handle)?,
+            order: order_named(order)?,
+            key: number(key)?,
+        }),
+        ["clear", handle] => Some(Line::Clear {
+            handle: handle_named(handle)?,
+        }),
         ["iter", handle] => Some(Line::Iter {
             handle: handle_named(handle)?,
         }),
@@ -74,6 +110,7 @@ pub(crate) fn parse(words: &[&str]) -> Option<Line> {
             from: handle_named(from)?,
             to: handle_named(to)?,
         }),
+        ["wipe"] => Some(Line::Wipe),
         ["holds", handle] => Some(Line::Holds {
             handle: handle_named(handle)?,
         }),
@@ -81,6 +118,44 @@ pub(crate) fn parse(words: &[&str]) -> Option<Line> {
             handle: handle_named(handle)?,
         }),
         _ => None,
+    }
+}
+
+/// The line `retain` of these words.
+fn retaining(
+    alloc: Global,
+    handle: &str,
+    order: &str,
+    put: &str,
+    words: &[&str],
+) -> Result<Option<Line>, AllocError> {
+    let (Some(handle), Some(order), Some(put)) = (
+        handle_named(handle),
+        order_named(order),
+        put_named(put),
+    ) else {
+        return Ok(None);
+    };
+    let mut keys = Vec::new(alloc);
+    'words: for word in words {
+        let Some(key) = number(word) else {
+            return Ok(None);
+        };
+        keys.push(key)?;
+    }
+    Ok(Some(Line::Retain {
+        handle,
+        order,
+        put,
+        keys,
+    }))
+}
+
+/// The value to put in at every key, if there is one.
+fn put_named(word: &str) -> Option<Option<u32>> {
+    match word {
+        "-" => Some(None),
+        _ => Some(Some(number(word)?)),
     }
 }
 

@@ -1,12 +1,14 @@
 //! A forest with its handles, and what it answers.
-ghost use Rattle.bforest.specs.Forest.{IsLive, empty, list_of};
-ghost use Rattle.std.specs.Prelude.{IfOk, None, OnErr, replicate, ◌≡◌};
+ghost use Rattle.bforest.specs.Forest.{Becomes, IsLive, empty, list_of};
+ghost use Rattle.bforest_run.specs.Machine.{is_listed, retained};
+ghost use Rattle.std.specs.Prelude.{IfOk, None, OnErr, replicate, unwrap_or, ◌≡◌};
 
 use crate::line::{HANDLE_COUNT, Handle, Line};
 use crate::order::Order;
-use bforest::{Map, MapForest, OutOfMemory};
+use bforest::{Comparator, Map, MapForest, OutOfMemory};
 use std::alloc::{AllocError, Global};
 use std::array;
+use std::cmp::Ordering;
 
 /// What a line is answered.
 #[derive(Drop)]
@@ -68,8 +70,17 @@ impl Maps {
                 key,
                 value,
             } => Ok(self.insert(handle, order, key, value)),
+            Line::Remove { handle, order, key } => Ok(self.remove(handle, order, key)),
+            Line::Clear { handle } => Ok(self.clear(handle)),
             Line::Iter { handle } => self.iter(alloc, handle),
+            Line::Retain {
+                handle,
+                order,
+                put,
+                keys,
+            } => Ok(self.retain(handle, order, put, keys)),
             Line::Alias { from, to } => Ok(self.alias(from, to)),
+            Line::Wipe => Ok(self.wipe()),
             Line::Holds { handle } => Ok(self.holds(handle)),
             Line::Stat { handle } => Ok(self.stat(handle)),
         }
@@ -101,6 +112,30 @@ impl Maps {
         Answer::Put(map.insert(key, value, &mut self.forest, &order))
     }
 
+    fn remove(&mut self, handle: Handle, order: Order, key: u32) -> Answer
+        ensures { Answers self.old (line.Remove handle order key) result self.new }
+    {
+        let map = &mut self.handles[handle.index];
+        if !self.forest.holds(map) {
+            return Answer::Dead;
+        }
+        if !map.increases(&self.forest, &order) {
+            return Answer::Unordered;
+        }
+        Answer::Value(map.remove(key, &mut self.forest, &order))
+    }
+
+    fn clear(&mut self, handle: Handle) -> Answer
+        ensures { Answers self.old (line.Clear handle) result self.new }
+    {
+        let map = &mut self.handles[handle.index];
+        if !self.forest.holds(map) {
+            return Answer::Dead;
+        }
+        map.clear(&mut self.forest);
+        Answer::Done
+    }
+
     fn iter(&self, alloc: Global, handle: Handle) -> Result<Answer, AllocError>
         ensures { IfOk result (λ given. Answers self.now (line.Iter handle) given self.now) }
     {
@@ -112,11 +147,29 @@ impl Maps {
         Ok(Answer::Pairs(entries))
     }
 
+    fn retain(&mut self, handle: Handle, order: Order, put: Option<u32>, keys: Vec<u32>) -> Answer
+        ensures { Answers self.old (line.Retain handle order put keys) result self.new }
+    {
+        let map = &mut self.handles[handle.index];
+        if !self.forest.holds(map) {
+            return Answer::Dead;
+        }
+        keep_listed(map, &mut self.forest, order, put, &keys);
+        Answer::Done
+    }
+
     fn alias(&mut self, from: Handle, to: Handle) -> Answer
         ensures { Answers self.old (line.Alias from to) result self.new }
     {
         let map = self.handles[from.index].clone();
         self.handles[to.index] = map;
+        Answer::Done
+    }
+
+    fn wipe(&mut self) -> Answer
+        ensures { Answers self.old line.Wipe result self.new }
+    {
+        self.forest.clear();
         Answer::Done
     }
 
@@ -151,4 +204,31 @@ fn listed(
     ensures { IfOk result (λ entries. entries.items ≡ list_of forest.now map.now) }
 {
     map.iter(forest).collect(alloc)
+}
+
+/// Keeps the entries whose keys are listed, with this value if there is one.
+fn keep_listed(
+    map: &mut Map<u32, u32>,
+    forest: &mut MapForest<u32, u32>,
+    order: Order,
+    put: Option<u32>,
+    keys: &[u32],
+)
+    requires { IsLive forest.old map.old }
+    ensures { Becomes forest.old map.old forest.new map.new
+        (retained order put keys.now (list_of forest.old map.old)) }
+{
+    map.retain(forest, |key, value| keeps(order, put, keys, key, value));
+}
+
+/// Writes the value, if there is one, and says whether one of the keys compares equal to the entry's.
+fn keeps(order: Order, put: Option<u32>, keys: &[u32], key: u32, value: &mut u32) -> bool
+    ensures listed { result ≡ is_listed order keys.now key }
+    ensures written { value.new ≡ unwrap_or put value.old }
+{
+    if let Some(put) = put {
+        *value = put;
+    }
+    keys.iter()
+        .any(|listed| order.cmp(*listed, key) == Ordering::Equal)
 }

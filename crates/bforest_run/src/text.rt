@@ -136,7 +136,7 @@ fn answer_to(alloc: Global, maps: &mut Maps, line: &[u8]) -> Result<Option<Strin
         .split(' ')
         .filter(|word| !word.is_empty())
         .collect(alloc)?;
-    let Some(line) = parse(&words) else {
+    let Some(line) = parse(alloc, &words)? else {
         return Ok(None);
     };
     let answer = maps.answer(alloc, line)?;

@@ -4,6 +4,8 @@
 #[cfg(test)]
 mod lines;
 #[cfg(test)]
+mod removal;
+#[cfg(test)]
 mod strange;
 #[cfg(test)]
 mod streams;

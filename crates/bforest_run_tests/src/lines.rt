@@ -6,7 +6,14 @@ use std::alloc::Global;
 use std::process::Abort;
 
 /// Runs lines over maps, and compares what is written, and the status.
-fn check(rt: &impl Abort, alloc: Global, limit: u32, lines: &[u8], want: &[u8], status: u8) {
+pub(crate) fn check(
+    rt: &impl Abort,
+    alloc: Global,
+    limit: u32,
+    lines: &[u8],
+    want: &[u8],
+    status: u8,
+) {
     let mut input = Source::of(lines);
     let mut output = Sink::new();
     let got = run_text(alloc, Kind::Map, limit, &mut input, &mut output);
@@ -15,7 +22,7 @@ fn check(rt: &impl Abort, alloc: Global, limit: u32, lines: &[u8], want: &[u8], 
 }
 
 /// The same, with no limit of its own.
-fn answers(rt: &impl Abort, alloc: Global, lines: &[u8], want: &[u8], status: u8) {
+pub(crate) fn answers(rt: &impl Abort, alloc: Global, lines: &[u8], want: &[u8], status: u8) {
     check(rt, alloc, u32::MAX, lines, want, status);
 }
 
@@ -223,8 +230,27 @@ fn other_lines_are_bad(rt: HostRuntime) {
         b"iter".as_slice(),
         b"iter 0 up".as_slice(),
         b"iter x".as_slice(),
-        b"remove 0 up 5".as_slice(),
-        b"wipe".as_slice(),
+        b"remove 0 up".as_slice(),
+        b"remove 0 up 5 50".as_slice(),
+        b"remove 8 up 5".as_slice(),
+        b"remove 0 left 5".as_slice(),
+        b"remove 0 up -".as_slice(),
+        b"clear".as_slice(),
+        b"clear 8".as_slice(),
+        b"clear 0 up".as_slice(),
+        b"wipe 0".as_slice(),
+        b"Wipe".as_slice(),
+        b"retain".as_slice(),
+        b"retain 0 up".as_slice(),
+        b"retain 8 up - 1".as_slice(),
+        b"retain 0 left - 1".as_slice(),
+        b"retain 0 up x 1".as_slice(),
+        b"retain 0 up -1 1".as_slice(),
+        b"retain 0 up 4294967296 1".as_slice(),
+        b"retain 0 up - 1 x".as_slice(),
+        b"retain 0 up - 1 4294967296".as_slice(),
+        b"retain 0 up - 1 -".as_slice(),
+        b"less 0 up 5".as_slice(),
         b"line 1: bad".as_slice(),
     ] {
         answers(&rt, rt.alloc(), line, b"line 1: bad\n", 2);

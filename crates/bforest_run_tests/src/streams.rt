@@ -65,7 +65,7 @@ impl Read for Source<'_> {
 }
 
 /// How much a sink holds.
-pub(crate) const PAPER: usize = 256;
+pub(crate) const PAPER: usize = 512;
 
 /// Takes two bytes a call, up to its fault, while it has room.
 #[derive(Drop)]
@@ -75,7 +75,7 @@ pub(crate) struct Sink {
     fault: Fault,
     at: usize,
     pub(crate) calls: usize,
-    ghost in_range: { len ≤ 256 },
+    ghost in_range: { len ≤ 512 },
 }
 
 impl Sink {

@@ -6,3 +6,11 @@ use Rattle.std.proofs.Common.{subst, sym}
 pub returns-in-Stat-clause-answer : goal.returns-in-Stat-clause-answer
 returns-in-Stat-clause-answer c =
     subst (λ (z : Line). Answers c.args.self.now z c.stat.result c.args.self.now) (sym c.in-Stat.is) c.stat.ensures
+
+pub returns-in-Clear-clause-answer : goal.returns-in-Clear-clause-answer
+returns-in-Clear-clause-answer c =
+    subst (λ (z : Line). Answers c.args.self.now z c.clear.result c.clear.new.self) (sym c.in-Clear.is) c.clear.ensures
+
+pub returns-in-Retain-clause-answer : goal.returns-in-Retain-clause-answer
+returns-in-Retain-clause-answer c =
+    subst (λ (z : Line). Answers c.args.self.now z c.retain.result c.retain.new.self) (sym c.in-Retain.is) c.retain.ensures
