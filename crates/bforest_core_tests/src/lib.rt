@@ -4,6 +4,8 @@
 #[cfg(test)]
 mod balances;
 #[cfg(test)]
+mod compared;
+#[cfg(test)]
 mod halves;
 #[cfg(test)]
 mod nodes;
@@ -17,6 +19,8 @@ mod removals;
 mod shapes;
 #[cfg(test)]
 mod tree;
+#[cfg(test)]
+mod taken;
 #[cfg(test)]
 mod trees;
 #[cfg(test)]
