@@ -36,6 +36,10 @@ module _ {K X : Type 0} (cmp : K → K → Ordering) (most : ℕ) (slots : List 
   pub left-absent : is_present cmp (flat (tree_of slots root).leaves) k ≡ false → sizes_left cmp most slots root k ≡ sizes_of (tree_of slots root)
   left-absent h = λ j. if h j then shrink most (place cmp (flat (tree_of slots root).leaves) k) (sizes_of (tree_of slots root)) else sizes_of (tree_of slots root)
 
+-- the sizes stay where the key is absent
+pub without-absent : {K X : Type 0} (cmp : K → K → Ordering) (f : Forest K X) (h : Option ℕ) (k : K) → is_present cmp (list_of f h) k ≡ false → sizes_without cmp f h k ≡ forest_sizes f h
+without-absent cmp f h k gone = λ j. if gone j then shrink 7 (place cmp (list_of f h) k) (forest_sizes f h) else forest_sizes f h
+
 module _ {K X : Type 0} where
   -- a table that stays is a change of each tree in it to itself
   pub changes-none : (most : ℕ) (t : Table K X) (root : ℕ) → IsUnion most t → IsTrue (is_root t.nodes root) → Changes most t t root root (flat (tree_of t.nodes root).leaves) (sizes_of (tree_of t.nodes root))

@@ -1,20 +1,20 @@
 -- The only entry of a leaf goes, and the leaf with it: it is the right-most.
-use Rattle.std.proofs.Common.{◌≡◌, ◌≢◌, ℕ, zero, suc, ◌+◌, ◌≤◌, ◌<◌, true, false, Some, None, List, [], ◌∷◌, ◌++◌, map, length, get_or, slice_get, refl, sym, ap, ◌∙◌, subst, append_assoc, append-nil, length-append, length-set, arith}
+use Rattle.std.proofs.Common.{◌≡◌, ◌≢◌, ℕ, suc, ◌+◌, ◌≤◌, Some, List, [], ◌∷◌, ◌++◌, map, length, get_or, slice_get, refl, sym, ap, ◌∙◌, subst, append_assoc, append-nil, length-append, length-set, arith}
 use Rattle.std.specs.List.{flat_map, remove}
-use Rattle.bforest_nodes.specs.Content.{Content, Free, IsLeafCapacity}
+use Rattle.bforest_nodes.specs.Content.{Free, IsLeafCapacity}
 use Rattle.bforest_core.specs.Table.{Table, with_freed, front_of}
-use Rattle.bforest_core.specs.Levels.{LevelNode, node, flat, head_of, heads, sizes, numbers, FitRow, Solid, Stacked, Topped, Tree, IsFit, half_of, sizes_of}
+use Rattle.bforest_core.specs.Levels.{LevelNode, node, flat, heads, sizes, numbers, FitRow, Solid, Stacked, Topped, Tree, half_of, sizes_of}
 use Rattle.bforest_core.specs.Sizes.{loss, loss_above, shrink}
-use Rattle.bforest_core.specs.Place.{RowIn, RowsIn, leaf_content, count, Distinct, root_above, root_of, numbers_of, IsPathAt}
+use Rattle.bforest_core.specs.Place.{RowIn, leaf_content, count, Distinct, root_above, root_of, numbers_of}
 use Rattle.bforest_core.specs.Climb.{Above}
-use Rattle.bforest_core.specs.Removal.{Frees, Dropped, UpTo, Trimmed, StandsIn, Removed, Emptied}
-use Rattle.bforest_core.proofs.LevelRows.{flat-append, heads-append, sizes-append, Solid-full, least-pos}
-use Rattle.bforest_core.proofs.Tables.{count-append, count-same, count-row, row-split, row-same, rows-same, ne_from_count, absent_ne, slice_get-set_apart}
+use Rattle.bforest_core.specs.Removal.{Dropped, UpTo, Trimmed, StandsIn, Removed, Emptied}
+use Rattle.bforest_core.proofs.LevelRows.{flat-append, heads-append, sizes-append, Solid-full}
+use Rattle.bforest_core.proofs.Tables.{count-append, count-row, row-split, row-same, rows-same, ne_from_count, absent_ne, slice_get-set_apart}
 use Rattle.bforest_core.proofs.Tops.{root-stands}
-use Rattle.bforest_core.proofs.Losses.{loss_at, placed}
+use Rattle.bforest_core.proofs.Losses.{loss_at}
 use Rattle.bforest_core.proofs.Frees.{freed-then, freed-is}
 use Rattle.bforest_core.proofs.Trim.{heads-flat, frees-one}
-use Rattle.bforest_core.proofs.LeafLoss.{remove_flat, leaf_count, LeafAt, leaf_at}
+use Rattle.bforest_core.proofs.LeafLoss.{remove_flat, leaf_count, leaf_at}
 use Rattle.bforest_core.proofs.Shrunk.{Untrimmed, up_to, trimmed_removed}
 
 -- solid nodes fit as a row
@@ -71,6 +71,7 @@ module _ {K V : Type 0} where
     pub none_rows : count (get_or path 0 0) (flat_map numbers tree.above) ≡ 0
     pub none_chain : count (get_or path 0 0) t.chain ≡ 0
 
+  -- a leaf of one entry is the last
   pub last_leaf : (most : ℕ) (t : Table K V) (path indices : List ℕ) (size : ℕ) (tree : Tree K V) (place : ℕ) (y : K × V) → IsLeafCapacity most → StandsIn most t path indices size tree place → slice_get t.nodes (get_or path 0 0) ≡ Some (leaf_content (y ∷ [])) → LastLeaf most t path indices size tree place
   last_leaf most t path indices size tree place y capacity s slot =
       let d = leaf_at most t path indices size tree place s in
@@ -136,6 +137,7 @@ module _ {K V : Type 0} where
     pub above : Above v path indices 1 size tree.above (heads init ++ (w.0, number) ∷ (d.x.0, get_or path 0 0) ∷ []) (suc (length (heads init)))
     pub freed_is : v ≡ with_freed t (get_or path 0 0)
 
+  -- they are found where there is a level above
   pub leaf_drop : (most : ℕ) (t v : Table K V) (path indices : List ℕ) (size : ℕ) (tree : Tree K V) (place : ℕ) → StandsIn most t path indices size tree place → LastLeaf most t path indices size tree place → size ≢ 1 → v ≡ with_freed t (get_or path 0 0) → LeafDrop most t v path indices size tree place
   leaf_drop most t v path indices size tree place s d more is =
       let n = get_or path 0 0 in
@@ -190,27 +192,29 @@ module _ {K V : Type 0} where
       let c3 = λ (m : ℕ). count-append m (numbers row ++ flat_map numbers tree.above) t.chain in
       let c4 = λ (m : ℕ). count-append m (numbers row) (flat_map numbers tree.above) in
       let c5 = λ (m : ℕ). count-append m (numbers front) (flat_map numbers r.rows') in
-      let c10 = λ (m : ℕ). count-append m freed (n ∷ []) in
-      (r.rows', record {
-        flat_is = sym (ap (λ z. remove (flat z) place) d.leaves_are ∙ ap (λ z. remove (flat row) z) (d.place_is ∙ z0) ∙ remove_flat front n [] d.x [] [] ∙ flat-append front (node n [] ∷ []) ∙ append-nil (flat front));
-        sizes_are = ap (λ z. sizes front ∷ z) r.sizes_are ∙ ap (λ z. sizes front ∷ loss_above (Some z) (map sizes tree.above)) len ∙ ap (λ z. z ∷ loss_above (Some (length front)) (map sizes tree.above)) (sym (append-nil (sizes front))) ∙ sym (ap (λ z. z.1 ∷ loss_above z.0 (map sizes tree.above)) l1);
-        half = d.half;
-        leaves_fit = fit_solid (half_of most) most d.half front d.solid;
-        leaves_in = row-same leaf_content v.nodes u.nodes front (λ m some. r.frees.others m (omega (arith, some, d.apart m, c1 m, c3 m, c4 m))) in_v;
-        some = omega (arith, heads-flat front, full, len);
-        stacked = subst (λ (z : List (K × ℕ)). Stacked z r.rows') (sym hs) r.stacked;
-        rows_in = r.inside;
-        height = r.height;
-        numbers_are = λ m. omega (arith, c0 m, c1 m, c2 m, c5 m, c10 m, r.numbers_are m);
-        root_is = ap (λ z. root_above z r.rows') hs ∙ r.root_is ∙ sym (root-stands most tree path indices size place s.fit s.stands);
-        frees = record {
-          others = λ m none. r.frees.others m (omega (arith, none, c2 m)) ∙ other m (absent_ne m n [] (omega (arith, none, c0 m, c1 m, c2 m)));
-          freed_are = freed-then v u (flat_map numbers tree.above) (n ∷ []) freed r.frees (λ m some. omega (arith, some, d.apart m, c1 m, c3 m, c4 m)) (freed-is t v n (leaf_content (d.x ∷ [])) d.slot_is c.freed_is, tt);
-          chain_is = r.frees.chain_is ∙ ap (λ z. freed ++ z.chain) c.freed_is ∙ sym (append_assoc freed (n ∷ []) t.chain);
-          slots_are = r.frees.slots_are ∙ ap (λ z. length z.nodes) c.freed_is ∙ length-set t.nodes n (Free (front_of t.chain));
-          limit_is = r.frees.limit_is ∙ ap (λ z. z.limit) c.freed_is;
-        };
-      })
+      let c10 = λ (m : ℕ). count-append m freed (n ∷ []) in (
+        r.rows',
+        record {
+          flat_is = sym (ap (λ z. remove (flat z) place) d.leaves_are ∙ ap (λ z. remove (flat row) z) (d.place_is ∙ z0) ∙ remove_flat front n [] d.x [] [] ∙ flat-append front (node n [] ∷ []) ∙ append-nil (flat front));
+          sizes_are = ap (λ z. sizes front ∷ z) r.sizes_are ∙ ap (λ z. sizes front ∷ loss_above (Some z) (map sizes tree.above)) len ∙ ap (λ z. z ∷ loss_above (Some (length front)) (map sizes tree.above)) (sym (append-nil (sizes front))) ∙ sym (ap (λ z. z.1 ∷ loss_above z.0 (map sizes tree.above)) l1);
+          half = d.half;
+          leaves_fit = fit_solid (half_of most) most d.half front d.solid;
+          leaves_in = row-same leaf_content v.nodes u.nodes front (λ m some. r.frees.others m (omega (arith, some, d.apart m, c1 m, c3 m, c4 m))) in_v;
+          some = omega (arith, heads-flat front, full, len);
+          stacked = subst (λ (z : List (K × ℕ)). Stacked z r.rows') (sym hs) r.stacked;
+          rows_in = r.inside;
+          height = r.height;
+          numbers_are = λ m. omega (arith, c0 m, c1 m, c2 m, c5 m, c10 m, r.numbers_are m);
+          root_is = ap (λ z. root_above z r.rows') hs ∙ r.root_is ∙ sym (root-stands most tree path indices size place s.fit s.stands);
+          frees = record {
+            others = λ m none. r.frees.others m (omega (arith, none, c2 m)) ∙ other m (absent_ne m n [] (omega (arith, none, c0 m, c1 m, c2 m)));
+            freed_are = freed-then v u (flat_map numbers tree.above) (n ∷ []) freed r.frees (λ m some. omega (arith, some, d.apart m, c1 m, c3 m, c4 m)) (freed-is t v n (leaf_content (d.x ∷ [])) d.slot_is c.freed_is, tt);
+            chain_is = r.frees.chain_is ∙ ap (λ z. freed ++ z.chain) c.freed_is ∙ sym (append_assoc freed (n ∷ []) t.chain);
+            slots_are = r.frees.slots_are ∙ ap (λ z. length z.nodes) c.freed_is ∙ length-set t.nodes n (Free (front_of t.chain));
+            limit_is = r.frees.limit_is ∙ ap (λ z. z.limit) c.freed_is;
+          };
+        },
+      )
 
   -- and roots with a single child went: the path is at the end
   pub drop_removed : (most : ℕ) (t v u u2 : Table K V) (path indices path' indices' : List ℕ) (size size2 : ℕ) (tree : Tree K V) (place root root' : ℕ) → StandsIn most t path indices size tree place → root_of tree ≡ root → (c : LeafDrop most t v path indices size tree place) →

@@ -1,18 +1,17 @@
 -- The entry where a path stands, taken out of its leaf, which has others.
-use Rattle.std.proofs.Common.{◌≡◌, ◌≢◌, ℕ, zero, suc, ◌+◌, ◌≤◌, ◌<◌, Some, None, Option, List, [], ◌∷◌, ◌++◌, map, length, get_or, slice_get, refl, sym, ap, ◌∙◌, subst, append_assoc, length-append, arith}
+use Rattle.std.proofs.Common.{◌≡◌, ◌≢◌, ℕ, suc, ◌+◌, ◌≤◌, ◌<◌, Some, Option, List, [], ◌∷◌, ◌++◌, map, length, get_or, slice_get, refl, sym, ap, ◌∙◌, subst, append_assoc, length-append, arith}
 use Rattle.std.specs.List.{flat_map, remove}
 use Rattle.std.proofs.lemmas.List.{length-map}
 use Rattle.bforest_nodes.specs.Content.{Content, Leaf, without_entry}
 use Rattle.bforest_core.specs.Table.{Table, with_node}
-use Rattle.bforest_core.specs.Levels.{LevelNode, node, flat, head_of, heads, sizes, numbers, least, FitRow, Solid, Stacked, Tree, IsFit, half_of}
+use Rattle.bforest_core.specs.Levels.{LevelNode, node, flat, head_of, heads, sizes, numbers, FitRow, Solid, Stacked, Tree, half_of}
 use Rattle.bforest_core.specs.Place.{RowIn, leaf_content, entry_keys, count, Distinct, numbers_of}
-use Rattle.bforest_core.specs.Climb.{Above, NextIs}
-use Rattle.bforest_core.specs.Removal.{Frees, Rebuilt, StandsIn, LeafLoss}
-use Rattle.bforest_core.proofs.LevelRows.{flat-append, heads-append, sizes-append, FitRow-split, Solid-full, least-le, least-pos, HeadIs, head-is}
-use Rattle.bforest_core.proofs.Tables.{count-append, count-same, count-row, row-split, row-put, row-same, rows-same, ne_from_count, absent_ne, Puts, puts}
-use Rattle.bforest_core.proofs.Zipper.{Cut, cut, apart_here}
+use Rattle.bforest_core.specs.Climb.{Above}
+use Rattle.bforest_core.specs.Removal.{Rebuilt, StandsIn, LeafLoss}
+use Rattle.bforest_core.proofs.LevelRows.{flat-append, heads-append, sizes-append, FitRow-split, Solid-full, least-pos}
+use Rattle.bforest_core.proofs.Tables.{count-append, count-same, count-row, row-split, row-put, row-same, rows-same, ne_from_count, Puts, puts}
+use Rattle.bforest_core.proofs.Zipper.{cut, apart_here}
 use Rattle.bforest_core.proofs.Frees.{frees-refl}
-use Rattle.bforest_core.proofs.Trim.{heads-flat}
 
 remove_between : {A : Type 0} (p s : List A) (x : A) → remove (p ++ x ∷ s) (length p) ≡ p ++ s
 remove_between [] s x = refl
@@ -79,6 +78,7 @@ module _ {K V : Type 0} where
     pub none_rows : count (get_or path 0 0) (flat_map numbers tree.above) ≡ 0
     pub none_chain : count (get_or path 0 0) t.chain ≡ 0
 
+  -- a path that stands in a tree finds this
   pub leaf_at : (most : ℕ) (t : Table K V) (path indices : List ℕ) (size : ℕ) (tree : Tree K V) (place : ℕ) → StandsIn most t path indices size tree place → LeafAt most t path indices size tree place
   leaf_at most t path indices size tree place s =
       let at = s.stands.leaf in
@@ -236,6 +236,7 @@ module _ {K V : Type 0} where
     pub slot_is : slice_get u.nodes (get_or path 0 0) ≡ Some (leaf_content (next ∷ others))
     pub above : Above u path indices 1 size tree.above (heads d.before ++ (d.x.0, get_or path 0 0) ∷ heads d.after) (length (heads d.before))
 
+  -- it is found where the path was at the first entry
   pub first_out : (most : ℕ) (t u : Table K V) (path indices : List ℕ) (size : ℕ) (tree : Tree K V) (place : ℕ) → (d : LeafAt most t path indices size tree place) → 1 ≤ length (d.l ++ d.r) → Puts t u (get_or path 0 0) (leaf_content (d.l ++ d.r)) → get_or indices 0 0 ≤ 0 → FirstOut most t u path indices size tree place d
   first_out most t u path indices size tree place d more w first =
       let n = get_or path 0 0 in

@@ -1,14 +1,14 @@
 -- After an entry went out of its leaf: whether the path is behind all entries, and the leaf as a level that may need healing.
-use Rattle.std.proofs.Common.{◌≡◌, ℕ, suc, ◌+◌, ◌≤◌, ◌<◌, Some, None, Option, Bool, true, false, not, List, [], ◌∷◌, ◌++◌, length, get_or, slice_get, refl, sym, ap, ◌∙◌, subst, length-append, arith}
+use Rattle.std.proofs.Common.{◌≡◌, ℕ, ◌≤◌, ◌<◌, Some, None, Option, Bool, true, false, not, List, [], ◌∷◌, ◌++◌, length, get_or, slice_get, refl, ap, ◌∙◌, subst, length-append, arith}
 use Rattle.std.specs.Option.{is_some}
 use Rattle.bforest_core.specs.Table.{Table}
-use Rattle.bforest_core.specs.Levels.{LevelNode, node, flat, head_of, heads, FitRow, Tree, half_of}
+use Rattle.bforest_core.specs.Levels.{LevelNode, node, flat, head_of, heads, Tree, half_of}
 use Rattle.bforest_core.specs.Place.{leaf_content}
 use Rattle.bforest_core.specs.Climb.{Above, NextIs}
 use Rattle.bforest_core.specs.Removal.{LeafLoss, OnLevel}
-use Rattle.bforest_core.proofs.LevelRows.{heads-append, least-pos, HeadIs, head-is}
+use Rattle.bforest_core.proofs.LevelRows.{heads-append, head-is}
 use Rattle.bforest_core.proofs.Tables.{row-split}
-use Rattle.bforest_core.proofs.LeafLoss.{leaf_keys, no_nodes}
+use Rattle.bforest_core.proofs.LeafLoss.{no_nodes}
 use Rattle.bforest_core.proofs.Trim.{heads-flat}
 
 module _ {K V : Type 0} where
@@ -21,6 +21,7 @@ module _ {K V : Type 0} where
     pub first : K
     pub above : Above v path indices 1 size rest (a ++ (first, get_or path 0 0) ∷ b) (length a)
 
+  -- the rows above have this form
   pub loss_form : (most : ℕ) (t v : Table K V) (path indices : List ℕ) (size : ℕ) (tree : Tree K V) (place : ℕ) → (l : LeafLoss most t v path indices size tree place) → LossForm v path indices size l.rest (heads l.before) (heads l.after)
   loss_form most t v path indices size tree place l =
       let n = get_or path 0 0 in

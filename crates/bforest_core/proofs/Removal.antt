@@ -1,20 +1,20 @@
 -- What a removal from the tree under a root says of the table.
-use Rattle.std.proofs.Common.{◌≡◌, ◌≢◌, ℕ, zero, suc, ◌+◌, ◌≤◌, ◌<◌, ◌↔◌, IsTrue, Option, Some, None, IfSome, List, [], ◌∷◌, ◌++◌, map, length, get_or, slice_get, refl, sym, ap, ◌∙◌, subst, inl, inr, length-append, arith}
+use Rattle.std.proofs.Common.{◌≡◌, ◌≢◌, ℕ, zero, suc, ◌+◌, ◌≤◌, ◌<◌, ◌↔◌, Option, Some, None, IfSome, List, [], ◌∷◌, ◌++◌, length, get_or, refl, sym, ap, ◌∙◌, subst, inl, inr, length-append, arith}
 use Rattle.std.specs.List.{remove}
 use Rattle.std.proofs.lemmas.Bool.Decides.{eqb_tells}
 use Rattle.std.proofs.lemmas.List.{length-map}
 use Rattle.bforest_nodes.specs.Content.{Content}
 use Rattle.bforest_core.specs.Table.{Table}
-use Rattle.bforest_core.specs.Levels.{LevelNode, node, flat, sizes, Tree, sizes_of}
+use Rattle.bforest_core.specs.Levels.{node, flat, sizes, Tree, sizes_of}
 use Rattle.bforest_core.specs.Sizes.{shrink}
 use Rattle.bforest_core.specs.Place.{leaf_content, count, root_of, numbers_of, Stands, IsPathAt}
-use Rattle.bforest_core.specs.Trees.{tree_of, is_root, IsUnion}
+use Rattle.bforest_core.specs.Trees.{tree_of, IsUnion}
 use Rattle.bforest_core.specs.Change.{Changes, Ends, GivesNodes, StandsUnder, node_count}
 use Rattle.bforest_core.specs.Removal.{StandsIn, Removed, Emptied}
 use Rattle.bforest_core.proofs.LevelRows.{flat-append}
 use Rattle.bforest_core.proofs.Tables.{count-append}
 use Rattle.bforest_core.proofs.Forests.{root-among}
-use Rattle.bforest_core.proofs.Unions.{Rooted, IsPlanted, rooted}
+use Rattle.bforest_core.proofs.Unions.{IsPlanted, rooted}
 use Rattle.bforest_core.proofs.Roots.{exchanged-freed, uprooted-union}
 use Rattle.bforest_core.proofs.Account.{length-same, nodes-count}
 
@@ -123,6 +123,7 @@ module _ {K V : Type 0} where
     pub none_left : shrink most place (sizes_of (tree_of old.nodes root)) ≡ []
     pub freed_root : 0 < count root new.chain
 
+  -- the last entry went out of the tree under a root
   pub ending : (most : ℕ) (old new : Table K V) (root place : ℕ) (path indices : List ℕ) (size : ℕ) → IsUnion most old → StandsUnder old.nodes root path indices size place → Emptied most old new (tree_of old.nodes root) place → Ending most old new root place
   ending most old new root place path indices size union s i =
       let tree = tree_of old.nodes root in
@@ -147,6 +148,7 @@ module _ {K V : Type 0} where
   Outcome most old new root place path' indices' size' None = Ending most old new root place
   Outcome most old new root place path' indices' size' (Some root') = Removal most old new root root' place path' indices' size'
 
+  -- as the call for a leaf of one entry says
   pub outcome : (most : ℕ) (old new : Table K V) (root place : ℕ) (path indices : List ℕ) (size : ℕ) (path' indices' : List ℕ) (size' : ℕ) (found : Option ℕ) → IsUnion most old → StandsUnder old.nodes root path indices size place →
       IfSome found (λ root'. Removed most old new path' indices' size' (tree_of old.nodes root) place root') → (found ≡ None → Emptied most old new (tree_of old.nodes root) place) → Outcome most old new root place path' indices' size' found
   outcome most old new root place path indices size path' indices' size' None union s removed emptied = ending most old new root place path indices size union s (emptied refl)
@@ -161,6 +163,7 @@ module _ {K V : Type 0} where
     pub none_left : found ≡ None → shrink most place (sizes_of (tree_of old.nodes root)) ≡ []
     pub freed_root : found ≢ Some root → 0 < count root new.chain
 
+  -- each of the two says so
   pub said : (most : ℕ) (old new : Table K V) (root place : ℕ) (path' indices' : List ℕ) (size' : ℕ) (found : Option ℕ) → Outcome most old new root place path' indices' size' found → Said most old new root place path' indices' size' found
   said most old new root place path' indices' size' None e = record {
     some = tt;

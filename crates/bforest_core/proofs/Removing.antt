@@ -1,18 +1,17 @@
 -- An entry out of a tree, put together from the calls that take it out.
-use Rattle.std.proofs.Common.{◌≡◌, ◌≢◌, ℕ, zero, suc, ◌+◌, ◌≤◌, ◌<◌, true, false, Some, None, List, [], ◌∷◌, ◌++◌, map, length, get_or, slice_get, refl, sym, ap, ◌∙◌, subst, append_assoc, append-nil, length-append, arith}
-use Rattle.std.specs.List.{flat_map, remove}
+use Rattle.std.proofs.Common.{◌≡◌, ℕ, suc, ◌+◌, Some, List, [], ◌∷◌, ◌++◌, map, length, get_or, refl, sym, ap, ◌∙◌, subst, length-append, arith}
 use Rattle.bforest_core.specs.Table.{Table}
-use Rattle.bforest_core.specs.Levels.{LevelNode, node, flat, head_of, heads, sizes, numbers, FitRow, Stacked, Topped, Tree, IsFit, half_of, sizes_of}
+use Rattle.bforest_core.specs.Levels.{LevelNode, node, flat, heads, sizes, numbers, FitRow, Tree, half_of}
 use Rattle.bforest_core.specs.Sizes.{loss_above}
-use Rattle.bforest_core.specs.Place.{leaf_content, root_of, StandsAbove, Stands, IsPathAt}
-use Rattle.bforest_core.specs.Climb.{Above, top_of}
-use Rattle.bforest_core.specs.Removal.{Rebuilt, OnLevel, Healed, Joined, UpTo, Trimmed, StandsIn, LeafLoss, Removed}
-use Rattle.bforest_core.proofs.LevelRows.{flat-append, sizes-append, FitRow-join}
+use Rattle.bforest_core.specs.Place.{leaf_content, root_of}
+use Rattle.bforest_core.specs.Climb.{Above}
+use Rattle.bforest_core.specs.Removal.{Rebuilt, Healed, Joined, UpTo, Trimmed, StandsIn, LeafLoss, Removed}
+use Rattle.bforest_core.proofs.LevelRows.{flat-append}
 use Rattle.bforest_core.proofs.Bounds.{FitRow-full}
 use Rattle.bforest_core.proofs.Tops.{root-stands}
 use Rattle.bforest_core.proofs.Trim.{length-sizes}
 use Rattle.bforest_core.proofs.PastEnd.{loss_half}
-use Rattle.bforest_core.proofs.Shrunk.{path-at, Untrimmed, up_to, trimmed_removed, whole_removed, past_untrimmed, healed_untrimmed, healed_stands, joined_untrimmed, joined_stands, joined_more}
+use Rattle.bforest_core.proofs.Shrunk.{path-at, up_to, trimmed_removed, whole_removed, past_untrimmed, healed_untrimmed, healed_stands, joined_untrimmed, joined_stands, joined_more}
 
 -- the numbers of a row are as many as its nodes
 length-numbers : {K X : Type 0} (row : List (LevelNode K X)) → length (numbers row) ≡ length row
@@ -67,6 +66,7 @@ module _ {K V : Type 0} where
     pub freed : List ℕ
     pub r : Rebuilt mid2 new path1 indices1 path' indices' 1 size l.rest (heads l.before ++ (j.first.0, j.right) ∷ heads j.after') (length (heads l.before)) (loss_above (Some (length (heads l.before))) (map sizes l.rest)) freed
 
+  -- as the calls say
   pub joined_rest : (most : ℕ) (old mid mid2 new : Table K V) (path indices path1 indices1 path' indices' : List ℕ) (size size1 : ℕ) (tree : Tree K V) (place : ℕ) → (l : LeafLoss most old mid path indices size tree place) →
       Joined leaf_content (half_of most) most mid mid2 path indices path1 indices1 0 size l.before (get_or path 0 0) l.entries l.after l.rest → size1 ≡ size →
       ((rows : List (List (LevelNode K ℕ))) (a : List (K × ℕ)) (k : K) (m : ℕ) (k2 : K) (n : ℕ) (b : List (K × ℕ)) → Above mid2 path1 indices1 1 size1 rows (a ++ (k, m) ∷ (k2, n) ∷ b) (length a) → (freed : List ℕ) × Rebuilt mid2 new path1 indices1 path' indices' 1 size1 rows (a ++ (k, n) ∷ b) (length a) (loss_above (Some (length a)) (map sizes rows)) freed) →
@@ -85,6 +85,7 @@ module _ {K V : Type 0} where
   abbrev pub joined_row : {most : ℕ} {old mid mid2 new : Table K V} {path indices path1 indices1 path' indices' : List ℕ} {size : ℕ} {tree : Tree K V} {place : ℕ} → JoinedRest most old mid mid2 new path indices path1 indices1 path' indices' size tree place → List (LevelNode K V)
   joined_row d = d.l.before ++ node d.j.right (d.l.entries ++ d.j.right_entries) ∷ d.j.after'
 
+  -- the rows are what the call that discards roots asks for
   pub joined_up : (most : ℕ) (old mid mid2 new : Table K V) (path indices path1 indices1 path' indices' : List ℕ) (size size2 : ℕ) (tree : Tree K V) (place root : ℕ) → StandsIn most old path indices size tree place → root_of tree ≡ root → (d : JoinedRest most old mid mid2 new path indices path1 indices1 path' indices' size tree place) → size2 ≡ size →
       UpTo new size2 d.r.rows' (heads (joined_row d)) root
   joined_up most old mid mid2 new path indices path1 indices1 path' indices' size size2 tree place root s root_is d size_is =

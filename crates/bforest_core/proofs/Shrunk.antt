@@ -1,17 +1,15 @@
 -- A tree after an entry went, before roots with a single child go, and after.
-use Rattle.std.proofs.Common.{◌≡◌, ◌≢◌, ℕ, zero, suc, ◌+◌, ◌≤◌, ◌<◌, true, false, Some, None, List, [], ◌∷◌, ◌++◌, map, length, get_or, slice_get, refl, sym, ap, ◌∙◌, subst, append_assoc, append-nil, length-append, arith}
+use Rattle.std.proofs.Common.{◌≡◌, ℕ, zero, suc, ◌+◌, ◌≤◌, ◌<◌, false, Some, List, [], ◌∷◌, ◌++◌, map, length, get_or, refl, sym, ap, ◌∙◌, subst, append_assoc, append-nil, length-append, arith}
 use Rattle.std.specs.List.{flat_map, remove}
 use Rattle.std.proofs.lemmas.List.Concat.{flat_map-append}
-use Rattle.bforest_nodes.specs.Content.{Content}
 use Rattle.bforest_core.specs.Table.{Table}
-use Rattle.bforest_core.specs.Levels.{LevelNode, node, flat, head_of, heads, sizes, numbers, FitRow, Stacked, Topped, Tree, IsFit, half_of, sizes_of}
-use Rattle.bforest_core.specs.Sizes.{settled, loss, loss_above, trimmed, shrink}
-use Rattle.bforest_core.specs.Place.{RowIn, RowsIn, leaf_content, count, Distinct, root_above, root_of, numbers_of, IsAt, StandsAbove, Stands, IsPathAt}
-use Rattle.bforest_core.specs.Climb.{Above, top_of}
-use Rattle.bforest_core.specs.Removal.{Frees, Rebuilt, OnLevel, Healed, Joined, UpTo, Trimmed, StandsIn, LeafLoss, Removed}
+use Rattle.bforest_core.specs.Levels.{LevelNode, node, flat, head_of, heads, sizes, numbers, FitRow, Stacked, Tree, half_of}
+use Rattle.bforest_core.specs.Sizes.{settled, loss, loss_above, trimmed}
+use Rattle.bforest_core.specs.Place.{RowIn, RowsIn, leaf_content, count, root_above, root_of, numbers_of, StandsAbove, Stands, IsPathAt}
+use Rattle.bforest_core.specs.Removal.{Frees, Rebuilt, Healed, Joined, UpTo, Trimmed, StandsIn, LeafLoss, Removed}
 use Rattle.bforest_core.proofs.LevelRows.{flat-append, heads-append, sizes-append, FitRow-split, FitRow-join, Solid-full, least-pos}
 use Rattle.bforest_core.proofs.Bounds.{FitRow-full}
-use Rattle.bforest_core.proofs.Tables.{count-append, count-same, count-row, row-same, rows-same}
+use Rattle.bforest_core.proofs.Tables.{count-append, count-row, row-same, rows-same}
 use Rattle.bforest_core.proofs.Tops.{root-stands, top_tree}
 use Rattle.bforest_core.proofs.Losses.{loss_at, placed}
 use Rattle.bforest_core.proofs.Frees.{frees-refl, frees-then, freed-then}
@@ -224,7 +222,7 @@ module _ {K V : Type 0} where
       record {
         flat_is = flats ∙ l.flat_is;
         sizes_are = ap (λ z. z ∷ map sizes r.rows') (sizes-append l.before (node j.right both ∷ j.after')) ∙ ap (λ z. (sizes l.before ++ length both ∷ sizes j.after') ∷ z) (r.sizes_are ∙ ap (λ z. loss_above (Some z) (map sizes l.rest)) full ∙ ap (λ z. loss_above (Some (length l.before)) z) l.rest_sizes)
-        ∙ sym (ap (λ z. z.1 ∷ loss_above z.0 (map sizes tree.above)) l2);
+            ∙ sym (ap (λ z. z.1 ∷ loss_above z.0 (map sizes tree.above)) l2);
         half = half;
         leaves_fit = j.fit;
         leaves_in = row-same leaf_content mid2.nodes new.nodes row2 (λ m more. r.frees.others m (omega (arith, more, l.apart m, c0 m, c1 m, c2 m, c4 m, c6 m))) j.inside;

@@ -1,14 +1,13 @@
 -- Roots with a single child, which go: from the root down, and in the sizes from the leaves up.
-use Rattle.std.proofs.Common.{◌≡◌, ◌≢◌, ℕ, zero, suc, ◌+◌, ◌-◌, ◌≤◌, ◌<◌, Some, List, [], ◌∷◌, ◌++◌, map, length, get_or, slice_get, refl, sym, ap, ◌∙◌, subst, inl, inr, append_assoc, append-nil, length-append, length-set, arith}
+use Rattle.std.proofs.Common.{◌≡◌, ◌≢◌, ℕ, suc, ◌+◌, ◌-◌, ◌≤◌, ◌<◌, Some, List, [], ◌∷◌, ◌++◌, map, length, get_or, slice_get, refl, sym, ap, ◌∙◌, subst, inl, inr, append_assoc, append-nil, length-append, length-set, arith}
 use Rattle.std.specs.List.{flat_map}
-use Rattle.std.proofs.lemmas.List.{map-append}
 use Rattle.std.proofs.lemmas.List.Concat.{flat_map-append}
 use Rattle.std.proofs.lemmas.Bool.Decides.{eqb_tells}
 use Rattle.bforest_nodes.specs.Content.{Content, Free, entry_count}
 use Rattle.bforest_core.specs.Table.{Table, with_freed, front_of}
-use Rattle.bforest_core.specs.Levels.{LevelNode, node, flat, heads, sizes, numbers, FitRow, Stacked, Topped}
+use Rattle.bforest_core.specs.Levels.{LevelNode, node, flat, heads, sizes, numbers, Stacked, Topped}
 use Rattle.bforest_core.specs.Sizes.{trimmed}
-use Rattle.bforest_core.specs.Place.{RowsIn, inner_content, count, Distinct, root_above, first_number, StandsAbove}
+use Rattle.bforest_core.specs.Place.{RowsIn, inner_content, count, root_above, first_number, StandsAbove}
 use Rattle.bforest_core.specs.Removal.{Frees, UpTo, Trimmed}
 use Rattle.bforest_core.proofs.LevelRows.{least-pos}
 use Rattle.bforest_core.proofs.Bounds.{FitRow-full}
@@ -41,6 +40,7 @@ module _ {K : Type 0} where
   top_here list (node n (e ∷ es) ∷ []) root s is = record { init = []; entries = e ∷ es; rows_are = ap (λ z. (node z (e ∷ es) ∷ []) ∷ []) is; some = omega arith }
   top_here list (node n (e ∷ es) ∷ next ∷ row) root s is = absurd (omega (arith, s.2, FitRow-full 4 8 (omega arith) (node n (e ∷ es) ∷ next ∷ row) s.1))
 
+  -- there is one over any rows
   pub top_of_rows : (list : List (K × ℕ)) (row : List (LevelNode K ℕ)) (rows : List (List (LevelNode K ℕ))) (root : ℕ) → Stacked list (row ∷ rows) → root_above list (row ∷ rows) ≡ root → Top (row ∷ rows) root
   top_of_rows list row [] root s is = top_here list row root s is
   top_of_rows list row (next ∷ rows) root s is =
@@ -147,6 +147,7 @@ module _ {K V : Type 0} where
         none_chain = omega (arith, c, d, e, count-same root []);
       }
 
+  -- it is found where there is a level above the leaves
   pub top_in : (t : Table K V) (size : ℕ) (rows : List (List (LevelNode K ℕ))) (list : List (K × ℕ)) (root : ℕ) → UpTo t size rows list root → size ≢ 1 → TopIn t size rows list root
   top_in t size [] list root u more = absurd (more (sym u.height))
   top_in t size (row ∷ rows) list root u more = top_found t size (row ∷ rows) list root u (top_of_rows list row rows root u.stacked u.root_is)
@@ -239,6 +240,7 @@ module _ {K V : Type 0} where
   one_child t size rows init list root (x ∷ []) few some is u slot a b = record { init = init; x = x; rows_are = is; whole = u; slot_is = slot; none_below = a; none_chain = b }
   one_child t size rows init list root (x ∷ y ∷ es) few some is u slot a b = absurd (omega (arith, few))
 
+  -- the root that was found, where it has at most one child
   pub only_child : (t : Table K V) (size : ℕ) (rows : List (List (LevelNode K ℕ))) (list : List (K × ℕ)) (root : ℕ) → (d : TopIn t size rows list root) → length d.top.entries ≤ 1 → OnlyChild t size rows list root
   only_child t size rows list root d few = one_child t size rows d.top.init list root d.top.entries few d.top.some d.top.rows_are d.whole d.slot_is d.none_below d.none_chain
 

@@ -1,5 +1,5 @@
 -- What the calls of a path say of the rows above a level, and of a whole tree, when an entry goes.
-use Rattle.std.specs.Prelude.{remove, ◌≡◌, ◌≢◌, ℕ, suc, ◌+◌, ◌-◌, ◌≤◌, ◌<◌, ◌↔◌, true, false, List, [], ◌∷◌, ◌++◌, map, length, get_or, slice_get}
+use Rattle.std.specs.Prelude.{remove, ◌≡◌, ◌≢◌, ℕ, suc, ◌+◌, ◌≤◌, ◌<◌, true, false, List, [], ◌∷◌, ◌++◌, map, length, get_or, slice_get}
 use Rattle.std.specs.List.{flat_map}
 use Rattle.bforest_nodes.specs.Content.{Content, IsFree}
 use Rattle.bforest_core.specs.Table.{Table}

@@ -105,7 +105,6 @@ impl<K: Copy, V: Copy, const N: usize> Path<K, V, N> {
 
     // Whether the path is behind its leaf's last entry, and no leaf follows.
     fn is_past_end(&self, pool: &NodePool<K, V, N>) -> bool
-        requires capacity { IsLeafCapacity N }
         requires height { self.now.size ≤ 17 }
         requires lost { (old : Table K V) × (tree : Tree K V) × (place : ℕ) × LeafLoss N old pool.now self.now.node self.now.entry self.now.size tree place }
         ensures past { result ≡ true → (old : Table K V) (tree : Tree K V) (place : ℕ) → (l : LeafLoss N old pool.now self.now.node self.now.entry self.now.size tree place) → (l.after ≡ []) × (get_or self.now.entry 0 0 ≡ length l.entries) }
@@ -129,7 +128,8 @@ impl<K: Copy, V: Copy, const N: usize> Path<K, V, N> {
         if self.size == 1 {
             return root;
         }
-        if entries(pool, root) > 1 {
+        let count = entries(pool, root);
+        if count > 1 {
             return root;
         }
         let only = child(pool, root, 0);

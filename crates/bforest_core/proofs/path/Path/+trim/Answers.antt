@@ -1,5 +1,5 @@
-use Rattle.std.proofs.Common.{rules, ◌≡◌, ℕ, ◌-◌, ◌<◌, ◌≤◌, List, [], ◌∷◌, ◌++◌, length, slice_get, Some, refl, arith}
-use Rattle.bforest_core.specs.Place.{inner_content, entry_keys, entry_items}
+use Rattle.std.proofs.Common.{rules, ◌≡◌, ◌-◌, ◌<◌, [], ◌∷◌, ◌++◌, refl, arith}
+use Rattle.bforest_core.specs.Place.{inner_content}
 use Rattle.bforest_core.proofs.Stored.{item_count, some_same}
 use Rattle.bforest_core.proofs.Tables.{is_used}
 use Rattle.bforest_core.proofs.Trim.{top_in, trim_leaf, trim_stays, only_in, trim_down, trim_then}
@@ -8,35 +8,35 @@ use Rattle.bforest_core.proofs.path.Path.+trim.Goals as goal
 pub returns-then-self-eq1-clause-trimmed : goal.returns-then-self-eq1-clause-trimmed
 returns-then-self-eq1-clause-trimmed g t c = λ rows list u. ([], trim_leaf _ _ rows list c.args.root u c.if-self-eq1.true)
 
-pub entries-requires : goal.entries-requires
-entries-requires g t c =
+pub entries-count-requires : goal.entries-count-requires
+entries-count-requires g t c =
     let w = c.requires.rooted in
     let d = top_in _ _ w.0 w.1 c.args.root w.2 (λ one. c.if-self-eq1.false one) in
     (search rules, (inner_content d.top.entries, d.slot_is, λ free. free))
 
-pub returns-then-entries-gt1-clause-trimmed : goal.returns-then-entries-gt1-clause-trimmed
-returns-then-entries-gt1-clause-trimmed g t c = λ rows list u.
+pub returns-then-count-gt1-clause-trimmed : goal.returns-then-count-gt1-clause-trimmed
+returns-then-count-gt1-clause-trimmed g t c = λ rows list u.
     let d = top_in _ _ rows list c.args.root u (λ one. c.if-self-eq1.false one) in
-    let counted = c.entries.ensures (inner_content d.top.entries) d.slot_is in
-    ([], trim_stays _ _ rows list c.args.root u d (omega (arith, c.if-entries-gt1.true, counted, item_count d.top.entries)))
+    let counted = c.entries-count.ensures (inner_content d.top.entries) d.slot_is in
+    ([], trim_stays _ _ rows list c.args.root u d (omega (arith, c.if-count-gt1.true, counted, item_count d.top.entries)))
 
 pub child-only-requires : goal.child-only-requires
 child-only-requires g t c =
     let w = c.requires.rooted in
-    let d = only_in _ _ w.0 w.1 c.args.root c.entries.result w.2 (λ one. c.if-self-eq1.false one) c.entries.ensures c.if-entries-gt1.false in
+    let d = only_in _ _ w.0 w.1 c.args.root c.entries-count.result w.2 (λ one. c.if-self-eq1.false one) c.entries-count.ensures c.if-count-gt1.false in
     (search rules, (([], d.x.1 ∷ [], d.slot_is, omega arith)))
 
 pub free_node-requires : goal.free_node-requires
 free_node-requires g t c =
     let w = c.requires.rooted in
-    let d = only_in _ _ w.0 w.1 c.args.root c.entries.result w.2 (λ one. c.if-self-eq1.false one) c.entries.ensures c.if-entries-gt1.false in
+    let d = only_in _ _ w.0 w.1 c.args.root c.entries-count.result w.2 (λ one. c.if-self-eq1.false one) c.entries-count.ensures c.if-count-gt1.false in
     (search rules, is_used _ c.args.root (inner_content (d.x ∷ [])) d.slot_is d.none_chain)
 
 pub trim-requires : goal.trim-requires
 trim-requires g t c κs within =
     let w = c.requires.rooted in
     let size = c.args.self.now.size in
-    let d = only_in _ _ w.0 w.1 c.args.root c.entries.result w.2 (λ one. c.if-self-eq1.false one) c.entries.ensures c.if-entries-gt1.false in
+    let d = only_in _ _ w.0 w.1 c.args.root c.entries-count.result w.2 (λ one. c.if-self-eq1.false one) c.entries-count.ensures c.if-count-gt1.false in
     let only_is : d.x.1 ≡ c.child-only.result = some_same d.x.1 c.child-only.result (c.child-only.ensures [] (d.x.1 ∷ []) d.slot_is) in
     let next = trim_down _ c.free_node.new.self size (size - 1) w.0 w.1 c.args.root c.child-only.result d only_is c.free_node.ensures.freed refl in
     let less : size - 1 < t = omega (arith, c.decreases, w.2.height) in
@@ -45,7 +45,7 @@ trim-requires g t c κs within =
 pub returns-clause-trimmed : goal.returns-clause-trimmed
 returns-clause-trimmed g t c = λ rows list u.
     let size = c.args.self.now.size in
-    let d = only_in _ _ rows list c.args.root c.entries.result u (λ one. c.if-self-eq1.false one) c.entries.ensures c.if-entries-gt1.false in
+    let d = only_in _ _ rows list c.args.root c.entries-count.result u (λ one. c.if-self-eq1.false one) c.entries-count.ensures c.if-count-gt1.false in
     let only_is : d.x.1 ≡ c.child-only.result = some_same d.x.1 c.child-only.result (c.child-only.ensures [] (d.x.1 ∷ []) d.slot_is) in
     let next = trim_down _ c.free_node.new.self size (size - 1) rows list c.args.root c.child-only.result d only_is c.free_node.ensures.freed refl in
     let r = c.trim.ensures.trimmed d.init list next in

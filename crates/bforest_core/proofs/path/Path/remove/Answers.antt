@@ -1,11 +1,11 @@
-use Rattle.std.proofs.Common.{rules, ◌≡◌, ◌≢◌, ℕ, Some, None, List, [], ◌∷◌, ◌++◌, get_or, length, refl, sym, ap, ◌∙◌, length-append, arith}
+use Rattle.std.proofs.Common.{rules, ◌≡◌, ◌≢◌, ℕ, Some, ◌∷◌, ◌++◌, get_or, length, sym, ◌∙◌, length-append, arith}
 use Rattle.std.proofs.lemmas.List.{get_or_default}
 use Rattle.bforest_core.specs.Place.{leaf_content}
 use Rattle.bforest_core.specs.Trees.{tree_of}
 use Rattle.bforest_core.specs.Change.{StandsUnder}
 use Rattle.bforest_core.proofs.Tops.{root-stands}
 use Rattle.bforest_core.proofs.LeafLoss.{leaf_keys, leaf_at}
-use Rattle.bforest_core.proofs.Removal.{stands_in, Removal, removal, Said, outcome, said, if_some, one_slot, more_slot}
+use Rattle.bforest_core.proofs.Removal.{stands_in, removal, Said, outcome, said, if_some, one_slot, more_slot}
 use Rattle.bforest_core.proofs.path.Path.remove.Given.{Over}
 use Rattle.bforest_core.proofs.path.Path.remove.Goals as goal
 

@@ -1,4 +1,4 @@
-use Rattle.std.proofs.Common.{rules, ◌≡◌, List, [], ◌∷◌, ◌++◌, get_or, refl, sym, ap, ◌∙◌, arith}
+use Rattle.std.proofs.Common.{rules, get_or, ◌∙◌, arith}
 use Rattle.bforest_core.specs.Levels.{heads}
 use Rattle.bforest_core.proofs.PastEnd.{on_leaf}
 use Rattle.bforest_core.proofs.Removing.{stands_root, past_removed, healed_removed, joined_above, joined_rest, joined_row, joined_up, joined_removed}
@@ -8,7 +8,7 @@ pub is_past_end-requires : goal.is_past_end-requires
 is_past_end-requires g c =
     let s = c.requires.stands in
     let l = c.take_entry.ensures s.0 s.1 s.2 in
-    (search rules, (search rules, (c.requires.capacity, (omega (arith, s.2.low, s.2.stands.size_is), (c.args.pool.now, s.0, s.1, l)))))
+    (search rules, (search rules, (omega (arith, s.2.low, s.2.stands.size_is), (c.args.pool.now, s.0, s.1, l))))
 
 pub returns-then-is_past_end : goal.returns-then-is_past_end
 returns-then-is_past_end g c = λ tree place s.

@@ -1,4 +1,4 @@
-use Rattle.std.proofs.Common.{rules, ◌≡◌, ℕ, ◌<◌, List, [], ◌∷◌, ◌++◌, length, get_or, slice_get, Some, refl, sym, ap, ◌∙◌, length-append, arith}
+use Rattle.std.proofs.Common.{rules, ◌≡◌, ℕ, List, ◌∷◌, ◌++◌, get_or, slice_get, Some, length-append, arith}
 use Rattle.std.proofs.lemmas.List.{get_or_default}
 use Rattle.bforest_nodes.specs.Content.{Leaf, without_entry}
 use Rattle.bforest_core.specs.Table.{Table, with_node}
