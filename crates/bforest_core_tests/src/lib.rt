@@ -18,9 +18,9 @@ mod removals;
 #[cfg(test)]
 mod shapes;
 #[cfg(test)]
-mod tree;
-#[cfg(test)]
 mod taken;
+#[cfg(test)]
+mod tree;
 #[cfg(test)]
 mod trees;
 #[cfg(test)]

@@ -44,10 +44,7 @@ fn a_key_of_thirty_six(rt: HostRuntime) {
     assert_eq!(rt; tree.remove_and_read(16), Some((17, 17)));
     assert_eq!(rt; tree.levels(), 2);
     assert_eq!(rt; tree.keys(&[]), [5u32, 9, 13, 21, 25, 29, 33].as_slice());
-    assert_eq!(rt;
-        tree.keys(&[3]),
-        [13u32, 14, 15, 17, 18, 19, 20].as_slice()
-    );
+    assert_eq!(rt; tree.keys(&[3]), [13u32, 14, 15, 17, 18, 19, 20].as_slice());
     assert_eq!(rt; tree.keys(&[2]), [9u32, 10, 11, 12].as_slice());
     assert_eq!(rt; tree.keys(&[4]), [21u32, 22, 23, 24].as_slice());
     assert_counts(&rt, &tree, 12, 3);

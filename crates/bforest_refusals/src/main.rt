@@ -104,9 +104,7 @@ fn clear(map: &mut Numbers, forest: &mut MapForest<u32, u32>) {
 
 /// Removes a present key where the conditions hold, and says whether its value came.
 fn removes(map: &mut Numbers, key: u32, forest: &mut MapForest<u32, u32>) -> bool {
-    forest.holds(map)
-        && map.increases(forest, &())
-        && map.remove(key, forest, &()) == Some(key)
+    forest.holds(map) && map.increases(forest, &()) && map.remove(key, forest, &()) == Some(key)
 }
 
 /// Takes most entries of a map of 1 to 36 out, while another map watches. Says whether all was right.

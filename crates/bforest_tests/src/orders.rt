@@ -66,10 +66,7 @@ fn equal_keys_are_one_entry(rt: HostRuntime) -> Result<(), Fail> {
     assert_eq!(rt; get(&rt, &map, 19, &forest, &Tens), Some(2));
     let all = entries(&rt, rt.alloc(), &map, &forest)?;
     assert_eq!(rt; all.as_slice(), [(12, 2)].as_slice());
-    assert_eq!(rt;
-        remove(&rt, &mut map, 17, &mut forest, &Tens),
-        Some(2)
-    );
+    assert_eq!(rt; remove(&rt, &mut map, 17, &mut forest, &Tens), Some(2));
     assert!(rt; map.is_empty());
     Ok(())
 }
@@ -91,10 +88,7 @@ fn an_order_that_does_not_fit_shows(rt: HostRuntime) -> Result<(), Fail> {
     assert!(rt; !increases(&rt, &map, &forest, &Tens));
 
     // A list of one entry increases under every order.
-    assert_eq!(rt;
-        remove(&rt, &mut map, 5, &mut forest, &Reversed),
-        Some(50)
-    );
+    assert_eq!(rt; remove(&rt, &mut map, 5, &mut forest, &Reversed), Some(50));
     assert_eq!(rt; get(&rt, &map, 3, &forest, &()), Some(30));
     assert_eq!(rt;
         insert(&rt, &mut map, (7, 1), &mut forest, &Tens),

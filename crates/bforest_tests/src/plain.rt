@@ -1,8 +1,6 @@
 //! Random calls on several maps of a forest, each compared with the plain program.
 
-use crate::checked::{
-    NumberForest, Numbers, clear, entries, insert, levels, remove, retain_rests,
-};
+use crate::checked::{NumberForest, Numbers, clear, entries, insert, levels, remove, retain_rests};
 use bforest::{Map, MapForest, OutOfMemory};
 use bforest_plain::Plain;
 use std::alloc::{AllocError, Global};
