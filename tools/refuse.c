@@ -1,15 +1,27 @@
-// malloc and realloc, of which the call numbered REFUSED is refused: for LD_PRELOAD.
+// malloc and realloc, of which the call numbered REFUSED is refused, and with ALL each one from there on: for LD_PRELOAD. With ALL the number
+// of refused calls is written to standard error at the end.
 #define _GNU_SOURCE
 #include <dlfcn.h>
+#include <stdio.h>
 #include <stdlib.h>
 
+static long seen, first = -1, refused;
+static int is_all;
+
 static int is_refused(void) {
-    static long seen = 0, refused = -1;
-    if (refused < 0) {
+    if (first < 0) {
         const char *text = getenv("REFUSED");
-        refused = text ? atol(text) : 0;
+        first = text ? atol(text) : 0;
+        is_all = getenv("ALL") != NULL;
     }
-    return ++seen == refused;
+    ++seen;
+    int is = first > 0 && (is_all ? seen >= first : seen == first);
+    refused += is;
+    return is;
+}
+
+__attribute__((destructor)) static void tell(void) {
+    if (is_all) dprintf(2, "refused calls: %ld\n", refused);
 }
 
 void *malloc(size_t size) {

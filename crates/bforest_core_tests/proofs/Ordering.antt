@@ -1,17 +1,17 @@
 -- A tree whose list is what an insertion makes of it has its keys in order.
-use Rattle.std.proofs.Common.{◌≡◌, ℕ, ◌∙◌, Result, Ok, Err, IfOk, OnOk, ◌≤◌, List, [], ◌∷◌, Option, None, Some, refl, subst, sym, true, false}
+use Rattle.std.proofs.Common.{◌≡◌, ℕ, ◌∙◌, Result, Ok, Err, IfOk, IfSome, IsTrue, OnOk, ◌≤◌, List, [], ◌∷◌, Option, None, Some, refl, remove, subst, sym, true, false}
 use Rattle.std.specs.Option.{is_some, option_map}
 use Rattle.std.specs.Ordering.{nat_cmp}
 use Rattle.std.specs.List.Sorted.{IsStrictlySortedBy}
 use Rattle.std.proofs.lemmas.Cmp.{nat_cmp_total}
-use Rattle.bforest_core.specs.Change.{Changes}
+use Rattle.bforest_core.specs.Change.{Changes, Ends}
 use Rattle.bforest_nodes.specs.Entries.{entry_for, is_present, put, value_for, IsIncreasing}
 use Rattle.bforest_core.specs.Levels.{flat}
 use Rattle.bforest_core.specs.Table.{Table, front_of, reserved, with_front}
 use Rattle.bforest_nodes.specs.Content.{Leaf}
-use Rattle.bforest_core.specs.Trees.{IsUnion, tree_of}
+use Rattle.bforest_core.specs.Trees.{IsUnion, is_root, tree_of}
 use Rattle.bforest_core.proofs.Planting.{planted-alloc}
-use Rattle.bforest_nodes.proofs.Ordered.{IsIncreasing-put}
+use Rattle.bforest_nodes.proofs.Ordered.{IsIncreasing-put, IsIncreasing-remove}
 use Rattle.bforest_core_tests.specs.Ordered.{IsOrderedAt}
 
 -- a key with a value is present
@@ -57,3 +57,26 @@ pub planted : {E : Type 0} (n : ℕ) (old new : Table ℕ ℕ) (key value : ℕ)
     OnOk r (new ≡ with_front (reserved old 1) (reserved old 1).chain (Leaf (key ∷ []) (value ∷ []))) → IfOk r (λ root. IsUnion n new × IsOrderedAt new.nodes root)
 planted n old new key value (Ok root) union one front is = ordered-one n old new root root key value _ (planted-alloc n old new root key value union one front is).0
 planted n old new key value (Err e) union one front is = tt
+
+-- a tree without the entry at a place
+pub ordered-left : (n : ℕ) (old new : Table ℕ ℕ) (root root' place : ℕ) (sizes : List (List ℕ)) → IsOrderedAt old.nodes root → Changes n old new root root' (remove (flat (tree_of old.nodes root).leaves) place) sizes → IsOrderedAt new.nodes root'
+ordered-left n old new root root' place sizes ordered changes = record {
+  root_is = changes.root_is;
+  increasing = subst (IsIncreasing nat_cmp) (sym changes.list_is) (IsIncreasing-remove nat_cmp (flat (tree_of old.nodes root).leaves) place ordered.increasing);
+}
+
+-- such a tree, where one is left
+pub left-ordered : (n : ℕ) (old new : Table ℕ ℕ) (root place : ℕ) (sizes : List (List ℕ)) (answer : Option ℕ) → IsOrderedAt old.nodes root → IfSome answer (λ root'. Changes n old new root root' (remove (flat (tree_of old.nodes root).leaves) place) sizes) →
+    IfSome answer (λ root'. IsOrderedAt new.nodes root')
+left-ordered n old new root place sizes None ordered changes = tt
+left-ordered n old new root place sizes (Some root') ordered changes = ordered-left n old new root root' place sizes ordered changes
+
+-- and its pool
+pub left-union : (n : ℕ) (old new : Table ℕ ℕ) (root : ℕ) (list : List (ℕ × ℕ)) (sizes : List (List ℕ)) (answer : Option ℕ) → IfSome answer (λ root'. Changes n old new root root' list sizes) → (answer ≡ None → Ends n old new root) → IsUnion n new
+left-union n old new root list sizes None changes ends = (ends refl).union
+left-union n old new root list sizes (Some root') changes ends = changes.union
+
+-- and its root
+pub left-root : (n : ℕ) (old new : Table ℕ ℕ) (root : ℕ) (list : List (ℕ × ℕ)) (sizes : List (List ℕ)) (answer : Option ℕ) → IfSome answer (λ root'. Changes n old new root root' list sizes) → IfSome answer (λ root'. IsUnion n new × IsTrue (is_root new.nodes root'))
+left-root n old new root list sizes None changes = tt
+left-root n old new root list sizes (Some root') changes = (changes.union, changes.root_is)

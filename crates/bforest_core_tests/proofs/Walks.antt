@@ -1,11 +1,12 @@
 -- A path that stands in a tree, or at its end, may go on, and does so after a step.
-use Rattle.std.proofs.Common.{◌≡◌, ◌≢◌, ℕ, suc, ◌≤◌, IsTrue, List, Option, None, Some, refl, ap, arith, length}
+use Rattle.std.proofs.Common.{◌≡◌, ◌≢◌, ℕ, suc, ◌≤◌, IfSome, IsTrue, List, Option, None, Some, refl, ap, arith, length}
 use Rattle.bforest_core.specs.Change.{StandsUnder}
 use Rattle.bforest_nodes.specs.Content.{Content}
 use Rattle.bforest_core.specs.Levels.{Tree, IsFit}
-use Rattle.bforest_core.specs.Place.{IsIn, Stands}
+use Rattle.bforest_core.specs.Place.{IsIn, IsPathAt, Stands}
 use Rattle.bforest_core.specs.Table.{Table}
-use Rattle.bforest_core.specs.Trees.{IsUnion, tree_of}
+use Rattle.bforest_core.specs.Trees.{IsUnion, is_root, tree_of}
+use Rattle.bforest_core.proofs.Backward.{at_entry}
 use Rattle.bforest_core.proofs.Unions.{rooted}
 use Rattle.bforest_core_tests.specs.Ordered.{CanGoOn}
 
@@ -35,3 +36,11 @@ module _ (n : ℕ) (slots : List (Content ℕ ℕ)) (path indices : List ℕ) (s
         low = omega (arith, s.size_is, w.4);
         stands = λ some'. (w.0, suc w.1, w.2, w.3, w.4, s);
       }
+
+-- after a removal: at the entry that followed, or at the end
+pub go-after : (n : ℕ) (new : Table ℕ ℕ) (answer : Option ℕ) (path indices : List ℕ) (size place : ℕ) → IfSome answer (λ root. IsUnion n new × IsTrue (is_root new.nodes root)) →
+    IfSome answer (λ root. IsPathAt path indices size (tree_of new.nodes root) place) → (answer ≡ None → size ≡ 0) →
+    size ≢ 0 → (tree : Tree ℕ ℕ) × (place : ℕ) × IsFit n tree × IsIn new.nodes tree × Stands path indices size tree place
+go-after n new None path indices size place there at end some = absurd (some (end refl))
+go-after n new (Some root) path indices size place there at end some =
+    let r = rooted n new root there.0 there.1 in (tree_of new.nodes root, place, r.fit, r.inside, at_entry path indices (tree_of new.nodes root) place size some at)

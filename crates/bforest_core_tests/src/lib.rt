@@ -4,6 +4,8 @@
 #[cfg(test)]
 mod balances;
 #[cfg(test)]
+mod compared;
+#[cfg(test)]
 mod halves;
 #[cfg(test)]
 mod nodes;
@@ -15,6 +17,8 @@ mod readings;
 mod removals;
 #[cfg(test)]
 mod shapes;
+#[cfg(test)]
+mod taken;
 #[cfg(test)]
 mod tree;
 #[cfg(test)]

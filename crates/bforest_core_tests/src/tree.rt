@@ -2,10 +2,10 @@
 ghost use Rattle.bforest_nodes.specs.Content.{IsLeafCapacity};
 ghost use Rattle.bforest_core.specs.Trees.{IsUnion};
 ghost use Rattle.bforest_core_tests.specs.Ordered.{CanGoOn, IsOrderedAt};
-ghost use Rattle.std.specs.Prelude.{IfOk, OnErr, ℕ, ◌<◌, ◌≡◌, ◌≢◌};
+ghost use Rattle.std.specs.Prelude.{IfOk, IfSome, OnErr, ℕ, ◌<◌, ◌≡◌, ◌≢◌};
 
 use bforest_core::{Node, NodePool, OutOfMemory, Path};
-use std::alloc::Global;
+use std::alloc::{AllocError, Global};
 use std::marker::Model;
 use std::process::Abort;
 
@@ -50,6 +50,28 @@ impl<const N: usize> Tree<N> {
         };
         self.root = Some(root);
         Ok(())
+    }
+
+    /// Takes a key out, and answers its value.
+    pub(crate) fn remove(&mut self, key: u32) -> Option<u32> {
+        let (root, value, _) = cut(&mut self.pool, self.root?, key);
+        self.root = root;
+        value
+    }
+
+    /// Takes a key out, and answers the entry where the path stands then.
+    pub(crate) fn remove_and_read(&mut self, key: u32) -> Option<(u32, u32)> {
+        let (root, _, entry) = cut(&mut self.pool, self.root?, key);
+        self.root = root;
+        entry
+    }
+
+    /// Ends the tree.
+    pub(crate) fn end(&mut self) {
+        if let Some(root) = self.root {
+            self.pool.free_tree(root);
+            self.root = None;
+        }
     }
 
     /// Adds one to the value of a key, and says whether it is present.
@@ -125,6 +147,22 @@ impl<const N: usize> Tree<N> {
     /// The number of the node to which these indices lead.
     pub(crate) fn number_at(&self, way: &[usize]) -> Option<u32> {
         Some(self.node_at(way)?.number())
+    }
+
+    /// The sizes of the nodes of a level, that of the leaves at height 0.
+    pub(crate) fn sizes(&self, alloc: Global, height: usize) -> Result<Vec<usize>, AllocError> {
+        let mut row = Vec::new(alloc);
+        if let Some(root) = self.root {
+            row.push(root)?;
+        }
+        for _above in height.saturating_add(1)..self.levels() {
+            row = row_below(&self.pool, alloc, &row)?;
+        }
+        let mut sizes = Vec::new(alloc);
+        for node in &row {
+            sizes.push(size(&self.pool, *node))?;
+        }
+        Ok(sizes)
     }
 
     /// Walks from the first entry on, which has to give 1 to `most`, each under itself, and nothing from then on.
@@ -206,6 +244,26 @@ fn put<const N: usize>(
     }
 }
 
+// Takes a key out of a tree. Answers the root, or nothing where no entry is left, the key's value, and the entry that followed.
+fn cut<const N: usize>(
+    pool: &mut Pool<N>,
+    root: Node,
+    key: u32,
+) -> (Option<Node>, Option<u32>, Option<(u32, u32)>)
+    requires capacity { IsLeafCapacity N }
+    requires union { IsUnion N pool.old }
+    requires ordered { IsOrderedAt pool.old.nodes root }
+    ensures union { IsUnion N pool.new }
+    ensures ordered { IfSome result.0 (λ root'. IsOrderedAt pool.new.nodes root') }
+{
+    let mut path = Path::default();
+    let Some(value) = path.find(key, root, pool, &()) else {
+        return (Some(root), None, None);
+    };
+    let root = path.remove(pool);
+    (root, Some(value), path.entry(pool))
+}
+
 // Adds one to the value of a key, and says whether it is present.
 fn count_at<const N: usize>(pool: &mut Pool<N>, root: Node, key: u32) -> bool
     requires capacity { IsLeafCapacity N }
@@ -236,6 +294,32 @@ fn keys<const N: usize>(pool: &Pool<N>, node: Node) -> &[u32] {
         &[]
     } else {
         content.unwrap_leaf().0
+    }
+}
+
+// The children of the nodes of a row, from left to right.
+fn row_below<const N: usize>(
+    pool: &Pool<N>,
+    alloc: Global,
+    row: &[Node],
+) -> Result<Vec<Node>, AllocError> {
+    let mut below = Vec::new(alloc);
+    for node in row {
+        for index in 0..8 {
+            if let Some(child) = child(pool, *node, index) {
+                below.push(child)?;
+            }
+        }
+    }
+    Ok(below)
+}
+
+// How many entries or children a node has.
+fn size<const N: usize>(pool: &Pool<N>, node: Node) -> usize {
+    let keys = keys(pool, node).len();
+    match child(pool, node, 0) {
+        Some(_) => keys.saturating_add(1),
+        None => keys,
     }
 }
 

@@ -1,5 +1,6 @@
 //! Insertions into a map that grows to three levels, beside another map of the forest. One may be refused for want of memory: nothing
-//! changes then, and the same insertion succeeds when it is made again. `tools/refuse_each` runs it with each request for memory refused in turn.
+//! changes then, and the same insertion succeeds when it is made again. Then removals, a retain and clears, which ask for no memory.
+//! `tools/refuse_each` runs it with each request for memory refused in turn, and with all refused once the maps are built.
 #![tactic(auto)]
 
 use bforest::{Map, MapForest, OutOfMemory};
@@ -82,6 +83,48 @@ fn attempt(
     }
 }
 
+/// How many entries there are, and the sum of their values.
+fn count_and_sum(map: &Numbers, forest: &MapForest<u32, u32>) -> (u32, u32) {
+    if !forest.holds(map) {
+        return (0, 0);
+    }
+    let mut counted = (0u32, 0u32);
+    for (_, value) in map.iter(forest) {
+        counted = (counted.0.wrapping_add(1), counted.1.wrapping_add(value));
+    }
+    counted
+}
+
+/// Ends a map's tree where the handle is live.
+fn clear(map: &mut Numbers, forest: &mut MapForest<u32, u32>) {
+    if forest.holds(map) {
+        map.clear(forest);
+    }
+}
+
+/// Removes a present key where the conditions hold, and says whether its value came.
+fn removes(map: &mut Numbers, key: u32, forest: &mut MapForest<u32, u32>) -> bool {
+    forest.holds(map) && map.increases(forest, &()) && map.remove(key, forest, &()) == Some(key)
+}
+
+/// Takes most entries of a map of 1 to 36 out, while another map watches. Says whether all was right.
+fn loses_most(map: &mut Numbers, forest: &mut MapForest<u32, u32>, other: &Numbers) -> bool {
+    let before = (digest(other, forest), forest.slots());
+    let mut is_right = true;
+    for key in [16, 1, 36, 2, 3, 20] {
+        is_right = removes(map, key, forest) && is_right;
+    }
+    if forest.holds(map) {
+        map.retain(forest, |key, value| {
+            *value = value.wrapping_add(1);
+            key % 9 == 0
+        });
+    }
+    // Of 9, 18 and 27, each with 1 more.
+    is_right = count_and_sum(map, forest) == (3, 57) && is_right;
+    is_right && (digest(other, forest), forest.slots()) == before
+}
+
 fn main(rt: HostRuntime) -> io::Result<()> {
     let mut forest = MapForest::new(rt.alloc());
     let mut seen = Seen {
@@ -95,10 +138,18 @@ fn main(rt: HostRuntime) -> io::Result<()> {
     for key in 1..37 {
         insert(&mut map, key, &mut forest, &watch, &mut seen);
     }
+    let built = (forest.slots(), forest.free_slots());
+
+    let mut is_right = loses_most(&mut map, &mut forest, &watch);
+    clear(&mut map, &mut forest);
+    is_right = removes(&mut watch, 7, &mut forest) && map.is_empty() && is_right;
     println!(rt;
-        "refused {} right {} slots {} free {}",
+        "refused {} right {} slots {} free {} then {} slots {} free {}",
         seen.refused,
         seen.is_right,
+        built.0,
+        built.1,
+        is_right,
         forest.slots(),
         forest.free_slots()
     )

@@ -13,4 +13,8 @@ mod plain;
 #[cfg(test)]
 mod refusals;
 #[cfg(test)]
+mod removals;
+#[cfg(test)]
+mod retained;
+#[cfg(test)]
 mod trees;

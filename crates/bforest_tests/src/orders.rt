@@ -4,7 +4,7 @@ ghost use Rattle.std.specs.Cmp.Rules.{comparing};
 ghost use Rattle.std.specs.Ordering.{flip_args, nat_cmp, on};
 ghost use Rattle.std.specs.Prelude.{◌/◌};
 
-use crate::checked::{NumberForest, entries, get, increases, insert};
+use crate::checked::{NumberForest, entries, get, increases, insert, remove};
 use bforest::{Comparator, Map, MapForest};
 use std::cmp::Ordering;
 use std::test::Fail;
@@ -66,6 +66,8 @@ fn equal_keys_are_one_entry(rt: HostRuntime) -> Result<(), Fail> {
     assert_eq!(rt; get(&rt, &map, 19, &forest, &Tens), Some(2));
     let all = entries(&rt, rt.alloc(), &map, &forest)?;
     assert_eq!(rt; all.as_slice(), [(12, 2)].as_slice());
+    assert_eq!(rt; remove(&rt, &mut map, 17, &mut forest, &Tens), Some(2));
+    assert!(rt; map.is_empty());
     Ok(())
 }
 
@@ -84,5 +86,15 @@ fn an_order_that_does_not_fit_shows(rt: HostRuntime) -> Result<(), Fail> {
     assert!(rt; !increases(&rt, &map, &forest, &()));
     assert!(rt; increases(&rt, &map, &forest, &Reversed));
     assert!(rt; !increases(&rt, &map, &forest, &Tens));
+
+    // A list of one entry increases under every order.
+    assert_eq!(rt; remove(&rt, &mut map, 5, &mut forest, &Reversed), Some(50));
+    assert_eq!(rt; get(&rt, &map, 3, &forest, &()), Some(30));
+    assert_eq!(rt;
+        insert(&rt, &mut map, (7, 1), &mut forest, &Tens),
+        Ok(Some(30))
+    );
+    let all = entries(&rt, rt.alloc(), &map, &forest)?;
+    assert_eq!(rt; all.as_slice(), [(3, 1)].as_slice());
     Ok(())
 }

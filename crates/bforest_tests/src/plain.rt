@@ -1,161 +1,120 @@
-//! The definitions as a plain program: a sorted list with the sizes of its tree's nodes. Random insertions into several maps of a forest are
-//! compared with it.
+//! Random calls on several maps of a forest, each compared with the plain program.
 
-use crate::checked::{NumberForest, Numbers, entries, insert, levels};
+use crate::checked::{NumberForest, Numbers, clear, entries, insert, levels, remove, retain_rests};
 use bforest::{Map, MapForest, OutOfMemory};
+use bforest_plain::Plain;
 use std::alloc::{AllocError, Global};
 use std::process::Abort;
 use std::test::Fail;
 
-/// A map as its list, and the sizes of its tree's nodes, level by level, the leaves first.
+/// A map, and its plain program.
 #[derive(Drop)]
-struct Plain {
-    list: Vec<(u32, u32)>,
-    sizes: Vec<Vec<usize>>,
+struct Both {
+    map: Numbers,
+    plain: Plain,
 }
 
-/// The node of a level at which a place lies, and the place in it. In a leaf a place behind the last entry counts.
-fn node_at(level: &[usize], place: usize, is_leaf: bool) -> (usize, usize) {
-    let mut left = place;
-    for (index, size) in level.iter().enumerate() {
-        if left < *size || is_leaf && left == *size {
-            return (index, left);
-        }
-        left = left.saturating_sub(*size);
-    }
-    (0, 0)
+/// What a forest has to count, by the plain programs of all its maps.
+#[derive(Clone, Copy)]
+struct Counts {
+    slots: u32,
+    free: u32,
 }
 
-/// The sizes of the halves of a full node, with the new entry or child.
-fn halves(within: usize, is_leaf: bool) -> (usize, usize) {
-    if is_leaf {
-        (4, 4)
-    } else if within < 4 {
-        (5, 4)
-    } else {
-        (4, 5)
-    }
-}
-
-impl Plain {
-    fn new(alloc: Global) -> Plain {
-        Plain {
-            list: Vec::new(alloc),
-            sizes: Vec::new(alloc),
+impl Both {
+    fn new(alloc: Global) -> Both {
+        Both {
+            map: Map::new(),
+            plain: Plain::new(alloc, 7),
         }
     }
 
-    /// How many keys are less.
-    fn place(&self, key: u32) -> usize {
-        self.list.iter().filter(|entry| entry.0 < key).count()
-    }
-
-    /// The value of a key.
-    fn get(&self, key: u32) -> Option<u32> {
-        let entry = self.list.iter().find(|entry| entry.0 == key)?;
-        Some(entry.1)
-    }
-
-    /// How many nodes an insertion at a place takes.
-    fn need(&self, place: usize) -> u32 {
-        let mut at = place;
-        let mut full = 0u32;
-        for (height, level) in self.sizes.iter().enumerate() {
-            let (index, _) = node_at(level, at, height == 0);
-            let most = if height == 0 { 7 } else { 8 };
-            if level.get(index).copied().unwrap_or(0) < most {
-                return full;
-            }
-            full = full.saturating_add(1);
-            at = index;
+    /// Puts an entry into both. Answers what the forest has to count then.
+    fn insert(
+        &mut self,
+        rt: &impl Abort,
+        forest: &mut NumberForest,
+        (key, value): (u32, u32),
+        counts: Counts,
+    ) -> Result<Counts, AllocError> {
+        let old = self.plain.get(key);
+        let need = self.plain.need(key);
+        let added = need.saturating_sub(counts.free);
+        let answer = insert(rt, &mut self.map, (key, value), forest, &());
+        if added > forest.node_limit().saturating_sub(counts.slots) {
+            assert_eq!(rt; answer, Err(OutOfMemory::Full));
+            return Ok(counts);
         }
-        full.saturating_add(1)
+        assert_eq!(rt; answer, Ok(old));
+        self.plain.insert(key, value)?;
+        Ok(Counts {
+            slots: counts.slots.saturating_add(added),
+            free: counts.free.saturating_add(added).saturating_sub(need),
+        })
     }
 
-    /// The sizes after an insertion at a place.
-    fn grow(&mut self, alloc: Global, place: usize) -> Result<(), AllocError> {
-        let mut at = place;
-        for height in 0..self.sizes.len() {
-            let Some(level) = self.sizes.get_mut(height) else {
-                return Ok(());
-            };
-            let (index, within) = node_at(level, at, height == 0);
-            let most = if height == 0 { 7 } else { 8 };
-            let Some(size) = level.get_mut(index) else {
-                return Ok(());
-            };
-            if *size < most {
-                *size += 1;
-                return Ok(());
-            }
-            let (left, right) = halves(within, height == 0);
-            *size = left;
-            level.insert(index + 1, right)?;
-            at = index;
+    /// Makes a removal, a retain or a clear in both, by the number of the call. Answers what the forest has to count then.
+    fn lose(
+        &mut self,
+        rt: &impl Abort,
+        forest: &mut NumberForest,
+        (call, key): (u32, u32),
+        counts: Counts,
+    ) -> Counts {
+        let before = self.plain.nodes();
+        if call == 0 {
+            clear(rt, &mut self.map, forest);
+            self.plain.clear();
+        } else if call < 3 {
+            let divisor = key % 5;
+            retain_rests(rt, &mut self.map, (divisor, call), forest);
+            self.plain.retain_rests(divisor, call);
+        } else {
+            let answer = remove(rt, &mut self.map, key, forest, &());
+            assert_eq!(rt; answer, self.plain.remove(key));
         }
-        let mut root = Vec::new(alloc);
-        root.push(if self.sizes.is_empty() { 1 } else { 2 })?;
-        self.sizes.push(root)?;
+        Counts {
+            slots: counts.slots,
+            free: counts
+                .free
+                .saturating_add(before)
+                .saturating_sub(self.plain.nodes()),
+        }
+    }
+
+    /// Makes one call, and compares the levels, and whether the handle that it had before is still live.
+    fn step(
+        &mut self,
+        rt: &impl Abort,
+        forest: &mut NumberForest,
+        (call, key, value): (u32, u32, u32),
+        counts: Counts,
+    ) -> Result<Counts, AllocError> {
+        let twin = self.map.clone();
+        let before = self.plain.levels();
+        let after = if call < 40 {
+            self.lose(rt, forest, (call, key), counts)
+        } else {
+            self.insert(rt, forest, (key, value), counts)?
+        };
+        let stays = before == self.plain.levels();
+        assert_eq!(rt; forest.holds(&twin), before == 0 || stays);
+        assert_eq!(rt; levels(rt, &self.map, forest), self.plain.levels());
+        assert_eq!(rt; self.map.is_empty(), self.plain.list().is_empty());
+        Ok(after)
+    }
+
+    /// Compares the lists.
+    fn compare_lists(
+        &self,
+        rt: &impl Abort,
+        alloc: Global,
+        forest: &NumberForest,
+    ) -> Result<(), AllocError> {
+        let all = entries(rt, alloc, &self.map, forest)?;
+        assert_eq!(rt; all.as_slice(), self.plain.list());
         Ok(())
     }
-
-    /// Puts an entry in.
-    fn insert(&mut self, alloc: Global, key: u32, value: u32) -> Result<(), AllocError> {
-        let place = self.place(key);
-        if self.get(key).is_some() {
-            if let Some(entry) = self.list.get_mut(place) {
-                entry.1 = value;
-            }
-            return Ok(());
-        }
-        self.grow(alloc, place)?;
-        if place <= self.list.len() {
-            self.list.insert(place, (key, value))?;
-        }
-        Ok(())
-    }
-}
-
-/// What an insertion is answered by the plain program, and the slots and free slots after it.
-fn expected(
-    plain: &Plain,
-    key: u32,
-    forest: &NumberForest,
-) -> (Result<Option<u32>, OutOfMemory>, u32, u32) {
-    let (slots, free) = (forest.slots(), forest.free_slots());
-    if let Some(old) = plain.get(key) {
-        return (Ok(Some(old)), slots, free);
-    }
-    let need = plain.need(plain.place(key));
-    let added = need.saturating_sub(free);
-    if added > forest.node_limit().saturating_sub(slots) {
-        return (Err(OutOfMemory::Full), slots, free);
-    }
-    (
-        Ok(None),
-        slots.saturating_add(added),
-        free.saturating_sub(need),
-    )
-}
-
-/// Makes an insertion in a map and in its plain program, and compares the answer, the levels and the counts.
-fn insert_in_both(
-    rt: &impl Abort,
-    alloc: Global,
-    map: &mut Numbers,
-    plain: &mut Plain,
-    forest: &mut NumberForest,
-    (key, value): (u32, u32),
-) -> Result<(), AllocError> {
-    let (answer, slots, free) = expected(plain, key, forest);
-    assert_eq!(rt; insert(rt, map, (key, value), forest, &()), answer);
-    if answer.is_ok() {
-        plain.insert(alloc, key, value)?;
-    }
-    assert_eq!(rt; levels(rt, map, forest), plain.sizes.len());
-    assert_eq!(rt; forest.slots(), slots);
-    assert_eq!(rt; forest.free_slots(), free);
-    Ok(())
 }
 
 /// The next of a row of numbers without an order.
@@ -163,63 +122,121 @@ fn next(state: u32) -> u32 {
     state.wrapping_mul(1664525).wrapping_add(1013904223)
 }
 
-/// Compares the list of a map.
-fn compare_lists(
+/// Three maps of a forest, each with its plain program.
+#[derive(Drop)]
+struct Three {
+    forest: NumberForest,
+    all: [Both; 3],
+    counts: Counts,
+}
+
+impl Three {
+    fn new(alloc: Global, limit: u32) -> Three {
+        Three {
+            forest: MapForest::with_node_limit(alloc, limit),
+            all: [Both::new(alloc), Both::new(alloc), Both::new(alloc)],
+            counts: Counts { slots: 0, free: 0 },
+        }
+    }
+
+    /// Makes a call on one of the maps, and compares the counts of slots.
+    fn step(
+        &mut self,
+        rt: &impl Abort,
+        which: u32,
+        call: (u32, u32, u32),
+    ) -> Result<(), AllocError> {
+        let both = &mut self.all[(which % 3) as usize];
+        self.counts = both.step(rt, &mut self.forest, call, self.counts)?;
+        assert_eq!(rt; self.forest.slots(), self.counts.slots);
+        assert_eq!(rt; self.forest.free_slots(), self.counts.free);
+        Ok(())
+    }
+
+    /// Compares the lists of all maps.
+    fn compare_lists(&self, rt: &impl Abort, alloc: Global) -> Result<(), AllocError> {
+        for both in &self.all {
+            both.compare_lists(rt, alloc, &self.forest)?;
+        }
+        Ok(())
+    }
+}
+
+/// Random calls on three maps, under a limit. So many in 64 are removals, retains and clears.
+fn compare(
     rt: &impl Abort,
     alloc: Global,
-    map: &Numbers,
-    plain: &Plain,
-    forest: &NumberForest,
+    (limit, seed, losses): (u32, u32, u32),
 ) -> Result<(), AllocError> {
-    let all = entries(rt, alloc, map, forest)?;
-    assert_eq!(rt; all.as_slice(), plain.list.as_slice());
+    let mut three = Three::new(alloc, limit);
+    let mut state = seed;
+    for value in 0..600u32 {
+        state = next(state);
+        let (which, key) = (state / 8192, state / 65536 % 120);
+        state = next(state);
+        let call = if state / 8192 % 64 < losses {
+            state / 1048576 % 40
+        } else {
+            40
+        };
+        three.step(rt, which, (call, key, value))?;
+        if value % 50 == 0 {
+            three.compare_lists(rt, alloc)?;
+        }
+    }
+    three.compare_lists(rt, alloc)
+}
+
+/// The key of a step, of as many as the keys from 0 to 100: upwards, downwards, or without an order.
+fn key_at(order: u32, step: u32) -> u32 {
+    match order % 3 {
+        0 => step,
+        1 => 100u32.saturating_sub(step),
+        _ => step.wrapping_mul(37) % 101,
+    }
+}
+
+/// Three maps grow side by side, each by another order, and lose all keys by the next order.
+fn compare_orders(rt: &impl Abort, alloc: Global, next_order: u32) -> Result<(), AllocError> {
+    let mut three = Three::new(alloc, u32::MAX);
+    for step in 0..101 {
+        for which in 0..3 {
+            three.step(rt, which, (40, key_at(which, step), step))?;
+        }
+    }
+    three.compare_lists(rt, alloc)?;
+    for step in 0..101 {
+        for which in 0..3u32 {
+            let order = which.wrapping_add(next_order);
+            three.step(rt, which, (39, key_at(order, step), 0))?;
+        }
+    }
+    three.compare_lists(rt, alloc)?;
+    assert_eq!(rt; three.forest.free_slots(), three.forest.slots());
     Ok(())
 }
 
-/// Random insertions into two maps, under a limit.
-fn compare(rt: &impl Abort, alloc: Global, limit: u32, seed: u32) -> Result<(), AllocError> {
-    let mut forest: NumberForest = MapForest::with_node_limit(alloc, limit);
-    let (mut first, mut second) = (Map::new(), Map::new());
-    let (mut first_plain, mut second_plain) = (Plain::new(alloc), Plain::new(alloc));
-    let mut state = seed;
-    for value in 0..300 {
-        state = next(state);
-        let key = state / 65536 % 120;
-        if state / 8192 % 2 == 0 {
-            insert_in_both(
-                rt,
-                alloc,
-                &mut first,
-                &mut first_plain,
-                &mut forest,
-                (key, value),
-            )?;
-        } else {
-            insert_in_both(
-                rt,
-                alloc,
-                &mut second,
-                &mut second_plain,
-                &mut forest,
-                (key, value),
-            )?;
-        }
+#[test]
+fn random_calls_are_as_in_the_plain_program(rt: HostRuntime) -> Result<(), Fail> {
+    for run in [
+        (u32::MAX, 1, 0),
+        (u32::MAX, 2, 16),
+        (u32::MAX, 3, 30),
+        (u32::MAX, 4, 40),
+        (80, 5, 8),
+        (40, 6, 16),
+        (12, 7, 24),
+        (3, 8, 32),
+    ] {
+        compare(&rt, rt.alloc(), run)?;
     }
-    compare_lists(rt, alloc, &first, &first_plain, &forest)?;
-    compare_lists(rt, alloc, &second, &second_plain, &forest)
+    Ok(())
 }
 
 #[test]
-fn random_insertions_are_as_in_the_plain_program(rt: HostRuntime) -> Result<(), Fail> {
-    for (limit, seed) in [
-        (u32::MAX, 1),
-        (u32::MAX, 2),
-        (80, 3),
-        (40, 4),
-        (12, 5),
-        (3, 6),
-    ] {
-        compare(&rt, rt.alloc(), limit, seed)?;
+fn orders_are_as_in_the_plain_program(rt: HostRuntime) -> Result<(), Fail> {
+    for next_order in 0..3 {
+        compare_orders(&rt, rt.alloc(), next_order)?;
     }
     Ok(())
 }

@@ -193,4 +193,8 @@ fn nodes_are_taken_ahead(rt: HostRuntime) {
     );
     assert_eq!(rt; forest.slots(), 5);
     assert_eq!(rt; forest.free_slots(), 0);
+    forest.clear();
+    assert_eq!(rt; forest.node_limit(), 5);
+    assert_eq!(rt; forest.slots(), 0);
+    assert_eq!(rt; forest.free_slots(), 0);
 }

@@ -1,0 +1,71 @@
+//! Maps of which a predicate keeps some entries.
+
+use crate::checked::{NumberForest, Numbers, entries, insert, levels};
+use bforest::{Map, MapForest};
+use std::process::Abort;
+use std::test::Fail;
+
+/// A map of 1 to `most`, each of whose values is its key, which came in in this order.
+fn ascending(rt: &impl Abort, most: u32, forest: &mut NumberForest) -> Numbers {
+    let mut map = Map::new();
+    for key in 1..=most {
+        assert_eq!(rt; insert(rt, &mut map, (key, key), forest, &()), Ok(None));
+    }
+    map
+}
+
+#[test]
+fn every_ninth_entry_is_kept(rt: HostRuntime) -> Result<(), Fail> {
+    let mut forest: NumberForest = MapForest::new(rt.alloc());
+    let mut map = ascending(&rt, 36, &mut forest);
+    assert!(rt; forest.holds(&map));
+    map.retain(&mut forest, |key, value| {
+        *value = value.wrapping_add(1);
+        key % 9 == 0
+    });
+    let all = entries(&rt, rt.alloc(), &map, &forest)?;
+    assert_eq!(rt;
+        all.as_slice(),
+        [(9, 10), (18, 19), (27, 28), (36, 37)].as_slice()
+    );
+    assert_eq!(rt; levels(&rt, &map, &forest), 1);
+    assert_eq!(rt; forest.slots(), 12);
+    assert_eq!(rt; forest.free_slots(), 11);
+    Ok(())
+}
+
+#[test]
+fn no_entry_is_kept(rt: HostRuntime) {
+    let mut forest: NumberForest = MapForest::new(rt.alloc());
+    let mut map = ascending(&rt, 8, &mut forest);
+    let twin = map.clone();
+    assert!(rt; forest.holds(&map));
+    map.retain(&mut forest, |_, _| false);
+    assert!(rt; map.is_empty());
+    assert_eq!(rt; levels(&rt, &map, &forest), 0);
+    assert_eq!(rt; forest.slots(), 3);
+    assert_eq!(rt; forest.free_slots(), 3);
+    assert!(rt; !forest.holds(&twin));
+}
+
+// A rest of how often it was asked, so that each entry shows that it was asked once, and in its turn.
+#[test]
+fn each_entry_is_asked_once_and_in_order(rt: HostRuntime) -> Result<(), Fail> {
+    let mut forest: NumberForest = MapForest::new(rt.alloc());
+    let mut map = ascending(&rt, 36, &mut forest);
+    let mut asked = 0u32;
+    assert!(rt; forest.holds(&map));
+    map.retain(&mut forest, |key, value| {
+        asked = asked.wrapping_add(1);
+        *value = asked;
+        key % 2 == 0
+    });
+    assert_eq!(rt; asked, 36);
+    let all = entries(&rt, rt.alloc(), &map, &forest)?;
+    assert_eq!(rt; all.len(), 18);
+    for (key, value) in &all {
+        assert_eq!(rt; *key % 2, 0);
+        assert_eq!(rt; *value, *key);
+    }
+    Ok(())
+}
