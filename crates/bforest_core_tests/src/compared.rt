@@ -3,7 +3,7 @@ ghost use Rattle.bforest_nodes.specs.Content.{IsLeafCapacity};
 
 use crate::tree::Tree;
 use bforest_core::OutOfMemory;
-use bforest_plain::Plain;
+use bforest_plain_tests::Plain;
 use std::alloc::{AllocError, Global};
 use std::process::Abort;
 use std::test::Fail;

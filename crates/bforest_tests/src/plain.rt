@@ -2,7 +2,7 @@
 
 use crate::checked::{NumberForest, Numbers, clear, entries, insert, levels, remove, retain_rests};
 use bforest::{Map, MapForest, OutOfMemory};
-use bforest_plain::Plain;
+use bforest_plain_tests::Plain;
 use std::alloc::{AllocError, Global};
 use std::process::Abort;
 use std::test::Fail;
