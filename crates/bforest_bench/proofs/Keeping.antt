@@ -40,13 +40,13 @@ module _ (f f' : Forest ℕ ℕ) (hs : List (Option ℕ)) (i : ℕ) (h' : Option
     ];
     apart = λ j k n d e. elim (eqb_tells j i) [
       | inl w ↦ elim (eqb_tells k i) [
-          | inl v ↦ w.1 ∙ sym v.1
-          | inr v ↦ absurd (apart_new k n v.1 (sym (get_or-set_other hs i k h' None v.1) ∙ e) (sym d ∙ ap (λ z. get_or (slice_set hs i h') z None) w.1 ∙ get_or-set_same hs i h' None within))
-        ]
+        | inl v ↦ w.1 ∙ sym v.1
+        | inr v ↦ absurd (apart_new k n v.1 (sym (get_or-set_other hs i k h' None v.1) ∙ e) (sym d ∙ ap (λ z. get_or (slice_set hs i h') z None) w.1 ∙ get_or-set_same hs i h' None within))
+      ]
       | inr w ↦ elim (eqb_tells k i) [
-          | inl v ↦ absurd (apart_new j n w.1 (sym (get_or-set_other hs i j h' None w.1) ∙ d) (sym e ∙ ap (λ z. get_or (slice_set hs i h') z None) v.1 ∙ get_or-set_same hs i h' None within))
-          | inr v ↦ a.apart j k n (sym (get_or-set_other hs i j h' None w.1) ∙ d) (sym (get_or-set_other hs i k h' None v.1) ∙ e)
-        ]
+        | inl v ↦ absurd (apart_new j n w.1 (sym (get_or-set_other hs i j h' None w.1) ∙ d) (sym e ∙ ap (λ z. get_or (slice_set hs i h') z None) v.1 ∙ get_or-set_same hs i h' None within))
+        | inr v ↦ a.apart j k n (sym (get_or-set_other hs i j h' None w.1) ∙ d) (sym (get_or-set_other hs i k h' None v.1) ∙ e)
+      ]
     ];
   }
 

@@ -1,4 +1,5 @@
 //! Numbers without an order, the same for each side of a comparison.
+ghost use Rattle.std.specs.Prelude.{◌<◌};
 
 /// A generator of numbers.
 #[derive(Drop)]
@@ -23,7 +24,9 @@ impl Random {
     }
 
     /// The next number, below a bound, or 0 where the bound is.
-    pub(crate) fn below(&mut self, bound: u32) -> u32 {
+    pub(crate) fn below(&mut self, bound: u32) -> u32
+        ensures { 0 < bound → result < bound }
+    {
         let x = self.next();
         if bound == 0 { 0 } else { x % bound }
     }

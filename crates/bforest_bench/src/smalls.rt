@@ -1,7 +1,7 @@
 //! Many small maps.
 ghost use Rattle.std.specs.Prelude.{IfOk, None, replicate, ◌≡◌};
 
-use crate::random::{added};
+use crate::random::added;
 use bforest::{Map, MapForest, OutOfMemory};
 use std::alloc::{AllocError, Global};
 use std::marker::Model;
@@ -60,15 +60,15 @@ impl Smalls {
         map.remove(key, &mut self.forest, &())
     }
 
-    /// Ends a map's tree.
-    pub(crate) fn clear(&mut self, index: u32) {
+    // Ends a map's tree.
+    fn clear(&mut self, index: u32) {
         if let Some(map) = self.maps.get_mut(index as usize) {
             map.clear(&mut self.forest);
         }
     }
 
-    /// Adds each entry of a map to a checksum.
-    pub(crate) fn walk(&self, index: u32, sum: u64) -> u64 {
+    // Adds each entry of a map to a checksum.
+    fn walk(&self, index: u32, sum: u64) -> u64 {
         let mut sum = sum;
         if let Some(map) = self.maps.get(index as usize) {
             for (key, value) in map.iter(&self.forest) {
@@ -76,6 +76,22 @@ impl Smalls {
             }
         }
         sum
+    }
+
+    /// A checksum of each entry of the first maps.
+    pub(crate) fn walk_all(&self, count: u32) -> u64 {
+        let mut sum = 0u64;
+        for index in 0..count {
+            sum = self.walk(index, sum);
+        }
+        sum
+    }
+
+    /// Ends the trees of the first maps.
+    pub(crate) fn clear_all(&mut self, count: u32) {
+        for index in 0..count {
+            self.clear(index);
+        }
     }
 }
 
