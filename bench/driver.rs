@@ -336,17 +336,20 @@ struct Row {
     calls: u32,
 }
 
-fn rows_of_mixture(maps: u32) -> Vec<Row> {
+fn rows_of_mixture(maps: u32, is_counted: bool) -> Vec<Row> {
     let calls = maps.saturating_mul(30);
     let work = |calls, looks, walks, is_cleared| Work::Mixture { maps, calls, looks, walks, is_cleared };
     let row = |name, without, with, rounds, calls| Row { name, size: maps, without, with, rounds, calls };
-    let filled = work(calls, 0, 0, false);
-    vec![
-        row("small maps: insert, get, remove", work(0, 0, 0, false), filled, 1, calls),
-        row("small maps: look-up", filled, work(calls, 1, 0, false), 1, calls),
-        row("small maps: iteration, a map", filled, work(calls, 0, 10, false), 10, maps),
-        row("small maps: emptied, a map", filled, work(calls, 0, 0, true), 1, maps),
-    ]
+    let (filled, cleared) = (work(calls, 0, 0, false), work(calls, 0, 0, true));
+    let mut rows = vec![
+        row("small maps: all calls, then emptied", work(0, 0, 0, false), cleared, 1, calls),
+        row("small maps: look-up", filled, work(calls, 2, 0, false), 2, calls),
+        row("small maps: iteration, a map", filled, work(calls, 0, 20, false), 20, maps),
+    ];
+    if is_counted {
+        rows.push(row("small maps: emptied, a map", filled, cleared, 1, maps));
+    }
+    rows
 }
 
 fn rows_of_large(size: u32, is_mixed: bool, repeats: u32) -> Vec<Row> {
@@ -380,9 +383,9 @@ fn rows_of_edges(blocks: u32) -> Vec<Row> {
     ]
 }
 
-// The rows of the table at a part of their full size.
-fn rows(part: u32) -> Vec<Row> {
-    let mut rows = rows_of_mixture(100_000 / part);
+// The rows of the table at a part of their full size. What is too short to be timed is only counted.
+fn rows(part: u32, is_counted: bool) -> Vec<Row> {
+    let mut rows = rows_of_mixture(100_000 / part, is_counted);
     rows.extend(rows_of_large(1_000_000 / part, true, 1));
     rows.extend(rows_of_large(1_000_000 / part, false, 1));
     rows.extend(rows_of_edges(100_000 / part));
@@ -612,38 +615,38 @@ fn means(table: &[Vec<Option<f64>>]) -> String {
 }
 
 fn print_costs(rows: &[Row], costs: &Costs, digits: usize) {
-    println!("{:34} {:>9}{}", "", "size", heads());
+    println!("{:35} {:>9}{}", "", "size", heads());
     let table: Vec<_> = rows.iter().map(|row| of_sides(|side| costs.of_row(side, row))).collect();
     for (row, costs) in rows.iter().zip(&table) {
-        println!("{:34} {:>9}{}", row.name, row.size, columns(costs, digits));
+        println!("{:35} {:>9}{}", row.name, row.size, columns(costs, digits));
     }
-    println!("{:34} {:>9}{}", "geometric mean", "", means(&table));
+    println!("{:35} {:>9}{}", "geometric mean", "", means(&table));
 }
 
 fn print_memory(program: &str) {
     let maps = 100_000;
     let small = Work::Mixture { maps, calls: 30 * maps, looks: 0, walks: 0, is_cleared: false };
-    println!("{:34} {:>9}{}", "", "size", heads());
+    println!("{:35} {:>9}{}", "", "size", heads());
     let costs = of_sides(|side| Some(memory(program, side, small)? / maps as f64));
-    println!("{:34} {:>9}{}", "a small map", maps, columns(&costs, 0));
+    println!("{:35} {:>9}{}", "a small map", maps, columns(&costs, 0));
     for is_mixed in [true, false] {
         let size = 1_000_000;
         let work = Work::Large { size, is_mixed, looks: 0, walks: 0, is_emptied: false };
         let costs = of_sides(|side| Some(memory(program, side, work)? / size as f64));
         let name = if is_mixed { "an entry, random keys" } else { "an entry, ascending keys" };
-        println!("{:34} {:>9}{}", name, size, columns(&costs, 1));
+        println!("{:35} {:>9}{}", name, size, columns(&costs, 1));
     }
 }
 
 fn print_all(program: &str) {
     println!("Wall time of a call in nanoseconds, best of 5:");
-    let rows_of_times = rows(1);
-    print_costs(&rows_of_times, &times(&rows_of_times, 5, 1), 1);
+    let timed = rows(1, false);
+    print_costs(&timed, &times(&timed, 5, 1), 1);
     match counter(program) {
         Some(counter) => {
             println!("\nInstructions of a call, counted by {}, at a twentieth of the size:", counter.name());
-            let rows = rows(20);
-            print_costs(&rows, &instructions(program, counter, &rows), 1);
+            let counted = rows(20, true);
+            print_costs(&counted, &instructions(program, counter, &counted), 1);
         }
         None => println!("\nInstructions: neither perf nor callgrind counts here."),
     }
@@ -653,14 +656,17 @@ fn print_all(program: &str) {
 
 // How the cost of a call grows with the size of a map.
 fn print_growth(most: u32) {
+    println!("Wall time of a call in nanoseconds, best of 3, of one above 1000000:");
+    println!("{:35} {:>9}{}", "", "size", heads());
     let mut size = 10;
     while size <= most {
-        let (repeats, tries) = (1_000_000u32.div_ceil(size), if size > 1_000_000 { 2 } else { 5 });
+        let repeats = 1_000_000u32.div_ceil(size);
+        let tries = if size > 1_000_000 { 1 } else { 3 };
         for is_mixed in [true, false] {
-            let rows = rows_of_large(size, is_mixed, 10.min(repeats));
+            let rows = rows_of_large(size, is_mixed, 3.min(repeats));
             let costs = times(&rows, tries, repeats);
             for row in &rows {
-                println!("{:34} {:>9}{}", row.name, row.size, columns(&of_sides(|side| costs.of_row(side, row)), 1));
+                println!("{:35} {:>9}{}", row.name, row.size, columns(&of_sides(|side| costs.of_row(side, row)), 1));
             }
         }
         size = size.saturating_mul(10);
@@ -669,7 +675,7 @@ fn print_growth(most: u32) {
 
 // Each run at a hundredth of its size, for the checksums alone.
 fn print_quick() {
-    let works = works(&rows(100));
+    let works = works(&rows(100, true));
     for work in &works {
         let sums: Vec<u64> = SIDES.iter().map(|side| run(*side, *work, false).0).collect();
         check(*work, &sums);
