@@ -1,0 +1,388 @@
+//! Prints what calls of `bforest` cost beside `std`'s `BTreeMap`, and beside the Rust original where it is there.
+//!
+//! `driver` prints the table, `driver --quick` compares the checksums of small runs alone, and `driver --growth MOST` prints how the cost of
+//! a call grows with a map's size. `driver --one SIDE KIND NUMBERS` makes one run in a process of its own, whose instructions and memory
+//! can be counted.
+//!
+//! A run builds its maps anew. So the cost of a phase is the difference of two runs, of which one makes the phase, or makes it more often.
+
+mod runs;
+
+use runs::{run, Kind, Side, Work, KINDS, SIDES};
+use std::process::{exit, Command};
+use std::time::Duration;
+
+/// A phase: the difference of two runs, over so many rounds.
+struct Row {
+    name: &'static str,
+    size: u32,
+    without: Work,
+    with: Work,
+    rounds: u32,
+    // How many calls a round makes.
+    calls: u32,
+}
+
+// Nothing but filling maps of a kind.
+fn fill(kind: Kind, size: u32) -> Work {
+    Work { kind, size, looks: 0, walks: 0, turns: 0 }
+}
+
+fn rows_of_mixture(maps: u32, is_counted: bool) -> Vec<Row> {
+    let (nothing, filled) = (fill(Kind::Mixture, 0), fill(Kind::Mixture, maps));
+    let calls = filled.calls();
+    let cleared = Work { turns: 1, ..filled };
+    let row = |name, without, with, rounds, calls| Row { name, size: maps, without, with, rounds, calls };
+    let mut rows = vec![
+        row("small maps: all calls, then emptied", nothing, cleared, 1, calls),
+        row("small maps: look-up", filled, Work { looks: 2, ..filled }, 2, calls),
+        row("small maps: iteration, a map", filled, Work { walks: 20, ..filled }, 20, maps),
+    ];
+    if is_counted {
+        rows.push(row("small maps: emptied, a map", filled, cleared, 1, maps));
+    }
+    rows
+}
+
+fn rows_of_large(kind: Kind, size: u32, looks: u32) -> Vec<Row> {
+    let names = match kind {
+        Kind::Random => [
+            "random keys: insertion",
+            "random keys: look-up",
+            "random keys: iteration, an entry",
+            "random keys: removal",
+        ],
+        _ => [
+            "ascending keys: insertion",
+            "ascending keys: look-up",
+            "ascending keys: iteration, an entry",
+            "ascending keys: removal",
+        ],
+    };
+    let (nothing, filled) = (fill(kind, 0), fill(kind, size));
+    let walks = 10 * looks;
+    let row = |at: usize, without, with, rounds| Row { name: names[at], size, without, with, rounds, calls: size };
+    vec![
+        row(0, nothing, filled, 1),
+        row(1, filled, Work { looks, ..filled }, looks),
+        row(2, filled, Work { walks, ..filled }, walks),
+        row(3, filled, Work { turns: 1, ..filled }, 1),
+    ]
+}
+
+fn rows_of_edges(blocks: u32) -> Vec<Row> {
+    let (nothing, filled) = (fill(Kind::Edges, 0), fill(Kind::Edges, blocks));
+    // Two and a half edges on average lead out of a block.
+    let edges = blocks / 2 * 5;
+    let row = |name, without, with, rounds, calls| Row { name, size: blocks, without, with, rounds, calls };
+    vec![
+        row("predecessors: edge added", nothing, filled, 1, edges),
+        row("predecessors: read, a block", filled, Work { walks: 20, ..filled }, 20, blocks),
+        row("predecessors: edge led elsewhere", filled, Work { turns: 4, ..filled }, 4, edges),
+    ]
+}
+
+// The rows of the table at a part of their full size. What is too short to be timed is only counted.
+fn rows(part: u32, is_counted: bool) -> Vec<Row> {
+    let mut rows = rows_of_mixture(100_000 / part, is_counted);
+    rows.extend(rows_of_large(Kind::Random, 1_000_000 / part, 1));
+    rows.extend(rows_of_large(Kind::Ascending, 1_000_000 / part, 1));
+    rows.extend(rows_of_edges(100_000 / part));
+    rows
+}
+
+/// What runs cost, each side's beside it. A run that several rows need is made once.
+struct Costs {
+    known: Vec<(Side, Work, f64)>,
+}
+
+impl Costs {
+    fn of(&self, side: Side, work: Work) -> Option<f64> {
+        let found = self.known.iter().find(|known| known.0 == side && known.1 == work);
+        found.map(|known| known.2)
+    }
+
+    // What a call of a row's phase costs.
+    fn of_row(&self, side: Side, row: &Row) -> Option<f64> {
+        let cost = self.of(side, row.with)? - self.of(side, row.without)?;
+        Some(cost / row.rounds as f64 / row.calls as f64)
+    }
+}
+
+// Each run that these rows need, once.
+fn works(rows: &[Row]) -> Vec<Work> {
+    let mut works = Vec::new();
+    for row in rows {
+        for work in [row.without, row.with] {
+            if !works.contains(&work) {
+                works.push(work);
+            }
+        }
+    }
+    works
+}
+
+// The best of several times of `repeats` runs in a row, in nanoseconds, the sides in turn. Ends the program where two checksums differ.
+fn times(rows: &[Row], tries: u32, repeats: u32) -> Costs {
+    let mut known = Vec::new();
+    for work in works(rows) {
+        let mut best = vec![f64::MAX; SIDES.len()];
+        for _ in 0..tries {
+            let mut sums = Vec::new();
+            for (at, side) in SIDES.iter().enumerate() {
+                let mut whole = Duration::ZERO;
+                let mut sum = 0;
+                for _ in 0..repeats {
+                    let (found, time) = run(*side, work, false);
+                    whole += time;
+                    sum = found;
+                }
+                sums.push(sum);
+                best[at] = best[at].min(whole.as_nanos() as f64 / repeats as f64);
+            }
+            check(work, &sums);
+        }
+        known.extend(SIDES.iter().zip(best).map(|(side, time)| (*side, work, time)));
+    }
+    Costs { known }
+}
+
+fn check(work: Work, sums: &[u64]) {
+    if sums.iter().any(|sum| *sum != sums[0]) {
+        println!("{work:?}: the checksums differ: {sums:?}");
+        println!("0 passed, 1 failed");
+        exit(1);
+    }
+}
+
+// The run of these words, as `one` writes them.
+fn work_of(words: &[String]) -> Option<Work> {
+    let kind = KINDS.into_iter().find(|kind| words.first().is_some_and(|word| *word == format!("{kind:?}")))?;
+    let number = |at: usize| words.get(at)?.parse::<u32>().ok();
+    Some(Work { kind, size: number(1)?, looks: number(2)?, walks: number(3)?, turns: number(4)? })
+}
+
+// How instructions are counted here, if they can be.
+#[derive(Clone, Copy)]
+enum Counter {
+    Perf,
+    Callgrind,
+}
+
+impl Counter {
+    fn name(self) -> &'static str {
+        match self {
+            Counter::Perf => "perf",
+            Counter::Callgrind => "callgrind",
+        }
+    }
+
+    // The instructions of a process.
+    fn count(self, program: &str, words: &[String]) -> Option<f64> {
+        let mut command = match self {
+            Counter::Perf => Command::new("perf"),
+            Counter::Callgrind => Command::new("valgrind"),
+        };
+        match self {
+            Counter::Perf => command.args(["stat", "-x,", "-e", "instructions:u", "--"]),
+            Counter::Callgrind => command.args(["--tool=callgrind", "--callgrind-out-file=/dev/null"]),
+        };
+        let told = command.arg(program).args(words).output().ok()?;
+        let text = String::from_utf8_lossy(&told.stderr).into_owned();
+        match self {
+            Counter::Perf => text.lines().find(|line| line.contains("instructions"))?.split(',').next()?.parse().ok(),
+            Counter::Callgrind => text.lines().find_map(|line| line.split("Collected : ").nth(1))?.trim().parse().ok(),
+        }
+    }
+}
+
+// The counter that works here.
+fn counter(program: &str) -> Option<Counter> {
+    let nothing = ["--one".to_string()];
+    [Counter::Perf, Counter::Callgrind].into_iter().find(|counter| counter.count(program, &nothing).is_some())
+}
+
+// The words of a process of its own for a run.
+fn one(side: Side, work: Work) -> Vec<String> {
+    let mut words = vec!["--one".to_string(), side.name().to_string(), format!("{:?}", work.kind)];
+    words.extend([work.size, work.looks, work.walks, work.turns].map(|number| number.to_string()));
+    words
+}
+
+// The instructions of each run. They do not depend on the machine's load, so as many are counted at once as it has processors.
+fn instructions(program: &str, counter: Counter, rows: &[Row]) -> Costs {
+    let mut jobs = Vec::new();
+    for work in works(rows) {
+        jobs.extend(SIDES.iter().map(|side| (*side, work)));
+    }
+    let workers = std::thread::available_parallelism().map_or(1, |count| count.get());
+    let share = jobs.len().div_ceil(workers).max(1);
+    let mut known = Vec::new();
+    std::thread::scope(|scope| {
+        let parts: Vec<_> = jobs
+            .chunks(share)
+            .map(|part| {
+                scope.spawn(move || {
+                    let counted = part
+                        .iter()
+                        .map(|(side, work)| Some((*side, *work, counter.count(program, &one(*side, *work))?)));
+                    counted.collect::<Option<Vec<_>>>()
+                })
+            })
+            .collect();
+        for part in parts {
+            known.extend(part.join().ok().flatten().unwrap_or_default());
+        }
+    });
+    Costs { known }
+}
+
+// The most memory that a run held at once, in bytes, beyond that of a run of nothing.
+fn memory(program: &str, side: Side, work: Work) -> Option<f64> {
+    let most = |words: &[String]| -> Option<f64> {
+        let told = Command::new(program).args(words).output().ok()?;
+        String::from_utf8_lossy(&told.stdout).lines().find_map(|line| line.strip_prefix("memory "))?.parse().ok()
+    };
+    Some(most(&one(side, work))? - most(&one(side, fill(work.kind, 0)))?)
+}
+
+// One run in this process, and the most memory that the process held.
+fn make_one(words: &[String]) {
+    let side = SIDES.iter().find(|side| words.first().is_some_and(|word| word == side.name()));
+    if let (Some(side), Some(work)) = (side, words.get(1..).and_then(work_of)) {
+        println!("sum {}", run(*side, work, true).0);
+        let status = std::fs::read_to_string("/proc/self/status").unwrap_or_default();
+        let most = status.lines().find_map(|line| line.strip_prefix("VmHWM:"));
+        if let Some(kilobytes) = most.and_then(|text| text.trim().trim_end_matches(" kB").parse::<f64>().ok()) {
+            println!("memory {}", kilobytes * 1024.0);
+        }
+    }
+}
+
+// A number, or nothing, in so many columns.
+fn shown(number: Option<f64>, digits: usize, width: usize) -> String {
+    number.map_or(format!("{:>width$}", "-"), |x| format!("{x:>width$.digits$}"))
+}
+
+// The heads of columns of one kind: each side, and the ratios to the others.
+fn heads() -> String {
+    let mut line = String::new();
+    for side in SIDES {
+        line += &format!(" {:>9}", side.name());
+    }
+    for side in &SIDES[1..] {
+        line += &format!(" {:>9}", format!("/{}", side.name()));
+    }
+    line
+}
+
+// The columns of a row: what each side costs, and bforest's over the others'.
+fn columns(costs: &[Option<f64>], digits: usize) -> String {
+    let mut line = String::new();
+    for cost in costs {
+        line += &format!(" {}", shown(*cost, digits, 9));
+    }
+    for cost in &costs[1..] {
+        let ratio = costs[0].zip(*cost).map(|(ours, theirs)| ours / theirs);
+        line += &format!(" {}", shown(ratio, 2, 9));
+    }
+    line
+}
+
+fn of_sides(cost: impl Fn(Side) -> Option<f64>) -> Vec<Option<f64>> {
+    SIDES.iter().map(|side| cost(*side)).collect()
+}
+
+// The geometric mean of bforest's costs over each other side's.
+fn means(table: &[Vec<Option<f64>>]) -> String {
+    let mut line = " ".repeat(10 * SIDES.len());
+    for at in 1..SIDES.len() {
+        let logs: Vec<f64> = table.iter().filter_map(|costs| Some((costs[0]? / costs[at]?).ln())).collect();
+        let mean = (!logs.is_empty()).then(|| (logs.iter().sum::<f64>() / logs.len() as f64).exp());
+        line += &format!(" {}", shown(mean, 2, 9));
+    }
+    line
+}
+
+fn print_costs(rows: &[Row], costs: &Costs, digits: usize) {
+    println!("{:35} {:>9}{}", "", "size", heads());
+    let table: Vec<_> = rows.iter().map(|row| of_sides(|side| costs.of_row(side, row))).collect();
+    for (row, costs) in rows.iter().zip(&table) {
+        println!("{:35} {:>9}{}", row.name, row.size, columns(costs, digits));
+    }
+    println!("{:35} {:>9}{}", "geometric mean", "", means(&table));
+}
+
+fn print_memory(program: &str) {
+    let rows = [
+        ("a small map", fill(Kind::Mixture, 100_000), 0),
+        ("an entry, random keys", fill(Kind::Random, 1_000_000), 1),
+        ("an entry, ascending keys", fill(Kind::Ascending, 1_000_000), 1),
+    ];
+    println!("{:35} {:>9}{}", "", "size", heads());
+    for (name, work, digits) in rows {
+        let costs = of_sides(|side| Some(memory(program, side, work)? / work.size as f64));
+        println!("{name:35} {:>9}{}", work.size, columns(&costs, digits));
+    }
+}
+
+fn print_all(program: &str) {
+    println!("Wall time of a call in nanoseconds, best of 5:");
+    let timed = rows(1, false);
+    print_costs(&timed, &times(&timed, 5, 1), 1);
+    match counter(program) {
+        Some(counter) => {
+            println!("\nInstructions of a call, counted by {}, at a twentieth of the size:", counter.name());
+            let counted = rows(20, true);
+            print_costs(&counted, &instructions(program, counter, &counted), 1);
+        }
+        None => println!("\nInstructions: neither perf nor callgrind counts here."),
+    }
+    println!("\nMost memory held, in bytes, with the handles:");
+    print_memory(program);
+}
+
+// How the cost of a call grows with the size of a map.
+fn print_growth(most: u32) {
+    println!("Wall time of a call in nanoseconds, best of 3, of one above 1000000:");
+    println!("{:35} {:>9}{}", "", "size", heads());
+    let mut size = 10;
+    while size <= most {
+        let repeats = 1_000_000u32.div_ceil(size);
+        let tries = if size > 1_000_000 { 1 } else { 3 };
+        for kind in [Kind::Random, Kind::Ascending] {
+            let rows = rows_of_large(kind, size, 3.min(repeats));
+            let costs = times(&rows, tries, repeats);
+            for row in &rows {
+                println!("{:35} {:>9}{}", row.name, row.size, columns(&of_sides(|side| costs.of_row(side, row)), 1));
+            }
+        }
+        size = size.saturating_mul(10);
+    }
+}
+
+// Each run at a hundredth of its size, for the checksums alone.
+fn print_quick() {
+    let works = works(&rows(100, true));
+    for work in &works {
+        let sums: Vec<u64> = SIDES.iter().map(|side| run(*side, *work, false).0).collect();
+        check(*work, &sums);
+    }
+    println!("{} runs of the benchmark on {} sides answer alike", works.len(), SIDES.len());
+    println!("{} passed, 0 failed", works.len());
+}
+
+fn main() {
+    let words: Vec<String> = std::env::args().collect();
+    let program = words[0].as_str();
+    match words.get(1).map(String::as_str) {
+        None => print_all(program),
+        Some("--quick") => print_quick(),
+        Some("--growth") => print_growth(words.get(2).and_then(|word| word.parse().ok()).unwrap_or(1_000_000)),
+        Some("--one") => make_one(&words[2..]),
+        Some(_) => {
+            eprintln!("usage: driver [--quick | --growth MOST]");
+            exit(2);
+        }
+    }
+}

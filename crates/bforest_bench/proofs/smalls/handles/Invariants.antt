@@ -1,0 +1,5 @@
+use Rattle.bforest_bench.proofs.smalls.handles.Given as goal
+use Rattle.std.proofs.Common.{None, replicate, ◌≡◌}
+
+abbrev pub invariant-loop : goal.invariant-loop
+invariant-loop l = l.maps.items ≡ replicate l.counter None

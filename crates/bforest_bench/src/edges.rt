@@ -1,0 +1,86 @@
+//! The predecessors of the blocks of a control flow graph: a map for each block, from the number of an edge to the block that it comes from.
+
+use crate::random::{Random, added};
+use crate::smalls::Smalls;
+use std::alloc::Global;
+
+/// A whole run, as `bench_edges` says.
+pub(crate) fn run(alloc: Global, blocks: u32, walks: u32, turns: u32) -> Option<u64> {
+    let mut smalls = Smalls::new(alloc, blocks).ok()?;
+    add_all(&mut smalls, blocks)?;
+    let mut sum = 0u64;
+    for _ in 0..walks {
+        sum = sum.wrapping_add(smalls.walk_all(blocks));
+    }
+    for turn in 0..turns {
+        sum = sum.wrapping_add(lead_all(&mut smalls, blocks, turn)?);
+    }
+    Some(sum)
+}
+
+// Adds the edges out of each block.
+fn add_all(smalls: &mut Smalls, blocks: u32) -> Option<()> {
+    let mut random = edges();
+    for block in 0..blocks {
+        add(smalls, blocks, block, &mut random)?;
+    }
+    Some(())
+}
+
+// Adds the edges out of a block.
+fn add(smalls: &mut Smalls, blocks: u32, block: u32, random: &mut Random) -> Option<()> {
+    for count in 0..=random.below(4) {
+        let target = random.below(blocks);
+        smalls.insert(target, edge(block, count), block).ok()?;
+    }
+    Some(())
+}
+
+// Leads each edge to the block behind its target, which so many blocks lie behind the first.
+fn lead_all(smalls: &mut Smalls, blocks: u32, turn: u32) -> Option<u64> {
+    let mut random = edges();
+    let mut sum = 0u64;
+    for block in 0..blocks {
+        sum = lead(smalls, blocks, block, turn, &mut random, sum)?;
+    }
+    Some(sum)
+}
+
+// Leads the edges out of a block, and adds what was removed to a checksum.
+fn lead(
+    smalls: &mut Smalls,
+    blocks: u32,
+    block: u32,
+    turn: u32,
+    random: &mut Random,
+    sum: u64,
+) -> Option<u64> {
+    let mut sum = sum;
+    for count in 0..=random.below(4) {
+        let first = random.below(blocks);
+        let found = smalls.remove(behind(first, turn, blocks), edge(block, count));
+        let target = behind(first, turn.wrapping_add(1), blocks);
+        smalls.insert(target, edge(block, count), block).ok()?;
+        sum = added(sum, found.unwrap_or(7));
+    }
+    Some(sum)
+}
+
+// Where the edges lead, and how many there are out of each block.
+fn edges() -> Random {
+    Random::new(2718281828)
+}
+
+// The number of an edge.
+fn edge(block: u32, count: u32) -> u32 {
+    block.wrapping_mul(4).wrapping_add(count)
+}
+
+// The block that lies so many behind one, in a circle.
+fn behind(block: u32, count: u32, blocks: u32) -> u32 {
+    if blocks == 0 {
+        0
+    } else {
+        block.wrapping_add(count) % blocks
+    }
+}

@@ -1,0 +1,125 @@
+//! One map of many entries.
+use crate::random::{Random, added, mixed};
+use bforest::{Map, MapForest, OutOfMemory};
+use std::alloc::Global;
+use std::marker::Model;
+
+/// A whole run, as `bench_large` says.
+pub(crate) fn run(
+    alloc: Global,
+    size: u32,
+    is_mixed: bool,
+    looks: u32,
+    walks: u32,
+    is_emptied: bool,
+) -> Option<u64> {
+    let mut large = Large::new(alloc, is_mixed);
+    let mut sum = large.inserts(size).ok()?;
+    for _ in 0..looks {
+        sum = sum.wrapping_add(large.gets(size));
+    }
+    for _ in 0..walks {
+        sum = sum.wrapping_add(large.walk());
+    }
+    if is_emptied {
+        sum = sum.wrapping_add(large.removes(size));
+    }
+    Some(sum)
+}
+
+// One map in a forest of its own. That its keys increase is part of its type, so that no call has to be asked for it.
+#[derive(Drop)]
+struct Large {
+    forest: MapForest<u32, u32>,
+    map: Map<u32, u32>,
+    is_mixed: bool,
+}
+
+impl Model for Large {
+    ghost use Rattle.bforest.specs.Forest.{Forest};
+    ghost use Rattle.bforest_bench.specs.Kept.{IsOrdered};
+    ghost use Rattle.std.specs.Prelude.{Option, ℕ};
+
+    ghost Value = { Forest ℕ ℕ × Option ℕ };
+
+    ghost view = { λ l. (l.forest, l.map) };
+
+    ghost invariant = { λ l. IsOrdered l.forest l.map };
+}
+
+impl Large {
+    // An empty map. Its keys will come without an order, or in ascending order.
+    fn new(alloc: Global, is_mixed: bool) -> Self {
+        Large {
+            forest: MapForest::new(alloc),
+            map: Map::new(),
+            is_mixed,
+        }
+    }
+
+    // The key at an index.
+    fn key(&self, index: u32) -> u32 {
+        if self.is_mixed { mixed(index) } else { index }
+    }
+
+    // Puts a value in, and answers the one that was there.
+    fn insert(&mut self, key: u32, value: u32) -> Result<Option<u32>, OutOfMemory> {
+        self.map.insert(key, value, &mut self.forest, &())
+    }
+
+    // The value of a key, or 7.
+    fn get(&self, key: u32) -> u32 {
+        self.map.get(key, &self.forest, &()).unwrap_or(7)
+    }
+
+    // Takes a key out, and answers its value, or 7.
+    fn remove(&mut self, key: u32) -> u32 {
+        self.map.remove(key, &mut self.forest, &()).unwrap_or(7)
+    }
+
+    // Inserts so many keys, and counts those that were there.
+    fn inserts(&mut self, size: u32) -> Result<u64, OutOfMemory> {
+        let mut sum = 0u64;
+        for index in 0..size {
+            let key = self.key(index);
+            if self.insert(key, index)?.is_some() {
+                sum = sum.wrapping_add(1);
+            }
+        }
+        Ok(sum)
+    }
+
+    // Looks so many keys up, in the order in which they came in where that is ascending, else in another one.
+    fn gets(&self, size: u32) -> u64 {
+        let mut random = Random::new(99);
+        let mut sum = 0u64;
+        for count in 0..size {
+            let index = if self.is_mixed {
+                random.below(size)
+            } else {
+                count
+            };
+            sum = added(sum, self.get(self.key(index)));
+        }
+        sum
+    }
+
+    // Reads each entry.
+    fn walk(&self) -> u64 {
+        let mut sum = 0u64;
+        for (key, value) in self.map.iter(&self.forest) {
+            sum = added(sum, key ^ value);
+        }
+        sum
+    }
+
+    // Takes so many keys out, in the order in which they came in.
+    fn removes(&mut self, size: u32) -> u64 {
+        let mut sum = 0u64;
+        for index in 0..size {
+            let key = self.key(index);
+            sum = added(sum, self.remove(key));
+        }
+        sum
+    }
+}

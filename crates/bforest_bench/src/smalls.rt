@@ -1,0 +1,107 @@
+//! Many small maps.
+ghost use Rattle.std.specs.Prelude.{IfOk, None, replicate, ◌≡◌};
+
+use crate::random::added;
+use bforest::{Map, MapForest, OutOfMemory};
+use std::alloc::{AllocError, Global};
+use std::marker::Model;
+
+/// Many maps in one forest. That the keys of each increase, and that no two are one tree, is part of its type: a call on one map leaves
+/// that of all others, so that no call has to be asked for it.
+#[derive(Drop)]
+pub(crate) struct Smalls {
+    forest: MapForest<u32, u32>,
+    maps: Vec<Map<u32, u32>>,
+}
+
+impl Model for Smalls {
+    ghost use Rattle.bforest.specs.Forest.{Forest};
+    ghost use Rattle.bforest_bench.specs.Kept.{AreOrdered};
+    ghost use Rattle.std.specs.Prelude.{List, Option, ℕ};
+
+    ghost Value = { Forest ℕ ℕ × List (Option ℕ) };
+
+    ghost view = { λ s. (s.forest, s.maps.items) };
+
+    ghost invariant = { λ s. AreOrdered s.forest s.maps.items };
+}
+
+impl Smalls {
+    /// So many empty maps.
+    pub(crate) fn new(alloc: Global, count: u32) -> Result<Smalls, AllocError> {
+        Ok(Smalls {
+            forest: MapForest::new(alloc),
+            maps: handles(alloc, count)?,
+        })
+    }
+
+    /// Puts a value into a map, and answers the one that was there.
+    pub(crate) fn insert(
+        &mut self,
+        index: u32,
+        key: u32,
+        value: u32,
+    ) -> Result<Option<u32>, OutOfMemory> {
+        match self.maps.get_mut(index as usize) {
+            Some(map) => map.insert(key, value, &mut self.forest, &()),
+            None => Ok(None),
+        }
+    }
+
+    /// The value of a key of a map.
+    pub(crate) fn get(&self, index: u32, key: u32) -> Option<u32> {
+        let map = self.maps.get(index as usize)?;
+        map.get(key, &self.forest, &())
+    }
+
+    /// Takes a key out of a map, and answers its value.
+    pub(crate) fn remove(&mut self, index: u32, key: u32) -> Option<u32> {
+        let map = self.maps.get_mut(index as usize)?;
+        map.remove(key, &mut self.forest, &())
+    }
+
+    // Ends a map's tree.
+    fn clear(&mut self, index: u32) {
+        if let Some(map) = self.maps.get_mut(index as usize) {
+            map.clear(&mut self.forest);
+        }
+    }
+
+    // Adds each entry of a map to a checksum.
+    fn walk(&self, index: u32, sum: u64) -> u64 {
+        let mut sum = sum;
+        if let Some(map) = self.maps.get(index as usize) {
+            for (key, value) in map.iter(&self.forest) {
+                sum = added(sum, key ^ value);
+            }
+        }
+        sum
+    }
+
+    /// A checksum of each entry of the first maps.
+    pub(crate) fn walk_all(&self, count: u32) -> u64 {
+        let mut sum = 0u64;
+        for index in 0..count {
+            sum = self.walk(index, sum);
+        }
+        sum
+    }
+
+    /// Ends the trees of the first maps.
+    pub(crate) fn clear_all(&mut self, count: u32) {
+        for index in 0..count {
+            self.clear(index);
+        }
+    }
+}
+
+// So many empty handles.
+fn handles(alloc: Global, count: u32) -> Result<Vec<Map<u32, u32>>, AllocError>
+    ensures { IfOk result (λ maps. maps.items ≡ replicate count None) }
+{
+    let mut maps = Vec::new(alloc);
+    for _ in 0..count {
+        maps.push(Map::new())?;
+    }
+    Ok(maps)
+}
