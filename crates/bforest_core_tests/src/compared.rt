@@ -8,17 +8,20 @@ use std::alloc::{AllocError, Global};
 use std::process::Abort;
 use std::test::Fail;
 
+/// How many keys there are: enough for five levels where a leaf has three entries at most.
+const KEYS: u32 = 401;
+
 /// The next of a row of numbers without an order.
 fn next(state: u32) -> u32 {
     state.wrapping_mul(1664525).wrapping_add(1013904223)
 }
 
-/// The key of a step, of as many as the keys from 0 to 100: upwards, downwards, or without an order.
+/// The key of a step, of as many as there are keys: upwards, downwards, or without an order.
 fn key_at(order: u32, step: u32) -> u32 {
     match order {
         0 => step,
-        1 => 100u32.saturating_sub(step),
-        _ => step.wrapping_mul(37) % 101,
+        1 => (KEYS - 1).saturating_sub(step),
+        _ => step.wrapping_mul(37) % KEYS,
     }
 }
 
@@ -40,7 +43,7 @@ fn assert_same<const N: usize>(
 
 /// That the tree has the entries of the plain program.
 fn assert_same_entries<const N: usize>(rt: &impl Abort, tree: &Tree<N>, plain: &Plain) {
-    for key in 0..101 {
+    for key in 0..KEYS {
         assert_eq!(rt; tree.get(key), plain.get(key), "at {key}");
     }
 }
@@ -70,15 +73,16 @@ fn compare_orders<const N: usize>(
 ) -> Result<(), AllocError>
     requires { IsLeafCapacity N }
 {
-    let mut tree: Tree<N> = Tree::new(alloc, 300);
+    let mut tree: Tree<N> = Tree::new(alloc, 400);
     let mut plain = Plain::new(alloc, N);
-    for step in 0..101 {
+    for step in 0..KEYS {
         let key = key_at(orders.0, step);
-        insert_in_both(rt, &mut tree, &mut plain, 300, (key, step))?;
+        insert_in_both(rt, &mut tree, &mut plain, 400, (key, step))?;
     }
     assert_same(rt, alloc, &tree, &plain)?;
     assert_same_entries(rt, &tree, &plain);
-    for step in 0..101 {
+    assert!(rt; N > 3 || orders.0 > 1 || tree.levels() == 5);
+    for step in 0..KEYS {
         let key = key_at(orders.1, step);
         assert_eq!(rt; tree.remove(key), plain.remove(key));
         assert_same(rt, alloc, &tree, &plain)?;
