@@ -21,15 +21,15 @@ module _ {K X : Type 0} (most : ℕ) (a b c : Table K X) where
     sizes_are = q.sizes_are;
     others = λ m ne ne'. elim (eqb_tells m s) [
       | inl w ↦ (
-        let gone : ¬ IsTrue (is_root c.nodes m) = subst (λ (z : ℕ). ¬ IsTrue (is_root c.nodes z)) (sym w.1) (q.old_gone (λ e. ne' (w.1 ∙ e))) in
-        let new : ¬ IsTrue (is_root a.nodes m) = subst (λ (z : ℕ). ¬ IsTrue (is_root a.nodes z)) (sym w.1) (p.new_came (λ e. ne (w.1 ∙ sym e))) in
-        ((λ h. absurd (gone h), λ h. absurd (new h)), λ h. absurd (new h))
-      )
+          let gone : ¬ IsTrue (is_root c.nodes m) = subst (λ (z : ℕ). ¬ IsTrue (is_root c.nodes z)) (sym w.1) (q.old_gone (λ e. ne' (w.1 ∙ e))) in
+          let new : ¬ IsTrue (is_root a.nodes m) = subst (λ (z : ℕ). ¬ IsTrue (is_root a.nodes z)) (sym w.1) (p.new_came (λ e. ne (w.1 ∙ sym e))) in
+          ((λ h. absurd (gone h), λ h. absurd (new h)), λ h. absurd (new h))
+          )
       | inr w ↦ (
-        let x = p.others m ne w.1 in
-        let y = q.others m w.1 ne' in
-        ((λ h. x.0.0 (y.0.0 h), λ h. y.0.1 (x.0.1 h)), λ h. y.1 (x.0.1 h) ∙ x.1 h)
-      )
+          let x = p.others m ne w.1 in
+          let y = q.others m w.1 ne' in
+          ((λ h. x.0.0 (y.0.0 h), λ h. y.0.1 (x.0.1 h)), λ h. y.1 (x.0.1 h) ∙ x.1 h)
+          )
     ];
     old_gone = λ ne. elim (eqb_tells r s) [
       | inl w ↦ subst (λ (z : ℕ). ¬ IsTrue (is_root c.nodes z)) (sym w.1) (q.old_gone (λ e. ne (w.1 ∙ e)))
@@ -52,15 +52,15 @@ module _ {K X : Type 0} (most : ℕ) (a b c : Table K X) where
     ];
     others = λ m ne ne'. elim (eqb_tells m s) [
       | inl w ↦ (
-        let gone : ¬ IsTrue (is_root c.nodes m) = subst (λ (z : ℕ). ¬ IsTrue (is_root c.nodes z)) (sym w.1) q.root_gone in
-        let new : ¬ IsTrue (is_root a.nodes m) = subst (λ (z : ℕ). ¬ IsTrue (is_root a.nodes z)) (sym w.1) (p.new_came (λ e. ne (w.1 ∙ sym e))) in
-        ((λ h. absurd (gone h), λ h. absurd (new h)), λ h. absurd (new h))
-      )
+          let gone : ¬ IsTrue (is_root c.nodes m) = subst (λ (z : ℕ). ¬ IsTrue (is_root c.nodes z)) (sym w.1) q.root_gone in
+          let new : ¬ IsTrue (is_root a.nodes m) = subst (λ (z : ℕ). ¬ IsTrue (is_root a.nodes z)) (sym w.1) (p.new_came (λ e. ne (w.1 ∙ sym e))) in
+          ((λ h. absurd (gone h), λ h. absurd (new h)), λ h. absurd (new h))
+          )
       | inr w ↦ (
-        let x = p.others m ne w.1 in
-        let y = q.others m w.1 w.1 in
-        ((λ h. x.0.0 (y.0.0 h), λ h. y.0.1 (x.0.1 h)), λ h. y.1 (x.0.1 h) ∙ x.1 h)
-      )
+          let x = p.others m ne w.1 in
+          let y = q.others m w.1 w.1 in
+          ((λ h. x.0.0 (y.0.0 h), λ h. y.0.1 (x.0.1 h)), λ h. y.1 (x.0.1 h) ∙ x.1 h)
+          )
     ];
     limit_is = q.limit_is ∙ p.limit_is;
   }

@@ -169,7 +169,7 @@ module _ {F K X : Type 0} (most : ℕ) (step : F → K → X → Bool → X → 
           list = list_under now root;
           sizes = sizes_under now root;
           retains = subst (λ (l : List (K × X)). Retains step most f₀ 0 (list_under old first) (sizes_under old first) l (sizes_under now root)) all
-          (s.rest [] (sizes_under now root) (subst (λ (l : List (K × X)). Retains step most f s.place l (sizes_under now root) [] (sizes_under now root)) (sym none) (refl, refl)));
+              (s.rest [] (sizes_under now root) (subst (λ (l : List (K × X)). Retains step most f s.place l (sizes_under now root) [] (sizes_under now root)) (sym none) (refl, refl)));
           changes = s.changes;
           gives = s.gives;
           same_root = (s.same, λ e. elim (eqb_tells root first) [ inl w ↦ w.1 | inr w ↦ absurd (let n = s.gone w.1 in omega (arith, n.1, e)) ]);
@@ -221,37 +221,38 @@ module _ {F K X : Type 0} (most : ℕ) (step : F → K → X → Bool → X → 
             let n = ap length sizes_are in
             let on = ap (λ z. count first z) gv.chain_is in
             let more = count-append first gv.given now.chain in (
-            record {
-              place = place';
-              changes = changes-both most old now new first root root' (list_under now root) (list_under new root') (sizes_under now root) (sizes_under new root') s.changes (record {
-                union = ch.union;
-                root_is = ch.root_is;
-                list_is = refl;
-                sizes_are = refl;
-                others = ch.others;
-                old_gone = ch.old_gone;
-                new_came = ch.new_came;
-                limit_is = ch.limit_is;
-              });
-              at = at;
-              ready = ready_on stays w f' t (drop place' (list_under new root')) (ap (λ l. drop place' l) list_is ∙ same);
-              rest = asked_on stays w f' t (list_under new root') (sizes_under new root') place' place_is (sizes_are ∙ us_is) (ap (λ l. drop place' l) list_is ∙ same) (λ ks. ap (λ l. take place' l ++ ks) list_is ∙ front ks);
-              gives = gives-both most old now new (sizes_under old first) (sizes_under now root) (sizes_under new root') s.gives (subst (λ (z : List (List ℕ)). GivesNodes (sizes_under now root) z now new) (sym sizes_are) gv);
-              fewer = omega (arith, n, few, s.fewer);
-              same = λ e. elim (eqb_tells root first) [
-                | inl i ↦ (let l = level.0 (e ∙ sym i.1) in let m = s.same i.1 in omega (arith, l, m, n))
-                | inr i ↦ absurd (chained-no-root most new first ch.union (let g = s.gone i.1 in omega (arith, g.0, on, more)) (subst (λ (z : ℕ). IsTrue (is_root new.nodes z)) e ch.root_is))
-              ];
-              gone = λ ne. elim (eqb_tells root first) [
-                | inl i ↦ (
-                  let other : root' ≢ root = λ e. ne (e ∙ i.1) in
-                  let less : length us < length (sizes_under now root) = elim (cases_lt (length us) (length (sizes_under now root))) [ inl lt ↦ lt | inr ge ↦ absurd (other (level.1 (omega (arith, ge, few)))) ] in
-                  (subst (λ (z : ℕ). 0 < count z new.chain) i.1 (freed other), omega (arith, less, n, s.fewer))
-                )
-                | inr i ↦ (let g = s.gone i.1 in (omega (arith, g.0, on, more), omega (arith, g.1, few, n)))
-              ];
-            },
-            omega (arith, less, ap length list_is))
+              record {
+                place = place';
+                changes = changes-both most old now new first root root' (list_under now root) (list_under new root') (sizes_under now root) (sizes_under new root') s.changes (record {
+                  union = ch.union;
+                  root_is = ch.root_is;
+                  list_is = refl;
+                  sizes_are = refl;
+                  others = ch.others;
+                  old_gone = ch.old_gone;
+                  new_came = ch.new_came;
+                  limit_is = ch.limit_is;
+                });
+                at = at;
+                ready = ready_on stays w f' t (drop place' (list_under new root')) (ap (λ l. drop place' l) list_is ∙ same);
+                rest = asked_on stays w f' t (list_under new root') (sizes_under new root') place' place_is (sizes_are ∙ us_is) (ap (λ l. drop place' l) list_is ∙ same) (λ ks. ap (λ l. take place' l ++ ks) list_is ∙ front ks);
+                gives = gives-both most old now new (sizes_under old first) (sizes_under now root) (sizes_under new root') s.gives (subst (λ (z : List (List ℕ)). GivesNodes (sizes_under now root) z now new) (sym sizes_are) gv);
+                fewer = omega (arith, n, few, s.fewer);
+                same = λ e. elim (eqb_tells root first) [
+                  | inl i ↦ (let l = level.0 (e ∙ sym i.1) in let m = s.same i.1 in omega (arith, l, m, n))
+                  | inr i ↦ absurd (chained-no-root most new first ch.union (let g = s.gone i.1 in omega (arith, g.0, on, more)) (subst (λ (z : ℕ). IsTrue (is_root new.nodes z)) e ch.root_is))
+                ];
+                gone = λ ne. elim (eqb_tells root first) [
+                  | inl i ↦ (
+                      let other : root' ≢ root = λ e. ne (e ∙ i.1) in
+                      let less : length us < length (sizes_under now root) = elim (cases_lt (length us) (length (sizes_under now root))) [ inl lt ↦ lt | inr ge ↦ absurd (other (level.1 (omega (arith, ge, few)))) ] in
+                      (subst (λ (z : ℕ). 0 < count z new.chain) i.1 (freed other), omega (arith, less, n, s.fewer))
+                      )
+                  | inr i ↦ (let g = s.gone i.1 in (omega (arith, g.0, on, more), omega (arith, g.1, few, n)))
+                ];
+              },
+              omega (arith, less, ap length list_is),
+            )
 
         -- the entry here was asked
         pub sifting-next : Sifted most step now new root root' path' indices' size' f f' (list_under now root) (sizes_under now root) s.place k v → (n : Sifting new root' f' path' indices' size') × (length (list_under new root') - n.place < length (list_under now root) - s.place)
@@ -274,7 +275,7 @@ module _ {F K X : Type 0} (most : ℕ) (step : F → K → X → Bool → X → 
             let last : Retains step most f s.place ((k, v) ∷ []) (sizes_under now root) [] [] = (false, t.left, f', [], t.stepped, (refl, sym t.none_left), refl) in
             record {
               retains = subst (λ (l : List (K × X)). Retains step most f₀ 0 (list_under old first) (sizes_under old first) l []) (ap (λ z. take z (list_under now root) ++ []) zero_is)
-              (s.rest [] [] (subst (λ (l : List (K × X)). Retains step most f s.place l (sizes_under now root) [] []) (ap (λ z. (k, v) ∷ z) (sym none) ∙ sym todo) last));
+                  (s.rest [] [] (subst (λ (l : List (K × X)). Retains step most f s.place l (sizes_under now root) [] []) (ap (λ z. (k, v) ∷ z) (sym none) ∙ sym todo) last));
               ended = ends-both most old now new first root (list_under now root) (sizes_under now root) s.changes t.ended;
               gives = gives-both most old now new (sizes_under old first) (sizes_under now root) [] s.gives (subst (λ (z : List (List ℕ)). GivesNodes (sizes_under now root) z now new) t.none_left t.gives);
             }

@@ -241,7 +241,11 @@ impl<K: Copy, V: Copy> Map<K, V> {
 
     /// Asks once for each entry, in order, and keeps those answered `true`, with the value as the predicate left it. It compares no keys
     /// and takes no memory. Each entry answered `false` is a removal, so nodes are joined and freed as in [`Map::remove`].
-    pub fn retain<F: FnMut(K, &mut V) -> bool>(&mut self, forest: &mut MapForest<K, V>, predicate: F)
+    pub fn retain<F: FnMut(K, &mut V) -> bool>(
+        &mut self,
+        forest: &mut MapForest<K, V>,
+        predicate: F,
+    )
         requires live { IsLive forest.old self.old }
         requires callable { MayAskEach (Answers F.FnMut) (MayAsk F.FnMut) predicate
             (list_of forest.old self.old) }

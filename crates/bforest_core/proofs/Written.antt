@@ -151,8 +151,7 @@ module _ {K V : Type 0} where
         (λ m. (let d = ap (λ z. count m (z ++ flat_map numbers tree.above)) ns in omega (arith, d)))
         (λ m zero_is. w.same m (λ (is : m ≡ n). (let d = ap (λ z. count z (numbers_of tree)) is in omega (arith, zero_is, d, c, parts n, count-same n (numbers at.after))))) in
         let e1 : IsTrue (is_root new.nodes root) × (tree_of new.nodes root ≡ tree') × OthersKeep table.nodes new.nodes root root =
-        subst (λ (z : ℕ). IsTrue (is_root new.nodes z) × (tree_of new.nodes z ≡ tree') × OthersKeep table.nodes new.nodes root z) same_root (e0.root_is, e0.tree_is, e0.others) in
-        (
+        subst (λ (z : ℕ). IsTrue (is_root new.nodes z) × (tree_of new.nodes z ≡ tree') × OthersKeep table.nodes new.nodes root z) same_root (e0.root_is, e0.tree_is, e0.others) in (
           record {
             union = e0.union;
             root_is = e1.0;

@@ -139,4 +139,3 @@ returns-in-None-clause-same_root g c =
     let list = cut-absent cmp es c.args.key gone in
     let sizes = left-absent cmp g.row.N slots root c.args.key gone in
     (λ same. ap length sizes, λ same. refl)
-

@@ -99,4 +99,3 @@ returns-clause-account g c =
     subst (λ (z : Forest g.row.K.Denot g.row.V.Denot). Gives (sizes_at f c.args.root) (sizes_without cmp f (Some c.args.root) c.args.key) z new) c.self.view_is
     (subst (λ (z : List (List ℕ)). Gives (sizes_at f c.args.root) z p new) sizes
     (subst (λ (z : List (List ℕ)). Gives z ss p new) s.sizes (gives p new (tree_sizes (tree_of p.nodes c.args.root)) ss c.cut.ensures.account)))
-

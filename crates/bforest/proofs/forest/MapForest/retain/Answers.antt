@@ -67,4 +67,3 @@ returns-clause-account g c =
     let step = g.P.Predicate.step in
     subst (λ (z : Forest g.row.K.Denot g.row.V.Denot). Gives (sizes_at f c.args.root) (sizes_of new o) z new) c.self.view_is
     (subst (λ (z : List (List ℕ)). Gives z (sizes_of new o) p new) s.sizes (gives-kept step p new c.args.root c.args.predicate o c.retain.ensures.retained c.retain.ensures.ended))
-

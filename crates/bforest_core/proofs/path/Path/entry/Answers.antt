@@ -14,14 +14,14 @@ entry_here-requires g c =
 pub returns-then-levels-eq0 : goal.returns-then-levels-eq0
 returns-then-levels-eq0 g c = record {
   value = λ tree place fit inside at.
-    let end = at_end c.args.self.now.node c.args.self.now.entry tree place c.args.self.now.size c.if-levels-eq0.true at in
-    sym (slice_get_past (flat tree.leaves) place (omega (arith, end)));
+      let end = at_end c.args.self.now.node c.args.self.now.entry tree place c.args.self.now.size c.if-levels-eq0.true at in
+      sym (slice_get_past (flat tree.leaves) place (omega (arith, end)));
 }
 
 pub returns-else-levels-eq0 : goal.returns-else-levels-eq0
 returns-else-levels-eq0 g c = record {
   value = λ tree place fit inside at.
-    let s = at_entry c.args.self.now.node c.args.self.now.entry tree place c.args.self.now.size (λ e. omega (arith, e, c.if-levels-eq0.false)) at in
-    let one = some_leaf _ c.requires.capacity in
-    sym (entry_is g.row.N one c.args.pool.now.nodes c.args.self.now.node c.args.self.now.entry c.args.self.now.size tree place fit inside s (Some c.entry_here.result) (c.entry_here.ensures s.leaf.entries (leaf_slot g.row.N one c.args.pool.now.nodes c.args.self.now.node c.args.self.now.entry c.args.self.now.size tree place fit inside s)));
+      let s = at_entry c.args.self.now.node c.args.self.now.entry tree place c.args.self.now.size (λ e. omega (arith, e, c.if-levels-eq0.false)) at in
+      let one = some_leaf _ c.requires.capacity in
+      sym (entry_is g.row.N one c.args.pool.now.nodes c.args.self.now.node c.args.self.now.entry c.args.self.now.size tree place fit inside s (Some c.entry_here.result) (c.entry_here.ensures s.leaf.entries (leaf_slot g.row.N one c.args.pool.now.nodes c.args.self.now.node c.args.self.now.entry c.args.self.now.size tree place fit inside s)));
 }
