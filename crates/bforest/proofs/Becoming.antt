@@ -1,5 +1,5 @@
 -- One change of a handle's tree after another, and what a change leaves of another handle.
-use Rattle.bforest.specs.Forest.{Becomes, Forest, IsLive, list_at, list_of, sizes_at, sizes_of}
+use Rattle.bforest.specs.Forest.{Becomes, Forest, IsLive, list_at, list_of, sizes_of}
 use Rattle.std.proofs.Common.{Err, List, None, Ok, OnErr, OnOk, Option, Result, Some, [], ap, inl, inr, refl, subst, sym, ◌∙◌, ◌≡◌, ◌≢◌, ◌⊎◌, ℕ}
 use Rattle.std.proofs.lemmas.Bool.Decides.{eqb_tells}
 

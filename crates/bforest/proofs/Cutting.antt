@@ -2,14 +2,14 @@
 use Rattle.bforest.proofs.Changed.{Seen, becomes, list-none, same_list, same_sizes, sizes-new, sizes-none, sizes-root}
 use Rattle.bforest.specs.Forest.{Becomes, Forest, Gives, list_of, sizes_at, sizes_of as forest_sizes, sizes_without}
 use Rattle.bforest.specs.Insertion.{sizes_left}
-use Rattle.bforest_core.specs.Change.{Changes, Ends, GivesNodes, node_count}
+use Rattle.bforest_core.specs.Change.{Changes, Ends, GivesNodes}
 use Rattle.bforest_core.specs.Levels.{flat, sizes_of}
 use Rattle.bforest_core.specs.Sizes.{shrink}
 use Rattle.bforest_core.specs.Table.{Table}
 use Rattle.bforest_core.specs.Trees.{IsUnion, is_root, tree_of}
 use Rattle.bforest_nodes.specs.Content.{Content}
 use Rattle.bforest_nodes.specs.Entries.{is_present, place}
-use Rattle.std.proofs.Common.{IsTrue, List, None, Option, Some, [], IfSome, ap, arith, false, if◌then◌else◌, length, length-append, refl, remove, subst, suc, sym, true, zero, ◌+◌, ◌++◌, ◌<◌, ◌∙◌, ◌∷◌, ◌≡◌, ◌≢◌, ◌≤◌, ◌↔◌, ℕ}
+use Rattle.std.proofs.Common.{IsTrue, List, None, Option, Some, [], IfSome, ap, arith, false, if◌then◌else◌, length, length-append, refl, remove, subst, suc, sym, true, zero, ◌<◌, ◌∷◌, ◌≡◌, ◌≤◌, ◌↔◌, ℕ}
 use Rattle.std.specs.declared.cmp.Ordering.{Ordering}
 
 -- the only entry taken out

@@ -1,12 +1,12 @@
 -- One change of a tree of a table after another.
-use Rattle.bforest_core.proofs.Forests.{root-counts}
+use Rattle.bforest_core.proofs.Forests.{free-unused}
 use Rattle.bforest_core.proofs.FreeSlots.{free-at}
-use Rattle.bforest_core.specs.Change.{Changes, Ends, GivesNodes, node_count}
+use Rattle.bforest_core.specs.Change.{Changes, Ends, GivesNodes}
 use Rattle.bforest_core.specs.Place.{count}
 use Rattle.bforest_core.specs.Table.{Table}
-use Rattle.bforest_core.specs.Trees.{IsUnion, is_root, is_used, slot, tree_of}
-use Rattle.bforest_nodes.specs.Content.{Content, Free, Inner, IsFree, Leaf, children_of}
-use Rattle.std.proofs.Common.{Bool, IsTrue, List, [], ap, append_assoc, arith, false, inl, inr, length, length-append, nat_eq, refl, subst, sym, true, ◌&&◌, ◌+◌, ◌++◌, ◌<◌, ◌∙◌, ◌≡◌, ◌≢◌, ◌↔◌, ℕ}
+use Rattle.bforest_core.specs.Trees.{IsUnion, is_root, slot}
+use Rattle.bforest_nodes.specs.Content.{children_of}
+use Rattle.std.proofs.Common.{IsTrue, List, ap, append_assoc, arith, inl, inr, length-append, nat_eq, subst, sym, ◌&&◌, ◌++◌, ◌<◌, ◌∙◌, ℕ}
 use Rattle.std.proofs.lemmas.Bool.Decides.{eqb_tells}
 use Rattle.std.proofs.lemmas.Bool.{false≢true}
 use Rattle.std.specs.List.{flat_map}
@@ -75,14 +75,9 @@ module _ {K X : Type 0} (most : ℕ) (a b c : Table K X) where
   }
 
 module _ {K X : Type 0} where
-  free_unused : (content : Content K X) → IsFree content → is_used content ≡ false
-  free_unused (Inner keys children) f = absurd f
-  free_unused (Leaf keys vals) f = absurd f
-  free_unused (Free next) f = refl
-
   -- a number on the chain is no root
   pub chained-no-root : (most : ℕ) (t : Table K X) (m : ℕ) → IsUnion most t → 0 < count m t.chain → ¬ IsTrue (is_root t.nodes m)
   unfolding is_root
   chained-no-root most t m union on root =
-      let free = free_unused (slot t.nodes m) (free-at t.nodes t.chain union.1.free m on) in
+      let free = free-unused (slot t.nodes m) (free-at t.nodes t.chain union.1.free m on) in
       false≢true (sym (ap (λ z. z && nat_eq (count m (flat_map children_of t.nodes)) 0) free) ∙ root)

@@ -10,4 +10,4 @@ pub mod Becoming
 pub mod Cutting
 pub mod Following
 pub mod Sifting
-pub mod Kept
+pub mod Retaining

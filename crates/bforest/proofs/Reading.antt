@@ -1,7 +1,6 @@
 -- Where an iterator's path stands, what is left, and a step of it.
 use Rattle.bforest.specs.Layout.{IsReading, entries_from, place_in}
 use Rattle.bforest_core.proofs.Entered.{entry_is, leaf_slot, pair_read}
-use Rattle.bforest_core.proofs.Stored.{some_same}
 use Rattle.bforest_core.proofs.Tables.{count-append, count-same}
 use Rattle.bforest_core.proofs.Tops.{root-stands}
 use Rattle.bforest_core.proofs.Unions.{rooted}
@@ -16,12 +15,6 @@ use Rattle.std.proofs.Common.{IsTrue, List, None, Option, Some, [], ap, arith, d
 use Rattle.std.proofs.lemmas.List.{length-map}
 use Rattle.std.specs.List.{flat_map}
 use Rattle.std.proofs.lemmas.Bool.Decides.{eqb_tells}
-
--- the rest of a list from an element on
-pub drop-read : {A : Type 0} (xs : List A) (p : ℕ) (x : A) → slice_get xs p ≡ Some x → drop p xs ≡ x ∷ drop (suc p) xs
-drop-read [] p x e = absurd (cc)
-drop-read (y ∷ xs) zero x e = ap (λ z. z ∷ xs) (some_same y x e)
-drop-read (y ∷ xs) (suc p) x e = drop-read xs p x e
 
 -- nothing from past the end on
 pub drop-none : {A : Type 0} (xs : List A) (p : ℕ) → None ≡ slice_get xs p → drop p xs ≡ []

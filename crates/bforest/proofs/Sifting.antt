@@ -5,6 +5,7 @@ use Rattle.bforest.proofs.Reading.{ended, standing-in}
 use Rattle.bforest.specs.Layout.{entries_from}
 use Rattle.bforest.specs.Retain.{MayAskEach, Retained, RetainedNone, Retains, Sifted, SiftedLast}
 use Rattle.bforest_core.proofs.LevelRows.{flat-append}
+use Rattle.bforest_core.proofs.Lists.{drop-read}
 use Rattle.bforest_core.proofs.Tables.{count-append}
 use Rattle.bforest_core.specs.Change.{Changes, GivesNodes, StandsUnder}
 use Rattle.bforest_core.specs.Levels.{LevelNode, Tree, flat, half_of, node, sizes_of}
@@ -13,10 +14,11 @@ use Rattle.bforest_core.specs.Sizes.{loss, loss_above, shrink, trimmed}
 use Rattle.bforest_core.specs.Table.{Table}
 use Rattle.bforest_core.specs.Trees.{IsUnion, is_root, tree_of}
 use Rattle.bforest_nodes.specs.Entries.{with_value}
-use Rattle.std.proofs.Common.{Bool, IfSome, IsTrue, List, None, Option, Some, [], ap, append-nil, arith, drop, false, if◌then◌else◌, inl, inr, length, length-append, refl, remove, slice_get, subst, suc, sym, take, true, zero, ◌+◌, ◌++◌, ◌-◌, ◌<◌, ◌∙◌, ◌∷◌, ◌≡◌, ◌≢◌, ◌≤◌, ◌↔◌, ℕ}
+use Rattle.std.proofs.Common.{Bool, IfSome, IsTrue, List, None, Option, Some, [], ap, append-nil, arith, drop, false, if◌then◌else◌, inl, inr, length, length-append, refl, remove, slice_get, subst, suc, sym, take, true, zero, ◌++◌, ◌-◌, ◌<◌, ◌∙◌, ◌∷◌, ◌≡◌, ◌≢◌, ◌≤◌, ◌↔◌, ℕ}
 use Rattle.std.proofs.lemmas.Bool.Decides.{eqb_tells}
 use Rattle.std.proofs.lemmas.Bool.{cases_lt}
 use Rattle.std.proofs.lemmas.List.{drop_all, take_all}
+use Rattle.std.proofs.lemmas.Option.{slice_get_within}
 
 module _ {X : Type 0} where
   -- where there is no element the end is past
@@ -24,19 +26,6 @@ module _ {X : Type 0} where
   read_none [] p e = omega arith
   read_none (x ∷ xs) zero e = absurd (cc)
   read_none (x ∷ xs) (suc p) e = let r = read_none xs p e in omega (arith, r)
-
-  -- and where there is one it is not
-  read_some : (xs : List X) (p : ℕ) (x : X) → Some x ≡ slice_get xs p → p < length xs
-  read_some [] zero x e = absurd (cc)
-  read_some [] (suc p) x e = absurd (cc)
-  read_some (y ∷ xs) zero x e = omega arith
-  read_some (y ∷ xs) (suc p) x e = let r = read_some xs p x e in omega (arith, r)
-
-  opened : (xs : List X) (p : ℕ) (x : X) → Some x ≡ slice_get xs p → drop p xs ≡ x ∷ drop (suc p) xs
-  opened [] zero x e = absurd (cc)
-  opened [] (suc p) x e = absurd (cc)
-  opened (y ∷ xs) zero x e = let same : y ≡ x = cc in ap (λ z. z ∷ xs) same
-  opened (y ∷ xs) (suc p) x e = opened xs p x e
 
   drop_remove : (xs : List X) (p : ℕ) → p < length xs → drop p (remove xs p) ≡ drop (suc p) xs
   drop_remove [] p low = absurd (omega (arith, low))
@@ -177,7 +166,7 @@ module _ {F K X : Type 0} (most : ℕ) (step : F → K → X → Bool → X → 
 
     module _ (k : K) (v : X) (here : Some (k, v) ≡ slice_get (list_under now root) s.place) where
       todo : drop s.place (list_under now root) ≡ (k, v) ∷ drop (suc s.place) (list_under now root)
-      todo = opened (list_under now root) s.place (k, v) here
+      todo = drop-read (list_under now root) s.place (k, v) (sym here)
 
       ready : MayAskEach step may f ((k, v) ∷ drop (suc s.place) (list_under now root))
       ready = subst (MayAskEach step may f) todo s.ready
@@ -191,7 +180,7 @@ module _ {F K X : Type 0} (most : ℕ) (step : F → K → X → Bool → X → 
       sifting-stands = record { root_is = s.changes.root_is; stands = go size s.at }
         where
           go : (size : ℕ) → IsPathAt path indices size (tree_of now.nodes root) s.place → Stands path indices size (tree_of now.nodes root) s.place
-          go zero at = absurd (let low = read_some (list_under now root) s.place (k, v) here in omega (arith, low, at))
+          go zero at = absurd (let low = slice_get_within (list_under now root) s.place (k, v) (sym here) in omega (arith, low, at))
           go (suc size) at = at
 
       -- one answer leads to what is asked of the rest
@@ -259,7 +248,7 @@ module _ {F K X : Type 0} (most : ℕ) (step : F → K → X → Bool → X → 
         sifting-next t = go t.stays t.left t.stepped t.changes t.gives t.at t.same_root t.freed_root
           where
             low : s.place < length (list_under now root)
-            low = read_some (list_under now root) s.place (k, v) here
+            low = slice_get_within (list_under now root) s.place (k, v) (sym here)
 
             go : (stays : Bool) (w : X) → step f k v stays w f' → Changes most now new root root' (if stays then with_value (list_under now root) s.place w else remove (list_under now root) s.place) (if stays then sizes_under now root else shrink most s.place (sizes_under now root)) →
                 GivesNodes (sizes_under now root) (if stays then sizes_under now root else shrink most s.place (sizes_under now root)) now new → IsPathAt path' indices' size' (tree_of new.nodes root') (if stays then suc s.place else s.place) → (root' ≡ root) ↔ (length (if stays then sizes_under now root else shrink most s.place (sizes_under now root)) ≡ length (sizes_under now root)) → (root' ≢ root → 0 < count root new.chain) → (n : Sifting new root' f' path' indices' size') × (length (list_under new root') - n.place < length (list_under now root) - s.place)
@@ -269,7 +258,7 @@ module _ {F K X : Type 0} (most : ℕ) (step : F → K → X → Bool → X → 
         -- it was the only one that was left, and went
         pub sifting-none : SiftedLast most step now new root f f' (list_under now root) (sizes_under now root) s.place k v → RetainedNone most step old new first f₀
         sifting-none t =
-            let low = read_some (list_under now root) s.place (k, v) here in
+            let low = slice_get_within (list_under now root) s.place (k, v) (sym here) in
             let zero_is : s.place ≡ 0 = omega (arith, low, t.last) in
             let none : drop (suc s.place) (list_under now root) ≡ [] = drop_all (suc s.place) (list_under now root) (omega (arith, t.last)) in
             let last : Retains step most f s.place ((k, v) ∷ []) (sizes_under now root) [] [] = (false, t.left, f', [], t.stepped, (refl, sym t.none_left), refl) in

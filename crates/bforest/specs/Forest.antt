@@ -6,7 +6,7 @@ use Rattle.bforest_core.specs.Sizes.{growth, need, shrink}
 use Rattle.bforest_core.specs.Table.{Table, free_count, slot_count}
 use Rattle.bforest_core.specs.Trees.{is_root, tree_of}
 use Rattle.std.specs.List.{sum_by}
-use Rattle.std.specs.Prelude.{List, None, Option, Some, [], if◌then◌else◌, length, suc, zero, ◌+◌, ◌++◌, ◌-◌, ◌<◌, ◌≡◌, ◌≢◌, ◌≤◌, ◌∷◌, ℕ}
+use Rattle.std.specs.Prelude.{List, None, Option, Some, [], if◌then◌else◌, suc, zero, ◌+◌, ◌++◌, ◌-◌, ◌<◌, ◌≡◌, ◌≢◌, ◌≤◌, ◌∷◌, ℕ}
 use Rattle.std.specs.declared.cmp.Ordering.{Ordering}
 
 -- The table of a forest's nodes. Contracts read it by the words below alone.

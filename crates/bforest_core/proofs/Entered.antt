@@ -1,13 +1,11 @@
 -- A step of a path from entry to entry of a tree.
-use Rattle.std.proofs.Common.{◌≡◌, ◌≢◌, ℕ, zero, suc, ◌+◌, ◌≤◌, ◌<◌, List, [], ◌∷◌, ◌++◌, length, get_or, slice_get, Option, Some, None, refl, sym, ap, subst, ◌∙◌, arith, length-append}
-use Rattle.std.proofs.lemmas.Option.{slice_get_within}
-use Rattle.bforest_nodes.specs.Content.{Content, Leaf}
+use Rattle.std.proofs.Common.{◌≡◌, ◌≢◌, ℕ, zero, suc, ◌+◌, ◌≤◌, ◌<◌, List, [], ◌∷◌, ◌++◌, length, get_or, slice_get, Option, Some, sym, ap, subst, ◌∙◌, arith, length-append}
+use Rattle.bforest_nodes.specs.Content.{Content}
 use Rattle.bforest_core.specs.Levels.{LevelNode, node, flat, heads, FitRow, Tree, IsFit, half_of}
-use Rattle.bforest_core.specs.Place.{RowIn, leaf_content, entry_keys, entry_items, IsAt, StandsAbove, Stands, IsIn}
-use Rattle.bforest_core.specs.Climb.{SameBelow}
+use Rattle.bforest_core.specs.Place.{RowIn, leaf_content, entry_keys, entry_items, StandsAbove, Stands, IsIn}
 use Rattle.bforest_core.specs.Steps.{Over, Moved}
 use Rattle.bforest_core.proofs.LevelRows.{FitRow-split}
-use Rattle.bforest_core.proofs.Steps.{fit_full, entry_at, read, Nth, nth, next_at, none_behind, not_less}
+use Rattle.bforest_core.proofs.Steps.{fit_full, entry_at, read, nth, next_at, none_behind, not_less}
 use Rattle.bforest_core.proofs.Stored.{some_same}
 use Rattle.bforest_core.proofs.Tables.{row-split}
 use Rattle.bforest_core.proofs.Zipper.{stands-same}

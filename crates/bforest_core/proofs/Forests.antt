@@ -70,10 +70,10 @@ module _ {K V : Type 0} where
   no_children (Free next) f = refl
 
   -- and is no node
-  not_used : (content : Content K V) → IsFree content → is_used content ≡ false
-  not_used (Inner keys children) f = absurd f
-  not_used (Leaf keys vals) f = absurd f
-  not_used (Free next) f = refl
+  pub free-unused : (content : Content K V) → IsFree content → is_used content ≡ false
+  free-unused (Inner keys children) f = absurd f
+  free-unused (Leaf keys vals) f = absurd f
+  free-unused (Free next) f = refl
 
   -- free slots name none
   named_free : (slots : List (Content K V)) (ms : List ℕ) → Every (λ (m : ℕ). IsFree (slot slots m)) ms → named_by slots ms ≡ []
@@ -149,7 +149,7 @@ module _ {K V : Type 0} where
       let parts = and_parts (is_used (slot table.nodes m)) (nat_eq (count m (flat_map children_of table.nodes)) 0) root in
       let none : count m (flat_map children_of table.nodes) ≡ 0 = elim (eqb_tells (count m (flat_map children_of table.nodes)) 0) [ inl w ↦ w.1 | inr w ↦ absurd (let e = w.0 in let d = parts.1 in cc) ] in
       let low = used_within table.nodes m parts.0 in
-      let off : count m table.chain ≡ 0 = elim (cases_lt 0 (count m table.chain)) [ inl on ↦ absurd (let e = not_used (slot table.nodes m) (free-at table.nodes table.chain f.free m on) in let d = parts.0 in cc) | inr off ↦ omega (arith, off) ] in
+      let off : count m table.chain ≡ 0 = elim (cases_lt 0 (count m table.chain)) [ inl on ↦ absurd (let e = free-unused (slot table.nodes m) (free-at table.nodes table.chain f.free m on) in let d = parts.0 in cc) | inr off ↦ omega (arith, off) ] in
       omega (arith, none, off, f.account m, below-one m (length table.nodes) low, count-append m (flat_map numbers_of trees) table.chain, named_all most table trees f m)
 
   -- a number is a root exactly if it is that of a tree

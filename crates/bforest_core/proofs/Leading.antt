@@ -1,13 +1,13 @@
 -- The way down to the first entry.
-use Rattle.std.proofs.Common.{◌≡◌, ◌≢◌, ℕ, zero, suc, ◌+◌, ◌≤◌, ◌<◌, ◌⊎◌, inl, inr, List, [], ◌∷◌, ◌++◌, length, get_or, slice_get, Some, refl, sym, ap, subst, ◌∙◌, arith, length-append}
+use Rattle.std.proofs.Common.{◌≡◌, ◌≢◌, ℕ, suc, ◌+◌, ◌≤◌, ◌<◌, ◌⊎◌, inl, inr, List, [], ◌∷◌, ◌++◌, length, get_or, slice_get, Some, refl, sym, ap, subst, ◌∙◌, arith, length-append}
 use Rattle.std.proofs.lemmas.Option.{slice_get_within}
 use Rattle.bforest_nodes.specs.Content.{Content, IsInner}
 use Rattle.bforest_core.specs.Levels.{LevelNode, node, flat, heads, FitRow, half_of}
 use Rattle.bforest_core.specs.Place.{RowIn, leaf_content, inner_content, IsAt}
-use Rattle.bforest_core.specs.Descent.{SameAbove, StackedTo, StandsTo, Under, Led}
+use Rattle.bforest_core.specs.Descent.{StackedTo, StandsTo, Under, Led}
 use Rattle.bforest_core.proofs.LevelRows.{least-pos}
 use Rattle.bforest_core.proofs.Stored.{some_same}
-use Rattle.bforest_core.proofs.Downward.{Last, last_of, stacked_last, in_last, stands_more, stands_same}
+use Rattle.bforest_core.proofs.Downward.{last_of, stacked_last, in_last, stands_more, stands_same}
 
 -- the first node of a row
 pub record Front {K X : Type 0} (row : List (LevelNode K X)) (number : ℕ) : Type 0 where

@@ -1,21 +1,19 @@
 -- Lists of entries that increase, cut in parts, and where a key lies among them.
-use Rattle.std.proofs.Common.{◌≡◌, ◌≢◌, ℕ, zero, suc, ◌+◌, ◌≤◌, ◌<◌, ◌⊎◌, inl, inr, Bool, true, false, cond, if◌then◌else◌, List, [], ◌∷◌, ◌++◌, length, slice_get, Option, Some, None, refl, sym, ap, subst, ◌∙◌, arith, length-append}
+use Rattle.std.proofs.Common.{◌≡◌, ◌≢◌, ℕ, zero, suc, ◌+◌, ◌≤◌, Bool, true, false, cond, if◌then◌else◌, List, [], ◌∷◌, ◌++◌, length, slice_get, Option, Some, None, refl, sym, ap, ◌∙◌, arith}
 use Rattle.std.proofs.lemmas.List.Sums.{sum_by-cons, sum_by-append}
 use Rattle.std.proofs.lemmas.Cmp.{alike_right}
 use Rattle.std.specs.Cmp.{IsTotalOrder}
 use Rattle.std.specs.List.Sorted.{IsStrictlySortedBy}
 use Rattle.std.specs.List.{AllByRecursion}
 use Rattle.std.specs.Map.{keys_of}
-use Rattle.std.specs.Option.{is_some, option_and_then, option_map}
-use Rattle.std.specs.Ordering.{is_eq, is_lt, ordering_reverse}
+use Rattle.std.specs.Option.{is_some, option_and_then}
+use Rattle.std.specs.Ordering.{is_eq, is_gt, is_lt, ordering_reverse}
 use Rattle.std.specs.declared.cmp.Ordering.{Ordering}
 use Rattle.std.specs.declared.cmp.Ordering.TheVariants.{Less, Equal, Greater}
-use Rattle.bforest_nodes.specs.Search.{count_less, is_equal_at}
-use Rattle.bforest_nodes.specs.Entries.{IsIncreasing, place, entry_for, is_present, value_for}
-use Rattle.bforest_core.specs.Descent.{child_index, IsFrom, IsUpTo, GoesThrough}
-use Rattle.bforest_nodes.proofs.Searched.{count_less-yes, count_less-no}
+use Rattle.bforest_nodes.specs.Entries.{IsIncreasing, place, entry_for, is_present}
+use Rattle.bforest_core.specs.Descent.{child_index}
+use Rattle.bforest_nodes.proofs.Searched.{count_up_to-no, count_up_to-none, count_up_to-yes}
 use Rattle.bforest_nodes.proofs.Ordered.{place-later, place-here}
-use Rattle.bforest_nodes.proofs.Found.{place-present}
 use Rattle.bforest_core.proofs.Lists.{slice_get-append-add}
 
 -- a property of all keys, over a list in two parts
@@ -139,11 +137,6 @@ module _ {K : Type 0} (cmp : K → K → Ordering) (o : IsTotalOrder cmp) where
       go [] a = tt
       go (q ∷ ks) a = (greater_from y.0 q k a.0 (h y ys refl), go ks a.1)
 
-  -- no key is counted where all are greater
-  count_none : (ks : List K) (k : K) → AllByRecursion (λ p. cmp p k ≡ Greater) ks → count_less cmp ks k ≡ 0
-  count_none [] k h = refl
-  count_none (x ∷ ks) k h = count_less-no cmp x ks k (ap is_lt h.0) ∙ count_none ks k h.1
-
   -- where a search among separators divides them
   pub record Sides {X : Type 0} (es : List (K × X)) (k : K) (i : ℕ) : Type 0 where
     pub l : List (K × X)
@@ -152,9 +145,6 @@ module _ {K : Type 0} (cmp : K → K → Ordering) (o : IsTotalOrder cmp) where
     pub i_is : length l ≡ i
     pub low : AllByRecursion (λ p. cmp p k ≢ Greater) (keys_of l)
     pub high : AllByRecursion (λ p. cmp p k ≡ Greater) (keys_of r)
-
-  child_at : (ks : List K) (k : K) (n : ℕ) (b : Bool) → count_less cmp ks k ≡ n → is_equal_at cmp ks k n ≡ b → child_index cmp ks k ≡ (if b then suc n else n)
-  child_at ks k n b c e = λ j. if ((ap (is_equal_at cmp ks k) c ∙ e) j) then suc (c j) else c j
 
   no_greater : (p k : K) (r : Ordering) → cmp p k ≡ r → (r ≡ Greater → ⊥) → cmp p k ≢ Greater
   no_greater p k r t n = λ g. n (sym t ∙ g)
@@ -175,20 +165,11 @@ module _ {K : Type 0} (cmp : K → K → Ordering) (o : IsTotalOrder cmp) where
       past t [] a = tt
       past t (q ∷ qs) a = (greater_from e.0 q k a.0 t, past t qs a.1)
 
-      shifted : (n : ℕ) (b : Bool) → is_equal_at cmp ks k n ≡ b → count_less cmp ks k ≡ n → count_less cmp (e.0 ∷ ks) k ≡ suc n → child_index cmp (e.0 ∷ ks) k ≡ suc (child_index cmp ks k)
-      shifted n true q c s = child_at (e.0 ∷ ks) k (suc n) true s q ∙ ap suc (sym (child_at ks k n true c q))
-      shifted n false q c s = child_at (e.0 ∷ ks) k (suc n) false s q ∙ ap suc (sym (child_at ks k n false c q))
-
       go : (r : Ordering) → cmp e.0 k ≡ r → Sides es k (child_index cmp ks k) → Sides (e ∷ es) k (child_index cmp (e.0 ∷ ks) k)
-      go Less t s =
-          let n = count_less cmp ks k in
-          let up = shifted n (is_equal_at cmp ks k n) refl refl (count_less-yes cmp e.0 ks k (ap is_lt t)) in
-          record { l = e ∷ s.l; r = s.r; es_is = ap (λ z. e ∷ z) s.es_is; i_is = ap suc s.i_is ∙ sym up; low = (no_greater e.0 k Less t (λ x. absurd (cc)), s.low); high = s.high }
+      go Less t s = record { l = e ∷ s.l; r = s.r; es_is = ap (λ z. e ∷ z) s.es_is; i_is = ap suc s.i_is ∙ sym (count_up_to-yes cmp e.0 ks k (ap is_gt t)); low = (no_greater e.0 k Less t (λ x. absurd (cc)), s.low); high = s.high }
       go Equal t s =
-          let none : count_less cmp (e.0 ∷ ks) k ≡ 0 = count_less-no cmp e.0 ks k (ap is_lt t) ∙ count_none ks k (after t ks h.0) in
-          let at = child_at (e.0 ∷ ks) k 0 true none (ap is_eq t) in
-          record { l = e ∷ []; r = es; es_is = refl; i_is = sym at; low = (no_greater e.0 k Equal t (λ x. absurd (cc)), tt); high = after t ks h.0 }
+          let one : child_index cmp (e.0 ∷ ks) k ≡ 1 = count_up_to-yes cmp e.0 ks k (ap is_gt t) ∙ ap suc (count_up_to-none cmp k ks (after t ks h.0)) in
+          record { l = e ∷ []; r = es; es_is = refl; i_is = sym one; low = (no_greater e.0 k Equal t (λ x. absurd (cc)), tt); high = after t ks h.0 }
       go Greater t s =
-          let none : count_less cmp (e.0 ∷ ks) k ≡ 0 = count_less-no cmp e.0 ks k (ap is_lt t) ∙ count_none ks k (past t ks h.0) in
-          let at = child_at (e.0 ∷ ks) k 0 false none (ap is_eq t) in
-          record { l = []; r = e ∷ es; es_is = refl; i_is = sym at; low = tt; high = (t, past t ks h.0) }
+          let none : child_index cmp (e.0 ∷ ks) k ≡ 0 = count_up_to-no cmp e.0 ks k (ap is_gt t) ∙ count_up_to-none cmp k ks (past t ks h.0) in
+          record { l = []; r = e ∷ es; es_is = refl; i_is = sym none; low = tt; high = (t, past t ks h.0) }

@@ -2,11 +2,11 @@
 use Rattle.std.proofs.Common.{◌≡◌, ℕ, suc, ◌+◌, ◌≤◌, List, [], ◌∷◌, ◌++◌, length, refl, sym, ap, subst, ◌∙◌, arith}
 use Rattle.std.specs.List.{flat_map}
 use Rattle.bforest_nodes.specs.Content.{Content}
-use Rattle.bforest_core.specs.Levels.{LevelNode, node, flat, heads, numbers, least, FitRow, half_of}
+use Rattle.bforest_core.specs.Levels.{LevelNode, node, flat, heads, numbers, FitRow, half_of}
 use Rattle.bforest_core.specs.Place.{RowIn, RowsIn, leaf_content, inner_content, count}
 use Rattle.bforest_core.specs.Descent.{StackedTo, Under}
 use Rattle.bforest_core.specs.Removal.{numbers_under}
-use Rattle.bforest_core.proofs.LevelRows.{flat-append, heads-append, numbers-append, least-pos}
+use Rattle.bforest_core.proofs.LevelRows.{flat-append, numbers-append, least-pos}
 use Rattle.bforest_core.proofs.Tables.{count-append}
 
 -- two lists that are the same have the same parts

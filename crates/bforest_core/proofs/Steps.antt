@@ -1,10 +1,10 @@
 -- A step of a path on one row.
-use Rattle.std.proofs.Common.{◌≡◌, ◌≢◌, ℕ, zero, suc, ◌+◌, ◌≤◌, ◌<◌, List, [], ◌∷◌, ◌++◌, length, get_or, slice_get, Some, None, refl, sym, ap, subst, ◌∙◌, arith, append_assoc, length-append}
+use Rattle.std.proofs.Common.{◌≡◌, ◌≢◌, ℕ, zero, suc, ◌+◌, ◌≤◌, ◌<◌, List, [], ◌∷◌, ◌++◌, length, get_or, slice_get, Some, refl, sym, ap, subst, ◌∙◌, arith, append_assoc, length-append}
 use Rattle.std.proofs.lemmas.List.{append-nil}
 use Rattle.std.specs.Option.{option_map}
 use Rattle.bforest_nodes.specs.Content.{Content}
-use Rattle.bforest_core.specs.Levels.{LevelNode, node, flat, heads, FitRow, Stacked}
-use Rattle.bforest_core.specs.Place.{RowIn, RowsIn, inner_content, entry_items, IsAt, StandsAbove}
+use Rattle.bforest_core.specs.Levels.{LevelNode, node, flat, heads, FitRow}
+use Rattle.bforest_core.specs.Place.{RowIn, inner_content, entry_items, StandsAbove}
 use Rattle.bforest_core.specs.Climb.{SameBelow}
 use Rattle.bforest_core.specs.Steps.{Over, Moved}
 use Rattle.bforest_core.proofs.LevelRows.{flat-append, least-pos, FitRow-split}
@@ -12,7 +12,7 @@ use Rattle.bforest_core.proofs.LeafSearch.{items-read}
 use Rattle.bforest_core.proofs.Lists.{slice_get-append-add, slice_get-append_left}
 use Rattle.bforest_core.proofs.Stored.{some_same, slice_get_at}
 use Rattle.bforest_core.proofs.Tables.{row-split}
-use Rattle.bforest_core.proofs.Zipper.{cut, Cut, stands-same}
+use Rattle.bforest_core.proofs.Zipper.{cut, stands-same}
 
 -- a fit row has no empty node
 pub fit_full : {K X : Type 0} (half most : ℕ) → 1 ≤ half → (row : List (LevelNode K X)) → FitRow half most row → length (heads row) ≡ length row

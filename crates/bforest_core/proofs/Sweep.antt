@@ -1,20 +1,20 @@
 -- Freeing all that is below a node, child by child.
-use Rattle.std.proofs.Common.{◌≡◌, ℕ, zero, suc, ◌+◌, ◌≤◌, ◌<◌, List, [], ◌∷◌, ◌++◌, length, drop, slice_get, Some, append-nil, refl, sym, ap, subst, ◌∙◌, append_assoc, length-set, inl, inr, arith}
+use Rattle.std.proofs.Common.{◌≡◌, ℕ, zero, suc, ◌+◌, ◌≤◌, ◌<◌, List, [], ◌∷◌, ◌++◌, length, drop, slice_get, Some, append-nil, refl, sym, ap, subst, ◌∙◌, length-set, inl, inr, arith}
 use Rattle.std.specs.List.{flat_map}
 use Rattle.std.proofs.lemmas.Bool.Decides.{eqb_tells}
-use Rattle.bforest_nodes.specs.Content.{Content, Inner, Leaf, Free, IsFree, IsInner, children_of, entry_count}
+use Rattle.bforest_nodes.specs.Content.{Content, Inner, Leaf, Free, IsInner, children_of, entry_count}
 use Rattle.bforest_core.specs.Table.{Table, front_of, with_freed}
-use Rattle.bforest_core.specs.Trees.{slot, Every}
 use Rattle.bforest_core.specs.Levels.{LevelNode, node, flat, heads, numbers, FitRow, half_of}
-use Rattle.bforest_core.specs.Place.{RowIn, leaf_content, inner_content, entry_items, count, Distinct}
+use Rattle.bforest_core.specs.Place.{leaf_content, inner_content, entry_items, count, Distinct}
 use Rattle.bforest_core.specs.Descent.{StackedTo, Under}
 use Rattle.bforest_core.specs.Removal.{Frees, GivesAll, numbers_under}
-use Rattle.bforest_core.proofs.Forests.{every-join}
-use Rattle.bforest_core.proofs.FreeSlots.{free-same, freed-slot}
+use Rattle.bforest_core.proofs.FreeSlots.{freed-slot}
+use Rattle.bforest_core.proofs.Frees.{frees-refl, frees-then, frees-wider}
 use Rattle.bforest_core.proofs.Downward.{stacked_last}
 use Rattle.bforest_core.proofs.Leading.{Front, LeafFront, InnerFront, front_step, front_count}
 use Rattle.bforest_core.proofs.LevelRows.{least-pos}
 use Rattle.std.proofs.lemmas.Option.{slice_get_within}
+use Rattle.bforest_core.proofs.Lists.{drop-read}
 use Rattle.bforest_core.proofs.Sections.{UnderCut, under-cut, tail_same}
 use Rattle.bforest_core.proofs.Tables.{count-append, count-same, count-other, row-same, rows-same, slice_get-set_apart}
 
@@ -35,17 +35,9 @@ rows_none list (row ∷ rows) s =
 module _ {K V : Type 0} where
   -- one freeing after another, of other nodes
   frees-both : (a b c : Table K V) (own own' given given' : List ℕ) → ((m : ℕ) → 0 < count m given → count m own' ≡ 0) → Frees a b own given → Frees b c own' given' → Frees a c (own ++ own') (given' ++ given)
-  frees-both a b c own own' given given' apart p q = record {
-    others = λ m none. let n = count-append m own own' in q.others m (omega (arith, none, n)) ∙ p.others m (omega (arith, none, n));
-    freed_are = every-join (λ (m : ℕ). IsFree (slot c.nodes m)) given' given q.freed_are (free-same b.nodes c.nodes given (λ m some. q.others m (apart m some)) p.freed_are);
-    chain_is = q.chain_is ∙ ap (λ z. given' ++ z) p.chain_is ∙ sym (append_assoc given' given a.chain);
-    slots_are = q.slots_are ∙ p.slots_are;
-    limit_is = q.limit_is ∙ p.limit_is;
-  }
-
-  -- nothing freed
-  frees-none : (a : Table K V) → Frees a a [] []
-  frees-none a = record { others = λ m none. refl; freed_are = tt; chain_is = refl; slots_are = refl; limit_is = refl }
+  frees-both a b c own own' given given' apart p q =
+      let n = λ (m : ℕ). count-append m own own' in
+      frees-then a b c (own ++ own') own' given given' (λ m z. omega (arith, z, n m)) apart (frees-wider a b own (own ++ own') given (λ m z. omega (arith, z, n m)) p) q
 
   -- what lies under some nodes lies there in any slots that agree
   under-same : (most : ℕ) (old new : List (Content K V)) (leaves : List (LevelNode K V)) (lower : List (List (LevelNode K ℕ))) (top : List (K × ℕ)) → ((m : ℕ) → 0 < count m (numbers_under leaves lower) → slice_get new m ≡ slice_get old m) → Under most old leaves lower top → Under most new leaves lower top
@@ -77,7 +69,7 @@ module _ {K V : Type 0} where
   module _ (most : ℕ) (one : 1 ≤ half_of most) (old : Table K V) (leaves : List (LevelNode K V)) (rows : List (List (LevelNode K ℕ))) (top : List (K × ℕ)) where
     -- at first nothing is freed
     pub sweep-first : Under most old.nodes leaves rows top → Swept most old old leaves rows top 0
-    sweep-first u = record { left_leaves = leaves; left_rows = rows; own = []; given = []; under = u; height = refl; frees = frees-none old; counted = λ m. refl; split = λ m. omega arith }
+    sweep-first u = record { left_leaves = leaves; left_rows = rows; own = []; given = []; under = u; height = refl; frees = frees-refl old []; counted = λ m. refl; split = λ m. omega arith }
 
     -- the next child of the top, and what lies below it
     pub record Turn (now : Table K V) (index : ℕ) (x : K × ℕ) : Type 0 where
@@ -89,7 +81,7 @@ module _ {K V : Type 0} where
     -- there is one as long as the index is one of the top
     pub sweep-turn : (now : Table K V) (index : ℕ) (x : K × ℕ) → Distinct (numbers_under leaves rows ++ old.chain) → Swept most old now leaves rows top index → slice_get top index ≡ Some x → Turn now index x
     sweep-turn now index x apart s found =
-        let todo : drop index top ≡ x ∷ drop (suc index) top = opened top index x found in
+        let todo : drop index top ≡ x ∷ drop (suc index) top = drop-read top index x found in
         let cut = under-cut most old.nodes one s.left_leaves s.left_rows (x ∷ []) (drop (suc index) top) (subst (λ (z : List (K × ℕ)). Under most old.nodes s.left_leaves s.left_rows z) todo s.under) in
         record {
           swept = s;
@@ -98,11 +90,6 @@ module _ {K V : Type 0} where
           apart = λ m. apart_chain m s cut apart;
         }
       where
-        opened : (top : List (K × ℕ)) (index : ℕ) (x : K × ℕ) → slice_get top index ≡ Some x → drop index top ≡ x ∷ drop (suc index) top
-        opened [] zero x found = absurd cc
-        opened [] (suc index) x found = absurd cc
-        opened (y ∷ top) zero x found = let same : y ≡ x = cc in ap (λ z. z ∷ top) same
-        opened (y ∷ top) (suc index) x found = opened top index x found
 
         apart_own : (m : ℕ) (s : Swept most old now leaves rows top index) (cut : UnderCut most old.nodes s.left_leaves s.left_rows (x ∷ []) (drop (suc index) top)) → Distinct (numbers_under leaves rows ++ old.chain) → 0 < count m (numbers_under cut.leaves_left cut.lower_left) → count m s.own ≡ 0
         apart_own m s cut apart some = omega (arith, apart m, count-append m (numbers_under leaves rows) old.chain, s.split m, cut.counted m, some)

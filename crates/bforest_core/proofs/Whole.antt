@@ -1,10 +1,10 @@
 -- A whole tree as what lies under its root.
-use Rattle.std.proofs.Common.{◌≡◌, ℕ, suc, ◌+◌, ◌≤◌, ◌<◌, true, List, [], ◌∷◌, length, get_or, refl, sym, ap, subst, ◌∙◌, arith}
+use Rattle.std.proofs.Common.{◌≡◌, ℕ, suc, true, List, [], ◌∷◌, length, ap, arith}
 use Rattle.std.specs.declared.cmp.Ordering.{Ordering}
 use Rattle.bforest_nodes.specs.Content.{Content}
 use Rattle.bforest_nodes.specs.Entries.{place, is_present}
-use Rattle.bforest_core.specs.Levels.{LevelNode, node, flat, heads, Stacked, Tree, IsFit}
-use Rattle.bforest_core.specs.Place.{IsAt, StandsAbove, Stands, first_number, root_above}
+use Rattle.bforest_core.specs.Levels.{LevelNode, flat, heads, Stacked, Tree}
+use Rattle.bforest_core.specs.Place.{StandsAbove, Stands, root_above}
 use Rattle.bforest_core.specs.Descent.{StackedTo, StandsTo, Under, GoesThrough, Descended, Led, IsRooted, StandsFor}
 
 module _ {K : Type 0} where

@@ -1,10 +1,10 @@
 -- Going down a tree: what lies below some of its nodes, and where a path stands there.
-use Rattle.std.specs.Prelude.{◌≡◌, ◌≢◌, ℕ, suc, ◌+◌, ◌-◌, ◌≤◌, ◌<◌, true, false, if◌then◌else◌, List, [], ◌∷◌, ◌++◌, length, get_or, slice_get, Some}
+use Rattle.std.specs.Prelude.{◌≡◌, ◌≢◌, ℕ, suc, ◌+◌, ◌-◌, ◌≤◌, ◌<◌, true, false, List, [], ◌∷◌, ◌++◌, length, get_or}
 use Rattle.std.specs.declared.cmp.Ordering.{Ordering}
 use Rattle.std.specs.declared.cmp.Ordering.TheVariants.{Greater}
 use Rattle.bforest_nodes.specs.Content.{Content}
-use Rattle.bforest_nodes.specs.Search.{count_less, is_equal_at}
-use Rattle.bforest_nodes.specs.Entries.{IsIncreasing, place, is_present}
+use Rattle.bforest_nodes.specs.Search.{count_up_to}
+use Rattle.bforest_nodes.specs.Entries.{place, is_present}
 use Rattle.bforest_core.specs.Levels.{LevelNode, node, flat, heads, FitRow, half_of, Tree, IsFit}
 use Rattle.bforest_core.specs.Place.{RowIn, RowsIn, leaf_content, IsAt, IsIn, root_of, StandsAbove}
 
@@ -29,8 +29,7 @@ module _ {K : Type 0} where
 module _ {K : Type 0} (cmp : K → K → Ordering) where
   -- the child to follow among separators: behind all that are not greater than the key
   abbrev pub child_index : List K → K → ℕ
-  child_index keys key =
-      if is_equal_at cmp keys key (count_less cmp keys key) then suc (count_less cmp keys key) else count_less cmp keys key
+  child_index keys key = count_up_to cmp keys key
 
   -- the key is not less than the first key of a node, unless the node is the first of its level
   abbrev pub IsFrom : List (K × ℕ) → K → K → Type 0

@@ -26,18 +26,6 @@ pub(crate) fn put_child<K: Copy, V: Copy, const N: usize>(
     pool.node_mut(node).try_inner_insert(index, key, child)
 }
 
-// The index of the child to follow, in an inner node with these separators.
-fn index_of_child<K: Copy, C: Comparator<K>>(keys: &[K], key: K, comp: &C) -> usize
-    requires increasing { IsStrictlySortedBy (C.order comp.now) keys.now }
-    ensures value { result ≡ child_index (C.order comp.now) keys.now key }
-    ensures within { result ≤ length keys.now }
-{
-    match comp.search(key, keys) {
-        Ok(index) => index + 1,
-        Err(index) => index,
-    }
-}
-
 // The child of an inner node below which a search for `key` goes on, and its index.
 pub(crate) fn follow<K: Copy, V: Copy, const N: usize, C: Comparator<K>>(
     pool: &NodePool<K, V, N>,
@@ -50,7 +38,7 @@ pub(crate) fn follow<K: Copy, V: Copy, const N: usize, C: Comparator<K>>(
     ensures child { (keys : List K) (children : List ℕ) → slice_get pool.now.nodes node ≡ Some (Inner keys children) → slice_get children result.0 ≡ Some result.1 }
 {
     let (keys, children) = pool.node(node).unwrap_inner();
-    let index = index_of_child(keys, key, comp);
+    let index = comp.upper_bound(key, keys);
     (index, children[index])
 }
 

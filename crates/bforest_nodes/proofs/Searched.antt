@@ -1,5 +1,5 @@
 -- What a binary search finds among keys that increase.
-use Rattle.std.proofs.Common.{◌≡◌, ℕ, zero, suc, ◌+◌, ◌<◌, ◌≤◌, Bool, true, false, cond, List, [], ◌∷◌, length, refl, sym, ap, subst, ◌∙◌, arith, Result, Ok, Err, get_or, ⊎_elim, if◌then◌else◌}
+use Rattle.std.proofs.Common.{◌≡◌, ℕ, zero, suc, ◌+◌, ◌<◌, ◌≤◌, Bool, true, false, cond, not, List, [], ◌∷◌, length, refl, sym, ap, subst, ◌∙◌, arith, Result, Ok, Err, get_or, ⊎_elim, if◌then◌else◌}
 use borrow.Author.Tests.{ltb-true, ltb-false}
 use lib.Dec.{ltb}
 use Rattle.std.specs.Option.{option_map_or}
@@ -9,12 +9,13 @@ use Rattle.std.proofs.lemmas.List.Sorted.{searchable_from_sorted}
 use Rattle.std.specs.declared.cmp.Ordering.{Ordering}
 use Rattle.std.specs.declared.cmp.Ordering.TheVariants.{Less, Equal, Greater}
 use Rattle.std.specs.Ordering.{is_lt, is_eq, is_gt, ordering_reverse, ordering_index}
+use Rattle.std.specs.List.{AllByRecursion}
 use Rattle.std.specs.List.Sorted.{IsStrictlySortedBy, IsBinarySearchResult, IsSearchInRange, IsNonDecreasingBy}
 use Rattle.std.specs.Cmp.{IsTotalOrder}
 use Rattle.std.proofs.lemmas.Cmp.{alike_right}
 use Rattle.std.proofs.lemmas.List.Sums.{sum_by-cons}
 use Rattle.std.proofs.lemmas.Map.Keys.{Less-from_sorted}
-use Rattle.bforest_nodes.specs.Search.{count_less, is_equal_at, search_of}
+use Rattle.bforest_nodes.specs.Search.{count_less, count_up_to, is_equal_at, search_of}
 
 module _ {K : Type 0} (cmp : K → K → Ordering) where
   -- a first key that is less counts
@@ -88,3 +89,81 @@ module _ {K : Type 0} (cmp : K → K → Ordering) where
         (λ t. test_at i false (ltb-true i (length ks) t) (ap is_eq (p.1 i k (omega arith) (ltb-true i (length ks) t))))
         (λ t. ap (λ o. option_map_or (λ x. is_eq (cmp x k)) o false) (slice_get_past ks i (ltb-false i (length ks) t)))
         (cases_Bool (ltb i (length ks)))))
+
+  -- a first key that is not greater counts up to k
+  pub count_up_to-yes : (x : K) (xs : List K) (k : K) → is_gt (cmp x k) ≡ false → count_up_to cmp (x ∷ xs) k ≡ suc (count_up_to cmp xs k)
+  count_up_to-yes x xs k h = sum_by-cons (λ y. cond (not (is_gt (cmp y k))) 1 0) x xs ∙ ap (λ b. cond (not b) 1 0 + count_up_to cmp xs k) h ∙ omega arith
+
+  -- and another does not
+  pub count_up_to-no : (x : K) (xs : List K) (k : K) → is_gt (cmp x k) ≡ true → count_up_to cmp (x ∷ xs) k ≡ count_up_to cmp xs k
+  count_up_to-no x xs k h = sum_by-cons (λ y. cond (not (is_gt (cmp y k))) 1 0) x xs ∙ ap (λ b. cond (not b) 1 0 + count_up_to cmp xs k) h ∙ omega arith
+
+  module _ (k : K) where
+    -- where all are greater none is less
+    pub count_less-none : (ks : List K) → AllByRecursion (λ x. cmp x k ≡ Greater) ks → count_less cmp ks k ≡ 0
+    count_less-none [] h = refl
+    count_less-none (x ∷ ks) h = count_less-no x ks k (ap is_lt h.0) ∙ count_less-none ks h.1
+
+    -- nor counted up to k
+    pub count_up_to-none : (ks : List K) → AllByRecursion (λ x. cmp x k ≡ Greater) ks → count_up_to cmp ks k ≡ 0
+    count_up_to-none [] h = refl
+    count_up_to-none (x ∷ ks) h = count_up_to-no x ks k (ap is_gt h.0) ∙ count_up_to-none ks h.1
+
+    -- behind the lesser keys, and behind an equal one
+    behind : List K → ℕ
+    behind ks = if is_equal_at cmp ks k (count_less cmp ks k) then suc (count_less cmp ks k) else count_less cmp ks k
+
+    behind_by : (ks : List K) (n : ℕ) (b : Bool) → count_less cmp ks k ≡ n → is_equal_at cmp ks k n ≡ b → behind ks ≡ (if b then suc n else n)
+    unfolding behind
+    behind_by ks n b c e = λ j. if ((ap (is_equal_at cmp ks k) c ∙ e) j) then suc (c j) else c j
+
+    module _ (o : IsTotalOrder cmp) where
+      -- keys behind one that is not less are greater
+      greater : (x q : K) → cmp x q ≡ Less → is_lt (cmp x k) ≡ false → cmp q k ≡ Greater
+      greater x q l h = go (cmp x k) refl
+        where
+          go : (r : Ordering) → cmp x k ≡ r → cmp q k ≡ Greater
+          go Less t = let bad : is_lt (cmp x k) ≡ true = ap is_lt t in absurd (cc)
+          go Equal t =
+              let less : cmp k q ≡ Less = sym (o.congr x k q t) ∙ l in
+              o.antisymm q k ∙ ap ordering_reverse less
+          go Greater t =
+              let less : cmp k x ≡ Less = o.antisymm k x ∙ ap ordering_reverse t in
+              o.antisymm q k ∙ ap ordering_reverse (o.trans k x q less l)
+
+      all_greater : (x : K) (qs : List K) → AllByRecursion (λ q. cmp x q ≡ Less) qs → is_lt (cmp x k) ≡ false → AllByRecursion (λ q. cmp q k ≡ Greater) qs
+      all_greater x [] l h = tt
+      all_greater x (q ∷ qs) l h = (greater x q l.0 h, all_greater x qs l.1 h)
+
+      -- among keys that increase those that are not greater are the lesser and the equal one
+      up_to : (ks : List K) → IsStrictlySortedBy cmp ks → count_up_to cmp ks k ≡ behind ks
+      unfolding IsStrictlySortedBy behind
+      up_to [] s = refl
+      up_to (x ∷ xs) s = go (cmp x k) refl (up_to xs s.1)
+        where
+          later : (n : ℕ) (b : Bool) → count_less cmp xs k ≡ n → is_equal_at cmp xs k n ≡ b → is_lt (cmp x k) ≡ true → suc (behind xs) ≡ behind (x ∷ xs)
+          later n true c e less = ap suc (behind_by xs n true c e) ∙ sym (behind_by (x ∷ xs) (suc n) true (count_less-yes x xs k less ∙ ap suc c) e)
+          later n false c e less = ap suc (behind_by xs n false c e) ∙ sym (behind_by (x ∷ xs) (suc n) false (count_less-yes x xs k less ∙ ap suc c) e)
+
+          first : is_lt (cmp x k) ≡ false → count_less cmp (x ∷ xs) k ≡ 0
+          first h = count_less-no x xs k h ∙ count_less-none xs (all_greater x xs s.0 h)
+
+          go : (r : Ordering) → cmp x k ≡ r → count_up_to cmp xs k ≡ behind xs → count_up_to cmp (x ∷ xs) k ≡ behind (x ∷ xs)
+          go Less t rest = count_up_to-yes x xs k (ap is_gt t) ∙ ap suc rest ∙ later (count_less cmp xs k) (is_equal_at cmp xs k (count_less cmp xs k)) refl refl (ap is_lt t)
+          go Equal t rest = count_up_to-yes x xs k (ap is_gt t) ∙ ap suc (count_up_to-none xs (all_greater x xs s.0 (ap is_lt t))) ∙ sym (behind_by (x ∷ xs) 0 true (first (ap is_lt t)) (ap is_eq t))
+          go Greater t rest = count_up_to-no x xs k (ap is_gt t) ∙ count_up_to-none xs (all_greater x xs s.0 (ap is_lt t)) ∙ sym (behind_by (x ∷ xs) 0 false (first (ap is_lt t)) (ap is_eq t))
+
+      -- what a search found tells how many are not greater
+      pub up_to-found : (ks : List K) (i : ℕ) → IsStrictlySortedBy cmp ks → search_of cmp ks k ≡ Ok i → count_up_to cmp ks k ≡ suc i
+      up_to-found ks i s found = go (is_equal_at cmp ks k (count_less cmp ks k)) refl
+        where
+          go : (b : Bool) → is_equal_at cmp ks k (count_less cmp ks k) ≡ b → count_up_to cmp ks k ≡ suc i
+          go true e = let at : count_less cmp ks k ≡ i = cc in up_to ks s ∙ behind_by ks i true at (ap (is_equal_at cmp ks k) (sym at) ∙ e)
+          go false e = absurd (cc)
+
+      pub up_to-absent : (ks : List K) (i : ℕ) → IsStrictlySortedBy cmp ks → search_of cmp ks k ≡ Err i → count_up_to cmp ks k ≡ i
+      up_to-absent ks i s found = go (is_equal_at cmp ks k (count_less cmp ks k)) refl
+        where
+          go : (b : Bool) → is_equal_at cmp ks k (count_less cmp ks k) ≡ b → count_up_to cmp ks k ≡ i
+          go true e = absurd (cc)
+          go false e = let at : count_less cmp ks k ≡ i = cc in up_to ks s ∙ behind_by ks i false at (ap (is_equal_at cmp ks k) (sym at) ∙ e)

@@ -1,5 +1,5 @@
 //! The order of keys.
-ghost use Rattle.bforest_nodes.specs.Search.{search_of};
+ghost use Rattle.bforest_nodes.specs.Search.{count_up_to, search_of};
 ghost use Rattle.std.specs.Cmp.{IsTotalOrder};
 ghost use Rattle.std.specs.List.Sorted.{IsStrictlySortedBy};
 ghost use Rattle.std.specs.Prelude.{◌≡◌};
@@ -30,6 +30,20 @@ pub trait Comparator<K: Copy> {
         s.binary_search_by(|x| self.cmp(*x, k))
     }
 
+    /// Counts the keys that are not greater, in a slice whose keys strictly increase: where a key that is not less than `k` would be
+    /// put behind them.
+    ///
+    /// It compares as often as `search`, by which it is given. An implementation that replaces `search` by a scan may scan here too.
+    fn upper_bound(&self, k: K, s: &[K]) -> usize
+        requires increasing { IsStrictlySortedBy (order self.now) s.now }
+        ensures { result ≡ count_up_to (order self.now) s.now k }
+    {
+        match self.search(k, s) {
+            Ok(index) => index + 1,
+            Err(index) => index,
+        }
+    }
+
     /// Each key equals itself, swapping two keys reverses the answer, and less than and equal are transitive.
     ghost total: { (c : Self) → IsTotalOrder (order c) };
 }
@@ -55,5 +69,13 @@ impl<K: Copy + Ord> Comparator<K> for () {
         } else {
             Err(less)
         }
+    }
+
+    fn upper_bound(&self, k: K, s: &[K]) -> usize {
+        let mut count = 0;
+        for x in s {
+            count += (*x <= k) as usize;
+        }
+        count
     }
 }

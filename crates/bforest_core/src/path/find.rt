@@ -48,8 +48,8 @@ impl<K: Copy, V: Copy, const N: usize> Path<K, V, N> {
     ) -> Option<V>
         requires capacity { IsLeafCapacity N }
         requires height { level ≤ 16 }
-        requires under { (leaves : List (LevelNode K V)) × (lower : List (List (LevelNode K ℕ))) × (a : List (K × ℕ)) × (first : K) × (b : List (K × ℕ)) × Under N pool.now.nodes leaves lower (a ++ (first, node) ∷ b) × IsIncreasing (C.order comp.now) (flat leaves) × GoesThrough (C.order comp.now) a first b key × (level ≡ length lower) }
-        ensures descended { (leaves : List (LevelNode K V)) (lower : List (List (LevelNode K ℕ))) (a : List (K × ℕ)) (first : K) (b : List (K × ℕ)) → Under N pool.now.nodes leaves lower (a ++ (first, node) ∷ b) → IsIncreasing (C.order comp.now) (flat leaves) → GoesThrough (C.order comp.now) a first b key → level ≡ length lower → (result ≡ value_for (C.order comp.now) (flat leaves) key) × Descended (C.order comp.now) leaves lower key (length a) self.old.node self.old.entry self.new.node self.new.entry }
+        requires under { (leaves : List (LevelNode K V)) × (lower : List (List (LevelNode K ℕ))) × (before : List (K × ℕ)) × (first : K) × (after : List (K × ℕ)) × Under N pool.now.nodes leaves lower (before ++ (first, node) ∷ after) × IsIncreasing (C.order comp.now) (flat leaves) × GoesThrough (C.order comp.now) before first after key × (level ≡ length lower) }
+        ensures descended { (leaves : List (LevelNode K V)) (lower : List (List (LevelNode K ℕ))) (before : List (K × ℕ)) (first : K) (after : List (K × ℕ)) → Under N pool.now.nodes leaves lower (before ++ (first, node) ∷ after) → IsIncreasing (C.order comp.now) (flat leaves) → GoesThrough (C.order comp.now) before first after key → level ≡ length lower → (result ≡ value_for (C.order comp.now) (flat leaves) key) × Descended (C.order comp.now) leaves lower key (length before) self.old.node self.old.entry self.new.node self.new.entry }
         ensures size { self.new.size ≡ self.old.size }
     {
         if level == 0 {

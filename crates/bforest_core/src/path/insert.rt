@@ -160,8 +160,8 @@ impl<K: Copy, V: Copy, const N: usize> Path<K, V, N> {
         pool: &mut NodePool<K, V, N>,
     )
         requires height { self.old.size ≤ 17 }
-        requires pending { (rows : List (List (LevelNode K ℕ))) × (a : List (K × ℕ)) × (first : K) × (b : List (K × ℕ)) × Above pool.old self.old.node self.old.entry up self.old.size rows (a ++ (first, left) ∷ b) (length a) × (need_above (Some (length a)) (map sizes rows) ≤ suc (length pool.old.chain)) × (up + length (gain_above (Some (length a)) (map sizes rows)) ≤ 17) }
-        ensures { (rows : List (List (LevelNode K ℕ))) (a : List (K × ℕ)) (first : K) (b : List (K × ℕ)) → Above pool.old self.old.node self.old.entry up self.old.size rows (a ++ (first, left) ∷ b) (length a) → (taken : List ℕ) × (suc (length taken) ≡ need_above (Some (length a)) (map sizes rows)) × Grown pool.old pool.new self.old.node self.old.entry self.new.node self.new.entry up self.old.size self.new.size rows (a ++ (first, left) ∷ (key, child) ∷ b) (if moved then suc (length a) else length a) (gain_above (Some (length a)) (map sizes rows)) taken }
+        requires pending { (rows : List (List (LevelNode K ℕ))) × (before : List (K × ℕ)) × (first : K) × (after : List (K × ℕ)) × Above pool.old self.old.node self.old.entry up self.old.size rows (before ++ (first, left) ∷ after) (length before) × (need_above (Some (length before)) (map sizes rows) ≤ suc (length pool.old.chain)) × (up + length (gain_above (Some (length before)) (map sizes rows)) ≤ 17) }
+        ensures { (rows : List (List (LevelNode K ℕ))) (before : List (K × ℕ)) (first : K) (after : List (K × ℕ)) → Above pool.old self.old.node self.old.entry up self.old.size rows (before ++ (first, left) ∷ after) (length before) → (taken : List ℕ) × (suc (length taken) ≡ need_above (Some (length before)) (map sizes rows)) × Grown pool.old pool.new self.old.node self.old.entry self.new.node self.new.entry up self.old.size self.new.size rows (before ++ (first, left) ∷ (key, child) ∷ after) (if moved then suc (length before) else length before) (gain_above (Some (length before)) (map sizes rows)) taken }
     {
         if up == self.size {
             self.push_root(left, key, child, moved, pool);
@@ -183,7 +183,7 @@ impl<K: Copy, V: Copy, const N: usize> Path<K, V, N> {
     )
         requires height { self.old.size ≤ 16 }
         requires room { 0 < length pool.old.chain }
-        ensures { (rows : List (List (LevelNode K ℕ))) (a : List (K × ℕ)) (first : K) (b : List (K × ℕ)) → Above pool.old self.old.node self.old.entry self.old.size self.old.size rows (a ++ (first, left) ∷ b) (length a) → (taken : List ℕ) × (suc (length taken) ≡ need_above (Some (length a)) (map sizes rows)) × Grown pool.old pool.new self.old.node self.old.entry self.new.node self.new.entry self.old.size self.old.size self.new.size rows (a ++ (first, left) ∷ (key, child) ∷ b) (if moved then suc (length a) else length a) (gain_above (Some (length a)) (map sizes rows)) taken }
+        ensures { (rows : List (List (LevelNode K ℕ))) (before : List (K × ℕ)) (first : K) (after : List (K × ℕ)) → Above pool.old self.old.node self.old.entry self.old.size self.old.size rows (before ++ (first, left) ∷ after) (length before) → (taken : List ℕ) × (suc (length taken) ≡ need_above (Some (length before)) (map sizes rows)) × Grown pool.old pool.new self.old.node self.old.entry self.new.node self.new.entry self.old.size self.old.size self.new.size rows (before ++ (first, left) ∷ (key, child) ∷ after) (if moved then suc (length before) else length before) (gain_above (Some (length before)) (map sizes rows)) taken }
     {
         let root = pool.inner_node(left, key, child);
         self.node[self.size] = root;
@@ -203,8 +203,8 @@ impl<K: Copy, V: Copy, const N: usize> Path<K, V, N> {
     ) -> bool
         requires height { self.old.size ≤ 17 }
         requires within { up < self.old.size }
-        requires pending { (rows : List (List (LevelNode K ℕ))) × (a : List (K × ℕ)) × (x : K × ℕ) × (b : List (K × ℕ)) × Above pool.old self.old.node self.old.entry up self.old.size rows (a ++ x ∷ b) (length a) }
-        ensures grown { result ≡ true → (rows : List (List (LevelNode K ℕ))) (a : List (K × ℕ)) (x : K × ℕ) (b : List (K × ℕ)) → Above pool.old self.old.node self.old.entry up self.old.size rows (a ++ x ∷ b) (length a) → (1 ≡ need_above (Some (length a)) (map sizes rows)) × Grown pool.old pool.new self.old.node self.old.entry self.new.node self.new.entry up self.old.size self.new.size rows (a ++ x ∷ (key, child) ∷ b) (if moved then suc (length a) else length a) (gain_above (Some (length a)) (map sizes rows)) [] }
+        requires pending { (rows : List (List (LevelNode K ℕ))) × (before : List (K × ℕ)) × (x : K × ℕ) × (after : List (K × ℕ)) × Above pool.old self.old.node self.old.entry up self.old.size rows (before ++ x ∷ after) (length before) }
+        ensures grown { result ≡ true → (rows : List (List (LevelNode K ℕ))) (before : List (K × ℕ)) (x : K × ℕ) (after : List (K × ℕ)) → Above pool.old self.old.node self.old.entry up self.old.size rows (before ++ x ∷ after) (length before) → (1 ≡ need_above (Some (length before)) (map sizes rows)) × Grown pool.old pool.new self.old.node self.old.entry self.new.node self.new.entry up self.old.size self.new.size rows (before ++ x ∷ (key, child) ∷ after) (if moved then suc (length before) else length before) (gain_above (Some (length before)) (map sizes rows)) [] }
         ensures full { result ≡ false → IsFullAt N pool.old.nodes (get_or self.old.node up 0) }
         ensures pool { result ≡ false → pool.new ≡ pool.old }
         ensures path { result ≡ false → self.new ≡ self.old }
@@ -234,8 +234,8 @@ impl<K: Copy, V: Copy, const N: usize> Path<K, V, N> {
         requires within { up < self.old.size }
         requires room { 0 < length pool.old.chain }
         requires full { IsFullAt N pool.old.nodes (get_or self.old.node up 0) }
-        requires pending { (rows : List (List (LevelNode K ℕ))) × (a : List (K × ℕ)) × (x : K × ℕ) × (b : List (K × ℕ)) × Above pool.old self.old.node self.old.entry up self.old.size rows (a ++ x ∷ b) (length a) }
-        ensures halved { (rows : List (List (LevelNode K ℕ))) (a : List (K × ℕ)) (x : K × ℕ) (b : List (K × ℕ)) → Above pool.old self.old.node self.old.entry up self.old.size rows (a ++ x ∷ b) (length a) → Halved pool.old pool.new self.old.node self.old.entry self.new.node self.new.entry up self.old.size rows (a ++ x ∷ (key, child) ∷ b) (length a) (if moved then suc (length a) else length a) result.0 result.1 result.2 }
+        requires pending { (rows : List (List (LevelNode K ℕ))) × (before : List (K × ℕ)) × (x : K × ℕ) × (after : List (K × ℕ)) × Above pool.old self.old.node self.old.entry up self.old.size rows (before ++ x ∷ after) (length before) }
+        ensures halved { (rows : List (List (LevelNode K ℕ))) (before : List (K × ℕ)) (x : K × ℕ) (after : List (K × ℕ)) → Above pool.old self.old.node self.old.entry up self.old.size rows (before ++ x ∷ after) (length before) → Halved pool.old pool.new self.old.node self.old.entry self.new.node self.new.entry up self.old.size rows (before ++ x ∷ (key, child) ∷ after) (length before) (if moved then suc (length before) else length before) result.0 result.1 result.2 }
         ensures size { self.new.size ≡ self.old.size }
     {
         let node = self.node[up];

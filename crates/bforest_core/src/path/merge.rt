@@ -15,8 +15,8 @@ impl<K: Copy, V: Copy, const N: usize> Path<K, V, N> {
     // Takes the entry at the path out of level `up`, and gives the next one its key.
     fn take_left(&self, up: usize, pool: &mut NodePool<K, V, N>)
         requires height { self.now.size ≤ 17 }
-        requires pending { (rows : List (List (LevelNode K ℕ))) × (a : List (K × ℕ)) × (k : K) × (m : ℕ) × (k2 : K) × (n : ℕ) × (b : List (K × ℕ)) × Above pool.old self.now.node self.now.entry up self.now.size rows (a ++ (k, m) ∷ (k2, n) ∷ b) (length a) }
-        ensures { (rows : List (List (LevelNode K ℕ))) (a : List (K × ℕ)) (k : K) (m : ℕ) (k2 : K) (n : ℕ) (b : List (K × ℕ)) → Above pool.old self.now.node self.now.entry up self.now.size rows (a ++ (k, m) ∷ (k2, n) ∷ b) (length a) → Loosened pool.old pool.new self.now.node self.now.entry up self.now.size rows (a ++ (k, n) ∷ b) (length a) }
+        requires pending { (rows : List (List (LevelNode K ℕ))) × (before : List (K × ℕ)) × (first : K) × (m : ℕ) × (next_first : K) × (n : ℕ) × (after : List (K × ℕ)) × Above pool.old self.now.node self.now.entry up self.now.size rows (before ++ (first, m) ∷ (next_first, n) ∷ after) (length before) }
+        ensures { (rows : List (List (LevelNode K ℕ))) (before : List (K × ℕ)) (first : K) (m : ℕ) (next_first : K) (n : ℕ) (after : List (K × ℕ)) → Above pool.old self.now.node self.now.entry up self.now.size rows (before ++ (first, m) ∷ (next_first, n) ∷ after) (length before) → Loosened pool.old pool.new self.now.node self.now.entry up self.now.size rows (before ++ (first, n) ∷ after) (length before) }
     {
         let parent = self.node[up];
         let index = self.entry[up];
@@ -101,8 +101,8 @@ impl<K: Copy, V: Copy, const N: usize> Path<K, V, N> {
     // neighbour gets its key.
     pub(super) fn merge_above(&mut self, up: usize, pool: &mut NodePool<K, V, N>)
         requires height { self.old.size ≤ 17 }
-        requires pending { (rows : List (List (LevelNode K ℕ))) × (a : List (K × ℕ)) × (k : K) × (m : ℕ) × (k2 : K) × (n : ℕ) × (b : List (K × ℕ)) × Above pool.old self.old.node self.old.entry up self.old.size rows (a ++ (k, m) ∷ (k2, n) ∷ b) (length a) }
-        ensures merged { (rows : List (List (LevelNode K ℕ))) (a : List (K × ℕ)) (k : K) (m : ℕ) (k2 : K) (n : ℕ) (b : List (K × ℕ)) → Above pool.old self.old.node self.old.entry up self.old.size rows (a ++ (k, m) ∷ (k2, n) ∷ b) (length a) → (freed : List ℕ) × Rebuilt pool.old pool.new self.old.node self.old.entry self.new.node self.new.entry up self.old.size rows (a ++ (k, n) ∷ b) (length a) (loss_above (Some (length a)) (map sizes rows)) freed }
+        requires pending { (rows : List (List (LevelNode K ℕ))) × (before : List (K × ℕ)) × (first : K) × (m : ℕ) × (next_first : K) × (n : ℕ) × (after : List (K × ℕ)) × Above pool.old self.old.node self.old.entry up self.old.size rows (before ++ (first, m) ∷ (next_first, n) ∷ after) (length before) }
+        ensures merged { (rows : List (List (LevelNode K ℕ))) (before : List (K × ℕ)) (first : K) (m : ℕ) (next_first : K) (n : ℕ) (after : List (K × ℕ)) → Above pool.old self.old.node self.old.entry up self.old.size rows (before ++ (first, m) ∷ (next_first, n) ∷ after) (length before) → (freed : List ℕ) × Rebuilt pool.old pool.new self.old.node self.old.entry self.new.node self.new.entry up self.old.size rows (before ++ (first, n) ∷ after) (length before) (loss_above (Some (length before)) (map sizes rows)) freed }
         ensures size { self.new.size ≡ self.old.size }
     {
         self.take_left(up, pool);
@@ -115,8 +115,8 @@ impl<K: Copy, V: Copy, const N: usize> Path<K, V, N> {
     // nodes that this leaves empty go too.
     pub(super) fn drop_above(&self, up: usize, pool: &mut NodePool<K, V, N>)
         requires height { self.now.size ≤ 17 }
-        requires pending { (rows : List (List (LevelNode K ℕ))) × (a : List (K × ℕ)) × (y : K × ℕ) × (x : K × ℕ) × Above pool.old self.now.node self.now.entry up self.now.size rows (a ++ y ∷ x ∷ []) (suc (length a)) }
-        ensures { (rows : List (List (LevelNode K ℕ))) (a : List (K × ℕ)) (y : K × ℕ) (x : K × ℕ) → Above pool.old self.now.node self.now.entry up self.now.size rows (a ++ y ∷ x ∷ []) (suc (length a)) → (freed : List ℕ) × Dropped pool.old pool.new self.now.node self.now.size rows (a ++ y ∷ []) (loss_above (Some (suc (length a))) (map sizes rows)) freed }
+        requires pending { (rows : List (List (LevelNode K ℕ))) × (before : List (K × ℕ)) × (y : K × ℕ) × (x : K × ℕ) × Above pool.old self.now.node self.now.entry up self.now.size rows (before ++ y ∷ x ∷ []) (suc (length before)) }
+        ensures { (rows : List (List (LevelNode K ℕ))) (before : List (K × ℕ)) (y : K × ℕ) (x : K × ℕ) → Above pool.old self.now.node self.now.entry up self.now.size rows (before ++ y ∷ x ∷ []) (suc (length before)) → (freed : List ℕ) × Dropped pool.old pool.new self.now.node self.now.size rows (before ++ y ∷ []) (loss_above (Some (suc (length before))) (map sizes rows)) freed }
     {
         let parent = self.node[up];
         if entries(pool, parent) == 1 {

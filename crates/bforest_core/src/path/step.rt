@@ -222,8 +222,8 @@ impl<K: Copy, V: Copy, const N: usize> Path<K, V, N> {
     // Goes from `node`, the last of its level, down to the last entry below it. Answers the node's level. So many levels lie above.
     fn descend_last(&mut self, node: Node, depth: usize, pool: &NodePool<K, V, N>) -> usize
         requires capacity { IsLeafCapacity N }
-        requires under { (leaves : List (LevelNode K V)) × (lower : List (List (LevelNode K ℕ))) × (a : List (K × ℕ)) × (first : K) × Under N pool.now.nodes leaves lower (a ++ (first, node) ∷ []) × (depth + length lower ≤ 16) }
-        ensures level { (leaves : List (LevelNode K V)) (lower : List (List (LevelNode K ℕ))) (a : List (K × ℕ)) (first : K) → Under N pool.now.nodes leaves lower (a ++ (first, node) ∷ []) → (result ≡ length lower) × LedLast leaves lower (length a) self.old.node self.old.entry self.new.node self.new.entry }
+        requires under { (leaves : List (LevelNode K V)) × (lower : List (List (LevelNode K ℕ))) × (before : List (K × ℕ)) × (first : K) × Under N pool.now.nodes leaves lower (before ++ (first, node) ∷ []) × (depth + length lower ≤ 16) }
+        ensures level { (leaves : List (LevelNode K V)) (lower : List (List (LevelNode K ℕ))) (before : List (K × ℕ)) (first : K) → Under N pool.now.nodes leaves lower (before ++ (first, node) ∷ []) → (result ≡ length lower) × LedLast leaves lower (length before) self.old.node self.old.entry self.new.node self.new.entry }
         ensures size { self.new.size ≡ self.old.size }
     {
         let last = last_index(pool, node);

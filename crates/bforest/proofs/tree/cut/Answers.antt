@@ -6,8 +6,8 @@ use Rattle.bforest_core.specs.Change.{Changes, GivesNodes}
 use Rattle.bforest_core.specs.Levels.{flat, sizes_of}
 use Rattle.bforest_core.specs.Trees.{tree_of}
 use Rattle.bforest_nodes.proofs.Found.{cut-absent, cut-present, place-present}
-use Rattle.bforest_nodes.specs.Entries.{cut, place}
-use Rattle.std.proofs.Common.{IfSome, List, [], ap, arith, length, refl, remove, rules, subst, sym, ◌∙◌, ◌↔◌, ◌≡◌, ℕ}
+use Rattle.bforest_nodes.specs.Entries.{place}
+use Rattle.std.proofs.Common.{IfSome, List, ap, length, refl, remove, rules, subst, sym, ◌∙◌, ◌↔◌, ◌≡◌, ℕ}
 
 pub remove-requires : goal.remove-requires
 remove-requires g c =

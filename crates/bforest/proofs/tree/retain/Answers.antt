@@ -4,9 +4,8 @@ use Rattle.bforest.specs.Layout.{entries_from}
 use Rattle.bforest_core.proofs.Backward.{at_entry}
 use Rattle.bforest_core.proofs.Descent.{some_leaf}
 use Rattle.bforest_core.proofs.Unions.{rooted}
-use Rattle.bforest_core.specs.Levels.{flat}
 use Rattle.bforest_core.specs.Trees.{tree_of}
-use Rattle.std.proofs.Common.{None, Some, arith, length, refl, rules, subst, sym, ◌-◌, ◌<◌, ◌∙◌, ◌≡◌, ℕ}
+use Rattle.std.proofs.Common.{arith, length, refl, rules, sym, ◌<◌, ◌∙◌}
 
 pub loop-entry-init : goal.loop-entry-init
 loop-entry-init g c = sifting-first g.row.N g.P.Predicate.step g.P.Predicate.may c.args.pool.now c.args.root c.args.predicate c.first.new.self.node c.first.new.self.entry c.first.new.self.size c.requires.union c.requires.root c.first.ensures.path.stands c.requires.callable

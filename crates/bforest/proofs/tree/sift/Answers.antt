@@ -2,9 +2,8 @@ use Rattle.bforest.proofs.Sifting.{at-next, at-within, sifted-out}
 use Rattle.bforest.proofs.tree.sift.Goals as goal
 use Rattle.bforest_core.proofs.Unions.{rooted}
 use Rattle.bforest_core.specs.Levels.{flat, sizes_of}
-use Rattle.bforest_core.specs.Place.{Stands}
 use Rattle.bforest_core.specs.Trees.{tree_of}
-use Rattle.std.proofs.Common.{[], arith, false, get_or, refl, rules, subst, sym, true, ◌∙◌, ◌≡◌, ◌≢◌, ◌≤◌, ℕ}
+use Rattle.std.proofs.Common.{[], arith, get_or, refl, rules, subst, true, ◌≢◌, ◌≤◌, ℕ}
 
 pub next-requires : goal.next-requires
 next-requires g c =

@@ -1,4 +1,4 @@
-use Rattle.std.proofs.Common.{◌≡◌, ◌<◌, ◌≤◌, List, length, slice_get, Some, refl, sym, ap, ◌∙◌, arith}
+use Rattle.std.proofs.Common.{length, refl, arith}
 use Rattle.std.proofs.lemmas.Option.{slice_get_read}
 use Rattle.bforest_core.proofs.LeafSearch.{leaf_lists, increasing_same, ok_place, ok_within, ok_value, err_place, err_value}
 use Rattle.bforest_core.proofs.access.look_up.Goals as goal

@@ -1,12 +1,12 @@
 use Rattle.bforest.proofs.Changed.{seen}
-use Rattle.bforest.proofs.Cutting.{becomes-cut, gives, left-seen, same-cut, sizes-cut, sizes-some, union-cut}
+use Rattle.bforest.proofs.Cutting.{becomes-cut, gives, left-seen, same-cut, sizes-cut, union-cut}
 use Rattle.bforest.proofs.forest.MapForest.cut.Goals as goal
-use Rattle.bforest.specs.Forest.{Becomes, Forest, Gives, list_at, sizes_at, sizes_without}
+use Rattle.bforest.specs.Forest.{Becomes, Forest, Gives, sizes_at, sizes_without}
 use Rattle.bforest.specs.Insertion.{sizes_left}
 use Rattle.bforest_core.specs.Levels.{flat, sizes_of as tree_sizes}
-use Rattle.bforest_core.specs.Trees.{is_root, tree_of}
+use Rattle.bforest_core.specs.Trees.{tree_of}
 use Rattle.bforest_nodes.specs.Entries.{IsIncreasing, cut, value_for}
-use Rattle.std.proofs.Common.{IsTrue, List, Some, arith, length, rules, subst, sym, ◌∙◌, ◌↔◌, ◌≡◌, ℕ}
+use Rattle.std.proofs.Common.{List, Some, arith, length, rules, subst, sym, ◌∙◌, ◌↔◌, ◌≡◌, ℕ}
 
 pub cut-requires : goal.cut-requires
 cut-requires g c =

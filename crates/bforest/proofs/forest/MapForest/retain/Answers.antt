@@ -1,5 +1,5 @@
 use Rattle.bforest.proofs.Changed.{seen}
-use Rattle.bforest.proofs.Kept.{becomes-kept, gives-kept, list-kept, same-kept, union-kept}
+use Rattle.bforest.proofs.Retaining.{becomes-kept, gives-kept, list-kept, same-kept, union-kept}
 use Rattle.bforest.proofs.forest.MapForest.retain.Goals as goal
 use Rattle.bforest.specs.Forest.{Becomes, Forest, Gives, list_at, list_of, sizes_at, sizes_of}
 use Rattle.bforest.specs.Retain.{MayAskEach, Retains}

@@ -1,4 +1,4 @@
-use Rattle.bforest.proofs.Kept.{IsIncreasing-kept}
+use Rattle.bforest.proofs.Retaining.{IsIncreasing-kept}
 use Rattle.bforest.proofs.map.Map.retain.Goals as goal
 use Rattle.bforest.specs.Forest.{list_of, sizes_of}
 use Rattle.bforest.specs.Retain.{Answers, Retains}

@@ -1,12 +1,12 @@
-use Rattle.std.proofs.Common.{rules, ◌≡◌, ◌≢◌, ℕ, suc, ◌+◌, ◌-◌, ◌<◌, ◌≤◌, IsTrue, false, true, List, [], ◌∷◌, ◌++◌, length, get_or, slice_get, Some, refl, sym, ap, subst, ◌∙◌, arith}
+use Rattle.std.proofs.Common.{rules, ◌≡◌, ℕ, ◌+◌, ◌-◌, ◌<◌, ◌∷◌, ◌++◌, length, get_or, slice_get, sym, ap, subst, ◌∙◌, arith}
 use Rattle.std.proofs.lemmas.List.{get_or-set_other}
 use Rattle.std.proofs.lemmas.Bool.{false≢true}
-use Rattle.bforest_nodes.specs.Content.{Content, IsInner, entry_count, children_of}
+use Rattle.bforest_nodes.specs.Content.{IsInner, entry_count, children_of}
 use Rattle.bforest_core.specs.Levels.{flat}
 use Rattle.bforest_core.specs.Descent.{Under}
-use Rattle.bforest_core.specs.Place.{inner_content, entry_items}
+use Rattle.bforest_core.specs.Place.{inner_content}
 use Rattle.bforest_core.proofs.Descent.{some_leaf}
-use Rattle.bforest_core.proofs.Stored.{some_same, item_count}
+use Rattle.bforest_core.proofs.Stored.{some_same}
 use Rattle.bforest_core.proofs.Leading.{front_within, front_leaf, front_inner, front_count, led_leaf, led_inner}
 use Rattle.bforest_core.proofs.path.Path.+descend_first.Goals as goal
 

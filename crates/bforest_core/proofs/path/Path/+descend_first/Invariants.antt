@@ -1,4 +1,4 @@
-use Rattle.std.proofs.Common.{ℕ, ◌-◌}
+use Rattle.std.proofs.Common.{◌-◌}
 use Rattle.bforest_core.proofs.path.Path.+descend_first.Given as goal
 
 abbrev pub decreases-descend_first : goal.decreases-descend_first

@@ -1,9 +1,8 @@
-use Rattle.std.proofs.Common.{rules, ◌≡◌, ◌≢◌, ℕ, suc, ◌+◌, ◌-◌, ◌<◌, ◌≤◌, IsTrue, false, true, List, [], ◌∷◌, ◌++◌, length, get_or, set, slice_get, Some, refl, sym, ap, subst, ◌∙◌, arith}
+use Rattle.std.proofs.Common.{rules, ◌≡◌, suc, ◌+◌, ◌-◌, ◌<◌, ◌∷◌, length, get_or, slice_get, Some, sym, ap, ◌∙◌, arith}
 use Rattle.std.proofs.lemmas.Bool.{false≢true}
-use Rattle.bforest_core.specs.Levels.{LevelNode, flat, heads}
-use Rattle.bforest_core.specs.Place.{inner_content, entry_items}
-use Rattle.bforest_core.specs.Steps.{Over, Moved}
-use Rattle.bforest_core.proofs.Steps.{over_spot, Spot, nth, step_within, step_over, slot_over, next_place, last_place}
+use Rattle.bforest_core.specs.Levels.{heads}
+use Rattle.bforest_core.specs.Place.{inner_content}
+use Rattle.bforest_core.proofs.Steps.{over_spot, nth, step_within, step_over, slot_over, next_place, last_place}
 use Rattle.bforest_core.proofs.path.Path.+next_node.Goals as goal
 
 pub overflow_add-entry-2 : goal.overflow_add-entry-2

@@ -1,4 +1,4 @@
-use Rattle.std.proofs.Common.{rules, ◌≡◌, length, Some, sym, ◌∙◌, arith}
+use Rattle.std.proofs.Common.{rules, Some, sym, arith}
 use Rattle.std.proofs.lemmas.Option.{slice_get_past}
 use Rattle.bforest_core.specs.Levels.{flat}
 use Rattle.bforest_core.proofs.Backward.{at_entry, at_end}

@@ -1,6 +1,6 @@
-use Rattle.std.proofs.Common.{◌≡◌, ℕ, List, get_or, slice_get, Some, sym, ap, ◌∙◌, arith}
+use Rattle.std.proofs.Common.{◌≡◌, get_or, slice_get, sym, ap, ◌∙◌, arith}
 use Rattle.std.proofs.lemmas.List.{get_or_default}
-use Rattle.bforest_nodes.specs.Content.{Content, keys_of, vals_of}
+use Rattle.bforest_nodes.specs.Content.{keys_of, vals_of}
 use Rattle.bforest_core.specs.Place.{leaf_content}
 use Rattle.bforest_core.proofs.Entered.{pair_read}
 use Rattle.bforest_core.proofs.Stored.{some_same}

@@ -1,8 +1,8 @@
-use Rattle.std.proofs.Common.{rules, ◌≡◌, ℕ, suc, ◌+◌, ◌<◌, List, length, get_or, slice_get, Some, sym, ap, subst, ◌∙◌, arith}
+use Rattle.std.proofs.Common.{rules, ◌≡◌, suc, ◌+◌, get_or, slice_get, Some, sym, ap, ◌∙◌, arith}
 use Rattle.std.proofs.lemmas.List.{get_or_default, get_or-set_same}
 use Rattle.std.proofs.lemmas.Option.{slice_get_within}
-use Rattle.bforest_nodes.specs.Content.{Content, children_of}
-use Rattle.bforest_core.specs.Place.{inner_content, entry_items}
+use Rattle.bforest_nodes.specs.Content.{children_of}
+use Rattle.bforest_core.specs.Place.{inner_content}
 use Rattle.bforest_core.proofs.Stored.{some_same}
 use Rattle.bforest_core.proofs.path.Path.go_to_child.Goals as goal
 

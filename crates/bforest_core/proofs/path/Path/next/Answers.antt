@@ -1,9 +1,8 @@
-use Rattle.std.proofs.Common.{rules, ◌≡◌, ◌≢◌, ℕ, suc, ◌+◌, ◌<◌, ◌≤◌, IsTrue, false, true, List, [], ◌∷◌, ◌++◌, length, get_or, slice_get, Some, None, refl, sym, ap, subst, ◌∙◌, arith}
-use Rattle.std.proofs.lemmas.Bool.{false≢true}
+use Rattle.std.proofs.Common.{rules, suc, Some, sym, ◌∙◌, arith}
 use Rattle.std.proofs.lemmas.Option.{slice_get_past}
-use Rattle.bforest_core.specs.Levels.{heads, flat}
+use Rattle.bforest_core.specs.Levels.{flat}
 use Rattle.bforest_core.proofs.Descent.{some_leaf}
-use Rattle.bforest_core.proofs.Entered.{leaf_slot, over_leaves, entry_is, entry_within, entry_over, entry_last}
+use Rattle.bforest_core.proofs.Entered.{leaf_slot, entry_is}
 use Rattle.bforest_core.proofs.path.Path.next.Goals as goal
 
 pub entry_here-requires : goal.entry_here-requires

@@ -1,9 +1,8 @@
-use Rattle.std.proofs.Common.{rules, ◌≡◌, ℕ, ◌+◌, ◌-◌, ◌<◌, List, [], ◌∷◌, length, slice_get, Some, suc, ◌≤◌, sym, ap, subst, ◌∙◌, arith}
+use Rattle.std.proofs.Common.{rules, ◌≡◌, ℕ, ◌+◌, ◌-◌, ◌<◌, [], ◌∷◌, length, slice_get, suc, ◌≤◌, sym, ap, subst, ◌∙◌, arith}
 use Rattle.std.proofs.lemmas.List.{length-map}
 use Rattle.std.proofs.lemmas.Option.{slice_get_within}
 use Rattle.bforest_nodes.specs.Content.{IsInner, children_of, entry_count}
 use Rattle.bforest_core.specs.Descent.{Under}
-use Rattle.bforest_core.specs.Place.{count}
 use Rattle.bforest_core.specs.Removal.{GivesAll, numbers_under}
 use Rattle.bforest_core.proofs.Descent.{some_leaf}
 use Rattle.bforest_core.proofs.Stored.{some_same}

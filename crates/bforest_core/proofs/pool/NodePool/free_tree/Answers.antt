@@ -1,5 +1,4 @@
-use Rattle.std.proofs.Common.{rules, ◌≡◌, ◌+◌, [], arith}
-use Rattle.bforest_core.specs.Change.{node_count}
+use Rattle.std.proofs.Common.{rules, arith}
 use Rattle.bforest_core.specs.Place.{numbers_of}
 use Rattle.bforest_core.specs.Trees.{tree_of}
 use Rattle.bforest_core.proofs.Account.{length-same, nodes-count}

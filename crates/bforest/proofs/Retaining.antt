@@ -1,6 +1,6 @@
 -- What stays of a list that increases, and the answer of `retain` as a change of a forest.
 use Rattle.bforest.proofs.Changed.{becomes, list-root, sizes-root}
-use Rattle.bforest.proofs.Cutting.{becomes-ended, gives, same-cut}
+use Rattle.bforest.proofs.Cutting.{becomes-ended, gives}
 use Rattle.bforest.specs.Forest.{Becomes, Forest, Gives, list_of, sizes_of as forest_sizes}
 use Rattle.bforest.specs.Retain.{Retained, RetainedNone, Retains}
 use Rattle.bforest_core.specs.Levels.{flat, sizes_of}
