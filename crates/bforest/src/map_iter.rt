@@ -36,11 +36,15 @@ impl<'a, K: Copy, V: Copy> MapIter<'a, K, V> {
         ensures ready { IsReadable K.row V.row }
     {
         let pool = forest.pool();
-        let mut path = Path::default();
+        // The path is written where it stays, since it is too long to be moved for nothing.
+        let mut iter = MapIter {
+            pool,
+            path: Path::default(),
+        };
         if let Some(root) = map.root {
-            path.first(root, pool);
+            iter.path.first(root, pool);
         }
-        MapIter { pool, path }
+        iter
     }
 }
 

@@ -170,7 +170,10 @@ impl<K: Copy, V: Copy, const N: usize> NodeData<K, V, N> {
     {
         match &self.state {
             State::Branch(size, keys, tree) => {
-                (keys.front(*size as usize), tree.front(*size as usize + 1))
+                (
+                    keys.capped_front(*size as usize),
+                    tree.front(*size as usize + 1),
+                )
             }
             _ => unreachable!(),
         }
@@ -184,7 +187,10 @@ impl<K: Copy, V: Copy, const N: usize> NodeData<K, V, N> {
     {
         match &self.state {
             State::Entries(Entries { size, keys, vals }) => {
-                (keys.front(*size as usize), vals.front(*size as usize))
+                (
+                    keys.capped_front(*size as usize),
+                    vals.front(*size as usize),
+                )
             }
             _ => unreachable!(),
         }

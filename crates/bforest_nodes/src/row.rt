@@ -22,6 +22,16 @@ impl<T: Copy, const N: usize> Row<T, N> {
         &self.items[..len]
     }
 
+    /// The first `len` elements, as `front` gives them. That they are at most `N` is said to the compiler too, which then
+    /// unrolls a loop over a few.
+    pub(crate) fn capped_front(&self, len: usize) -> &[T]
+        requires { len ≤ N }
+        ensures value { result.now ≡ take len self.now.items }
+        ensures len { length result.now ≡ len }
+    {
+        &self.items[..len.min(N)]
+    }
+
     /// The element at an index of the first `len`.
     #[tactic(auto, using(crate::proofs::Rows::at_front))]
     pub(crate) fn at(&self, len: usize, index: usize) -> T
