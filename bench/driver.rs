@@ -1,7 +1,7 @@
 //! Prints what calls of `bforest` cost beside `std`'s `BTreeMap`, and beside the Rust original where it is there.
 //!
-//! `driver` prints the table, `driver --quick` compares the checksums of small runs alone, and `driver --growth MOST` prints how the cost of
-//! a call grows with a map's size. `driver --one SIDE KIND NUMBERS` makes one run in a process of its own, whose instructions and memory
+//! `driver` prints the table, `driver --compare` reads runs that were made elsewhere and compares their checksums, and `driver --growth MOST`
+//! prints how the cost of a call grows with a map's size. `driver --one SIDE KIND NUMBERS` makes one run in a process of its own, whose instructions and memory
 //! can be counted.
 //!
 //! A run builds its maps anew. So the cost of a phase is the difference of two runs, of which one makes the phase, or makes it more often.
@@ -361,15 +361,25 @@ fn print_growth(most: u32) {
     }
 }
 
-// Each run at a hundredth of its size, for the checksums alone.
-fn print_quick() {
-    let works = works(&rows(100, true));
-    for work in &works {
-        let sums: Vec<u64> = SIDES.iter().map(|side| run(*side, *work, false).0).collect();
-        check(*work, &sums);
+// Compares runs that were made elsewhere, a line for each: the words of a run and its checksum.
+fn compare() {
+    let mut count = 0;
+    for line in std::io::stdin().lines().map_while(Result::ok) {
+        let words: Vec<String> = line.split(' ').map(str::to_string).collect();
+        let sum = words.last().and_then(|word| word.parse::<u64>().ok());
+        let (Some(work), Some(sum)) = (work_of(&words), sum) else {
+            println!("no run: {line}");
+            println!("0 passed, 1 failed");
+            exit(1);
+        };
+        let mut sums = vec![sum];
+        sums.extend(SIDES.iter().map(|side| run(*side, work, false).0));
+        check(work, &sums);
+        count += 1;
     }
-    println!("{} runs of the benchmark on {} sides answer alike", works.len(), SIDES.len());
-    println!("{} passed, 0 failed", works.len());
+    println!("{count} runs of the benchmark answer as Rust's own maps do");
+    println!("{count} passed, {} failed", u32::from(count == 0));
+    exit(i32::from(count == 0));
 }
 
 fn main() {
@@ -377,11 +387,11 @@ fn main() {
     let program = words[0].as_str();
     match words.get(1).map(String::as_str) {
         None => print_all(program),
-        Some("--quick") => print_quick(),
+        Some("--compare") => compare(),
         Some("--growth") => print_growth(words.get(2).and_then(|word| word.parse().ok()).unwrap_or(1_000_000)),
         Some("--one") => make_one(&words[2..]),
         Some(_) => {
-            eprintln!("usage: driver [--quick | --growth MOST]");
+            eprintln!("usage: driver [--compare | --growth MOST]");
             exit(2);
         }
     }

@@ -1,10 +1,11 @@
-//! The same work on maps of `bforest`, on `std`'s `BTreeMap`, and on the Rust original where it is there.
+//! The same work on maps of `bforest`, where its static library is there, on `std`'s `BTreeMap`, and on the Rust original where it is there.
 
 use std::collections::BTreeMap;
 use std::hint::black_box;
 use std::time::{Duration, Instant};
 
 // A `Global` takes no bytes, so nothing is passed for the parameter `alloc` of these.
+#[cfg(library)]
 unsafe extern "C" {
     fn bench_mixture(maps: u32, calls: u32, looks: u32, walks: u32, is_cleared: bool) -> u64;
     fn bench_large(size: u32, is_mixed: bool, looks: u32, walks: u32, is_emptied: bool) -> u64;
@@ -48,6 +49,7 @@ impl Work {
 /// Whose maps a run works on.
 #[derive(Clone, Copy, PartialEq, Debug)]
 pub enum Side {
+    #[cfg(library)]
     Bforest,
     Std,
     #[cfg(original)]
@@ -55,16 +57,19 @@ pub enum Side {
 }
 
 /// All sides.
-#[cfg(not(original))]
-pub const SIDES: &[Side] = &[Side::Bforest, Side::Std];
-/// All sides.
-#[cfg(original)]
-pub const SIDES: &[Side] = &[Side::Bforest, Side::Std, Side::Original];
+pub const SIDES: &[Side] = &[
+    #[cfg(library)]
+    Side::Bforest,
+    Side::Std,
+    #[cfg(original)]
+    Side::Original,
+];
 
 impl Side {
     /// Its name in a table.
     pub fn name(self) -> &'static str {
         match self {
+            #[cfg(library)]
             Side::Bforest => "bforest",
             Side::Std => "BTreeMap",
             #[cfg(original)]
@@ -320,6 +325,7 @@ fn run_on<M: Maps>(work: Work, is_kept: bool) -> (u64, Duration) {
 }
 
 // The same of bforest. Here the drop is timed, which frees one table.
+#[cfg(library)]
 fn run_bforest(work: Work) -> (u64, Duration) {
     let start = Instant::now();
     let Work { size, looks, walks, turns, .. } = work;
@@ -338,6 +344,7 @@ fn run_bforest(work: Work) -> (u64, Duration) {
 /// Makes a run, and answers its checksum and its time.
 pub fn run(side: Side, work: Work, is_kept: bool) -> (u64, Duration) {
     match side {
+        #[cfg(library)]
         Side::Bforest => run_bforest(black_box(work)),
         Side::Std => run_on::<StdMaps>(black_box(work), is_kept),
         #[cfg(original)]

@@ -1,18 +1,9 @@
-//! What a benchmark calls: whole runs on numbers, so that no state crosses. Each builds its maps, works on them, drops them, and answers a
-//! checksum of what it was told, or 0 where memory was refused. Rounds that change nothing can be asked for any number of times, so
-//! that the time of one is told by the difference of two runs. `bench/driver.rs` runs the same on other maps.
+//! The runs of `bforest_workloads_bench` for a caller in another language: `bench/driver.rs`, which makes the same on other maps.
 #![tactic(auto)]
-
-mod edges;
-mod large;
-mod mixture;
-mod random;
-mod smalls;
 
 use std::alloc::Global;
 
-/// So many small maps, all empty. So many calls in no order, half of which insert, a quarter looks up and a quarter removes, on 20 keys;
-/// then rounds of as many look-ups, rounds that read each entry, and, where asked for, the end of each map.
+/// Calls of all kinds on many small maps, as `bforest_workloads_bench::run_mixture` says.
 #[unsafe(no_mangle)]
 pub extern "C" fn bench_mixture(
     alloc: Global,
@@ -22,11 +13,10 @@ pub extern "C" fn bench_mixture(
     walks: u32,
     is_cleared: bool,
 ) -> u64 {
-    mixture::run(alloc, maps, calls, looks, walks, is_cleared).unwrap_or(0)
+    bforest_workloads_bench::run_mixture(alloc, maps, calls, looks, walks, is_cleared)
 }
 
-/// One map. So many insertions, in ascending order or without one; then rounds of as many look-ups, rounds that read each entry, and,
-/// where asked for, the removal of each key.
+/// One map of many entries, as `bforest_workloads_bench::run_large` says.
 #[unsafe(no_mangle)]
 pub extern "C" fn bench_large(
     alloc: Global,
@@ -36,12 +26,11 @@ pub extern "C" fn bench_large(
     walks: u32,
     is_emptied: bool,
 ) -> u64 {
-    large::run(alloc, size, is_mixed, looks, walks, is_emptied).unwrap_or(0)
+    bforest_workloads_bench::run_large(alloc, size, is_mixed, looks, walks, is_emptied)
 }
 
-/// The predecessors of so many blocks of a control flow graph, a map for each: one to four edges out of each block are added. Then rounds
-/// that read each map, and rounds that lead each edge to the block behind its target, which are a removal and an insertion.
+/// The predecessors of blocks, as `bforest_workloads_bench::run_edges` says.
 #[unsafe(no_mangle)]
 pub extern "C" fn bench_edges(alloc: Global, blocks: u32, walks: u32, turns: u32) -> u64 {
-    edges::run(alloc, blocks, walks, turns).unwrap_or(0)
+    bforest_workloads_bench::run_edges(alloc, blocks, walks, turns)
 }

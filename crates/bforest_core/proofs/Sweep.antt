@@ -90,7 +90,6 @@ module _ {K V : Type 0} where
           apart = λ m. apart_chain m s cut apart;
         }
       where
-
         apart_own : (m : ℕ) (s : Swept most old now leaves rows top index) (cut : UnderCut most old.nodes s.left_leaves s.left_rows (x ∷ []) (drop (suc index) top)) → Distinct (numbers_under leaves rows ++ old.chain) → 0 < count m (numbers_under cut.leaves_left cut.lower_left) → count m s.own ≡ 0
         apart_own m s cut apart some = omega (arith, apart m, count-append m (numbers_under leaves rows) old.chain, s.split m, cut.counted m, some)
 

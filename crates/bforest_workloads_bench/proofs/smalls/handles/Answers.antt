@@ -1,5 +1,5 @@
-use Rattle.bforest_bench.proofs.Keeping.{none-more}
-use Rattle.bforest_bench.proofs.smalls.handles.Goals as goal
+use Rattle.bforest_workloads_bench.proofs.Keeping.{none-more}
+use Rattle.bforest_workloads_bench.proofs.smalls.handles.Goals as goal
 use Rattle.std.proofs.Common.{◌∙◌}
 
 pub loop-preserved : goal.loop-preserved

@@ -4,7 +4,7 @@ use bforest::{Map, MapForest, OutOfMemory};
 use std::alloc::Global;
 use std::marker::Model;
 
-/// A whole run, as `bench_large` says.
+/// A whole run, as `run_large` says.
 pub(crate) fn run(
     alloc: Global,
     size: u32,
@@ -37,7 +37,7 @@ struct Large {
 
 impl Model for Large {
     ghost use Rattle.bforest.specs.Forest.{Forest};
-    ghost use Rattle.bforest_bench.specs.Kept.{IsOrdered};
+    ghost use Rattle.bforest_workloads_bench.specs.Kept.{IsOrdered};
     ghost use Rattle.std.specs.Prelude.{Option, ℕ};
 
     ghost Value = { Forest ℕ ℕ × Option ℕ };

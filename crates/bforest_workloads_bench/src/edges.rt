@@ -4,7 +4,7 @@ use crate::random::{Random, added};
 use crate::smalls::Smalls;
 use std::alloc::Global;
 
-/// A whole run, as `bench_edges` says.
+/// A whole run, as `run_edges` says.
 pub(crate) fn run(alloc: Global, blocks: u32, walks: u32, turns: u32) -> Option<u64> {
     let mut smalls = Smalls::new(alloc, blocks).ok()?;
     add_all(&mut smalls, blocks)?;

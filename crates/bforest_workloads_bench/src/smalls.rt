@@ -16,7 +16,7 @@ pub(crate) struct Smalls {
 
 impl Model for Smalls {
     ghost use Rattle.bforest.specs.Forest.{Forest};
-    ghost use Rattle.bforest_bench.specs.Kept.{AreOrdered};
+    ghost use Rattle.bforest_workloads_bench.specs.Kept.{AreOrdered};
     ghost use Rattle.std.specs.Prelude.{List, Option, ℕ};
 
     ghost Value = { Forest ℕ ℕ × List (Option ℕ) };

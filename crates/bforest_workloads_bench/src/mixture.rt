@@ -4,7 +4,7 @@ use crate::random::{Random, added};
 use crate::smalls::Smalls;
 use std::alloc::Global;
 
-/// A whole run, as `bench_mixture` says.
+/// A whole run, as `run_mixture` says.
 pub(crate) fn run(
     alloc: Global,
     maps: u32,

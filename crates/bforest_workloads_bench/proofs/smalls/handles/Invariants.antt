@@ -1,4 +1,4 @@
-use Rattle.bforest_bench.proofs.smalls.handles.Given as goal
+use Rattle.bforest_workloads_bench.proofs.smalls.handles.Given as goal
 use Rattle.std.proofs.Common.{None, replicate, ◌≡◌}
 
 abbrev pub invariant-loop : goal.invariant-loop

@@ -1,0 +1,104 @@
+//! Makes runs of the benchmark at a hundredth of their size, and writes a line for each: the kind, the size, the rounds of look-ups, of reads
+//! and of removals, and the checksum. `bench/run --quick` compares the checksums with those of Rust's own maps.
+#![tactic(auto)]
+
+use bforest_workloads_bench::{run_edges, run_large, run_mixture};
+use std::io;
+
+/// What a run works on.
+#[derive(Clone, Copy)]
+enum Kind {
+    Mixture,
+    Random,
+    Ascending,
+    Edges,
+}
+
+impl Kind {
+    /// Its name in a line.
+    fn name(self) -> &'static str {
+        match self {
+            Kind::Mixture => "Mixture",
+            Kind::Random => "Random",
+            Kind::Ascending => "Ascending",
+            Kind::Edges => "Edges",
+        }
+    }
+}
+
+/// How often a run reads and removes, behind the phase that fills its maps.
+#[derive(Clone, Copy)]
+struct Rounds {
+    looks: u32,
+    walks: u32,
+    turns: u32,
+}
+
+/// The maps are filled, and no more.
+const FILLED: Rounds = Rounds {
+    looks: 0,
+    walks: 0,
+    turns: 0,
+};
+/// Then rounds of look-ups.
+const LOOKED_UP: Rounds = Rounds {
+    looks: 3,
+    walks: 0,
+    turns: 0,
+};
+/// Or rounds that read each entry.
+const READ: Rounds = Rounds {
+    looks: 0,
+    walks: 20,
+    turns: 0,
+};
+/// Or one that takes entries out.
+const TAKEN: Rounds = Rounds {
+    looks: 0,
+    walks: 0,
+    turns: 1,
+};
+
+/// Makes a run and writes its line.
+fn show(rt: HostRuntime, kind: Kind, size: u32, rounds: Rounds) -> io::Result<()> {
+    let Rounds {
+        looks,
+        walks,
+        turns,
+    } = rounds;
+    let is_taken = turns > 0;
+    let alloc = rt.alloc();
+    let sum = match kind {
+        Kind::Mixture => run_mixture(alloc, size, size.saturating_mul(30), looks, walks, is_taken),
+        Kind::Random => run_large(alloc, size, true, looks, walks, is_taken),
+        Kind::Ascending => run_large(alloc, size, false, looks, walks, is_taken),
+        Kind::Edges => run_edges(alloc, size, walks, turns),
+    };
+    println!(rt;
+        "{} {} {} {} {} {}",
+        kind.name(),
+        size,
+        looks,
+        walks,
+        turns,
+        sum
+    )
+}
+
+/// Makes the runs of a kind: on nothing, and of a size, with rounds that read and with one that takes entries out.
+fn show_all(rt: HostRuntime, kind: Kind, size: u32) -> io::Result<()> {
+    show(rt, kind, 0, FILLED)?;
+    show(rt, kind, size, FILLED)?;
+    show(rt, kind, size, READ)?;
+    show(rt, kind, size, TAKEN)
+}
+
+fn main(rt: HostRuntime) -> io::Result<()> {
+    show_all(rt, Kind::Mixture, 1000)?;
+    show(rt, Kind::Mixture, 1000, LOOKED_UP)?;
+    show_all(rt, Kind::Random, 10_000)?;
+    show(rt, Kind::Random, 10_000, LOOKED_UP)?;
+    show_all(rt, Kind::Ascending, 10_000)?;
+    show(rt, Kind::Ascending, 10_000, LOOKED_UP)?;
+    show_all(rt, Kind::Edges, 1000)
+}

@@ -1,0 +1,44 @@
+//! What a benchmark calls: whole runs on numbers, so that no state crosses. Each builds its maps, works on them, drops them, and answers a
+//! checksum of what it was told, or 0 where memory was refused. Rounds that change nothing can be asked for any number of times, so
+//! that the time of one is told by the difference of two runs.
+#![tactic(auto)]
+
+mod edges;
+mod large;
+mod mixture;
+mod random;
+mod smalls;
+
+use std::alloc::Global;
+
+/// So many small maps, all empty. So many calls in no order, half of which insert, a quarter looks up and a quarter removes, on 20 keys;
+/// then rounds of as many look-ups, rounds that read each entry, and, where asked for, the end of each map.
+pub fn run_mixture(
+    alloc: Global,
+    maps: u32,
+    calls: u32,
+    looks: u32,
+    walks: u32,
+    is_cleared: bool,
+) -> u64 {
+    mixture::run(alloc, maps, calls, looks, walks, is_cleared).unwrap_or(0)
+}
+
+/// One map. So many insertions, in ascending order or without one; then rounds of as many look-ups, rounds that read each entry, and,
+/// where asked for, the removal of each key.
+pub fn run_large(
+    alloc: Global,
+    size: u32,
+    is_mixed: bool,
+    looks: u32,
+    walks: u32,
+    is_emptied: bool,
+) -> u64 {
+    large::run(alloc, size, is_mixed, looks, walks, is_emptied).unwrap_or(0)
+}
+
+/// The predecessors of so many blocks of a control flow graph, a map for each: one to four edges out of each block are added. Then rounds
+/// that read each map, and rounds that lead each edge to the block behind its target, which are a removal and an insertion.
+pub fn run_edges(alloc: Global, blocks: u32, walks: u32, turns: u32) -> u64 {
+    edges::run(alloc, blocks, walks, turns).unwrap_or(0)
+}
