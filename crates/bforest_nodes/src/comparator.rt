@@ -30,16 +30,16 @@ pub trait Comparator<K: Copy> {
         s.binary_search_by(|x| self.cmp(*x, k))
     }
 
-    /// Counts the keys that are not greater, in a slice whose keys strictly increase: where a key that is not less than `k` would be
-    /// put behind them.
+    /// How many keys of a slice whose keys strictly increase are not greater: among the separators of an inner node the index of the
+    /// child below which `k` belongs. Of a slice whose keys do not strictly increase nothing is said.
     ///
-    /// It compares as often as `search`, by which it is given. An implementation that replaces `search` by a scan may scan here too.
+    /// It compares as often as `search`, which it calls. An implementation that replaces `search` by a scan may replace this by one too.
     fn upper_bound(&self, k: K, s: &[K]) -> usize
-        requires increasing { IsStrictlySortedBy (order self.now) s.now }
-        ensures { result ≡ count_up_to (order self.now) s.now k }
+        ensures { IsStrictlySortedBy (order self.now) s.now
+            → result ≡ count_up_to (order self.now) s.now k }
     {
         match self.search(k, s) {
-            Ok(index) => index + 1,
+            Ok(index) => index.saturating_add(1),
             Err(index) => index,
         }
     }

@@ -49,6 +49,10 @@ fn searches(rt: HostRuntime) {
     assert_eq!(rt; Reversed.search(5, &[9, 2]), Err(1));
     assert_eq!(rt; Tens.search(17, &[3, 12]), Ok(1));
     assert_eq!(rt; Tens.search(27, &[3, 12]), Err(2));
+    assert_eq!(rt; ().upper_bound(9, &[2, 9]), 2);
+    assert_eq!(rt; ().upper_bound(5, &[2, 9]), 1);
+    assert_eq!(rt; Reversed.upper_bound(5, &[9, 2]), 1);
+    assert_eq!(rt; Tens.upper_bound(17, &[3, 12]), 2);
 }
 
 #[test]
