@@ -1,7 +1,9 @@
 -- What a search in a leaf's slot says of the leaf's entries.
-use Rattle.std.proofs.Common.{◌≡◌, ℕ, zero, suc, ◌<◌, true, false, List, [], ◌∷◌, length, slice_get, Option, Some, None, Result, Ok, Err, refl, sym, ap, ◌∙◌, subst, arith}
+use Rattle.std.proofs.Common.{◌≡◌, ℕ, zero, suc, ◌<◌, ◌≤◌, true, false, List, [], ◌∷◌, length, slice_get, Option, Some, None, Result, Ok, Err, refl, sym, ap, ◌∙◌, subst, arith}
 use Rattle.std.proofs.lemmas.List.{length-map}
+use Rattle.std.proofs.lemmas.List.Sums.{count_by-le-length}
 use Rattle.std.specs.declared.cmp.Ordering.{Ordering}
+use Rattle.std.specs.Ordering.{is_lt}
 use Rattle.std.specs.List.Sorted.{IsStrictlySortedBy}
 use Rattle.bforest_nodes.specs.Content.{Content, Leaf}
 use Rattle.bforest_nodes.specs.Search.{search_of}
@@ -45,6 +47,9 @@ module _ {K V : Type 0} where
 
     pub err_place : (i : ℕ) → r ≡ Err i → (i ≡ place cmp es key) × (is_present cmp es key ≡ false)
     err_place i is = absent_at cmp es key i (sym is ∙ found ∙ search_of-keys_of cmp es key)
+
+    pub err_within : (i : ℕ) → r ≡ Err i → i ≤ length ks
+    err_within i is = omega (arith, (err_place i is).0, count_by-le-length (λ (e : K × V). is_lt (cmp e.0 key)) es, ap length keys, length-map es (λ (e : K × V). e.0))
 
     pub err_value : (i : ℕ) → r ≡ Err i → None ≡ value_for cmp es key
     err_value i is = sym (value_for-absent cmp es key (err_place i is).1)

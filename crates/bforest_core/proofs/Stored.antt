@@ -1,11 +1,15 @@
 -- Nodes as their slots hold them: with one child or entry more, and cut.
-use Rattle.std.proofs.Common.{◌≡◌, ℕ, zero, suc, ◌+◌, ◌-◌, List, [], ◌∷◌, ◌++◌, map, length, take, drop, insert, slice_get, Some, refl, sym, ap, ◌∙◌, append_assoc, length-append, arith}
+use Rattle.std.proofs.Common.{◌≡◌, ℕ, zero, suc, ◌+◌, ◌-◌, ◌≤◌, List, [], ◌∷◌, ◌++◌, map, length, take, drop, insert, slice_get, Some, refl, sym, ap, ◌∙◌, append_assoc, length-append, arith}
 use Rattle.std.proofs.lemmas.List.{length-map, map-append, take_at, drop_at, length-drop}
-use Rattle.bforest_nodes.specs.Content.{Content, Inner, Leaf, IsCut, with_child, with_entry}
+use Rattle.bforest_nodes.specs.Content.{Content, Inner, Leaf, Free, IsFree, IsCut, entry_count, with_child, with_entry}
 use Rattle.bforest_core.specs.Place.{inner_content, leaf_content, entry_keys, entry_items}
 
 pub some_same : {A : Type 0} → (x y : A) → Some x ≡ Some y → x ≡ y
 some_same x y e = cc
+
+-- two readings of a slot agree
+pub read_same : {A : Type 0} → (list : List A) (n : ℕ) (x y : A) → slice_get list n ≡ Some x → slice_get list n ≡ Some y → y ≡ x
+read_same list n x y first second = some_same y x (sym second ∙ first)
 
 pub slice_get_at : {A : Type 0} → (p : List A) (y : A) (ys : List A) (n : ℕ) → length p ≡ n → slice_get (p ++ y ∷ ys) n ≡ Some y
 slice_get_at [] y ys zero e = refl
@@ -42,6 +46,12 @@ pub record Parts {K V X : Type 0} (content : List (K × X) → Content K V) (xs 
   pub left_is : left ≡ content xs
   pub right_is : right ≡ content (y ∷ ys)
   pub key_is : key ≡ y.0
+
+-- a node with an entry is not free
+pub not_free : {K V : Type 0} → (content : Content K V) → 1 ≤ entry_count content → IsFree content → ⊥
+not_free (Inner keys children) some free = free
+not_free (Leaf keys vals) some free = free
+not_free (Free next) some free = omega (arith, some)
 
 module _ {K : Type 0} (V : Type 0) where
   -- a child put in behind another

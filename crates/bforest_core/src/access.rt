@@ -1,7 +1,7 @@
 //! Reading and writing one node of a pool, by its number.
 ghost use Rattle.std.specs.Prelude.{◌≡◌, ℕ, ◌-◌, ◌<◌, ◌≤◌, ◌↔◌, IsTrue, List, length, slice_get, Some, if◌then◌else◌};
 ghost use Rattle.std.specs.List.Sorted.{IsStrictlySortedBy};
-ghost use Rattle.bforest_nodes.specs.Content.{Content, Inner, IsFree, with_child, Leaf, with_entry, with_key, without_child, without_entry, removed_answer, entry_count};
+ghost use Rattle.bforest_nodes.specs.Content.{Content, Inner, IsLeafCapacity, IsFree, with_child, Leaf, with_entry, with_key, without_child, without_entry, removed_answer, entry_count};
 ghost use Rattle.bforest_core.specs.Descent.{child_index};
 ghost use Rattle.bforest_nodes.specs.Entries.{IsIncreasing, place, value_for};
 ghost use Rattle.bforest_core.specs.Place.{leaf_content};
@@ -36,6 +36,7 @@ pub(crate) fn follow<K: Copy, V: Copy, const N: usize, C: Comparator<K>>(
     requires inner { (keys : List K) × (children : List ℕ) × (slice_get pool.now.nodes node ≡ Some (Inner keys children)) × IsStrictlySortedBy (C.order comp.now) keys }
     ensures index { (keys : List K) (children : List ℕ) → slice_get pool.now.nodes node ≡ Some (Inner keys children) → result.0 ≡ child_index (C.order comp.now) keys key }
     ensures child { (keys : List K) (children : List ℕ) → slice_get pool.now.nodes node ≡ Some (Inner keys children) → slice_get children result.0 ≡ Some result.1 }
+    ensures most { result.0 ≤ 255 }
 {
     let (keys, children) = pool.node(node).unwrap_inner();
     let index = comp.upper_bound(key, keys);
@@ -49,9 +50,11 @@ pub(crate) fn look_up<K: Copy, V: Copy, const N: usize, C: Comparator<K>>(
     key: K,
     comp: &C,
 ) -> (usize, Option<V>)
+    requires capacity { IsLeafCapacity N }
     requires leaf { (entries : List (K × V)) × (slice_get pool.now.nodes node ≡ Some (leaf_content entries)) × IsIncreasing (C.order comp.now) entries }
     ensures place { (entries : List (K × V)) → slice_get pool.now.nodes node ≡ Some (leaf_content entries) → result.0 ≡ place (C.order comp.now) entries key }
     ensures value { (entries : List (K × V)) → slice_get pool.now.nodes node ≡ Some (leaf_content entries) → result.1 ≡ value_for (C.order comp.now) entries key }
+    ensures most { result.0 ≤ 255 }
 {
     let (keys, values) = pool.node(node).unwrap_leaf();
     match comp.search(key, keys) {
@@ -67,6 +70,7 @@ pub(crate) fn last_index<K: Copy, V: Copy, const N: usize>(
 ) -> usize
     requires some { (content : Content K V) × (slice_get pool.now.nodes node ≡ Some content) × (1 ≤ entry_count content) }
     ensures last { (content : Content K V) → slice_get pool.now.nodes node ≡ Some content → result ≡ entry_count content - 1 }
+    ensures most { result ≤ 255 }
 {
     pool.node(node).entries() - 1
 }
@@ -93,7 +97,8 @@ pub(crate) fn entries<K: Copy, V: Copy, const N: usize>(
     node: Node,
 ) -> usize
     requires { (content : Content K V) × (slice_get pool.now.nodes node ≡ Some content) × (¬ IsFree content) }
-    ensures { (content : Content K V) → slice_get pool.now.nodes node ≡ Some content → result ≡ entry_count content }
+    ensures value { (content : Content K V) → slice_get pool.now.nodes node ≡ Some content → result ≡ entry_count content }
+    ensures most { result ≤ 255 }
 {
     pool.node(node).entries()
 }
@@ -107,8 +112,7 @@ pub(crate) fn separator<K: Copy, V: Copy, const N: usize>(
     requires { (keys : List K) × (children : List ℕ) × (slice_get pool.now.nodes node ≡ Some (Inner keys children)) × (index < length keys) }
     ensures { (keys : List K) (children : List ℕ) → slice_get pool.now.nodes node ≡ Some (Inner keys children) → slice_get keys index ≡ Some result }
 {
-    let (keys, _) = pool.node(node).unwrap_inner();
-    keys[index]
+    pool.node(node).separator(index)
 }
 
 // A child of an inner node.
@@ -120,8 +124,7 @@ pub(crate) fn child<K: Copy, V: Copy, const N: usize>(
     requires { (keys : List K) × (children : List ℕ) × (slice_get pool.now.nodes node ≡ Some (Inner keys children)) × (index < length children) }
     ensures { (keys : List K) (children : List ℕ) → slice_get pool.now.nodes node ≡ Some (Inner keys children) → slice_get children index ≡ Some result }
 {
-    let (_, children) = pool.node(node).unwrap_inner();
-    children[index]
+    pool.node(node).child(index)
 }
 
 // Writes a separator of an inner node.

@@ -18,7 +18,7 @@ use std::marker::PhantomData;
 pub struct Path<K, V, const N: usize> {
     size: usize,
     node: [Node; 17],
-    entry: [usize; 17],
+    entry: [u8; 17],
     mark: PhantomData<(K, V)>,
 }
 
@@ -42,7 +42,7 @@ impl<K: Copy, V: Copy, const N: usize> Path<K, V, N> {
         if self.size == 0 {
             None
         } else {
-            Some((self.node[0], self.entry[0]))
+            Some((self.node[0], self.entry[0] as usize))
         }
     }
 }

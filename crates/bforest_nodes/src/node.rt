@@ -98,6 +98,7 @@ impl<K: Copy, V: Copy, const N: usize> NodeData<K, V, N> {
         requires used { ¬ IsFree self.now }
         ensures value { result ≡ entry_count self.now }
         ensures shape { HasShape N self.now }
+        ensures most { result ≤ 255 }
     {
         match &self.state {
             State::Branch(size, keys, tree) => {

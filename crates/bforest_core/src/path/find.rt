@@ -68,6 +68,7 @@ impl<K: Copy, V: Copy, const N: usize> Path<K, V, N> {
         pool: &NodePool<K, V, N>,
         comp: &C,
     ) -> Option<V>
+        requires capacity { IsLeafCapacity N }
         requires leaf { (entries : List (K × V)) × (slice_get pool.now.nodes node ≡ Some (leaf_content entries)) × IsIncreasing (C.order comp.now) entries }
         ensures node { self.new.node ≡ slice_set self.old.node 0 node }
         ensures entry { (entries : List (K × V)) → slice_get pool.now.nodes node ≡ Some (leaf_content entries) → self.new.entry ≡ slice_set self.old.entry 0 (place (C.order comp.now) entries key) }
@@ -81,13 +82,14 @@ impl<K: Copy, V: Copy, const N: usize> Path<K, V, N> {
 
     // Writes where the path stands on a level.
     pub(super) fn set_level(&mut self, level: usize, node: Node, index: usize)
-        requires { level ≤ 16 }
+        requires within { level ≤ 16 }
+        requires most { index ≤ 255 }
         ensures node { self.new.node ≡ slice_set self.old.node level node }
         ensures entry { self.new.entry ≡ slice_set self.old.entry level index }
         ensures here { (get_or self.new.node level 0 ≡ node) × (get_or self.new.entry level 0 ≡ index) }
         ensures size { self.new.size ≡ self.old.size }
     {
         self.node[level] = node;
-        self.entry[level] = index;
+        self.entry[level] = index as u8;
     }
 }

@@ -108,7 +108,7 @@ impl<K: Copy, V: Copy, const N: usize> Path<K, V, N> {
         ensures full { result ≡ false → IsFullAt N pool.old.nodes (get_or self.now.node 0 0) }
         ensures pool { result ≡ false → pool.new ≡ pool.old }
     {
-        put_entry(pool, self.node[0], self.entry[0], key, value)
+        put_entry(pool, self.node[0], self.entry[0] as usize, key, value)
     }
 
     // Halves the path's full leaf, and puts the entry into one half.
@@ -133,7 +133,7 @@ impl<K: Copy, V: Copy, const N: usize> Path<K, V, N> {
         ensures size { self.new.size ≡ self.old.size }
     {
         let leaf = self.node[0];
-        let index = self.entry[0];
+        let index = self.entry[0] as usize;
         let (right, halves) = pool.split_node(leaf, index);
         let first = halves.crit_key;
         if index <= N / 2 {
@@ -143,7 +143,7 @@ impl<K: Copy, V: Copy, const N: usize> Path<K, V, N> {
             let behind = index - halves.lhs_entries;
             let _room = put_entry(pool, right, behind, key, value);
             self.node[0] = right;
-            self.entry[0] = behind;
+            self.entry[0] = behind as u8;
             (first_key(behind, key, first), right, true)
         }
     }
@@ -187,7 +187,7 @@ impl<K: Copy, V: Copy, const N: usize> Path<K, V, N> {
     {
         let root = pool.inner_node(left, key, child);
         self.node[self.size] = root;
-        self.entry[self.size] = index_behind(0, moved);
+        self.entry[self.size] = index_behind(0, moved) as u8;
         self.size += 1;
     }
 
@@ -211,9 +211,9 @@ impl<K: Copy, V: Copy, const N: usize> Path<K, V, N> {
         ensures size { self.new.size ≡ self.old.size }
     {
         let node = self.node[up];
-        let entry = self.entry[up];
+        let entry = self.entry[up] as usize;
         if put_child(pool, node, entry, key, child) {
-            self.entry[up] = index_behind(entry, moved);
+            self.entry[up] = index_behind(entry, moved) as u8;
             true
         } else {
             false
@@ -239,16 +239,16 @@ impl<K: Copy, V: Copy, const N: usize> Path<K, V, N> {
         ensures size { self.new.size ≡ self.old.size }
     {
         let node = self.node[up];
-        let entry = self.entry[up];
+        let entry = self.entry[up] as usize;
         let (right, halves) = pool.split_node(node, entry);
         if entry < 4 {
             let _room = put_child(pool, node, entry, key, child);
-            self.entry[up] = index_behind(entry, moved);
+            self.entry[up] = index_behind(entry, moved) as u8;
             (halves.crit_key, right, false)
         } else {
             let _room = put_child(pool, right, entry - 4, key, child);
             self.node[up] = right;
-            self.entry[up] = index_behind(entry - 4, moved);
+            self.entry[up] = index_behind(entry - 4, moved) as u8;
             (halves.crit_key, right, true)
         }
     }
@@ -257,7 +257,8 @@ impl<K: Copy, V: Copy, const N: usize> Path<K, V, N> {
 // The index, or the next one where the path moved there.
 fn index_behind(index: usize, moved: bool) -> usize
     requires { index < 8 }
-    ensures { result ≡ (if moved then suc index else index) }
+    ensures value { result ≡ (if moved then suc index else index) }
+    ensures most { result ≤ 8 }
 {
     if moved { index + 1 } else { index }
 }

@@ -19,7 +19,7 @@ impl<K: Copy, V: Copy, const N: usize> Path<K, V, N> {
         ensures { (rows : List (List (LevelNode K ℕ))) (before : List (K × ℕ)) (first : K) (m : ℕ) (next_first : K) (n : ℕ) (after : List (K × ℕ)) → Above pool.old self.now.node self.now.entry up self.now.size rows (before ++ (first, m) ∷ (next_first, n) ∷ after) (length before) → Loosened pool.old pool.new self.now.node self.now.entry up self.now.size rows (before ++ (first, n) ∷ after) (length before) }
     {
         let parent = self.node[up];
-        let index = self.entry[up];
+        let index = self.entry[up] as usize;
         if index + 1 < entries(pool, parent) {
             // At the first child the key is removed with it.
             let key = separator(pool, parent, index.saturating_sub(1));
@@ -44,7 +44,7 @@ impl<K: Copy, V: Copy, const N: usize> Path<K, V, N> {
         let leaf = self.node[0];
         let left = entries(pool, leaf);
         if left > N / 2 {
-            if self.entry[0] == left {
+            if self.entry[0] as usize == left {
                 self.enter_next(0, pool);
             }
             return false;
@@ -76,7 +76,7 @@ impl<K: Copy, V: Copy, const N: usize> Path<K, V, N> {
         let here = self.node[level];
         let left = entries(pool, here);
         if left >= 4 {
-            if self.entry[level] == left {
+            if self.entry[level] as usize == left {
                 self.enter_next(level, pool);
             }
             return false;
@@ -123,7 +123,7 @@ impl<K: Copy, V: Copy, const N: usize> Path<K, V, N> {
             pool.free_node(parent);
             self.drop_above(up + 1, pool);
         } else {
-            let last = self.entry[up];
+            let last = self.entry[up] as usize;
             let _answer = remove_child(pool, parent, last);
         }
     }

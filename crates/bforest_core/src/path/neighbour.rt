@@ -20,7 +20,7 @@ impl<K: Copy, V: Copy, const N: usize> Path<K, V, N> {
             return None;
         }
         let parent = self.node[up];
-        let index = self.entry[up];
+        let index = self.entry[up] as usize;
         if index + 1 < entries(pool, parent) {
             Some((
                 separator(pool, parent, index),
@@ -41,7 +41,7 @@ impl<K: Copy, V: Copy, const N: usize> Path<K, V, N> {
         ensures { (rows : List (List (LevelNode K ℕ))) (before : List (K × ℕ)) (x : K × ℕ) (first : K) (n : ℕ) (after : List (K × ℕ)) → Above pool.old self.now.node self.now.entry up self.now.size rows (before ++ x ∷ (first, n) ∷ after) (length before) → Rebuilt pool.old pool.new self.now.node self.now.entry self.now.node self.now.entry up self.now.size rows (before ++ x ∷ (key, n) ∷ after) (length before) (map sizes rows) [] }
     {
         let parent = self.node[up];
-        let index = self.entry[up];
+        let index = self.entry[up] as usize;
         if index + 1 < entries(pool, parent) {
             set_separator(pool, parent, index, key);
         } else {
@@ -58,7 +58,7 @@ impl<K: Copy, V: Copy, const N: usize> Path<K, V, N> {
         if up >= self.size {
             return;
         }
-        let index = self.entry[up];
+        let index = self.entry[up] as usize;
         if index > 0 {
             set_separator(pool, self.node[up], index - 1, key);
         } else {

@@ -94,7 +94,7 @@ impl<K: Copy, V: Copy, const N: usize> Path<K, V, N> {
         ensures { (tree : Tree K V) (place : ℕ) → StandsIn N pool.old self.now.node self.now.entry self.now.size tree place → LeafLoss N pool.old pool.new self.now.node self.now.entry self.now.size tree place }
     {
         let leaf = self.node[0];
-        let index = self.entry[0];
+        let index = self.entry[0] as usize;
         remove_entry(pool, leaf, index);
         if index > 0 {
             return;
@@ -110,7 +110,7 @@ impl<K: Copy, V: Copy, const N: usize> Path<K, V, N> {
         ensures past { result ≡ true → (old : Table K V) (tree : Tree K V) (place : ℕ) → (l : LeafLoss N old pool.now self.now.node self.now.entry self.now.size tree place) → (l.after ≡ []) × (get_or self.now.entry 0 0 ≡ length l.entries) }
         ensures within { result ≡ false → (old : Table K V) (tree : Tree K V) (place : ℕ) → (l : LeafLoss N old pool.now self.now.node self.now.entry self.now.size tree place) → get_or self.now.entry 0 0 < length (l.entries ++ flat l.after) }
     {
-        if self.entry[0] < entries(pool, self.node[0]) {
+        if (self.entry[0] as usize) < entries(pool, self.node[0]) {
             return false;
         }
         self.right_sibling(1, pool).is_none()

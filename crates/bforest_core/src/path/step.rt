@@ -9,7 +9,7 @@ ghost use Rattle.bforest_core.specs.Trees.{IsUnion, is_root, tree_of};
 ghost use Rattle.bforest_core.specs.Change.{StandsUnder};
 ghost use Rattle.bforest_core.specs.Steps.{Over, Moved};
 
-use crate::access::last_index;
+use crate::access::{child, entries, last_index};
 use crate::path::Path;
 use crate::pool::NodePool;
 use bforest_nodes::Node;
@@ -76,7 +76,7 @@ impl<K: Copy, V: Copy, const N: usize> Path<K, V, N> {
         ensures same { result ≡ false → self.new ≡ self.old }
         ensures size { self.new.size ≡ self.old.size }
     {
-        let next = self.entry[0] + 1;
+        let next = self.entry[0] as usize + 1;
         if self.has_entry(next, pool) {
             self.set_entry(next);
             return true;
@@ -91,9 +91,10 @@ impl<K: Copy, V: Copy, const N: usize> Path<K, V, N> {
     // Whether the path's leaf has an entry of this index.
     fn has_entry(&self, index: usize, pool: &NodePool<K, V, N>) -> bool
         requires { (entries : List (K × V)) × (slice_get pool.now.nodes (get_or self.now.node 0 0) ≡ Some (leaf_content entries)) }
-        ensures { (entries : List (K × V)) → slice_get pool.now.nodes (get_or self.now.node 0 0) ≡ Some (leaf_content entries) → IsTrue result ↔ (index < length entries) }
+        ensures within { (entries : List (K × V)) → slice_get pool.now.nodes (get_or self.now.node 0 0) ≡ Some (leaf_content entries) → IsTrue result ↔ (index < length entries) }
+        ensures most { IsTrue result → index ≤ 255 }
     {
-        index < pool.node(self.node[0]).entries()
+        index < entries(pool, self.node[0])
     }
 
     /// The entry here, or `None` at the end.
@@ -115,17 +116,18 @@ impl<K: Copy, V: Copy, const N: usize> Path<K, V, N> {
         requires { (entries : List (K × V)) × (slice_get pool.now.nodes (get_or self.now.node 0 0) ≡ Some (leaf_content entries)) × (get_or self.now.entry 0 0 < length entries) }
         ensures { (entries : List (K × V)) → slice_get pool.now.nodes (get_or self.now.node 0 0) ≡ Some (leaf_content entries) → slice_get entries (get_or self.now.entry 0 0) ≡ Some result }
     {
-        pool.node(self.node[0]).entry(self.entry[0])
+        pool.node(self.node[0]).entry(self.entry[0] as usize)
     }
 
     // Goes to this entry of the path's leaf.
     pub(super) fn set_entry(&mut self, index: usize)
+        requires most { index ≤ 255 }
         ensures nodes { self.new.node ≡ self.old.node }
         ensures here { get_or self.new.entry 0 0 ≡ index }
         ensures above { (level : ℕ) → level ≢ 0 → get_or self.new.entry level 0 ≡ get_or self.old.entry level 0 }
         ensures size { self.new.size ≡ self.old.size }
     {
-        self.entry[0] = index;
+        self.entry[0] = index as u8;
     }
 
     // Moves the path's node on `level` to the next one. Where there is none it answers false, and nothing changed.
@@ -140,7 +142,7 @@ impl<K: Copy, V: Copy, const N: usize> Path<K, V, N> {
         if level + 1 == self.size {
             return false;
         }
-        let entry = self.entry[level + 1];
+        let entry = self.entry[level + 1] as usize;
         if self.has_child(level + 1, entry + 1, pool) {
             self.go_to_child(level, entry + 1, pool);
             return true;
@@ -156,14 +158,16 @@ impl<K: Copy, V: Copy, const N: usize> Path<K, V, N> {
     fn has_child(&self, level: usize, index: usize, pool: &NodePool<K, V, N>) -> bool
         requires within { level ≤ 16 }
         requires inner { (entries : List (K × ℕ)) × (slice_get pool.now.nodes (get_or self.now.node level 0) ≡ Some (inner_content entries)) }
-        ensures { (entries : List (K × ℕ)) → slice_get pool.now.nodes (get_or self.now.node level 0) ≡ Some (inner_content entries) → IsTrue result ↔ (index < length entries) }
+        ensures within { (entries : List (K × ℕ)) → slice_get pool.now.nodes (get_or self.now.node level 0) ≡ Some (inner_content entries) → IsTrue result ↔ (index < length entries) }
+        ensures most { IsTrue result → index ≤ 255 }
     {
-        index < pool.node(self.node[level]).entries()
+        index < entries(pool, self.node[level])
     }
 
     // Goes to another child of the path's node above `level`.
     fn go_to_child(&mut self, level: usize, index: usize, pool: &NodePool<K, V, N>)
         requires within { level ≤ 15 }
+        requires most { index ≤ 255 }
         requires inner { (entries : List (K × ℕ)) × (slice_get pool.now.nodes (get_or self.old.node (suc level) 0) ≡ Some (inner_content entries)) × (index < length entries) }
         ensures child { (entries : List (K × ℕ)) → slice_get pool.now.nodes (get_or self.old.node (suc level) 0) ≡ Some (inner_content entries) → slice_get (entry_items entries) index ≡ Some (get_or self.new.node level 0) }
         ensures nodes { (other : ℕ) → other ≢ level → get_or self.new.node other 0 ≡ get_or self.old.node other 0 }
@@ -171,9 +175,9 @@ impl<K: Copy, V: Copy, const N: usize> Path<K, V, N> {
         ensures entries { (other : ℕ) → other ≢ suc level → get_or self.new.entry other 0 ≡ get_or self.old.entry other 0 }
         ensures size { self.new.size ≡ self.old.size }
     {
-        let child = pool.node(self.node[level + 1]).child(index);
+        let child = child(pool, self.node[level + 1], index);
         self.node[level] = child;
-        self.entry[level + 1] = index;
+        self.entry[level + 1] = index as u8;
     }
 
     /// From one past a leaf's last entry it goes to the first entry of the next leaf, or to the end. Anywhere else nothing changes.
@@ -188,7 +192,7 @@ impl<K: Copy, V: Copy, const N: usize> Path<K, V, N> {
         if self.size == 0 {
             return;
         }
-        if self.has_entry(self.entry[0], pool) {
+        if self.has_entry(self.entry[0] as usize, pool) {
             return;
         }
         if self.next_node(0, pool) {
@@ -247,7 +251,7 @@ impl<K: Copy, V: Copy, const N: usize> Path<K, V, N> {
         ensures same { result ≡ false → self.new ≡ self.old }
         ensures size { self.new.size ≡ self.old.size }
     {
-        let here = self.entry[0];
+        let here = self.entry[0] as usize;
         if here > 0 {
             self.set_entry(here - 1);
             return true;
@@ -272,7 +276,7 @@ impl<K: Copy, V: Copy, const N: usize> Path<K, V, N> {
         if level + 1 == self.size {
             return false;
         }
-        let entry = self.entry[level + 1];
+        let entry = self.entry[level + 1] as usize;
         if entry > 0 {
             self.go_to_child(level, entry - 1, pool);
             return true;

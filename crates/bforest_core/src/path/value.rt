@@ -36,6 +36,6 @@ impl<K: Copy, V: Copy, const N: usize> NodePool<K, V, N> {
         ensures written { (root place : ℕ) → StandsUnder self.old.nodes root path.now.node path.now.entry path.now.size place → (value : V) → Changes N self.old (with_value_at self.old (get_or path.now.node 0 0) (get_or path.now.entry 0 0) value) root root (with_value (flat (tree_of self.old.nodes root).leaves) place value) (sizes_of (tree_of self.old.nodes root)) }
         ensures stands { (root place : ℕ) → StandsUnder self.old.nodes root path.now.node path.now.entry path.now.size place → (value : V) → StandsUnder (with_value_at self.old (get_or path.now.node 0 0) (get_or path.now.entry 0 0) value).nodes root path.now.node path.now.entry path.now.size place }
     {
-        self.value_mut(path.node[0], path.entry[0])
+        self.value_mut(path.node[0], path.entry[0] as usize)
     }
 }

@@ -24,3 +24,16 @@ returns-clause-child g c = λ keys children slot.
     let shape = subst (HasShape _) c.unwrap_inner.ensures.value c.unwrap_inner.ensures.shape in
     let within : c.upper_bound-index.result < length there = omega (arith, least, shape.0, counted) in
     ap (λ z. slice_get z c.upper_bound-index.result) same ∙ slice_get_read there (length there) c.upper_bound-index.result c.index-children-index.result refl within c.index-children-index.is
+
+pub returns-clause-most : goal.returns-clause-most
+returns-clause-most g c =
+    let order = g.C.Comparator.order c.args.comp.now in
+    let separators = c.unwrap_inner.result.0.now in
+    let w = c.requires.inner in
+    let read = c.node.ensures.value ∙ ap Some c.unwrap_inner.ensures.value in
+    let own : Inner w.0 w.1 ≡ Inner separators c.unwrap_inner.result.1.now = some_same (Inner w.0 w.1) (Inner separators c.unwrap_inner.result.1.now) (sym w.2 ∙ read) in
+    let same_keys : w.0 ≡ separators = cc in
+    let counted = c.upper_bound-index.ensures (subst (IsStrictlySortedBy order) same_keys w.3) in
+    let least = count_by-le-length (λ x. not (is_gt (order x c.args.key))) separators in
+    let shape = subst (HasShape _) c.unwrap_inner.ensures.value c.unwrap_inner.ensures.shape in
+    omega (arith, least, shape.0, shape.1, counted)

@@ -1,6 +1,7 @@
-use Rattle.std.proofs.Common.{length, refl, arith}
+use Rattle.std.proofs.Common.{length, refl, subst, arith}
 use Rattle.std.proofs.lemmas.Option.{slice_get_read}
-use Rattle.bforest_core.proofs.LeafSearch.{leaf_lists, increasing_same, ok_place, ok_within, ok_value, err_place, err_value}
+use Rattle.bforest_nodes.specs.Content.{HasShape}
+use Rattle.bforest_core.proofs.LeafSearch.{leaf_lists, increasing_same, ok_place, ok_within, ok_value, err_place, err_within, err_value}
 use Rattle.bforest_core.proofs.access.look_up.Goals as goal
 
 pub bounds-values-index : goal.bounds-values-index
@@ -64,3 +65,23 @@ returns-in-Err-clause-value g c = λ es slot.
     let l = leaf_lists _ _ es ks vs slot c.node.ensures.value c.unwrap_leaf.ensures.value in
     let h = increasing_same order w.0 es ks l0.0 l.0 w.2 in
     err_value order es c.args.key ks vs c.search.result l.0 l.1 h c.search.ensures c.in-Err.index c.in-Err.is
+
+pub returns-in-Ok-clause-most : goal.returns-in-Ok-clause-most
+returns-in-Ok-clause-most g c =
+    let w = c.requires.leaf in
+    let ks = c.unwrap_leaf.result.0.now in
+    let vs = c.unwrap_leaf.result.1.now in
+    let l = leaf_lists _ _ w.0 ks vs w.1 c.node.ensures.value c.unwrap_leaf.ensures.value in
+    let low = ok_within (g.C.Comparator.order c.args.comp.now) w.0 c.args.key ks vs c.search.result l.0 l.1 w.2 c.search.ensures c.in-Ok.index c.in-Ok.is in
+    let shape = subst (HasShape _) c.unwrap_leaf.ensures.value c.unwrap_leaf.ensures.shape in
+    omega (arith, low, shape.0, shape.1, c.requires.capacity.most)
+
+pub returns-in-Err-clause-most : goal.returns-in-Err-clause-most
+returns-in-Err-clause-most g c =
+    let w = c.requires.leaf in
+    let ks = c.unwrap_leaf.result.0.now in
+    let vs = c.unwrap_leaf.result.1.now in
+    let l = leaf_lists _ _ w.0 ks vs w.1 c.node.ensures.value c.unwrap_leaf.ensures.value in
+    let low = err_within (g.C.Comparator.order c.args.comp.now) w.0 c.args.key ks vs c.search.result l.0 l.1 w.2 c.search.ensures c.in-Err.index c.in-Err.is in
+    let shape = subst (HasShape _) c.unwrap_leaf.ensures.value c.unwrap_leaf.ensures.shape in
+    omega (arith, low, shape.1, c.requires.capacity.most)

@@ -16,7 +16,7 @@ find_here-requires g t c =
     let slots = c.args.pool.now.nodes in
     let key = c.args.key in
     let s = leaf_at order o g.row.N one slots w.0 w.1 w.2 w.3 c.args.node w.4 key w.5 w.6 w.7 (sym w.8 ∙ c.if-level-eq0.true) in
-    (search rules, (search rules, (s.e ∷ s.es, s.slot_is, s.increasing)))
+    (search rules, (search rules, (c.requires.capacity, (s.e ∷ s.es, s.slot_is, s.increasing))))
 
 pub returns-then-level-eq0-clause-descended : goal.returns-then-level-eq0-clause-descended
 returns-then-level-eq0-clause-descended g t c = λ leaves lower a first b u inc through level_is.

@@ -17,7 +17,7 @@ go_to_child-requires g t c =
     let size = c.args.self.now.size in
     let s = over_spot t0.nodes ms js c.args.level up size w.0 w.1 w.2 w.3 up_is (λ e. omega (arith, e, c.if-level-self.false)) in
     let slot : slice_get t0.nodes (get_or ms (suc c.args.level) 0) ≡ Some (inner_content s.entries) = ap (λ z. slice_get t0.nodes (get_or ms z 0)) (sym up_is) ∙ s.slot_is in
-    (search rules, (search rules, (omega (arith, s.over.height, c.requires.height), (s.entries, slot, omega (arith, s.within)))))
+    (search rules, (search rules, (omega (arith, s.over.height, c.requires.height), (search rules, (s.entries, slot, omega (arith, s.within))))))
 
 pub returns-then-entry-gt0-clause-moved : goal.returns-then-entry-gt0-clause-moved
 returns-then-entry-gt0-clause-moved g t c = λ yes rows list place p.
@@ -83,7 +83,7 @@ go_to_child-requires-then-moved g t c =
     let there = ap (λ z. slice_get t0.nodes z) (get_or_default ms1 up c.index-self-level.result 0 (omega (arith, s.over.height, c.requires.height))) ∙ slot in
     let slot1 : slice_get t0.nodes (get_or ms1 (suc c.args.level) 0) ≡ Some (inner_content (n.e ∷ n.others)) = ap (λ z. slice_get t0.nodes (get_or ms1 z 0)) (sym up_is) ∙ slot in
     let last_is : c.last_index-last.result ≡ length n.others = c.last_index-last.ensures.last (inner_content (n.e ∷ n.others)) there ∙ last_child_is g.row.V.Denot n.e n.others in
-    (search rules, (search rules, (omega (arith, s.over.height, c.requires.height), (n.e ∷ n.others, slot1, omega (arith, last_is)))))
+    (search rules, (search rules, (omega (arith, s.over.height, c.requires.height), (c.last_index-last.ensures.most, (n.e ∷ n.others, slot1, omega (arith, last_is))))))
 
 pub returns-then-moved-clause-moved : goal.returns-then-moved-clause-moved
 returns-then-moved-clause-moved g t c = λ yes rows list place p.

@@ -53,7 +53,7 @@ set_separator-requires g t c =
     let num' = get_or path up c.index-self-up.result in
     let here : num' ≡ get_or path up 0 = get_or_default path up c.index-self-up.result 0 (omega (arith, low)) in
     let slot : slice_get t0.nodes num' ≡ Some (inner_content es) = rw here d.f.slot_is in
-    let cnt : c.entries.result ≡ length es = c.entries.ensures (inner_content es) slot ∙ item_count es in
+    let cnt : c.entries.result ≡ length es = c.entries.ensures.value (inner_content es) slot ∙ item_count es in
     (search rules, (rw here (is_used t0 (get_or path up 0) (inner_content es) d.f.slot_is d.f.none_chain), (drop 1 (entry_keys es), entry_items es, slot, omega (arith, cnt, c.if-index-entries.true, key_count es))))
 
 pub rekey_next-requires : goal.rekey_next-requires
@@ -70,7 +70,7 @@ rekey_next-requires g t c κs within =
     let num' = get_or path up c.index-self-up.result in
     let here : num' ≡ get_or path up 0 = get_or_default path up c.index-self-up.result 0 (omega (arith, low)) in
     let slot : slice_get t0.nodes num' ≡ Some (inner_content es) = rw here d.f.slot_is in
-    let cnt : c.entries.result ≡ length es = c.entries.ensures (inner_content es) slot ∙ item_count es in
+    let cnt : c.entries.result ≡ length es = c.entries.ensures.value (inner_content es) slot ∙ item_count es in
     let less : length es ≤ get_or indices up 0 + 1 = omega (arith, cnt, c.if-index-entries.false) in
     let o = across t0 path indices up size w.0 w.1 w.2 (w.3, w.4) w.5 d less in
     let ab = across_above t0 path indices up size d.q.before o.z o.zs w.2 o.q (w.3, w.4) o.ys o.rest d.q.rest (across_cut t0 path indices up size w.0 w.1 w.2 (w.3, w.4) w.5 d o) d.q.stands in
@@ -90,7 +90,7 @@ returns-then-index-entries g t c = λ rows a x k n b p.
     let num' = get_or path up c.index-self-up.result in
     let here : num' ≡ get_or path up 0 = get_or_default path up c.index-self-up.result 0 (omega (arith, low)) in
     let slot : slice_get t0.nodes num' ≡ Some (inner_content es) = rw here d.f.slot_is in
-    let cnt : c.entries.result ≡ length es = c.entries.ensures (inner_content es) slot ∙ item_count es in
+    let cnt : c.entries.result ≡ length es = c.entries.ensures.value (inner_content es) slot ∙ item_count es in
     rekey_same t0 c.set_separator.new.pool path indices up size rows a x k n b c.args.key d (omega (arith, cnt, c.if-index-entries.true)) (rw here at (c.set_separator.ensures (drop 1 (entry_keys es)) (entry_items es) slot))
 
 pub returns-else-index-entries : goal.returns-else-index-entries
@@ -106,7 +106,7 @@ returns-else-index-entries g t c = λ rows a x k n b p.
     let num' = get_or path up c.index-self-up.result in
     let here : num' ≡ get_or path up 0 = get_or_default path up c.index-self-up.result 0 (omega (arith, low)) in
     let slot : slice_get t0.nodes num' ≡ Some (inner_content es) = rw here d.f.slot_is in
-    let cnt : c.entries.result ≡ length es = c.entries.ensures (inner_content es) slot ∙ item_count es in
+    let cnt : c.entries.result ≡ length es = c.entries.ensures.value (inner_content es) slot ∙ item_count es in
     let less : length es ≤ get_or indices up 0 + 1 = omega (arith, cnt, c.if-index-entries.false) in
     let o = across t0 path indices up size rows a x (k, n) b d less in
     let ab = across_above t0 path indices up size d.q.before o.z o.zs x o.q (k, n) o.ys o.rest d.q.rest (across_cut t0 path indices up size rows a x (k, n) b d o) d.q.stands in

@@ -51,7 +51,7 @@ separator-requires g t c =
     let num' = get_or path up c.index-self-up.result in
     let here : num' ≡ get_or path up 0 = get_or_default path up c.index-self-up.result 0 (omega (arith, low)) in
     let slot : slice_get t0.nodes num' ≡ Some (inner_content es) = rw here d.f.slot_is in
-    let cnt : c.entries.result ≡ length es = c.entries.ensures (inner_content es) slot ∙ item_count es in
+    let cnt : c.entries.result ≡ length es = c.entries.ensures.value (inner_content es) slot ∙ item_count es in
     (search rules, (drop 1 (entry_keys es), entry_items es, slot, omega (arith, cnt, c.if-index-entries.true, key_count es)))
 
 pub child-requires : goal.child-requires
@@ -68,7 +68,7 @@ child-requires g t c =
     let num' = get_or path up c.index-self-up.result in
     let here : num' ≡ get_or path up 0 = get_or_default path up c.index-self-up.result 0 (omega (arith, low)) in
     let slot : slice_get t0.nodes num' ≡ Some (inner_content es) = rw here d.f.slot_is in
-    let cnt : c.entries.result ≡ length es = c.entries.ensures (inner_content es) slot ∙ item_count es in
+    let cnt : c.entries.result ≡ length es = c.entries.ensures.value (inner_content es) slot ∙ item_count es in
     (search rules, (drop 1 (entry_keys es), entry_items es, slot, omega (arith, cnt, c.if-index-entries.true, item_count es)))
 
 pub right_sibling-requires : goal.right_sibling-requires
@@ -114,7 +114,7 @@ returns-then-index-entries g t c = λ rows a x b p.
     let num' = get_or path up c.index-self-up.result in
     let here : num' ≡ get_or path up 0 = get_or_default path up c.index-self-up.result 0 (omega (arith, low)) in
     let slot : slice_get t0.nodes num' ≡ Some (inner_content es) = rw here d.f.slot_is in
-    let cnt : c.entries.result ≡ length es = c.entries.ensures (inner_content es) slot ∙ item_count es in
+    let cnt : c.entries.result ≡ length es = c.entries.ensures.value (inner_content es) slot ∙ item_count es in
     next_within t0 path indices up size rows a x b d c.separator.result c.child.result (omega (arith, cnt, c.if-index-entries.true)) (c.separator.ensures (drop 1 (entry_keys es)) (entry_items es) slot) (c.child.ensures (drop 1 (entry_keys es)) (entry_items es) slot)
 
 pub returns-in-None : goal.returns-in-None
@@ -130,7 +130,7 @@ returns-in-None g t c = λ rows a x b p.
     let num' = get_or path up c.index-self-up.result in
     let here : num' ≡ get_or path up 0 = get_or_default path up c.index-self-up.result 0 (omega (arith, low)) in
     let slot : slice_get t0.nodes num' ≡ Some (inner_content es) = rw here d.f.slot_is in
-    let cnt : c.entries.result ≡ length es = c.entries.ensures (inner_content es) slot ∙ item_count es in
+    let cnt : c.entries.result ≡ length es = c.entries.ensures.value (inner_content es) slot ∙ item_count es in
     let less : length es ≤ get_or indices up 0 + 1 = omega (arith, cnt, c.if-index-entries.false) in
     let u = up_above t0 path indices up size rows a x b d in
     let nx = subst (λ (r : Option (g.row.K.Denot × ℕ)). NextIs r (heads d.q.after)) c.in-None.is (c.right_sibling.ensures d.q.rest (heads d.q.before) (u.k, get_or path up 0) (heads d.q.after) (rw add-one u.above)) in
@@ -149,7 +149,7 @@ returns-in-Some g t c = λ rows a x b p.
     let num' = get_or path up c.index-self-up.result in
     let here : num' ≡ get_or path up 0 = get_or_default path up c.index-self-up.result 0 (omega (arith, low)) in
     let slot : slice_get t0.nodes num' ≡ Some (inner_content es) = rw here d.f.slot_is in
-    let cnt : c.entries.result ≡ length es = c.entries.ensures (inner_content es) slot ∙ item_count es in
+    let cnt : c.entries.result ≡ length es = c.entries.ensures.value (inner_content es) slot ∙ item_count es in
     let less : length es ≤ get_or indices up 0 + 1 = omega (arith, cnt, c.if-index-entries.false) in
     let u = up_above t0 path indices up size rows a x b d in
     let nx = subst (λ (r : Option (g.row.K.Denot × ℕ)). NextIs r (heads d.q.after)) c.in-Some.is (c.right_sibling.ensures d.q.rest (heads d.q.before) (u.k, get_or path up 0) (heads d.q.after) (rw add-one u.above)) in

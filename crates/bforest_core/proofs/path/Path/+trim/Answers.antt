@@ -17,26 +17,26 @@ entries-count-requires g t c =
 pub returns-then-count-gt1-clause-trimmed : goal.returns-then-count-gt1-clause-trimmed
 returns-then-count-gt1-clause-trimmed g t c = λ rows list u.
     let d = top_in _ _ rows list c.args.root u (λ one. c.if-self-eq1.false one) in
-    let counted = c.entries-count.ensures (inner_content d.top.entries) d.slot_is in
+    let counted = c.entries-count.ensures.value (inner_content d.top.entries) d.slot_is in
     ([], trim_stays _ _ rows list c.args.root u d (omega (arith, c.if-count-gt1.true, counted, item_count d.top.entries)))
 
 pub child-only-requires : goal.child-only-requires
 child-only-requires g t c =
     let w = c.requires.rooted in
-    let d = only_in _ _ w.0 w.1 c.args.root c.entries-count.result w.2 (λ one. c.if-self-eq1.false one) c.entries-count.ensures c.if-count-gt1.false in
+    let d = only_in _ _ w.0 w.1 c.args.root c.entries-count.result w.2 (λ one. c.if-self-eq1.false one) c.entries-count.ensures.value c.if-count-gt1.false in
     (search rules, (([], d.x.1 ∷ [], d.slot_is, omega arith)))
 
 pub free_node-requires : goal.free_node-requires
 free_node-requires g t c =
     let w = c.requires.rooted in
-    let d = only_in _ _ w.0 w.1 c.args.root c.entries-count.result w.2 (λ one. c.if-self-eq1.false one) c.entries-count.ensures c.if-count-gt1.false in
+    let d = only_in _ _ w.0 w.1 c.args.root c.entries-count.result w.2 (λ one. c.if-self-eq1.false one) c.entries-count.ensures.value c.if-count-gt1.false in
     (search rules, is_used _ c.args.root (inner_content (d.x ∷ [])) d.slot_is d.none_chain)
 
 pub trim-requires : goal.trim-requires
 trim-requires g t c κs within =
     let w = c.requires.rooted in
     let size = c.args.self.now.size in
-    let d = only_in _ _ w.0 w.1 c.args.root c.entries-count.result w.2 (λ one. c.if-self-eq1.false one) c.entries-count.ensures c.if-count-gt1.false in
+    let d = only_in _ _ w.0 w.1 c.args.root c.entries-count.result w.2 (λ one. c.if-self-eq1.false one) c.entries-count.ensures.value c.if-count-gt1.false in
     let only_is : d.x.1 ≡ c.child-only.result = some_same d.x.1 c.child-only.result (c.child-only.ensures [] (d.x.1 ∷ []) d.slot_is) in
     let next = trim_down _ c.free_node.new.self size (size - 1) w.0 w.1 c.args.root c.child-only.result d only_is c.free_node.ensures.freed refl in
     let less : size - 1 < t = omega (arith, c.decreases, w.2.height) in
@@ -45,7 +45,7 @@ trim-requires g t c κs within =
 pub returns-clause-trimmed : goal.returns-clause-trimmed
 returns-clause-trimmed g t c = λ rows list u.
     let size = c.args.self.now.size in
-    let d = only_in _ _ rows list c.args.root c.entries-count.result u (λ one. c.if-self-eq1.false one) c.entries-count.ensures c.if-count-gt1.false in
+    let d = only_in _ _ rows list c.args.root c.entries-count.result u (λ one. c.if-self-eq1.false one) c.entries-count.ensures.value c.if-count-gt1.false in
     let only_is : d.x.1 ≡ c.child-only.result = some_same d.x.1 c.child-only.result (c.child-only.ensures [] (d.x.1 ∷ []) d.slot_is) in
     let next = trim_down _ c.free_node.new.self size (size - 1) rows list c.args.root c.child-only.result d only_is c.free_node.ensures.freed refl in
     let r = c.trim.ensures.trimmed d.init list next in

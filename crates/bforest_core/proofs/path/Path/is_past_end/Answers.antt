@@ -17,7 +17,7 @@ pub returns-then-self-entries-clause-within : goal.returns-then-self-entries-cla
 returns-then-self-entries-clause-within g c = λ no old tree place l.
     let path = c.args.self.now.node in
     let here : get_or path 0 c.index-self-0.result ≡ get_or path 0 0 = get_or_default path 0 c.index-self-0.result 0 (omega arith) in
-    let counted = c.entries.ensures (leaf_content l.entries) (rw here (loss_slot _ _ _ _ _ _ tree place l)) in
+    let counted = c.entries.ensures.value (leaf_content l.entries) (rw here (loss_slot _ _ _ _ _ _ tree place l)) in
     omega (arith, c.if-self-entries.true, counted, leaf_keys l.entries, length-append l.entries (flat l.after))
 
 pub right_sibling-requires : goal.right_sibling-requires
@@ -33,7 +33,7 @@ returns-clause-past g c = λ yes old tree place l.
     let f = loss_form _ _ _ _ _ _ tree place l in
     let next = c.right_sibling.ensures l.rest (heads l.before) (f.first, get_or path 0 0) (heads l.after) f.above in
     let here : get_or path 0 c.index-self-0.result ≡ get_or path 0 0 = get_or_default path 0 c.index-self-0.result 0 (omega arith) in
-    let counted = c.entries.ensures (leaf_content l.entries) (rw here (loss_slot _ _ _ _ _ _ tree place l)) in
+    let counted = c.entries.ensures.value (leaf_content l.entries) (rw here (loss_slot _ _ _ _ _ _ tree place l)) in
     (loss_none _ _ _ _ _ _ tree place l c.right_sibling.result c.is_none.result c.is_none.ensures yes next, omega (arith, c.if-self-entries.false, counted, leaf_keys l.entries, l.entry_was))
 
 pub returns-clause-within : goal.returns-clause-within

@@ -19,17 +19,17 @@ has_entry-requires g c =
 pub returns-then-has_entry-clause-moved : goal.returns-then-has_entry-clause-moved
 returns-then-has_entry-clause-moved g c = λ yes tree place fit inside s.
     let slot = leaf_slot g.row.N (some_leaf _ c.requires.capacity) c.args.pool.now.nodes c.args.self.now.node c.args.self.now.entry c.args.self.now.size tree place fit inside s in
-    entry_within g.row.N (some_leaf _ c.requires.capacity) c.args.pool.now.nodes c.args.self.now.node c.args.self.now.entry c.args.self.now.size tree place fit inside s c.set_entry.new.self.node c.set_entry.new.self.entry c.set_entry.ensures.nodes c.set_entry.ensures.here c.set_entry.ensures.above ((c.has_entry.ensures s.leaf.entries slot).0 c.if-has_entry.true)
+    entry_within g.row.N (some_leaf _ c.requires.capacity) c.args.pool.now.nodes c.args.self.now.node c.args.self.now.entry c.args.self.now.size tree place fit inside s c.set_entry.new.self.node c.set_entry.new.self.entry c.set_entry.ensures.nodes c.set_entry.ensures.here c.set_entry.ensures.above ((c.has_entry.ensures.within s.leaf.entries slot).0 c.if-has_entry.true)
 
 pub returns-then-moved-clause-moved : goal.returns-then-moved-clause-moved
 returns-then-moved-clause-moved g c = λ yes tree place fit inside s.
     let slot = leaf_slot g.row.N (some_leaf _ c.requires.capacity) c.args.pool.now.nodes c.args.self.now.node c.args.self.now.entry c.args.self.now.size tree place fit inside s in
-    let past = λ (low : get_or c.args.self.now.entry 0 0 + 1 < length s.leaf.entries). false≢true (sym c.if-has_entry.false ∙ (c.has_entry.ensures s.leaf.entries slot).1 low) in
+    let past = λ (low : get_or c.args.self.now.entry 0 0 + 1 < length s.leaf.entries). false≢true (sym c.if-has_entry.false ∙ (c.has_entry.ensures.within s.leaf.entries slot).1 low) in
     let m = c.next_node-moved.ensures.moved c.if-moved.true tree.above (heads tree.leaves) (length s.leaf.before) (over_leaves g.row.N (some_leaf _ c.requires.capacity) c.args.pool.now.nodes c.args.self.now.node c.args.self.now.entry c.args.self.now.size tree place fit inside s) in
     entry_over g.row.N (some_leaf _ c.requires.capacity) c.args.pool.now.nodes c.args.self.now.node c.args.self.now.entry c.args.self.now.size tree place fit inside s c.next_node-moved.new.self.node c.next_node-moved.new.self.entry c.set_entry-then-moved.new.self.node c.set_entry-then-moved.new.self.entry m c.set_entry-then-moved.ensures.nodes c.set_entry-then-moved.ensures.here c.set_entry-then-moved.ensures.above past
 
 pub returns-else-moved-clause-last : goal.returns-else-moved-clause-last
 returns-else-moved-clause-last g c = λ none tree place fit inside s.
     let slot = leaf_slot g.row.N (some_leaf _ c.requires.capacity) c.args.pool.now.nodes c.args.self.now.node c.args.self.now.entry c.args.self.now.size tree place fit inside s in
-    let past = λ (low : get_or c.args.self.now.entry 0 0 + 1 < length s.leaf.entries). false≢true (sym c.if-has_entry.false ∙ (c.has_entry.ensures s.leaf.entries slot).1 low) in
+    let past = λ (low : get_or c.args.self.now.entry 0 0 + 1 < length s.leaf.entries). false≢true (sym c.if-has_entry.false ∙ (c.has_entry.ensures.within s.leaf.entries slot).1 low) in
     entry_last g.row.N (some_leaf _ c.requires.capacity) c.args.pool.now.nodes c.args.self.now.node c.args.self.now.entry c.args.self.now.size tree place fit inside s past (c.next_node-moved.ensures.last c.if-moved.false tree.above (heads tree.leaves) (length s.leaf.before) (over_leaves g.row.N (some_leaf _ c.requires.capacity) c.args.pool.now.nodes c.args.self.now.node c.args.self.now.entry c.args.self.now.size tree place fit inside s))

@@ -18,6 +18,6 @@ returns g c = λ rows a first b p.
     (takes t c.inner_node-root.new.self root content c.inner_node-root.ensures.node c.inner_node-root.ensures.table low)
     (omega arith)
     (get_or-set_same ms size root 0 (omega arith))
-    (get_or-set_same js size c.index_behind.result 0 (omega arith) ∙ c.index_behind.ensures)
+    (get_or-set_same js size c.index_behind.result 0 (omega arith) ∙ c.index_behind.ensures.value)
     (λ i other. get_or-set_other ms size i root 0 other)
     (λ i other. get_or-set_other js size i c.index_behind.result 0 other)

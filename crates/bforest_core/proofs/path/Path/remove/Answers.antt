@@ -32,7 +32,7 @@ remove_leaf-requires g c =
     let d = leaf_at _ _ _ _ _ _ w.1 s in
     let es = d.l ++ d.x ∷ d.r in
     let here : get_or path 0 c.index-self-0.result ≡ get_or path 0 0 = get_or_default path 0 c.index-self-0.result 0 (omega arith) in
-    let counted = c.entries.ensures (leaf_content es) (rw here d.slot_is) in
+    let counted = c.entries.ensures.value (leaf_content es) (rw here d.slot_is) in
     let slot = one_slot es _ (omega (arith, counted, c.if-entries-eq1.true, leaf_keys es)) d.slot_is in
     (search rules, (search rules, (c.requires.capacity, ((tree, w.1, s, root-stands g.row.N tree path _ _ w.1 s.fit s.stands ∙ sym c.root-root.ensures), (slot.0, slot.1)))))
 
@@ -45,7 +45,7 @@ remove_entry-requires g c =
     let d = leaf_at _ _ _ _ _ _ w.1 s in
     let es = d.l ++ d.x ∷ d.r in
     let here : get_or path 0 c.index-self-0.result ≡ get_or path 0 0 = get_or_default path 0 c.index-self-0.result 0 (omega arith) in
-    let counted = c.entries.ensures (leaf_content es) (rw here d.slot_is) in
+    let counted = c.entries.ensures.value (leaf_content es) (rw here d.slot_is) in
     let more : length es ≢ 1 = λ one. c.if-entries-eq1.false (omega (arith, counted, one, leaf_keys es)) in
     let slot = more_slot es _ (omega (arith, length-append d.l (d.x ∷ d.r))) more d.slot_is in
     (search rules, (search rules, (c.requires.capacity, ((tree, w.1, s, root-stands g.row.N tree path _ _ w.1 s.fit s.stands ∙ sym c.root-root.ensures), (slot.0, slot.1, slot.2, slot.3)))))

@@ -73,7 +73,7 @@ returns-then-entry-lt4-clause-halved g c = λ rows a x b p.
     let written = put_done c.put_child-room.result _ c.put_child-room.new.pool _ n _ _ here room (c.put_child-room.ensures.node (drop 1 (entry_keys lefts)) (entry_items lefts) slot) in
     let h = halves_early _ _ c.put_child-room.new.pool n _ e d.q.l x d.q.r _ c.args.key c.args.child d.q.entry_is c.if-entry-lt4.true eight sp written in
     parted_early _ c.put_child-room.new.pool ms js ms (set js up c.index_behind.result) up _ rows a x (c.args.key, c.args.child) b _ _ c.args.moved d eight c.if-entry-lt4.true h
-    (λ i. refl) (λ i other. get_or-set_other js up i c.index_behind.result 0 other) (get_or-set_same js up c.index_behind.result 0 (omega arith) ∙ c.index_behind.ensures)
+    (λ i. refl) (λ i other. get_or-set_other js up i c.index_behind.result 0 other) (get_or-set_same js up c.index_behind.result 0 (omega arith) ∙ c.index_behind.ensures.value)
 
 pub returns-else-entry-lt4-clause-halved : goal.returns-else-entry-lt4-clause-halved
 returns-else-entry-lt4-clause-halved g c = λ rows a x b p.
@@ -95,4 +95,4 @@ returns-else-entry-lt4-clause-halved g c = λ rows a x b p.
     let written = put_done c.put_child-room-else-entry-lt4.result _ c.put_child-room-else-entry-lt4.new.pool _ right _ _ refl room (c.put_child-room-else-entry-lt4.ensures.node (drop 1 (entry_keys rights)) (entry_items rights) asks.0) in
     let h = halves_late _ _ c.put_child-room-else-entry-lt4.new.pool n right e d.q.l x d.q.r _ c.args.key c.args.child d.q.entry_is c.if-entry-lt4.false eight sp written in
     parted_late _ c.put_child-room-else-entry-lt4.new.pool ms js (set ms up right) (set js up index) up _ rows a x (c.args.key, c.args.child) b _ _ c.args.moved d eight c.if-entry-lt4.false h
-    (λ i other. get_or-set_other ms up i right 0 other) (get_or-set_same ms up right 0 (omega arith)) (λ i other. get_or-set_other js up i index 0 other) (get_or-set_same js up index 0 (omega arith) ∙ c.index_behind-else-entry-lt4.ensures)
+    (λ i other. get_or-set_other ms up i right 0 other) (get_or-set_same ms up right 0 (omega arith)) (λ i other. get_or-set_other js up i index 0 other) (get_or-set_same js up index 0 (omega arith) ∙ c.index_behind-else-entry-lt4.ensures.value)

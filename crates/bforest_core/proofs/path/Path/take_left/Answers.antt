@@ -37,7 +37,7 @@ separator-key-requires g c =
     let num = get_or c.args.self.now.node c.args.up 0 in
     let num' = get_or c.args.self.now.node c.args.up c.index-self-up.result in
     let here : num' ≡ num = get_or_default c.args.self.now.node c.args.up c.index-self-up.result 0 (omega arith) in
-    let cnt : c.entries.result ≡ length es = c.entries.ensures (inner_content es) (rw here d.f.slot_is) ∙ item_count es in
+    let cnt : c.entries.result ≡ length es = c.entries.ensures.value (inner_content es) (rw here d.f.slot_is) ∙ item_count es in
     (search rules, (drop 1 (entry_keys es), entry_items es, rw here d.f.slot_is, omega (arith, cnt, c.if-index-entries.true, c.saturating_sub.ensures, key_count es)))
 
 pub set_separator-requires : goal.set_separator-requires
@@ -50,7 +50,7 @@ set_separator-requires g c =
     let num = get_or c.args.self.now.node c.args.up 0 in
     let num' = get_or c.args.self.now.node c.args.up c.index-self-up.result in
     let here : num' ≡ num = get_or_default c.args.self.now.node c.args.up c.index-self-up.result 0 (omega arith) in
-    let cnt : c.entries.result ≡ length es = c.entries.ensures (inner_content es) (rw here d.f.slot_is) ∙ item_count es in
+    let cnt : c.entries.result ≡ length es = c.entries.ensures.value (inner_content es) (rw here d.f.slot_is) ∙ item_count es in
     (search rules, (rw here (is_used t num (inner_content es) d.f.slot_is d.f.none_chain), (drop 1 (entry_keys es), entry_items es, rw here d.f.slot_is, omega (arith, cnt, c.if-index-entries.true, key_count es))))
 
 pub remove_child-answer-requires : goal.remove_child-answer-requires
@@ -64,7 +64,7 @@ remove_child-answer-requires g c =
     let num' = get_or c.args.self.now.node c.args.up c.index-self-up.result in
     let here : num' ≡ num = get_or_default c.args.self.now.node c.args.up c.index-self-up.result 0 (omega arith) in
     let slot : slice_get t.nodes num' ≡ Some (inner_content es) = rw here d.f.slot_is in
-    let cnt : c.entries.result ≡ length es = c.entries.ensures (inner_content es) slot ∙ item_count es in
+    let cnt : c.entries.result ≡ length es = c.entries.ensures.value (inner_content es) slot ∙ item_count es in
     let one = puts t c.set_separator.new.pool num' (with_key (inner_content es) (get_or c.args.self.now.entry c.args.up 0) c.separator-key.result) (inner_content es) slot (c.set_separator.ensures (drop 1 (entry_keys es)) (entry_items es) slot) in
     let none : count num' t.chain ≡ 0 = rw here d.f.none_chain in
     (search rules, (is_used c.set_separator.new.pool num' (with_key (inner_content es) (get_or c.args.self.now.entry c.args.up 0) c.separator-key.result) one.here (ap (λ z. count num' z) one.chain_is ∙ none), (set (drop 1 (entry_keys es)) (get_or c.args.self.now.entry c.args.up 0) c.separator-key.result, entry_items es, one.here, omega (arith, cnt, c.if-index-entries.true, item_count es))))
@@ -78,7 +78,7 @@ overflow_sub-index g c =
     let num = get_or c.args.self.now.node c.args.up 0 in
     let num' = get_or c.args.self.now.node c.args.up c.index-self-up.result in
     let here : num' ≡ num = get_or_default c.args.self.now.node c.args.up c.index-self-up.result 0 (omega arith) in
-    let cnt : c.entries.result ≡ length es = c.entries.ensures (inner_content es) (rw here d.f.slot_is) ∙ item_count es in
+    let cnt : c.entries.result ≡ length es = c.entries.ensures.value (inner_content es) (rw here d.f.slot_is) ∙ item_count es in
     let o = across _ _ _ _ _ w.0 w.1 (w.2, w.3) (w.4, w.5) w.6 d (omega (arith, cnt, c.if-index-entries.false)) in
     omega (arith, ap length o.l_is, d.q.entry_is)
 
@@ -91,7 +91,7 @@ separator-key-requires-else-index-entries g c =
     let num = get_or c.args.self.now.node c.args.up 0 in
     let num' = get_or c.args.self.now.node c.args.up c.index-self-up.result in
     let here : num' ≡ num = get_or_default c.args.self.now.node c.args.up c.index-self-up.result 0 (omega arith) in
-    let cnt : c.entries.result ≡ length es = c.entries.ensures (inner_content es) (rw here d.f.slot_is) ∙ item_count es in
+    let cnt : c.entries.result ≡ length es = c.entries.ensures.value (inner_content es) (rw here d.f.slot_is) ∙ item_count es in
     let o = across _ _ _ _ _ w.0 w.1 (w.2, w.3) (w.4, w.5) w.6 d (omega (arith, cnt, c.if-index-entries.false)) in
     (search rules, (drop 1 (entry_keys es), entry_items es, rw here d.f.slot_is, omega (arith, d.count_is, key_count es, ap length o.l_is, d.q.entry_is)))
 
@@ -105,7 +105,7 @@ rekey_next-requires g c =
     let num = get_or c.args.self.now.node c.args.up 0 in
     let num' = get_or c.args.self.now.node c.args.up c.index-self-up.result in
     let here : num' ≡ num = get_or_default c.args.self.now.node c.args.up c.index-self-up.result 0 (omega arith) in
-    let cnt : c.entries.result ≡ length es = c.entries.ensures (inner_content es) (rw here d.f.slot_is) ∙ item_count es in
+    let cnt : c.entries.result ≡ length es = c.entries.ensures.value (inner_content es) (rw here d.f.slot_is) ∙ item_count es in
     let o = across _ _ _ _ _ w.0 w.1 (w.2, w.3) (w.4, w.5) w.6 d (omega (arith, cnt, c.if-index-entries.false)) in
     let ab = across_above t c.args.self.now.node c.args.self.now.entry c.args.up c.args.self.now.size d.q.before o.z o.zs (w.2, w.3) o.q (w.4, w.5) o.ys o.rest d.q.rest (across_cut _ _ _ _ _ w.0 w.1 (w.2, w.3) (w.4, w.5) w.6 d o) d.q.stands in
     (search rules, (search rules, (c.requires.height, (d.q.rest, heads d.q.before, (o.z.0, num), w.4, o.q, heads o.rest, rw add-one ab))))
@@ -120,7 +120,7 @@ remove_child-answer-requires-else-index-entries g c =
     let num = get_or c.args.self.now.node c.args.up 0 in
     let num' = get_or c.args.self.now.node c.args.up c.index-self-up.result in
     let here : num' ≡ num = get_or_default c.args.self.now.node c.args.up c.index-self-up.result 0 (omega arith) in
-    let cnt : c.entries.result ≡ length es = c.entries.ensures (inner_content es) (rw here d.f.slot_is) ∙ item_count es in
+    let cnt : c.entries.result ≡ length es = c.entries.ensures.value (inner_content es) (rw here d.f.slot_is) ∙ item_count es in
     let o = across _ _ _ _ _ w.0 w.1 (w.2, w.3) (w.4, w.5) w.6 d (omega (arith, cnt, c.if-index-entries.false)) in
     let ab = across_above t c.args.self.now.node c.args.self.now.entry c.args.up c.args.self.now.size d.q.before o.z o.zs (w.2, w.3) o.q (w.4, w.5) o.ys o.rest d.q.rest (across_cut _ _ _ _ _ w.0 w.1 (w.2, w.3) (w.4, w.5) w.6 d o) d.q.stands in
     let reb = c.rekey_next.ensures d.q.rest (heads d.q.before) (o.z.0, num) w.4 o.q (heads o.rest) (rw add-one ab) in
@@ -137,7 +137,7 @@ returns-then-index-entries g c = λ rows a k m k2 n b p.
     let num' = get_or c.args.self.now.node c.args.up c.index-self-up.result in
     let here : num' ≡ num = get_or_default c.args.self.now.node c.args.up c.index-self-up.result 0 (omega arith) in
     let slot : slice_get t.nodes num' ≡ Some (inner_content es) = rw here d.f.slot_is in
-    let cnt : c.entries.result ≡ length es = c.entries.ensures (inner_content es) slot ∙ item_count es in
+    let cnt : c.entries.result ≡ length es = c.entries.ensures.value (inner_content es) slot ∙ item_count es in
     let s_is = c.set_separator.ensures (drop 1 (entry_keys es)) (entry_items es) slot in
     let one = puts t c.set_separator.new.pool num' (with_key (inner_content es) (get_or c.args.self.now.entry c.args.up 0) c.separator-key.result) (inner_content es) slot s_is in
     let u_is = c.remove_child-answer.ensures.node (set (drop 1 (entry_keys es)) (get_or c.args.self.now.entry c.args.up 0) c.separator-key.result) (entry_items es) one.here in
@@ -154,7 +154,7 @@ returns-else-index-entries g c = λ rows a k m k2 n b p.
     let num' = get_or c.args.self.now.node c.args.up c.index-self-up.result in
     let here : num' ≡ num = get_or_default c.args.self.now.node c.args.up c.index-self-up.result 0 (omega arith) in
     let slot : slice_get t.nodes num' ≡ Some (inner_content es) = rw here d.f.slot_is in
-    let cnt : c.entries.result ≡ length es = c.entries.ensures (inner_content es) slot ∙ item_count es in
+    let cnt : c.entries.result ≡ length es = c.entries.ensures.value (inner_content es) slot ∙ item_count es in
     let o = across _ _ _ _ _ rows a (k, m) (k2, n) b d (omega (arith, cnt, c.if-index-entries.false)) in
     let ab = across_above t c.args.self.now.node c.args.self.now.entry c.args.up c.args.self.now.size d.q.before o.z o.zs (k, m) o.q (k2, n) o.ys o.rest d.q.rest (across_cut _ _ _ _ _ rows a (k, m) (k2, n) b d o) d.q.stands in
     let reb = c.rekey_next.ensures d.q.rest (heads d.q.before) (o.z.0, num) k2 o.q (heads o.rest) (rw add-one ab) in

@@ -20,7 +20,7 @@ look_up-requires g t c =
     let slots = c.args.self.now.nodes in
     let key = c.args.key in
     let s = leaf_case order o g.row.N one slots w.0 w.1 w.2 w.3 c.args.node w.4 key w.5 w.6 w.7 c.node.result.now c.node.ensures.value (λ i. false≢true (sym c.if-not-is_inner.true ∙ c.is_inner.ensures.inner.1 i)) in
-    (search rules, (s.e ∷ s.es, s.slot_is, s.increasing))
+    (search rules, (c.requires.capacity, (s.e ∷ s.es, s.slot_is, s.increasing)))
 
 pub returns-then-not-is_inner : goal.returns-then-not-is_inner
 returns-then-not-is_inner g t c = λ leaves lower a first b u inc through.
