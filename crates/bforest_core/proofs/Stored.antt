@@ -1,7 +1,7 @@
 -- Nodes as their slots hold them: with one child or entry more, and cut.
 use Rattle.std.proofs.Common.{◌≡◌, ℕ, zero, suc, ◌+◌, ◌-◌, ◌≤◌, List, [], ◌∷◌, ◌++◌, map, length, take, drop, insert, slice_get, Some, refl, sym, ap, ◌∙◌, append_assoc, length-append, arith}
 use Rattle.std.proofs.lemmas.List.{length-map, map-append, take_at, drop_at, length-drop}
-use Rattle.bforest_nodes.specs.Content.{Content, Inner, Leaf, Free, IsFree, IsCut, entry_count, with_child, with_entry}
+use Rattle.bforest_nodes.specs.Content.{Content, Inner, Leaf, Free, IsFree, IsInner, IsCut, children_of, entry_count, with_child, with_entry}
 use Rattle.bforest_core.specs.Place.{inner_content, leaf_content, entry_keys, entry_items}
 
 pub some_same : {A : Type 0} → (x y : A) → Some x ≡ Some y → x ≡ y
@@ -52,6 +52,23 @@ pub not_free : {K V : Type 0} → (content : Content K V) → 1 ≤ entry_count 
 not_free (Inner keys children) some free = free
 not_free (Leaf keys vals) some free = free
 not_free (Free next) some free = omega (arith, some)
+
+-- nor is an inner node, which has as many entries as children
+pub inner_used : {K V : Type 0} → (content : Content K V) → IsInner content → IsFree content → ⊥
+inner_used (Inner keys children) inner free = free
+inner_used (Leaf keys vals) inner free = free
+inner_used (Free next) inner free = inner
+
+pub inner_entries : {K V : Type 0} → (content : Content K V) → IsInner content → entry_count content ≡ length (children_of content)
+inner_entries (Inner keys children) inner = refl
+inner_entries (Leaf keys vals) inner = elim inner [ ]
+inner_entries (Free next) inner = elim inner [ ]
+
+-- any other has no children
+pub childless : {K V : Type 0} → (content : Content K V) → (IsInner content → ⊥) → 0 ≡ length (children_of content)
+childless (Inner keys children) other = absurd (other tt)
+childless (Leaf keys vals) other = refl
+childless (Free next) other = refl
 
 module _ {K : Type 0} (V : Type 0) where
   -- a child put in behind another

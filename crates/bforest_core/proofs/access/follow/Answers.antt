@@ -1,10 +1,10 @@
-use Rattle.std.proofs.Common.{Some, ap, arith, length, not, refl, slice_get, subst, sym, ◌<◌, ◌∙◌, ◌≡◌}
+use Rattle.std.proofs.Common.{rules, Some, ap, arith, length, not, refl, slice_get, subst, sym, ◌<◌, ◌∙◌, ◌≡◌}
 use Rattle.std.proofs.lemmas.List.Sums.{count_by-le-length}
-use Rattle.std.proofs.lemmas.Option.{slice_get_read}
+use Rattle.std.proofs.lemmas.Option.{slice_get_read, slice_get_within}
 use Rattle.std.specs.List.Sorted.{IsStrictlySortedBy}
 use Rattle.std.specs.Ordering.{is_gt}
-use Rattle.bforest_nodes.specs.Content.{HasShape, Inner}
-use Rattle.bforest_core.proofs.Stored.{some_same}
+use Rattle.bforest_nodes.specs.Content.{HasShape, Inner, IsInner}
+use Rattle.bforest_core.proofs.Stored.{read_same, some_same}
 use Rattle.bforest_core.proofs.access.follow.Goals as goal
 
 -- the child behind all separators that are not greater is there
@@ -37,3 +37,11 @@ returns-clause-most g c =
     let least = count_by-le-length (λ x. not (is_gt (order x c.args.key))) separators in
     let shape = subst (HasShape _) c.unwrap_inner.ensures.value c.unwrap_inner.ensures.shape in
     omega (arith, least, shape.0, shape.1, counted)
+
+pub node-requires : goal.node-requires
+node-requires g c = (search rules, (search rules, slice_get_within c.args.pool.now.nodes c.args.node (Inner c.requires.inner.0 c.requires.inner.1) c.requires.inner.2))
+
+pub unwrap_inner-requires : goal.unwrap_inner-requires
+unwrap_inner-requires g c =
+    let w = c.requires.inner in
+    (search rules, subst IsInner (sym (read_same c.args.pool.now.nodes c.args.node (Inner w.0 w.1) c.node.result.now w.2 c.node.ensures.value)) tt)

@@ -1,6 +1,8 @@
-use Rattle.std.proofs.Common.{length, refl, subst, arith}
-use Rattle.std.proofs.lemmas.Option.{slice_get_read}
-use Rattle.bforest_nodes.specs.Content.{HasShape}
+use Rattle.std.proofs.Common.{rules, length, refl, sym, subst, arith}
+use Rattle.std.proofs.lemmas.Option.{slice_get_read, slice_get_within}
+use Rattle.bforest_nodes.specs.Content.{HasShape, IsLeaf}
+use Rattle.bforest_core.specs.Place.{leaf_content}
+use Rattle.bforest_core.proofs.Stored.{read_same}
 use Rattle.bforest_core.proofs.LeafSearch.{leaf_lists, increasing_same, ok_place, ok_within, ok_value, err_place, err_within, err_value}
 use Rattle.bforest_core.proofs.access.look_up.Goals as goal
 
@@ -85,3 +87,11 @@ returns-in-Err-clause-most g c =
     let low = err_within (g.C.Comparator.order c.args.comp.now) w.0 c.args.key ks vs c.search.result l.0 l.1 w.2 c.search.ensures c.in-Err.index c.in-Err.is in
     let shape = subst (HasShape _) c.unwrap_leaf.ensures.value c.unwrap_leaf.ensures.shape in
     omega (arith, low, shape.1, c.requires.capacity.most)
+
+pub node-requires : goal.node-requires
+node-requires g c = (search rules, (search rules, slice_get_within c.args.pool.now.nodes c.args.node (leaf_content c.requires.leaf.0) c.requires.leaf.1))
+
+pub unwrap_leaf-requires : goal.unwrap_leaf-requires
+unwrap_leaf-requires g c =
+    let w = c.requires.leaf in
+    (search rules, subst IsLeaf (sym (read_same c.args.pool.now.nodes c.args.node (leaf_content w.0) c.node.result.now w.1 c.node.ensures.value)) tt)

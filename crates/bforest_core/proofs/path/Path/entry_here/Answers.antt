@@ -1,6 +1,7 @@
-use Rattle.std.proofs.Common.{◌≡◌, get_or, slice_get, sym, ap, ◌∙◌, arith}
-use Rattle.std.proofs.lemmas.List.{get_or_default}
-use Rattle.bforest_nodes.specs.Content.{keys_of, vals_of}
+use Rattle.std.proofs.Common.{rules, ◌≡◌, ◌<◌, subst, get_or, slice_get, sym, ap, ◌∙◌, arith}
+use Rattle.std.proofs.lemmas.List.{get_or_default, length-map}
+use Rattle.std.proofs.lemmas.Option.{slice_get_within}
+use Rattle.bforest_nodes.specs.Content.{IsLeaf, entry_count, keys_of, vals_of}
 use Rattle.bforest_core.specs.Place.{leaf_content}
 use Rattle.bforest_core.proofs.Entered.{pair_read}
 use Rattle.bforest_core.proofs.Stored.{some_same}
@@ -12,3 +13,15 @@ returns g c = λ es slot.
     let content : c.node.result.now ≡ leaf_content es = some_same c.node.result.now (leaf_content es) (sym c.node.ensures.value ∙ ap (λ z. slice_get c.args.pool.now.nodes z) here ∙ slot) in
     let i = get_or c.args.self.now.entry 0 0 in
     pair_read es i c.entry.result.0 c.entry.result.1 (ap (λ z. slice_get (keys_of z) i) (sym content) ∙ c.entry.ensures.key) (ap (λ z. slice_get (vals_of z) i) (sym content) ∙ c.entry.ensures.value)
+
+pub node-requires : goal.node-requires
+node-requires g c =
+    let here : get_or c.args.self.now.node 0 c.index-self-0.result ≡ get_or c.args.self.now.node 0 0 = get_or_default c.args.self.now.node 0 c.index-self-0.result 0 (omega arith) in
+    (search rules, (search rules, rw here (slice_get_within c.args.pool.now.nodes (get_or c.args.self.now.node 0 0) (leaf_content c.requires.0) c.requires.1)))
+
+pub entry-requires : goal.entry-requires
+entry-requires g c =
+    let w = c.requires in
+    let here : get_or c.args.self.now.node 0 c.index-self-0.result ≡ get_or c.args.self.now.node 0 0 = get_or_default c.args.self.now.node 0 c.index-self-0.result 0 (omega arith) in
+    let content : c.node.result.now ≡ leaf_content w.0 = some_same c.node.result.now (leaf_content w.0) (sym c.node.ensures.value ∙ ap (λ z. slice_get c.args.pool.now.nodes z) here ∙ w.1) in
+    (search rules, (subst IsLeaf (sym content) tt, subst (λ z. get_or c.args.self.now.entry 0 0 < entry_count z) (sym content) (subst (λ z. get_or c.args.self.now.entry 0 0 < z) (sym (length-map w.0 (λ (e : g.row.K.Denot × g.row.V.Denot). e.0))) w.2)))

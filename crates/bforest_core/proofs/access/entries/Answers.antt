@@ -1,0 +1,21 @@
+use Rattle.std.proofs.Common.{rules, sym, ap, subst, ◌∙◌, arith}
+use Rattle.std.proofs.lemmas.Option.{slice_get_within}
+use Rattle.bforest_nodes.specs.Content.{IsFree, entry_count}
+use Rattle.bforest_core.proofs.Stored.{read_same}
+use Rattle.bforest_core.proofs.access.entries.Goals as goal
+
+pub node-requires : goal.node-requires
+node-requires g c = (search rules, (search rules, slice_get_within c.args.pool.now.nodes c.args.node c.requires.0 c.requires.1))
+
+pub entries-requires : goal.entries-requires
+entries-requires g c =
+    let w = c.requires in
+    let is = read_same c.args.pool.now.nodes c.args.node w.0 c.node.result.now w.1 c.node.ensures.value in
+    (search rules, λ free. w.2 (subst IsFree is free))
+
+pub returns-clause-value : goal.returns-clause-value
+returns-clause-value g c = λ content slot.
+    c.entries.ensures.value ∙ ap entry_count (read_same c.args.pool.now.nodes c.args.node content c.node.result.now slot c.node.ensures.value)
+
+pub returns-clause-most : goal.returns-clause-most
+returns-clause-most g c = c.entries.ensures.most

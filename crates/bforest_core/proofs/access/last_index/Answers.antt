@@ -1,0 +1,27 @@
+use Rattle.std.proofs.Common.{rules, ap, subst, ◌≡◌, ◌≤◌, ◌-◌, ◌∙◌, arith}
+use Rattle.std.proofs.lemmas.Option.{slice_get_within}
+use Rattle.bforest_nodes.specs.Content.{IsFree, entry_count}
+use Rattle.bforest_core.proofs.Stored.{read_same, not_free}
+use Rattle.bforest_core.proofs.access.last_index.Goals as goal
+
+pub node-requires : goal.node-requires
+node-requires g c = (search rules, (search rules, slice_get_within c.args.pool.now.nodes c.args.node c.requires.some.0 c.requires.some.1))
+
+pub entries-requires : goal.entries-requires
+entries-requires g c =
+    let w = c.requires.some in
+    let is = read_same c.args.pool.now.nodes c.args.node w.0 c.node.result.now w.1 c.node.ensures.value in
+    (search rules, λ free. not_free w.0 w.2 (subst IsFree is free))
+
+pub overflow_sub-result : goal.overflow_sub-result
+overflow_sub-result g c =
+    let w = c.requires.some in
+    let is = read_same c.args.pool.now.nodes c.args.node w.0 c.node.result.now w.1 c.node.ensures.value in
+    omega (arith, w.2, c.entries.ensures.value, ap entry_count is)
+
+pub returns-clause-last : goal.returns-clause-last
+returns-clause-last g c = λ content slot.
+    ap (λ z. z - 1) (c.entries.ensures.value ∙ ap entry_count (read_same c.args.pool.now.nodes c.args.node content c.node.result.now slot c.node.ensures.value))
+
+pub returns-clause-most : goal.returns-clause-most
+returns-clause-most g c = omega (arith, c.entries.ensures.most)

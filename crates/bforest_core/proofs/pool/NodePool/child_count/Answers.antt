@@ -1,0 +1,21 @@
+use Rattle.std.proofs.Common.{rules, length, sym, ap, ◌∙◌}
+use Rattle.std.proofs.lemmas.Bool.{false≢true}
+use Rattle.bforest_nodes.specs.Content.{IsInner, children_of}
+use Rattle.bforest_core.proofs.Stored.{read_same, inner_used, inner_entries, childless}
+use Rattle.bforest_core.proofs.pool.NodePool.child_count.Goals as goal
+
+pub node-node-requires : goal.node-node-requires
+node-node-requires g c = (search rules, (search rules, c.requires))
+
+pub entries-requires : goal.entries-requires
+entries-requires g c = (search rules, inner_used c.node-node.result.now (c.is_inner.ensures.inner.0 c.if-is_inner.true))
+
+pub returns-then-is_inner : goal.returns-then-is_inner
+returns-then-is_inner g c = λ content slot.
+    c.entries.ensures.value ∙ inner_entries c.node-node.result.now (c.is_inner.ensures.inner.0 c.if-is_inner.true)
+    ∙ ap (λ z. length (children_of z)) (read_same c.args.self.now.nodes c.args.node content c.node-node.result.now slot c.node-node.ensures.value)
+
+pub returns-else-is_inner : goal.returns-else-is_inner
+returns-else-is_inner g c = λ content slot.
+    childless c.node-node.result.now (λ inner. false≢true (sym c.if-is_inner.false ∙ c.is_inner.ensures.inner.1 inner))
+    ∙ ap (λ z. length (children_of z)) (read_same c.args.self.now.nodes c.args.node content c.node-node.result.now slot c.node-node.ensures.value)
