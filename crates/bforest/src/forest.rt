@@ -105,7 +105,7 @@ impl<K: Copy, V: Copy> MapForest<K, V> {
     pub fn holds(&self, map: &Map<K, V>) -> bool
         ensures live { IsTrue result ↔ IsLive self.now map.now }
     {
-        match map.root {
+        match map.root() {
             Some(root) => self.pool.is_root(root),
             None => true,
         }

@@ -11,7 +11,7 @@ ghost use Rattle.std.specs.Prelude.{IfOk, IsOk, IsSome, IsTrue, None, OnErr, OnO
 use crate::forest::MapForest;
 use crate::map_iter::MapIter;
 use crate::predicate::Asked;
-use bforest_core::{Comparator, Node, OutOfMemory};
+use bforest_core::{Comparator, Node, OutOfMemory, PackedNode};
 use std::cmp::Ordering;
 use std::default::Default;
 use std::marker::{Model, PhantomData};
@@ -23,7 +23,7 @@ use std::marker::{Model, PhantomData};
 /// [`Map::increases`] tests. Dropping a handle ends no tree.
 #[derive(Drop)]
 pub struct Map<K: Copy, V: Copy> {
-    pub(crate) root: Option<Node>,
+    root: PackedNode,
     mark: PhantomData<(K, V)>,
 }
 
@@ -54,9 +54,26 @@ impl<K: Copy, V: Copy> Map<K, V> {
             → IsIncreasing order (list_of forest result) }
     {
         Map {
-            root: None,
+            root: PackedNode::none(),
             mark: PhantomData,
         }
+    }
+
+    /// The number of the map's tree, if it has one.
+    pub(crate) fn root(&self) -> Option<Node>
+        ensures { result ≡ self.now }
+    {
+        self.root.expand()
+    }
+
+    // Names another tree, or none.
+    fn set_root(&mut self, root: Option<Node>)
+        ensures { self.new ≡ root }
+    {
+        self.root = match root {
+            Some(root) => PackedNode::some(root),
+            None => PackedNode::none(),
+        };
     }
 
     /// The same handle once more, which names the same tree. No entry is copied.
@@ -85,7 +102,7 @@ impl<K: Copy, V: Copy> Map<K, V> {
         requires increasing { IsIncreasing (C.order comp.now) (list_of forest.now self.now) }
         ensures value { result ≡ value_for (C.order comp.now) (list_of forest.now self.now) key }
     {
-        match self.root {
+        match self.root() {
             Some(root) => forest.get(root, key, comp),
             None => None,
         }
@@ -176,15 +193,15 @@ impl<K: Copy, V: Copy> Map<K, V> {
         ensures refused_forest { OnErr result (forest.new ≡ forest.old) }
         ensures refused_handle { OnErr result (self.new ≡ self.old) }
     {
-        match self.root {
+        match self.root() {
             Some(root) => {
                 let (root, old) = forest.put(root, key, value, comp)?;
-                self.root = Some(root);
+                self.set_root(Some(root));
                 Ok(old)
             }
             None => {
                 let root = forest.plant(key, value)?;
-                self.root = Some(root);
+                self.set_root(Some(root));
                 Ok(None)
             }
         }
@@ -215,10 +232,10 @@ impl<K: Copy, V: Copy> Map<K, V> {
         ensures absent_forest { result ≡ None → forest.new ≡ forest.old }
         ensures absent_handle { result ≡ None → self.new ≡ self.old }
     {
-        match self.root {
+        match self.root() {
             Some(root) => {
                 let (root, value) = forest.cut(root, key, comp);
-                self.root = root;
+                self.set_root(root);
                 value
             }
             None => None,
@@ -233,9 +250,9 @@ impl<K: Copy, V: Copy> Map<K, V> {
         ensures cleared { Becomes forest.old self.old forest.new self.new [] }
         ensures account { Gives (sizes_of forest.old self.old) [] forest.old forest.new }
     {
-        if let Some(root) = self.root {
+        if let Some(root) = self.root() {
             forest.end(root);
-            self.root = None;
+            self.set_root(None);
         }
     }
 
@@ -261,8 +278,9 @@ impl<K: Copy, V: Copy> Map<K, V> {
             → IsIncreasing order (list_of forest.old self.old)
             → IsIncreasing order (list_of forest.new self.new) }
     {
-        if let Some(root) = self.root {
-            self.root = forest.retain(root, Asked { predicate });
+        if let Some(root) = self.root() {
+            let root = forest.retain(root, Asked { predicate });
+            self.set_root(root);
         }
     }
 
@@ -276,7 +294,7 @@ impl<K: Copy, V: Copy> Map<K, V> {
         ensures depth { 2 ≤ result → 4 ^ (result - 1) < length (list_of forest.now self.now) }
         ensures leaves { length (first_level (sizes_of forest.now self.now)) ≤ (length (list_of forest.now self.now) + 3) / 4 }
     {
-        match self.root {
+        match self.root() {
             Some(root) => forest.levels(root),
             None => 0,
         }

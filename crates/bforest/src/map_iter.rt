@@ -41,7 +41,7 @@ impl<'a, K: Copy, V: Copy> MapIter<'a, K, V> {
             pool,
             path: Path::default(),
         };
-        if let Some(root) = map.root {
+        if let Some(root) = map.root() {
             iter.path.first(root, pool);
         }
         iter

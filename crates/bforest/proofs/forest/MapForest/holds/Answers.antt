@@ -7,7 +7,7 @@ pub returns-in-Some : goal.returns-in-Some
 returns-in-Some g c =
     let p = c.self.inside.pool in
     let r = c.in-Some.root in
-    let handle : Some r ≡ c.args.map.now = sym c.in-Some.is ∙ c.map.view_is in
+    let handle : Some r ≡ c.args.map.now = sym c.in-Some.is ∙ c.root.ensures in
     let here : IsTrue c.is_root.result ↔ IsLive p (Some r) = (
       λ t. root-live p r c.self.invariant (sym c.is_root.ensures.value ∙ t),
       λ live. c.is_root.ensures.value ∙ live-root p r live,

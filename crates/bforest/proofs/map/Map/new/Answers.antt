@@ -3,4 +3,4 @@ use Rattle.bforest.proofs.map.Map.new.Goals as goal
 use Rattle.std.proofs.Common.{None}
 
 pub returns-clause-increasing : goal.returns-clause-increasing
-returns-clause-increasing g c = λ forest order. alone order None
+returns-clause-increasing g c = λ forest order. rw c.none.ensures.none (alone order None)

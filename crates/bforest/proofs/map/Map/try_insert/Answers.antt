@@ -12,18 +12,19 @@ pub returns-in_ok-root-in-Some-clause-same_number : goal.returns-in_ok-root-in-S
 returns-in_ok-root-in-Some-clause-same_number g c =
     let cmp = g.C.Comparator.order c.args.comp.now in
     let f = c.args.forest.now in
-    let handle : c.args.self.now ≡ Some c.in-Some.root = sym c.self.view_is ∙ c.in-Some.is in
+    let handle : c.args.self.now ≡ Some c.in-Some.root = sym c.root.ensures ∙ c.in-Some.is in
     let told = c.in_ok-root-in-Some.ensures in
     λ is.
     let here = present-told cmp (list_at f c.in-Some.root) c.args.key (sym (ap is_some told.ok) ∙ is) in
-    ap Some (told.same_root.1 (ap length (sizes-kept cmp f (Some c.in-Some.root) c.args.key here))) ∙ sym handle
+    c.set_root.ensures ∙ ap Some (told.same_root.1 (ap length (sizes-kept cmp f (Some c.in-Some.root) c.args.key here))) ∙ sym handle
 
 pub returns-in_ok-root-in-Some-clause-same_levels : goal.returns-in_ok-root-in-Some-clause-same_levels
 returns-in_ok-root-in-Some-clause-same_levels g c =
     let cmp = g.C.Comparator.order c.args.comp.now in
     let f = c.args.forest.now in
-    let handle : c.args.self.now ≡ Some c.in-Some.root = sym c.self.view_is ∙ c.in-Some.is in
-    let told = c.in_ok-root-in-Some.ensures in (
+    let handle : c.args.self.now ≡ Some c.in-Some.root = sym c.root.ensures ∙ c.in-Some.is in
+    let told = c.in_ok-root-in-Some.ensures in
+    rw c.set_root.ensures (
       λ same. ap length told.sizes ∙ told.same_root.0 (let e : Some c.in_ok-root-in-Some.root ≡ Some c.in-Some.root = same ∙ handle in some_same c.in_ok-root-in-Some.root c.in-Some.root e) ∙ ap (λ h. length (sizes_of f h)) (sym handle),
       λ e. ap Some (told.same_root.1 (sym (ap length told.sizes) ∙ e ∙ ap (λ h. length (sizes_of f h)) handle)) ∙ sym handle,
     )
@@ -32,17 +33,18 @@ pub returns-in_ok-root-in-Some-clause-increasing : goal.returns-in_ok-root-in-So
 returns-in_ok-root-in-Some-clause-increasing g c =
     let cmp = g.C.Comparator.order c.args.comp.now in
     let f = c.args.forest.now in
-    let handle : c.args.self.now ≡ Some c.in-Some.root = sym c.self.view_is ∙ c.in-Some.is in
+    let handle : c.args.self.now ≡ Some c.in-Some.root = sym c.root.ensures ∙ c.in-Some.is in
     let told = c.in_ok-root-in-Some.ensures in
-    subst (IsIncreasing cmp) (sym told.put.list)
+    rw c.set_root.ensures
+    (subst (IsIncreasing cmp) (sym told.put.list)
     (IsIncreasing-put cmp (g.met.C.Comparator.total c.args.comp.now) (list_at f c.in-Some.root) c.args.key c.args.value
-    (subst (λ (h : Option ℕ). IsIncreasing cmp (list_of f h)) handle c.requires.increasing))
+    (subst (λ (h : Option ℕ). IsIncreasing cmp (list_of f h)) handle c.requires.increasing)))
 
 pub returns-in_ok-root-in-Some-clause-full : goal.returns-in_ok-root-in-Some-clause-full
 returns-in_ok-root-in-Some-clause-full g c =
     let cmp = g.C.Comparator.order c.args.comp.now in
     let f = c.args.forest.now in
-    let handle : c.args.self.now ≡ Some c.in-Some.root = sym c.self.view_is ∙ c.in-Some.is in
+    let handle : c.args.self.now ≡ Some c.in-Some.root = sym c.root.ensures ∙ c.in-Some.is in
     let told = c.in_ok-root-in-Some.ensures in (
       λ bad. absurd (cc),
       λ low. absurd (let bad = told.full.1 (subst (λ (h : Option ℕ). IsTooMany (need_of cmp f h c.args.key) f) handle low) in cc),
@@ -51,4 +53,4 @@ returns-in_ok-root-in-Some-clause-full g c =
 pub returns-in_ok-root-in-None-clause-increasing : goal.returns-in_ok-root-in-None-clause-increasing
 returns-in_ok-root-in-None-clause-increasing g c =
     let cmp = g.C.Comparator.order c.args.comp.now in
-    subst (IsIncreasing cmp) (sym c.in_ok-root-in-None.ensures.planted.list) (IsIncreasing-one cmp (c.args.key, c.args.value))
+    rw c.set_root-in-None.ensures (subst (IsIncreasing cmp) (sym c.in_ok-root-in-None.ensures.planted.list) (IsIncreasing-one cmp (c.args.key, c.args.value)))
