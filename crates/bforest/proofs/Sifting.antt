@@ -5,7 +5,7 @@ use Rattle.bforest.proofs.Reading.{ended, standing-in}
 use Rattle.bforest.specs.Layout.{entries_from}
 use Rattle.bforest.specs.Retain.{MayAskEach, Retained, RetainedNone, Retains, Sifted, SiftedLast}
 use Rattle.bforest_core.proofs.LevelRows.{flat-append}
-use Rattle.bforest_core.proofs.Lists.{drop-read}
+use Rattle.bforest_core.proofs.Lists.{drop-read, drop_remove, length_remove, read_none, take_remove}
 use Rattle.bforest_core.proofs.Tables.{count-append}
 use Rattle.bforest_core.specs.Change.{Changes, GivesNodes, StandsUnder}
 use Rattle.bforest_core.specs.Levels.{LevelNode, Tree, flat, half_of, node, sizes_of}
@@ -17,35 +17,8 @@ use Rattle.bforest_nodes.specs.Entries.{with_value}
 use Rattle.std.proofs.Common.{Bool, IfSome, IsTrue, List, None, Option, Some, [], ap, append-nil, arith, drop, false, if◌then◌else◌, inl, inr, length, length-append, refl, remove, slice_get, subst, suc, sym, take, true, zero, ◌++◌, ◌-◌, ◌<◌, ◌∙◌, ◌∷◌, ◌≡◌, ◌≢◌, ◌≤◌, ◌↔◌, ℕ}
 use Rattle.std.proofs.lemmas.Bool.Decides.{eqb_tells}
 use Rattle.std.proofs.lemmas.Bool.{cases_lt}
-use Rattle.std.proofs.lemmas.List.{drop_all, take_all}
+use Rattle.std.proofs.lemmas.List.{drop_all, length-drop, take_all}
 use Rattle.std.proofs.lemmas.Option.{slice_get_within}
-
-module _ {X : Type 0} where
-  -- where there is no element the end is past
-  read_none : (xs : List X) (p : ℕ) → None ≡ slice_get xs p → length xs ≤ p
-  read_none [] p e = omega arith
-  read_none (x ∷ xs) zero e = absurd (cc)
-  read_none (x ∷ xs) (suc p) e = let r = read_none xs p e in omega (arith, r)
-
-  drop_remove : (xs : List X) (p : ℕ) → p < length xs → drop p (remove xs p) ≡ drop (suc p) xs
-  drop_remove [] p low = absurd (omega (arith, low))
-  drop_remove (x ∷ xs) zero low = refl
-  drop_remove (x ∷ xs) (suc p) low = drop_remove xs p (omega (arith, low))
-
-  take_remove : (xs : List X) (p : ℕ) → p < length xs → (ks : List X) → take p (remove xs p) ++ ks ≡ take p xs ++ ks
-  take_remove [] p low ks = absurd (omega (arith, low))
-  take_remove (x ∷ xs) zero low ks = refl
-  take_remove (x ∷ xs) (suc p) low ks = ap (λ l. x ∷ l) (take_remove xs p (omega (arith, low)) ks)
-
-  length_remove : (xs : List X) (p : ℕ) → p < length xs → suc (length (remove xs p)) ≡ length xs
-  length_remove [] p low = absurd (omega (arith, low))
-  length_remove (x ∷ xs) zero low = refl
-  length_remove (x ∷ xs) (suc p) low = ap suc (length_remove xs p (omega (arith, low)))
-
-  length_drop : (p : ℕ) (xs : List X) → length (drop p xs) ≡ length xs - p
-  length_drop zero xs = omega arith
-  length_drop (suc p) [] = omega arith
-  length_drop (suc p) (x ∷ xs) = length_drop p xs ∙ omega arith
 
 module _ {K X : Type 0} where
   length_written : (xs : List (K × X)) (p : ℕ) (w : X) → length (with_value xs p w) ≡ length xs
@@ -276,4 +249,4 @@ module _ {F K X : Type 0} (most : ℕ) (step : F → K → X → Bool → X → 
       where
         go : (size : ℕ) → IsPathAt path indices size (tree_of now.nodes root) s.place → length (entries_from now.nodes size path indices) ≡ length (list_under now root) - s.place
         go zero at = ap length (ended now zero path indices refl) ∙ (let z : 0 ≡ length (list_under now root) - s.place = omega (arith, at) in z)
-        go (suc size) at = ap length (standing-in most one now root (suc size) s.place path indices s.changes.union (record { root_is = s.changes.root_is; stands = at })) ∙ length_drop s.place (list_under now root)
+        go (suc size) at = ap length (standing-in most one now root (suc size) s.place path indices s.changes.union (record { root_is = s.changes.root_is; stands = at })) ∙ length-drop s.place (list_under now root)

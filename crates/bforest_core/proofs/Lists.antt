@@ -1,5 +1,5 @@
 -- Lists that are read, written and cut: no word of nodes.
-use Rattle.std.proofs.Common.{◌≡◌, ◌≢◌, ℕ, ◌+◌, ◌-◌, ◌<◌, List, [], ◌∷◌, ◌++◌, zero, suc, length, set, take, drop, slice_get, get_or, Some, refl, sym, ap, ◌∙◌, arith, length-set}
+use Rattle.std.proofs.Common.{◌≡◌, ◌≢◌, ℕ, ◌+◌, ◌-◌, ◌<◌, ◌≤◌, List, [], ◌∷◌, ◌++◌, zero, suc, length, set, take, drop, remove, slice_get, get_or, None, Some, refl, sym, ap, ◌∙◌, arith, length-set}
 use Rattle.std.proofs.lemmas.List.{length-append, get_or-set_same, get_or-set_other, get_or_append_left, set-append_left, set-append_right, drop_all, take_all, append-nil}
 use Rattle.std.proofs.lemmas.Option.{slice_get_within, slice_get-get_or, get_or_from_slice_get, slice_get_read}
 
@@ -72,3 +72,27 @@ module _ {X : Type 0} where
   drop-read [] p x e = absurd cc
   drop-read (y ∷ xs) zero x e = let same : y ≡ x = cc in ap (λ z. z ∷ xs) same
   drop-read (y ∷ xs) (suc p) x e = drop-read xs p x e
+
+  -- where there is no element the end is past
+  pub read_none : (xs : List X) (p : ℕ) → None ≡ slice_get xs p → length xs ≤ p
+  read_none [] p e = omega arith
+  read_none (x ∷ xs) zero e = absurd (cc)
+  read_none (x ∷ xs) (suc p) e = let r = read_none xs p e in omega (arith, r)
+
+  -- what is behind an element that is taken out
+  pub drop_remove : (xs : List X) (p : ℕ) → p < length xs → drop p (remove xs p) ≡ drop (suc p) xs
+  drop_remove [] p low = absurd (omega (arith, low))
+  drop_remove (x ∷ xs) zero low = refl
+  drop_remove (x ∷ xs) (suc p) low = drop_remove xs p (omega (arith, low))
+
+  -- what is in front of it
+  pub take_remove : (xs : List X) (p : ℕ) → p < length xs → (ks : List X) → take p (remove xs p) ++ ks ≡ take p xs ++ ks
+  take_remove [] p low ks = absurd (omega (arith, low))
+  take_remove (x ∷ xs) zero low ks = refl
+  take_remove (x ∷ xs) (suc p) low ks = ap (λ l. x ∷ l) (take_remove xs p (omega (arith, low)) ks)
+
+  -- how many are left
+  pub length_remove : (xs : List X) (p : ℕ) → p < length xs → suc (length (remove xs p)) ≡ length xs
+  length_remove [] p low = absurd (omega (arith, low))
+  length_remove (x ∷ xs) zero low = refl
+  length_remove (x ∷ xs) (suc p) low = ap suc (length_remove xs p (omega (arith, low)))

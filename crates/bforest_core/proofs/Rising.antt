@@ -7,12 +7,12 @@ use Rattle.std.specs.List.Sorted.{IsStrictlySortedBy}
 use Rattle.std.specs.List.{AllByRecursion}
 use Rattle.std.specs.Map.{keys_of}
 use Rattle.std.specs.Option.{is_some, option_and_then}
-use Rattle.std.specs.Ordering.{is_eq, is_gt, is_lt, ordering_reverse}
+use Rattle.std.specs.Ordering.{is_eq, is_gt, is_lt}
 use Rattle.std.specs.declared.cmp.Ordering.{Ordering}
 use Rattle.std.specs.declared.cmp.Ordering.TheVariants.{Less, Equal, Greater}
 use Rattle.bforest_nodes.specs.Entries.{IsIncreasing, place, entry_for, is_present}
 use Rattle.bforest_core.specs.Descent.{child_index}
-use Rattle.bforest_nodes.proofs.Searched.{count_up_to-no, count_up_to-none, count_up_to-yes}
+use Rattle.bforest_nodes.proofs.Searched.{all_greater_behind, count_up_to-no, count_up_to-none, count_up_to-yes}
 use Rattle.bforest_nodes.proofs.Ordered.{place-later, place-here}
 use Rattle.bforest_core.proofs.Lists.{slice_get-append-add}
 
@@ -30,18 +30,6 @@ module _ {K : Type 0} (cmp : K → K → Ordering) (o : IsTotalOrder cmp) where
       go Less t = o.trans p q k l t
       go Equal t = sym (alike_right o q k p t) ∙ l
       go Greater t = absurd (ng t)
-
-  -- greater than one that is greater
-  pub greater_from : (p q k : K) → cmp p q ≡ Less → cmp p k ≡ Greater → cmp q k ≡ Greater
-  greater_from p q k l t =
-      let kp : cmp k p ≡ Less = o.antisymm k p ∙ ap ordering_reverse t in
-      o.antisymm q k ∙ ap ordering_reverse (o.trans k p q kp l)
-
-  -- greater than one that is equal
-  pub greater_next : (p q k : K) → cmp p q ≡ Less → cmp p k ≡ Equal → cmp q k ≡ Greater
-  greater_next p q k l t =
-      let kq : cmp k q ≡ Less = sym (o.congr p k q t) ∙ l in
-      o.antisymm q k ∙ ap ordering_reverse kq
 
   -- all less
   pub all_less : (q k : K) (ps : List K) → AllByRecursion (λ p. cmp p q ≡ Less) ps → cmp q k ≢ Greater → AllByRecursion (λ p. cmp p k ≡ Less) ps
@@ -131,11 +119,7 @@ module _ {K : Type 0} (cmp : K → K → Ordering) (o : IsTotalOrder cmp) where
   pub all_greater : {X : Type 0} (ys : List (K × X)) (k : K) → IsIncreasing cmp ys → ((y : K × X) (c : List (K × X)) → ys ≡ y ∷ c → cmp y.0 k ≡ Greater) → AllByRecursion (λ p. cmp p k ≡ Greater) (keys_of ys)
   unfolding IsStrictlySortedBy
   all_greater [] k i h = tt
-  all_greater (y ∷ ys) k i h = (h y ys refl, go (keys_of ys) i.0)
-    where
-      go : (ks : List K) → AllByRecursion (λ q. cmp y.0 q ≡ Less) ks → AllByRecursion (λ p. cmp p k ≡ Greater) ks
-      go [] a = tt
-      go (q ∷ ks) a = (greater_from y.0 q k a.0 (h y ys refl), go ks a.1)
+  all_greater (y ∷ ys) k i h = (h y ys refl, all_greater_behind cmp k o y.0 (keys_of ys) i.0 (ap is_lt (h y ys refl)))
 
   -- where a search among separators divides them
   pub record Sides {X : Type 0} (es : List (K × X)) (k : K) (i : ℕ) : Type 0 where
@@ -157,19 +141,14 @@ module _ {K : Type 0} (cmp : K → K → Ordering) (o : IsTotalOrder cmp) where
       ks : List K
       ks = keys_of es
 
-      after : cmp e.0 k ≡ Equal → (qs : List K) → AllByRecursion (λ q. cmp e.0 q ≡ Less) qs → AllByRecursion (λ p. cmp p k ≡ Greater) qs
-      after t [] a = tt
-      after t (q ∷ qs) a = (greater_next e.0 q k a.0 t, after t qs a.1)
-
-      past : cmp e.0 k ≡ Greater → (qs : List K) → AllByRecursion (λ q. cmp e.0 q ≡ Less) qs → AllByRecursion (λ p. cmp p k ≡ Greater) qs
-      past t [] a = tt
-      past t (q ∷ qs) a = (greater_from e.0 q k a.0 t, past t qs a.1)
+      behind : is_lt (cmp e.0 k) ≡ false → AllByRecursion (λ p. cmp p k ≡ Greater) ks
+      behind t = all_greater_behind cmp k o e.0 ks h.0 t
 
       go : (r : Ordering) → cmp e.0 k ≡ r → Sides es k (child_index cmp ks k) → Sides (e ∷ es) k (child_index cmp (e.0 ∷ ks) k)
       go Less t s = record { l = e ∷ s.l; r = s.r; es_is = ap (λ z. e ∷ z) s.es_is; i_is = ap suc s.i_is ∙ sym (count_up_to-yes cmp e.0 ks k (ap is_gt t)); low = (no_greater e.0 k Less t (λ x. absurd (cc)), s.low); high = s.high }
       go Equal t s =
-          let one : child_index cmp (e.0 ∷ ks) k ≡ 1 = count_up_to-yes cmp e.0 ks k (ap is_gt t) ∙ ap suc (count_up_to-none cmp k ks (after t ks h.0)) in
-          record { l = e ∷ []; r = es; es_is = refl; i_is = sym one; low = (no_greater e.0 k Equal t (λ x. absurd (cc)), tt); high = after t ks h.0 }
+          let one : child_index cmp (e.0 ∷ ks) k ≡ 1 = count_up_to-yes cmp e.0 ks k (ap is_gt t) ∙ ap suc (count_up_to-none cmp k ks (behind (ap is_lt t))) in
+          record { l = e ∷ []; r = es; es_is = refl; i_is = sym one; low = (no_greater e.0 k Equal t (λ x. absurd (cc)), tt); high = behind (ap is_lt t) }
       go Greater t s =
-          let none : child_index cmp (e.0 ∷ ks) k ≡ 0 = count_up_to-no cmp e.0 ks k (ap is_gt t) ∙ count_up_to-none cmp k ks (past t ks h.0) in
-          record { l = []; r = e ∷ es; es_is = refl; i_is = sym none; low = tt; high = (t, past t ks h.0) }
+          let none : child_index cmp (e.0 ∷ ks) k ≡ 0 = count_up_to-no cmp e.0 ks k (ap is_gt t) ∙ count_up_to-none cmp k ks (behind (ap is_lt t)) in
+          record { l = []; r = e ∷ es; es_is = refl; i_is = sym none; low = tt; high = (t, behind (ap is_lt t)) }

@@ -118,7 +118,7 @@ module _ {K : Type 0} (cmp : K → K → Ordering) where
     behind_by ks n b c e = λ j. if ((ap (is_equal_at cmp ks k) c ∙ e) j) then suc (c j) else c j
 
     module _ (o : IsTotalOrder cmp) where
-      -- keys behind one that is not less are greater
+      -- a key behind one that is not less is greater
       greater : (x q : K) → cmp x q ≡ Less → is_lt (cmp x k) ≡ false → cmp q k ≡ Greater
       greater x q l h = go (cmp x k) refl
         where
@@ -131,9 +131,10 @@ module _ {K : Type 0} (cmp : K → K → Ordering) where
               let less : cmp k x ≡ Less = o.antisymm k x ∙ ap ordering_reverse t in
               o.antisymm q k ∙ ap ordering_reverse (o.trans k x q less l)
 
-      all_greater : (x : K) (qs : List K) → AllByRecursion (λ q. cmp x q ≡ Less) qs → is_lt (cmp x k) ≡ false → AllByRecursion (λ q. cmp q k ≡ Greater) qs
-      all_greater x [] l h = tt
-      all_greater x (q ∷ qs) l h = (greater x q l.0 h, all_greater x qs l.1 h)
+      -- so are all keys behind it
+      pub all_greater_behind : (x : K) (qs : List K) → AllByRecursion (λ q. cmp x q ≡ Less) qs → is_lt (cmp x k) ≡ false → AllByRecursion (λ q. cmp q k ≡ Greater) qs
+      all_greater_behind x [] l h = tt
+      all_greater_behind x (q ∷ qs) l h = (greater x q l.0 h, all_greater_behind x qs l.1 h)
 
       -- among keys that increase those that are not greater are the lesser and the equal one
       up_to : (ks : List K) → IsStrictlySortedBy cmp ks → count_up_to cmp ks k ≡ behind ks
@@ -146,12 +147,12 @@ module _ {K : Type 0} (cmp : K → K → Ordering) where
           later n false c e less = ap suc (behind_by xs n false c e) ∙ sym (behind_by (x ∷ xs) (suc n) false (count_less-yes x xs k less ∙ ap suc c) e)
 
           first : is_lt (cmp x k) ≡ false → count_less cmp (x ∷ xs) k ≡ 0
-          first h = count_less-no x xs k h ∙ count_less-none xs (all_greater x xs s.0 h)
+          first h = count_less-no x xs k h ∙ count_less-none xs (all_greater_behind x xs s.0 h)
 
           go : (r : Ordering) → cmp x k ≡ r → count_up_to cmp xs k ≡ behind xs → count_up_to cmp (x ∷ xs) k ≡ behind (x ∷ xs)
           go Less t rest = count_up_to-yes x xs k (ap is_gt t) ∙ ap suc rest ∙ later (count_less cmp xs k) (is_equal_at cmp xs k (count_less cmp xs k)) refl refl (ap is_lt t)
-          go Equal t rest = count_up_to-yes x xs k (ap is_gt t) ∙ ap suc (count_up_to-none xs (all_greater x xs s.0 (ap is_lt t))) ∙ sym (behind_by (x ∷ xs) 0 true (first (ap is_lt t)) (ap is_eq t))
-          go Greater t rest = count_up_to-no x xs k (ap is_gt t) ∙ count_up_to-none xs (all_greater x xs s.0 (ap is_lt t)) ∙ sym (behind_by (x ∷ xs) 0 false (first (ap is_lt t)) (ap is_eq t))
+          go Equal t rest = count_up_to-yes x xs k (ap is_gt t) ∙ ap suc (count_up_to-none xs (all_greater_behind x xs s.0 (ap is_lt t))) ∙ sym (behind_by (x ∷ xs) 0 true (first (ap is_lt t)) (ap is_eq t))
+          go Greater t rest = count_up_to-no x xs k (ap is_gt t) ∙ count_up_to-none xs (all_greater_behind x xs s.0 (ap is_lt t)) ∙ sym (behind_by (x ∷ xs) 0 false (first (ap is_lt t)) (ap is_eq t))
 
       -- what a search found tells how many are not greater
       pub up_to-found : (ks : List K) (i : ℕ) → IsStrictlySortedBy cmp ks → search_of cmp ks k ≡ Ok i → count_up_to cmp ks k ≡ suc i
