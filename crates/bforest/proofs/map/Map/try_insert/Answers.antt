@@ -54,3 +54,23 @@ pub returns-in_ok-root-in-None-clause-increasing : goal.returns-in_ok-root-in-No
 returns-in_ok-root-in-None-clause-increasing g c =
     let cmp = g.C.Comparator.order c.args.comp.now in
     rw c.set_root-in-None.ensures (subst (IsIncreasing cmp) (sym c.in_ok-root-in-None.ensures.planted.list) (IsIncreasing-one cmp (c.args.key, c.args.value)))
+
+pub returns-in_ok-root-in-Some-clause-ok : goal.returns-in_ok-root-in-Some-clause-ok
+returns-in_ok-root-in-Some-clause-ok g c =
+    let handle : c.args.self.now ≡ Some c.in-Some.root = sym c.root.ensures ∙ c.in-Some.is in
+    rw handle c.in_ok-root-in-Some.ensures.ok
+
+pub returns-in_ok-root-in-Some-clause-put : goal.returns-in_ok-root-in-Some-clause-put
+returns-in_ok-root-in-Some-clause-put g c =
+    let handle : c.args.self.now ≡ Some c.in-Some.root = sym c.root.ensures ∙ c.in-Some.is in
+    rw (handle, c.set_root.ensures) c.in_ok-root-in-Some.ensures.put
+
+pub returns-in_ok-root-in-Some-clause-sizes : goal.returns-in_ok-root-in-Some-clause-sizes
+returns-in_ok-root-in-Some-clause-sizes g c =
+    let handle : c.args.self.now ≡ Some c.in-Some.root = sym c.root.ensures ∙ c.in-Some.is in
+    rw (handle, c.set_root.ensures) c.in_ok-root-in-Some.ensures.sizes
+
+pub returns-in_ok-root-in-Some-clause-account : goal.returns-in_ok-root-in-Some-clause-account
+returns-in_ok-root-in-Some-clause-account g c =
+    let handle : c.args.self.now ≡ Some c.in-Some.root = sym c.root.ensures ∙ c.in-Some.is in
+    rw handle c.in_ok-root-in-Some.ensures.account
