@@ -102,6 +102,14 @@ impl Costs {
         found.map(|known| known.2)
     }
 
+    // Keeps a cost if it is the least so far.
+    fn keep_least(&mut self, side: Side, work: Work, cost: f64) {
+        match self.known.iter_mut().find(|known| known.0 == side && known.1 == work) {
+            Some(known) => known.2 = known.2.min(cost),
+            None => self.known.push((side, work, cost)),
+        }
+    }
+
     // What a call of a row's phase costs.
     fn of_row(&self, side: Side, row: &Row) -> Option<f64> {
         let cost = self.of(side, row.with)? - self.of(side, row.without)?;
@@ -122,29 +130,54 @@ fn works(rows: &[Row]) -> Vec<Work> {
     works
 }
 
-// The best of several times of `repeats` runs in a row, in nanoseconds, the sides in turn. Ends the program where two checksums differ.
-fn times(rows: &[Row], tries: u32, repeats: u32) -> Costs {
-    let mut known = Vec::new();
-    for work in works(rows) {
-        let mut best = vec![f64::MAX; SIDES.len()];
-        for _ in 0..tries {
+// The best of several times of `repeats` runs in a row, in nanoseconds. All runs are made before any is made again, so that a slow while
+// of the machine lengthens one time of many runs, and not each time of one. Ends the program where two checksums differ.
+fn times(program: &str, rows: &[Row], tries: u32, repeats: u32) -> Costs {
+    let mut costs = Costs { known: Vec::new() };
+    for _ in 0..tries {
+        for work in works(rows) {
             let mut sums = Vec::new();
-            for (at, side) in SIDES.iter().enumerate() {
-                let mut whole = Duration::ZERO;
-                let mut sum = 0;
-                for _ in 0..repeats {
-                    let (found, time) = run(*side, work, false);
-                    whole += time;
-                    sum = found;
-                }
+            for side in SIDES {
+                let Some((sum, time)) = timed(program, *side, work, repeats) else {
+                    println!("{work:?}: the run of {} failed", side.name());
+                    println!("0 passed, 1 failed");
+                    exit(1);
+                };
                 sums.push(sum);
-                best[at] = best[at].min(whole.as_nanos() as f64 / repeats as f64);
+                costs.keep_least(*side, work, time);
             }
             check(work, &sums);
         }
-        known.extend(SIDES.iter().zip(best).map(|(side, time)| (*side, work, time)));
     }
-    Costs { known }
+    costs
+}
+
+// The checksum and the time of a run, in a process of its own, so that no run finds the heap as another left it.
+fn timed(program: &str, side: Side, work: Work, repeats: u32) -> Option<(u64, f64)> {
+    let mut words = one(side, work);
+    words[0] = "--timed".to_string();
+    words.push(repeats.to_string());
+    let told = Command::new(program).args(words).output().ok()?;
+    let text = String::from_utf8_lossy(&told.stdout).into_owned();
+    let told = |name: &str| text.lines().find_map(|line| line.strip_prefix(name));
+    Some((told("sum ")?.parse().ok()?, told("nanoseconds ")?.parse().ok()?))
+}
+
+// A run in this process, made several times in a row: its checksum, and how long it took on average.
+fn time_one(words: &[String]) {
+    let side = SIDES.iter().find(|side| words.first().is_some_and(|word| word == side.name()));
+    let repeats = words.last().and_then(|word| word.parse::<u32>().ok());
+    if let (Some(side), Some(work), Some(repeats)) = (side, words.get(1..).and_then(work_of), repeats) {
+        let mut whole = Duration::ZERO;
+        let mut sum = 0;
+        for _ in 0..repeats {
+            let (found, time) = run(*side, work, false);
+            whole += time;
+            sum = found;
+        }
+        println!("sum {sum}");
+        println!("nanoseconds {}", whole.as_nanos() as f64 / f64::from(repeats));
+    }
 }
 
 fn check(work: Work, sums: &[u64]) {
@@ -329,7 +362,7 @@ fn print_memory(program: &str) {
 fn print_all(program: &str) {
     println!("Wall time of a call in nanoseconds, best of 5:");
     let timed = rows(1, false);
-    print_costs(&timed, &times(&timed, 5, 1), 1);
+    print_costs(&timed, &times(program, &timed, 5, 1), 1);
     match counter(program) {
         Some(counter) => {
             println!("\nInstructions of a call, counted by {}, at a twentieth of the size:", counter.name());
@@ -343,7 +376,7 @@ fn print_all(program: &str) {
 }
 
 // How the cost of a call grows with the size of a map.
-fn print_growth(most: u32) {
+fn print_growth(program: &str, most: u32) {
     println!("Wall time of a call in nanoseconds, best of 3, of one above 1000000:");
     println!("{:35} {:>9}{}", "", "size", heads());
     let mut size = 10;
@@ -352,7 +385,7 @@ fn print_growth(most: u32) {
         let tries = if size > 1_000_000 { 1 } else { 3 };
         for kind in [Kind::Random, Kind::Ascending] {
             let rows = rows_of_large(kind, size, 3.min(repeats));
-            let costs = times(&rows, tries, repeats);
+            let costs = times(program, &rows, tries, repeats);
             for row in &rows {
                 println!("{:35} {:>9}{}", row.name, row.size, columns(&of_sides(|side| costs.of_row(side, row)), 1));
             }
@@ -388,8 +421,9 @@ fn main() {
     match words.get(1).map(String::as_str) {
         None => print_all(program),
         Some("--compare") => compare(),
-        Some("--growth") => print_growth(words.get(2).and_then(|word| word.parse().ok()).unwrap_or(1_000_000)),
+        Some("--growth") => print_growth(program, words.get(2).and_then(|word| word.parse().ok()).unwrap_or(1_000_000)),
         Some("--one") => make_one(&words[2..]),
+        Some("--timed") => time_one(&words[2..]),
         Some(_) => {
             eprintln!("usage: driver [--compare | --growth MOST]");
             exit(2);
