@@ -1,27 +1,12 @@
-//! Tests of `bforest_core`: worked nodes and trees, each public call at a concrete type, and both ends of a leaf's capacity.
+//! Tests of `bforest_core` that are about types, loans and refusals: the table's calls, nodes of other types than small maps have, and sizes
+//! worked by hand. The cases of trees and of single nodes are files, which the program `tree_cases` reads.
 #![tactic(auto)]
 
-#[cfg(test)]
-mod balances;
-#[cfg(test)]
-mod compared;
-#[cfg(test)]
-mod halves;
 #[cfg(test)]
 mod nodes;
 #[cfg(test)]
 mod pools;
 #[cfg(test)]
-mod readings;
-#[cfg(test)]
-mod removals;
-#[cfg(test)]
-mod shapes;
-#[cfg(test)]
-mod taken;
-#[cfg(test)]
-mod tree;
-#[cfg(test)]
-mod trees;
+mod types;
 #[cfg(test)]
 mod worked;

@@ -1,10 +1,8 @@
-//! Tests of `bforest_run`: lines and their answers, and readers and writers that fail.
+//! Tests of `bforest_run`: numbers, and readers and writers that fail. The cases of lines are files, which the program `forest_run` answers.
 #![tactic(auto)]
 
 #[cfg(test)]
-mod lines;
-#[cfg(test)]
-mod removal;
+mod numbers;
 #[cfg(test)]
 mod strange;
 #[cfg(test)]

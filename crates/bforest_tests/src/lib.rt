@@ -1,4 +1,5 @@
-//! Tests of `bforest`: worked examples, each public call at a concrete type, own orders, and callers that are proved.
+//! Tests of `bforest`: each public call at a concrete type, own orders, random calls beside the plain program, and callers that are proved.
+//! The cases of maps are files, which the program `forest_run` answers.
 #![tactic(auto)]
 
 pub mod callers;
@@ -13,8 +14,6 @@ mod plain;
 #[cfg(test)]
 mod refusals;
 #[cfg(test)]
-mod removals;
+mod reserved;
 #[cfg(test)]
 mod retained;
-#[cfg(test)]
-mod trees;

@@ -87,35 +87,6 @@ fn a_clone_names_the_same_tree(rt: HostRuntime) {
 }
 
 #[test]
-fn each_map_keeps_its_own_entries(rt: HostRuntime) -> Result<(), Fail> {
-    let mut forest: NumberForest = MapForest::new(rt.alloc());
-    let mut first = Map::new();
-    let mut second = Map::new();
-    for key in 1..8 {
-        assert_eq!(rt;
-            insert(&rt, &mut first, (key, key), &mut forest, &()),
-            Ok(None)
-        );
-        assert_eq!(rt;
-            insert(&rt, &mut second, (8 - key, 0), &mut forest, &()),
-            Ok(None)
-        );
-    }
-    let all = entries(&rt, rt.alloc(), &first, &forest)?;
-    assert_eq!(rt;
-        all.as_slice(),
-        [(1, 1), (2, 2), (3, 3), (4, 4), (5, 5), (6, 6), (7, 7)].as_slice()
-    );
-    let all = entries(&rt, rt.alloc(), &second, &forest)?;
-    assert_eq!(rt;
-        all.as_slice(),
-        [(1, 0), (2, 0), (3, 0), (4, 0), (5, 0), (6, 0), (7, 0)].as_slice()
-    );
-    assert_eq!(rt; forest.slots(), 2);
-    Ok(())
-}
-
-#[test]
 fn a_handle_of_another_forest_is_not_held(rt: HostRuntime) {
     let mut forest: NumberForest = MapForest::new(rt.alloc());
     let other: NumberForest = MapForest::new(rt.alloc());

@@ -34,20 +34,6 @@ fn every_ninth_entry_is_kept(rt: HostRuntime) -> Result<(), Fail> {
     Ok(())
 }
 
-#[test]
-fn no_entry_is_kept(rt: HostRuntime) {
-    let mut forest: NumberForest = MapForest::new(rt.alloc());
-    let mut map = ascending(&rt, 8, &mut forest);
-    let twin = map.clone();
-    assert!(rt; forest.holds(&map));
-    map.retain(&mut forest, |_, _| false);
-    assert!(rt; map.is_empty());
-    assert_eq!(rt; levels(&rt, &map, &forest), 0);
-    assert_eq!(rt; forest.slots(), 3);
-    assert_eq!(rt; forest.free_slots(), 3);
-    assert!(rt; !forest.holds(&twin));
-}
-
 // A rest of how often it was asked, so that each entry shows that it was asked once, and in its turn.
 #[test]
 fn each_entry_is_asked_once_and_in_order(rt: HostRuntime) -> Result<(), Fail> {

@@ -1,5 +1,0 @@
-use Rattle.bforest_core_tests.proofs.Walks.{go-from}
-use Rattle.bforest_core_tests.proofs.tree.first.Goals as goal
-
-pub returns : goal.returns
-returns g c = go-from g.row.N c.args.pool.now c.args.root _ _ _ 0 c.requires.union c.first.ensures.path

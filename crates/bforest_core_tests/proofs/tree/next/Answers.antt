@@ -1,5 +1,0 @@
-use Rattle.bforest_core_tests.proofs.Walks.{go-on}
-use Rattle.bforest_core_tests.proofs.tree.next.Goals as goal
-
-pub returns : goal.returns
-returns g c = go-on g.row.N c.args.pool.now.nodes _ _ _ _ _ _ c.next.result c.requires.stands c.next.ensures.moved c.next.ensures.end c.next.ensures.stays

@@ -1,0 +1,102 @@
+//! Nodes of other types than those of small maps, values that are lent, and packed numbers.
+use crate::nodes::{leaf_of, leaf_with, numbered};
+use bforest_core::{Node, NodeData, PackedNode, Path, SetValue};
+use std::mem::size_of;
+
+// A map of small numbers has a node of one cache line, and so has a set of them.
+const _: () = prove!(size_of::<NodeData<u32, u32, 7>>() == 64);
+
+const _: () = prove!(size_of::<NodeData<u32, SetValue, 15>>() <= 72);
+
+#[test]
+fn values_of_a_leaf_are_written(rt: HostRuntime) {
+    let mut leaf = leaf_of::<7>(rt.alloc(), &[10, 20, 40]);
+    *leaf.value_mut(1) = 21;
+    assert_eq!(rt; leaf.entry(1), (20, 21));
+    let (keys, vals) = leaf.unwrap_leaf_mut();
+    assert_eq!(rt; keys, [10u32, 20, 40].as_slice());
+    assert_eq!(rt; vals.len(), 3);
+    vals[2] = 41;
+    assert_eq!(rt; leaf.entry(2), (40, 41));
+}
+
+#[test]
+fn the_greatest_leaf_is_halved(rt: HostRuntime) {
+    let alloc = rt.alloc();
+    let (keys, vals) = numbered();
+    let mut left: NodeData<u8, u64, 255> = leaf_with(alloc, &keys, &vals);
+    assert!(rt; !left.try_leaf_insert(0, 0, 0));
+    let mut right = NodeData::new(alloc).unwrap();
+    let halves = left.split(127, &mut right);
+    assert_eq!(rt; halves.lhs_entries, 127);
+    assert_eq!(rt; halves.rhs_entries, 128);
+    assert_eq!(rt; halves.crit_key, 127);
+    let mut left: NodeData<u8, u64, 255> = leaf_with(alloc, &keys, &vals);
+    let halves = left.split(128, &mut right);
+    assert_eq!(rt; halves.lhs_entries, 128);
+    assert_eq!(rt; halves.rhs_entries, 127);
+    assert_eq!(rt; halves.crit_key, 128);
+    let (left_keys, left_vals) = left.unwrap_leaf();
+    assert_eq!(rt; left_keys, &keys[..128]);
+    assert_eq!(rt; left_vals, &vals[..128]);
+    let (right_keys, right_vals) = right.unwrap_leaf();
+    assert_eq!(rt; right_keys, &keys[128..]);
+    assert_eq!(rt; right_vals, &vals[128..]);
+}
+
+#[test]
+fn the_greatest_leaves_are_balanced(rt: HostRuntime) {
+    let alloc = rt.alloc();
+    let (keys, vals) = numbered();
+    let mut left: NodeData<u8, u64, 255> = leaf_with(alloc, &[7, 8, 9], &[70, 80, 90]);
+    let mut right = leaf_with(alloc, &keys, &vals);
+    assert_eq!(rt; left.balance(0, &mut right), Some(126));
+    assert_eq!(rt; left.entries(), 129);
+    assert_eq!(rt; left.entry(2), (9, 90));
+    assert_eq!(rt; left.entry(128), (125, 125 << 32));
+    assert_eq!(rt; right.unwrap_leaf().0, &keys[126..]);
+    assert_eq!(rt; right.unwrap_leaf().1, &vals[126..]);
+}
+
+#[test]
+fn a_leaf_of_a_set_is_halved(rt: HostRuntime) {
+    let alloc = rt.alloc();
+    let keys = [1u16, 2, 3, 4, 5, 6, 7, 8, 9, 10, 11, 12, 13, 14, 15];
+    let mut left: NodeData<u16, SetValue, 15> = leaf_with(alloc, &keys, &[SetValue; 15]);
+    let mut right = NodeData::new(alloc).unwrap();
+    assert!(rt; !left.try_leaf_insert(15, 16, SetValue));
+    let halves = left.split(15, &mut right);
+    assert_eq!(rt; halves.lhs_entries, 8);
+    assert_eq!(rt; halves.crit_key, 9);
+    assert!(rt; right.try_leaf_insert(7, 16, SetValue));
+    assert_eq!(rt;
+        left.unwrap_leaf().0,
+        [1u16, 2, 3, 4, 5, 6, 7, 8].as_slice()
+    );
+    assert_eq!(rt;
+        right.unwrap_leaf().0,
+        [9u16, 10, 11, 12, 13, 14, 15, 16].as_slice()
+    );
+}
+
+#[test]
+fn packed_numbers(rt: HostRuntime) {
+    let greatest = Node::new(4294967294);
+    let mut packed = PackedNode::some(greatest);
+    assert!(rt; !packed.is_none());
+    assert!(rt; packed.expand() == Some(greatest));
+    assert!(rt; packed.take() == Some(greatest));
+    assert!(rt; packed.is_none());
+    assert!(rt; packed.take().is_none());
+    assert!(rt; packed == PackedNode::none());
+    assert!(rt; PackedNode::some(Node::new(0)) != PackedNode::none());
+}
+
+#[test]
+fn a_path_goes_to_a_root_that_is_a_leaf(rt: HostRuntime) {
+    let mut path: Path<u32, u32, 7> = Path::default();
+    assert!(rt; path.leaf_pos().is_none());
+    let root = Node::new(5);
+    path.set_root_node(root);
+    assert!(rt; path.leaf_pos() == Some((root, 0)));
+}

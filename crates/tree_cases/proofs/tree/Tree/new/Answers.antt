@@ -1,0 +1,11 @@
+use Rattle.std.proofs.Common.{subst, sym}
+use Rattle.bforest_core.specs.Trees.{IsUnion}
+use Rattle.bforest_core.proofs.Planting.{IsUnion-empty}
+use Rattle.tree_cases.proofs.tree.Tree.new.Goals as goal
+
+pub invariant_of-result : goal.invariant_of-result
+invariant_of-result g c = record {
+  capacity = c.requires;
+  union = subst (IsUnion g.row.N) (sym c.with_limit.ensures.empty) (IsUnion-empty g.row.N c.args.limit);
+  ordered = tt;
+}

@@ -1,0 +1,438 @@
+//! A tree of numbers in a pool of its own. That it is a tree, with its keys in order, is part of its type, so that tests loop over its calls.
+ghost use Rattle.bforest_nodes.specs.Content.{IsLeafCapacity};
+ghost use Rattle.bforest_core.specs.Trees.{IsUnion};
+ghost use Rattle.tree_cases.specs.Ordered.{CanGoOn, IsOrderedAt, StandsSomewhere};
+ghost use Rattle.std.specs.Prelude.{IfOk, IfSome, OnErr, ℕ, ◌<◌, ◌≡◌, ◌≢◌};
+
+use bforest_core::{Node, NodePool, OutOfMemory, Path};
+use std::alloc::{AllocError, Global};
+use std::marker::Model;
+use std::process::Abort;
+
+/// A pool of numbers under numbers.
+type Pool<const N: usize> = NodePool<u32, u32, N>;
+
+/// A tree of numbers under numbers, or none, and nothing else in its pool.
+#[derive(Drop)]
+pub(crate) struct Tree<const N: usize> {
+    pool: NodePool<u32, u32, N>,
+    root: Option<Node>,
+}
+
+impl<const N: usize> Model for Tree<N> {
+    ghost use Rattle.bforest_core.specs.Table.{Table};
+    ghost use Rattle.tree_cases.specs.Ordered.{IsOrdered};
+    ghost use Rattle.std.specs.Prelude.{ℕ, Option};
+
+    ghost Value = { Table ℕ ℕ × Option ℕ };
+
+    ghost view = { λ t. (t.pool, t.root) };
+
+    ghost invariant = { λ t. IsOrdered N t.pool t.root };
+}
+
+impl<const N: usize> Tree<N> {
+    /// No tree, in a pool of at most so many slots.
+    pub(crate) fn new(alloc: Global, limit: u32) -> Self
+        requires { IsLeafCapacity N }
+    {
+        Tree {
+            pool: NodePool::with_limit(alloc, limit),
+            root: None,
+        }
+    }
+
+    /// Puts an entry in, or writes the value where the key is present.
+    pub(crate) fn insert(&mut self, key: u32, value: u32) -> Result<(), OutOfMemory> {
+        let root = match self.root {
+            Some(root) => put(&mut self.pool, root, key, value)?,
+            None => plant(&mut self.pool, key, value)?,
+        };
+        self.root = Some(root);
+        Ok(())
+    }
+
+    /// Takes a key out. Answers its value, and the entry at which the path stands then.
+    pub(crate) fn remove(&mut self, key: u32) -> (Option<u32>, Option<(u32, u32)>) {
+        let Some(root) = self.root else {
+            return (None, None);
+        };
+        let (root, value, entry) = cut(&mut self.pool, root, key);
+        self.root = root;
+        (value, entry)
+    }
+
+    /// Ends the tree.
+    pub(crate) fn end(&mut self) {
+        if let Some(root) = self.root {
+            self.pool.free_tree(root);
+            self.root = None;
+        }
+    }
+
+    /// Adds one to the value of a key, and says whether it is present.
+    pub(crate) fn count(&mut self, key: u32) -> bool {
+        match self.root {
+            Some(root) => count_at(&mut self.pool, root, key),
+            None => false,
+        }
+    }
+
+    /// The value of a key.
+    pub(crate) fn get(&self, key: u32) -> Option<u32> {
+        let mut path = Path::default();
+        path.find(key, self.root?, &self.pool, &())
+    }
+
+    /// The number of the leaf where a search for a key ends, and its place there.
+    pub(crate) fn position(&self, key: u32) -> Option<(u32, usize)> {
+        let mut path = Path::default();
+        path.find(key, self.root?, &self.pool, &());
+        let (leaf, index) = path.leaf_pos()?;
+        Some((leaf.number(), index))
+    }
+
+    /// The root's number.
+    pub(crate) fn root(&self) -> Option<u32> {
+        Some(self.root?.number())
+    }
+
+    /// How many levels the tree has.
+    pub(crate) fn levels(&self) -> usize {
+        match self.root {
+            Some(root) => self.pool.levels(root),
+            None => 0,
+        }
+    }
+
+    /// How many slots the pool has.
+    pub(crate) fn slots(&self) -> u32 {
+        self.pool.slots()
+    }
+
+    /// How many of its slots are free.
+    pub(crate) fn free(&self) -> u32 {
+        self.pool.free()
+    }
+
+    /// Whether a root has this number.
+    pub(crate) fn is_root(&self, number: u32) -> bool {
+        number < u32::MAX && self.pool.is_root(Node::new(number))
+    }
+
+    /// How many nodes a key takes that is absent.
+    pub(crate) fn need(&self, key: u32) -> Option<u32> {
+        need(&self.pool, self.root?, key)
+    }
+
+    /// The first entry whose key is not less.
+    pub(crate) fn entry_from(&self, key: u32) -> Option<(u32, u32)> {
+        entry_from(&self.pool, self.root?, key)
+    }
+
+    /// The entry behind that of a key, if the key is present.
+    pub(crate) fn entry_after(&self, key: u32) -> Option<(u32, u32)> {
+        entry_after(&self.pool, self.root?, key)
+    }
+
+    /// The entry in front of that of a key, if the key is present.
+    pub(crate) fn entry_before(&self, key: u32) -> Option<(u32, u32)> {
+        entry_before(&self.pool, self.root?, key)
+    }
+
+    /// The keys of the nodes, level by level, the root's first: `40 / 10 20 30 | 40 50 60 70`.
+    pub(crate) fn shown(&self, alloc: Global) -> Result<String, AllocError> {
+        let mut text = String::new(alloc);
+        let mut row = Vec::new(alloc);
+        if let Some(root) = self.root {
+            row.push(root)?;
+        }
+        for level in 0..self.levels() {
+            if level > 0 {
+                text.push_str(" /")?;
+                row = row_below(&self.pool, alloc, &row)?;
+            }
+            push_row(&mut text, &self.pool, &row)?;
+        }
+        Ok(text)
+    }
+
+    /// The sizes of the nodes of a level, that of the leaves at height 0.
+    pub(crate) fn sizes(&self, alloc: Global, height: usize) -> Result<Vec<usize>, AllocError> {
+        let mut row = Vec::new(alloc);
+        if let Some(root) = self.root {
+            row.push(root)?;
+        }
+        for _above in height.saturating_add(1)..self.levels() {
+            row = row_below(&self.pool, alloc, &row)?;
+        }
+        let mut sizes = Vec::new(alloc);
+        for node in &row {
+            sizes.push(size(&self.pool, *node))?;
+        }
+        Ok(sizes)
+    }
+
+    /// The entries from the first on, at most one more than so many.
+    pub(crate) fn entries(
+        &self,
+        alloc: Global,
+        most: usize,
+    ) -> Result<Vec<(u32, u32)>, AllocError> {
+        let mut entries = Vec::new(alloc);
+        let mut path = Path::default();
+        if let Some(root) = self.root {
+            entries.push(first(&mut path, root, &self.pool))?;
+            'steps: for _step in 0..most {
+                if let Some(entry) = next(&mut path, &self.pool) {
+                    entries.push(entry)?;
+                }
+            }
+        }
+        Ok(entries)
+    }
+
+    /// The entries from the last back, at most one more than so many.
+    pub(crate) fn entries_backward(
+        &self,
+        alloc: Global,
+        most: usize,
+    ) -> Result<Vec<(u32, u32)>, AllocError> {
+        let mut entries = Vec::new(alloc);
+        let mut path = Path::default();
+        if let Some(root) = self.root {
+            'steps: for _step in 0..=most {
+                if let Some(entry) = prev(&mut path, root, &self.pool) {
+                    entries.push(entry)?;
+                }
+            }
+        }
+        Ok(entries)
+    }
+}
+
+// Makes a tree of one entry, and answers its root.
+fn plant<const N: usize>(pool: &mut Pool<N>, key: u32, value: u32) -> Result<Node, OutOfMemory>
+    requires capacity { IsLeafCapacity N }
+    requires union { IsUnion N pool.old }
+    ensures planted { IfOk result (λ root. IsUnion N pool.new × IsOrderedAt pool.new.nodes root) }
+    ensures refused { OnErr result (pool.new ≡ pool.old) }
+{
+    pool.alloc_node(key, value)
+}
+
+// Puts an entry into a tree, or writes the value where the key is present. Answers the root.
+fn put<const N: usize>(
+    pool: &mut Pool<N>,
+    root: Node,
+    key: u32,
+    value: u32,
+) -> Result<Node, OutOfMemory>
+    requires capacity { IsLeafCapacity N }
+    requires union { IsUnion N pool.old }
+    requires ordered { IsOrderedAt pool.old.nodes root }
+    ensures put { IfOk result (λ root'. IsUnion N pool.new × IsOrderedAt pool.new.nodes root') }
+    ensures refused { OnErr result (pool.new ≡ pool.old) }
+{
+    let mut path = Path::default();
+    if path.find(key, root, pool, &()).is_some() {
+        path.set_value(value, pool);
+        Ok(root)
+    } else {
+        path.insert(key, value, pool)
+    }
+}
+
+// Takes a key out of a tree. Answers the root, or nothing where no entry is left, the key's value, and the entry that followed.
+fn cut<const N: usize>(
+    pool: &mut Pool<N>,
+    root: Node,
+    key: u32,
+) -> (Option<Node>, Option<u32>, Option<(u32, u32)>)
+    requires capacity { IsLeafCapacity N }
+    requires union { IsUnion N pool.old }
+    requires ordered { IsOrderedAt pool.old.nodes root }
+    ensures union { IsUnion N pool.new }
+    ensures ordered { IfSome result.0 (λ root'. IsOrderedAt pool.new.nodes root') }
+{
+    let mut path = Path::default();
+    let Some(value) = path.find(key, root, pool, &()) else {
+        return (Some(root), None, None);
+    };
+    let root = path.remove(pool);
+    (root, Some(value), path.entry(pool))
+}
+
+// Adds one to the value of a key, and says whether it is present.
+fn count_at<const N: usize>(pool: &mut Pool<N>, root: Node, key: u32) -> bool
+    requires capacity { IsLeafCapacity N }
+    requires union { IsUnion N pool.old }
+    requires ordered { IsOrderedAt pool.old.nodes root }
+    ensures union { IsUnion N pool.new }
+    ensures ordered { IsOrderedAt pool.new.nodes root }
+{
+    let mut path = Path::default();
+    match path.find(key, root, pool, &()) {
+        Some(value) => {
+            *pool.path_value_mut(&path) = value.wrapping_add(1);
+            true
+        }
+        None => false,
+    }
+}
+
+// The keys of a node, none where it is free.
+fn keys<const N: usize>(pool: &Pool<N>, node: Node) -> &[u32] {
+    if node.number() >= pool.slots() {
+        return &[];
+    }
+    let content = pool.node(node);
+    if content.is_inner() {
+        content.unwrap_inner().0
+    } else if content.is_free() {
+        &[]
+    } else {
+        content.unwrap_leaf().0
+    }
+}
+
+// Adds the keys of the nodes of a row.
+fn push_row<const N: usize>(
+    text: &mut String,
+    pool: &Pool<N>,
+    row: &[Node],
+) -> Result<(), AllocError> {
+    for (index, node) in row.iter().enumerate() {
+        if index > 0 {
+            text.push_str(" |")?;
+        }
+        for key in keys(pool, *node) {
+            write!(text, " {key}")?;
+        }
+    }
+    Ok(())
+}
+
+// The children of the nodes of a row, from left to right.
+fn row_below<const N: usize>(
+    pool: &Pool<N>,
+    alloc: Global,
+    row: &[Node],
+) -> Result<Vec<Node>, AllocError> {
+    let mut below = Vec::new(alloc);
+    for node in row {
+        for index in 0..8 {
+            if let Some(child) = child(pool, *node, index) {
+                below.push(child)?;
+            }
+        }
+    }
+    Ok(below)
+}
+
+// How many entries or children a node has.
+fn size<const N: usize>(pool: &Pool<N>, node: Node) -> usize {
+    let keys = keys(pool, node).len();
+    match child(pool, node, 0) {
+        Some(_) => keys.saturating_add(1),
+        None => keys,
+    }
+}
+
+// The child of an inner node at an index, if there is one.
+fn child<const N: usize>(pool: &Pool<N>, node: Node, index: usize) -> Option<Node> {
+    if node.number() >= pool.slots() {
+        return None;
+    }
+    let content = pool.node(node);
+    if content.is_inner() {
+        content.unwrap_inner().1.get(index).copied()
+    } else {
+        None
+    }
+}
+
+// Goes to a tree's first entry.
+fn first<const N: usize>(path: &mut Path<u32, u32, N>, root: Node, pool: &Pool<N>) -> (u32, u32)
+    requires capacity { IsLeafCapacity N }
+    requires union { IsUnion N pool.now }
+    requires ordered { IsOrderedAt pool.now.nodes root }
+    ensures { CanGoOn N pool.now.nodes path.new.node path.new.entry path.new.size }
+{
+    path.first(root, pool)
+}
+
+// Goes to the next entry.
+fn next<const N: usize>(path: &mut Path<u32, u32, N>, pool: &Pool<N>) -> Option<(u32, u32)>
+    requires capacity { IsLeafCapacity N }
+    requires stands { CanGoOn N pool.now.nodes path.old.node path.old.entry path.old.size }
+    ensures { CanGoOn N pool.now.nodes path.new.node path.new.entry path.new.size }
+{
+    path.next(pool)
+}
+
+// Goes to the entry before.
+fn prev<const N: usize>(
+    path: &mut Path<u32, u32, N>,
+    root: Node,
+    pool: &Pool<N>,
+) -> Option<(u32, u32)>
+    requires capacity { IsLeafCapacity N }
+    requires union { IsUnion N pool.now }
+    requires ordered { IsOrderedAt pool.now.nodes root }
+    requires stands { StandsSomewhere pool.now.nodes root path.old.node path.old.entry path.old.size }
+    ensures { StandsSomewhere pool.now.nodes root path.new.node path.new.entry path.new.size }
+{
+    path.prev(root, pool)
+}
+
+// How many nodes a key takes that is absent.
+fn need<const N: usize>(pool: &Pool<N>, root: Node, key: u32) -> Option<u32>
+    requires capacity { IsLeafCapacity N }
+    requires union { IsUnion N pool.now }
+    requires ordered { IsOrderedAt pool.now.nodes root }
+{
+    let mut path = Path::default();
+    match path.find(key, root, pool, &()) {
+        Some(_) => None,
+        None => Some(path.needed(pool)),
+    }
+}
+
+// The first entry whose key is not less.
+fn entry_from<const N: usize>(pool: &Pool<N>, root: Node, key: u32) -> Option<(u32, u32)>
+    requires capacity { IsLeafCapacity N }
+    requires union { IsUnion N pool.now }
+    requires ordered { IsOrderedAt pool.now.nodes root }
+{
+    let mut path = Path::default();
+    match path.find(key, root, pool, &()) {
+        Some(value) => Some((key, value)),
+        None => {
+            path.normalize(pool);
+            path.entry(pool)
+        }
+    }
+}
+
+// The entry behind that of a key, if the key is present.
+fn entry_after<const N: usize>(pool: &Pool<N>, root: Node, key: u32) -> Option<(u32, u32)>
+    requires capacity { IsLeafCapacity N }
+    requires union { IsUnion N pool.now }
+    requires ordered { IsOrderedAt pool.now.nodes root }
+{
+    let mut path = Path::default();
+    path.find(key, root, pool, &())?;
+    path.next(pool)
+}
+
+// The entry in front of that of a key, if the key is present.
+fn entry_before<const N: usize>(pool: &Pool<N>, root: Node, key: u32) -> Option<(u32, u32)>
+    requires capacity { IsLeafCapacity N }
+    requires union { IsUnion N pool.now }
+    requires ordered { IsOrderedAt pool.now.nodes root }
+{
+    let mut path = Path::default();
+    path.find(key, root, pool, &())?;
+    path.prev(root, pool)
+}
