@@ -1,5 +1,5 @@
 use Rattle.std.proofs.Common.{arith, rules, ◌≡◌, length, take}
-use Rattle.bforest_nodes.proofs.Cuts.{Balances-leaf}
+use Rattle.bforest_nodes.proofs.Cuts.{Balances-leaf, Balances-one_leaf}
 use Rattle.bforest_nodes.proofs.States.{entries_of_leaf}
 use Rattle.bforest_nodes.proofs.node.NodeData.balance_leaf.Goals as goal
 use Rattle.bforest_nodes.proofs.node.NodeData.balance_leaf.Goals.{in_default-via-in-Entries+in_default, in_default-via-in_default}
@@ -25,3 +25,8 @@ unreachable-requires g c = elim c.in_default.branch [
   | in_default-via-in-Entries+in_default w ↦ entries_of_leaf c.rhs.inside.state w.in_default.not-Entries-1 (rw (← c.rhs.view_is) at c.requires.rhs_leaf)
   | in_default-via-in_default w ↦ entries_of_leaf c.self.inside.state w.in_default.not-Entries-0 (rw (← c.self.view_is) at c.requires.leaf)
 ]
+
+pub returns-then-len-right_len : goal.returns-then-len-right_len
+returns-then-len-right_len g c =
+    let b = c.in-Entries-Entries in
+    rw (← c.self.view_is, ← c.rhs.view_is, b.is-0, b.is-1) (Balances-one_leaf _ _ _ _ _ _ _ _ _ _ _ c.if-len-right_len.true c.put_before.ensures c.put_before-then-len-right_len.ensures)
