@@ -1,7 +1,8 @@
 -- What kind of state a content comes from.
-use Rattle.std.proofs.Common.{◌≡◌, ℕ, refl}
-use Rattle.bforest_nodes.specs.Content.{IsFree, IsInner, IsLeaf}
-use Rattle.bforest_nodes.specs.Layout.{content_of}
+use Rattle.std.proofs.Common.{◌≡◌, ℕ, ◌+◌, ◌<◌, ◌≤◌, List, arith, length, take, refl}
+use Rattle.std.proofs.lemmas.List.{length-take}
+use Rattle.bforest_nodes.specs.Content.{Content, IsFree, IsInner, IsLeaf, entry_count}
+use Rattle.bforest_nodes.specs.Layout.{Fits, content_of}
 use Rattle.bforest_nodes.specs.declared.entries.Entries.{Entries as LeafEntries}
 use Rattle.bforest_nodes.specs.declared.number.Node.{Node}
 use Rattle.bforest_nodes.specs.declared.number.PackedNode.{PackedNode}
@@ -27,3 +28,14 @@ module _ {K V : Type 0} {n : ℕ} where
   vacant_of_free (Branch size keys tree) other free = free
   vacant_of_free (Entries e) other free = free
   vacant_of_free (Vacant next) other free = other next refl
+
+  -- a branch of eight children has seven keys
+  pub full_branch : (s : State K V n) (size : ℕ) (keys : Row K 7) (tree : Row Node 8) (whole : Content K V) → content_of s ≡ whole → s ≡ Branch size keys tree → Fits s → entry_count whole ≡ 8 → size ≡ 7
+  full_branch s size keys tree whole view is fits full =
+      let most : size ≤ 7 = rw is at fits in
+      let children : length (take (size + 1) tree.items) ≡ 8 = rw (← view, is) at full in
+      omega (arith, length-take (size + 1) tree.items)
+
+-- an index among the first so many
+pub within_front : {X : Type 0} (count : ℕ) (xs : List X) (i : ℕ) → i < length (take count xs) → i < count
+within_front count xs i within = omega (arith, length-take count xs)
