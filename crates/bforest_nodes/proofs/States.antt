@@ -1,7 +1,7 @@
 -- What kind of state a content comes from.
 use Rattle.std.proofs.Common.{◌≡◌, ℕ, ◌+◌, ◌<◌, ◌≤◌, List, arith, length, take, refl}
 use Rattle.std.proofs.lemmas.List.{length-take}
-use Rattle.bforest_nodes.specs.Content.{Content, IsFree, IsInner, IsLeaf, entry_count}
+use Rattle.bforest_nodes.specs.Content.{Content, IsFree, IsInner, IsLeaf, entry_count, keys_of}
 use Rattle.bforest_nodes.specs.Layout.{Fits, content_of}
 use Rattle.bforest_nodes.specs.declared.entries.Entries.{Entries as LeafEntries}
 use Rattle.bforest_nodes.specs.declared.number.Node.{Node}
@@ -9,6 +9,10 @@ use Rattle.bforest_nodes.specs.declared.number.PackedNode.{PackedNode}
 use Rattle.bforest_nodes.specs.declared.row.Row.{Row}
 use Rattle.bforest_nodes.specs.declared.node.State.TheVariants.{Branch, Entries, Vacant}
 use Rattle.bforest_nodes.specs.declared.node.State.{State}
+
+-- an index among the first so many
+within_front : {X : Type 0} (count : ℕ) (xs : List X) (i : ℕ) → i < length (take count xs) → i < count
+within_front count xs i within = omega (arith, length-take count xs)
 
 module _ {K V : Type 0} {n : ℕ} where
   -- a leaf's state is entries
@@ -36,6 +40,21 @@ module _ {K V : Type 0} {n : ℕ} where
       let children : length (take (size + 1) tree.items) ≡ 8 = rw (← view, is) at full in
       omega (arith, length-take (size + 1) tree.items)
 
--- an index among the first so many
-pub within_front : {X : Type 0} (count : ℕ) (xs : List X) (i : ℕ) → i < length (take count xs) → i < count
-within_front count xs i within = omega (arith, length-take count xs)
+  -- a leaf of as many entries as fit
+  pub full_entries : (s : State K V n) (e : LeafEntries K V n) (whole : Content K V) → content_of s ≡ whole → s ≡ Entries e → Fits s → entry_count whole ≡ n → e.size ≡ n
+  full_entries s e whole view is fits full =
+      let most : e.size ≤ n = rw is at fits in
+      let keys : length (take e.size e.keys.items) ≡ n = rw (← view, is) at full in
+      omega (arith, length-take e.size e.keys.items)
+
+  -- an index among a leaf's entries, or behind them
+  pub entries_within : (s : State K V n) (e : LeafEntries K V n) (whole : Content K V) (i : ℕ) → content_of s ≡ whole → s ≡ Entries e → i < entry_count whole → i < e.size
+  entries_within s e whole i view is within = within_front e.size e.keys.items i (rw (← view, is) at within)
+
+  -- an index among an inner node's children
+  pub children_within : (s : State K V n) (size : ℕ) (keys : Row K 7) (tree : Row Node 8) (whole : Content K V) (i : ℕ) → content_of s ≡ whole → s ≡ Branch size keys tree → i < entry_count whole → i < size + 1
+  children_within s size keys tree whole i view is within = within_front (size + 1) tree.items i (rw (← view, is) at within)
+
+  -- an index among an inner node's keys
+  pub keys_within : (s : State K V n) (size : ℕ) (keys : Row K 7) (tree : Row Node 8) (whole : Content K V) (i : ℕ) → content_of s ≡ whole → s ≡ Branch size keys tree → i < length (keys_of whole) → i < size
+  keys_within s size keys tree whole i view is within = within_front size keys.items i (rw (← view, is) at within)
