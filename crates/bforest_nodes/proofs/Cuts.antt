@@ -1,9 +1,11 @@
 -- Nodes that are cut in two, and joined again.
-use Rattle.std.proofs.Common.{◌≡◌, ℕ, ◌+◌, ◌-◌, ◌<◌, ◌≤◌, suc, List, [], ◌∷◌, ◌++◌, length, take, drop, slice_get, None, Some, refl, sym, ap, ◌∙◌, arith, append_assoc}
+use Rattle.std.proofs.lemmas.Grind.{common_steps}
+use Rattle.std.specs.Prelude.{◌==◌}
+use Rattle.std.proofs.Common.{◌≡◌, false, remove, true, ℕ, ◌+◌, ◌-◌, ◌<◌, ◌≤◌, suc, List, [], ◌∷◌, ◌++◌, length, take, drop, slice_get, None, Some, refl, sym, ap, ◌∙◌, arith, append_assoc}
 use Rattle.std.proofs.Math.Seq.{take-append-add}
 use Rattle.std.proofs.lemmas.List.{take-append-drop, take-take, length-append, length-take}
 use Rattle.bforest_nodes.proofs.Seams.{around, drop-append-add, front_at, key_at, slice_get-append-add, slice_get-drop}
-use Rattle.bforest_nodes.specs.Content.{Content, Inner, Leaf, Free, IsFree, IsInner, entry_capacity, left_half, joined, IsCut, Balances, left_share}
+use Rattle.bforest_nodes.specs.Content.{Content, Inner, Leaf, Free, IsFree, IsInner, entry_capacity, left_half, joined, IsCut, Balances, left_share, without_child}
 
 module _ {K V : Type 0} where
   -- an inner node whose first so many keys end with the separator
@@ -139,3 +141,25 @@ module _ {K V : Type 0} where
         merges = λ _. (refl, λ i. Inner (keys_are i) (tree_is i));
         shares = λ many. absurd (omega (arith, length-take (size + 1) tree, length-take (right_size + 1) right_tree));
       }
+
+  -- a child is gone, and the key before it
+  pub without_child-many : (size index before : ℕ) (keys new_keys : List K) (tree new_tree : List ℕ)
+      → 0 < size
+      → length (take (size + 1) tree) ≡ size + 1
+      → before ≡ index - 1
+      → take (size + 1 - 1) new_tree ≡ remove (take (size + 1) tree) index
+      → take (size - 1) new_keys ≡ remove (take size keys) before
+      → ◌≡◌ {A = Content K V} (Inner (take (size - 1) new_keys) (take (size - 1 + 1) new_tree)) (without_child (Inner (take size keys) (take (size + 1) tree)) index)
+  without_child-many size index before keys new_keys tree new_tree some len at tree_is keys_is =
+      let place : size - 1 + 1 ≡ size + 1 - 1 = omega arith in
+      let many : (length (take (size + 1) tree) == 1) ≡ false = grind (arith, common_steps) in
+      rw (many, place, tree_is, keys_is, at)
+
+  -- the only child stays
+  pub without_child-one : (size index : ℕ) (keys : List K) (tree : List ℕ)
+      → size ≤ 0
+      → length (take (size + 1) tree) ≡ size + 1
+      → ◌≡◌ {A = Content K V} (Inner (take size keys) (take (size + 1) tree)) (without_child (Inner (take size keys) (take (size + 1) tree)) index)
+  without_child-one size index keys tree none len =
+      let one : (length (take (size + 1) tree) == 1) ≡ true = grind (arith, common_steps) in
+      rw one

@@ -1,5 +1,0 @@
-use Rattle.std.proofs.Common.{rules}
-use Rattle.bforest_nodes.proofs.comparator.UnitComparator.cmp.Goals as goal
-
-pub returns : goal.returns
-returns g c = search rules
