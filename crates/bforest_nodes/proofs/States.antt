@@ -1,5 +1,5 @@
 -- What kind of state a content comes from.
-use Rattle.std.proofs.Common.{◌≡◌, ℕ, ◌+◌, ◌<◌, ◌≤◌, List, arith, length, take, refl}
+use Rattle.std.proofs.Common.{◌≡◌, ℕ, ◌+◌, ◌*◌, ◌<◌, ◌≤◌, List, arith, length, take, refl}
 use Rattle.std.proofs.lemmas.List.{length-take}
 use Rattle.bforest_nodes.specs.Content.{Content, IsFree, IsInner, IsLeaf, entry_count, keys_of}
 use Rattle.bforest_nodes.specs.Layout.{Fits, content_of}
@@ -58,3 +58,17 @@ module _ {K V : Type 0} {n : ℕ} where
   -- an index among an inner node's keys
   pub keys_within : (s : State K V n) (size : ℕ) (keys : Row K 7) (tree : Row Node 8) (whole : Content K V) (i : ℕ) → content_of s ≡ whole → s ≡ Branch size keys tree → i < length (keys_of whole) → i < size
   keys_within s size keys tree whole i view is within = within_front size keys.items i (rw (← view, is) at within)
+
+  -- less than half of a leaf's room is taken
+  pub under_half : (s : State K V n) (e : LeafEntries K V n) (whole : Content K V) → content_of s ≡ whole → s ≡ Entries e → Fits s → length e.keys.items ≡ n → 2 * entry_count whole < n → 2 * e.size < n
+  under_half s e whole view is fits room under =
+      let most : e.size ≤ n = rw is at fits in
+      let keys : 2 * length (take e.size e.keys.items) < n = rw (← view, is) at under in
+      omega (arith, length-take e.size e.keys.items)
+
+  -- less than half of an inner node's children are there
+  pub few_children : (s : State K V n) (size : ℕ) (keys : Row K 7) (tree : Row Node 8) (whole : Content K V) → content_of s ≡ whole → s ≡ Branch size keys tree → Fits s → length tree.items ≡ 8 → entry_count whole < 4 → size + 1 < 4
+  few_children s size keys tree whole view is fits room under =
+      let most : size ≤ 7 = rw is at fits in
+      let children : length (take (size + 1) tree.items) < 4 = rw (← view, is) at under in
+      omega (arith, length-take (size + 1) tree.items)

@@ -1,7 +1,7 @@
 use Rattle.std.proofs.Common.{arith, rules, ◌≡◌, ◌+◌, ◌-◌, ◌≤◌, ℕ, length, take, sym, ◌∙◌}
 use Rattle.bforest_nodes.proofs.Cuts.{Balances-inner, Balances-one_inner}
 use Rattle.bforest_nodes.proofs.Rows.{last_front}
-use Rattle.bforest_nodes.proofs.States.{branch_of_inner}
+use Rattle.bforest_nodes.proofs.States.{branch_of_inner, few_children}
 use Rattle.bforest_nodes.proofs.node.NodeData.balance_inner.Goals as goal
 use Rattle.bforest_nodes.proofs.node.NodeData.balance_inner.Goals.{in_default-via-in-Branch+in_default, in_default-via-in_default}
 
@@ -34,3 +34,6 @@ pub returns-then-len-right_len-le-INNER_SIZE : goal.returns-then-len-right_len-l
 returns-then-len-right_len-le-INNER_SIZE g c =
     let b = c.in-Branch-Branch in
     rw (← c.self.view_is, ← c.rhs.view_is, b.is-0, b.is-1) (Balances-one_inner _ _ _ _ _ _ _ _ _ _ _ _ c.if-len-right_len-le-INNER_SIZE.true c.push.ensures c.put_before.ensures c.put_before-then-len-right_len-le-INNER_SIZE.ensures)
+
+pub overflow_sub-moved : goal.overflow_sub-moved
+overflow_sub-moved g c = omega (arith, few_children _ _ _ _ _ c.self.view_is c.in-Branch-Branch.is-0 c.self.invariant.1 (search rules) c.requires.underflowed)

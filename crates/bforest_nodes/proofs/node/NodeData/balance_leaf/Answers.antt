@@ -1,6 +1,6 @@
 use Rattle.std.proofs.Common.{arith, rules, ◌≡◌, length, take}
 use Rattle.bforest_nodes.proofs.Cuts.{Balances-leaf, Balances-one_leaf}
-use Rattle.bforest_nodes.proofs.States.{entries_of_leaf}
+use Rattle.bforest_nodes.proofs.States.{entries_of_leaf, under_half}
 use Rattle.bforest_nodes.proofs.node.NodeData.balance_leaf.Goals as goal
 use Rattle.bforest_nodes.proofs.node.NodeData.balance_leaf.Goals.{in_default-via-in-Entries+in_default, in_default-via-in_default}
 
@@ -30,3 +30,6 @@ pub returns-then-len-right_len : goal.returns-then-len-right_len
 returns-then-len-right_len g c =
     let b = c.in-Entries-Entries in
     rw (← c.self.view_is, ← c.rhs.view_is, b.is-0, b.is-1) (Balances-one_leaf _ _ _ _ _ _ _ _ _ _ _ c.if-len-right_len.true c.put_before.ensures c.put_before-then-len-right_len.ensures)
+
+pub overflow_sub-moved : goal.overflow_sub-moved
+overflow_sub-moved g c = omega (arith, under_half _ _ _ c.self.view_is c.in-Entries-Entries.is-0 c.self.invariant.1 (search rules) c.requires.underflowed)
