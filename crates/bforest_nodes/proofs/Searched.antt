@@ -1,9 +1,10 @@
 -- What a binary search finds among keys that increase.
-use Rattle.std.proofs.Common.{◌≡◌, ℕ, zero, suc, ◌+◌, ◌<◌, ◌≤◌, Bool, true, false, cond, not, List, [], ◌∷◌, length, refl, sym, ap, subst, ◌∙◌, arith, Result, Ok, Err, get_or, ⊎_elim, if◌then◌else◌}
+use Rattle.std.proofs.Common.{◌≡◌, ℕ, zero, suc, ◌+◌, ◌<◌, ◌≤◌, Bool, true, false, cond, not, List, [], ◌∷◌, length, take, refl, sym, ap, subst, ◌∙◌, arith, Result, Ok, Err, get_or, ⊎_elim, if◌then◌else◌}
 use borrow.Author.Tests.{ltb-true, ltb-false}
 use lib.Dec.{ltb}
 use Rattle.std.specs.Option.{option_map_or}
 use Rattle.std.proofs.lemmas.Bool.{cases_Bool}
+use Rattle.std.proofs.lemmas.List.{take_all}
 use Rattle.std.proofs.lemmas.Option.{slice_get-get_or, slice_get_past}
 use Rattle.std.proofs.lemmas.List.Sorted.{searchable_from_sorted}
 use Rattle.std.specs.declared.cmp.Ordering.{Ordering}
@@ -89,6 +90,21 @@ module _ {K : Type 0} (cmp : K → K → Ordering) where
         (λ t. test_at i false (ltb-true i (length ks) t) (ap is_eq (p.1 i k (omega arith) (ltb-true i (length ks) t))))
         (λ t. ap (λ o. option_map_or (λ x. is_eq (cmp x k)) o false) (slice_get_past ks i (ltb-false i (length ks) t)))
         (cases_Bool (ltb i (length ks)))))
+
+  -- the answer of a scan of n keys, which are all, by a test of the key behind the lesser ones
+  module _ (ks : List K) (k : K) (n i : ℕ) (all : length ks ≤ n) (count : i ≡ count_less cmp (take n ks) k) where
+    counted : count_less cmp ks k ≡ i
+    counted = ap (λ xs. count_less cmp xs k) (sym (take_all n ks all)) ∙ sym count
+
+    pub scanned : (x : K) (b : Bool) → i < length ks → x ≡ get_or ks i x → is_eq (cmp x k) ≡ b → (if b then Ok i else Err i) ≡ search_of cmp ks k
+    scanned x b within read test =
+        let at : is_equal_at cmp ks k i ≡ b = ap (λ t. option_map_or (λ y. is_eq (cmp y k)) t false) (slice_get-get_or ks i x within) ∙ ap (λ y. is_eq (cmp y k)) (sym read) ∙ test in
+        λ j. if (sym (ap (is_equal_at cmp ks k) counted ∙ at) j) then Ok (sym counted j) else Err (sym counted j)
+
+    pub scanned_past : length ks ≤ i → Err i ≡ search_of cmp ks k
+    scanned_past past =
+        let at : is_equal_at cmp ks k i ≡ false = ap (λ t. option_map_or (λ y. is_eq (cmp y k)) t false) (slice_get_past ks i past) in
+        λ j. if (sym (ap (is_equal_at cmp ks k) counted ∙ at) j) then Ok (sym counted j) else Err (sym counted j)
 
   -- a first key that is not greater counts up to k
   pub count_up_to-yes : (x : K) (xs : List K) (k : K) → is_gt (cmp x k) ≡ false → count_up_to cmp (x ∷ xs) k ≡ suc (count_up_to cmp xs k)

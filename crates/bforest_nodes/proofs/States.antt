@@ -1,10 +1,18 @@
 -- What kind of state a content comes from.
-use Rattle.std.proofs.Common.{◌≡◌, ℕ, refl}
-use Rattle.bforest_nodes.specs.Content.{IsLeaf}
-use Rattle.bforest_nodes.specs.Layout.{content_of}
+use Rattle.std.proofs.Common.{◌≡◌, ℕ, ◌+◌, ◌*◌, ◌<◌, ◌≤◌, List, arith, length, take, refl}
+use Rattle.std.proofs.lemmas.List.{length-take}
+use Rattle.bforest_nodes.specs.Content.{Content, IsFree, IsInner, IsLeaf, entry_count, keys_of}
+use Rattle.bforest_nodes.specs.Layout.{Fits, content_of}
 use Rattle.bforest_nodes.specs.declared.entries.Entries.{Entries as LeafEntries}
+use Rattle.bforest_nodes.specs.declared.number.Node.{Node}
+use Rattle.bforest_nodes.specs.declared.number.PackedNode.{PackedNode}
+use Rattle.bforest_nodes.specs.declared.row.Row.{Row}
 use Rattle.bforest_nodes.specs.declared.node.State.TheVariants.{Branch, Entries, Vacant}
 use Rattle.bforest_nodes.specs.declared.node.State.{State}
+
+-- an index among the first so many
+within_front : {X : Type 0} (count : ℕ) (xs : List X) (i : ℕ) → i < length (take count xs) → i < count
+within_front count xs i within = omega (arith, length-take count xs)
 
 module _ {K V : Type 0} {n : ℕ} where
   -- a leaf's state is entries
@@ -12,3 +20,55 @@ module _ {K V : Type 0} {n : ℕ} where
   entries_of_leaf (Branch size keys tree) other leaf = leaf
   entries_of_leaf (Entries e) other leaf = other e refl
   entries_of_leaf (Vacant next) other leaf = leaf
+
+  -- an inner node's state is a branch
+  pub branch_of_inner : (s : State K V n) → ((size : ℕ) (keys : Row K 7) (tree : Row Node 8) → s ≡ Branch size keys tree → ⊥) → IsInner (content_of s) → ⊥
+  branch_of_inner (Branch size keys tree) other inner = other size keys tree refl
+  branch_of_inner (Entries e) other inner = inner
+  branch_of_inner (Vacant next) other inner = inner
+
+  -- a free node's state is vacant
+  pub vacant_of_free : (s : State K V n) → ((next : PackedNode) → s ≡ Vacant next → ⊥) → IsFree (content_of s) → ⊥
+  vacant_of_free (Branch size keys tree) other free = free
+  vacant_of_free (Entries e) other free = free
+  vacant_of_free (Vacant next) other free = other next refl
+
+  -- a branch of eight children has seven keys
+  pub full_branch : (s : State K V n) (size : ℕ) (keys : Row K 7) (tree : Row Node 8) (whole : Content K V) → content_of s ≡ whole → s ≡ Branch size keys tree → Fits s → entry_count whole ≡ 8 → size ≡ 7
+  full_branch s size keys tree whole view is fits full =
+      let most : size ≤ 7 = rw is at fits in
+      let children : length (take (size + 1) tree.items) ≡ 8 = rw (← view, is) at full in
+      omega (arith, length-take (size + 1) tree.items)
+
+  -- a leaf of as many entries as fit
+  pub full_entries : (s : State K V n) (e : LeafEntries K V n) (whole : Content K V) → content_of s ≡ whole → s ≡ Entries e → Fits s → entry_count whole ≡ n → e.size ≡ n
+  full_entries s e whole view is fits full =
+      let most : e.size ≤ n = rw is at fits in
+      let keys : length (take e.size e.keys.items) ≡ n = rw (← view, is) at full in
+      omega (arith, length-take e.size e.keys.items)
+
+  -- an index among a leaf's entries, or behind them
+  pub entries_within : (s : State K V n) (e : LeafEntries K V n) (whole : Content K V) (i : ℕ) → content_of s ≡ whole → s ≡ Entries e → i < entry_count whole → i < e.size
+  entries_within s e whole i view is within = within_front e.size e.keys.items i (rw (← view, is) at within)
+
+  -- an index among an inner node's children
+  pub children_within : (s : State K V n) (size : ℕ) (keys : Row K 7) (tree : Row Node 8) (whole : Content K V) (i : ℕ) → content_of s ≡ whole → s ≡ Branch size keys tree → i < entry_count whole → i < size + 1
+  children_within s size keys tree whole i view is within = within_front (size + 1) tree.items i (rw (← view, is) at within)
+
+  -- an index among an inner node's keys
+  pub keys_within : (s : State K V n) (size : ℕ) (keys : Row K 7) (tree : Row Node 8) (whole : Content K V) (i : ℕ) → content_of s ≡ whole → s ≡ Branch size keys tree → i < length (keys_of whole) → i < size
+  keys_within s size keys tree whole i view is within = within_front size keys.items i (rw (← view, is) at within)
+
+  -- less than half of a leaf's room is taken
+  pub under_half : (s : State K V n) (e : LeafEntries K V n) (whole : Content K V) → content_of s ≡ whole → s ≡ Entries e → Fits s → length e.keys.items ≡ n → 2 * entry_count whole < n → 2 * e.size < n
+  under_half s e whole view is fits room under =
+      let most : e.size ≤ n = rw is at fits in
+      let keys : 2 * length (take e.size e.keys.items) < n = rw (← view, is) at under in
+      omega (arith, length-take e.size e.keys.items)
+
+  -- less than half of an inner node's children are there
+  pub few_children : (s : State K V n) (size : ℕ) (keys : Row K 7) (tree : Row Node 8) (whole : Content K V) → content_of s ≡ whole → s ≡ Branch size keys tree → Fits s → length tree.items ≡ 8 → entry_count whole < 4 → size + 1 < 4
+  few_children s size keys tree whole view is fits room under =
+      let most : size ≤ 7 = rw is at fits in
+      let children : length (take (size + 1) tree.items) < 4 = rw (← view, is) at under in
+      omega (arith, length-take (size + 1) tree.items)

@@ -2,7 +2,11 @@ use Rattle.std.proofs.Common.{◌≡◌, ◌≤◌, length, take, refl, sym, ap,
 use Rattle.std.proofs.lemmas.List.{length-take-le}
 use Rattle.bforest_nodes.specs.Content.{Leaf}
 use Rattle.bforest_nodes.proofs.Prefixes.{over_front}
+use Rattle.bforest_nodes.proofs.States.{entries_of_leaf}
 use Rattle.bforest_nodes.proofs.node.NodeData.unwrap_leaf_mut.Goals as goal
+
+pub unreachable-requires : goal.unreachable-requires
+unreachable-requires g c = entries_of_leaf c.self.inside.state c.in_default.not-Entries (rw (← c.self.view_is) at c.requires)
 
 pub returns : goal.returns
 returns g c =

@@ -3,7 +3,11 @@ use Rattle.std.proofs.Math.Seq.{take-set-lt}
 use Rattle.std.proofs.lemmas.List.{length-take}
 use Rattle.bforest_nodes.specs.Content.{Leaf}
 use Rattle.bforest_nodes.proofs.Prefixes.{get_front}
+use Rattle.bforest_nodes.proofs.States.{entries_of_leaf}
 use Rattle.bforest_nodes.proofs.node.NodeData.value_mut.Goals as goal
+
+pub unreachable-requires : goal.unreachable-requires
+unreachable-requires g c = entries_of_leaf c.self.inside.state c.in_default.not-Entries (rw (← c.self.view_is) at c.requires.leaf)
 
 pub returns : goal.returns
 returns g c =

@@ -1,0 +1,23 @@
+use Rattle.std.proofs.Common.{◌≡◌, ◌+◌, arith, length, rules, take}
+use Rattle.std.proofs.lemmas.Grind.{common_steps}
+use Rattle.bforest_nodes.proofs.Cuts.{without_child-many, without_child-one}
+use Rattle.bforest_nodes.proofs.States.{branch_of_inner}
+use Rattle.bforest_nodes.proofs.node.NodeData.inner_remove.Given.{Over}
+use Rattle.bforest_nodes.proofs.node.NodeData.inner_remove.Goals as goal
+use Rattle.bforest_nodes.proofs.node.NodeData.inner_remove.Goals.{else-left-gt0, then-left-gt0}
+
+pub unreachable-requires : goal.unreachable-requires
+unreachable-requires g c = branch_of_inner c.self.inside.state c.in_default.not-Branch (rw (← c.self.view_is) at c.requires.inner)
+
+pub returns-clause-answer : goal.returns-clause-answer
+returns-clause-answer g c = grind (arith, common_steps)
+
+-- how many children there are
+tree_len : (g : Over) (c : goal.After-answer_of g) → length (take (c.in-Branch.size + 1) c.in-Branch.tree.items) ≡ c.in-Branch.size + 1
+tree_len g c = search rules
+
+pub returns-clause-node : goal.returns-clause-node
+returns-clause-node g c = elim c.if-left-gt0.branch [
+  | then-left-gt0 w ↦ rw (← c.self.view_is, c.in-Branch.is, w.self-inside-is) (without_child-many _ _ _ _ _ _ _ w.if-left-gt0.true (tree_len g c) w.saturating_sub.ensures w.remove.ensures w.remove-then-left-gt0.ensures)
+  | else-left-gt0 w ↦ rw (← c.self.view_is, w.self-inside-is, c.in-Branch.is) (without_child-one _ _ _ _ w.if-left-gt0.false (tree_len g c))
+]

@@ -1,0 +1,12 @@
+use Rattle.std.proofs.Common.{rules}
+use Rattle.bforest_nodes.proofs.States.{entries_of_leaf}
+use Rattle.bforest_nodes.proofs.node.NodeData.unwrap_leaf.Goals as goal
+
+pub unreachable-requires : goal.unreachable-requires
+unreachable-requires g c = entries_of_leaf c.self.inside.state c.in_default.not-Entries (rw (← c.self.view_is) at c.requires.leaf)
+
+pub returns-clause-value : goal.returns-clause-value
+returns-clause-value g c = search rules
+
+pub returns-clause-shape : goal.returns-clause-shape
+returns-clause-shape g c = search rules

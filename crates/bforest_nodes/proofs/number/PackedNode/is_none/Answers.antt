@@ -1,0 +1,5 @@
+use Rattle.std.proofs.Common.{rules}
+use Rattle.bforest_nodes.proofs.number.PackedNode.is_none.Goals as goal
+
+pub returns : goal.returns
+returns c = search rules
