@@ -5,6 +5,7 @@ ghost use Rattle.tree_cases.specs.Ordered.{CanGoOn, IsOrderedAt, StandsSomewhere
 ghost use Rattle.std.specs.Prelude.{IfOk, IfSome, OnErr, ℕ, ◌<◌, ◌≡◌, ◌≢◌};
 
 use bforest_core::{Node, NodePool, OutOfMemory, Path};
+use bforest_plain_tests::Plain;
 use std::alloc::{AllocError, Global};
 use std::marker::Model;
 use std::process::Abort;
@@ -157,57 +158,63 @@ impl<const N: usize> Tree<N> {
         Ok(text)
     }
 
-    /// The sizes of the nodes of a level, that of the leaves at height 0.
-    pub(crate) fn sizes(&self, alloc: Global, height: usize) -> Result<Vec<usize>, AllocError> {
+    /// Whether the nodes have the sizes of the plain program's, level by level.
+    pub(crate) fn has_sizes(&self, alloc: Global, plain: &Plain) -> Result<bool, AllocError> {
+        if self.levels() != plain.levels() {
+            return Ok(false);
+        }
         let mut row = Vec::new(alloc);
         if let Some(root) = self.root {
             row.push(root)?;
         }
-        for _above in height.saturating_add(1)..self.levels() {
+        for height in (0..plain.levels()).rev() {
+            if !are_sizes(&self.pool, &row, plain.level(height)) {
+                return Ok(false);
+            }
             row = row_below(&self.pool, alloc, &row)?;
         }
-        let mut sizes = Vec::new(alloc);
-        for node in &row {
-            sizes.push(size(&self.pool, *node))?;
-        }
-        Ok(sizes)
+        Ok(true)
     }
 
-    /// The entries from the first on, at most one more than so many.
-    pub(crate) fn entries(
-        &self,
-        alloc: Global,
-        most: usize,
-    ) -> Result<Vec<(u32, u32)>, AllocError> {
-        let mut entries = Vec::new(alloc);
-        let mut path = Path::default();
-        if let Some(root) = self.root {
-            entries.push(first(&mut path, root, &self.pool))?;
-            'steps: for _step in 0..most {
-                if let Some(entry) = next(&mut path, &self.pool) {
-                    entries.push(entry)?;
-                }
+    /// Whether each of these entries is found by its key.
+    pub(crate) fn finds(&self, list: &[(u32, u32)]) -> bool {
+        for (key, value) in list {
+            if self.get(*key) != Some(*value) {
+                return false;
             }
         }
-        Ok(entries)
+        true
     }
 
-    /// The entries from the last back, at most one more than so many.
-    pub(crate) fn entries_backward(
-        &self,
-        alloc: Global,
-        most: usize,
-    ) -> Result<Vec<(u32, u32)>, AllocError> {
-        let mut entries = Vec::new(alloc);
+    /// Whether steps from the first entry on give these entries, and nothing from then on.
+    pub(crate) fn gives(&self, list: &[(u32, u32)]) -> bool {
+        let (Some(root), [head, rest @ ..]) = (self.root, list) else {
+            return self.root.is_none() && list.is_empty();
+        };
         let mut path = Path::default();
-        if let Some(root) = self.root {
-            'steps: for _step in 0..=most {
-                if let Some(entry) = prev(&mut path, root, &self.pool) {
-                    entries.push(entry)?;
-                }
+        if first(&mut path, root, &self.pool) != *head {
+            return false;
+        }
+        'steps: for entry in rest {
+            if next(&mut path, &self.pool) != Some(*entry) {
+                return false;
             }
         }
-        Ok(entries)
+        next(&mut path, &self.pool).is_none() && next(&mut path, &self.pool).is_none()
+    }
+
+    /// Whether steps from the end back give these entries, and nothing from then on.
+    pub(crate) fn gives_back(&self, list: &[(u32, u32)]) -> bool {
+        let Some(root) = self.root else {
+            return list.is_empty();
+        };
+        let mut path = Path::default();
+        'steps: for at in 0..list.len() {
+            if prev(&mut path, root, &self.pool) != Some(list[list.len() - 1 - at]) {
+                return false;
+            }
+        }
+        prev(&mut path, root, &self.pool).is_none()
     }
 }
 
@@ -328,6 +335,16 @@ fn row_below<const N: usize>(
         }
     }
     Ok(below)
+}
+
+// Whether the nodes of a row have these sizes.
+fn are_sizes<const N: usize>(pool: &Pool<N>, row: &[Node], sizes: &[usize]) -> bool {
+    for (node, wanted) in row.iter().zip(sizes) {
+        if size(pool, *node) != *wanted {
+            return false;
+        }
+    }
+    row.len() == sizes.len()
 }
 
 // How many entries or children a node has.

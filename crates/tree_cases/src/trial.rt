@@ -5,7 +5,8 @@ use crate::tree::Tree;
 use crate::words::{Stop, keys, number};
 use bforest_core::OutOfMemory;
 use bforest_plain_tests::Plain;
-use std::alloc::Global;
+use std::alloc::{AllocError, Global};
+use std::fmt;
 
 /// A tree, and what the plain program makes of the same calls.
 #[derive(Drop)]
@@ -30,8 +31,8 @@ impl<const N: usize> Trial<N> {
     /// What an operation answers.
     pub(crate) fn answer(&mut self, alloc: Global, words: &[&str]) -> Result<String, Stop> {
         match words {
-            ["insert", words @ ..] => self.insert_all(alloc, &keys(alloc, words)?),
-            ["remove", words @ ..] => self.remove_all(alloc, &keys(alloc, words)?),
+            ["insert", keys @ ..] => self.insert_all(alloc, keys),
+            ["remove", keys @ ..] => self.remove_all(alloc, keys),
             ["put", key, value] => self.put(alloc, number(key)?, number(value)?),
             ["count", key] => self.count(alloc, number(key)?),
             ["random", seed, steps, keys] => {
@@ -44,40 +45,45 @@ impl<const N: usize> Trial<N> {
 
     // What an operation answers that changes nothing.
     fn told(&self, alloc: Global, words: &[&str]) -> Result<String, Stop> {
+        match words {
+            ["stat"] => self.counted(alloc),
+            ["keys"] => text(self.tree.shown(alloc)),
+            ["root"] => text(Number(self.tree.root()).to_string(alloc)),
+            [asked, key] => self.told_of(alloc, asked, number(key)?),
+            _ => Err(Stop::Bad),
+        }
+    }
+
+    // What a question about a key, or about a node's number, is answered.
+    fn told_of(&self, alloc: Global, asked: &str, key: u32) -> Result<String, Stop> {
         let tree = &self.tree;
-        Ok(match words {
-            ["get", key] => shown(alloc, tree.get(number(key)?))?,
-            ["find", key] => match tree.position(number(key)?) {
-                Some((leaf, index)) => format!(in alloc; "leaf {leaf} index {index}")?,
-                None => format!(in alloc; "none")?,
-            },
-            ["at", key] => shown_entry(alloc, tree.entry_from(number(key)?))?,
-            ["after", key] => shown_entry(alloc, tree.entry_after(number(key)?))?,
-            ["before", key] => shown_entry(alloc, tree.entry_before(number(key)?))?,
-            ["need", key] => shown(alloc, tree.need(number(key)?))?,
-            ["root"] => shown(alloc, tree.root())?,
-            ["is_root", node] => {
-                let is_root = tree.is_root(number(node)?);
-                format!(in alloc; "{is_root}")?
-            }
-            ["stat"] => {
-                let (levels, slots, free) = (tree.levels(), tree.slots(), tree.free());
-                format!(in alloc; "levels {levels} slots {slots} free {free}")?
-            }
-            ["keys"] => tree.shown(alloc)?,
+        text(match asked {
+            "get" => Number(tree.get(key)).to_string(alloc),
+            "need" => Number(tree.need(key)).to_string(alloc),
+            "find" => Position(tree.position(key)).to_string(alloc),
+            "at" => Entry(tree.entry_from(key)).to_string(alloc),
+            "after" => Entry(tree.entry_after(key)).to_string(alloc),
+            "before" => Entry(tree.entry_before(key)).to_string(alloc),
+            "is_root" => tree.is_root(key).to_string(alloc),
             _ => return Err(Stop::Bad),
         })
     }
 
+    // The counts of levels and slots.
+    fn counted(&self, alloc: Global) -> Result<String, Stop> {
+        let (levels, slots, free) = (self.tree.levels(), self.tree.slots(), self.tree.free());
+        text(format!(in alloc; "levels {levels} slots {slots} free {free}"))
+    }
+
     // Puts keys in, each as its own value, until one is refused.
-    fn insert_all(&mut self, alloc: Global, keys: &[u32]) -> Result<String, Stop> {
-        for key in keys {
+    fn insert_all(&mut self, alloc: Global, words: &[&str]) -> Result<String, Stop> {
+        for key in &keys(alloc, words)? {
             if let Err(refused) = self.insert(alloc, *key, *key)? {
                 let why = refusal(refused);
-                return Ok(format!(in alloc; "{why} at {key}")?);
+                return text(format!(in alloc; "{why} at {key}"));
             }
         }
-        Ok(format!(in alloc; "ok")?)
+        text(format!(in alloc; "ok"))
     }
 
     // Puts an entry in.
@@ -86,18 +92,17 @@ impl<const N: usize> Trial<N> {
             Ok(()) => "ok",
             Err(refused) => refusal(refused),
         };
-        Ok(format!(in alloc; "{answer}")?)
+        text(format!(in alloc; "{answer}"))
     }
 
     // Takes keys out, and answers the value of the last one and the entry at which the path stands then.
-    fn remove_all(&mut self, alloc: Global, keys: &[u32]) -> Result<String, Stop> {
+    fn remove_all(&mut self, alloc: Global, words: &[&str]) -> Result<String, Stop> {
         let mut answer = (None, None);
-        for key in keys {
+        for key in &keys(alloc, words)? {
             answer = self.remove(alloc, *key)?;
         }
-        let value = shown(alloc, answer.0)?;
-        let next = shown_entry(alloc, answer.1)?;
-        Ok(format!(in alloc; "{value} before {next}")?)
+        let (value, next) = (Number(answer.0), Entry(answer.1));
+        text(format!(in alloc; "{value} before {next}"))
     }
 
     // Adds one to the value of a key.
@@ -107,7 +112,7 @@ impl<const N: usize> Trial<N> {
             self.plain.insert(key, value.wrapping_add(1))?;
         }
         self.compare(alloc)?;
-        Ok(format!(in alloc; "{is_there}")?)
+        text(format!(in alloc; "{is_there}"))
     }
 
     // Ends the tree.
@@ -115,7 +120,7 @@ impl<const N: usize> Trial<N> {
         self.tree.end();
         self.plain.clear();
         self.compare(alloc)?;
-        Ok(format!(in alloc; "ok")?)
+        text(format!(in alloc; "ok"))
     }
 
     // Puts keys below a number in and takes them out, without an order, in rounds of which each second one mostly takes out.
@@ -131,7 +136,7 @@ impl<const N: usize> Trial<N> {
                 let _refused = self.insert(alloc, key, step)?;
             }
         }
-        Ok(format!(in alloc; "ok")?)
+        text(format!(in alloc; "ok"))
     }
 
     // Puts an entry into both. It is refused exactly where the plain program needs more nodes than can be had.
@@ -143,13 +148,10 @@ impl<const N: usize> Trial<N> {
     ) -> Result<Result<(), OutOfMemory>, Stop> {
         let need = self.plain.need(key);
         let is_full = self.plain.nodes().saturating_add(need) > self.limit;
-        let told = self.tree.need(key);
+        let told = self.tree.need(key).unwrap_or(need);
         let answer = self.tree.insert(key, value);
-        if is_full != (answer == Err(OutOfMemory::Full)) || told.unwrap_or(need) != need {
-            let why = format!(in alloc;
-                "inserting {key}: {answer:?}, {told:?} nodes needed of {need}"
-            )?;
-            return Err(Stop::Differs(why));
+        if is_full != (answer == Err(OutOfMemory::Full)) || told != need {
+            return differ(format!(in alloc; "inserting {key}: it needs {need} nodes"));
         }
         if answer.is_ok() {
             self.plain.insert(key, value)?;
@@ -164,50 +166,43 @@ impl<const N: usize> Trial<N> {
         alloc: Global,
         key: u32,
     ) -> Result<(Option<u32>, Option<(u32, u32)>), Stop> {
-        let next = self
-            .plain
-            .list()
-            .iter()
-            .find(|entry| entry.0 > key)
-            .copied();
+        let next = behind(self.plain.list(), key);
         let wanted = self.plain.remove(key);
         let (value, entry) = self.tree.remove(key);
         if value != wanted || wanted.is_some() && entry != next {
-            let why = format!(in alloc; "removing {key}: {value:?} before {entry:?}")?;
-            return Err(Stop::Differs(why));
+            return differ(format!(in alloc; "removing {key}: another answer"));
         }
         self.compare(alloc)?;
         Ok((value, entry))
     }
 
-    // Compares the two: entries from both ends and by key, sizes of nodes, and the count of used slots.
+    // Compares the two.
     fn compare(&self, alloc: Global) -> Result<(), Stop> {
-        let list = self.plain.list();
-        let forward = self.tree.entries(alloc, list.len())?;
-        let backward = self.tree.entries_backward(alloc, list.len())?;
-        let is_same = forward.as_slice() == list
-            && backward.iter().eq(list.iter().rev())
-            && list
-                .iter()
-                .all(|entry| self.tree.get(entry.0) == Some(entry.1));
-        if !is_same {
-            let why = format!(in alloc; "entries {forward:?} and {backward:?}, and not {list:?}")?;
-            return Err(Stop::Differs(why));
+        if !self.has_same_entries() {
+            return differ(format!(in alloc; "other entries"));
         }
-        let used = self.tree.slots().saturating_sub(self.tree.free());
-        if self.tree.levels() != self.plain.levels() || used != self.plain.nodes() {
-            let why = format!(in alloc; "{used} nodes used")?;
-            return Err(Stop::Differs(why));
-        }
-        for height in 0..self.plain.levels() {
-            let sizes = self.tree.sizes(alloc, height)?;
-            if sizes.as_slice() != self.plain.level(height) {
-                let why = format!(in alloc; "sizes {sizes:?} at height {height}")?;
-                return Err(Stop::Differs(why));
-            }
+        if !self.has_same_nodes(alloc)? {
+            return differ(format!(in alloc; "other nodes"));
         }
         Ok(())
     }
+
+    // Whether both have the same entries: from both ends, and by key.
+    fn has_same_entries(&self) -> bool {
+        let list = self.plain.list();
+        self.tree.gives(list) && self.tree.gives_back(list) && self.tree.finds(list)
+    }
+
+    // Whether both have nodes of the same sizes, and no other slot is in use.
+    fn has_same_nodes(&self, alloc: Global) -> Result<bool, AllocError> {
+        let used = self.tree.slots().saturating_sub(self.tree.free());
+        Ok(used == self.plain.nodes() && self.tree.has_sizes(alloc, &self.plain)?)
+    }
+}
+
+// The first entry of a greater key.
+fn behind(list: &[(u32, u32)], key: u32) -> Option<(u32, u32)> {
+    list.iter().find(|entry| entry.0 > key).copied()
 }
 
 // How an insertion that was refused is answered.
@@ -218,18 +213,54 @@ fn refusal(refused: OutOfMemory) -> &'static str {
     }
 }
 
-// A number, or that there is none.
-fn shown(alloc: Global, number: Option<u32>) -> Result<String, Stop> {
-    Ok(match number {
-        Some(number) => format!(in alloc; "{number}")?,
-        None => format!(in alloc; "none")?,
+// An answer.
+fn text(made: Result<String, AllocError>) -> Result<String, Stop> {
+    made.map_err(Stop::from)
+}
+
+// That the two differ.
+fn differ<T>(why: Result<String, AllocError>) -> Result<T, Stop> {
+    Err(match why {
+        Ok(why) => Stop::Differs(why),
+        Err(_) => Stop::Memory,
     })
 }
 
-// An entry, or that there is none.
-fn shown_entry(alloc: Global, entry: Option<(u32, u32)>) -> Result<String, Stop> {
-    Ok(match entry {
-        Some((key, value)) => format!(in alloc; "{key}:{value}")?,
-        None => format!(in alloc; "end")?,
-    })
+/// A number, or that there is none.
+#[derive(Clone, Copy)]
+struct Number(Option<u32>);
+
+impl fmt::Display for Number {
+    fn fmt<W: fmt::Write>(&self, f: &mut fmt::Formatter<W>) -> fmt::Result {
+        match self.0 {
+            Some(number) => write!(f, "{number}"),
+            None => write!(f, "none"),
+        }
+    }
+}
+
+/// An entry, or that there is none.
+#[derive(Clone, Copy)]
+struct Entry(Option<(u32, u32)>);
+
+impl fmt::Display for Entry {
+    fn fmt<W: fmt::Write>(&self, f: &mut fmt::Formatter<W>) -> fmt::Result {
+        match self.0 {
+            Some((key, value)) => write!(f, "{key}:{value}"),
+            None => write!(f, "end"),
+        }
+    }
+}
+
+/// A leaf and a place in it, or that there is none.
+#[derive(Clone, Copy)]
+struct Position(Option<(u32, usize)>);
+
+impl fmt::Display for Position {
+    fn fmt<W: fmt::Write>(&self, f: &mut fmt::Formatter<W>) -> fmt::Result {
+        match self.0 {
+            Some((leaf, index)) => write!(f, "leaf {leaf} index {index}"),
+            None => write!(f, "none"),
+        }
+    }
 }
