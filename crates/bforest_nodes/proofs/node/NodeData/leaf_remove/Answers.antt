@@ -19,6 +19,3 @@ remove-requires-in-Entries g c = search (rules, entries_within _ _ _ _ c.self.vi
 
 pub overflow_sub-size : goal.overflow_sub-size
 overflow_sub-size g c = search (rules, entries_within _ _ _ _ c.self.view_is c.in-Entries.is c.requires.within)
-
-pub overflow_sub-len : goal.overflow_sub-len
-overflow_sub-len g c = search (rules, entries_within _ _ _ _ c.self.view_is c.in-Entries.is c.requires.within)
