@@ -14,3 +14,7 @@ returns-in-Clear-clause-answer c =
 pub returns-in-Retain-clause-answer : goal.returns-in-Retain-clause-answer
 returns-in-Retain-clause-answer c =
     subst (λ (z : Line). Answers c.args.self.now z c.retain.result c.retain.new.self) (sym c.in-Retain.is) c.retain.ensures
+
+pub returns-in-Insert-clause-answer : goal.returns-in-Insert-clause-answer
+returns-in-Insert-clause-answer c =
+    subst (λ (z : Line). Answers c.args.self.now z c.insert.result c.insert.new.self) (sym c.in-Insert.is) c.insert.ensures
