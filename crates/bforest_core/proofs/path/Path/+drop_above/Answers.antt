@@ -121,3 +121,33 @@ returns-else-entries-eq1 g t c = λ rows a y x p.
     let len : length (a ++ y ∷ []) ≡ suc (length a) = length-append a (y ∷ []) ∙ omega arith in
     let f = drop_keep t0 c.remove_child-answer.new.pool path indices up size rows (a ++ y ∷ []) x d (λ (e : length es ≡ 1). c.if-entries-eq1.false (cnt ∙ e)) u_is in
     ([], subst (λ (z : ℕ). Dropped t0 c.remove_child-answer.new.pool path size rows (a ++ y ∷ []) (loss_above (Some z) (map sizes rows)) []) len f)
+
+pub bounds-self-up : goal.bounds-self-up
+bounds-self-up g t c = 
+    let w = c.requires.pending in
+    let low = above_two _ _ _ _ _ w.0 w.1 w.2 w.3 [] _ w.4 in
+    omega (arith, low)
+
+pub bounds-self-up-else-entries-eq1 : goal.bounds-self-up-else-entries-eq1
+bounds-self-up-else-entries-eq1 g t c = 
+    let w = c.requires.pending in
+    let low = above_two _ _ _ _ _ w.0 w.1 w.2 w.3 [] _ w.4 in
+    omega (arith, low)
+
+pub listed : goal.listed
+listed g t c = 
+    let w = c.requires.pending in
+    let low = above_two _ _ _ _ _ w.0 w.1 w.2 w.3 [] _ w.4 in
+    omega (arith, low)
+
+pub offset_bounds-self-up : goal.offset_bounds-self-up
+offset_bounds-self-up g t c = 
+    let w = c.requires.pending in
+    let low = above_two _ _ _ _ _ w.0 w.1 w.2 w.3 [] _ w.4 in
+    omega (arith, low)
+
+pub overflow_add-up : goal.overflow_add-up
+overflow_add-up g t c = 
+    let w = c.requires.pending in
+    let low = above_two _ _ _ _ _ w.0 w.1 w.2 w.3 [] _ w.4 in
+    omega (arith, low)

@@ -163,3 +163,33 @@ returns-else-index-entries g c = λ rows a k m k2 n b p.
     let key_is = c.separator-key-else-index-entries.ensures (drop 1 (entry_keys es)) (entry_items es) slot in
     let k_is = moved_key d.q.l d.q.r es o.z o.zs (k, m) (get_or c.args.self.now.entry c.args.up 0) c.separator-key-else-index-entries.result o.l_is o.r_is refl d.q.entry_is key_is in
     take_over t c.rekey_next.new.pool c.remove_child-answer-else-index-entries.new.pool c.args.self.now.node c.args.self.now.entry c.args.up c.args.self.now.size rows a k m k2 n b d o (rw (k_is, add-one) at reb) slot_v (rw here at u_is)
+
+pub bounds-self-up : goal.bounds-self-up
+bounds-self-up g c = 
+    let w = c.requires.pending in
+    let low = above_two _ _ _ _ _ w.0 w.1 (w.2, w.3) (w.4, w.5) w.6 _ w.7 in
+    omega (arith, low)
+
+pub bounds-self-up-2 : goal.bounds-self-up-2
+bounds-self-up-2 g c = 
+    let w = c.requires.pending in
+    let low = above_two _ _ _ _ _ w.0 w.1 (w.2, w.3) (w.4, w.5) w.6 _ w.7 in
+    omega (arith, low)
+
+pub listed : goal.listed
+listed g c = 
+    let w = c.requires.pending in
+    let low = above_two _ _ _ _ _ w.0 w.1 (w.2, w.3) (w.4, w.5) w.6 _ w.7 in
+    omega (arith, low)
+
+pub offset_bounds-self-up : goal.offset_bounds-self-up
+offset_bounds-self-up g c = 
+    let w = c.requires.pending in
+    let low = above_two _ _ _ _ _ w.0 w.1 (w.2, w.3) (w.4, w.5) w.6 _ w.7 in
+    omega (arith, low)
+
+pub overflow_add-up : goal.overflow_add-up
+overflow_add-up g c = 
+    let w = c.requires.pending in
+    let low = above_two _ _ _ _ _ w.0 w.1 (w.2, w.3) (w.4, w.5) w.6 _ w.7 in
+    omega (arith, low)
