@@ -1,7 +1,10 @@
-use Rattle.std.proofs.Common.{rules, ◌≡◌, Err, refl, ap, ◌∙◌}
+use Rattle.std.proofs.Common.{rules, [], ◌∷◌, ◌≡◌, Err, refl, ap, ◌∙◌, length, sym, arith}
 use Rattle.std.proofs.lemmas.Bool.{false≢true}
 use Rattle.std.proofs.lemmas.Result.{err_from_is_err_and}
-use Rattle.bforest_core.proofs.Insertion.{err-same, err-back}
+use Rattle.bforest_nodes.specs.Content.{Leaf}
+use Rattle.bforest_core.specs.Table.{front_of}
+use Rattle.bforest_core.proofs.Allocating.{ok_not_err, reserved_taken_is, used_written}
+use Rattle.bforest_core.proofs.Insertion.{err-same, err-back, reserved-free}
 use Rattle.bforest_core.proofs.pool.NodePool.alloc_node.Given.{Over}
 use Rattle.bforest_core.proofs.pool.NodePool.alloc_node.Goals as goal
 
@@ -35,3 +38,24 @@ returns-in_err-reserve-clause-memory g c = λ is. c.in_err-reserve.ensures.memor
 
 pub returns-in_err-reserve-clause-enough : goal.returns-in_err-reserve-clause-enough
 returns-in_err-reserve-clause-enough g c = λ enough. absurd (false≢true (c.in_err-reserve.ensures.enough enough))
+
+pub take_slot-node-requires : goal.take_slot-node-requires
+take_slot-node-requires g c = (search rules, omega (arith, ap (λ z. length z.chain) c.in_ok-reserve.ensures.ok, reserved-free c.args.self.now 1))
+
+pub node_mut-requires : goal.node_mut-requires
+node_mut-requires g c = (search rules, (search rules, c.take_slot-node.ensures.used))
+
+pub returns-clause-node : goal.returns-clause-node
+returns-clause-node g c = ap (λ z. front_of z.chain) (sym c.in_ok-reserve.ensures.ok) ∙ c.take_slot-node.ensures.node
+
+pub returns-clause-ok : goal.returns-clause-ok
+returns-clause-ok g c = reserved_taken_is c.args.self.now c.reserve.new.self c.take_slot-node.new.self c.take_slot-node.result c.leaf.new.self (Leaf (c.args.key ∷ []) (c.args.value ∷ [])) c.in_ok-reserve.ensures.ok c.take_slot-node.ensures.node c.take_slot-node.ensures.table c.leaf.ensures.node
+
+pub returns-clause-used : goal.returns-clause-used
+returns-clause-used g c = used_written _ _ _ c.take_slot-node.ensures.used
+
+pub returns-clause-full : goal.returns-clause-full
+returns-clause-full g c = (λ is. absurd (ok_not_err _ _ is), λ short. absurd (ok_not_err _ _ (c.in_ok-reserve.ensures.full.1 short)))
+
+pub returns-clause-memory : goal.returns-clause-memory
+returns-clause-memory g c = λ is. absurd (ok_not_err _ _ is)
