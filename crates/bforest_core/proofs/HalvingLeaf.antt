@@ -13,7 +13,7 @@ use Rattle.bforest_core.proofs.LeafHalving.{Odd, odd, LeafSplit, leaf_full_is, l
 use Rattle.bforest_core.proofs.LeafParted.{leaf_parted_early, leaf_parted_late}
 
 -- what was written where there was room
-put_done : {K V : Type 0} (put : Bool) (t u : Table K V) (n m : ℕ) (c d : Content K V) → n ≡ m → put ≡ true → u ≡ with_node t n (if put then c else d) → u ≡ with_node t m c
+pub put_done : {K V : Type 0} (put : Bool) (t u : Table K V) (n m : ℕ) (c d : Content K V) → n ≡ m → put ≡ true → u ≡ with_node t n (if put then c else d) → u ≡ with_node t m c
 put_done put t u n m c d here done is = (rw done at is) ∙ ap (λ z. with_node t z c) here
 
 module _ {K V : Type 0} where
