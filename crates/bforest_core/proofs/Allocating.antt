@@ -1,5 +1,5 @@
 -- Taking a free node, and making sure that there are some, over plain values.
-use Rattle.std.proofs.Common.{◌≡◌, ℕ, zero, suc, ◌+◌, ◌-◌, ◌≤◌, ◌<◌, List, length, length-set, append-nil, Some, Result, Ok, Err, sym, ap, ◌∙◌, arith}
+use Rattle.std.proofs.Common.{◌≡◌, ℕ, zero, suc, ◌-◌, ◌≤◌, ◌<◌, List, length, length-set, append-nil, Some, Result, Ok, Err, sym, ap, ◌∙◌, arith}
 use Rattle.bforest_nodes.specs.Content.{Content}
 use Rattle.bforest_core.specs.declared.pool.OutOfMemory.{OutOfMemory}
 use Rattle.bforest_core.specs.declared.pool.OutOfMemory.TheVariants.{Full, Memory}

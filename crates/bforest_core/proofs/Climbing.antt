@@ -5,7 +5,7 @@ use Rattle.bforest_core.specs.Table.{Table, IsFullAt}
 use Rattle.bforest_core.specs.Levels.{LevelNode, heads, sizes}
 use Rattle.bforest_core.specs.Sizes.{need_above, gain_above}
 use Rattle.bforest_core.specs.Climb.{Above, Grown, Halved}
-use Rattle.bforest_core.proofs.Zipper.{Spot, spot}
+use Rattle.bforest_core.proofs.Zipper.{spot}
 use Rattle.bforest_core.proofs.Halving.{full_is}
 use Rattle.bforest_core.proofs.Rise.{rise, need_halved, gain_halved, need_full, above_from, grown_from}
 

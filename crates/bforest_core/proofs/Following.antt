@@ -1,11 +1,10 @@
 -- The child below which a search goes on, over plain values.
-use Rattle.std.proofs.Common.{◌≡◌, ℕ, ◌≤◌, ◌<◌, List, length, slice_get, Some, not, refl, sym, ap, subst, ◌∙◌, arith}
+use Rattle.std.proofs.Common.{◌≡◌, ℕ, ◌≤◌, ◌<◌, List, length, slice_get, Some, not, sym, ap, subst, ◌∙◌, arith}
 use Rattle.std.specs.declared.cmp.Ordering.{Ordering}
 use Rattle.std.specs.List.Sorted.{IsStrictlySortedBy}
 use Rattle.std.specs.Ordering.{is_gt}
 use Rattle.std.proofs.lemmas.List.Sums.{count_by-le-length}
-use Rattle.std.proofs.lemmas.Option.{slice_get_read}
-use Rattle.bforest_nodes.specs.Content.{Content, HasShape, Inner, IsInner}
+use Rattle.bforest_nodes.specs.Content.{Content, HasShape, Inner}
 use Rattle.bforest_core.specs.Descent.{child_index}
 use Rattle.bforest_core.proofs.Stored.{some_same}
 

@@ -1,5 +1,5 @@
 -- Halving the path's full leaf, and putting the entry into one half: each answer of `halve_leaf` is one of these.
-use Rattle.std.proofs.Common.{◌≡◌, ◌≢◌, ℕ, ◌-◌, ◌/◌, ◌≤◌, ◌<◌, IsTrue, ◌↔◌, true, false, Bool, if◌then◌else◌, List, ◌∷◌, ◌++◌, length, set, get_or, slice_get, Some, refl, sym, ap, ◌∙◌, subst, arith, length-append}
+use Rattle.std.proofs.Common.{◌≡◌, ℕ, ◌-◌, ◌/◌, ◌≤◌, ◌<◌, IsTrue, ◌↔◌, true, false, Bool, if◌then◌else◌, List, ◌∷◌, ◌++◌, length, set, get_or, slice_get, Some, refl, sym, ap, ◌∙◌, subst, arith, length-append}
 use Rattle.std.proofs.lemmas.List.{get_or_default, get_or-set_same, get_or-set_other}
 use Rattle.bforest_nodes.specs.Content.{Content, Leaf, IsLeafCapacity, with_entry}
 use Rattle.bforest_nodes.specs.declared.node.SplitOff.{SplitOff}

@@ -1,7 +1,7 @@
 -- Halving the path's full inner node, and putting the child into one half: each answer of `split_here` is one of these.
-use Rattle.std.proofs.Common.{◌≡◌, ℕ, suc, ◌+◌, ◌-◌, ◌≤◌, ◌<◌, IsTrue, ◌↔◌, true, false, Bool, if◌then◌else◌, List, ◌∷◌, ◌++◌, drop, length, set, get_or, slice_get, Some, refl, sym, ap, ◌∙◌, subst, arith}
+use Rattle.std.proofs.Common.{◌≡◌, ℕ, suc, ◌-◌, ◌≤◌, ◌<◌, IsTrue, ◌↔◌, true, false, Bool, if◌then◌else◌, List, ◌∷◌, ◌++◌, drop, length, set, get_or, slice_get, Some, refl, sym, ap, ◌∙◌, subst, arith}
 use Rattle.std.proofs.lemmas.List.{get_or_default, get_or-set_same, get_or-set_other}
-use Rattle.bforest_nodes.specs.Content.{Content, Inner, with_child}
+use Rattle.bforest_nodes.specs.Content.{Inner, with_child}
 use Rattle.bforest_nodes.specs.declared.node.SplitOff.{SplitOff}
 use Rattle.bforest_core.specs.Table.{Table, IsUsed, IsFullAt, IsSplitAt, front_of, with_node}
 use Rattle.bforest_core.specs.Levels.{LevelNode}

@@ -1,5 +1,5 @@
 -- Going down the last nodes of a tree, one level further: each answer of `descend_last` at an inner node is one of these.
-use Rattle.std.proofs.Common.{◌≡◌, ◌≢◌, ℕ, suc, ◌+◌, ◌-◌, ◌≤◌, ◌<◌, List, [], ◌∷◌, ◌++◌, length, get_or, set, slice_get, Some, sym, ap, subst, ◌∙◌, arith}
+use Rattle.std.proofs.Common.{◌≡◌, ℕ, suc, ◌+◌, ◌-◌, ◌≤◌, ◌<◌, List, [], ◌∷◌, ◌++◌, length, get_or, set, slice_get, Some, sym, ap, subst, ◌∙◌, arith}
 use Rattle.std.proofs.lemmas.List.{get_or-set_other}
 use Rattle.bforest_nodes.specs.Content.{Content, IsInner, entry_count, children_of}
 use Rattle.bforest_core.specs.Levels.{LevelNode, flat, half_of}

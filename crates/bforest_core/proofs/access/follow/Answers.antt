@@ -1,4 +1,4 @@
-use Rattle.std.proofs.Common.{rules, length, refl, slice_get, subst, sym, ◌<◌, arith}
+use Rattle.std.proofs.Common.{rules, length, refl, subst, sym, arith}
 use Rattle.std.proofs.lemmas.Option.{slice_get_read, slice_get_within}
 use Rattle.bforest_nodes.specs.Content.{Inner, IsInner}
 use Rattle.bforest_core.proofs.Stored.{read_same}

@@ -40,7 +40,7 @@ pub returns-in_err-reserve-clause-err : goal.returns-in_err-reserve-clause-err
 returns-in_err-reserve-clause-err g c = let e = err_at g c in rw e c.reserve.ensures.items
 
 pub returns-clause-first : goal.returns-clause-first
-returns-clause-first g c = 
+returns-clause-first g c =
     let all : c.loop-added._added ≡ c.args.count = omega arith in
     rw (all, c.reserve.ensures.len) at c.loop-added.invariant.first
 

@@ -52,7 +52,7 @@ pub take_left-requires : goal.take_left-requires
 take_left-requires g t c = (search rules, (search rules, (c.requires.height, c.requires.pending)))
 
 pub settle_inner-requires : goal.settle_inner-requires
-settle_inner-requires g t c = 
+settle_inner-requires g t c =
     let w = c.requires.pending in
     let l = c.take_left.ensures w.0 w.1 w.2 w.3 w.4 w.5 w.6 w.7 in
     (search rules, (search rules, (c.requires.height, (l.before, get_or c.args.self.now.node c.args.up 0, l.entries, l.after, l.rest, l.on_level))))
@@ -64,7 +64,7 @@ pub returns-else-settle_inner-clause-size : goal.returns-else-settle_inner-claus
 returns-else-settle_inner-clause-size g t c = c.settle_inner.ensures.size
 
 pub overflow_add-up : goal.overflow_add-up
-overflow_add-up g t c = 
+overflow_add-up g t c =
     let w = c.requires.pending in
     let low = above_two _ _ _ _ _ w.0 w.1 (w.2, w.3) (w.4, w.5) w.6 _ w.7 in
     omega (arith, low)

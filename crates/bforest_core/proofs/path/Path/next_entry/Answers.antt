@@ -53,7 +53,7 @@ pub returns-else-moved-clause-same : goal.returns-else-moved-clause-same
 returns-else-moved-clause-same g c = λ no. c.next_node-moved.ensures.same c.if-moved.false
 
 pub next_node-moved-requires : goal.next_node-moved-requires
-next_node-moved-requires g c = 
+next_node-moved-requires g c =
     let w = c.requires.stands in
     (search rules, (search rules, (c.requires.height, (w.0.above, heads w.0.leaves, length w.4.leaf.before, over_leaves g.row.N (some_leaf _ c.requires.capacity) c.args.pool.now.nodes c.args.self.now.node c.args.self.now.entry c.args.self.now.size w.0 w.1 w.2 w.3 w.4))))
 

@@ -72,6 +72,6 @@ pub returns-else-moved-clause-same : goal.returns-else-moved-clause-same
 returns-else-moved-clause-same g c = λ no. c.prev_node-moved.ensures.same c.if-moved.false
 
 pub prev_node-moved-requires : goal.prev_node-moved-requires
-prev_node-moved-requires g c = 
+prev_node-moved-requires g c =
     let w = c.requires.stands in
     (search rules, (search rules, (c.requires.height, (w.0.above, heads w.0.leaves, length w.4.leaf.before, over_leaves g.row.N (some_leaf _ c.requires.capacity) c.args.pool.now.nodes c.args.self.now.node c.args.self.now.entry c.args.self.now.size w.0 w.1 w.2 w.3 w.4))))

@@ -57,9 +57,11 @@ rekey_next-requires g c =
 pub free_node-requires : goal.free_node-requires
 free_node-requires g c =
     let w = c.requires.pending in
-    let low : c.args.level < length c.args.self.now.node = omega (arith, w.5.above.height) in
-    (search rules, free_asks inner_content 4 8 _ half_inner (inner_stored g.row.N) _ _ _ _ _ _ c.index-self-level.result (add-one c.args.level) low w.0 w.1 w.2 w.3 w.4 w.5 c.entries-left.result c.entries-left.ensures.value c.if-left-ge4.false _ _ c.in-Some.is c.right_sibling.ensures
-    c.balance_nodes.new.self _ c.balance_nodes.ensures.balanced c.in-None-balance_nodes.is)
+    let low : c.args.level < length c.args.self.now.node = omega (arith, w.5.above.height) in (
+      search rules,
+      free_asks inner_content 4 8 _ half_inner (inner_stored g.row.N) _ _ _ _ _ _ c.index-self-level.result (add-one c.args.level) low w.0 w.1 w.2 w.3 w.4 w.5 c.entries-left.result c.entries-left.ensures.value c.if-left-ge4.false _ _ c.in-Some.is c.right_sibling.ensures
+          c.balance_nodes.new.self _ c.balance_nodes.ensures.balanced c.in-None-balance_nodes.is,
+    )
 
 pub returns-in-None-clause-healed : goal.returns-in-None-clause-healed
 returns-in-None-clause-healed g c = λ same before n es after rest p.

@@ -65,9 +65,11 @@ rekey_next-requires g c =
 pub free_node-requires : goal.free_node-requires
 free_node-requires g c =
     let w = c.requires.pending in
-    let low : 0 < length c.args.self.now.node = omega (arith, w.5.above.height) in
-    (search rules, free_asks leaf_content (half_of g.row.N) g.row.N _ (half_leaf g.row.N c.requires.capacity) (leaf_stored g.row.N) _ _ _ _ _ _ c.index-self-0.result refl low w.0 w.1 w.2 w.3 w.4 w.5 c.entries-left.result c.entries-left.ensures.value (under_half _ _ c.requires.capacity c.if-left.false) _ _ c.in-Some.is c.right_sibling.ensures
-    c.balance_nodes.new.self _ c.balance_nodes.ensures.balanced c.in-None-balance_nodes.is)
+    let low : 0 < length c.args.self.now.node = omega (arith, w.5.above.height) in (
+      search rules,
+      free_asks leaf_content (half_of g.row.N) g.row.N _ (half_leaf g.row.N c.requires.capacity) (leaf_stored g.row.N) _ _ _ _ _ _ c.index-self-0.result refl low w.0 w.1 w.2 w.3 w.4 w.5 c.entries-left.result c.entries-left.ensures.value (under_half _ _ c.requires.capacity c.if-left.false) _ _ c.in-Some.is c.right_sibling.ensures
+          c.balance_nodes.new.self _ c.balance_nodes.ensures.balanced c.in-None-balance_nodes.is,
+    )
 
 pub returns-in-None-clause-healed : goal.returns-in-None-clause-healed
 returns-in-None-clause-healed g c = λ same before n es after rest p.

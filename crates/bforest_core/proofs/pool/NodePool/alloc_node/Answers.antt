@@ -27,7 +27,7 @@ pub returns-in_err-reserve-clause-err : goal.returns-in_err-reserve-clause-err
 returns-in_err-reserve-clause-err g c = let e = err_at g c in rw e c.in_err-reserve.ensures.err
 
 pub returns-in_err-reserve-clause-full : goal.returns-in_err-reserve-clause-full
-returns-in_err-reserve-clause-full g c = 
+returns-in_err-reserve-clause-full g c =
     let full = c.in_err-reserve.ensures.full in (
       λ is. full.0 (err-same c.from_residual.result c.in_err-reserve.field-0.0 _ _ _ (err_at g c) is refl refl),
       λ short. err-back c.from_residual.result c.in_err-reserve.field-0.0 _ _ _ (err_at g c) refl refl (full.1 short),

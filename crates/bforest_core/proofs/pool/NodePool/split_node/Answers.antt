@@ -62,12 +62,12 @@ pub two_nodes-rhs-requires-clause-apart : goal.two_nodes-rhs-requires-clause-apa
 two_nodes-rhs-requires-clause-apart g c = λ same. apart_front c.args.self.now.chain c.args.left c.take_slot-right.result c.take_slot-right.ensures.node c.requires.used.off_chain (sym c.number.ensures.value ∙ same ∙ c.number-2.ensures.value)
 
 pub two_nodes-rhs-requires-clause-left_within : goal.two_nodes-rhs-requires-clause-left_within
-two_nodes-rhs-requires-clause-left_within g c = 
+two_nodes-rhs-requires-clause-left_within g c =
     let within = rw (← c.self.view_is) at c.take_slot-right.ensures.used.within in
     rw (c.as_mut_slice.ensures.value, c.number.ensures.value) within
 
 pub two_nodes-rhs-requires-clause-right_within : goal.two_nodes-rhs-requires-clause-right_within
-two_nodes-rhs-requires-clause-right_within g c = 
+two_nodes-rhs-requires-clause-right_within g c =
     let within = rw (← nodes-without_front c.args.self.now c.args.self.now.chain, ← c.take_slot-right.ensures.table, ← c.self.view_is) at c.requires.used.within in
     rw (c.as_mut_slice.ensures.value, c.number-2.ensures.value) within
 
