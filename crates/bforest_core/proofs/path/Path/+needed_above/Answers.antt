@@ -1,5 +1,5 @@
 use Rattle.std.proofs.Common.{rules, ◌≡◌, suc, ◌+◌, ◌-◌, ◌<◌, length, get_or, slice_get, refl, sym, ap, ◌∙◌, arith}
-use Rattle.std.proofs.lemmas.List.{get_or_default}
+use Rattle.std.proofs.lemmas.List.{get_or_default, nil_from_length}
 use Rattle.std.proofs.lemmas.Option.{slice_get_within}
 use Rattle.bforest_core.specs.Place.{inner_content}
 use Rattle.bforest_core.proofs.Rise.{above_from}
@@ -62,3 +62,6 @@ returns-else-is_full-clause-value g t c = λ rows list place p.
     let full = inner_full g.row.N c.is_full.result c.node.result.now nodes (get_or ms up 0) f.entries (ap (λ z. slice_get nodes z) (sym here) ∙ c.node.ensures.value) f.slot_is c.is_full.ensures.full in
     let other : ¬ (length f.entries ≡ 8) = not_so c.is_full.result c.if-is_full.false full in
     sym (floor_room _ _ _ _ _ rows place f (omega (arith, other, f.most_is)))
+
+pub returns-then-up-self-clause-value : goal.returns-then-up-self-clause-value
+returns-then-up-self-clause-value g t c = λ rows list place p. rw (nil_from_length rows (omega (arith, p.height, c.if-up-self.true))) refl

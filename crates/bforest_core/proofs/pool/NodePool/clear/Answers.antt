@@ -1,5 +1,9 @@
+use Rattle.std.proofs.Common.{rules}
 use Rattle.bforest_core.proofs.Pools.{IsPool-empty}
 use Rattle.bforest_core.proofs.pool.NodePool.clear.Goals as goal
 
 pub invariant_of-self : goal.invariant_of-self
 invariant_of-self g c = rw (c.clear.ensures.items, c.none-self-inside.ensures.none) (IsPool-empty _ _ c.self.invariant.capacity c.self.invariant.limit_within)
+
+pub returns : goal.returns
+returns g c = search rules

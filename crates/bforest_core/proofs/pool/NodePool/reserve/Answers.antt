@@ -1,4 +1,4 @@
-use Rattle.std.proofs.Common.{◌≡◌, ◌+◌, ◌-◌, length, vec_len, arith}
+use Rattle.std.proofs.Common.{rules, ◌≡◌, ◌+◌, ◌-◌, length, vec_len, arith}
 use Rattle.bforest_core.proofs.Pools.{IsPool-grown}
 use Rattle.bforest_core.proofs.Chains.{front_of-is}
 use Rattle.bforest_core.proofs.pool.NodePool.reserve.Goals as goal
@@ -16,3 +16,18 @@ returns-in-Ok-clause-ok g c =
     let all : c.args.n - c.self.inside.free + c.self.inside.free ≡ c.args.n = omega arith in
     let grown = IsPool-grown _ _ _ _ _ (c.args.n - c.self.inside.free) (omega arith) c.self.invariant in
     rw (← c.self.view_is, c.in-Ok.ensures.ok, c.in-Ok.ensures.first, size, c.self.invariant.counted, front_of-is _ _ _ c.self.invariant.linked, rw all at grown.1)
+
+pub returns-then-missing-self-clause-full : goal.returns-then-missing-self-clause-full
+returns-then-missing-self-clause-full g c = search rules
+
+pub returns-then-missing-self-clause-memory : goal.returns-then-missing-self-clause-memory
+returns-then-missing-self-clause-memory g c = search rules
+
+pub returns-in-Err-clause-full : goal.returns-in-Err-clause-full
+returns-in-Err-clause-full g c = search rules
+
+pub returns-in-Err-clause-memory : goal.returns-in-Err-clause-memory
+returns-in-Err-clause-memory g c = search rules
+
+pub returns-in-Ok-clause-full : goal.returns-in-Ok-clause-full
+returns-in-Ok-clause-full g c = search rules

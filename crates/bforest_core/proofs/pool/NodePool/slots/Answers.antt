@@ -1,4 +1,4 @@
-use Rattle.std.proofs.Common.{arith}
+use Rattle.std.proofs.Common.{rules, arith}
 use Rattle.bforest_core.proofs.Pools.{free_within}
 use Rattle.bforest_core.proofs.pool.NodePool.slots.Goals as goal
 
@@ -10,3 +10,6 @@ returns-clause-table g c =
       slots_within = c.self.invariant.slots_within;
       limit_within = c.self.invariant.limit_within;
     })
+
+pub returns-clause-value : goal.returns-clause-value
+returns-clause-value g c = search rules

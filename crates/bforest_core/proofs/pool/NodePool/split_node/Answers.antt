@@ -57,3 +57,6 @@ returns-clause-used g c =
     let off = rw (← c.self.view_is) at c.take_slot-right.ensures.used.off_chain in
     rw (items, refilled c.self.inside.nodes.items (slice_set (slice_set c.self.inside.nodes.items c.number.result c.split.new.rhs) c.number-2.result c.split.new.self) (vec_len c.self.inside.nodes) size room)
     (record { within = omega (arith, within, size); off_chain = rw pair.1 off })
+
+pub returns-clause-node : goal.returns-clause-node
+returns-clause-node g c = search rules

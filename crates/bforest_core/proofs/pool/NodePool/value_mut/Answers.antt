@@ -1,0 +1,11 @@
+use Rattle.std.proofs.Common.{rules, refl, sym, ap}
+use Rattle.bforest_nodes.specs.Content.{with_value}
+use Rattle.bforest_core.specs.Table.{with_node}
+use Rattle.bforest_core.proofs.Read.{slot-is}
+use Rattle.bforest_core.proofs.pool.NodePool.value_mut.Goals as goal
+
+pub value_mut-requires : goal.value_mut-requires
+value_mut-requires g c = search rules
+
+pub returns : goal.returns
+returns g c = ((refl, λ w. ap (λ z. with_node c.args.self.now c.args.node (with_value z c.args.index w)) (sym (slot-is c.args.self.now.nodes c.args.node c.node_mut.result.now c.node_mut.ensures.value))), record { writes_back = tt; value = search rules })
