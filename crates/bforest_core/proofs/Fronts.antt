@@ -1,4 +1,4 @@
--- Tables whose front left the chain.
+-- Tables whose front left the chain, and a table with no slots.
 use Rattle.std.proofs.Common.{◌≡◌, ℕ, false, List, [], ◌∷◌, nat_eq, Some, refl}
 use Rattle.std.specs.List.{list_any}
 use Rattle.std.proofs.lemmas.Bool.{or_parts}
@@ -20,3 +20,7 @@ module _ {K V : Type 0} where
   pub with_front-is : (table : Table K V) (chain : List ℕ) (node : ℕ) (content : Content K V) → front_of chain ≡ Some node → with_front table chain content ≡ with_node (without_front table chain) node content
   with_front-is table [] node content front = cc
   with_front-is table (first ∷ rest) node content front = let same : first ≡ node = cc in rw same
+
+  -- a table with no slots
+  pub empty-is : (table : Table K V) (limit : ℕ) → table.nodes ≡ [] → table.chain ≡ [] → table.limit ≡ limit → table ≡ record { nodes = []; chain = []; limit = limit }
+  empty-is table limit nodes_are chain_is limit_is = rw (← nodes_are, ← chain_is, ← limit_is) refl

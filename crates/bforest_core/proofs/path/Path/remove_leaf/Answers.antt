@@ -55,4 +55,4 @@ returns-clause-removed g c = λ tree place s.
     drop_removed _ _ c.free_node.new.self c.drop_above.new.pool c.trim-top.new.pool _ _ c.trim-top.new.self.node c.trim-top.new.self.entry _ c.trim-top.new.self.size tree place c.args.root c.trim-top.result s (stands_root _ _ _ _ _ tree s1.0 place s1.1 c.args.root s s1.2 s1.3) l r c.trim-top.ensures.trimmed
 
 pub returns-then-self-eq1-clause-removed : goal.returns-then-self-eq1-clause-removed
-returns-then-self-eq1-clause-removed g c = search rules
+returns-then-self-eq1-clause-removed g c = λ tree place s. tt

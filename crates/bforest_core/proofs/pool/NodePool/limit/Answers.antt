@@ -1,5 +1,5 @@
-use Rattle.std.proofs.Common.{rules}
+use Rattle.std.proofs.Common.{ap}
 use Rattle.bforest_core.proofs.pool.NodePool.limit.Goals as goal
 
 pub returns : goal.returns
-returns g c = search rules
+returns g c = record { value = ap (λ t. t.limit) c.self.view_is }

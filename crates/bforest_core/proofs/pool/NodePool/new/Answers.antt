@@ -1,5 +1,4 @@
-use Rattle.std.proofs.Common.{rules}
 use Rattle.bforest_core.proofs.pool.NodePool.new.Goals as goal
 
 pub returns : goal.returns
-returns g c = search rules
+returns g c = record { empty = c.with_limit.ensures.empty }

@@ -1,4 +1,4 @@
-use Rattle.std.proofs.Common.{rules, arith}
+use Rattle.std.proofs.Common.{arith}
 use Rattle.bforest_core.proofs.Pools.{free_within}
 use Rattle.bforest_core.proofs.pool.NodePool.slots.Goals as goal
 
@@ -12,4 +12,4 @@ returns-clause-table g c =
     })
 
 pub returns-clause-value : goal.returns-clause-value
-returns-clause-value g c = search rules
+returns-clause-value g c = rw (← c.self.view_is) (omega (arith, c.len.ensures))

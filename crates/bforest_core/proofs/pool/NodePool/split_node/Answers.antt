@@ -59,4 +59,4 @@ returns-clause-used g c =
     (record { within = omega (arith, within, size); off_chain = rw pair.1 off })
 
 pub returns-clause-node : goal.returns-clause-node
-returns-clause-node g c = search rules
+returns-clause-node g c = c.take_slot-right.ensures.node
