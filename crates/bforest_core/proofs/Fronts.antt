@@ -1,4 +1,4 @@
--- Tables whose front left the chain.
+-- Tables whose front left the chain, and a table with no slots.
 use Rattle.std.proofs.Common.{◌≡◌, ℕ, false, List, [], ◌∷◌, nat_eq, Some, refl, ◌∙◌, arith}
 use Rattle.std.specs.List.{list_any}
 use Rattle.std.proofs.lemmas.Bool.{or_parts}
@@ -21,6 +21,11 @@ module _ {K V : Type 0} where
   with_front-is table [] node content front = cc
   with_front-is table (first ∷ rest) node content front = let same : first ≡ node = cc in rw same
 
+  -- a table with no slots
+  pub empty-is : (table : Table K V) (limit : ℕ) → table.nodes ≡ [] → table.chain ≡ [] → table.limit ≡ limit → table ≡ record { nodes = []; chain = []; limit = limit }
+  empty-is table limit nodes_are chain_is limit_is = rw (← nodes_are, ← chain_is, ← limit_is) refl
+
+-- equal numbers are not told apart
 same_number : (x y : ℕ) → x ≡ y → nat_eq y x ≡ false → ⊥
 same_number x y e apart = grind arith
 

@@ -73,3 +73,6 @@ two_nodes-rhs-requires-clause-right_within g c =
 
 pub returns-clause-capacity : goal.returns-clause-capacity
 returns-clause-capacity g c = c.self.invariant.capacity
+
+pub returns-clause-node : goal.returns-clause-node
+returns-clause-node g c = c.take_slot-right.ensures.node
