@@ -48,7 +48,7 @@ module _ {K V : Type 0} where
     pub some : 1 ≤ entry_count content
 
   -- the rows above, for the step there
-  pub record Above (slots : List (Content K V)) (path indices : List ℕ) (up size : ℕ) : Type 0 where
+  pub record RowsAbove (slots : List (Content K V)) (path indices : List ℕ) (up size : ℕ) : Type 0 where
     pub rest : List (List (LevelNode K ℕ))
     pub list : List (K × ℕ)
     pub place : ℕ
@@ -90,7 +90,7 @@ module _ {K V : Type 0} where
     level_low = let h = here.over.height in omega arith
 
     -- what the step above asks
-    pub above_asks : Above slots path indices up size
+    pub above_asks : RowsAbove slots path indices up size
     above_asks = record { rest = here.rest; list = heads here.row; place = length here.before; over = here.over }
 
     pub above_fewer : (t : ℕ) → size - level ≡ t → size - up < t
