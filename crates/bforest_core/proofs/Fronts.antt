@@ -1,5 +1,5 @@
--- Tables whose front left the chain.
-use Rattle.std.proofs.Common.{◌≡◌, ℕ, false, List, [], ◌∷◌, nat_eq, Some, refl}
+-- Tables whose front left the chain, and a table with no slots.
+use Rattle.std.proofs.Common.{◌≡◌, ℕ, false, List, [], ◌∷◌, nat_eq, Some, refl, ◌∙◌, arith}
 use Rattle.std.specs.List.{list_any}
 use Rattle.std.proofs.lemmas.Bool.{or_parts}
 use Rattle.bforest_nodes.specs.Content.{Content}
@@ -20,3 +20,18 @@ module _ {K V : Type 0} where
   pub with_front-is : (table : Table K V) (chain : List ℕ) (node : ℕ) (content : Content K V) → front_of chain ≡ Some node → with_front table chain content ≡ with_node (without_front table chain) node content
   with_front-is table [] node content front = cc
   with_front-is table (first ∷ rest) node content front = let same : first ≡ node = cc in rw same
+
+  -- a table with no slots
+  pub empty-is : (table : Table K V) (limit : ℕ) → table.nodes ≡ [] → table.chain ≡ [] → table.limit ≡ limit → table ≡ record { nodes = []; chain = []; limit = limit }
+  empty-is table limit nodes_are chain_is limit_is = rw (← nodes_are, ← chain_is, ← limit_is) refl
+
+-- equal numbers are not told apart
+same_number : (x y : ℕ) → x ≡ y → nat_eq y x ≡ false → ⊥
+same_number x y e apart = grind arith
+
+-- a number that is off the chain is not its front
+pub apart_front : (chain : List ℕ) (node front : ℕ) → front_of chain ≡ Some front → list_any (nat_eq node) chain ≡ false → front ≡ node → ⊥
+apart_front [] node front is off e = cc
+apart_front (first ∷ rest) node front is off e =
+    let same : first ≡ front = cc in
+    same_number first node (same ∙ e) (or_parts (nat_eq node first) (list_any (nat_eq node) rest) off).0

@@ -1,5 +1,5 @@
 -- How many nodes an insertion needs, counted from the leaf upwards.
-use Rattle.std.proofs.Common.{◌≡◌, ℕ, suc, ◌+◌, ◌≤◌, ◌<◌, IsTrue, false, Bool, ◌↔◌, List, [], ◌∷◌, ◌++◌, map, length, get_or, slice_get, Some, None, sym, ap, ◌∙◌, subst, arith}
+use Rattle.std.proofs.Common.{◌≡◌, ℕ, suc, ◌+◌, ◌≤◌, ◌<◌, IsTrue, false, Bool, ◌↔◌, List, [], ◌∷◌, ◌++◌, map, length, get_or, slice_get, Some, None, refl, sym, ap, ◌∙◌, subst, arith}
 use Rattle.std.specs.List.{flat_map}
 use Rattle.std.proofs.lemmas.Bool.{false≢true}
 use Rattle.bforest_nodes.specs.Content.{Content, IsFree, entry_count, entry_capacity}
@@ -123,3 +123,8 @@ module _ {K V : Type 0} where
 -- a node that does not say that it is full
 pub not_so : {A : Type 0} (full : Bool) → full ≡ false → (IsTrue full ↔ A) → ¬ A
 not_so full none h = λ a. false≢true (sym none ∙ h.1 a)
+
+-- where all nodes are full: a new root too
+pub top_need : {K : Type 0} (place up size : ℕ) (rows : List (List (LevelNode K ℕ))) → up + length rows ≡ size → up ≡ size → 2 ≡ need_above (Some place) (map sizes rows)
+top_need place up size [] height top = refl
+top_need place up size (row ∷ rows) height top = absurd (omega arith)

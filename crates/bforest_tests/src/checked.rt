@@ -91,23 +91,3 @@ pub(crate) fn remove<C: Comparator<u32>>(
     assert!(rt; map.increases(forest, comp));
     map.remove(key, forest, comp)
 }
-
-/// `clear`.
-pub(crate) fn clear(rt: &impl Abort, map: &mut Numbers, forest: &mut NumberForest) {
-    assert!(rt; forest.holds(map));
-    map.clear(forest);
-}
-
-/// `retain` by a predicate that adds a number to each value, and keeps the keys that leave a rest under a divisor.
-pub(crate) fn retain_rests(
-    rt: &impl Abort,
-    map: &mut Numbers,
-    (divisor, added): (u32, u32),
-    forest: &mut NumberForest,
-) {
-    assert!(rt; forest.holds(map));
-    map.retain(forest, |key, value| {
-        *value = value.wrapping_add(added);
-        key.checked_rem(divisor) != Some(0)
-    });
-}

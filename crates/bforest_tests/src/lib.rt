@@ -1,5 +1,5 @@
-//! Tests of `bforest`: each public call at a concrete type, own orders, random calls beside the plain program, and callers that are proved.
-//! The cases of maps are files, which the program `forest_run` answers.
+//! Tests of `bforest`: each public call at a concrete type, own orders, and callers that are proved. The cases of maps
+//! are files, which the program `forest_run` answers, beside random lines.
 #![tactic(auto)]
 
 pub mod callers;
@@ -9,8 +9,6 @@ mod checked;
 mod maps;
 #[cfg(test)]
 mod orders;
-#[cfg(test)]
-mod plain;
 #[cfg(test)]
 mod refusals;
 #[cfg(test)]

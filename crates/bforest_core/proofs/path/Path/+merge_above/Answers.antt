@@ -1,4 +1,4 @@
-use Rattle.std.proofs.Common.{rules, ◌+◌, ◌-◌, ◌<◌, [], ◌∷◌, ◌++◌, length, get_or, arith, add-one}
+use Rattle.std.proofs.Common.{rules, ◌+◌, ◌-◌, ◌<◌, [], ◌∷◌, ◌++◌, length, get_or, arith, add-one, ◌∙◌}
 use Rattle.bforest_core.specs.Levels.{heads}
 use Rattle.bforest_core.proofs.Zipper.{above_two}
 use Rattle.bforest_core.proofs.Merge.{merge_healed, merge_again}
@@ -47,3 +47,24 @@ returns-else-settle_inner-clause-merged g t c = λ rows a k m k2 n b p.
     let l = c.take_left.ensures rows a k m k2 n b p in
     let h = c.settle_inner.ensures.healed c.if-settle_inner.false l.before _ l.entries l.after l.rest l.on_level in
     ([], merge_healed _ _ _ _ _ _ _ _ _ rows (a ++ (k, n) ∷ b) (length a) l h)
+
+pub take_left-requires : goal.take_left-requires
+take_left-requires g t c = (search rules, (search rules, (c.requires.height, c.requires.pending)))
+
+pub settle_inner-requires : goal.settle_inner-requires
+settle_inner-requires g t c =
+    let w = c.requires.pending in
+    let l = c.take_left.ensures w.0 w.1 w.2 w.3 w.4 w.5 w.6 w.7 in
+    (search rules, (search rules, (c.requires.height, (l.before, get_or c.args.self.now.node c.args.up 0, l.entries, l.after, l.rest, l.on_level))))
+
+pub returns-then-settle_inner-clause-size : goal.returns-then-settle_inner-clause-size
+returns-then-settle_inner-clause-size g t c = c.merge_above.ensures.size ∙ c.settle_inner.ensures.size
+
+pub returns-else-settle_inner-clause-size : goal.returns-else-settle_inner-clause-size
+returns-else-settle_inner-clause-size g t c = c.settle_inner.ensures.size
+
+pub overflow_add-up : goal.overflow_add-up
+overflow_add-up g t c =
+    let w = c.requires.pending in
+    let low = above_two _ _ _ _ _ w.0 w.1 (w.2, w.3) (w.4, w.5) w.6 _ w.7 in
+    omega (arith, low)

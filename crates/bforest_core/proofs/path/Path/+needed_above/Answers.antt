@@ -3,7 +3,7 @@ use Rattle.std.proofs.lemmas.List.{get_or_default}
 use Rattle.std.proofs.lemmas.Option.{slice_get_within}
 use Rattle.bforest_core.specs.Place.{inner_content}
 use Rattle.bforest_core.proofs.Rise.{above_from}
-use Rattle.bforest_core.proofs.Needs.{floor, floor_full, floor_room, inner_full, inner_not_free, not_so}
+use Rattle.bforest_core.proofs.Needs.{floor, floor_full, floor_room, inner_full, inner_not_free, not_so, top_need}
 use Rattle.bforest_core.proofs.path.Path.+needed_above.Goals as goal
 
 pub node-requires : goal.node-requires
@@ -62,3 +62,30 @@ returns-else-is_full-clause-value g t c = λ rows list place p.
     let full = inner_full g.row.N c.is_full.result c.node.result.now nodes (get_or ms up 0) f.entries (ap (λ z. slice_get nodes z) (sym here) ∙ c.node.ensures.value) f.slot_is c.is_full.ensures.full in
     let other : ¬ (length f.entries ≡ 8) = not_so c.is_full.result c.if-is_full.false full in
     sym (floor_room _ _ _ _ _ rows place f (omega (arith, other, f.most_is)))
+
+pub returns-then-up-self-clause-value : goal.returns-then-up-self-clause-value
+returns-then-up-self-clause-value g t c = λ rows list place p. top_need place c.args.up c.args.self.now.size rows p.height c.if-up-self.true
+
+pub returns-then-up-self-clause-few : goal.returns-then-up-self-clause-few
+returns-then-up-self-clause-few g t c = omega (arith, c.if-up-self.true)
+
+pub returns-else-is_full-clause-few : goal.returns-else-is_full-clause-few
+returns-else-is_full-clause-few g t c = omega (arith, c.requires.pending.3.height)
+
+pub returns-then-is_full-clause-few : goal.returns-then-is_full-clause-few
+returns-then-is_full-clause-few g t c = omega (arith, c.needed_above.ensures.few)
+
+pub overflow_add-result : goal.overflow_add-result
+overflow_add-result g t c = omega (arith, c.needed_above.ensures.few, c.requires.height)
+
+pub bounds-self-up : goal.bounds-self-up
+bounds-self-up g t c = omega (arith, c.requires.pending.3.height, c.requires.height, c.if-up-self.false)
+
+pub listed : goal.listed
+listed g t c = omega (arith, c.requires.pending.3.height, c.requires.height, c.if-up-self.false)
+
+pub offset_bounds-self-up : goal.offset_bounds-self-up
+offset_bounds-self-up g t c = omega (arith, c.requires.pending.3.height, c.requires.height, c.if-up-self.false)
+
+pub overflow_add-up : goal.overflow_add-up
+overflow_add-up g t c = omega (arith, c.requires.pending.3.height, c.requires.height, c.if-up-self.false)

@@ -1,119 +1,73 @@
-use Rattle.std.proofs.Common.{rules, ◌≡◌, suc, ◌+◌, ◌-◌, ◌<◌, ◌∷◌, length, get_or, slice_get, Some, sym, ap, ◌∙◌, arith}
-use Rattle.std.proofs.lemmas.List.{get_or_default}
-use Rattle.bforest_core.specs.Levels.{flat, heads}
-use Rattle.bforest_core.specs.Place.{inner_content}
-use Rattle.bforest_core.proofs.Steps.{over_spot, nth, step_within, step_over, slot_over}
-use Rattle.bforest_core.proofs.Backward.{back_place, first_place, last_child_is, some_child}
+use Rattle.std.proofs.Common.{rules, ◌+◌, ◌<◌, length, sym, ◌∙◌, arith, add-one}
+use Rattle.std.proofs.lemmas.Bool.{false≢true}
+use Rattle.bforest_core.proofs.Turns.{only_first, above_asks, above_fewer, before_asks, before_moves, last_asks, last_child_asks, last_child_moves, first_moves}
 use Rattle.bforest_core.proofs.path.Path.+prev_node.Goals as goal
+
+pub overflow_add-level : goal.overflow_add-level
+overflow_add-level g t c = omega (arith, c.requires.height, c.requires.over.3.height)
+
+pub returns-then-level-self-clause-moved : goal.returns-then-level-self-clause-moved
+returns-then-level-self-clause-moved g t c = λ yes. absurd (false≢true yes)
+
+pub returns-then-level-self-clause-first : goal.returns-then-level-self-clause-first
+returns-then-level-self-clause-first g t c = λ no rows list place p. only_first _ _ _ _ (c.args.level + 1) _ _ _ _ (add-one c.args.level) c.if-level-self.true p
+
+pub overflow_sub-entry : goal.overflow_sub-entry
+overflow_sub-entry g t c = c.if-entry-gt0.true
 
 pub go_to_child-requires : goal.go_to_child-requires
 go_to_child-requires g t c =
     let w = c.requires.over in
-    let t0 = c.args.pool.now in
-    let ms = c.args.self.now.node in
-    let js = c.args.self.now.entry in
-    let up = c.args.level + 1 in
-    let up_is : up ≡ suc c.args.level = omega arith in
-    let size = c.args.self.now.size in
-    let s = over_spot t0.nodes ms js c.args.level up size w.0 w.1 w.2 w.3 up_is (λ e. omega (arith, e, c.if-level-self.false)) in
-    let slot : slice_get t0.nodes (get_or ms (suc c.args.level) 0) ≡ Some (inner_content s.entries) = ap (λ z. slice_get t0.nodes (get_or ms z 0)) (sym up_is) ∙ s.slot_is in
-    (search rules, (search rules, (omega (arith, s.over.height, c.requires.height), (search rules, (s.entries, slot, omega (arith, s.within))))))
+    let d = before_asks c.args.pool.now.nodes c.args.self.now.node c.args.self.now.entry c.args.level (c.args.level + 1) c.args.self.now.size w.0 w.1 w.2 w.3 (add-one c.args.level) c.if-level-self.false c.requires.height c.if-entry-gt0.true in
+    (search rules, (search rules, (d.low, (d.most, (d.entries, d.slot, d.within)))))
 
 pub returns-then-entry-gt0-clause-moved : goal.returns-then-entry-gt0-clause-moved
 returns-then-entry-gt0-clause-moved g t c = λ yes rows list place p.
-    let t0 = c.args.pool.now in
-    let ms = c.args.self.now.node in
-    let js = c.args.self.now.entry in
-    let up = c.args.level + 1 in
-    let up_is : up ≡ suc c.args.level = omega arith in
-    let size = c.args.self.now.size in
-    let s = over_spot t0.nodes ms js c.args.level up size rows list place p up_is (λ e. omega (arith, e, c.if-level-self.false)) in
-    let slot : slice_get t0.nodes (get_or ms (suc c.args.level) 0) ≡ Some (inner_content s.entries) = ap (λ z. slice_get t0.nodes (get_or ms z 0)) (sym up_is) ∙ s.slot_is in
-    let m = step_within t0.nodes ms js c.args.level up size rows list place up_is s c.go_to_child.new.self.node c.go_to_child.new.self.entry (get_or js up 0 - 1) (place - 1) (omega (arith, s.within)) (omega (arith, s.place_is, c.if-entry-gt0.true)) (c.go_to_child.ensures.child s.entries slot) c.go_to_child.ensures.nodes c.go_to_child.ensures.entry c.go_to_child.ensures.entries in
-    (omega (arith, s.place_is, c.if-entry-gt0.true), m)
+    before_moves c.args.pool.now.nodes c.args.self.now.node c.args.self.now.entry c.args.level (c.args.level + 1) c.args.self.now.size rows list place p (add-one c.args.level) c.if-level-self.false c.requires.height c.go_to_child.new.self.node c.go_to_child.new.self.entry c.if-entry-gt0.true c.go_to_child.ensures.child c.go_to_child.ensures.nodes c.go_to_child.ensures.entry c.go_to_child.ensures.entries
+
+pub returns-then-entry-gt0-clause-first : goal.returns-then-entry-gt0-clause-first
+returns-then-entry-gt0-clause-first g t c = λ no. absurd (false≢true (sym no))
+
+pub returns-then-entry-gt0-clause-same : goal.returns-then-entry-gt0-clause-same
+returns-then-entry-gt0-clause-same g t c = λ no. absurd (false≢true (sym no))
 
 pub prev_node-moved-requires : goal.prev_node-moved-requires
 prev_node-moved-requires g t c κs within =
     let w = c.requires.over in
-    let t0 = c.args.pool.now in
-    let ms = c.args.self.now.node in
-    let js = c.args.self.now.entry in
-    let up = c.args.level + 1 in
-    let up_is : up ≡ suc c.args.level = omega arith in
-    let size = c.args.self.now.size in
-    let s = over_spot t0.nodes ms js c.args.level up size w.0 w.1 w.2 w.3 up_is (λ e. omega (arith, e, c.if-level-self.false)) in
-    let less : size - (c.args.level + 1) < t = omega (arith, c.decreases, s.over.height) in
-    (less, (within.0, (within.1, ((λ a m. search rules), (search rules, (search rules, (c.requires.height, (s.rest, heads s.row, length s.before, s.over))))))))
+    let a = above_asks c.args.pool.now.nodes c.args.self.now.node c.args.self.now.entry c.args.level (c.args.level + 1) c.args.self.now.size w.0 w.1 w.2 w.3 (add-one c.args.level) c.if-level-self.false c.requires.height in
+    (above_fewer c.args.pool.now.nodes c.args.self.now.node c.args.self.now.entry c.args.level (c.args.level + 1) c.args.self.now.size w.0 w.1 w.2 w.3 (add-one c.args.level) c.if-level-self.false c.requires.height t c.decreases, (within.0, (within.1, ((λ a m. search rules), (search rules, (search rules, (c.requires.height, (a.rest, a.list, a.place, a.over))))))))
 
 pub last_index-last-requires : goal.last_index-last-requires
 last_index-last-requires g t c =
     let w = c.requires.over in
-    let t0 = c.args.pool.now in
-    let ms = c.args.self.now.node in
-    let js = c.args.self.now.entry in
-    let up = c.args.level + 1 in
-    let up_is : up ≡ suc c.args.level = omega arith in
-    let size = c.args.self.now.size in
-    let s = over_spot t0.nodes ms js c.args.level up size w.0 w.1 w.2 w.3 up_is (λ e. omega (arith, e, c.if-level-self.false)) in
-    let ms1 = c.prev_node-moved.new.self.node in
-    let js1 = c.prev_node-moved.new.self.entry in
-    let r = c.prev_node-moved.ensures.moved c.if-moved.true s.rest (heads s.row) (length s.before) s.over in
-    let m = r.1 in
-    let n = nth 4 8 (omega arith) s.row s.fit (length s.before - 1) m.head m.head_is in
-    let slot : slice_get t0.nodes (get_or ms1 up 0) ≡ Some (inner_content (n.e ∷ n.others)) = ap (λ z. slice_get t0.nodes z) m.node_is ∙ slot_over t0.nodes ms js c.args.level up size w.0 w.1 w.2 up_is s (length s.before - 1) m.head n in
-    let there = ap (λ z. slice_get t0.nodes z) (get_or_default ms1 up c.index-self-level.result 0 (omega (arith, s.over.height, c.requires.height))) ∙ slot in
-    (search rules, (inner_content (n.e ∷ n.others), there, some_child g.row.V.Denot n.e n.others))
+    let low : c.args.level + 1 < length c.prev_node-moved.new.self.node = omega (arith, c.requires.height, c.requires.over.3.height, c.if-level-self.false) in
+    let d = last_asks c.args.pool.now.nodes c.args.self.now.node c.args.self.now.entry c.args.level (c.args.level + 1) c.args.self.now.size w.0 w.1 w.2 w.3 (add-one c.args.level) c.if-level-self.false c.requires.height c.prev_node-moved.new.self.node c.prev_node-moved.new.self.entry (c.prev_node-moved.ensures.moved c.if-moved.true) c.index-self-level.result low in
+    (search rules, (d.content, d.slot, d.some))
 
 pub go_to_child-requires-then-moved : goal.go_to_child-requires-then-moved
 go_to_child-requires-then-moved g t c =
     let w = c.requires.over in
-    let t0 = c.args.pool.now in
-    let ms = c.args.self.now.node in
-    let js = c.args.self.now.entry in
-    let up = c.args.level + 1 in
-    let up_is : up ≡ suc c.args.level = omega arith in
-    let size = c.args.self.now.size in
-    let s = over_spot t0.nodes ms js c.args.level up size w.0 w.1 w.2 w.3 up_is (λ e. omega (arith, e, c.if-level-self.false)) in
-    let ms1 = c.prev_node-moved.new.self.node in
-    let js1 = c.prev_node-moved.new.self.entry in
-    let r = c.prev_node-moved.ensures.moved c.if-moved.true s.rest (heads s.row) (length s.before) s.over in
-    let m = r.1 in
-    let n = nth 4 8 (omega arith) s.row s.fit (length s.before - 1) m.head m.head_is in
-    let slot : slice_get t0.nodes (get_or ms1 up 0) ≡ Some (inner_content (n.e ∷ n.others)) = ap (λ z. slice_get t0.nodes z) m.node_is ∙ slot_over t0.nodes ms js c.args.level up size w.0 w.1 w.2 up_is s (length s.before - 1) m.head n in
-    let there = ap (λ z. slice_get t0.nodes z) (get_or_default ms1 up c.index-self-level.result 0 (omega (arith, s.over.height, c.requires.height))) ∙ slot in
-    let slot1 : slice_get t0.nodes (get_or ms1 (suc c.args.level) 0) ≡ Some (inner_content (n.e ∷ n.others)) = ap (λ z. slice_get t0.nodes (get_or ms1 z 0)) (sym up_is) ∙ slot in
-    let last_is : c.last_index-last.result ≡ length n.others = c.last_index-last.ensures.last (inner_content (n.e ∷ n.others)) there ∙ last_child_is g.row.V.Denot n.e n.others in
-    (search rules, (search rules, (omega (arith, s.over.height, c.requires.height), (c.last_index-last.ensures.most, (n.e ∷ n.others, slot1, omega (arith, last_is))))))
+    let low : c.args.level + 1 < length c.prev_node-moved.new.self.node = omega (arith, c.requires.height, c.requires.over.3.height, c.if-level-self.false) in
+    let d = last_child_asks c.args.pool.now.nodes c.args.self.now.node c.args.self.now.entry c.args.level (c.args.level + 1) c.args.self.now.size w.0 w.1 w.2 w.3 (add-one c.args.level) c.if-level-self.false c.requires.height c.prev_node-moved.new.self.node c.prev_node-moved.new.self.entry (c.prev_node-moved.ensures.moved c.if-moved.true) c.index-self-level.result low c.last_index-last.result c.last_index-last.ensures.last c.last_index-last.ensures.most in
+    (search rules, (search rules, (d.low, (d.most, (d.entries, d.slot, d.within)))))
 
 pub returns-then-moved-clause-moved : goal.returns-then-moved-clause-moved
 returns-then-moved-clause-moved g t c = λ yes rows list place p.
-    let t0 = c.args.pool.now in
-    let ms = c.args.self.now.node in
-    let js = c.args.self.now.entry in
-    let up = c.args.level + 1 in
-    let up_is : up ≡ suc c.args.level = omega arith in
-    let size = c.args.self.now.size in
-    let s = over_spot t0.nodes ms js c.args.level up size rows list place p up_is (λ e. omega (arith, e, c.if-level-self.false)) in
-    let ms1 = c.prev_node-moved.new.self.node in
-    let js1 = c.prev_node-moved.new.self.entry in
-    let r = c.prev_node-moved.ensures.moved c.if-moved.true s.rest (heads s.row) (length s.before) s.over in
-    let m = r.1 in
-    let n = nth 4 8 (omega arith) s.row s.fit (length s.before - 1) m.head m.head_is in
-    let slot : slice_get t0.nodes (get_or ms1 up 0) ≡ Some (inner_content (n.e ∷ n.others)) = ap (λ z. slice_get t0.nodes z) m.node_is ∙ slot_over t0.nodes ms js c.args.level up size rows list place up_is s (length s.before - 1) m.head n in
-    let there = ap (λ z. slice_get t0.nodes z) (get_or_default ms1 up c.index-self-level.result 0 (omega (arith, s.over.height, c.requires.height))) ∙ slot in
-    let slot1 : slice_get t0.nodes (get_or ms1 (suc c.args.level) 0) ≡ Some (inner_content (n.e ∷ n.others)) = ap (λ z. slice_get t0.nodes (get_or ms1 z 0)) (sym up_is) ∙ slot in
-    let last_is : c.last_index-last.result ≡ length n.others = c.last_index-last.ensures.last (inner_content (n.e ∷ n.others)) there ∙ last_child_is g.row.V.Denot n.e n.others in
-    let none : get_or js up 0 ≡ 0 = omega (arith, c.if-entry-gt0.false) in
-    let b = back_place t0.nodes ms js c.args.level up size rows list place up_is s m.head n r.0 none in
-    (b.0, step_over t0.nodes ms js c.args.level up size rows list place up_is s ms1 js1 c.go_to_child-then-moved.new.self.node c.go_to_child-then-moved.new.self.entry (length s.before - 1) m n c.last_index-last.result (place - 1) (omega (arith, last_is)) (b.1 ∙ ap (λ z. length (flat n.before) + z) (sym last_is)) (c.go_to_child-then-moved.ensures.child (n.e ∷ n.others) slot1) c.go_to_child-then-moved.ensures.nodes c.go_to_child-then-moved.ensures.entry c.go_to_child-then-moved.ensures.entries)
+    let low : c.args.level + 1 < length c.prev_node-moved.new.self.node = omega (arith, c.requires.height, c.requires.over.3.height, c.if-level-self.false) in
+    last_child_moves c.args.pool.now.nodes c.args.self.now.node c.args.self.now.entry c.args.level (c.args.level + 1) c.args.self.now.size rows list place p (add-one c.args.level) c.if-level-self.false c.requires.height c.prev_node-moved.new.self.node c.prev_node-moved.new.self.entry (c.prev_node-moved.ensures.moved c.if-moved.true) c.index-self-level.result low c.last_index-last.result c.last_index-last.ensures.last c.go_to_child-then-moved.new.self.node c.go_to_child-then-moved.new.self.entry c.if-entry-gt0.false c.go_to_child-then-moved.ensures.child c.go_to_child-then-moved.ensures.nodes c.go_to_child-then-moved.ensures.entry c.go_to_child-then-moved.ensures.entries
+
+pub returns-then-moved-clause-first : goal.returns-then-moved-clause-first
+returns-then-moved-clause-first g t c = λ no. absurd (false≢true (sym no ∙ c.if-moved.true))
+
+pub returns-then-moved-clause-same : goal.returns-then-moved-clause-same
+returns-then-moved-clause-same g t c = λ no. absurd (false≢true (sym no ∙ c.if-moved.true))
+
+pub returns-else-moved-clause-moved : goal.returns-else-moved-clause-moved
+returns-else-moved-clause-moved g t c = λ yes. absurd (false≢true (sym c.if-moved.false ∙ yes))
 
 pub returns-else-moved-clause-first : goal.returns-else-moved-clause-first
 returns-else-moved-clause-first g t c = λ none rows list place p.
-    let t0 = c.args.pool.now in
-    let ms = c.args.self.now.node in
-    let js = c.args.self.now.entry in
-    let up = c.args.level + 1 in
-    let up_is : up ≡ suc c.args.level = omega arith in
-    let size = c.args.self.now.size in
-    let s = over_spot t0.nodes ms js c.args.level up size rows list place p up_is (λ e. omega (arith, e, c.if-level-self.false)) in
-    first_place t0.nodes ms js c.args.level up size rows list place up_is s (c.prev_node-moved.ensures.first c.if-moved.false s.rest (heads s.row) (length s.before) s.over) (omega (arith, c.if-entry-gt0.false))
+    first_moves c.args.pool.now.nodes c.args.self.now.node c.args.self.now.entry c.args.level (c.args.level + 1) c.args.self.now.size rows list place p (add-one c.args.level) c.if-level-self.false c.requires.height (c.prev_node-moved.ensures.first c.if-moved.false) c.if-entry-gt0.false
+
+pub returns-else-moved-clause-same : goal.returns-else-moved-clause-same
+returns-else-moved-clause-same g t c = λ no. c.prev_node-moved.ensures.same c.if-moved.false

@@ -111,3 +111,33 @@ returns-else-index-entries g t c = λ rows a x k n b p.
     let o = across t0 path indices up size rows a x (k, n) b d less in
     let ab = across_above t0 path indices up size d.q.before o.z o.zs x o.q (k, n) o.ys o.rest d.q.rest (across_cut t0 path indices up size rows a x (k, n) b d o) d.q.stands in
     rekey_over t0 c.rekey_next.new.pool path indices up size rows a x k n b c.args.key d o (rw add-one at (c.rekey_next.ensures d.q.rest (heads d.q.before) (o.z.0, get_or path up 0) k o.q (heads o.rest) (rw add-one ab)))
+
+pub bounds-self-up : goal.bounds-self-up
+bounds-self-up g t c =
+    let w = c.requires.pending in
+    let low = above_two _ _ _ _ _ w.0 w.1 w.2 (w.3, w.4) w.5 _ w.6 in
+    omega (arith, low)
+
+pub bounds-self-up-2 : goal.bounds-self-up-2
+bounds-self-up-2 g t c =
+    let w = c.requires.pending in
+    let low = above_two _ _ _ _ _ w.0 w.1 w.2 (w.3, w.4) w.5 _ w.6 in
+    omega (arith, low)
+
+pub listed : goal.listed
+listed g t c =
+    let w = c.requires.pending in
+    let low = above_two _ _ _ _ _ w.0 w.1 w.2 (w.3, w.4) w.5 _ w.6 in
+    omega (arith, low)
+
+pub offset_bounds-self-up : goal.offset_bounds-self-up
+offset_bounds-self-up g t c =
+    let w = c.requires.pending in
+    let low = above_two _ _ _ _ _ w.0 w.1 w.2 (w.3, w.4) w.5 _ w.6 in
+    omega (arith, low)
+
+pub overflow_add-up : goal.overflow_add-up
+overflow_add-up g t c =
+    let w = c.requires.pending in
+    let low = above_two _ _ _ _ _ w.0 w.1 w.2 (w.3, w.4) w.5 _ w.6 in
+    omega (arith, low)

@@ -1,4 +1,4 @@
-use Rattle.std.proofs.Common.{rules, suc, Some, sym, ◌∙◌, arith}
+use Rattle.std.proofs.Common.{rules, suc, Some, sym, ◌∙◌, arith, refl}
 use Rattle.std.proofs.lemmas.Option.{slice_get_past}
 use Rattle.bforest_core.specs.Levels.{flat}
 use Rattle.bforest_core.proofs.Descent.{some_leaf}
@@ -25,3 +25,18 @@ pub returns-else-next_entry-clause-value : goal.returns-else-next_entry-clause-v
 returns-else-next_entry-clause-value g c = λ some tree place fit inside s0.
     let last = c.next_entry.ensures.last c.if-next_entry.false tree place fit inside s0 in
     sym (slice_get_past (flat tree.leaves) (suc place) (omega (arith, last)))
+
+pub next_entry-requires : goal.next_entry-requires
+next_entry-requires g c = (search rules, (search rules, (c.requires.capacity, (c.requires.height, c.requires.stands c.if-self-eq0.false))))
+
+pub returns-then-self-eq0-clause-value : goal.returns-then-self-eq0-clause-value
+returns-then-self-eq0-clause-value g c = λ some. absurd (some c.if-self-eq0.true)
+
+pub returns-then-self-eq0-clause-moved : goal.returns-then-self-eq0-clause-moved
+returns-then-self-eq0-clause-moved g c = λ some. absurd (some refl)
+
+pub returns-then-next_entry-clause-stays : goal.returns-then-next_entry-clause-stays
+returns-then-next_entry-clause-stays g c = λ none. absurd (c.if-self-eq0.false none)
+
+pub returns-else-next_entry-clause-moved : goal.returns-else-next_entry-clause-moved
+returns-else-next_entry-clause-moved g c = λ some. absurd (some refl)

@@ -33,3 +33,29 @@ returns-else-moved-clause-last g c = λ none tree place fit inside s.
     let slot = leaf_slot g.row.N (some_leaf _ c.requires.capacity) c.args.pool.now.nodes c.args.self.now.node c.args.self.now.entry c.args.self.now.size tree place fit inside s in
     let past = λ (low : get_or c.args.self.now.entry 0 0 + 1 < length s.leaf.entries). false≢true (sym c.if-has_entry.false ∙ (c.has_entry.ensures.within s.leaf.entries slot).1 low) in
     entry_last g.row.N (some_leaf _ c.requires.capacity) c.args.pool.now.nodes c.args.self.now.node c.args.self.now.entry c.args.self.now.size tree place fit inside s past (c.next_node-moved.ensures.last c.if-moved.false tree.above (heads tree.leaves) (length s.leaf.before) (over_leaves g.row.N (some_leaf _ c.requires.capacity) c.args.pool.now.nodes c.args.self.now.node c.args.self.now.entry c.args.self.now.size tree place fit inside s))
+
+pub returns-then-has_entry-clause-last : goal.returns-then-has_entry-clause-last
+returns-then-has_entry-clause-last g c = λ no. absurd (false≢true (sym no))
+
+pub returns-then-has_entry-clause-same : goal.returns-then-has_entry-clause-same
+returns-then-has_entry-clause-same g c = λ no. absurd (false≢true (sym no))
+
+pub returns-then-moved-clause-last : goal.returns-then-moved-clause-last
+returns-then-moved-clause-last g c = λ no. absurd (false≢true (sym no ∙ c.if-moved.true))
+
+pub returns-then-moved-clause-same : goal.returns-then-moved-clause-same
+returns-then-moved-clause-same g c = λ no. absurd (false≢true (sym no ∙ c.if-moved.true))
+
+pub returns-else-moved-clause-moved : goal.returns-else-moved-clause-moved
+returns-else-moved-clause-moved g c = λ yes. absurd (false≢true (sym c.if-moved.false ∙ yes))
+
+pub returns-else-moved-clause-same : goal.returns-else-moved-clause-same
+returns-else-moved-clause-same g c = λ no. c.next_node-moved.ensures.same c.if-moved.false
+
+pub next_node-moved-requires : goal.next_node-moved-requires
+next_node-moved-requires g c =
+    let w = c.requires.stands in
+    (search rules, (search rules, (c.requires.height, (w.0.above, heads w.0.leaves, length w.4.leaf.before, over_leaves g.row.N (some_leaf _ c.requires.capacity) c.args.pool.now.nodes c.args.self.now.node c.args.self.now.entry c.args.self.now.size w.0 w.1 w.2 w.3 w.4))))
+
+pub set_entry-requires : goal.set_entry-requires
+set_entry-requires g c = (search rules, c.has_entry.ensures.most c.if-has_entry.true)

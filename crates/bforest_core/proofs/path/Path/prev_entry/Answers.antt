@@ -1,5 +1,6 @@
-use Rattle.std.proofs.Common.{rules, ◌≡◌, ◌∷◌, length, get_or, slice_get, ap, ◌∙◌, arith}
+use Rattle.std.proofs.Common.{rules, ◌≡◌, ◌∷◌, length, get_or, slice_get, ap, ◌∙◌, arith, sym}
 use Rattle.std.proofs.lemmas.List.{get_or_default}
+use Rattle.std.proofs.lemmas.Bool.{false≢true}
 use Rattle.bforest_core.specs.Levels.{heads}
 use Rattle.bforest_core.specs.Place.{leaf_content}
 use Rattle.bforest_core.proofs.Descent.{some_leaf}
@@ -51,3 +52,26 @@ returns-else-moved-clause-first g c = λ no tree place fit inside s.
     let none : get_or path.entry 0 0 ≡ 0 = omega (arith, c.if-here-gt0.false) in
     let first = c.prev_node-moved.ensures.first c.if-moved.false tree.above (heads tree.leaves) (length s.leaf.before) (over_leaves g.row.N one slots path.node path.entry path.size tree place fit inside s) in
     back_first g.row.N one slots path.node path.entry path.size tree place fit inside s first none
+
+pub returns-then-here-gt0-clause-first : goal.returns-then-here-gt0-clause-first
+returns-then-here-gt0-clause-first g c = λ no. absurd (false≢true (sym no))
+
+pub returns-then-here-gt0-clause-same : goal.returns-then-here-gt0-clause-same
+returns-then-here-gt0-clause-same g c = λ no. absurd (false≢true (sym no))
+
+pub returns-then-moved-clause-first : goal.returns-then-moved-clause-first
+returns-then-moved-clause-first g c = λ no. absurd (false≢true (sym no ∙ c.if-moved.true))
+
+pub returns-then-moved-clause-same : goal.returns-then-moved-clause-same
+returns-then-moved-clause-same g c = λ no. absurd (false≢true (sym no ∙ c.if-moved.true))
+
+pub returns-else-moved-clause-moved : goal.returns-else-moved-clause-moved
+returns-else-moved-clause-moved g c = λ yes. absurd (false≢true (sym c.if-moved.false ∙ yes))
+
+pub returns-else-moved-clause-same : goal.returns-else-moved-clause-same
+returns-else-moved-clause-same g c = λ no. c.prev_node-moved.ensures.same c.if-moved.false
+
+pub prev_node-moved-requires : goal.prev_node-moved-requires
+prev_node-moved-requires g c =
+    let w = c.requires.stands in
+    (search rules, (search rules, (c.requires.height, (w.0.above, heads w.0.leaves, length w.4.leaf.before, over_leaves g.row.N (some_leaf _ c.requires.capacity) c.args.pool.now.nodes c.args.self.now.node c.args.self.now.entry c.args.self.now.size w.0 w.1 w.2 w.3 w.4))))

@@ -53,3 +53,6 @@ returns-clause-removed g c = λ tree place s.
     let l = leaf_drop _ _ c.free_node.new.self _ _ _ tree place s d (λ e. c.if-self-eq1.false e) (c.free_node.ensures.freed ∙ ap (λ z. with_freed c.args.pool.now z) here) in
     let r = c.drop_above.ensures tree.above (heads l.init) (l.w.0, l.number) (l.d.x.0, get_or path 0 0) l.above in
     drop_removed _ _ c.free_node.new.self c.drop_above.new.pool c.trim-top.new.pool _ _ c.trim-top.new.self.node c.trim-top.new.self.entry _ c.trim-top.new.self.size tree place c.args.root c.trim-top.result s (stands_root _ _ _ _ _ tree s1.0 place s1.1 c.args.root s s1.2 s1.3) l r c.trim-top.ensures.trimmed
+
+pub returns-then-self-eq1-clause-removed : goal.returns-then-self-eq1-clause-removed
+returns-then-self-eq1-clause-removed g c = λ tree place s. tt

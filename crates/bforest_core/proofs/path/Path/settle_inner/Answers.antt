@@ -1,13 +1,7 @@
-use Rattle.std.proofs.Common.{rules, ◌≡◌, ℕ, ◌<◌, length, get_or, Option, arith, ap, ◌∙◌, subst, inl, add-one}
-use Rattle.std.proofs.lemmas.List.{get_or_default}
-use Rattle.bforest_core.specs.Levels.{heads}
-use Rattle.bforest_core.specs.Place.{inner_content, count}
-use Rattle.bforest_core.specs.Climb.{NextIs}
-use Rattle.bforest_core.proofs.Stored.{item_count}
+use Rattle.std.proofs.Common.{rules, ◌<◌, length, arith, add-one}
+use Rattle.bforest_core.specs.Place.{inner_content}
 use Rattle.bforest_core.proofs.Balance.{IsHalf, inner_stored}
-use Rattle.bforest_core.proofs.Tables.{is_used}
-use Rattle.bforest_core.proofs.Settle.{settle_stay}
-use Rattle.bforest_core.proofs.Healing.{slot_here, none_here, used_here, near_next, near_past, near_above, headed, settle_last, settle_past, underflowed, near_spread, near_right, spread_above, heal_spread, join_right}
+use Rattle.bforest_core.proofs.Settling.{slot_read, past_asks, past_heals, stay_heals, beside_asks, last_heals, balance_asks, rekey_asks, rekey_heals, free_asks, free_joins}
 use Rattle.bforest_core.proofs.path.Path.settle_inner.Goals as goal
 
 half_inner : IsHalf 4 8
@@ -16,161 +10,72 @@ half_inner = record { two = omega arith; lo = omega arith; hi = omega arith }
 pub entries-left-requires : goal.entries-left-requires
 entries-left-requires g c =
     let w = c.requires.pending in
-    let p = w.5 in
-    let num = get_or c.args.self.now.node c.args.level c.index-self-level.result in
-    let here : num ≡ w.1 = get_or_default c.args.self.now.node c.args.level c.index-self-level.result 0 (omega (arith, p.above.height)) ∙ p.number_is in
-    let slot = slot_here inner_content 4 8 half_inner _ _ _ _ _ w.0 w.1 w.2 w.3 w.4 p in
-    (search rules, (inner_content w.2, rw here slot, λ free. free))
+    let low : c.args.level < length c.args.self.now.node = omega (arith, w.5.above.height) in
+    let slot = slot_read inner_content 4 8 _ half_inner (inner_stored g.row.N) _ _ _ _ _ _ c.index-self-level.result (add-one c.args.level) low w.0 w.1 w.2 w.3 w.4 w.5 in
+    (search rules, (inner_content w.2, slot, λ free. free))
 
 pub enter_next-requires : goal.enter_next-requires
 enter_next-requires g c =
     let w = c.requires.pending in
-    let p = w.5 in
-    let num = get_or c.args.self.now.node c.args.level c.index-self-level.result in
-    let here : num ≡ w.1 = get_or_default c.args.self.now.node c.args.level c.index-self-level.result 0 (omega (arith, p.above.height)) ∙ p.number_is in
-    let slot = slot_here inner_content 4 8 half_inner _ _ _ _ _ w.0 w.1 w.2 w.3 w.4 p in
-    let cnt : c.entries-left.result ≡ length w.2 = c.entries-left.ensures.value (inner_content w.2) (rw here slot) ∙ item_count w.2 in
-    let d = near_past inner_content 4 8 half_inner _ _ _ _ _ w.0 w.1 w.2 w.3 w.4 p (c.if-self-level.true ∙ cnt) in
-    let n = d.near in
-    let ab = near_above inner_content 4 8 half_inner _ _ _ _ _ w.0 w.1 w.2 w.3 w.4 _ _ n in
-    (search rules, (search rules, (c.requires.height, (w.4, heads w.0, (n.e.0, w.1), (n.f.0, d.q), heads n.after', ab))))
+    let low : c.args.level < length c.args.self.now.node = omega (arith, w.5.above.height) in
+    let d = past_asks inner_content 4 8 _ half_inner (inner_stored g.row.N) _ _ _ _ _ _ c.index-self-level.result (add-one c.args.level) low w.0 w.1 w.2 w.3 w.4 w.5 c.entries-left.result c.entries-left.ensures.value c.if-self-level.true in
+    (search rules, (search rules, (c.requires.height, (w.4, d.before, d.x, (d.key, d.q), d.after, d.above))))
 
 pub returns-then-self-level-clause-healed : goal.returns-then-self-level-clause-healed
 returns-then-self-level-clause-healed g c = λ same before n es after rest p.
-    let num = get_or c.args.self.now.node c.args.level c.index-self-level.result in
-    let here : num ≡ n = get_or_default c.args.self.now.node c.args.level c.index-self-level.result 0 (omega (arith, p.above.height)) ∙ p.number_is in
-    let slot = slot_here inner_content 4 8 half_inner _ _ _ _ _ before n es after rest p in
-    let cnt : c.entries-left.result ≡ length es = c.entries-left.ensures.value (inner_content es) (rw here slot) ∙ item_count es in
-    let past = c.if-self-level.true ∙ cnt in
-    let d = near_past inner_content 4 8 half_inner _ _ _ _ _ before n es after rest p past in
-    let w = d.near in
-    let ab = near_above inner_content 4 8 half_inner _ _ _ _ _ before n es after rest _ _ w in
-    let moved = c.enter_next.ensures.moved rest (heads before) (w.e.0, n) (w.f.0, d.q) (heads w.after') ab in
-    settle_past inner_content 4 8 half_inner _ _ _ _ _ _ _ before n es after rest _ _ w (omega (arith, cnt, c.if-left-ge4.true)) past moved c.enter_next.ensures.first c.enter_next.ensures.nodes_below c.enter_next.ensures.entries_below c.enter_next.ensures.same_top
+    let low : c.args.level < length c.args.self.now.node = omega (arith, p.above.height) in
+    past_heals inner_content 4 8 _ half_inner (inner_stored g.row.N) _ _ _ _ _ _ c.index-self-level.result (add-one c.args.level) low before n es after rest p _ _ c.entries-left.result c.entries-left.ensures.value c.if-left-ge4.true c.if-self-level.true
+    c.enter_next.ensures.moved c.enter_next.ensures.first c.enter_next.ensures.nodes_below c.enter_next.ensures.entries_below c.enter_next.ensures.same_top
 
 pub returns-else-self-level-clause-healed : goal.returns-else-self-level-clause-healed
 returns-else-self-level-clause-healed g c = λ same before n es after rest p.
-    let num = get_or c.args.self.now.node c.args.level c.index-self-level.result in
-    let here : num ≡ n = get_or_default c.args.self.now.node c.args.level c.index-self-level.result 0 (omega (arith, p.above.height)) ∙ p.number_is in
-    let slot = slot_here inner_content 4 8 half_inner _ _ _ _ _ before n es after rest p in
-    let cnt : c.entries-left.result ≡ length es = c.entries-left.ensures.value (inner_content es) (rw here slot) ∙ item_count es in
-    settle_stay inner_content 4 8 half_inner _ _ _ _ _ before n es after rest p (inl (omega (arith, cnt, c.if-left-ge4.true))) (omega (arith, cnt, p.entry_was, c.if-self-level.false))
+    let low : c.args.level < length c.args.self.now.node = omega (arith, p.above.height) in
+    stay_heals inner_content 4 8 _ half_inner (inner_stored g.row.N) _ _ _ _ _ _ c.index-self-level.result (add-one c.args.level) low before n es after rest p c.entries-left.result c.entries-left.ensures.value c.if-left-ge4.true c.if-self-level.false
 
 pub right_sibling-requires : goal.right_sibling-requires
 right_sibling-requires g c =
     let w = c.requires.pending in
-    let h = headed inner_content 4 8 half_inner _ _ _ _ _ w.0 w.1 w.2 w.3 w.4 w.5 in
-    (search rules, (search rules, (c.requires.height, (w.4, heads w.0, (h.k, w.1), heads w.3, rw add-one h.above))))
+    let low : c.args.level < length c.args.self.now.node = omega (arith, w.5.above.height) in
+    let h = beside_asks inner_content 4 8 _ half_inner (inner_stored g.row.N) _ _ _ _ _ _ c.index-self-level.result (add-one c.args.level) low w.0 w.1 w.2 w.3 w.4 w.5 in
+    (search rules, (search rules, (c.requires.height, (w.4, h.before, h.x, h.after, h.above))))
 
 pub balance_nodes-requires : goal.balance_nodes-requires
 balance_nodes-requires g c =
     let w = c.requires.pending in
-    let before = w.0 in
-    let n = w.1 in
-    let es = w.2 in
-    let after = w.3 in
-    let rest = w.4 in
-    let p = w.5 in
-    let num = get_or c.args.self.now.node c.args.level c.index-self-level.result in
-    let here : num ≡ n = get_or_default c.args.self.now.node c.args.level c.index-self-level.result 0 (omega (arith, p.above.height)) ∙ p.number_is in
-    let slot = slot_here inner_content 4 8 half_inner _ _ _ _ _ before n es after rest p in
-    let cnt : c.entries-left.result ≡ length es = c.entries-left.ensures.value (inner_content es) (rw here slot) ∙ item_count es in
-    let under : length es < 4 = omega (arith, cnt, c.if-left-ge4.false) in
-    let h = headed inner_content 4 8 half_inner _ _ _ _ _ before n es after rest p in
-    let k = c.in-Some.next.0 in
-    let q = c.in-Some.next.1 in
-    let nx = subst (λ (r : Option (g.row.K.Denot × ℕ)). NextIs r (heads after)) c.in-Some.is (c.right_sibling.ensures rest (heads before) (h.k, n) (heads after) (rw add-one h.above)) in
-    let d = near_next inner_content 4 8 half_inner _ _ _ _ _ before n es after rest k q nx.0 p nx.1 in
-    let r = underflowed inner_content 4 8 half_inner _ (inner_stored _) _ _ _ _ _ before n es after rest k q d under in
-    (search rules, (rw here (used_here inner_content 4 8 half_inner _ _ _ _ _ before n es after rest p), (r.0, (rw here r.1, rw here r.2))))
+    let low : c.args.level < length c.args.self.now.node = omega (arith, w.5.above.height) in
+    let r = balance_asks inner_content 4 8 _ half_inner (inner_stored g.row.N) _ _ _ _ _ _ c.index-self-level.result (add-one c.args.level) low w.0 w.1 w.2 w.3 w.4 w.5 c.entries-left.result c.entries-left.ensures.value c.if-left-ge4.false _ _ c.in-Some.is c.right_sibling.ensures in
+    (search rules, (r.0, (r.1, (r.2, r.3))))
 
 pub rekey_next-requires : goal.rekey_next-requires
 rekey_next-requires g c =
     let w = c.requires.pending in
-    let before = w.0 in
-    let n = w.1 in
-    let es = w.2 in
-    let after = w.3 in
-    let rest = w.4 in
-    let p = w.5 in
-    let num = get_or c.args.self.now.node c.args.level c.index-self-level.result in
-    let here : num ≡ n = get_or_default c.args.self.now.node c.args.level c.index-self-level.result 0 (omega (arith, p.above.height)) ∙ p.number_is in
-    let h = headed inner_content 4 8 half_inner _ _ _ _ _ before n es after rest p in
-    let k = c.in-Some.next.0 in
-    let q = c.in-Some.next.1 in
-    let nx = subst (λ (r : Option (g.row.K.Denot × ℕ)). NextIs r (heads after)) c.in-Some.is (c.right_sibling.ensures rest (heads before) (h.k, n) (heads after) (rw add-one h.above)) in
-    let d = near_next inner_content 4 8 half_inner _ _ _ _ _ before n es after rest k q nx.0 p nx.1 in
-    let u = c.balance_nodes.new.self in
-    let bal = rw here at c.balance_nodes.ensures.balanced in
-    let key = c.in-Some-balance_nodes.new_key in
-    let b2 = rw (c.in-Some-balance_nodes.is) at bal in
-    let s = near_spread inner_content 4 8 half_inner _ (inner_stored _) _ u _ _ _ _ before n es after rest k q key d b2 in
-    let ab = spread_above inner_content 4 8 half_inner _ u _ _ _ _ before n es after rest k q _ _ d s.two in
-    (search rules, (search rules, (c.requires.height, (rest, heads before, (d.e.0, n), d.f.0, q, heads d.after', rw add-one ab))))
+    let low : c.args.level < length c.args.self.now.node = omega (arith, w.5.above.height) in
+    let d = rekey_asks inner_content 4 8 _ half_inner (inner_stored g.row.N) _ _ _ _ _ _ c.index-self-level.result (add-one c.args.level) low w.0 w.1 w.2 w.3 w.4 w.5 c.entries-left.result c.entries-left.ensures.value c.if-left-ge4.false _ _ c.in-Some.is c.right_sibling.ensures
+    c.balance_nodes.new.self _ c.balance_nodes.ensures.balanced _ c.in-Some-balance_nodes.is in
+    (search rules, (search rules, (c.requires.height, (w.4, d.before, d.x, d.key, d.q, d.after, d.above))))
 
 pub free_node-requires : goal.free_node-requires
 free_node-requires g c =
     let w = c.requires.pending in
-    let before = w.0 in
-    let n = w.1 in
-    let es = w.2 in
-    let after = w.3 in
-    let rest = w.4 in
-    let p = w.5 in
-    let num = get_or c.args.self.now.node c.args.level c.index-self-level.result in
-    let here : num ≡ n = get_or_default c.args.self.now.node c.args.level c.index-self-level.result 0 (omega (arith, p.above.height)) ∙ p.number_is in
-    let h = headed inner_content 4 8 half_inner _ _ _ _ _ before n es after rest p in
-    let k = c.in-Some.next.0 in
-    let q = c.in-Some.next.1 in
-    let nx = subst (λ (r : Option (g.row.K.Denot × ℕ)). NextIs r (heads after)) c.in-Some.is (c.right_sibling.ensures rest (heads before) (h.k, n) (heads after) (rw add-one h.above)) in
-    let d = near_next inner_content 4 8 half_inner _ _ _ _ _ before n es after rest k q nx.0 p nx.1 in
-    let u = c.balance_nodes.new.self in
-    let bal = rw here at c.balance_nodes.ensures.balanced in
-    let b2 = rw (c.in-None-balance_nodes.is) at bal in
-    let s = near_right inner_content 4 8 half_inner _ (inner_stored _) _ u _ _ _ _ before n es after rest k q d b2 in
-    (search rules, rw here (is_used u n s.left_content s.two.here (ap (λ z. count n z) s.two.chain_is ∙ none_here inner_content 4 8 half_inner _ _ _ _ _ before n es after rest p)))
+    let low : c.args.level < length c.args.self.now.node = omega (arith, w.5.above.height) in (
+      search rules,
+      free_asks inner_content 4 8 _ half_inner (inner_stored g.row.N) _ _ _ _ _ _ c.index-self-level.result (add-one c.args.level) low w.0 w.1 w.2 w.3 w.4 w.5 c.entries-left.result c.entries-left.ensures.value c.if-left-ge4.false _ _ c.in-Some.is c.right_sibling.ensures
+          c.balance_nodes.new.self _ c.balance_nodes.ensures.balanced c.in-None-balance_nodes.is,
+    )
 
 pub returns-in-None-clause-healed : goal.returns-in-None-clause-healed
 returns-in-None-clause-healed g c = λ same before n es after rest p.
-    let h = headed inner_content 4 8 half_inner _ _ _ _ _ before n es after rest p in
-    let none = c.in-None.ensures rest (heads before) (h.k, n) (heads after) (rw add-one h.above) in
-    settle_last inner_content 4 8 half_inner _ _ _ _ _ before n es after rest p none
+    let low : c.args.level < length c.args.self.now.node = omega (arith, p.above.height) in
+    last_heals inner_content 4 8 _ half_inner (inner_stored g.row.N) _ _ _ _ _ _ c.index-self-level.result (add-one c.args.level) low before n es after rest p c.in-None.ensures
 
 pub returns-in-Some-balance_nodes-clause-healed : goal.returns-in-Some-balance_nodes-clause-healed
 returns-in-Some-balance_nodes-clause-healed g c = λ same before n es after rest p.
-    let num = get_or c.args.self.now.node c.args.level c.index-self-level.result in
-    let here : num ≡ n = get_or_default c.args.self.now.node c.args.level c.index-self-level.result 0 (omega (arith, p.above.height)) ∙ p.number_is in
-    let slot = slot_here inner_content 4 8 half_inner _ _ _ _ _ before n es after rest p in
-    let cnt : c.entries-left.result ≡ length es = c.entries-left.ensures.value (inner_content es) (rw here slot) ∙ item_count es in
-    let under : length es < 4 = omega (arith, cnt, c.if-left-ge4.false) in
-    let h = headed inner_content 4 8 half_inner _ _ _ _ _ before n es after rest p in
-    let k = c.in-Some.next.0 in
-    let q = c.in-Some.next.1 in
-    let nx = subst (λ (r : Option (g.row.K.Denot × ℕ)). NextIs r (heads after)) c.in-Some.is (c.right_sibling.ensures rest (heads before) (h.k, n) (heads after) (rw add-one h.above)) in
-    let d = near_next inner_content 4 8 half_inner _ _ _ _ _ before n es after rest k q nx.0 p nx.1 in
-    let u = c.balance_nodes.new.self in
-    let bal = rw here at c.balance_nodes.ensures.balanced in
-    let key = c.in-Some-balance_nodes.new_key in
-    let b2 = rw (c.in-Some-balance_nodes.is) at bal in
-    let s = near_spread inner_content 4 8 half_inner _ (inner_stored _) _ u _ _ _ _ before n es after rest k q key d b2 in
-    let ab = spread_above inner_content 4 8 half_inner _ u _ _ _ _ before n es after rest k q _ _ d s.two in
-    let reb = c.rekey_next.ensures rest (heads before) (d.e.0, n) d.f.0 q (heads d.after') (rw add-one ab) in
-    heal_spread inner_content 4 8 half_inner _ u c.rekey_next.new.pool _ _ _ _ before n es after rest k q key d under s (rw add-one at reb)
+    let low : c.args.level < length c.args.self.now.node = omega (arith, p.above.height) in
+    rekey_heals inner_content 4 8 _ half_inner (inner_stored g.row.N) _ _ _ _ _ _ c.index-self-level.result (add-one c.args.level) low before n es after rest p c.entries-left.result c.entries-left.ensures.value c.if-left-ge4.false _ _ c.in-Some.is c.right_sibling.ensures
+    c.balance_nodes.new.self _ c.balance_nodes.ensures.balanced _ c.rekey_next.new.pool c.in-Some-balance_nodes.is c.rekey_next.ensures
 
 pub returns-in-None-balance_nodes-clause-joined : goal.returns-in-None-balance_nodes-clause-joined
 returns-in-None-balance_nodes-clause-joined g c = λ same before n es after rest p.
-    let num = get_or c.args.self.now.node c.args.level c.index-self-level.result in
-    let here : num ≡ n = get_or_default c.args.self.now.node c.args.level c.index-self-level.result 0 (omega (arith, p.above.height)) ∙ p.number_is in
-    let slot = slot_here inner_content 4 8 half_inner _ _ _ _ _ before n es after rest p in
-    let cnt : c.entries-left.result ≡ length es = c.entries-left.ensures.value (inner_content es) (rw here slot) ∙ item_count es in
-    let under : length es < 4 = omega (arith, cnt, c.if-left-ge4.false) in
-    let h = headed inner_content 4 8 half_inner _ _ _ _ _ before n es after rest p in
-    let k = c.in-Some.next.0 in
-    let q = c.in-Some.next.1 in
-    let nx = subst (λ (r : Option (g.row.K.Denot × ℕ)). NextIs r (heads after)) c.in-Some.is (c.right_sibling.ensures rest (heads before) (h.k, n) (heads after) (rw add-one h.above)) in
-    let d = near_next inner_content 4 8 half_inner _ _ _ _ _ before n es after rest k q nx.0 p nx.1 in
-    let u = c.balance_nodes.new.self in
-    let bal = rw here at c.balance_nodes.ensures.balanced in
-    let b2 = rw (c.in-None-balance_nodes.is) at bal in
-    let s = near_right inner_content 4 8 half_inner _ (inner_stored _) _ u _ _ _ _ before n es after rest k q d b2 in
-    join_right inner_content 4 8 half_inner _ u c.free_node.new.self _ _ _ _ before n es after rest k q d under s (rw here at c.free_node.ensures.freed) (omega (arith, p.above.height))
+    let low : c.args.level < length c.args.self.now.node = omega (arith, p.above.height) in
+    free_joins inner_content 4 8 _ half_inner (inner_stored g.row.N) _ _ _ _ _ _ c.index-self-level.result (add-one c.args.level) low before n es after rest p c.entries-left.result c.entries-left.ensures.value c.if-left-ge4.false _ _ c.in-Some.is c.right_sibling.ensures
+    c.balance_nodes.new.self _ c.balance_nodes.ensures.balanced c.free_node.new.self c.in-None-balance_nodes.is c.free_node.ensures.freed

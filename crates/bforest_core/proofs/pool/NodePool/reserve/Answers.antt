@@ -1,4 +1,5 @@
-use Rattle.std.proofs.Common.{◌≡◌, ◌+◌, ◌-◌, length, vec_len, arith}
+use Rattle.std.proofs.Common.{◌≡◌, ◌+◌, ◌-◌, length, vec_len, arith, refl, sym}
+use Rattle.bforest_core.proofs.Allocating.{ok_not_err, full_not_memory, sees, has_room, lacks_room, finds_room, needs_growth, not_enough, stays_reserved, few_slots}
 use Rattle.bforest_core.proofs.Pools.{IsPool-grown}
 use Rattle.bforest_core.proofs.Chains.{front_of-is}
 use Rattle.bforest_core.proofs.pool.NodePool.reserve.Goals as goal
@@ -16,3 +17,82 @@ returns-in-Ok-clause-ok g c =
     let all : c.args.n - c.self.inside.free + c.self.inside.free ≡ c.args.n = omega arith in
     let grown = IsPool-grown _ _ _ _ _ (c.args.n - c.self.inside.free) (omega arith) c.self.invariant in
     rw (← c.self.view_is, c.in-Ok.ensures.ok, c.in-Ok.ensures.first, size, c.self.invariant.counted, front_of-is _ _ _ c.self.invariant.linked, rw all at grown.1)
+
+pub returns-then-n-self-clause-full : goal.returns-then-n-self-clause-full
+returns-then-n-self-clause-full g c =
+    let s = sees _ _ _ _ _ _ c.self.view_is c.self.invariant.counted refl in
+    (λ is. absurd (ok_not_err _ _ is), λ short. absurd (has_room _ _ _ _ c.args.n s c.if-n-self.true short))
+
+pub returns-then-n-self-clause-memory : goal.returns-then-n-self-clause-memory
+returns-then-n-self-clause-memory g c = λ is. absurd (ok_not_err _ _ is)
+
+pub returns-then-missing-self-clause-full : goal.returns-then-missing-self-clause-full
+returns-then-missing-self-clause-full g c =
+    let len_is : c.len.result ≡ length c.self.inside.nodes.items = omega arith in
+    let s = sees _ _ _ _ _ c.len.result c.self.view_is c.self.invariant.counted len_is in
+    (λ is. lacks_room _ _ _ _ c.args.n s c.if-n-self.false c.if-missing-self.true, λ short. refl)
+
+pub returns-then-missing-self-clause-memory : goal.returns-then-missing-self-clause-memory
+returns-then-missing-self-clause-memory g c = λ is. absurd (full_not_memory is)
+
+pub returns-then-missing-self-clause-enough : goal.returns-then-missing-self-clause-enough
+returns-then-missing-self-clause-enough g c =
+    let len_is : c.len.result ≡ length c.self.inside.nodes.items = omega arith in
+    let s = sees _ _ _ _ _ c.len.result c.self.view_is c.self.invariant.counted len_is in
+    λ enough. absurd (not_enough _ _ _ _ c.args.n s c.if-n-self.false enough)
+
+pub returns-in-Err-clause-full : goal.returns-in-Err-clause-full
+returns-in-Err-clause-full g c =
+    let len_is : c.len.result ≡ length c.self.inside.nodes.items = omega arith in
+    let s = sees _ _ _ _ _ c.len.result c.self.view_is c.self.invariant.counted len_is in
+    (λ is. absurd (full_not_memory (sym is)), λ short. absurd (finds_room _ _ _ _ c.args.n s c.if-missing-self.false short))
+
+pub returns-in-Err-clause-memory : goal.returns-in-Err-clause-memory
+returns-in-Err-clause-memory g c =
+    let len_is : c.len.result ≡ length c.self.inside.nodes.items = omega arith in
+    let s = sees _ _ _ _ _ c.len.result c.self.view_is c.self.invariant.counted len_is in
+    λ is. needs_growth _ _ _ _ c.args.n s c.if-n-self.false c.if-missing-self.false
+
+pub returns-in-Err-clause-enough : goal.returns-in-Err-clause-enough
+returns-in-Err-clause-enough g c =
+    let len_is : c.len.result ≡ length c.self.inside.nodes.items = omega arith in
+    let s = sees _ _ _ _ _ c.len.result c.self.view_is c.self.invariant.counted len_is in
+    λ enough. absurd (not_enough _ _ _ _ c.args.n s c.if-n-self.false enough)
+
+pub returns-in-Ok-clause-full : goal.returns-in-Ok-clause-full
+returns-in-Ok-clause-full g c =
+    let len_is : c.len.result ≡ length c.self.inside.nodes.items = omega arith in
+    let s = sees _ _ _ _ _ c.len.result c.self.view_is c.self.invariant.counted len_is in
+    (λ is. absurd (ok_not_err _ _ is), λ short. absurd (finds_room _ _ _ _ c.args.n s c.if-missing-self.false short))
+
+pub returns-in-Ok-clause-memory : goal.returns-in-Ok-clause-memory
+returns-in-Ok-clause-memory g c = λ is. absurd (ok_not_err _ _ is)
+
+pub returns-then-n-self-clause-ok : goal.returns-then-n-self-clause-ok
+returns-then-n-self-clause-ok g c =
+    let s = sees _ _ _ _ _ _ c.self.view_is c.self.invariant.counted refl in
+    stays_reserved _ _ _ _ c.args.n s c.if-n-self.true
+
+pub returns-then-n-self-clause-numbers : goal.returns-then-n-self-clause-numbers
+returns-then-n-self-clause-numbers g c = few_slots _ _ _ _ c.self.view_is c.self.invariant.slots_within c.self.invariant.limit_within
+
+pub returns-then-missing-self-clause-numbers : goal.returns-then-missing-self-clause-numbers
+returns-then-missing-self-clause-numbers g c = few_slots _ _ _ _ c.self.view_is c.self.invariant.slots_within c.self.invariant.limit_within
+
+pub returns-in-Err-clause-numbers : goal.returns-in-Err-clause-numbers
+returns-in-Err-clause-numbers g c = few_slots _ _ _ _ c.self.view_is c.self.invariant.slots_within c.self.invariant.limit_within
+
+pub returns-in-Ok-clause-numbers : goal.returns-in-Ok-clause-numbers
+returns-in-Ok-clause-numbers g c = few_slots _ _ _ _ c.self.view_is c.self.invariant.slots_within c.self.invariant.limit_within
+
+pub overflow_sub-self-inside : goal.overflow_sub-self-inside
+overflow_sub-self-inside g c = omega (arith, c.self.invariant.slots_within)
+
+pub overflow_cast-len : goal.overflow_cast-len
+overflow_cast-len g c = omega (arith, c.self.invariant.slots_within, c.self.invariant.limit_within)
+
+pub invariant_of-self-in-Err : goal.invariant_of-self-in-Err
+invariant_of-self-in-Err g c = rw c.in-Err.ensures.err c.self.invariant
+
+pub returns-in-Err-clause-err : goal.returns-in-Err-clause-err
+returns-in-Err-clause-err g c = rw c.in-Err.ensures.err c.self.view_is

@@ -10,3 +10,6 @@ returns-clause-table g c =
       slots_within = c.self.invariant.slots_within;
       limit_within = c.self.invariant.limit_within;
     })
+
+pub returns-clause-value : goal.returns-clause-value
+returns-clause-value g c = rw (← c.self.view_is) (omega (arith, c.len.ensures))

@@ -1,6 +1,6 @@
-use Rattle.std.proofs.Common.{rules, slice_get, Some, arith, refl, ◌∙◌, ◌≡◌, length, length-set, vec_len, slice_set}
+use Rattle.std.proofs.Common.{rules, slice_get, Some, arith, refl, ◌∙◌, ◌≡◌, length, length-set, vec_len, slice_set, sym}
 use Rattle.bforest_core.proofs.Lists.{refilled}
-use Rattle.bforest_core.proofs.Fronts.{nodes-without_front, off-without_front, with_front-is}
+use Rattle.bforest_core.proofs.Fronts.{nodes-without_front, off-without_front, with_front-is, apart_front}
 use Rattle.bforest_core.proofs.Pools.{IsPool-set_two}
 use Rattle.bforest_core.proofs.pool.NodePool.split_node.Goals as goal
 
@@ -57,3 +57,22 @@ returns-clause-used g c =
     let off = rw (← c.self.view_is) at c.take_slot-right.ensures.used.off_chain in
     rw (items, refilled c.self.inside.nodes.items (slice_set (slice_set c.self.inside.nodes.items c.number.result c.split.new.rhs) c.number-2.result c.split.new.self) (vec_len c.self.inside.nodes) size room)
     (record { within = omega (arith, within, size); off_chain = rw pair.1 off })
+
+pub two_nodes-rhs-requires-clause-apart : goal.two_nodes-rhs-requires-clause-apart
+two_nodes-rhs-requires-clause-apart g c = λ same. apart_front c.args.self.now.chain c.args.left c.take_slot-right.result c.take_slot-right.ensures.node c.requires.used.off_chain (sym c.number.ensures.value ∙ same ∙ c.number-2.ensures.value)
+
+pub two_nodes-rhs-requires-clause-left_within : goal.two_nodes-rhs-requires-clause-left_within
+two_nodes-rhs-requires-clause-left_within g c =
+    let within = rw (← c.self.view_is) at c.take_slot-right.ensures.used.within in
+    rw (c.as_mut_slice.ensures.value, c.number.ensures.value) within
+
+pub two_nodes-rhs-requires-clause-right_within : goal.two_nodes-rhs-requires-clause-right_within
+two_nodes-rhs-requires-clause-right_within g c =
+    let within = rw (← nodes-without_front c.args.self.now c.args.self.now.chain, ← c.take_slot-right.ensures.table, ← c.self.view_is) at c.requires.used.within in
+    rw (c.as_mut_slice.ensures.value, c.number-2.ensures.value) within
+
+pub returns-clause-capacity : goal.returns-clause-capacity
+returns-clause-capacity g c = c.self.invariant.capacity
+
+pub returns-clause-node : goal.returns-clause-node
+returns-clause-node g c = c.take_slot-right.ensures.node

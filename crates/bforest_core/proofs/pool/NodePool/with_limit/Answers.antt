@@ -1,6 +1,10 @@
-use Rattle.std.proofs.Common.{arith}
+use Rattle.std.proofs.Common.{arith, refl}
 use Rattle.bforest_core.proofs.Pools.{IsPool-empty}
+use Rattle.bforest_core.proofs.Fronts.{empty-is}
 use Rattle.bforest_core.proofs.pool.NodePool.with_limit.Goals as goal
 
 pub invariant_of-result : goal.invariant_of-result
 invariant_of-result g c = rw (c.new.ensures.items, c.none.ensures.none) (IsPool-empty _ _ c.requires (omega arith))
+
+pub returns : goal.returns
+returns g c = record { empty = empty-is _ _ c.new.ensures.items refl refl }

@@ -1,0 +1,6 @@
+use Rattle.std.proofs.Common.{◌-◌, arith}
+use Rattle.std.proofs.lemmas.List.{get_or_default}
+use Rattle.bforest_core.proofs.path.Path.root.Goals as goal
+
+pub returns : goal.returns
+returns g c = get_or_default c.args.self.now.node (c.args.self.now.size - 1) c.index-self-self.result 0 (omega arith)

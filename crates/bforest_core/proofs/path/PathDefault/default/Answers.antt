@@ -1,0 +1,5 @@
+use Rattle.std.proofs.Common.{refl}
+use Rattle.bforest_core.proofs.path.PathDefault.default.Goals as goal
+
+pub returns : goal.returns
+returns g c = refl

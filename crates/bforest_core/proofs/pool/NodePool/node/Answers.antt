@@ -1,0 +1,8 @@
+use Rattle.std.proofs.Common.{length, refl, arith}
+use Rattle.std.proofs.lemmas.Option.{slice_get_read}
+use Rattle.bforest_core.proofs.pool.NodePool.node.Goals as goal
+
+pub returns : goal.returns
+returns g c =
+    let within = rw (← c.self.view_is) at c.requires in
+    record { value = rw (← c.self.view_is, ← c.number.ensures.value) (slice_get_read c.self.inside.nodes.items (length c.self.inside.nodes.items) c.number.result c.index.result.now refl (omega (arith, within, c.number.ensures.value)) c.index.ensures) }

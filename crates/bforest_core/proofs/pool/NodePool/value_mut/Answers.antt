@@ -1,0 +1,18 @@
+use Rattle.std.proofs.Common.{rules, refl, sym, ap, ◌≡◌, ◌∙◌, subst, arith}
+use Rattle.bforest_nodes.specs.Content.{IsLeaf, entry_count, with_value}
+use Rattle.bforest_core.specs.Table.{with_node}
+use Rattle.bforest_core.proofs.Read.{slot-is}
+use Rattle.bforest_core.proofs.Stored.{some_same}
+use Rattle.bforest_core.proofs.pool.NodePool.value_mut.Goals as goal
+
+pub node_mut-requires : goal.node_mut-requires
+node_mut-requires g c = (search rules, (search rules, c.requires.used))
+
+pub value_mut-requires : goal.value_mut-requires
+value_mut-requires g c =
+    let e = c.requires.entry in
+    let same : c.node_mut.result.now ≡ e.content = some_same c.node_mut.result.now e.content (sym c.node_mut.ensures.value ∙ e.is) in
+    (search rules, (subst IsLeaf (sym same) e.leaf, (let n = ap entry_count same in omega (arith, n, e.within))))
+
+pub returns : goal.returns
+returns g c = ((refl, λ w. ap (λ z. with_node c.args.self.now c.args.node (with_value z c.args.index w)) (sym (slot-is c.args.self.now.nodes c.args.node c.node_mut.result.now c.node_mut.ensures.value))), record { writes_back = tt; value = rw c.node_mut.ensures.value (sym c.value_mut.ensures.value) })
