@@ -21,8 +21,7 @@ enum Subject {
     MapTree(Trial<7>),
     SetTree(Trial<15>),
     GreatestTree(Trial<255>),
-    LeastNodes(Pair<3>),
-    MapNodes(Pair<7>),
+    Nodes(Pair),
 }
 
 impl Subject {
@@ -33,8 +32,7 @@ impl Subject {
             ["tree", "7", limit] => Subject::MapTree(Trial::new(alloc, number(limit)?)),
             ["tree", "15", limit] => Subject::SetTree(Trial::new(alloc, number(limit)?)),
             ["tree", "255", limit] => Subject::GreatestTree(Trial::new(alloc, number(limit)?)),
-            ["nodes", "3"] => Subject::LeastNodes(Pair::new(alloc)),
-            ["nodes", "7"] => Subject::MapNodes(Pair::new(alloc)),
+            ["nodes"] => Subject::Nodes(Pair::new(alloc)),
             _ => return Ok(None),
         }))
     }
@@ -46,8 +44,7 @@ impl Subject {
             Subject::MapTree(trial) => trial.answer(alloc, words),
             Subject::SetTree(trial) => trial.answer(alloc, words),
             Subject::GreatestTree(trial) => trial.answer(alloc, words),
-            Subject::LeastNodes(pair) => pair.answer(alloc, words),
-            Subject::MapNodes(pair) => pair.answer(alloc, words),
+            Subject::Nodes(pair) => pair.answer(alloc, words),
         }
     }
 }

@@ -1,5 +1,5 @@
 //! Two nodes of numbers, on which no tree stands.
-ghost use Rattle.bforest_nodes.specs.Content.{IsFree, IsInner, IsLeaf, IsLeafCapacity};
+ghost use Rattle.bforest_nodes.specs.Content.{IsFree, IsInner, IsLeaf};
 ghost use Rattle.std.specs.Prelude.{IfOk, ◌<◌};
 
 use crate::words::{Stop, keys, number};
@@ -7,21 +7,19 @@ use bforest_nodes::{Node, NodeData, PackedNode, Removed};
 use std::alloc::Global;
 use std::mem::swap;
 
-/// A node of numbers.
-type Numbers<const N: usize> = NodeData<u32, u32, N>;
+/// A node of numbers, as a small map has it.
+type Numbers = NodeData<u32, u32, 7>;
 
 /// The node on which operations work, and its right neighbour.
 #[derive(Drop)]
-pub(crate) struct Pair<const N: usize> {
-    node: NodeData<u32, u32, N>,
-    other: NodeData<u32, u32, N>,
+pub(crate) struct Pair {
+    node: NodeData<u32, u32, 7>,
+    other: NodeData<u32, u32, 7>,
 }
 
-impl<const N: usize> Pair<N> {
+impl Pair {
     /// Two free nodes.
-    pub(crate) fn new(alloc: Global) -> Self
-        requires { IsLeafCapacity N }
-    {
+    pub(crate) fn new(alloc: Global) -> Self {
         Pair {
             node: NodeData::new(alloc).unwrap(),
             other: NodeData::new(alloc).unwrap(),
@@ -50,7 +48,7 @@ impl<const N: usize> Pair<N> {
 }
 
 // Halves the full node, for an insertion at an index, and puts its right half into the other.
-fn split<const N: usize>(alloc: Global, pair: &mut Pair<N>, index: usize) -> Result<String, Stop> {
+fn split(alloc: Global, pair: &mut Pair, index: usize) -> Result<String, Stop> {
     if pair.node.is_free() || !pair.node.is_full() {
         return Err(Stop::Bad);
     }
@@ -61,14 +59,14 @@ fn split<const N: usize>(alloc: Global, pair: &mut Pair<N>, index: usize) -> Res
 }
 
 // Balances the underflowed node with the other, whose first key is the given one.
-fn balance<const N: usize>(alloc: Global, pair: &mut Pair<N>, key: u32) -> Result<String, Stop> {
+fn balance(alloc: Global, pair: &mut Pair, key: u32) -> Result<String, Stop> {
     if pair.node.is_free()
         || pair.other.is_free()
         || pair.node.is_inner() != pair.other.is_inner()
     {
         return Err(Stop::Bad);
     }
-    let most = if pair.node.is_inner() { 8 } else { N };
+    let most = if pair.node.is_inner() { 8 } else { 7 };
     if pair.node.entries() == 0
         || pair.other.entries() == 0
         || pair.node.entries() > (most - 1) / 2
@@ -89,11 +87,7 @@ fn balance<const N: usize>(alloc: Global, pair: &mut Pair<N>, key: u32) -> Resul
 }
 
 // What an operation on one node answers.
-fn one<const N: usize>(
-    alloc: Global,
-    node: &mut Numbers<N>,
-    words: &[&str],
-) -> Result<String, Stop> {
+fn one(alloc: Global, node: &mut Numbers, words: &[&str]) -> Result<String, Stop> {
     if node.is_free() {
         free(alloc, node, words)
     } else if node.is_inner() {
@@ -104,7 +98,7 @@ fn one<const N: usize>(
 }
 
 // What an operation on a free node answers.
-fn free<const N: usize>(alloc: Global, node: &Numbers<N>, words: &[&str]) -> Result<String, Stop>
+fn free(alloc: Global, node: &Numbers, words: &[&str]) -> Result<String, Stop>
     requires { IsFree node.now }
 {
     match words {
@@ -121,11 +115,7 @@ fn free<const N: usize>(alloc: Global, node: &Numbers<N>, words: &[&str]) -> Res
 }
 
 // What an operation on an inner node answers.
-fn inner<const N: usize>(
-    alloc: Global,
-    node: &mut Numbers<N>,
-    words: &[&str],
-) -> Result<String, Stop>
+fn inner(alloc: Global, node: &mut Numbers, words: &[&str]) -> Result<String, Stop>
     requires { IsInner node.old }
 {
     match words {
@@ -155,11 +145,7 @@ fn inner<const N: usize>(
 }
 
 // What an operation on a leaf answers.
-fn leaf<const N: usize>(
-    alloc: Global,
-    node: &mut Numbers<N>,
-    words: &[&str],
-) -> Result<String, Stop>
+fn leaf(alloc: Global, node: &mut Numbers, words: &[&str]) -> Result<String, Stop>
     requires { IsLeaf node.old }
 {
     match words {
@@ -189,7 +175,7 @@ fn leaf<const N: usize>(
 }
 
 // What an operation on a leaf or an inner node answers.
-fn used<const N: usize>(alloc: Global, node: &Numbers<N>, words: &[&str]) -> Result<String, Stop>
+fn used(alloc: Global, node: &Numbers, words: &[&str]) -> Result<String, Stop>
     requires { ¬ IsFree node.now }
 {
     match words {
@@ -204,7 +190,7 @@ fn used<const N: usize>(alloc: Global, node: &Numbers<N>, words: &[&str]) -> Res
 }
 
 // Makes the node a leaf of these keys, each of whose values is its key.
-fn write_leaf<const N: usize>(node: &mut Numbers<N>, keys: &[u32]) -> Result<(), Stop> {
+fn write_leaf(node: &mut Numbers, keys: &[u32]) -> Result<(), Stop> {
     let [first, rest @ ..] = keys else {
         return Err(Stop::Bad);
     };
@@ -221,7 +207,7 @@ fn write_leaf<const N: usize>(node: &mut Numbers<N>, keys: &[u32]) -> Result<(),
 }
 
 // Makes the node an inner one of a child, a key, a child and so on.
-fn write_inner<const N: usize>(node: &mut Numbers<N>, words: &[u32]) -> Result<(), Stop> {
+fn write_inner(node: &mut Numbers, words: &[u32]) -> Result<(), Stop> {
     let [left, key, right, rest @ ..] = words else {
         return Err(Stop::Bad);
     };
@@ -241,7 +227,7 @@ fn write_inner<const N: usize>(node: &mut Numbers<N>, words: &[u32]) -> Result<(
 }
 
 // What a node holds: ` 1:1 2:2`, ` 0 (10) 1 (11) 2`, or ` free`.
-fn shown<const N: usize>(alloc: Global, node: &Numbers<N>) -> Result<String, Stop> {
+fn shown(alloc: Global, node: &Numbers) -> Result<String, Stop> {
     let mut text = String::new(alloc);
     if node.is_free() {
         text.push_str(" free")?;
@@ -264,17 +250,13 @@ fn shown<const N: usize>(alloc: Global, node: &Numbers<N>) -> Result<String, Sto
 }
 
 // An answer, and what the node holds.
-fn told<const N: usize>(alloc: Global, is_in: bool, node: &Numbers<N>) -> Result<String, Stop> {
+fn told(alloc: Global, is_in: bool, node: &Numbers) -> Result<String, Stop> {
     let shown = shown(alloc, node)?;
     Ok(format!(in alloc; "{is_in}:{shown}")?)
 }
 
 // How a removal was answered, and what the node holds.
-fn removed<const N: usize>(
-    alloc: Global,
-    left: Removed,
-    node: &Numbers<N>,
-) -> Result<String, Stop> {
+fn removed(alloc: Global, left: Removed, node: &Numbers) -> Result<String, Stop> {
     let shown = shown(alloc, node)?;
     Ok(format!(in alloc; "{left:?}:{shown}")?)
 }
