@@ -1,6 +1,6 @@
 //! Nodes of other types than those of small maps, values that are lent, and packed numbers.
-use crate::nodes::{leaf_of, leaf_with, numbered};
-use bforest_core::{Node, NodeData, PackedNode, Path, SetValue};
+use crate::nodes::{assert_leaf, leaf_of, leaf_with, numbered};
+use bforest_core::{Node, NodeData, PackedNode, Path, Removed, SetValue};
 use std::mem::size_of;
 
 // A map of small numbers has a node of one cache line, and so has a set of them.
@@ -18,6 +18,45 @@ fn values_of_a_leaf_are_written(rt: HostRuntime) {
     assert_eq!(rt; vals.len(), 3);
     vals[2] = 41;
     assert_eq!(rt; leaf.entry(2), (40, 41));
+}
+
+#[test]
+fn the_least_leaf_is_halved(rt: HostRuntime) {
+    let alloc = rt.alloc();
+    let mut left = leaf_of::<3>(alloc, &[1, 2, 3]);
+    let mut right = NodeData::new(alloc).unwrap();
+    let halves = left.split(1, &mut right);
+    assert_eq!(rt; halves.crit_key, 2);
+    assert_leaf(&rt, &left, &[1]);
+    assert_leaf(&rt, &right, &[2, 3]);
+    let mut left = leaf_of::<3>(alloc, &[1, 2, 3]);
+    let halves = left.split(3, &mut right);
+    assert_eq!(rt; halves.crit_key, 3);
+    assert_leaf(&rt, &left, &[1, 2]);
+    assert_leaf(&rt, &right, &[3]);
+}
+
+#[test]
+fn the_least_leaves_are_balanced(rt: HostRuntime) {
+    let alloc = rt.alloc();
+    let mut left = leaf_of::<3>(alloc, &[1]);
+    let mut right = leaf_of(alloc, &[2, 3]);
+    assert_eq!(rt; left.balance(2, &mut right), None);
+    assert_leaf(&rt, &right, &[1, 2, 3]);
+    let mut left = leaf_of::<3>(alloc, &[1]);
+    let mut right = leaf_of(alloc, &[2, 3, 4]);
+    assert_eq!(rt; left.balance(2, &mut right), Some(3));
+    assert_leaf(&rt, &left, &[1, 2]);
+    assert_leaf(&rt, &right, &[3, 4]);
+}
+
+#[test]
+fn the_least_leaf_is_healthy_with_two(rt: HostRuntime) {
+    let mut leaf = leaf_of::<3>(rt.alloc(), &[1, 2, 3]);
+    assert_eq!(rt; leaf.leaf_remove(1), Removed::Healthy);
+    assert_eq!(rt; leaf.leaf_remove(1), Removed::Underflow);
+    assert_leaf(&rt, &leaf, &[1]);
+    assert_eq!(rt; leaf.leaf_remove(0), Removed::Empty);
 }
 
 #[test]
