@@ -1,13 +1,12 @@
 use Rattle.bforest.proofs.forest.MapForest.clear.Goals as goal
-use Rattle.bforest.specs.Forest.{empty}
 use Rattle.bforest_core.proofs.Planting.{IsUnion-empty}
 use Rattle.bforest_core.specs.Table.{Table}
 use Rattle.bforest_core.specs.Trees.{IsUnion}
-use Rattle.std.proofs.Common.{ap, subst, sym, ◌∙◌}
+use Rattle.std.proofs.Common.{subst, sym}
 
 pub invariant_of-self : goal.invariant_of-self
 invariant_of-self g c =
     subst (λ (z : Table g.row.K.Denot g.row.V.Denot). IsUnion 7 z) (sym c.clear.ensures.empty) (IsUnion-empty 7 c.self.inside.pool.limit)
 
 pub returns : goal.returns
-returns g c = record { empty = c.clear.ensures.empty ∙ ap (λ z. empty z.limit) c.self.view_is }
+returns g c = record { empty = cc }

@@ -1,9 +1,8 @@
 use Rattle.bforest.proofs.After.{free-reserved, limit-reserved, ok-then, reserved-same, slots-reserved}
 use Rattle.bforest.proofs.Changed.{grows, keeps}
 use Rattle.bforest.proofs.forest.MapForest.reserve_nodes.Goals as goal
-use Rattle.bforest.specs.Forest.{Forest, IsTooMany, Keeps, NeedsGrowth, free_of, slots_of}
-use Rattle.bforest_core.specs.declared.pool.OutOfMemory.{OutOfMemory}
-use Rattle.std.proofs.Common.{Err, IsOk, OnErr, OnOk, ap, arith, subst, ◌+◌, ◌-◌, ◌<◌, ◌∙◌, ◌↔◌, ◌≡◌, ◌≤◌}
+use Rattle.bforest.specs.Forest.{Forest, Keeps, NeedsGrowth, free_of, slots_of}
+use Rattle.std.proofs.Common.{OnOk, ap, arith, subst, ◌+◌, ◌-◌, ◌<◌, ◌∙◌, ◌≡◌, ◌≤◌}
 use Rattle.std.proofs.lemmas.Result.{on_ok_weaker}
 
 pub returns-clause-keeps : goal.returns-clause-keeps
@@ -58,13 +57,10 @@ returns-clause-memory g c =
     λ bad. subst (λ (z : Forest g.row.K.Denot g.row.V.Denot). NeedsGrowth n z) c.self.view_is (grows n p (c.reserve.ensures.memory bad))
 
 pub returns-clause-enough : goal.returns-clause-enough
-returns-clause-enough g c =
-    subst (λ (z : Forest g.row.K.Denot g.row.V.Denot). c.args.n ≤ free_of z → IsOk c.reserve.result) c.self.view_is c.reserve.ensures.enough
+returns-clause-enough g c = rw (← c.self.view_is) assumption
 
 pub returns-clause-full : goal.returns-clause-full
-returns-clause-full g c =
-    subst (λ (z : Forest g.row.K.Denot g.row.V.Denot). (c.reserve.result ≡ Err OutOfMemory.Full) ↔ IsTooMany c.args.n z) c.self.view_is c.reserve.ensures.full
+returns-clause-full g c = rw (← c.self.view_is) assumption
 
 pub returns-clause-refused : goal.returns-clause-refused
-returns-clause-refused g c =
-    subst (λ (z : Forest g.row.K.Denot g.row.V.Denot). OnErr c.reserve.result (c.reserve.new.pool ≡ z)) c.self.view_is c.reserve.ensures.err
+returns-clause-refused g c = rw (← c.self.view_is) assumption

@@ -1,18 +1,16 @@
 use Rattle.bforest.proofs.map.Map.clear.Goals as goal
-use Rattle.bforest.specs.Forest.{Becomes, Gives, sizes_of}
-use Rattle.std.proofs.Common.{None, Option, Some, [], subst, sym, ◌∙◌, ◌≡◌, ℕ}
+use Rattle.std.proofs.Common.{None, Some, sym, ◌∙◌, ◌≡◌}
 
 pub returns-in-Some-clause-handle : goal.returns-in-Some-clause-handle
-returns-in-Some-clause-handle g c = c.set_root.ensures
+returns-in-Some-clause-handle g c = cc
 
 pub returns-in-Some-clause-cleared : goal.returns-in-Some-clause-cleared
 returns-in-Some-clause-cleared g c =
-    let f = c.args.forest.now in
-    let handle : Some c.in-Some.root ≡ c.args.self.now = sym c.in-Some.is ∙ c.root.ensures in
-    rw c.set_root.ensures (subst (λ (h : Option ℕ). Becomes f h c.end.new.self None []) handle c.end.ensures.ended)
+    let handle : c.args.self.now ≡ Some c.in-Some.root = sym c.root.ensures ∙ c.in-Some.is in
+    let none : c.set_root.new.self ≡ None = c.set_root.ensures in
+    rw (handle, none) assumption
 
 pub returns-in-Some-clause-account : goal.returns-in-Some-clause-account
 returns-in-Some-clause-account g c =
-    let f = c.args.forest.now in
-    let handle : Some c.in-Some.root ≡ c.args.self.now = sym c.in-Some.is ∙ c.root.ensures in
-    subst (λ (h : Option ℕ). Gives (sizes_of f h) [] f c.end.new.self) handle c.end.ensures.account
+    let handle : c.args.self.now ≡ Some c.in-Some.root = sym c.root.ensures ∙ c.in-Some.is in
+    rw handle assumption

@@ -1,9 +1,9 @@
 use Rattle.bforest.proofs.Cutting.{without-absent}
 use Rattle.bforest.proofs.Putting.{absent-none}
 use Rattle.bforest.proofs.map.Map.remove.Goals as goal
-use Rattle.bforest.specs.Forest.{Becomes, Gives, list_at, list_of, sizes_at, sizes_of, sizes_without}
+use Rattle.bforest.specs.Forest.{list_at, list_of, sizes_of}
 use Rattle.bforest_nodes.proofs.Ordered.{IsIncreasing-cut}
-use Rattle.bforest_nodes.specs.Entries.{IsIncreasing, cut, value_for}
+use Rattle.bforest_nodes.specs.Entries.{IsIncreasing}
 use Rattle.std.proofs.Common.{List, Option, Some, ap, length, subst, sym, ◌∙◌, ◌↔◌, ◌≡◌, ℕ}
 
 pub returns-in-Some-clause-same_levels : goal.returns-in-Some-clause-same_levels
@@ -37,29 +37,20 @@ returns-in-Some-clause-absent_handle g c = λ none.
 
 pub returns-in-Some-clause-value : goal.returns-in-Some-clause-value
 returns-in-Some-clause-value g c =
-    let cmp = g.C.Comparator.order c.args.comp.now in
-    let handle : Some c.in-Some.root ≡ c.args.self.now = sym c.in-Some.is ∙ c.root.ensures in
-    c.cut-root.ensures.value ∙ ap (λ (h : Option ℕ). value_for cmp (list_of c.args.forest.now h) c.args.key) handle
+    let handle : c.args.self.now ≡ Some c.in-Some.root = sym c.root.ensures ∙ c.in-Some.is in
+    rw handle assumption
 
 pub returns-in-Some-clause-cut : goal.returns-in-Some-clause-cut
 returns-in-Some-clause-cut g c =
-    let cmp = g.C.Comparator.order c.args.comp.now in
-    let f = c.args.forest.now in
-    let handle : Some c.in-Some.root ≡ c.args.self.now = sym c.in-Some.is ∙ c.root.ensures in
-    rw c.set_root.ensures
-    (subst (λ (h : Option ℕ). Becomes f h c.cut-root.new.self c.cut-root.result.0 (cut cmp (list_of f h) c.args.key)) handle c.cut-root.ensures.cut)
+    let handle : c.args.self.now ≡ Some c.in-Some.root = sym c.root.ensures ∙ c.in-Some.is in
+    rw (handle, c.set_root.ensures) assumption
 
 pub returns-in-Some-clause-sizes : goal.returns-in-Some-clause-sizes
 returns-in-Some-clause-sizes g c =
-    let cmp = g.C.Comparator.order c.args.comp.now in
-    let f = c.args.forest.now in
-    let handle : Some c.in-Some.root ≡ c.args.self.now = sym c.in-Some.is ∙ c.root.ensures in
-    rw c.set_root.ensures (c.cut-root.ensures.sizes ∙ ap (λ (h : Option ℕ). sizes_without cmp f h c.args.key) handle)
+    let handle : c.args.self.now ≡ Some c.in-Some.root = sym c.root.ensures ∙ c.in-Some.is in
+    rw (handle, c.set_root.ensures) assumption
 
 pub returns-in-Some-clause-account : goal.returns-in-Some-clause-account
 returns-in-Some-clause-account g c =
-    let f = c.args.forest.now in
-    let handle : Some c.in-Some.root ≡ c.args.self.now = sym c.in-Some.is ∙ c.root.ensures in
-    rw c.set_root.ensures
-    (subst (λ (h : Option ℕ). Gives (sizes_of f h) (sizes_of c.cut-root.new.self c.cut-root.result.0) f c.cut-root.new.self) handle
-    (subst (λ (z : List (List ℕ)). Gives (sizes_at f c.in-Some.root) z f c.cut-root.new.self) (sym c.cut-root.ensures.sizes) c.cut-root.ensures.account))
+    let handle : c.args.self.now ≡ Some c.in-Some.root = sym c.root.ensures ∙ c.in-Some.is in
+    rw (handle, c.set_root.ensures, c.cut-root.ensures.sizes) assumption
