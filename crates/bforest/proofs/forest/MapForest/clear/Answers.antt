@@ -7,3 +7,6 @@ use Rattle.std.proofs.Common.{subst, sym}
 pub invariant_of-self : goal.invariant_of-self
 invariant_of-self g c =
     subst (λ (z : Table g.row.K.Denot g.row.V.Denot). IsUnion 7 z) (sym c.clear.ensures.empty) (IsUnion-empty 7 c.self.inside.pool.limit)
+
+pub returns : goal.returns
+returns g c = record { empty = cc }

@@ -36,3 +36,6 @@ returns-clause-leaves g c =
     subst (λ (es : List (g.row.K.Denot × g.row.V.Denot)). length (first_level (sizes_at f c.args.root)) ≤ (length es + 3) / 4) s.list
     (subst (λ (ss : List (List ℕ)). length (first_level ss) ≤ (length (flat (tree_of p.nodes c.args.root).leaves) + 3) / 4) s.sizes
     (leaves-four (tree_of p.nodes c.args.root) c.levels.ensures.leaves))
+
+pub returns-clause-most : goal.returns-clause-most
+returns-clause-most g c = c.levels.ensures.most

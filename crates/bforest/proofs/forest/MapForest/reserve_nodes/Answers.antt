@@ -55,3 +55,12 @@ returns-clause-memory g c =
     let new = c.reserve.new.pool in
     let n = c.args.n in
     λ bad. subst (λ (z : Forest g.row.K.Denot g.row.V.Denot). NeedsGrowth n z) c.self.view_is (grows n p (c.reserve.ensures.memory bad))
+
+pub returns-clause-enough : goal.returns-clause-enough
+returns-clause-enough g c = rw (← c.self.view_is) assumption
+
+pub returns-clause-full : goal.returns-clause-full
+returns-clause-full g c = rw (← c.self.view_is) assumption
+
+pub returns-clause-refused : goal.returns-clause-refused
+returns-clause-refused g c = rw (← c.self.view_is) assumption

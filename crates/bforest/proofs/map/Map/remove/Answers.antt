@@ -34,3 +34,23 @@ returns-in-Some-clause-absent_handle g c = λ none.
     let told = c.cut-root.ensures in
     let gone = absent-none cmp (list_at f c.in-Some.root) c.args.key (sym told.value ∙ none) in
     c.set_root.ensures ∙ told.same_root.1 (ap length (without-absent cmp f (Some c.in-Some.root) c.args.key gone)) ∙ sym handle
+
+pub returns-in-Some-clause-value : goal.returns-in-Some-clause-value
+returns-in-Some-clause-value g c =
+    let handle : c.args.self.now ≡ Some c.in-Some.root = sym c.root.ensures ∙ c.in-Some.is in
+    rw handle assumption
+
+pub returns-in-Some-clause-cut : goal.returns-in-Some-clause-cut
+returns-in-Some-clause-cut g c =
+    let handle : c.args.self.now ≡ Some c.in-Some.root = sym c.root.ensures ∙ c.in-Some.is in
+    rw (handle, c.set_root.ensures) assumption
+
+pub returns-in-Some-clause-sizes : goal.returns-in-Some-clause-sizes
+returns-in-Some-clause-sizes g c =
+    let handle : c.args.self.now ≡ Some c.in-Some.root = sym c.root.ensures ∙ c.in-Some.is in
+    rw (handle, c.set_root.ensures) assumption
+
+pub returns-in-Some-clause-account : goal.returns-in-Some-clause-account
+returns-in-Some-clause-account g c =
+    let handle : c.args.self.now ≡ Some c.in-Some.root = sym c.root.ensures ∙ c.in-Some.is in
+    rw (handle, c.set_root.ensures, c.cut-root.ensures.sizes) assumption
