@@ -4,6 +4,3 @@ use Rattle.std.proofs.Common.{None}
 
 pub returns-clause-increasing : goal.returns-clause-increasing
 returns-clause-increasing g c = λ forest order. rw c.none.ensures.none (alone order None)
-
-pub returns-clause-empty : goal.returns-clause-empty
-returns-clause-empty g c = c.none.ensures.none
