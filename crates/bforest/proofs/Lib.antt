@@ -1,13 +1,1 @@
-pub mod Increasing
-pub mod Changed
-pub mod Putting
-pub mod Measures
-pub mod After
-pub mod Reading
-pub mod Rooms
-pub mod Accounts
 pub mod Becoming
-pub mod Cutting
-pub mod Following
-pub mod Sifting
-pub mod Retaining

@@ -8,8 +8,6 @@
 mod forest;
 mod map;
 mod map_iter;
-mod predicate;
-mod tree;
 
 pub use bforest_core::{Comparator, OutOfMemory};
 pub use forest::MapForest;

@@ -10,8 +10,8 @@ ghost use Rattle.std.specs.Prelude.{IfOk, IsOk, IsSome, IsTrue, None, OnErr, OnO
 
 use crate::forest::MapForest;
 use crate::map_iter::MapIter;
-use crate::predicate::Asked;
-use bforest_core::{Comparator, Node, OutOfMemory, PackedNode};
+use bforest_core::{Comparator, OutOfMemory, PackedNode, Path};
+use bforest_trees::Asked;
 use std::cmp::Ordering;
 use std::default::Default;
 use std::marker::{Model, PhantomData};
@@ -23,7 +23,7 @@ use std::marker::{Model, PhantomData};
 /// [`Map::increases`] tests. Dropping a handle ends no tree.
 #[derive(Drop)]
 pub struct Map<K: Copy, V: Copy> {
-    root: PackedNode,
+    pub(crate) root: PackedNode,
     mark: PhantomData<(K, V)>,
 }
 
@@ -59,23 +59,6 @@ impl<K: Copy, V: Copy> Map<K, V> {
         }
     }
 
-    /// The number of the map's tree, if it has one.
-    pub(crate) fn root(&self) -> Option<Node>
-        ensures { result ≡ self.now }
-    {
-        self.root.expand()
-    }
-
-    // Names another tree, or none.
-    fn set_root(&mut self, root: Option<Node>)
-        ensures { self.new ≡ root }
-    {
-        self.root = match root {
-            Some(root) => PackedNode::some(root),
-            None => PackedNode::none(),
-        };
-    }
-
     /// The same handle once more, which names the same tree. No entry is copied.
     pub fn clone(&self) -> Self
         ensures same { result ≡ self.now }
@@ -102,10 +85,7 @@ impl<K: Copy, V: Copy> Map<K, V> {
         requires increasing { IsIncreasing (C.order comp.now) (list_of forest.now self.now) }
         ensures value { result ≡ value_for (C.order comp.now) (list_of forest.now self.now) key }
     {
-        match self.root() {
-            Some(root) => forest.get(root, key, comp),
-            None => None,
-        }
+        forest.trees.get(self.root, key, comp)
     }
 
     /// Puts a value in at a key, and answers the value that was there. The same as [`Map::try_insert`].
@@ -125,20 +105,20 @@ impl<K: Copy, V: Copy> Map<K, V> {
         ensures put { OnOk result (Becomes forest.old self.old forest.new self.new
             (put (C.order comp.now) (list_of forest.old self.old) key value)) }
         ensures sizes { OnOk result (sizes_of forest.new self.new
-            ≡ sizes_with (C.order comp.now) forest.old self.old key) }
+            ≡ sizes_with 7 (C.order comp.now) forest.old self.old key) }
         ensures same_number { IfOk result (λ old. IsSome old → self.new ≡ self.old) }
         ensures same_levels { OnOk result ((self.new ≡ self.old)
             ↔ (length (sizes_of forest.new self.new) ≡ length (sizes_of forest.old self.old))) }
         ensures account { OnOk result
-            (Takes (need_of (C.order comp.now) forest.old self.old key) forest.old forest.new) }
+            (Takes (need_of 7 (C.order comp.now) forest.old self.old key) forest.old forest.new) }
         ensures increasing { IsIncreasing (C.order comp.now) (list_of forest.new self.new) }
 
         // When it is refused, and what a refusal leaves.
         ensures full { (result ≡ Err OutOfMemory.Full)
-            ↔ IsTooMany (need_of (C.order comp.now) forest.old self.old key) forest.old }
+            ↔ IsTooMany (need_of 7 (C.order comp.now) forest.old self.old key) forest.old }
         ensures memory { result ≡ Err OutOfMemory.Memory
-            → NeedsGrowth (need_of (C.order comp.now) forest.old self.old key) forest.old }
-        ensures succeeds { need_of (C.order comp.now) forest.old self.old key ≤ free_of forest.old
+            → NeedsGrowth (need_of 7 (C.order comp.now) forest.old self.old key) forest.old }
+        ensures succeeds { need_of 7 (C.order comp.now) forest.old self.old key ≤ free_of forest.old
             → IsOk result }
         ensures absent { OnErr result
             (value_for (C.order comp.now) (list_of forest.old self.old) key ≡ None) }
@@ -173,38 +153,28 @@ impl<K: Copy, V: Copy> Map<K, V> {
         ensures put { OnOk result (Becomes forest.old self.old forest.new self.new
             (put (C.order comp.now) (list_of forest.old self.old) key value)) }
         ensures sizes { OnOk result (sizes_of forest.new self.new
-            ≡ sizes_with (C.order comp.now) forest.old self.old key) }
+            ≡ sizes_with 7 (C.order comp.now) forest.old self.old key) }
         ensures same_number { IfOk result (λ old. IsSome old → self.new ≡ self.old) }
         ensures same_levels { OnOk result ((self.new ≡ self.old)
             ↔ (length (sizes_of forest.new self.new) ≡ length (sizes_of forest.old self.old))) }
         ensures account { OnOk result
-            (Takes (need_of (C.order comp.now) forest.old self.old key) forest.old forest.new) }
+            (Takes (need_of 7 (C.order comp.now) forest.old self.old key) forest.old forest.new) }
         ensures increasing { IsIncreasing (C.order comp.now) (list_of forest.new self.new) }
 
         // When it is refused, and what a refusal leaves.
         ensures full { (result ≡ Err OutOfMemory.Full)
-            ↔ IsTooMany (need_of (C.order comp.now) forest.old self.old key) forest.old }
+            ↔ IsTooMany (need_of 7 (C.order comp.now) forest.old self.old key) forest.old }
         ensures memory { result ≡ Err OutOfMemory.Memory
-            → NeedsGrowth (need_of (C.order comp.now) forest.old self.old key) forest.old }
-        ensures succeeds { need_of (C.order comp.now) forest.old self.old key ≤ free_of forest.old
+            → NeedsGrowth (need_of 7 (C.order comp.now) forest.old self.old key) forest.old }
+        ensures succeeds { need_of 7 (C.order comp.now) forest.old self.old key ≤ free_of forest.old
             → IsOk result }
         ensures absent { OnErr result
             (value_for (C.order comp.now) (list_of forest.old self.old) key ≡ None) }
         ensures refused_forest { OnErr result (forest.new ≡ forest.old) }
         ensures refused_handle { OnErr result (self.new ≡ self.old) }
     {
-        match self.root() {
-            Some(root) => {
-                let (root, old) = forest.put(root, key, value, comp)?;
-                self.set_root(Some(root));
-                Ok(old)
-            }
-            None => {
-                let root = forest.plant(key, value)?;
-                self.set_root(Some(root));
-                Ok(None)
-            }
-        }
+        let mut path = Path::default();
+        forest.trees.insert(&mut self.root, &mut path, key, value, comp)
     }
 
     /// Takes the entry whose key compares equal to `key` out, and answers its value, or `None` where there is none and nothing changes.
@@ -223,7 +193,7 @@ impl<K: Copy, V: Copy> Map<K, V> {
         ensures cut { Becomes forest.old self.old forest.new self.new
             (cut (C.order comp.now) (list_of forest.old self.old) key) }
         ensures sizes { sizes_of forest.new self.new
-            ≡ sizes_without (C.order comp.now) forest.old self.old key }
+            ≡ sizes_without 7 (C.order comp.now) forest.old self.old key }
         ensures same_levels { (self.new ≡ self.old)
             ↔ (length (sizes_of forest.new self.new) ≡ length (sizes_of forest.old self.old)) }
         ensures account { Gives (sizes_of forest.old self.old) (sizes_of forest.new self.new)
@@ -232,14 +202,7 @@ impl<K: Copy, V: Copy> Map<K, V> {
         ensures absent_forest { result ≡ None → forest.new ≡ forest.old }
         ensures absent_handle { result ≡ None → self.new ≡ self.old }
     {
-        match self.root() {
-            Some(root) => {
-                let (root, value) = forest.cut(root, key, comp);
-                self.set_root(root);
-                value
-            }
-            None => None,
-        }
+        forest.trees.remove(&mut self.root, key, comp)
     }
 
     /// Ends the map's tree: the handle is empty then, and all nodes of the tree lie free. It reads each node of the tree, compares no
@@ -250,10 +213,7 @@ impl<K: Copy, V: Copy> Map<K, V> {
         ensures cleared { Becomes forest.old self.old forest.new self.new [] }
         ensures account { Gives (sizes_of forest.old self.old) [] forest.old forest.new }
     {
-        if let Some(root) = self.root() {
-            forest.end(root);
-            self.set_root(None);
-        }
+        forest.trees.free_tree(&mut self.root);
     }
 
     /// Asks once for each entry, in order, and keeps those answered `true`, with the value as the predicate left it. It compares no keys
@@ -278,10 +238,7 @@ impl<K: Copy, V: Copy> Map<K, V> {
             → IsIncreasing order (list_of forest.old self.old)
             → IsIncreasing order (list_of forest.new self.new) }
     {
-        if let Some(root) = self.root() {
-            let root = forest.retain(root, Asked { predicate });
-            self.set_root(root);
-        }
+        forest.trees.retain(&mut self.root, Asked { predicate });
     }
 
     /// How many levels of nodes the map's tree has: none where it is empty, and never more than 17. It reads one node of each level.
@@ -294,10 +251,7 @@ impl<K: Copy, V: Copy> Map<K, V> {
         ensures depth { 2 ≤ result → 4 ^ (result - 1) < length (list_of forest.now self.now) }
         ensures leaves { length (first_level (sizes_of forest.now self.now)) ≤ (length (list_of forest.now self.now) + 3) / 4 }
     {
-        match self.root() {
-            Some(root) => forest.levels(root),
-            None => 0,
-        }
+        forest.trees.levels(self.root)
     }
 
     /// The entries in order, and then `None` for ever.

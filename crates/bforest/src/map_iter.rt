@@ -18,7 +18,7 @@ pub struct MapIter<'a, K: Copy, V: Copy> {
 }
 
 impl<'a, K: Copy, V: Copy> Model for MapIter<'a, K, V> {
-    ghost use Rattle.bforest.specs.Layout.{IsReading, entries_from};
+    ghost use Rattle.bforest_trees.specs.Layout.{IsReading, entries_from};
     ghost use Rattle.std.specs.Prelude.{List};
 
     ghost Value = { List (K × V) };
@@ -35,13 +35,13 @@ impl<'a, K: Copy, V: Copy> MapIter<'a, K, V> {
         ensures entries { result ≡ list_of forest.now map.now }
         ensures ready { IsReadable K.row V.row }
     {
-        let pool = forest.pool();
+        let pool = forest.trees.pool();
         // The path is written where it stays, since it is too long to be moved for nothing.
         let mut iter = MapIter {
             pool,
             path: Path::default(),
         };
-        if let Some(root) = map.root() {
+        if let Some(root) = map.root.expand() {
             iter.path.first(root, pool);
         }
         iter

@@ -1,4 +1,4 @@
-use Rattle.bforest.proofs.Increasing.{IncreasesAfter, IsDownTo, IsDownTo-next, alone, not_increasing}
+use Rattle.bforest_trees.proofs.Increasing.{IncreasesAfter, IsDownTo, IsDownTo-next, alone, not_increasing}
 use Rattle.bforest.proofs.map.Map.increases.Goals as goal
 use Rattle.bforest.specs.Forest.{list_of}
 use Rattle.std.proofs.Common.{None, refl, subst, sym, ◌∙◌, ◌≡◌}

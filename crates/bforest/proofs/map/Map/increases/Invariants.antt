@@ -1,4 +1,4 @@
-use Rattle.bforest.proofs.Increasing.{IsDownTo}
+use Rattle.bforest_trees.proofs.Increasing.{IsDownTo}
 use Rattle.bforest.proofs.map.Map.increases.Given as goal
 use Rattle.bforest.specs.Forest.{list_of}
 use Rattle.bforest.specs.Memory.{IsReadable}

@@ -1,4 +1,4 @@
-use Rattle.bforest.proofs.Increasing.{alone}
+use Rattle.bforest_trees.proofs.Increasing.{alone}
 use Rattle.bforest.proofs.map.Map.new.Goals as goal
 use Rattle.std.proofs.Common.{None}
 

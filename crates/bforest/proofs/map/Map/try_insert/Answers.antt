@@ -1,76 +1,19 @@
-use Rattle.bforest.proofs.Increasing.{IsIncreasing-one}
-use Rattle.bforest.proofs.Putting.{present-told, sizes-kept}
 use Rattle.bforest.proofs.map.Map.try_insert.Goals as goal
-use Rattle.bforest.specs.Forest.{IsTooMany, list_at, list_of, need_of, sizes_of}
-use Rattle.bforest_nodes.proofs.Ordered.{IsIncreasing-put}
-use Rattle.bforest_nodes.specs.Entries.{IsIncreasing}
-use Rattle.bforest_core.proofs.Stored.{some_same}
-use Rattle.std.specs.Option.{is_some}
-use Rattle.std.proofs.Common.{Option, Some, ap, length, subst, sym, ◌∙◌, ◌≡◌, ℕ}
 
-pub returns-in_ok-root-in-Some-clause-same_number : goal.returns-in_ok-root-in-Some-clause-same_number
-returns-in_ok-root-in-Some-clause-same_number g c =
-    let cmp = g.C.Comparator.order c.args.comp.now in
-    let f = c.args.forest.now in
-    let handle : c.args.self.now ≡ Some c.in-Some.root = sym c.root.ensures ∙ c.in-Some.is in
-    let told = c.in_ok-root-in-Some.ensures in
-    λ is.
-    let here = present-told cmp (list_at f c.in-Some.root) c.args.key (sym (ap is_some told.ok) ∙ is) in
-    c.set_root.ensures ∙ ap Some (told.same_root.1 (ap length (sizes-kept cmp f (Some c.in-Some.root) c.args.key here))) ∙ sym handle
+pub returns-clause-ok : goal.returns-clause-ok
+returns-clause-ok g c = rw (← c.self.view_is, ← c.forest.view_is) c.insert.ensures.ok
 
-pub returns-in_ok-root-in-Some-clause-same_levels : goal.returns-in_ok-root-in-Some-clause-same_levels
-returns-in_ok-root-in-Some-clause-same_levels g c =
-    let cmp = g.C.Comparator.order c.args.comp.now in
-    let f = c.args.forest.now in
-    let handle : c.args.self.now ≡ Some c.in-Some.root = sym c.root.ensures ∙ c.in-Some.is in
-    let told = c.in_ok-root-in-Some.ensures in
-    rw c.set_root.ensures (
-      λ same. ap length told.sizes ∙ told.same_root.0 (let e : Some c.in_ok-root-in-Some.root ≡ Some c.in-Some.root = same ∙ handle in some_same c.in_ok-root-in-Some.root c.in-Some.root e) ∙ ap (λ h. length (sizes_of f h)) (sym handle),
-      λ e. ap Some (told.same_root.1 (sym (ap length told.sizes) ∙ e ∙ ap (λ h. length (sizes_of f h)) handle)) ∙ sym handle,
-    )
+pub returns-clause-same_number : goal.returns-clause-same_number
+returns-clause-same_number g c = rw (← c.self.view_is) c.insert.ensures.same_number
 
-pub returns-in_ok-root-in-Some-clause-increasing : goal.returns-in_ok-root-in-Some-clause-increasing
-returns-in_ok-root-in-Some-clause-increasing g c =
-    let cmp = g.C.Comparator.order c.args.comp.now in
-    let f = c.args.forest.now in
-    let handle : c.args.self.now ≡ Some c.in-Some.root = sym c.root.ensures ∙ c.in-Some.is in
-    let told = c.in_ok-root-in-Some.ensures in
-    rw c.set_root.ensures
-    (subst (IsIncreasing cmp) (sym told.put.list)
-    (IsIncreasing-put cmp (g.met.C.Comparator.total c.args.comp.now) (list_at f c.in-Some.root) c.args.key c.args.value
-    (subst (λ (h : Option ℕ). IsIncreasing cmp (list_of f h)) handle c.requires.increasing)))
+pub returns-clause-same_levels : goal.returns-clause-same_levels
+returns-clause-same_levels g c = rw (← c.self.view_is, ← c.forest.view_is) c.insert.ensures.same_levels
 
-pub returns-in_ok-root-in-Some-clause-full : goal.returns-in_ok-root-in-Some-clause-full
-returns-in_ok-root-in-Some-clause-full g c =
-    let cmp = g.C.Comparator.order c.args.comp.now in
-    let f = c.args.forest.now in
-    let handle : c.args.self.now ≡ Some c.in-Some.root = sym c.root.ensures ∙ c.in-Some.is in
-    let told = c.in_ok-root-in-Some.ensures in (
-      λ bad. absurd (cc),
-      λ low. absurd (let bad = told.full.1 (subst (λ (h : Option ℕ). IsTooMany (need_of cmp f h c.args.key) f) handle low) in cc),
-    )
+pub returns-clause-full : goal.returns-clause-full
+returns-clause-full g c = rw (← c.self.view_is, ← c.forest.view_is) c.insert.ensures.full
 
-pub returns-in_ok-root-in-None-clause-increasing : goal.returns-in_ok-root-in-None-clause-increasing
-returns-in_ok-root-in-None-clause-increasing g c =
-    let cmp = g.C.Comparator.order c.args.comp.now in
-    rw c.set_root-in-None.ensures (subst (IsIncreasing cmp) (sym c.in_ok-root-in-None.ensures.planted.list) (IsIncreasing-one cmp (c.args.key, c.args.value)))
+pub returns-clause-memory : goal.returns-clause-memory
+returns-clause-memory g c = rw (← c.self.view_is, ← c.forest.view_is) c.insert.ensures.memory
 
-pub returns-in_ok-root-in-Some-clause-ok : goal.returns-in_ok-root-in-Some-clause-ok
-returns-in_ok-root-in-Some-clause-ok g c =
-    let handle : c.args.self.now ≡ Some c.in-Some.root = sym c.root.ensures ∙ c.in-Some.is in
-    rw handle c.in_ok-root-in-Some.ensures.ok
-
-pub returns-in_ok-root-in-Some-clause-put : goal.returns-in_ok-root-in-Some-clause-put
-returns-in_ok-root-in-Some-clause-put g c =
-    let handle : c.args.self.now ≡ Some c.in-Some.root = sym c.root.ensures ∙ c.in-Some.is in
-    rw (handle, c.set_root.ensures) c.in_ok-root-in-Some.ensures.put
-
-pub returns-in_ok-root-in-Some-clause-sizes : goal.returns-in_ok-root-in-Some-clause-sizes
-returns-in_ok-root-in-Some-clause-sizes g c =
-    let handle : c.args.self.now ≡ Some c.in-Some.root = sym c.root.ensures ∙ c.in-Some.is in
-    rw (handle, c.set_root.ensures) c.in_ok-root-in-Some.ensures.sizes
-
-pub returns-in_ok-root-in-Some-clause-account : goal.returns-in_ok-root-in-Some-clause-account
-returns-in_ok-root-in-Some-clause-account g c =
-    let handle : c.args.self.now ≡ Some c.in-Some.root = sym c.root.ensures ∙ c.in-Some.is in
-    rw handle c.in_ok-root-in-Some.ensures.account
+pub returns-clause-succeeds : goal.returns-clause-succeeds
+returns-clause-succeeds g c = rw (← c.self.view_is, ← c.forest.view_is) c.insert.ensures.succeeds

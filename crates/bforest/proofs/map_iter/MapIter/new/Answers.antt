@@ -1,5 +1,5 @@
-use Rattle.bforest.proofs.Changed.{list-root, live-root}
-use Rattle.bforest.proofs.Reading.{standing}
+use Rattle.bforest_trees.proofs.Changed.{list-root, live-root}
+use Rattle.bforest_trees.proofs.Reading.{standing}
 use Rattle.bforest.proofs.map_iter.MapIter.new.Goals as goal
 use Rattle.bforest.specs.Forest.{Forest, IsLive, list_at, list_of}
 use Rattle.bforest_core.specs.Trees.{is_root}
@@ -7,14 +7,14 @@ use Rattle.std.proofs.Common.{Option, Some, ap, rules, subst, sym, ◌∙◌, �
 
 pub first-requires : goal.first-requires
 first-requires g c =
-    let handle : c.args.map.now ≡ Some c.in-Some.root = sym c.root.ensures ∙ c.in-Some.is in
+    let handle : c.args.map.now ≡ Some c.in-Some.root = sym c.map.view_is ∙ sym c.expand.ensures.value ∙ c.in-Some.is in
     let root = live-root c.args.forest.now c.in-Some.root (subst (λ (h : Option ℕ). IsLive c.args.forest.now h) handle c.requires) in
-    (search rules, (search rules, (search rules, (c.pool-pool.ensures.union, ap (λ z. is_root z.nodes c.in-Some.root) c.pool-pool.ensures.same ∙ root))))
+    (search rules, (search rules, (search rules, (c.pool-pool.ensures.union, ap (λ z. is_root z.nodes c.in-Some.root) (c.pool-pool.ensures.same ∙ c.forest.view_is) ∙ root))))
 
 pub returns-in-Some-clause-entries : goal.returns-in-Some-clause-entries
 returns-in-Some-clause-entries g c =
     let pool = c.pool-pool.result.now in
     let path = c.first.new.self in
     let root = c.in-Some.root in
-    let handle : Some root ≡ c.args.map.now = sym c.in-Some.is ∙ c.root.ensures in
-    standing pool root path.size 0 path.node path.entry c.pool-pool.ensures.union c.first.ensures.path ∙ sym (list-root pool root c.first.ensures.path.root_is) ∙ ap (λ (z : Forest g.row.K.Denot g.row.V.Denot). list_at z root) c.pool-pool.ensures.same ∙ ap (λ (h : Option ℕ). list_of c.args.forest.now h) handle
+    let handle : Some root ≡ c.args.map.now = sym c.in-Some.is ∙ c.expand.ensures.value ∙ c.map.view_is in
+    standing pool root path.size 0 path.node path.entry c.pool-pool.ensures.union c.first.ensures.path ∙ sym (list-root pool root c.first.ensures.path.root_is) ∙ ap (λ (z : Forest g.row.K.Denot g.row.V.Denot). list_at z root) (c.pool-pool.ensures.same ∙ c.forest.view_is) ∙ ap (λ (h : Option ℕ). list_of c.args.forest.now h) handle

@@ -1,5 +1,5 @@
 use Rattle.bforest_core.proofs.Lists.{drop-read}
-use Rattle.bforest.proofs.Reading.{at, content_leaf, content_read, ended, stepped}
+use Rattle.bforest_trees.proofs.Reading.{at, content_leaf, content_read, ended, stepped}
 use Rattle.bforest.proofs.map_iter.MapIterIterator.next.Goals as goal
 use Rattle.bforest_core.proofs.Stored.{some_same}
 use Rattle.bforest_core.specs.Levels.{flat}

@@ -1,0 +1,13 @@
+pub mod Increasing
+pub mod Changed
+pub mod Putting
+pub mod Measures
+pub mod After
+pub mod Reading
+pub mod Rooms
+pub mod Accounts
+pub mod Cutting
+pub mod Following
+pub mod Sifting
+pub mod Retaining
+pub mod Spots

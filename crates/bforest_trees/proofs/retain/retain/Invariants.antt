@@ -1,0 +1,12 @@
+use Rattle.bforest_trees.proofs.Sifting.{Sifting}
+use Rattle.bforest_trees.proofs.retain.retain.Given as goal
+use Rattle.bforest_trees.specs.Layout.{entries_from}
+use Rattle.std.proofs.Common.{length}
+
+-- all in front of the path was asked
+abbrev pub invariant-loop-entry : goal.invariant-loop-entry
+invariant-loop-entry g l = Sifting g.row.N g.P.Predicate.step g.P.Predicate.may l.fn.pool l.fn.root l.fn.predicate l.pool l.root l.predicate l.path.node l.path.entry l.path.size
+
+-- how many entries are left
+abbrev pub decreases-loop-entry : goal.decreases-loop-entry
+decreases-loop-entry g l = length (entries_from l.pool.nodes l.path.size l.path.node l.path.entry)

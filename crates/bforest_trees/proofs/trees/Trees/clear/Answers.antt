@@ -1,0 +1,9 @@
+use Rattle.bforest_trees.proofs.trees.Trees.clear.Goals as goal
+use Rattle.bforest_core.proofs.Planting.{IsUnion-empty}
+use Rattle.bforest_core.specs.Table.{Table}
+use Rattle.bforest_core.specs.Trees.{IsUnion}
+use Rattle.std.proofs.Common.{subst, sym}
+
+pub invariant_of-self : goal.invariant_of-self
+invariant_of-self g c =
+    (subst (λ (z : Table g.row.K.Denot g.row.V.Denot). IsUnion g.row.N z) (sym c.clear.ensures.empty) (IsUnion-empty g.row.N c.self.inside.pool.limit), c.self.invariant.1)

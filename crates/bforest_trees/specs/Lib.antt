@@ -1,0 +1,4 @@
+pub mod Forest
+pub mod Layout
+pub mod Place
+pub mod Retain

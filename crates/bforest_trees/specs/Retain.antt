@@ -1,0 +1,78 @@
+-- Calls of a predicate on a key and a `&mut` to its value, and what stays of a list.
+use Rattle.bforest_core.specs.Change.{Changes, Ends, GivesNodes}
+use Rattle.bforest_core.specs.Levels.{flat, sizes_of}
+use Rattle.bforest_core.specs.Place.{IsPathAt, count}
+use Rattle.bforest_core.specs.Sizes.{shrink}
+use Rattle.bforest_core.specs.Table.{Table}
+use Rattle.bforest_core.specs.Trees.{tree_of}
+use Rattle.bforest_nodes.specs.Entries.{with_value}
+use Rattle.std.specs.Borrow.{MutBor}
+use Rattle.std.specs.Fn.{Called, Mut, Takes}
+use Rattle.std.specs.List.{FoldsTo}
+use Rattle.std.specs.Prelude.{Bool, List, [], false, if◌then◌else◌, length, remove, suc, ◌++◌, ◌<◌, ◌↔◌, ◌≡◌, ◌≢◌, ◌∷◌, ℕ}
+
+module _ {F K X : Type 0} (g : Mut F (K × (MutBor X × Unit {0})) (Bool × (MutBor X × Unit {0}))) where
+  -- a call of f at k and a `&mut` to v may answer b, and leave w there and f as f'
+  pub record Answers (f : F) (k : K) (v : X) (b : Bool) (w : X) (f' : F) : Type 0 where
+    pub value : MutBor X
+    pub shows : value.now ≡ v
+    pub left : MutBor X
+    pub called : Called g f (k, (value, tt)) (b, (left, tt)) f'
+    pub leaves : left.now ≡ w
+
+  -- f may be called at k and a `&mut` to v
+  abbrev pub MayAsk : F → K → X → Type 0
+  MayAsk f k v = (p : MutBor X) → p.now ≡ v → Takes g f (k, (p, tt))
+
+module _ {F K X : Type 0} (step : F → K → X → Bool → X → F → Type 0) where
+  -- some call at the entry may leave f'
+  abbrev pub Asks : F → K × X → F → Type 0
+  Asks f e f' = (b : Bool) × (w : X) × step f e.0 e.1 b w f'
+
+  -- f may be asked of each entry, in the state that it has reached by then
+  pub record MayAskEach (may : F → K → X → Type 0) (f : F) (es : List (K × X)) : Type 0 where
+    pub at : (before after : List (K × X)) (f' : F) (k : K) (v : X) → es ≡ before ++ (k, v) ∷ after → FoldsTo Asks f before f' → may f' k v
+
+  -- f was asked of each entry in turn, of which the first stands at a place of a tree of these sizes, where leaves have at most so
+  -- many entries: kept has the entries answered yes, with the values left there, and each one answered no is a removal at its place
+  abbrev pub Retains : ℕ → F → ℕ → List (K × X) → List (List ℕ) → List (K × X) → List (List ℕ) → Type 0
+  Retains most f place [] sizes kept after = (kept ≡ []) × (after ≡ sizes)
+  Retains most f place (e ∷ es) sizes kept after =
+      (b : Bool) × (w : X) × (f' : F) × (rest : List (K × X)) × step f e.0 e.1 b w f' × Retains most f' (if b then suc place else place) es (if b then sizes else shrink most place sizes) rest after × (kept ≡ (if b then (e.0, w) ∷ rest else rest))
+
+module _ {F K X : Type 0} (most : ℕ) (step : F → K → X → Bool → X → F → Type 0) where
+  -- f was asked of the entry at a place of the tree under a root: an entry answered yes stays with the value left there and the
+  -- path goes behind it, one answered no is taken out and the path stands at the one that followed
+  pub record Stepped (old new : Table K X) (root root' : ℕ) (path' indices' : List ℕ) (size' : ℕ) (f f' : F) (list : List (K × X)) (sizes : List (List ℕ)) (place : ℕ) (k : K) (v : X) : Type 0 where
+    pub stays : Bool
+    pub left : X
+    pub stepped : step f k v stays left f'
+    pub changes : Changes most old new root root' (if stays then with_value list place left else remove list place) (if stays then sizes else shrink most place sizes)
+    pub gives : GivesNodes sizes (if stays then sizes else shrink most place sizes) old new
+    pub at : IsPathAt path' indices' size' (tree_of new.nodes root') (if stays then suc place else place)
+    pub same_root : (root' ≡ root) ↔ (length (if stays then sizes else shrink most place sizes) ≡ length sizes)
+    pub freed_root : root' ≢ root → 0 < count root new.chain
+
+  -- f was asked of the only entry of the tree under a root, and the tree is gone
+  pub record SteppedLast (old new : Table K X) (root : ℕ) (f f' : F) (list : List (K × X)) (sizes : List (List ℕ)) (place : ℕ) (k : K) (v : X) : Type 0 where
+    pub left : X
+    pub stepped : step f k v false left f'
+    pub last : length list ≡ 1
+    pub ended : Ends most old new root
+    pub gives : GivesNodes sizes (shrink most place sizes) old new
+    pub none_left : shrink most place sizes ≡ []
+
+  -- f was asked of each entry of the tree under a root, and these stay
+  pub record Retained (old new : Table K X) (root root' : ℕ) (f : F) : Type 0 where
+    pub list : List (K × X)
+    pub sizes : List (List ℕ)
+    pub retains : Retains step most f 0 (flat (tree_of old.nodes root).leaves) (sizes_of (tree_of old.nodes root)) list sizes
+    pub changes : Changes most old new root root' list sizes
+    pub gives : GivesNodes (sizes_of (tree_of old.nodes root)) sizes old new
+    pub same_root : (root' ≡ root) ↔ (length sizes ≡ length (sizes_of (tree_of old.nodes root)))
+
+  -- f was asked of each entry of the tree under a root, and none stays
+  pub record RetainedNone (old new : Table K X) (root : ℕ) (f : F) : Type 0 where
+    pub retains : Retains step most f 0 (flat (tree_of old.nodes root).leaves) (sizes_of (tree_of old.nodes root)) [] []
+    pub ended : Ends most old new root
+    pub gives : GivesNodes (sizes_of (tree_of old.nodes root)) [] old new

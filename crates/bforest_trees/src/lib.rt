@@ -1,0 +1,13 @@
+//! The trees of a forest: one table of nodes, in which a handle names a tree by its root's number.
+//!
+//! [`Trees`] states each call on one tree once, for maps and sets, at a handle and a path. What a contract sees is the list of entries under
+//! each number (`specs/Forest.antt`); docs/MODEL.md reads these definitions aloud.
+#![tactic(auto)]
+
+mod predicate;
+mod retain;
+mod trees;
+
+pub use bforest_core::{Comparator, Node, NodePool, OutOfMemory, PackedNode, Path};
+pub use predicate::{Asked, Predicate};
+pub use trees::Trees;

@@ -1,0 +1,60 @@
+//! Asking a predicate of each entry of a tree.
+ghost use Rattle.bforest_core.specs.Change.{StandsUnder};
+ghost use Rattle.bforest_nodes.specs.Content.{IsLeafCapacity};
+ghost use Rattle.bforest_core.specs.Levels.{flat, sizes_of};
+ghost use Rattle.bforest_core.specs.Trees.{IsUnion, is_root, tree_of};
+ghost use Rattle.bforest_trees.specs.Retain.{MayAskEach, Retained, RetainedNone, Stepped, SteppedLast};
+ghost use Rattle.std.specs.Prelude.{IfSome, IsTrue, None, ◌≡◌, ℕ};
+
+use crate::predicate::Predicate;
+use bforest_core::{Node, NodePool, Path};
+
+/// Asks a predicate of each entry of the tree under a root, in order, and keeps those answered yes, with the value as it was left.
+/// Answers the root of now, or nothing where no entry stays.
+pub(crate) fn retain<K: Copy, V: Copy, const N: usize, P: Predicate<K, V>>(
+    pool: &mut NodePool<K, V, N>,
+    root: Node,
+    predicate: P,
+) -> Option<Node>
+    requires capacity { IsLeafCapacity N }
+    requires union { IsUnion N pool.old }
+    requires root { IsTrue (is_root pool.old.nodes root) }
+    requires callable { MayAskEach P.step P.may predicate (flat (tree_of pool.old.nodes root).leaves) }
+    ensures retained { IfSome result (λ root'. Retained N P.step pool.old pool.new root root' predicate) }
+    ensures ended { result ≡ None → RetainedNone N P.step pool.old pool.new root predicate }
+{
+    let mut predicate = predicate;
+    let mut root = root;
+    let mut path = Path::default();
+    path.first(root, pool);
+    while let Some(entry) = path.entry(pool) {
+        root = retain_step(entry, &mut path, root, pool, &mut predicate)?;
+    }
+    Some(root)
+}
+
+// Asks a predicate of the entry where a path stands, and goes to the one that follows, or to the end. An entry answered no is taken
+// out. Answers the root of now.
+fn retain_step<K: Copy, V: Copy, const N: usize, P: Predicate<K, V>>(
+    entry: (K, V),
+    path: &mut Path<K, V, N>,
+    root: Node,
+    pool: &mut NodePool<K, V, N>,
+    predicate: &mut P,
+) -> Option<Node>
+    requires capacity { IsLeafCapacity N }
+    requires union { IsUnion N pool.old }
+    requires stands { (place : ℕ) × StandsUnder pool.old.nodes root path.old.node path.old.entry path.old.size place }
+    requires callable { P.may predicate.old entry.0 entry.1 }
+    ensures stepped { (place : ℕ) → StandsUnder pool.old.nodes root path.old.node path.old.entry path.old.size place → IfSome result (λ root'. Stepped N P.step pool.old pool.new root root' path.new.node path.new.entry path.new.size predicate.old predicate.new (flat (tree_of pool.old.nodes root).leaves) (sizes_of (tree_of pool.old.nodes root)) place entry.0 entry.1) }
+    ensures ended { result ≡ None → (place : ℕ) → StandsUnder pool.old.nodes root path.old.node path.old.entry path.old.size place → SteppedLast N P.step pool.old pool.new root predicate.old predicate.new (flat (tree_of pool.old.nodes root).leaves) (sizes_of (tree_of pool.old.nodes root)) place entry.0 entry.1 }
+{
+    let (key, mut value) = entry;
+    if predicate.ask(key, &mut value) {
+        path.set_value(value, pool);
+        path.next(pool);
+        Some(root)
+    } else {
+        path.remove(pool)
+    }
+}
