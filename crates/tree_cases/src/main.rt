@@ -47,6 +47,25 @@ impl Subject {
     }
 }
 
+/// What a line asks, and the answer that is wanted, if one is.
+fn parts(line: &str) -> (&str, Option<&str>) {
+    match line.split_once(" = ") {
+        Some((asked, wanted)) => (asked, Some(wanted)),
+        None => (line, None),
+    }
+}
+
+/// Makes what a line asks, and writes its answer.
+fn make_line(
+    alloc: Global,
+    subject: &mut Subject,
+    asked: &str,
+    out: &mut String,
+) -> Result<(), Stop> {
+    let words: Vec<&str> = asked.split_ascii_whitespace().collect(alloc)?;
+    subject.make(alloc, &words, out)
+}
+
 /// Tries a line, and answers whether all is as wanted. Where it is not, what is wrong is written.
 fn try_line(
     alloc: Global,
@@ -54,15 +73,11 @@ fn try_line(
     line: &str,
     out: &mut String,
 ) -> Result<bool, Stop> {
-    let (asked, wanted) = match line.split_once(" = ") {
-        Some((asked, wanted)) => (asked, Some(wanted)),
-        None => (line, None),
-    };
-    let words: Vec<&str> = asked.split_ascii_whitespace().collect(alloc)?;
-    if words.is_empty() || asked.starts_with("#") {
+    let (asked, wanted) = parts(line);
+    if asked.trim().is_empty() || asked.starts_with("#") {
         return Ok(true);
     }
-    subject.make(alloc, &words, out)?;
+    make_line(alloc, subject, asked, out)?;
     match wanted {
         Some(wanted) if out.trim_start() != wanted => {
             write!(out, ", and not {wanted}")?;
@@ -72,7 +87,29 @@ fn try_line(
     }
 }
 
-/// Tries lines, writes which are wrong, and answers the exit status.
+/// Writes what is wrong with a line, if anything is, and answers the exit status that it asks for.
+fn tell(
+    tried: Result<bool, Stop>,
+    number: u64,
+    out: &str,
+    report: &mut String,
+) -> Result<u8, AllocError> {
+    match tried {
+        Ok(true) => Ok(0),
+        Ok(false) | Err(Stop::Differs) => {
+            let wrong = out.trim_start();
+            writeln!(report, "line {number}: {wrong}")?;
+            Ok(1)
+        }
+        Err(Stop::Bad) => {
+            writeln!(report, "line {number}: bad")?;
+            Ok(2)
+        }
+        Err(Stop::Memory) => Err(AllocError),
+    }
+}
+
+/// Tries lines up to a bad one, writes which are wrong, and answers the exit status.
 fn try_lines(alloc: Global, lines: &str, report: &mut String) -> Result<u8, AllocError> {
     let mut subject = Subject::Nodes(Pair::new(alloc));
     let mut out = String::new(alloc);
@@ -81,18 +118,10 @@ fn try_lines(alloc: Global, lines: &str, report: &mut String) -> Result<u8, Allo
     for line in lines.lines() {
         number = number.saturating_add(1);
         out.clear();
-        match try_line(alloc, &mut subject, line, &mut out) {
-            Ok(true) => {}
-            Ok(false) | Err(Stop::Differs) => {
-                let wrong = out.trim_start();
-                writeln!(report, "line {number}: {wrong}")?;
-                status = 1;
-            }
-            Err(Stop::Bad) => {
-                writeln!(report, "line {number}: bad")?;
-                return Ok(2);
-            }
-            Err(Stop::Memory) => return Ok(3),
+        let tried = try_line(alloc, &mut subject, line, &mut out);
+        status = tell(tried, number, &out, report)?.max(status);
+        if status > 1 {
+            break;
         }
     }
     Ok(status)

@@ -234,21 +234,32 @@ fn write_inner(node: &mut Numbers, words: &[u32]) -> Result<(), Stop> {
 // Writes what a node holds: ` 1:1 2:2`, ` 0 (10) 1 (11) 2`, or ` free`.
 fn show(node: &Numbers, out: &mut String) -> Result<(), Stop> {
     if node.is_free() {
-        out.push_str(" free")?;
+        Ok(out.push_str(" free")?)
     } else if node.is_inner() {
         let (keys, children) = node.unwrap_inner();
-        for (index, child) in children.iter().enumerate() {
-            if let Some(key) = index.checked_sub(1).and_then(|at| keys.get(at)) {
-                write!(out, " ({key})")?;
-            }
-            let child = child.number();
-            write!(out, " {child}")?;
-        }
+        show_inner(keys, children, out)
     } else {
         let (keys, vals) = node.unwrap_leaf();
-        for (key, value) in keys.iter().zip(vals) {
-            write!(out, " {key}:{value}")?;
+        show_leaf(keys, vals, out)
+    }
+}
+
+// Writes children with the keys between them.
+fn show_inner(keys: &[u32], children: &[Node], out: &mut String) -> Result<(), Stop> {
+    for (index, child) in children.iter().enumerate() {
+        if let Some(key) = index.checked_sub(1).and_then(|at| keys.get(at)) {
+            write!(out, " ({key})")?;
         }
+        let child = child.number();
+        write!(out, " {child}")?;
+    }
+    Ok(())
+}
+
+// Writes entries.
+fn show_leaf(keys: &[u32], vals: &[u32], out: &mut String) -> Result<(), Stop> {
+    for (key, value) in keys.iter().zip(vals) {
+        write!(out, " {key}:{value}")?;
     }
     Ok(())
 }
