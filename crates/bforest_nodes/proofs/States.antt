@@ -72,3 +72,7 @@ module _ {K V : Type 0} {n : ℕ} where
       let most : size ≤ 7 = rw is at fits in
       let children : length (take (size + 1) tree.items) < 4 = rw (← view, is) at under in
       omega (arith, length-take (size + 1) tree.items)
+
+  -- the children of an inner node fit
+  pub right_most : (s : State K V n) (size : ℕ) (keys : Row K 7) (tree : Row Node 8) → s ≡ Branch size keys tree → Fits s → size ≤ 7
+  right_most s size keys tree is fits = rw is at fits
