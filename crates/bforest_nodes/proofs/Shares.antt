@@ -1,10 +1,10 @@
 -- How much goes from the right neighbour to the left one: each bound of `balance_inner` and `balance_leaf` is one of these.
-use Rattle.std.proofs.Common.{◌≡◌, ℕ, ◌+◌, ◌-◌, ◌<◌, ◌≤◌, List, [], ◌∷◌, ◌++◌, length, take, drop, slice_get, Some, sym, ◌∙◌, arith}
+use Rattle.std.proofs.Common.{◌≡◌, ℕ, ◌+◌, ◌-◌, ◌*◌, ◌<◌, ◌≤◌, List, [], ◌∷◌, ◌++◌, length, take, drop, slice_get, Some, sym, ◌∙◌, arith}
 use Rattle.std.proofs.lemmas.List.{length-take-le}
 use Rattle.std.specs.Int.{div_ceil}
-use Rattle.bforest_nodes.proofs.Cuts.{Balances-inner}
+use Rattle.bforest_nodes.proofs.Cuts.{Balances-inner, Balances-leaf}
 use Rattle.bforest_nodes.proofs.Rows.{last_front}
-use Rattle.bforest_nodes.specs.Content.{Inner, Balances}
+use Rattle.bforest_nodes.specs.Content.{Balances, Inner, Leaf}
 
 -- what putting a row behind another asks
 pub record Appends (len room from_len from_room moved : ℕ) : Type 0 where
@@ -68,3 +68,35 @@ module _ (size right : ℕ) where
             let whole = sym (rw pushed_is at appended_is) ∙ last_front appended (size + (half - (size + 1))) (size + 1 + (half - (size + 1))) key (omega arith) found in
             rw (behind, rest, tree_is, front_is, front_tree_is)
             (Balances-inner n (half - (size + 1)) (take size keys) (take right rkeys) (take (size + (half - (size + 1))) appended) (take (size + 1) tree) (take (right + 1) rtree) crit key (omega arith) (omega arith) (omega arith) (omega arith) (omega arith) (omega arith) whole)
+
+-- of two leaves
+module _ (n size right half : ℕ) (low : size + right ≤ 2 * half + 1) (high : 2 * half ≤ size + right + 1) (most : right ≤ n) (many : n < size + right) (under : 2 * size < n) where
+  pub leaf_parts : size ≤ half
+  leaf_parts = omega arith
+
+  pub leaf_moved : Appends size n right n (half - size)
+  leaf_moved = record { fits = omega arith; from_fits = most; within = omega arith }
+
+  pub leaf_some : 0 < right - (half - size)
+  leaf_some = omega arith
+
+  pub leaf_rest : right - (half - size) ≤ n
+  leaf_rest = omega arith
+
+  module _ {K V : Type 0} (keys appended rkeys rfront : List K) (vals appended_vals rvals rfront_vals : List V) (crit key : K)
+      (keys_room : length keys ≡ n) (vals_room : length vals ≡ n) (rkeys_room : length rkeys ≡ n) (rvals_room : length rvals ≡ n) where
+    pub leaf_shares : half ≡ div_ceil (size + right) 2
+        → take (size + (half - size)) appended ≡ take size keys ++ take (half - size) (take right rkeys)
+        → take (size + (half - size)) appended_vals ≡ take size vals ++ take (half - size) (take right rvals)
+        → take (right - (half - size)) rfront ≡ drop (half - size) (take right rkeys)
+        → take (right - (half - size)) rfront_vals ≡ drop (half - size) (take right rvals)
+        → slice_get (take (right - (half - size)) rfront) 0 ≡ Some key
+        → Balances n (Leaf (take size keys) (take size vals)) crit (Leaf (take right rkeys) (take right rvals)) (Some key)
+        (Leaf (take (size + (half - size)) appended) (take (size + (half - size)) appended_vals)) (Leaf (take (right - (half - size)) rfront) (take (right - (half - size)) rfront_vals))
+    leaf_shares half_is appended_is appended_vals_is front_is front_vals_is found =
+        let keys_len : length (take size keys) ≡ size = length-take-le size keys (omega arith) in
+        let vals_len : length (take size vals) ≡ size = length-take-le size vals (omega arith) in
+        let right_len : length (take right rkeys) ≡ right = length-take-le right rkeys (omega arith) in
+        let right_vals_len : length (take right rvals) ≡ right = length-take-le right rvals (omega arith) in
+        rw (appended_is, appended_vals_is, front_is, front_vals_is)
+        (Balances-leaf n (half - size) (take size keys) (take right rkeys) (take size vals) (take right rvals) crit key (keys_len ∙ sym vals_len) (right_len ∙ sym right_vals_len) (omega arith) (omega arith) (omega arith) (rw front_is at found))
