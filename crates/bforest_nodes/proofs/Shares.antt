@@ -70,22 +70,22 @@ module _ (size right : ℕ) where
             (Balances-inner n (half - (size + 1)) (take size keys) (take right rkeys) (take (size + (half - (size + 1))) appended) (take (size + 1) tree) (take (right + 1) rtree) crit key (omega arith) (omega arith) (omega arith) (omega arith) (omega arith) (omega arith) whole)
 
 -- of two leaves
-module _ (n size right half : ℕ) (low : size + right ≤ 2 * half + 1) (high : 2 * half ≤ size + right + 1) (most : right ≤ n) (many : n < size + right) (under : 2 * size < n) where
-  pub leaf_parts : size ≤ half
-  leaf_parts = omega arith
+module _ (n size right half : ℕ) (half_is : half ≡ div_ceil (size + right) 2) (small : size ≤ n) (most : right ≤ n) (many : n < size + right) where
+  pub leaf_parts : 2 * size < n → size ≤ half
+  leaf_parts under = omega arith
 
   pub leaf_moved : Appends size n right n (half - size)
   leaf_moved = record { fits = omega arith; from_fits = most; within = omega arith }
 
-  pub leaf_some : 0 < right - (half - size)
-  leaf_some = omega arith
+  pub leaf_some : 3 ≤ n → 0 < right - (half - size)
+  leaf_some least = omega arith
 
   pub leaf_rest : right - (half - size) ≤ n
   leaf_rest = omega arith
 
   module _ {K V : Type 0} (keys appended rkeys rfront : List K) (vals appended_vals rvals rfront_vals : List V) (crit key : K)
       (keys_room : length keys ≡ n) (vals_room : length vals ≡ n) (rkeys_room : length rkeys ≡ n) (rvals_room : length rvals ≡ n) where
-    pub leaf_shares : half ≡ div_ceil (size + right) 2
+    pub leaf_shares : 2 * size < n
         → take (size + (half - size)) appended ≡ take size keys ++ take (half - size) (take right rkeys)
         → take (size + (half - size)) appended_vals ≡ take size vals ++ take (half - size) (take right rvals)
         → take (right - (half - size)) rfront ≡ drop (half - size) (take right rkeys)
@@ -93,7 +93,7 @@ module _ (n size right half : ℕ) (low : size + right ≤ 2 * half + 1) (high :
         → slice_get (take (right - (half - size)) rfront) 0 ≡ Some key
         → Balances n (Leaf (take size keys) (take size vals)) crit (Leaf (take right rkeys) (take right rvals)) (Some key)
         (Leaf (take (size + (half - size)) appended) (take (size + (half - size)) appended_vals)) (Leaf (take (right - (half - size)) rfront) (take (right - (half - size)) rfront_vals))
-    leaf_shares half_is appended_is appended_vals_is front_is front_vals_is found =
+    leaf_shares under appended_is appended_vals_is front_is front_vals_is found =
         let keys_len : length (take size keys) ≡ size = length-take-le size keys (omega arith) in
         let vals_len : length (take size vals) ≡ size = length-take-le size vals (omega arith) in
         let right_len : length (take right rkeys) ≡ right = length-take-le right rkeys (omega arith) in

@@ -1,4 +1,4 @@
-use Rattle.std.proofs.Common.{arith, rules, ◌≡◌, ◌+◌, ◌*◌, ◌≤◌, length}
+use Rattle.std.proofs.Common.{rules, ◌≡◌, length}
 use Rattle.bforest_nodes.proofs.Cuts.{Balances-one_leaf}
 use Rattle.bforest_nodes.proofs.Shares.{leaf_moved, leaf_parts, leaf_rest, leaf_shares, leaf_some}
 use Rattle.bforest_nodes.proofs.States.{entries_most, entries_of_leaf, under_half}
@@ -7,17 +7,16 @@ use Rattle.bforest_nodes.proofs.node.NodeData.balance_leaf.Goals.{in_default-via
 
 pub returns : goal.returns
 returns g c =
-    let low : c.in-Entries-Entries.field-0-0.size + c.in-Entries-Entries.field-0-1.size ≤ 2 * c.div_ceil.result + 1 = omega (arith, c.div_ceil.ensures) in
-    let high : 2 * c.div_ceil.result ≤ c.in-Entries-Entries.field-0-0.size + c.in-Entries-Entries.field-0-1.size + 1 = omega (arith, c.div_ceil.ensures) in
+    let small = entries_most c.self.inside.state c.in-Entries-Entries.field-0-0 c.in-Entries-Entries.is-0 c.self.invariant.1 in
+    let most = entries_most c.rhs.inside.state c.in-Entries-Entries.field-0-1 c.in-Entries-Entries.is-1 c.rhs.invariant.1 in
     let room : length c.in-Entries-Entries.field-0-0.keys.items ≡ g.row.N = search rules in
     let under = under_half c.self.inside.state c.in-Entries-Entries.field-0-0 c.args.self.now c.self.view_is c.in-Entries-Entries.is-0 c.self.invariant.1 room c.requires.underflowed in
-    let most = entries_most c.rhs.inside.state c.in-Entries-Entries.field-0-1 c.in-Entries-Entries.is-1 c.rhs.invariant.1 in
     let vals_room : length c.in-Entries-Entries.field-0-0.vals.items ≡ g.row.N = search rules in
     let right_room : length c.in-Entries-Entries.field-0-1.keys.items ≡ g.row.N = search rules in
     let right_vals_room : length c.in-Entries-Entries.field-0-1.vals.items ≡ g.row.N = search rules in
     rw (← c.self.view_is, ← c.rhs.view_is, c.in-Entries-Entries.is-0, c.in-Entries-Entries.is-1)
-    (leaf_shares g.row.N c.in-Entries-Entries.field-0-0.size c.in-Entries-Entries.field-0-1.size c.div_ceil.result low high most c.if-len-right_len.false under c.in-Entries-Entries.field-0-0.keys.items c.append.new.self.items c.in-Entries-Entries.field-0-1.keys.items c.remove_front.new.self.items c.in-Entries-Entries.field-0-0.vals.items c.append-in-Entries-Entries.new.self.items c.in-Entries-Entries.field-0-1.vals.items c.remove_front-in-Entries-Entries.new.self.items c.args.crit_key c.at.result
-    room vals_room right_room right_vals_room c.div_ceil.ensures c.append.ensures c.append-in-Entries-Entries.ensures c.remove_front.ensures c.remove_front-in-Entries-Entries.ensures c.at.ensures)
+    (leaf_shares g.row.N c.in-Entries-Entries.field-0-0.size c.in-Entries-Entries.field-0-1.size c.div_ceil.result c.div_ceil.ensures small most c.if-len-right_len.false c.in-Entries-Entries.field-0-0.keys.items c.append.new.self.items c.in-Entries-Entries.field-0-1.keys.items c.remove_front.new.self.items c.in-Entries-Entries.field-0-0.vals.items c.append-in-Entries-Entries.new.self.items c.in-Entries-Entries.field-0-1.vals.items c.remove_front-in-Entries-Entries.new.self.items c.args.crit_key c.at.result
+    room vals_room right_room right_vals_room under c.append.ensures c.append-in-Entries-Entries.ensures c.remove_front.ensures c.remove_front-in-Entries-Entries.ensures c.at.ensures)
 
 pub unreachable-requires : goal.unreachable-requires
 unreachable-requires g c = elim c.in_default.branch [
@@ -38,58 +37,42 @@ put_before-requires-then-len-right_len g c = (search rules, c.if-len-right_len.t
 
 pub overflow_sub-moved : goal.overflow_sub-moved
 overflow_sub-moved g c =
-    let low : c.in-Entries-Entries.field-0-0.size + c.in-Entries-Entries.field-0-1.size ≤ 2 * c.div_ceil.result + 1 = omega (arith, c.div_ceil.ensures) in
-    let high : 2 * c.div_ceil.result ≤ c.in-Entries-Entries.field-0-0.size + c.in-Entries-Entries.field-0-1.size + 1 = omega (arith, c.div_ceil.ensures) in
+    let small = entries_most c.self.inside.state c.in-Entries-Entries.field-0-0 c.in-Entries-Entries.is-0 c.self.invariant.1 in
+    let most = entries_most c.rhs.inside.state c.in-Entries-Entries.field-0-1 c.in-Entries-Entries.is-1 c.rhs.invariant.1 in
     let room : length c.in-Entries-Entries.field-0-0.keys.items ≡ g.row.N = search rules in
     let under = under_half c.self.inside.state c.in-Entries-Entries.field-0-0 c.args.self.now c.self.view_is c.in-Entries-Entries.is-0 c.self.invariant.1 room c.requires.underflowed in
-    let most = entries_most c.rhs.inside.state c.in-Entries-Entries.field-0-1 c.in-Entries-Entries.is-1 c.rhs.invariant.1 in
-    leaf_parts g.row.N c.in-Entries-Entries.field-0-0.size c.in-Entries-Entries.field-0-1.size c.div_ceil.result low high most c.if-len-right_len.false under
+    leaf_parts g.row.N c.in-Entries-Entries.field-0-0.size c.in-Entries-Entries.field-0-1.size c.div_ceil.result c.div_ceil.ensures small most c.if-len-right_len.false under
 
 pub append-requires : goal.append-requires
 append-requires g c =
-    let low : c.in-Entries-Entries.field-0-0.size + c.in-Entries-Entries.field-0-1.size ≤ 2 * c.div_ceil.result + 1 = omega (arith, c.div_ceil.ensures) in
-    let high : 2 * c.div_ceil.result ≤ c.in-Entries-Entries.field-0-0.size + c.in-Entries-Entries.field-0-1.size + 1 = omega (arith, c.div_ceil.ensures) in
-    let room : length c.in-Entries-Entries.field-0-0.keys.items ≡ g.row.N = search rules in
-    let under = under_half c.self.inside.state c.in-Entries-Entries.field-0-0 c.args.self.now c.self.view_is c.in-Entries-Entries.is-0 c.self.invariant.1 room c.requires.underflowed in
+    let small = entries_most c.self.inside.state c.in-Entries-Entries.field-0-0 c.in-Entries-Entries.is-0 c.self.invariant.1 in
     let most = entries_most c.rhs.inside.state c.in-Entries-Entries.field-0-1 c.in-Entries-Entries.is-1 c.rhs.invariant.1 in
-    let d = leaf_moved g.row.N c.in-Entries-Entries.field-0-0.size c.in-Entries-Entries.field-0-1.size c.div_ceil.result low high most c.if-len-right_len.false under in
+    let d = leaf_moved g.row.N c.in-Entries-Entries.field-0-0.size c.in-Entries-Entries.field-0-1.size c.div_ceil.result c.div_ceil.ensures small most c.if-len-right_len.false in
     (search rules, (d.fits, (d.from_fits, d.within)))
 
 pub append-requires-in-Entries-Entries : goal.append-requires-in-Entries-Entries
 append-requires-in-Entries-Entries g c =
-    let low : c.in-Entries-Entries.field-0-0.size + c.in-Entries-Entries.field-0-1.size ≤ 2 * c.div_ceil.result + 1 = omega (arith, c.div_ceil.ensures) in
-    let high : 2 * c.div_ceil.result ≤ c.in-Entries-Entries.field-0-0.size + c.in-Entries-Entries.field-0-1.size + 1 = omega (arith, c.div_ceil.ensures) in
-    let room : length c.in-Entries-Entries.field-0-0.keys.items ≡ g.row.N = search rules in
-    let under = under_half c.self.inside.state c.in-Entries-Entries.field-0-0 c.args.self.now c.self.view_is c.in-Entries-Entries.is-0 c.self.invariant.1 room c.requires.underflowed in
+    let small = entries_most c.self.inside.state c.in-Entries-Entries.field-0-0 c.in-Entries-Entries.is-0 c.self.invariant.1 in
     let most = entries_most c.rhs.inside.state c.in-Entries-Entries.field-0-1 c.in-Entries-Entries.is-1 c.rhs.invariant.1 in
-    let d = leaf_moved g.row.N c.in-Entries-Entries.field-0-0.size c.in-Entries-Entries.field-0-1.size c.div_ceil.result low high most c.if-len-right_len.false under in
+    let d = leaf_moved g.row.N c.in-Entries-Entries.field-0-0.size c.in-Entries-Entries.field-0-1.size c.div_ceil.result c.div_ceil.ensures small most c.if-len-right_len.false in
     (search rules, (d.fits, (d.from_fits, d.within)))
 
 pub remove_front-requires : goal.remove_front-requires
 remove_front-requires g c =
-    let low : c.in-Entries-Entries.field-0-0.size + c.in-Entries-Entries.field-0-1.size ≤ 2 * c.div_ceil.result + 1 = omega (arith, c.div_ceil.ensures) in
-    let high : 2 * c.div_ceil.result ≤ c.in-Entries-Entries.field-0-0.size + c.in-Entries-Entries.field-0-1.size + 1 = omega (arith, c.div_ceil.ensures) in
-    let room : length c.in-Entries-Entries.field-0-0.keys.items ≡ g.row.N = search rules in
-    let under = under_half c.self.inside.state c.in-Entries-Entries.field-0-0 c.args.self.now c.self.view_is c.in-Entries-Entries.is-0 c.self.invariant.1 room c.requires.underflowed in
+    let small = entries_most c.self.inside.state c.in-Entries-Entries.field-0-0 c.in-Entries-Entries.is-0 c.self.invariant.1 in
     let most = entries_most c.rhs.inside.state c.in-Entries-Entries.field-0-1 c.in-Entries-Entries.is-1 c.rhs.invariant.1 in
-    let d = leaf_moved g.row.N c.in-Entries-Entries.field-0-0.size c.in-Entries-Entries.field-0-1.size c.div_ceil.result low high most c.if-len-right_len.false under in
+    let d = leaf_moved g.row.N c.in-Entries-Entries.field-0-0.size c.in-Entries-Entries.field-0-1.size c.div_ceil.result c.div_ceil.ensures small most c.if-len-right_len.false in
     (search rules, (d.from_fits, d.within))
 
 pub remove_front-requires-in-Entries-Entries : goal.remove_front-requires-in-Entries-Entries
 remove_front-requires-in-Entries-Entries g c =
-    let low : c.in-Entries-Entries.field-0-0.size + c.in-Entries-Entries.field-0-1.size ≤ 2 * c.div_ceil.result + 1 = omega (arith, c.div_ceil.ensures) in
-    let high : 2 * c.div_ceil.result ≤ c.in-Entries-Entries.field-0-0.size + c.in-Entries-Entries.field-0-1.size + 1 = omega (arith, c.div_ceil.ensures) in
-    let room : length c.in-Entries-Entries.field-0-0.keys.items ≡ g.row.N = search rules in
-    let under = under_half c.self.inside.state c.in-Entries-Entries.field-0-0 c.args.self.now c.self.view_is c.in-Entries-Entries.is-0 c.self.invariant.1 room c.requires.underflowed in
+    let small = entries_most c.self.inside.state c.in-Entries-Entries.field-0-0 c.in-Entries-Entries.is-0 c.self.invariant.1 in
     let most = entries_most c.rhs.inside.state c.in-Entries-Entries.field-0-1 c.in-Entries-Entries.is-1 c.rhs.invariant.1 in
-    let d = leaf_moved g.row.N c.in-Entries-Entries.field-0-0.size c.in-Entries-Entries.field-0-1.size c.div_ceil.result low high most c.if-len-right_len.false under in
+    let d = leaf_moved g.row.N c.in-Entries-Entries.field-0-0.size c.in-Entries-Entries.field-0-1.size c.div_ceil.result c.div_ceil.ensures small most c.if-len-right_len.false in
     (search rules, (d.from_fits, d.within))
 
 pub at-requires : goal.at-requires
 at-requires g c =
-    let low : c.in-Entries-Entries.field-0-0.size + c.in-Entries-Entries.field-0-1.size ≤ 2 * c.div_ceil.result + 1 = omega (arith, c.div_ceil.ensures) in
-    let high : 2 * c.div_ceil.result ≤ c.in-Entries-Entries.field-0-0.size + c.in-Entries-Entries.field-0-1.size + 1 = omega (arith, c.div_ceil.ensures) in
-    let room : length c.in-Entries-Entries.field-0-0.keys.items ≡ g.row.N = search rules in
-    let under = under_half c.self.inside.state c.in-Entries-Entries.field-0-0 c.args.self.now c.self.view_is c.in-Entries-Entries.is-0 c.self.invariant.1 room c.requires.underflowed in
+    let small = entries_most c.self.inside.state c.in-Entries-Entries.field-0-0 c.in-Entries-Entries.is-0 c.self.invariant.1 in
     let most = entries_most c.rhs.inside.state c.in-Entries-Entries.field-0-1 c.in-Entries-Entries.is-1 c.rhs.invariant.1 in
-    (search rules, (leaf_rest g.row.N c.in-Entries-Entries.field-0-0.size c.in-Entries-Entries.field-0-1.size c.div_ceil.result low high most c.if-len-right_len.false under, leaf_some g.row.N c.in-Entries-Entries.field-0-0.size c.in-Entries-Entries.field-0-1.size c.div_ceil.result low high most c.if-len-right_len.false under))
+    (search rules, (leaf_rest g.row.N c.in-Entries-Entries.field-0-0.size c.in-Entries-Entries.field-0-1.size c.div_ceil.result c.div_ceil.ensures small most c.if-len-right_len.false, leaf_some g.row.N c.in-Entries-Entries.field-0-0.size c.in-Entries-Entries.field-0-1.size c.div_ceil.result c.div_ceil.ensures small most c.if-len-right_len.false c.self.invariant.0.least))
