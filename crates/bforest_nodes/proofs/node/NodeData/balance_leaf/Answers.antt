@@ -1,4 +1,5 @@
-use Rattle.std.proofs.Common.{rules, ◌≡◌, length}
+use Rattle.std.proofs.Common.{arith, rules, ◌≡◌, length, take}
+use Rattle.bforest_nodes.specs.Content.{Leaf}
 use Rattle.bforest_nodes.proofs.Cuts.{Balances-one_leaf}
 use Rattle.bforest_nodes.proofs.Shares.{leaf_moved, leaf_parts, leaf_rest, leaf_shares, leaf_some}
 use Rattle.bforest_nodes.proofs.States.{entries_most, entries_of_leaf, under_half}
@@ -27,13 +28,15 @@ unreachable-requires g c = elim c.in_default.branch [
 pub returns-then-len-right_len : goal.returns-then-len-right_len
 returns-then-len-right_len g c =
     let b = c.in-Entries-Entries in
-    rw (← c.self.view_is, ← c.rhs.view_is, b.is-0, b.is-1) (Balances-one_leaf _ _ _ _ _ _ _ _ _ _ _ c.if-len-right_len.true c.put_before.ensures c.put_before-then-len-right_len.ensures)
+    rw (← c.self.view_is, ← c.rhs.view_is, b.is-0, b.is-1)
+    (Balances-one_leaf g.row.N c.in-Entries-Entries.field-0-0.size c.in-Entries-Entries.field-0-1.size c.in-Entries-Entries.field-0-0.keys.items c.in-Entries-Entries.field-0-1.keys.items c.put_before.new.self.items c.in-Entries-Entries.field-0-0.vals.items c.in-Entries-Entries.field-0-1.vals.items c.put_before-then-len-right_len.new.self.items c.args.crit_key
+    (Leaf (take c.in-Entries-Entries.field-0-0.size c.in-Entries-Entries.field-0-0.keys.items) (take c.in-Entries-Entries.field-0-0.size c.in-Entries-Entries.field-0-0.vals.items)) c.if-len-right_len.true c.put_before.ensures c.put_before-then-len-right_len.ensures)
 
 pub put_before-requires : goal.put_before-requires
 put_before-requires g c = (search rules, c.if-len-right_len.true)
 
 pub put_before-requires-then-len-right_len : goal.put_before-requires-then-len-right_len
-put_before-requires-then-len-right_len g c = (search rules, c.if-len-right_len.true)
+put_before-requires-then-len-right_len g c = (search rules, omega (arith, c.if-len-right_len.true))
 
 pub overflow_sub-moved : goal.overflow_sub-moved
 overflow_sub-moved g c =
