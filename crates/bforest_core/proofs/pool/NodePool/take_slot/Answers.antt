@@ -1,6 +1,7 @@
 use Rattle.std.proofs.Common.{rules, refl, arith, ◌<◌, ◌≡◌, Some, length, sym, ap, ◌∙◌, subst}
 use Rattle.std.proofs.lemmas.Option.{slice_get_read, slice_get_within}
 use Rattle.bforest_nodes.specs.Content.{Free, IsFree}
+use Rattle.bforest_core.proofs.Chains.{front_of-is}
 use Rattle.bforest_core.proofs.Pools.{first_some, front_is_free, IsPool-taken}
 use Rattle.bforest_core.proofs.pool.NodePool.take_slot.Goals as goal
 
@@ -29,6 +30,14 @@ next_free-self-inside-requires g c =
     let found = front.1 in
     let is : Free front.0 ≡ c.index.result.now = cc in
     (search rules, subst (λ content. IsFree content) is tt)
+
+pub overflow_sub-self : goal.overflow_sub-self
+overflow_sub-self g c =
+    let some = rw (← c.self.view_is) at c.requires.room in
+    omega (arith, some, c.self.invariant.counted)
+
+pub returns-clause-node : goal.returns-clause-node
+returns-clause-node g c = rw (← c.self.view_is) (front_of-is _ _ _ c.self.invariant.linked ∙ sym c.expand.ensures.value ∙ c.unwrap-node.ensures)
 
 pub invariant_of-self : goal.invariant_of-self
 invariant_of-self g c =
