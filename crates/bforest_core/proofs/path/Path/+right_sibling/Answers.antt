@@ -64,3 +64,18 @@ returns-in-Some g t c = λ rows a x b p.
     let low : c.args.up < length c.args.self.now.node = omega (arith, c.requires.height, p.height, c.if-up-self.false) in
     let beside = subst (Beside c.args.pool.now c.args.self.now.node c.args.self.now.entry (c.args.up + 1) c.args.self.now.size) c.in-Some.is c.right_sibling.ensures in
     next_parent c.args.pool.now c.args.self.now.node c.args.self.now.entry c.args.up c.args.self.now.size rows a x b p c.if-up-self.false c.index-self-up.result low c.entries.result c.entries.ensures.value c.in-Some.next beside c.child-in-Some.result c.if-index-entries.false c.child-in-Some.ensures
+
+pub bounds-self-up : goal.bounds-self-up
+bounds-self-up g t c = omega (arith, c.requires.pending.4.height, c.requires.height, c.if-up-self.false)
+
+pub bounds-self-up-2 : goal.bounds-self-up-2
+bounds-self-up-2 g t c = omega (arith, c.requires.pending.4.height, c.requires.height, c.if-up-self.false)
+
+pub listed : goal.listed
+listed g t c = omega (arith, c.requires.pending.4.height, c.requires.height, c.if-up-self.false)
+
+pub offset_bounds-self-up : goal.offset_bounds-self-up
+offset_bounds-self-up g t c = omega (arith, c.requires.pending.4.height, c.requires.height, c.if-up-self.false)
+
+pub overflow_add-up : goal.overflow_add-up
+overflow_add-up g t c = omega (arith, c.requires.pending.4.height, c.requires.height, c.if-up-self.false)
