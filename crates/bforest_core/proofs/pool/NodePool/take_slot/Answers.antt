@@ -27,7 +27,8 @@ next_free-self-inside-requires g c =
 pub overflow_sub-self : goal.overflow_sub-self
 overflow_sub-self g c =
     let lies = subst (λ (z : Table g.row.K.Denot g.row.V.Denot). 0 < length z.chain) (sym c.self.view_is) c.requires.room in
-    some _ c.self.inside.nodes.items c.self.inside.first c.self.inside.free c.self.inside.limit c.self.invariant lies
+    let lies_free = some _ c.self.inside.nodes.items c.self.inside.first c.self.inside.free c.self.inside.limit c.self.invariant lies in
+    omega (arith, lies_free)
 
 pub returns-clause-node : goal.returns-clause-node
 returns-clause-node g c = rw (← c.self.view_is) (front_of-is _ _ _ c.self.invariant.linked ∙ sym c.expand.ensures.value ∙ c.unwrap-node.ensures)
