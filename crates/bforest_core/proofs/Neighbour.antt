@@ -1,5 +1,5 @@
 -- Looking for the right neighbour: each answer of `right_sibling` on a level is one of these.
-use Rattle.std.proofs.Common.{◌≡◌, ◌≢◌, ℕ, ◌+◌, ◌-◌, ◌≤◌, ◌<◌, Option, List, [], ◌∷◌, ◌++◌, length, drop, get_or, slice_get, Some, None, sym, ap, ◌∙◌, subst, arith, add-one}
+use Rattle.std.proofs.Common.{◌≡◌, ◌≢◌, ℕ, ◌+◌, ◌-◌, ◌≤◌, ◌<◌, Option, List, ◌∷◌, ◌++◌, length, drop, get_or, slice_get, Some, None, ap, ◌∙◌, arith, add-one}
 use Rattle.std.proofs.lemmas.List.{get_or_default}
 use Rattle.bforest_nodes.specs.Content.{Content, Inner, entry_count}
 use Rattle.bforest_core.specs.Table.{Table}

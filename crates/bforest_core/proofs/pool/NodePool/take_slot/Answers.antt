@@ -1,4 +1,4 @@
-use Rattle.std.proofs.Common.{rules, refl, arith, ◌<◌, ◌≡◌, Some, length, sym, ap, ◌∙◌, subst}
+use Rattle.std.proofs.Common.{rules, refl, arith, ◌<◌, Some, length, sym, ap, ◌∙◌, subst}
 use Rattle.std.proofs.lemmas.Option.{slice_get_read}
 use Rattle.bforest_core.specs.Table.{Table}
 use Rattle.bforest_core.proofs.Chains.{front_of-is}
