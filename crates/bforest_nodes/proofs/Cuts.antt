@@ -1,11 +1,11 @@
 -- Nodes that are cut in two, and joined again.
 use Rattle.std.proofs.lemmas.Grind.{common_steps}
 use Rattle.std.specs.Prelude.{◌==◌}
-use Rattle.std.proofs.Common.{◌≡◌, false, remove, true, ℕ, ◌+◌, ◌-◌, ◌<◌, ◌≤◌, suc, List, [], ◌∷◌, ◌++◌, length, take, drop, slice_get, None, Some, refl, sym, ap, ◌∙◌, arith, append_assoc}
+use Rattle.std.proofs.Common.{◌≡◌, false, remove, true, ℕ, ◌+◌, ◌-◌, ◌*◌, ◌<◌, ◌≤◌, suc, List, [], ◌∷◌, ◌++◌, length, take, drop, slice_get, None, Some, refl, sym, ap, ◌∙◌, arith, append_assoc}
 use Rattle.std.proofs.Math.Seq.{take-append-add}
 use Rattle.std.proofs.lemmas.List.{take-append-drop, take-take, length-append, length-take}
 use Rattle.bforest_nodes.proofs.Seams.{around, drop-append-add, front_at, key_at, slice_get-append-add, slice_get-drop}
-use Rattle.bforest_nodes.specs.Content.{Content, Inner, Leaf, Free, IsFree, IsInner, entry_capacity, left_half, joined, IsCut, Balances, left_share, without_child}
+use Rattle.bforest_nodes.specs.Content.{Content, Inner, Leaf, Free, IsFree, IsInner, IsLeaf, IsSameKind, entry_capacity, entry_count, left_half, joined, IsCut, Balances, left_share, without_child}
 
 module _ {K V : Type 0} where
   -- an inner node whose first so many keys end with the separator
@@ -64,6 +64,27 @@ module _ {K V : Type 0} where
   capacity_of_inner n (Inner keys children) inner = refl
   capacity_of_inner n (Leaf keys vals) inner = absurd inner
   capacity_of_inner n (Free next) inner = absurd inner
+
+  -- the neighbours of a kind, and that the left one has few
+  pub inner_beside : (left right : Content K V) → IsInner left → IsSameKind left right → IsInner right
+  inner_beside (Inner keys children) right inner kind = kind
+  inner_beside (Leaf keys vals) right inner kind = absurd inner
+  inner_beside (Free next) right inner kind = absurd inner
+
+  pub leaves_beside : (left right : Content K V) → (IsInner left → ⊥) → IsSameKind left right → IsLeaf left × IsLeaf right
+  leaves_beside (Inner keys children) right other kind = absurd (other tt)
+  leaves_beside (Leaf keys vals) right other kind = (tt, kind)
+  leaves_beside (Free next) right other kind = absurd kind
+
+  pub inner_under : (n : ℕ) (left : Content K V) → IsInner left → 2 * entry_count left < entry_capacity n left → entry_count left < 4
+  inner_under n (Inner keys children) inner under = omega arith
+  inner_under n (Leaf keys vals) inner under = absurd inner
+  inner_under n (Free next) inner under = absurd inner
+
+  pub leaf_under : (n : ℕ) (left : Content K V) → IsLeaf left → 2 * entry_count left < entry_capacity n left → 2 * entry_count left < n
+  leaf_under n (Inner keys children) leaf under = absurd leaf
+  leaf_under n (Leaf keys vals) leaf under = under
+  leaf_under n (Free next) leaf under = absurd leaf
 
   pub half_of_inner : (n index : ℕ) (whole : Content K V) → IsInner whole → left_half n whole index ≡ 4
   half_of_inner n index (Inner keys children) inner = refl

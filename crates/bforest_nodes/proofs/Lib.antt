@@ -8,3 +8,4 @@ pub mod Cuts
 mod ArrayMemory
 mod Prefixes
 mod States
+mod Shares

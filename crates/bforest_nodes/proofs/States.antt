@@ -1,7 +1,7 @@
 -- What kind of state a content comes from.
 use Rattle.std.proofs.Common.{◌≡◌, ℕ, ◌+◌, ◌*◌, ◌<◌, ◌≤◌, List, arith, length, take, refl}
 use Rattle.std.proofs.lemmas.List.{length-take}
-use Rattle.bforest_nodes.specs.Content.{Content, IsFree, IsInner, IsLeaf, entry_count, keys_of}
+use Rattle.bforest_nodes.specs.Content.{Content, HasShape, IsFree, IsInner, IsLeaf, entry_count, keys_of}
 use Rattle.bforest_nodes.specs.Layout.{Fits, content_of}
 use Rattle.bforest_nodes.specs.declared.entries.Entries.{Entries as LeafEntries}
 use Rattle.bforest_nodes.specs.declared.number.Node.{Node}
@@ -72,3 +72,51 @@ module _ {K V : Type 0} {n : ℕ} where
       let most : size ≤ 7 = rw is at fits in
       let children : length (take (size + 1) tree.items) < 4 = rw (← view, is) at under in
       omega (arith, length-take (size + 1) tree.items)
+
+  -- the children of an inner node fit
+  pub right_most : (s : State K V n) (size : ℕ) (keys : Row K 7) (tree : Row Node 8) → s ≡ Branch size keys tree → Fits s → size ≤ 7
+  right_most s size keys tree is fits = rw is at fits
+
+  -- the entries of a leaf fit
+  pub entries_most : (s : State K V n) (e : LeafEntries K V n) → s ≡ Entries e → Fits s → e.size ≤ n
+  entries_most s e is fits = rw is at fits
+
+  -- a place among an inner node's keys, or behind them
+  pub keys_upto : (s : State K V n) (size : ℕ) (keys : Row K 7) (tree : Row Node 8) (whole : Content K V) (i : ℕ) → content_of s ≡ whole → s ≡ Branch size keys tree → i ≤ length (keys_of whole) → i ≤ size
+  keys_upto s size keys tree whole i view is within =
+      let upto : i ≤ length (take size keys.items) = rw (← view, is) at within in
+      omega (arith, length-take size keys.items)
+
+  -- a place among a leaf's entries, or behind them
+  pub entries_upto : (s : State K V n) (e : LeafEntries K V n) (whole : Content K V) (i : ℕ) → content_of s ≡ whole → s ≡ Entries e → i ≤ entry_count whole → i ≤ e.size
+  entries_upto s e whole i view is within =
+      let upto : i ≤ length (take e.size e.keys.items) = rw (← view, is) at within in
+      omega (arith, length-take e.size e.keys.items)
+
+  -- an inner node has room, or none
+  pub branch_room : (s : State K V n) (size : ℕ) (keys : Row K 7) (tree : Row Node 8) (whole : Content K V) → content_of s ≡ whole → s ≡ Branch size keys tree → size < 7 → entry_count whole < 8
+  branch_room s size keys tree whole view is room =
+      let count : length (take (size + 1) tree.items) < 8 = omega (arith, length-take (size + 1) tree.items) in
+      rw (← view, is) count
+
+  pub branch_full : (s : State K V n) (size : ℕ) (keys : Row K 7) (tree : Row Node 8) (whole : Content K V) → content_of s ≡ whole → s ≡ Branch size keys tree → length tree.items ≡ 8 → 7 ≤ size → entry_count whole < 8 → ⊥
+  branch_full s size keys tree whole view is room full few =
+      let count : length (take (size + 1) tree.items) < 8 = rw (← view, is) at few in
+      omega (arith, length-take (size + 1) tree.items)
+
+  -- a leaf has room, or none
+  pub entries_room : (s : State K V n) (e : LeafEntries K V n) (whole : Content K V) → content_of s ≡ whole → s ≡ Entries e → e.size < n → entry_count whole < n
+  entries_room s e whole view is room =
+      let count : length (take e.size e.keys.items) < n = omega (arith, length-take e.size e.keys.items) in
+      rw (← view, is) count
+
+  pub entries_full : (s : State K V n) (e : LeafEntries K V n) (whole : Content K V) → content_of s ≡ whole → s ≡ Entries e → length e.keys.items ≡ n → n ≤ e.size → entry_count whole < n → ⊥
+  entries_full s e whole view is room full few =
+      let count : length (take e.size e.keys.items) < n = rw (← view, is) at few in
+      omega (arith, length-take e.size e.keys.items)
+
+  -- the shape of an inner node, whose keys and children were read
+  pub branch_shape : (s : State K V n) (size : ℕ) (keys : Row K 7) (tree : Row Node 8) (whole : Content K V) (ks : List K) (cs : List ℕ) → content_of s ≡ whole → s ≡ Branch size keys tree → Fits s → ks ≡ take size keys.items → length ks ≡ size → cs ≡ take (size + 1) tree.items → length cs ≡ size + 1 → HasShape n whole
+  branch_shape s size keys tree whole ks cs view is fits keys_are count tree_is children =
+      let most : size ≤ 7 = rw is at fits in
+      rw (← view, is, ← keys_are, ← tree_is, count, children) (refl, omega (arith, most))

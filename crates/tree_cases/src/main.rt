@@ -2,14 +2,15 @@
 //! docs/RULES.md has the lines.
 #![tactic(auto)]
 
+mod any;
 mod pair;
 mod tree;
 mod trial;
 mod words;
 
 use pair::Pair;
-use std::alloc::Global;
-use std::io::{self, BufRead, BufReader};
+use std::alloc::{AllocError, Global};
+use std::io;
 use std::process::ExitCode;
 use trial::Trial;
 use words::{Stop, number};
@@ -17,80 +18,119 @@ use words::{Stop, number};
 /// What lines are about.
 #[derive(Drop)]
 enum Subject {
-    LeastTree(Trial<3>),
-    MapTree(Trial<7>),
-    SetTree(Trial<15>),
-    GreatestTree(Trial<255>),
+    Tree(Trial),
     Nodes(Pair),
 }
 
 impl Subject {
-    /// A new one, if these words begin one.
-    fn named(alloc: Global, words: &[&str]) -> Result<Option<Subject>, Stop> {
-        Ok(Some(match words {
-            ["tree", "3", limit] => Subject::LeastTree(Trial::new(alloc, number(limit)?)),
-            ["tree", "7", limit] => Subject::MapTree(Trial::new(alloc, number(limit)?)),
-            ["tree", "15", limit] => Subject::SetTree(Trial::new(alloc, number(limit)?)),
-            ["tree", "255", limit] => Subject::GreatestTree(Trial::new(alloc, number(limit)?)),
-            ["nodes"] => Subject::Nodes(Pair::new(alloc)),
-            _ => return Ok(None),
-        }))
+    /// Makes the operation of these words, and writes its answer.
+    fn make(&mut self, alloc: Global, words: &[&str], out: &mut String) -> Result<(), Stop> {
+        match words {
+            ["tree", capacity, limit] => {
+                *self = Subject::Tree(Trial::new(alloc, number(capacity)?, number(limit)?)?);
+                Ok(())
+            }
+            ["nodes"] => {
+                *self = Subject::Nodes(Pair::new(alloc));
+                Ok(())
+            }
+            _ => self.answer(alloc, words, out),
+        }
     }
 
-    /// What the operation of these words answers.
-    fn answer(&mut self, alloc: Global, words: &[&str]) -> Result<String, Stop> {
+    // Writes what an operation answers that begins nothing anew.
+    fn answer(&mut self, alloc: Global, words: &[&str], out: &mut String) -> Result<(), Stop> {
         match self {
-            Subject::LeastTree(trial) => trial.answer(alloc, words),
-            Subject::MapTree(trial) => trial.answer(alloc, words),
-            Subject::SetTree(trial) => trial.answer(alloc, words),
-            Subject::GreatestTree(trial) => trial.answer(alloc, words),
-            Subject::Nodes(pair) => pair.answer(alloc, words),
+            Subject::Tree(trial) => trial.answer(alloc, words, out),
+            Subject::Nodes(pair) => pair.answer(alloc, words, out),
         }
     }
 }
 
-/// Tries a line, and answers what is wrong with it, if anything is.
-fn try_line(alloc: Global, subject: &mut Subject, line: &str) -> Result<Option<String>, Stop> {
-    let (asked, wanted) = match line.split_once(" = ") {
+/// What a line asks, and the answer that is wanted, if one is.
+fn parts(line: &str) -> (&str, Option<&str>) {
+    match line.split_once(" = ") {
         Some((asked, wanted)) => (asked, Some(wanted)),
         None => (line, None),
-    };
+    }
+}
+
+/// Makes what a line asks, and writes its answer.
+fn make_line(
+    alloc: Global,
+    subject: &mut Subject,
+    asked: &str,
+    out: &mut String,
+) -> Result<(), Stop> {
     let words: Vec<&str> = asked.split_ascii_whitespace().collect(alloc)?;
-    if words.is_empty() || asked.starts_with("#") {
-        return Ok(None);
+    subject.make(alloc, &words, out)
+}
+
+/// Tries a line, and answers whether all is as wanted. Where it is not, what is wrong is written.
+fn try_line(
+    alloc: Global,
+    subject: &mut Subject,
+    line: &str,
+    out: &mut String,
+) -> Result<bool, Stop> {
+    let (asked, wanted) = parts(line);
+    if asked.trim().is_empty() || asked.starts_with("#") {
+        return Ok(true);
     }
-    if let Some(named) = Subject::named(alloc, &words)? {
-        *subject = named;
-        return Ok(None);
-    }
-    let answer = subject.answer(alloc, &words)?;
-    let answer = answer.trim_start();
+    make_line(alloc, subject, asked, out)?;
     match wanted {
-        Some(wanted) if answer != wanted => {
-            Ok(Some(format!(in alloc; "{answer}, and not {wanted}")?))
+        Some(wanted) if out.trim_start() != wanted => {
+            write!(out, ", and not {wanted}")?;
+            Ok(false)
         }
-        _ => Ok(None),
+        _ => Ok(true),
     }
+}
+
+/// Writes what is wrong with a line, if anything is, and answers the exit status that it asks for.
+fn tell(
+    tried: Result<bool, Stop>,
+    number: u64,
+    out: &str,
+    report: &mut String,
+) -> Result<u8, AllocError> {
+    match tried {
+        Ok(true) => Ok(0),
+        Ok(false) | Err(Stop::Differs) => {
+            let wrong = out.trim_start();
+            writeln!(report, "line {number}: {wrong}")?;
+            Ok(1)
+        }
+        Err(Stop::Bad) => {
+            writeln!(report, "line {number}: bad")?;
+            Ok(2)
+        }
+        Err(Stop::Memory) => Err(AllocError),
+    }
+}
+
+/// Tries lines up to a bad one, writes which are wrong, and answers the exit status.
+fn try_lines(alloc: Global, lines: &str, report: &mut String) -> Result<u8, AllocError> {
+    let mut subject = Subject::Nodes(Pair::new(alloc));
+    let mut out = String::new(alloc);
+    let mut status = 0;
+    let mut number = 0u64;
+    for line in lines.lines() {
+        number = number.saturating_add(1);
+        out.clear();
+        let tried = try_line(alloc, &mut subject, line, &mut out);
+        status = tell(tried, number, &out, report)?.max(status);
+        if status > 1 {
+            break;
+        }
+    }
+    Ok(status)
 }
 
 fn main(rt: HostRuntime) -> io::Result<ExitCode> {
-    let alloc = rt.alloc();
-    let mut subject = Subject::MapTree(Trial::new(alloc, u32::MAX));
-    let mut status = 0;
-    let mut number = 0u64;
-    for line in BufReader::new(alloc, rt.reader())?.lines(alloc) {
-        number = number.saturating_add(1);
-        let wrong = match try_line(alloc, &mut subject, line?.as_str()) {
-            Ok(None) => continue,
-            Ok(Some(wrong)) | Err(Stop::Differs(wrong)) => wrong,
-            Err(Stop::Bad) => {
-                println!(rt; "line {number}: bad")?;
-                return Ok(ExitCode::from(2));
-            }
-            Err(Stop::Memory) => return Ok(ExitCode::from(3)),
-        };
-        println!(rt; "line {number}: {wrong}")?;
-        status = 1;
-    }
+    let lines = io::read_to_string(rt.alloc(), rt.reader())?;
+    let mut report = String::new(rt.alloc());
+    let status = try_lines(rt.alloc(), &lines, &mut report).unwrap_or(3);
+    print!(rt; "{report}")?;
     Ok(ExitCode::from(status))
 }

@@ -26,40 +26,46 @@ impl Pair {
         }
     }
 
-    /// What an operation answers. Those that write answer what the nodes hold then.
-    pub(crate) fn answer(&mut self, alloc: Global, words: &[&str]) -> Result<String, Stop> {
+    /// Makes an operation, and writes its answer. Those that write answer what the nodes hold then.
+    pub(crate) fn answer(
+        &mut self,
+        alloc: Global,
+        words: &[&str],
+        out: &mut String,
+    ) -> Result<(), Stop> {
         match words {
             ["leaf", words @ ..] => write_leaf(&mut self.node, &keys(alloc, words)?)?,
             ["inner", words @ ..] => write_inner(&mut self.node, &keys(alloc, words)?)?,
             ["free", next] => self.node.make_free(packed(next)?),
             ["other"] => swap(&mut self.node, &mut self.other),
-            ["split", index] => return split(alloc, self, number(index)? as usize),
-            ["balance", key] => return balance(alloc, self, number(key)?),
-            _ => return one(alloc, &mut self.node, words),
+            ["split", index] => return split(self, number(index)? as usize, out),
+            ["balance", key] => return balance(self, number(key)?, out),
+            _ => return one(&mut self.node, words, out),
         }
-        self.shown(alloc)
+        self.show(out)
     }
 
-    // What the two hold.
-    fn shown(&self, alloc: Global) -> Result<String, Stop> {
-        let (node, other) = (shown(alloc, &self.node)?, shown(alloc, &self.other)?);
-        Ok(format!(in alloc; "{node} |{other}")?)
+    // Writes what the two hold.
+    fn show(&self, out: &mut String) -> Result<(), Stop> {
+        show(&self.node, out)?;
+        out.push_str(" |")?;
+        show(&self.other, out)
     }
 }
 
 // Halves the full node, for an insertion at an index, and puts its right half into the other.
-fn split(alloc: Global, pair: &mut Pair, index: usize) -> Result<String, Stop> {
+fn split(pair: &mut Pair, index: usize, out: &mut String) -> Result<(), Stop> {
     if pair.node.is_free() || !pair.node.is_full() {
         return Err(Stop::Bad);
     }
     let halves = pair.node.split(index, &mut pair.other);
-    let shown = pair.shown(alloc)?;
     let (left, right, key) = (halves.lhs_entries, halves.rhs_entries, halves.crit_key);
-    Ok(format!(in alloc; "{left} and {right} from {key}:{shown}")?)
+    write!(out, "{left} and {right} from {key}:")?;
+    pair.show(out)
 }
 
 // Balances the underflowed node with the other, whose first key is the given one.
-fn balance(alloc: Global, pair: &mut Pair, key: u32) -> Result<String, Stop> {
+fn balance(pair: &mut Pair, key: u32, out: &mut String) -> Result<(), Stop> {
     if pair.node.is_free()
         || pair.other.is_free()
         || pair.node.is_inner() != pair.other.is_inner()
@@ -73,109 +79,108 @@ fn balance(alloc: Global, pair: &mut Pair, key: u32) -> Result<String, Stop> {
     {
         return Err(Stop::Bad);
     }
-    let between = pair.node.balance(key, &mut pair.other);
-    Ok(match between {
+    match pair.node.balance(key, &mut pair.other) {
         Some(key) => {
-            let shown = pair.shown(alloc)?;
-            format!(in alloc; "{key} between:{shown}")?
+            write!(out, "{key} between:")?;
+            pair.show(out)
         }
         None => {
-            let shown = shown(alloc, &pair.other)?;
-            format!(in alloc; "one:{shown}")?
+            out.push_str("one:")?;
+            show(&pair.other, out)
         }
-    })
-}
-
-// What an operation on one node answers.
-fn one(alloc: Global, node: &mut Numbers, words: &[&str]) -> Result<String, Stop> {
-    if node.is_free() {
-        free(alloc, node, words)
-    } else if node.is_inner() {
-        inner(alloc, node, words)
-    } else {
-        leaf(alloc, node, words)
     }
 }
 
-// What an operation on a free node answers.
-fn free(alloc: Global, node: &Numbers, words: &[&str]) -> Result<String, Stop>
+// Makes an operation on one node, and writes its answer.
+fn one(node: &mut Numbers, words: &[&str], out: &mut String) -> Result<(), Stop> {
+    if node.is_free() {
+        free(node, words, out)
+    } else if node.is_inner() {
+        inner(node, words, out)
+    } else {
+        leaf(node, words, out)
+    }
+}
+
+// Makes an operation on a free node, and writes its answer.
+fn free(node: &Numbers, words: &[&str], out: &mut String) -> Result<(), Stop>
     requires { IsFree node.now }
 {
     match words {
-        ["kind"] => Ok(format!(in alloc; "free")?),
-        ["next"] => Ok(match node.next_free().expand() {
+        ["kind"] => Ok(out.push_str("free")?),
+        ["next"] => match node.next_free().expand() {
             Some(next) => {
                 let next = next.number();
-                format!(in alloc; "{next}")?
+                Ok(write!(out, "{next}")?)
             }
-            None => format!(in alloc; "none")?,
-        }),
+            None => Ok(out.push_str("none")?),
+        },
         _ => Err(Stop::Bad),
     }
 }
 
-// What an operation on an inner node answers.
-fn inner(alloc: Global, node: &mut Numbers, words: &[&str]) -> Result<String, Stop>
+// Makes an operation on an inner node, and writes its answer.
+fn inner(node: &mut Numbers, words: &[&str], out: &mut String) -> Result<(), Stop>
     requires { IsInner node.old }
 {
     match words {
         ["child", index] => {
             let child = node.child(within(index, node.entries())?).number();
-            Ok(format!(in alloc; "{child}")?)
+            Ok(write!(out, "{child}")?)
         }
         ["separator", index] => {
             let key = node.separator(within(index, node.entries() - 1)?);
-            Ok(format!(in alloc; "{key}")?)
+            Ok(write!(out, "{key}")?)
         }
         ["separate", index, key] => {
             node.set_separator(within(index, node.entries() - 1)?, number(key)?);
-            shown(alloc, node)
+            show(node, out)
         }
         ["add", index, key, child] => {
             let at = within(index, node.entries())?;
             let is_in = node.try_inner_insert(at, number(key)?, named(child)?);
-            told(alloc, is_in, node)
+            tell(is_in, node, out)
         }
         ["take", index] => {
             let left = node.inner_remove(within(index, node.entries())?);
-            removed(alloc, left, node)
+            tell_left(left, node, out)
         }
-        _ => used(alloc, node, words),
+        _ => used(node, words, out),
     }
 }
 
-// What an operation on a leaf answers.
-fn leaf(alloc: Global, node: &mut Numbers, words: &[&str]) -> Result<String, Stop>
+// Makes an operation on a leaf, and writes its answer.
+fn leaf(node: &mut Numbers, words: &[&str], out: &mut String) -> Result<(), Stop>
     requires { IsLeaf node.old }
 {
     match words {
         ["entry", index] => {
             let (key, value) = node.entry(within(index, node.entries())?);
-            Ok(format!(in alloc; "{key}:{value}")?)
+            Ok(write!(out, "{key}:{value}")?)
         }
         ["first"] if node.entries() > 0 => {
             let key = node.leaf_crit_key();
-            Ok(format!(in alloc; "{key}")?)
+            Ok(write!(out, "{key}")?)
         }
         ["write", index, value] => {
             *node.value_mut(within(index, node.entries())?) = number(value)?;
-            shown(alloc, node)
+            show(node, out)
         }
         ["add", index, key, value] => {
             let at = within(index, node.entries().saturating_add(1))?;
             let is_in = node.try_leaf_insert(at, number(key)?, number(value)?);
-            told(alloc, is_in, node)
+            tell(is_in, node, out)
         }
         ["take", index] => {
             let left = node.leaf_remove(within(index, node.entries())?);
-            removed(alloc, left, node)
+            tell_left(left, node, out)
         }
-        _ => used(alloc, node, words),
+        _ => used(node, words, out),
     }
 }
 
-// What an operation on a leaf or an inner node answers.
-fn used(alloc: Global, node: &Numbers, words: &[&str]) -> Result<String, Stop>
+// Makes an operation on a leaf or an inner node, and writes its answer.
+fn used(node: &Numbers, words: &[&str], out: &mut String) -> Result<(), Stop>
     requires { ¬ IsFree node.now }
 {
     match words {
@@ -183,7 +188,7 @@ fn used(alloc: Global, node: &Numbers, words: &[&str]) -> Result<String, Stop>
             let kind = if node.is_inner() { "inner" } else { "leaf" };
             let fill = if node.is_full() { "full" } else { "not full" };
             let entries = node.entries();
-            Ok(format!(in alloc; "{kind} of {entries}, {fill}")?)
+            Ok(write!(out, "{kind} of {entries}, {fill}")?)
         }
         _ => Err(Stop::Bad),
     }
@@ -226,39 +231,49 @@ fn write_inner(node: &mut Numbers, words: &[u32]) -> Result<(), Stop> {
     Ok(())
 }
 
-// What a node holds: ` 1:1 2:2`, ` 0 (10) 1 (11) 2`, or ` free`.
-fn shown(alloc: Global, node: &Numbers) -> Result<String, Stop> {
-    let mut text = String::new(alloc);
+// Writes what a node holds: ` 1:1 2:2`, ` 0 (10) 1 (11) 2`, or ` free`.
+fn show(node: &Numbers, out: &mut String) -> Result<(), Stop> {
     if node.is_free() {
-        text.push_str(" free")?;
+        Ok(out.push_str(" free")?)
     } else if node.is_inner() {
         let (keys, children) = node.unwrap_inner();
-        for (index, child) in children.iter().enumerate() {
-            if let Some(key) = index.checked_sub(1).and_then(|at| keys.get(at)) {
-                write!(text, " ({key})")?;
-            }
-            let child = child.number();
-            write!(text, " {child}")?;
-        }
+        show_inner(keys, children, out)
     } else {
         let (keys, vals) = node.unwrap_leaf();
-        for (key, value) in keys.iter().zip(vals) {
-            write!(text, " {key}:{value}")?;
-        }
+        show_leaf(keys, vals, out)
     }
-    Ok(text)
 }
 
-// An answer, and what the node holds.
-fn told(alloc: Global, is_in: bool, node: &Numbers) -> Result<String, Stop> {
-    let shown = shown(alloc, node)?;
-    Ok(format!(in alloc; "{is_in}:{shown}")?)
+// Writes children with the keys between them.
+fn show_inner(keys: &[u32], children: &[Node], out: &mut String) -> Result<(), Stop> {
+    for (index, child) in children.iter().enumerate() {
+        if let Some(key) = index.checked_sub(1).and_then(|at| keys.get(at)) {
+            write!(out, " ({key})")?;
+        }
+        let child = child.number();
+        write!(out, " {child}")?;
+    }
+    Ok(())
 }
 
-// How a removal was answered, and what the node holds.
-fn removed(alloc: Global, left: Removed, node: &Numbers) -> Result<String, Stop> {
-    let shown = shown(alloc, node)?;
-    Ok(format!(in alloc; "{left:?}:{shown}")?)
+// Writes entries.
+fn show_leaf(keys: &[u32], vals: &[u32], out: &mut String) -> Result<(), Stop> {
+    for (key, value) in keys.iter().zip(vals) {
+        write!(out, " {key}:{value}")?;
+    }
+    Ok(())
+}
+
+// Writes an answer, and what the node holds.
+fn tell(is_in: bool, node: &Numbers, out: &mut String) -> Result<(), Stop> {
+    write!(out, "{is_in}:")?;
+    show(node, out)
+}
+
+// Writes how a removal was answered, and what the node holds.
+fn tell_left(left: Removed, node: &Numbers, out: &mut String) -> Result<(), Stop> {
+    write!(out, "{left:?}:")?;
+    show(node, out)
 }
 
 // An index, if it is less than the bound.

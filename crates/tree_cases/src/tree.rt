@@ -141,21 +141,20 @@ impl<const N: usize> Tree<N> {
         entry_before(&self.pool, self.root?, key)
     }
 
-    /// The keys of the nodes, level by level, the root's first: `40 / 10 20 30 | 40 50 60 70`.
-    pub(crate) fn shown(&self, alloc: Global) -> Result<String, AllocError> {
-        let mut text = String::new(alloc);
+    /// Writes the keys of the nodes, level by level, the root's first: `40 / 10 20 30 | 40 50 60 70`.
+    pub(crate) fn show(&self, alloc: Global, out: &mut String) -> Result<(), AllocError> {
         let mut row = Vec::new(alloc);
         if let Some(root) = self.root {
             row.push(root)?;
         }
         for level in 0..self.levels() {
             if level > 0 {
-                text.push_str(" /")?;
+                out.push_str(" /")?;
                 row = row_below(&self.pool, alloc, &row)?;
             }
-            push_row(&mut text, &self.pool, &row)?;
+            push_row(out, &self.pool, &row)?;
         }
-        Ok(text)
+        Ok(())
     }
 
     /// Whether the nodes have the sizes of the plain program's, level by level.
@@ -303,18 +302,18 @@ fn keys<const N: usize>(pool: &Pool<N>, node: Node) -> &[u32] {
     }
 }
 
-// Adds the keys of the nodes of a row.
+// Writes the keys of the nodes of a row.
 fn push_row<const N: usize>(
-    text: &mut String,
+    out: &mut String,
     pool: &Pool<N>,
     row: &[Node],
 ) -> Result<(), AllocError> {
     for (index, node) in row.iter().enumerate() {
         if index > 0 {
-            text.push_str(" |")?;
+            out.push_str(" |")?;
         }
         for key in keys(pool, *node) {
-            write!(text, " {key}")?;
+            write!(out, " {key}")?;
         }
     }
     Ok(())

@@ -1,142 +1,149 @@
 //! A tree beside the plain program: each change is made to both, and then the two are compared.
-ghost use Rattle.bforest_nodes.specs.Content.{IsLeafCapacity};
 
-use crate::tree::Tree;
+use crate::any::AnyTree;
 use crate::words::{Stop, keys, number};
 use bforest_core::OutOfMemory;
 use bforest_plain_tests::Plain;
 use std::alloc::{AllocError, Global};
-use std::fmt;
 
 /// A tree, and what the plain program makes of the same calls.
 #[derive(Drop)]
-pub(crate) struct Trial<const N: usize> {
-    tree: Tree<N>,
+pub(crate) struct Trial {
+    tree: AnyTree,
     plain: Plain,
     limit: u32,
 }
 
-impl<const N: usize> Trial<N> {
-    /// No tree, in a table of at most so many slots.
-    pub(crate) fn new(alloc: Global, limit: u32) -> Self
-        requires { IsLeafCapacity N }
-    {
-        Trial {
-            tree: Tree::new(alloc, limit),
-            plain: Plain::new(alloc, N),
+impl Trial {
+    /// No tree, in a table of at most so many slots. Trees have leaves of 3, 7, 15 or 255 entries.
+    pub(crate) fn new(alloc: Global, capacity: u32, limit: u32) -> Result<Self, Stop> {
+        Ok(Trial {
+            tree: AnyTree::new(alloc, capacity, limit).ok_or(Stop::Bad)?,
+            plain: Plain::new(alloc, capacity as usize),
             limit,
-        }
+        })
     }
 
-    /// What an operation answers.
-    pub(crate) fn answer(&mut self, alloc: Global, words: &[&str]) -> Result<String, Stop> {
+    /// Makes an operation, and writes its answer.
+    pub(crate) fn answer(
+        &mut self,
+        alloc: Global,
+        words: &[&str],
+        out: &mut String,
+    ) -> Result<(), Stop> {
         match words {
-            ["insert", keys @ ..] => self.insert_all(alloc, keys),
-            ["remove", keys @ ..] => self.remove_all(alloc, keys),
-            ["put", key, value] => self.put(alloc, number(key)?, number(value)?),
-            ["count", key] => self.count(alloc, number(key)?),
+            ["insert", keys @ ..] => self.insert_all(alloc, keys, out),
+            ["remove", keys @ ..] => self.remove_all(alloc, keys, out),
+            ["put", key, value] => self.put(alloc, number(key)?, number(value)?, out),
+            ["count", key] => self.count(alloc, number(key)?, out),
             ["random", seed, steps, keys] => {
-                self.run(alloc, number(seed)?, number(steps)?, number(keys)?)
+                self.run(alloc, number(seed)?, number(steps)?, number(keys)?, out)
             }
-            ["end"] => self.end(alloc),
-            _ => self.told(alloc, words),
+            ["end"] => self.end(alloc, out),
+            _ => self.tell(alloc, words, out),
         }
     }
 
-    // What an operation answers that changes nothing.
-    fn told(&self, alloc: Global, words: &[&str]) -> Result<String, Stop> {
+    // Writes the answer of an operation that changes nothing.
+    fn tell(&self, alloc: Global, words: &[&str], out: &mut String) -> Result<(), Stop> {
         match words {
-            ["stat"] => self.counted(alloc),
-            ["keys"] => text(self.tree.shown(alloc)),
-            ["root"] => text(Number(self.tree.root()).to_string(alloc)),
-            [asked, key] => self.told_of(alloc, asked, number(key)?),
+            ["stat"] => self.tell_sizes(out),
+            ["keys"] => Ok(self.tree.show(alloc, out)?),
+            ["root"] => tell_number(self.tree.root(), out),
+            [asked, key] => self.tell_of(asked, number(key)?, out),
             _ => Err(Stop::Bad),
         }
     }
 
-    // What a question about a key, or about a node's number, is answered.
-    fn told_of(&self, alloc: Global, asked: &str, key: u32) -> Result<String, Stop> {
-        let tree = &self.tree;
-        text(match asked {
-            "get" => Number(tree.get(key)).to_string(alloc),
-            "need" => Number(tree.need(key)).to_string(alloc),
-            "find" => Position(tree.position(key)).to_string(alloc),
-            "at" => Entry(tree.entry_from(key)).to_string(alloc),
-            "after" => Entry(tree.entry_after(key)).to_string(alloc),
-            "before" => Entry(tree.entry_before(key)).to_string(alloc),
-            "is_root" => tree.is_root(key).to_string(alloc),
-            _ => return Err(Stop::Bad),
-        })
+    // Writes what a question about a key, or about a node's number, is answered.
+    fn tell_of(&self, asked: &str, key: u32, out: &mut String) -> Result<(), Stop> {
+        match asked {
+            "get" => tell_number(self.tree.get(key), out),
+            "need" => tell_number(self.tree.need(key), out),
+            "find" => tell_position(self.tree.position(key), out),
+            "at" => tell_entry(self.tree.entry_from(key), out),
+            "after" => tell_entry(self.tree.entry_after(key), out),
+            "before" => tell_entry(self.tree.entry_before(key), out),
+            "is_root" => tell_truth(self.tree.is_root(key), out),
+            _ => Err(Stop::Bad),
+        }
     }
 
-    // The counts of levels and slots.
-    fn counted(&self, alloc: Global) -> Result<String, Stop> {
-        let (levels, slots, free) = (self.tree.levels(), self.tree.slots(), self.tree.free());
-        text(format!(in alloc; "levels {levels} slots {slots} free {free}"))
+    // Writes the counts of levels and slots.
+    fn tell_sizes(&self, out: &mut String) -> Result<(), Stop> {
+        let (levels, slots, free) = self.tree.sizes();
+        Ok(write!(out, "levels {levels} slots {slots} free {free}")?)
     }
 
     // Puts keys in, each as its own value, until one is refused.
-    fn insert_all(&mut self, alloc: Global, words: &[&str]) -> Result<String, Stop> {
+    fn insert_all(&mut self, alloc: Global, words: &[&str], out: &mut String) -> Result<(), Stop> {
         for key in &keys(alloc, words)? {
-            if let Err(refused) = self.insert(alloc, *key, *key)? {
+            if let Err(refused) = self.insert(alloc, *key, *key, out)? {
                 let why = refusal(refused);
-                return text(format!(in alloc; "{why} at {key}"));
+                return Ok(write!(out, "{why} at {key}")?);
             }
         }
-        text(format!(in alloc; "ok"))
+        Ok(out.push_str("ok")?)
     }
 
     // Puts an entry in.
-    fn put(&mut self, alloc: Global, key: u32, value: u32) -> Result<String, Stop> {
-        let answer = match self.insert(alloc, key, value)? {
+    fn put(&mut self, alloc: Global, key: u32, value: u32, out: &mut String) -> Result<(), Stop> {
+        let answer = match self.insert(alloc, key, value, out)? {
             Ok(()) => "ok",
             Err(refused) => refusal(refused),
         };
-        text(format!(in alloc; "{answer}"))
+        Ok(out.push_str(answer)?)
     }
 
-    // Takes keys out, and answers the value of the last one and the entry at which the path stands then.
-    fn remove_all(&mut self, alloc: Global, words: &[&str]) -> Result<String, Stop> {
+    // Takes keys out, and writes the value of the last one and the entry at which the path stands then.
+    fn remove_all(&mut self, alloc: Global, words: &[&str], out: &mut String) -> Result<(), Stop> {
         let mut answer = (None, None);
         for key in &keys(alloc, words)? {
-            answer = self.remove(alloc, *key)?;
+            answer = self.remove(alloc, *key, out)?;
         }
-        let (value, next) = (Number(answer.0), Entry(answer.1));
-        text(format!(in alloc; "{value} before {next}"))
+        tell_number(answer.0, out)?;
+        out.push_str(" before ")?;
+        tell_entry(answer.1, out)
     }
 
     // Adds one to the value of a key.
-    fn count(&mut self, alloc: Global, key: u32) -> Result<String, Stop> {
+    fn count(&mut self, alloc: Global, key: u32, out: &mut String) -> Result<(), Stop> {
         let is_there = self.tree.count(key);
         if let Some(value) = self.plain.get(key) {
             self.plain.insert(key, value.wrapping_add(1))?;
         }
-        self.compare(alloc)?;
-        text(format!(in alloc; "{is_there}"))
+        self.compare(alloc, out)?;
+        tell_truth(is_there, out)
     }
 
     // Ends the tree.
-    fn end(&mut self, alloc: Global) -> Result<String, Stop> {
+    fn end(&mut self, alloc: Global, out: &mut String) -> Result<(), Stop> {
         self.tree.end();
         self.plain.clear();
-        self.compare(alloc)?;
-        text(format!(in alloc; "ok"))
+        self.compare(alloc, out)?;
+        Ok(out.push_str("ok")?)
     }
 
     // Puts keys below a number in and takes them out, without an order, in rounds of which each second one mostly takes out.
-    fn run(&mut self, alloc: Global, seed: u32, steps: u32, keys: u32) -> Result<String, Stop> {
+    fn run(
+        &mut self,
+        alloc: Global,
+        seed: u32,
+        steps: u32,
+        keys: u32,
+        out: &mut String,
+    ) -> Result<(), Stop> {
         let mut state = seed;
         for step in 0..steps {
-            state = state.wrapping_mul(1664525).wrapping_add(1013904223);
-            let key = (state / 65536).checked_rem(keys).unwrap_or(0);
-            let out_of_eight = if step / 150 % 2 == 0 { 2 } else { 6 };
-            if state / 4096 % 8 < out_of_eight {
-                self.remove(alloc, key)?;
+            state = next_state(state);
+            let key = key_of(state, keys);
+            if is_removal(state, step) {
+                self.remove(alloc, key, out)?;
             } else {
-                let _refused = self.insert(alloc, key, step)?;
+                let _refused = self.insert(alloc, key, step, out)?;
             }
         }
-        text(format!(in alloc; "ok"))
+        Ok(out.push_str("ok")?)
     }
 
     // Puts an entry into both. It is refused exactly where the plain program needs more nodes than can be had.
@@ -145,18 +152,20 @@ impl<const N: usize> Trial<N> {
         alloc: Global,
         key: u32,
         value: u32,
+        out: &mut String,
     ) -> Result<Result<(), OutOfMemory>, Stop> {
         let need = self.plain.need(key);
         let is_full = self.plain.nodes().saturating_add(need) > self.limit;
         let told = self.tree.need(key).unwrap_or(need);
         let answer = self.tree.insert(key, value);
         if is_full != (answer == Err(OutOfMemory::Full)) || told != need {
-            return differ(format!(in alloc; "inserting {key}: it needs {need} nodes"));
+            write!(out, "inserting {key}: it needs {need} nodes")?;
+            return Err(Stop::Differs);
         }
         if answer.is_ok() {
             self.plain.insert(key, value)?;
         }
-        self.compare(alloc)?;
+        self.compare(alloc, out)?;
         Ok(answer)
     }
 
@@ -165,39 +174,54 @@ impl<const N: usize> Trial<N> {
         &mut self,
         alloc: Global,
         key: u32,
+        out: &mut String,
     ) -> Result<(Option<u32>, Option<(u32, u32)>), Stop> {
         let next = behind(self.plain.list(), key);
         let wanted = self.plain.remove(key);
         let (value, entry) = self.tree.remove(key);
         if value != wanted || wanted.is_some() && entry != next {
-            return differ(format!(in alloc; "removing {key}: another answer"));
+            write!(out, "removing {key}: another answer")?;
+            return Err(Stop::Differs);
         }
-        self.compare(alloc)?;
+        self.compare(alloc, out)?;
         Ok((value, entry))
     }
 
     // Compares the two.
-    fn compare(&self, alloc: Global) -> Result<(), Stop> {
-        if !self.has_same_entries() {
-            return differ(format!(in alloc; "other entries"));
+    fn compare(&self, alloc: Global, out: &mut String) -> Result<(), Stop> {
+        if !self.tree.has_entries(self.plain.list()) {
+            out.push_str("other entries")?;
+            return Err(Stop::Differs);
         }
         if !self.has_same_nodes(alloc)? {
-            return differ(format!(in alloc; "other nodes"));
+            out.push_str("other nodes")?;
+            return Err(Stop::Differs);
         }
         Ok(())
     }
 
-    // Whether both have the same entries: from both ends, and by key.
-    fn has_same_entries(&self) -> bool {
-        let list = self.plain.list();
-        self.tree.gives(list) && self.tree.gives_back(list) && self.tree.finds(list)
-    }
-
     // Whether both have nodes of the same sizes, and no other slot is in use.
     fn has_same_nodes(&self, alloc: Global) -> Result<bool, AllocError> {
-        let used = self.tree.slots().saturating_sub(self.tree.free());
+        let (_, slots, free) = self.tree.sizes();
+        let used = slots.saturating_sub(free);
         Ok(used == self.plain.nodes() && self.tree.has_sizes(alloc, &self.plain)?)
     }
+}
+
+// The next of a row of numbers without an order, from which a step of a run is made.
+fn next_state(state: u32) -> u32 {
+    state.wrapping_mul(1664525).wrapping_add(1013904223)
+}
+
+// The key of a step, below a number.
+fn key_of(state: u32, keys: u32) -> u32 {
+    (state / 65536).checked_rem(keys).unwrap_or(0)
+}
+
+// Whether a step takes its key out: two of eight steps in one round, six of eight in the next.
+fn is_removal(state: u32, step: u32) -> bool {
+    let out_of_eight = if step / 150 % 2 == 0 { 2 } else { 6 };
+    state / 4096 % 8 < out_of_eight
 }
 
 // The first entry of a greater key.
@@ -213,54 +237,31 @@ fn refusal(refused: OutOfMemory) -> &'static str {
     }
 }
 
-// An answer.
-fn text(made: Result<String, AllocError>) -> Result<String, Stop> {
-    made.map_err(Stop::from)
-}
-
-// That the two differ.
-fn differ<T>(why: Result<String, AllocError>) -> Result<T, Stop> {
-    Err(match why {
-        Ok(why) => Stop::Differs(why),
-        Err(_) => Stop::Memory,
-    })
-}
-
-/// A number, or that there is none.
-#[derive(Clone, Copy)]
-struct Number(Option<u32>);
-
-impl fmt::Display for Number {
-    fn fmt<W: fmt::Write>(&self, f: &mut fmt::Formatter<W>) -> fmt::Result {
-        match self.0 {
-            Some(number) => write!(f, "{number}"),
-            None => write!(f, "none"),
-        }
+// Writes a number, or that there is none.
+fn tell_number(number: Option<u32>, out: &mut String) -> Result<(), Stop> {
+    match number {
+        Some(number) => Ok(write!(out, "{number}")?),
+        None => Ok(out.push_str("none")?),
     }
 }
 
-/// An entry, or that there is none.
-#[derive(Clone, Copy)]
-struct Entry(Option<(u32, u32)>);
-
-impl fmt::Display for Entry {
-    fn fmt<W: fmt::Write>(&self, f: &mut fmt::Formatter<W>) -> fmt::Result {
-        match self.0 {
-            Some((key, value)) => write!(f, "{key}:{value}"),
-            None => write!(f, "end"),
-        }
+// Writes an entry, or that there is none.
+fn tell_entry(entry: Option<(u32, u32)>, out: &mut String) -> Result<(), Stop> {
+    match entry {
+        Some((key, value)) => Ok(write!(out, "{key}:{value}")?),
+        None => Ok(out.push_str("end")?),
     }
 }
 
-/// A leaf and a place in it, or that there is none.
-#[derive(Clone, Copy)]
-struct Position(Option<(u32, usize)>);
-
-impl fmt::Display for Position {
-    fn fmt<W: fmt::Write>(&self, f: &mut fmt::Formatter<W>) -> fmt::Result {
-        match self.0 {
-            Some((leaf, index)) => write!(f, "leaf {leaf} index {index}"),
-            None => write!(f, "none"),
-        }
+// Writes a leaf and a place in it, or that there is none.
+fn tell_position(position: Option<(u32, usize)>, out: &mut String) -> Result<(), Stop> {
+    match position {
+        Some((leaf, index)) => Ok(write!(out, "leaf {leaf} index {index}")?),
+        None => Ok(out.push_str("none")?),
     }
+}
+
+// Writes whether it is so.
+fn tell_truth(is_so: bool, out: &mut String) -> Result<(), Stop> {
+    Ok(write!(out, "{is_so}")?)
 }

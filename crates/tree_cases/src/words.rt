@@ -3,14 +3,14 @@
 use std::alloc::{AllocError, Global};
 
 /// Why a line has no answer.
-#[derive(Debug, Drop)]
+#[derive(Clone, Copy, Debug)]
 pub(crate) enum Stop {
     /// It spells no operation, or one that can't be asked of what is there.
     Bad,
     /// Memory ran out.
     Memory,
-    /// The tree and the plain program differ, as this says.
-    Differs(String),
+    /// The tree and the plain program differ, as what was written says.
+    Differs,
 }
 
 impl From<AllocError> for Stop {

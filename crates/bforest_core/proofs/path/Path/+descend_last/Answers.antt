@@ -1,11 +1,8 @@
-use Rattle.std.proofs.Common.{rules, [], ◌∷◌, ◌++◌, length, get_or, sym, ap, ◌∙◌, arith}
-use Rattle.std.proofs.lemmas.List.{get_or-set_other}
+use Rattle.std.proofs.Common.{rules, sym, ◌∙◌, arith}
 use Rattle.std.proofs.lemmas.Bool.{false≢true}
-use Rattle.std.proofs.lemmas.Option.{slice_get_within}
-use Rattle.bforest_core.specs.Place.{leaf_content}
 use Rattle.bforest_core.proofs.Descent.{some_leaf}
-use Rattle.bforest_core.proofs.Trailing.{back_held, back_leaf, leaf_index, last_leaf}
-use Rattle.bforest_core.proofs.LastDown.{child_asks, below_asks, below_fewer, level_is, leads_here}
+use Rattle.bforest_core.proofs.Trailing.{back_held}
+use Rattle.bforest_core.proofs.LastDown.{node_within, ends_here, child_asks, below_asks, below_fewer, level_is, leads_here}
 use Rattle.bforest_core.proofs.path.Path.+descend_last.Goals as goal
 
 pub last_index-last-requires : goal.last_index-last-requires
@@ -19,33 +16,16 @@ last_index-last-requires g t c =
 pub node-requires : goal.node-requires
 node-requires g t c =
     let w = c.requires.under in
-    let one = some_leaf _ c.requires.capacity in
-    let slots = c.args.pool.now.nodes in
-    let h = back_held g.row.N one slots w.0 w.1 w.2 w.3 c.args.node w.4 in
-    (search rules, (search rules, slice_get_within slots c.args.node _ h.slot_is))
+    (search rules, (search rules, node_within g.row.N (some_leaf _ c.requires.capacity) c.args.pool.now.nodes w.0 w.1 w.2 w.3 c.args.node w.4))
 
 pub returns-then-not-is_inner-clause-level : goal.returns-then-not-is_inner-clause-level
 returns-then-not-is_inner-clause-level g t c = λ leaves lower a first u.
-    let one = some_leaf _ c.requires.capacity in
-    let slots = c.args.pool.now.nodes in
-    let s = back_leaf g.row.N one slots leaves lower a first c.args.node u c.node.result.now c.node.ensures.value (λ i. false≢true (sym c.if-not-is_inner.true ∙ c.is_inner.ensures.inner.1 i)) in
-    let ms = c.args.self.now.node in
-    let js = c.args.self.now.entry in
-    let last = c.last_index-last.result in
-    let index = leaf_index g.row.N one slots leaves lower c.args.node (length a) s last (c.last_index-last.ensures.last (leaf_content (s.back.init ++ s.back.last ∷ [])) s.slot_is) in (
-      sym (ap length s.lower_is),
-      last_leaf g.row.N one slots leaves lower c.args.node (length a) s ms js c.set_level.new.self.node c.set_level.new.self.entry last index c.set_level.ensures.here.0 c.set_level.ensures.here.1
-          (λ i other. ap (λ z. get_or z i 0) c.set_level.ensures.node ∙ get_or-set_other ms 0 i c.args.node 0 other)
-          (λ i other. ap (λ z. get_or z i 0) c.set_level.ensures.entry ∙ get_or-set_other js 0 i last 0 other),
-    )
+    ends_here g.row.N (some_leaf _ c.requires.capacity) c.args.pool.now.nodes leaves lower a first c.args.node u c.node.result.now c.node.ensures.value (λ i. false≢true (sym c.if-not-is_inner.true ∙ c.is_inner.ensures.inner.1 i)) c.last_index-last.result c.last_index-last.ensures.last c.args.self.now.node c.args.self.now.entry c.set_level.new.self.node c.set_level.new.self.entry c.set_level.ensures.here.0 c.set_level.ensures.here.1 c.set_level.ensures.node c.set_level.ensures.entry
 
 pub node-requires-2 : goal.node-requires-2
 node-requires-2 g t c =
     let w = c.requires.under in
-    let one = some_leaf _ c.requires.capacity in
-    let slots = c.args.pool.now.nodes in
-    let h = back_held g.row.N one slots w.0 w.1 w.2 w.3 c.args.node w.4 in
-    (search rules, (search rules, slice_get_within slots c.args.node _ h.slot_is))
+    (search rules, (search rules, node_within g.row.N (some_leaf _ c.requires.capacity) c.args.pool.now.nodes w.0 w.1 w.2 w.3 c.args.node w.4))
 
 pub child-child-requires : goal.child-child-requires
 child-child-requires g t c =

@@ -1,9 +1,13 @@
-use Rattle.std.proofs.Common.{rules, ◌≡◌, ◌-◌, ◌<◌, [], ◌∷◌, ◌++◌, refl, arith}
+use Rattle.std.proofs.Common.{rules, ◌≡◌, ℕ, ◌-◌, ◌<◌, [], ◌∷◌, ◌++◌, refl, arith}
 use Rattle.bforest_core.specs.Place.{inner_content}
 use Rattle.bforest_core.proofs.Stored.{item_count, some_same}
 use Rattle.bforest_core.proofs.Tables.{is_used}
 use Rattle.bforest_core.proofs.Trim.{top_in, trim_leaf, trim_stays, only_in, trim_down, trim_then}
 use Rattle.bforest_core.proofs.path.Path.+trim.Goals as goal
+
+-- more than one, counted twice
+more_than : (count n m : ℕ) → 1 < count → count ≡ n → n ≡ m → 1 < m
+more_than count n m more is same = omega (arith, more, is, same)
 
 pub returns-then-self-eq1-clause-trimmed : goal.returns-then-self-eq1-clause-trimmed
 returns-then-self-eq1-clause-trimmed g t c = λ rows list u. ([], trim_leaf _ _ rows list c.args.root u c.if-self-eq1.true)
@@ -18,7 +22,7 @@ pub returns-then-count-gt1-clause-trimmed : goal.returns-then-count-gt1-clause-t
 returns-then-count-gt1-clause-trimmed g t c = λ rows list u.
     let d = top_in _ _ rows list c.args.root u (λ one. c.if-self-eq1.false one) in
     let counted = c.entries-count.ensures.value (inner_content d.top.entries) d.slot_is in
-    ([], trim_stays _ _ rows list c.args.root u d (omega (arith, c.if-count-gt1.true, counted, item_count d.top.entries)))
+    ([], trim_stays _ _ rows list c.args.root u d (more_than _ _ _ c.if-count-gt1.true counted (item_count d.top.entries)))
 
 pub child-only-requires : goal.child-only-requires
 child-only-requires g t c =

@@ -1,9 +1,21 @@
-use Rattle.std.proofs.Common.{suc, ◌∷◌, ◌++◌, length, set, refl, ◌∙◌, arith}
-use Rattle.std.proofs.lemmas.List.{get_or-set_other}
+use Rattle.std.proofs.Common.{rules, suc, ◌∷◌, ◌++◌, length, set, refl, ◌∙◌, arith}
+use Rattle.std.proofs.lemmas.List.{get_or-set_same, get_or-set_other}
 use Rattle.bforest_core.proofs.Neighbours.{over-above, must_move, entered_next}
 use Rattle.bforest_core.proofs.Zipper.{above_two}
 use Rattle.bforest_core.proofs.Tops.{top-same}
 use Rattle.bforest_core.proofs.path.Path.enter_next.Goals as goal
+
+pub next_node-moved-requires : goal.next_node-moved-requires
+next_node-moved-requires g c =
+    let w = c.requires.pending in
+    let list = w.1 ++ w.2 ∷ w.3 ∷ w.4 in
+    (search rules, (search rules, (c.requires.height, (w.0, list, length w.1, over-above c.args.pool.now c.args.self.now.node c.args.self.now.entry (suc c.args.level) c.args.self.now.size w.0 list (length w.1) w.5))))
+
+pub returns-clause-first : goal.returns-clause-first
+returns-clause-first g c = get_or-set_same c.next_node-moved.new.self.entry c.args.level 0 0 (omega (arith, c.requires.pending.5.height, c.requires.height))
+
+pub returns-clause-size : goal.returns-clause-size
+returns-clause-size g c = c.next_node-moved.ensures.size
 
 pub returns-clause-moved : goal.returns-clause-moved
 returns-clause-moved g c = λ rows a x y b p.

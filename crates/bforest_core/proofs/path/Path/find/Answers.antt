@@ -1,11 +1,19 @@
-use Rattle.std.proofs.Common.{rules, ◌≡◌, ◌-◌, [], length, arith}
+use Rattle.std.proofs.Common.{rules, ◌≡◌, ℕ, suc, ◌-◌, [], length, arith}
 use Rattle.std.proofs.lemmas.List.{length-map}
-use Rattle.bforest_core.specs.Levels.{sizes}
+use Rattle.bforest_core.specs.Levels.{Tree, sizes, sizes_of}
 use Rattle.bforest_core.specs.Trees.{tree_of}
 use Rattle.bforest_core.proofs.Unions.{is-rooted}
 use Rattle.bforest_core.proofs.Sought.{placed-for, stands-under}
 use Rattle.bforest_core.proofs.Whole.{whole_top, whole_under, all_through, stands_for}
 use Rattle.bforest_core.proofs.path.Path.find.Goals as goal
+
+-- the level of the root
+top_is : {K V : Type 0} (tree : Tree K V) (levels : ℕ) → levels ≡ length (sizes_of tree) → levels - 1 ≡ length tree.above
+top_is tree levels is = omega (arith, is, length-map tree.above sizes)
+
+-- how many levels the path then has
+size_is : {K V : Type 0} (tree : Tree K V) (levels size : ℕ) → levels ≡ length (sizes_of tree) → size ≡ levels → size ≡ suc (length tree.above)
+size_is tree levels size is same = omega (arith, is, same, length-map tree.above sizes)
 
 pub overflow_sub-levels : goal.overflow_sub-levels
 overflow_sub-levels g c = omega (arith, c.levels-levels.ensures.value)
@@ -16,7 +24,7 @@ descend-requires g c =
     let slots = c.args.pool.now.nodes in
     let tree = tree_of slots c.args.root in
     let w = is-rooted g.row.N c.args.pool.now c.args.root c.requires.union c.requires.root in
-    let levels_is : c.levels-levels.result - 1 ≡ length tree.above = omega (arith, c.levels-levels.ensures.value, length-map tree.above sizes) in
+    let levels_is = top_is tree _ c.levels-levels.ensures.value in
     (search rules, (search rules, (c.requires.capacity, (omega (arith, levels_is, w.low), (tree.leaves, tree.above, [], (whole_top g.row.N slots c.args.root tree w).first, [], whole_under g.row.N slots c.args.root tree w, c.requires.increasing, all_through order _ c.args.key, levels_is)))))
 
 pub returns-clause-value : goal.returns-clause-value
@@ -25,7 +33,7 @@ returns-clause-value g c =
     let slots = c.args.pool.now.nodes in
     let tree = tree_of slots c.args.root in
     let w = is-rooted g.row.N c.args.pool.now c.args.root c.requires.union c.requires.root in
-    let levels_is : c.levels-levels.result - 1 ≡ length tree.above = omega (arith, c.levels-levels.ensures.value, length-map tree.above sizes) in
+    let levels_is = top_is tree _ c.levels-levels.ensures.value in
     let r = c.descend.ensures.descended tree.leaves tree.above [] (whole_top g.row.N slots c.args.root tree w).first [] (whole_under g.row.N slots c.args.root tree w) c.requires.increasing (all_through order _ c.args.key) levels_is in
     r.0
 
@@ -35,9 +43,9 @@ returns-clause-path g c =
     let slots = c.args.pool.now.nodes in
     let tree = tree_of slots c.args.root in
     let w = is-rooted g.row.N c.args.pool.now c.args.root c.requires.union c.requires.root in
-    let levels_is : c.levels-levels.result - 1 ≡ length tree.above = omega (arith, c.levels-levels.ensures.value, length-map tree.above sizes) in
+    let levels_is = top_is tree _ c.levels-levels.ensures.value in
     let r = c.descend.ensures.descended tree.leaves tree.above [] (whole_top g.row.N slots c.args.root tree w).first [] (whole_under g.row.N slots c.args.root tree w) c.requires.increasing (all_through order _ c.args.key) levels_is in
-    stands_for order tree c.args.key _ _ _ _ _ r.1 (omega (arith, c.levels-levels.ensures.value, length-map tree.above sizes, c.descend.ensures.size))
+    stands_for order tree c.args.key _ _ _ _ _ r.1 (size_is tree _ _ c.levels-levels.ensures.value c.descend.ensures.size)
 
 pub returns-clause-present : goal.returns-clause-present
 returns-clause-present g c = λ here.
@@ -45,9 +53,9 @@ returns-clause-present g c = λ here.
     let slots = c.args.pool.now.nodes in
     let tree = tree_of slots c.args.root in
     let w = is-rooted g.row.N c.args.pool.now c.args.root c.requires.union c.requires.root in
-    let levels_is : c.levels-levels.result - 1 ≡ length tree.above = omega (arith, c.levels-levels.ensures.value, length-map tree.above sizes) in
+    let levels_is = top_is tree _ c.levels-levels.ensures.value in
     let r = c.descend.ensures.descended tree.leaves tree.above [] (whole_top g.row.N slots c.args.root tree w).first [] (whole_under g.row.N slots c.args.root tree w) c.requires.increasing (all_through order _ c.args.key) levels_is in
-    stands-under order slots c.args.root _ _ _ c.args.key c.requires.root (stands_for order tree c.args.key _ _ _ _ _ r.1 (omega (arith, c.levels-levels.ensures.value, length-map tree.above sizes, c.descend.ensures.size))) here
+    stands-under order slots c.args.root _ _ _ c.args.key c.requires.root (stands_for order tree c.args.key _ _ _ _ _ r.1 (size_is tree _ _ c.levels-levels.ensures.value c.descend.ensures.size)) here
 
 pub returns-clause-absent : goal.returns-clause-absent
 returns-clause-absent g c = λ here.
@@ -55,6 +63,6 @@ returns-clause-absent g c = λ here.
     let slots = c.args.pool.now.nodes in
     let tree = tree_of slots c.args.root in
     let w = is-rooted g.row.N c.args.pool.now c.args.root c.requires.union c.requires.root in
-    let levels_is : c.levels-levels.result - 1 ≡ length tree.above = omega (arith, c.levels-levels.ensures.value, length-map tree.above sizes) in
+    let levels_is = top_is tree _ c.levels-levels.ensures.value in
     let r = c.descend.ensures.descended tree.leaves tree.above [] (whole_top g.row.N slots c.args.root tree w).first [] (whole_under g.row.N slots c.args.root tree w) c.requires.increasing (all_through order _ c.args.key) levels_is in
-    placed-for order slots c.args.root _ _ _ c.args.key c.requires.root (stands_for order tree c.args.key _ _ _ _ _ r.1 (omega (arith, c.levels-levels.ensures.value, length-map tree.above sizes, c.descend.ensures.size))) here
+    placed-for order slots c.args.root _ _ _ c.args.key c.requires.root (stands_for order tree c.args.key _ _ _ _ _ r.1 (size_is tree _ _ c.levels-levels.ensures.value c.descend.ensures.size)) here

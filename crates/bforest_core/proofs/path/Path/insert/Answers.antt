@@ -1,4 +1,4 @@
-use Rattle.std.proofs.Common.{rules, ◌≡◌, ℕ, ◌++◌, Err, length, get_or, refl, ap, ◌∙◌, subst, arith}
+use Rattle.std.proofs.Common.{rules, ◌≡◌, ℕ, ◌<◌, ◌≤◌, ◌++◌, Err, length, get_or, refl, sym, ap, ◌∙◌, subst, arith}
 use Rattle.std.proofs.lemmas.Result.{err_from_is_err_and}
 use Rattle.bforest_core.specs.Table.{Table, NeedsGrowth, room}
 use Rattle.bforest_core.specs.Levels.{sizes_of}
@@ -11,6 +11,13 @@ use Rattle.bforest_core.proofs.Insertion.{placed-under, under-low, growth-low, m
 use Rattle.bforest_core.proofs.path.Path.insert.Goals.{then-not-put_here+in_ok-reserve, else-not-put_here}
 use Rattle.bforest_core.proofs.path.Path.insert.Given.{Over}
 use Rattle.bforest_core.proofs.path.Path.insert.Goals as goal
+
+-- what is said of two numbers is said of two equal to them
+less_same : (a b m n : ℕ) → m ≡ n → a ≡ b → a < m → b < n
+less_same a b m n is same less = omega (arith, is, same, less)
+
+most_same : (a b m n : ℕ) → m ≡ n → a ≡ b → n ≤ b → m ≤ a
+most_same a b m n is same most = omega (arith, is, same, most)
 
 pub put_here-requires : goal.put_here-requires
 put_here-requires g c =
@@ -91,8 +98,8 @@ returns-in_err-reserve-clause-full g c = λ root place p.
     let n_is = need_at g c root place p in
     let pool_is = c.put_here.ensures.pool c.if-not-put_here.true in
     let room_is = ap (λ z. room z) pool_is in (
-      λ is. omega (arith, full.0 (err-same c.from_residual.result c.in_err-reserve.field-0.0 _ _ _ (err_at g c) is refl refl), n_is, room_is),
-      λ short. err-back c.from_residual.result c.in_err-reserve.field-0.0 _ _ _ (err_at g c) refl refl (full.1 (omega (arith, short, n_is, room_is))),
+      λ is. less_same _ _ _ _ n_is room_is (full.0 (err-same c.from_residual.result c.in_err-reserve.field-0.0 _ _ _ (err_at g c) is refl refl)),
+      λ short. err-back c.from_residual.result c.in_err-reserve.field-0.0 _ _ _ (err_at g c) refl refl (full.1 (less_same _ _ _ _ (sym n_is) (sym room_is) short)),
     )
 
 pub returns-in_err-reserve-clause-memory : goal.returns-in_err-reserve-clause-memory
@@ -106,7 +113,7 @@ pub returns-in_err-reserve-clause-enough : goal.returns-in_err-reserve-clause-en
 returns-in_err-reserve-clause-enough g c = λ root place p enough.
     let n_is = need_at g c root place p in
     let pool_is = c.put_here.ensures.pool c.if-not-put_here.true in
-    let ok = c.in_err-reserve.ensures.enough (omega (arith, enough, n_is, ap (λ z. length z.chain) pool_is)) in
+    let ok = c.in_err-reserve.ensures.enough (most_same _ _ _ _ n_is (ap (λ z. length z.chain) pool_is) enough) in
     absurd cc
 
 pub returns-in_err-reserve-clause-refused_pool : goal.returns-in_err-reserve-clause-refused_pool

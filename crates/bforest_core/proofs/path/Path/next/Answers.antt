@@ -40,3 +40,12 @@ returns-then-next_entry-clause-stays g c = λ none. absurd (c.if-self-eq0.false 
 
 pub returns-else-next_entry-clause-moved : goal.returns-else-next_entry-clause-moved
 returns-else-next_entry-clause-moved g c = λ some. absurd (some refl)
+
+pub returns-then-next_entry-clause-end : goal.returns-then-next_entry-clause-end
+returns-then-next_entry-clause-end g c = λ none. absurd cc
+
+pub returns-else-next_entry-clause-end : goal.returns-else-next_entry-clause-end
+returns-else-next_entry-clause-end g c = λ none. refl
+
+pub returns-else-next_entry-clause-stays : goal.returns-else-next_entry-clause-stays
+returns-else-next_entry-clause-stays g c = λ none. refl

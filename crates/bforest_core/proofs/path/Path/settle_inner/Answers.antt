@@ -79,3 +79,30 @@ returns-in-None-balance_nodes-clause-joined g c = λ same before n es after rest
     let low : c.args.level < length c.args.self.now.node = omega (arith, p.above.height) in
     free_joins inner_content 4 8 _ half_inner (inner_stored g.row.N) _ _ _ _ _ _ c.index-self-level.result (add-one c.args.level) low before n es after rest p c.entries-left.result c.entries-left.ensures.value c.if-left-ge4.false _ _ c.in-Some.is c.right_sibling.ensures
     c.balance_nodes.new.self _ c.balance_nodes.ensures.balanced c.free_node.new.self c.in-None-balance_nodes.is c.free_node.ensures.freed
+
+pub offset_bounds-self-level : goal.offset_bounds-self-level
+offset_bounds-self-level g c = omega (arith, c.requires.pending.5.above.height, c.requires.height)
+
+pub listed : goal.listed
+listed g c = omega (arith, c.requires.pending.5.above.height, c.requires.height)
+
+pub bounds-self-level : goal.bounds-self-level
+bounds-self-level g c = omega (arith, c.requires.pending.5.above.height, c.requires.height)
+
+pub bounds-self-level-then-left-ge4 : goal.bounds-self-level-then-left-ge4
+bounds-self-level-then-left-ge4 g c = omega (arith, c.requires.pending.5.above.height, c.requires.height)
+
+pub overflow_add-level : goal.overflow_add-level
+overflow_add-level g c = omega (arith, c.requires.pending.5.above.height, c.requires.height)
+
+pub overflow_add-level-in-Some-balance_nodes : goal.overflow_add-level-in-Some-balance_nodes
+overflow_add-level-in-Some-balance_nodes g c = omega (arith, c.requires.pending.5.above.height, c.requires.height)
+
+pub offset_bounds-self-level-in-None-balance_nodes : goal.offset_bounds-self-level-in-None-balance_nodes
+offset_bounds-self-level-in-None-balance_nodes g c = omega (arith, c.requires.pending.5.above.height, c.requires.height)
+
+pub listed-in-None-balance_nodes : goal.listed-in-None-balance_nodes
+listed-in-None-balance_nodes g c = omega (arith, c.requires.pending.5.above.height, c.requires.height)
+
+pub bounds-self-level-in-None-balance_nodes : goal.bounds-self-level-in-None-balance_nodes
+bounds-self-level-in-None-balance_nodes g c = omega (arith, c.requires.pending.5.above.height, c.requires.height)

@@ -1,13 +1,17 @@
 use Rattle.std.proofs.Common.{rules, ◌≡◌, ℕ, ◌+◌, ◌-◌, ◌*◌, ◌^◌, ◌<◌, ◌≤◌, [], length, subst, arith}
 use Rattle.std.proofs.lemmas.List.{length-map}
 use Rattle.std.proofs.Math.Nat.{le-div_iff_mul-le, mul_comm}
-use Rattle.bforest_core.specs.Levels.{flat, sizes, half_of}
+use Rattle.bforest_core.specs.Levels.{Tree, flat, sizes, sizes_of, half_of}
 use Rattle.bforest_core.specs.Trees.{tree_of}
 use Rattle.bforest_core.proofs.Bounds.{leaves-few, depth}
 use Rattle.bforest_core.proofs.Descent.{some_leaf}
 use Rattle.bforest_core.proofs.Unions.{is-rooted}
 use Rattle.bforest_core.proofs.Whole.{whole_top, whole_under}
 use Rattle.bforest_core.proofs.pool.NodePool.levels.Goals as goal
+
+-- the leaves are a level, too
+count_is : {K V : Type 0} (tree : Tree K V) (n : ℕ) → n ≡ length tree.above + 1 → n ≡ length (sizes_of tree)
+count_is tree n is = omega (arith, is, length-map tree.above sizes)
 
 pub levels_from-requires : goal.levels_from-requires
 levels_from-requires g c =
@@ -22,7 +26,7 @@ returns-clause-value g c =
     let tree = tree_of slots c.args.root in
     let w = is-rooted g.row.N c.args.self.now c.args.root c.requires.union c.requires.root in
     let r = c.levels_from.ensures tree.leaves tree.above (whole_top g.row.N slots c.args.root tree w).first [] (whole_under g.row.N slots c.args.root tree w) in
-    omega (arith, r, length-map tree.above sizes)
+    count_is tree _ r
 
 pub returns-clause-leaves : goal.returns-clause-leaves
 returns-clause-leaves g c =

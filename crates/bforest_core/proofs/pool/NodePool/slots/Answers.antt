@@ -1,4 +1,4 @@
-use Rattle.std.proofs.Common.{arith}
+use Rattle.std.proofs.Common.{◌≡◌, length, arith}
 use Rattle.bforest_core.proofs.Pools.{free_within}
 use Rattle.bforest_core.proofs.pool.NodePool.slots.Goals as goal
 
@@ -12,4 +12,6 @@ returns-clause-table g c =
     })
 
 pub returns-clause-value : goal.returns-clause-value
-returns-clause-value g c = rw (← c.self.view_is) (omega (arith, c.len.ensures))
+returns-clause-value g c =
+    let is : c.len.result ≡ length c.self.inside.nodes.items = omega (arith, c.len.ensures) in
+    rw (← c.self.view_is) is

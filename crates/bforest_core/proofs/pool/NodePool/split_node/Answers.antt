@@ -1,8 +1,12 @@
-use Rattle.std.proofs.Common.{rules, slice_get, Some, arith, refl, ◌∙◌, ◌≡◌, length, length-set, vec_len, slice_set, sym}
+use Rattle.std.proofs.Common.{rules, slice_get, Some, arith, refl, ◌∙◌, ◌≡◌, ℕ, ◌<◌, length, length-set, vec_len, slice_set, sym}
 use Rattle.bforest_core.proofs.Lists.{refilled}
 use Rattle.bforest_core.proofs.Fronts.{nodes-without_front, off-without_front, with_front-is, apart_front}
 use Rattle.bforest_core.proofs.Pools.{IsPool-set_two}
 use Rattle.bforest_core.proofs.pool.NodePool.split_node.Goals as goal
+
+-- a number within the slots is within as many
+still_within : (n was now : ℕ) → now ≡ was → n < was → n < now
+still_within n was now same within = omega (arith, same, within)
 
 pub split-requires : goal.split-requires
 split-requires g c =
@@ -56,7 +60,7 @@ returns-clause-used g c =
     let within = rw (← c.self.view_is) at c.take_slot-right.ensures.used.within in
     let off = rw (← c.self.view_is) at c.take_slot-right.ensures.used.off_chain in
     rw (items, refilled c.self.inside.nodes.items (slice_set (slice_set c.self.inside.nodes.items c.number.result c.split.new.rhs) c.number-2.result c.split.new.self) (vec_len c.self.inside.nodes) size room)
-    (record { within = omega (arith, within, size); off_chain = rw pair.1 off })
+    (record { within = still_within _ _ _ size within; off_chain = rw pair.1 off })
 
 pub two_nodes-rhs-requires-clause-apart : goal.two_nodes-rhs-requires-clause-apart
 two_nodes-rhs-requires-clause-apart g c = λ same. apart_front c.args.self.now.chain c.args.left c.take_slot-right.result c.take_slot-right.ensures.node c.requires.used.off_chain (sym c.number.ensures.value ∙ same ∙ c.number-2.ensures.value)

@@ -1,24 +1,23 @@
 use Rattle.std.proofs.Common.{arith, rules, ◌≡◌, length, take}
-use Rattle.bforest_nodes.proofs.Cuts.{Balances-leaf, Balances-one_leaf}
-use Rattle.bforest_nodes.proofs.States.{entries_of_leaf, under_half}
+use Rattle.bforest_nodes.specs.Content.{Leaf}
+use Rattle.bforest_nodes.proofs.Cuts.{Balances-one_leaf}
+use Rattle.bforest_nodes.proofs.Shares.{leaf_moved, leaf_parts, leaf_rest, leaf_shares, leaf_some}
+use Rattle.bforest_nodes.proofs.States.{entries_most, entries_of_leaf, under_half}
 use Rattle.bforest_nodes.proofs.node.NodeData.balance_leaf.Goals as goal
 use Rattle.bforest_nodes.proofs.node.NodeData.balance_leaf.Goals.{in_default-via-in-Entries+in_default, in_default-via-in_default}
 
 pub returns : goal.returns
 returns g c =
-    let b = c.in-Entries-Entries in
-    let l = b.field-0-0 in
-    let r = b.field-0-1 in
-    let left = rw b.is-0 at c.self.view_is in
-    let right = rw b.is-1 at c.rhs.view_is in
-    let keys_len : length (take l.size l.keys.items) ≡ l.size = search rules in
-    let right_len : length (take r.size r.keys.items) ≡ r.size = search rules in
-    let vals_len : length (take l.size l.vals.items) ≡ l.size = search rules in
-    let right_vals_len : length (take r.size r.vals.items) ≡ r.size = search rules in
-    let under = rw (← left) at c.requires.underflowed in
-    let some = rw (← right) at c.requires.rhs_filled in
-    rw (← left, ← right, c.append.ensures, c.append-in-Entries-Entries.ensures, c.remove_front.ensures, c.remove_front-in-Entries-Entries.ensures)
-    (Balances-leaf _ _ _ _ _ _ _ _ (omega (arith, keys_len, vals_len)) (omega (arith, right_len, right_vals_len)) (omega (arith, keys_len, right_len)) (omega (arith, some)) (omega (arith, under, keys_len, right_len)) (rw c.remove_front.ensures at c.at.ensures))
+    let small = entries_most c.self.inside.state c.in-Entries-Entries.field-0-0 c.in-Entries-Entries.is-0 c.self.invariant.1 in
+    let most = entries_most c.rhs.inside.state c.in-Entries-Entries.field-0-1 c.in-Entries-Entries.is-1 c.rhs.invariant.1 in
+    let room : length c.in-Entries-Entries.field-0-0.keys.items ≡ g.row.N = search rules in
+    let under = under_half c.self.inside.state c.in-Entries-Entries.field-0-0 c.args.self.now c.self.view_is c.in-Entries-Entries.is-0 c.self.invariant.1 room c.requires.underflowed in
+    let vals_room : length c.in-Entries-Entries.field-0-0.vals.items ≡ g.row.N = search rules in
+    let right_room : length c.in-Entries-Entries.field-0-1.keys.items ≡ g.row.N = search rules in
+    let right_vals_room : length c.in-Entries-Entries.field-0-1.vals.items ≡ g.row.N = search rules in
+    rw (← c.self.view_is, ← c.rhs.view_is, c.in-Entries-Entries.is-0, c.in-Entries-Entries.is-1)
+    (leaf_shares g.row.N c.in-Entries-Entries.field-0-0.size c.in-Entries-Entries.field-0-1.size c.div_ceil.result c.div_ceil.ensures small most c.if-len-right_len.false c.in-Entries-Entries.field-0-0.keys.items c.append.new.self.items c.in-Entries-Entries.field-0-1.keys.items c.remove_front.new.self.items c.in-Entries-Entries.field-0-0.vals.items c.append-in-Entries-Entries.new.self.items c.in-Entries-Entries.field-0-1.vals.items c.remove_front-in-Entries-Entries.new.self.items c.args.crit_key c.at.result
+    room vals_room right_room right_vals_room under c.append.ensures c.append-in-Entries-Entries.ensures c.remove_front.ensures c.remove_front-in-Entries-Entries.ensures c.at.ensures)
 
 pub unreachable-requires : goal.unreachable-requires
 unreachable-requires g c = elim c.in_default.branch [
@@ -29,7 +28,54 @@ unreachable-requires g c = elim c.in_default.branch [
 pub returns-then-len-right_len : goal.returns-then-len-right_len
 returns-then-len-right_len g c =
     let b = c.in-Entries-Entries in
-    rw (← c.self.view_is, ← c.rhs.view_is, b.is-0, b.is-1) (Balances-one_leaf _ _ _ _ _ _ _ _ _ _ _ c.if-len-right_len.true c.put_before.ensures c.put_before-then-len-right_len.ensures)
+    rw (← c.self.view_is, ← c.rhs.view_is, b.is-0, b.is-1)
+    (Balances-one_leaf g.row.N c.in-Entries-Entries.field-0-0.size c.in-Entries-Entries.field-0-1.size c.in-Entries-Entries.field-0-0.keys.items c.in-Entries-Entries.field-0-1.keys.items c.put_before.new.self.items c.in-Entries-Entries.field-0-0.vals.items c.in-Entries-Entries.field-0-1.vals.items c.put_before-then-len-right_len.new.self.items c.args.crit_key
+    (Leaf (take c.in-Entries-Entries.field-0-0.size c.in-Entries-Entries.field-0-0.keys.items) (take c.in-Entries-Entries.field-0-0.size c.in-Entries-Entries.field-0-0.vals.items)) c.if-len-right_len.true c.put_before.ensures c.put_before-then-len-right_len.ensures)
+
+pub put_before-requires : goal.put_before-requires
+put_before-requires g c = (search rules, c.if-len-right_len.true)
+
+pub put_before-requires-then-len-right_len : goal.put_before-requires-then-len-right_len
+put_before-requires-then-len-right_len g c = (search rules, omega (arith, c.if-len-right_len.true))
 
 pub overflow_sub-moved : goal.overflow_sub-moved
-overflow_sub-moved g c = omega (arith, under_half _ _ _ c.self.view_is c.in-Entries-Entries.is-0 c.self.invariant.1 (search rules) c.requires.underflowed)
+overflow_sub-moved g c =
+    let small = entries_most c.self.inside.state c.in-Entries-Entries.field-0-0 c.in-Entries-Entries.is-0 c.self.invariant.1 in
+    let most = entries_most c.rhs.inside.state c.in-Entries-Entries.field-0-1 c.in-Entries-Entries.is-1 c.rhs.invariant.1 in
+    let room : length c.in-Entries-Entries.field-0-0.keys.items ≡ g.row.N = search rules in
+    let under = under_half c.self.inside.state c.in-Entries-Entries.field-0-0 c.args.self.now c.self.view_is c.in-Entries-Entries.is-0 c.self.invariant.1 room c.requires.underflowed in
+    leaf_parts g.row.N c.in-Entries-Entries.field-0-0.size c.in-Entries-Entries.field-0-1.size c.div_ceil.result c.div_ceil.ensures small most c.if-len-right_len.false under
+
+pub append-requires : goal.append-requires
+append-requires g c =
+    let small = entries_most c.self.inside.state c.in-Entries-Entries.field-0-0 c.in-Entries-Entries.is-0 c.self.invariant.1 in
+    let most = entries_most c.rhs.inside.state c.in-Entries-Entries.field-0-1 c.in-Entries-Entries.is-1 c.rhs.invariant.1 in
+    let d = leaf_moved g.row.N c.in-Entries-Entries.field-0-0.size c.in-Entries-Entries.field-0-1.size c.div_ceil.result c.div_ceil.ensures small most c.if-len-right_len.false in
+    (search rules, (d.fits, (d.from_fits, d.within)))
+
+pub append-requires-in-Entries-Entries : goal.append-requires-in-Entries-Entries
+append-requires-in-Entries-Entries g c =
+    let small = entries_most c.self.inside.state c.in-Entries-Entries.field-0-0 c.in-Entries-Entries.is-0 c.self.invariant.1 in
+    let most = entries_most c.rhs.inside.state c.in-Entries-Entries.field-0-1 c.in-Entries-Entries.is-1 c.rhs.invariant.1 in
+    let d = leaf_moved g.row.N c.in-Entries-Entries.field-0-0.size c.in-Entries-Entries.field-0-1.size c.div_ceil.result c.div_ceil.ensures small most c.if-len-right_len.false in
+    (search rules, (d.fits, (d.from_fits, d.within)))
+
+pub remove_front-requires : goal.remove_front-requires
+remove_front-requires g c =
+    let small = entries_most c.self.inside.state c.in-Entries-Entries.field-0-0 c.in-Entries-Entries.is-0 c.self.invariant.1 in
+    let most = entries_most c.rhs.inside.state c.in-Entries-Entries.field-0-1 c.in-Entries-Entries.is-1 c.rhs.invariant.1 in
+    let d = leaf_moved g.row.N c.in-Entries-Entries.field-0-0.size c.in-Entries-Entries.field-0-1.size c.div_ceil.result c.div_ceil.ensures small most c.if-len-right_len.false in
+    (search rules, (d.from_fits, d.within))
+
+pub remove_front-requires-in-Entries-Entries : goal.remove_front-requires-in-Entries-Entries
+remove_front-requires-in-Entries-Entries g c =
+    let small = entries_most c.self.inside.state c.in-Entries-Entries.field-0-0 c.in-Entries-Entries.is-0 c.self.invariant.1 in
+    let most = entries_most c.rhs.inside.state c.in-Entries-Entries.field-0-1 c.in-Entries-Entries.is-1 c.rhs.invariant.1 in
+    let d = leaf_moved g.row.N c.in-Entries-Entries.field-0-0.size c.in-Entries-Entries.field-0-1.size c.div_ceil.result c.div_ceil.ensures small most c.if-len-right_len.false in
+    (search rules, (d.from_fits, d.within))
+
+pub at-requires : goal.at-requires
+at-requires g c =
+    let small = entries_most c.self.inside.state c.in-Entries-Entries.field-0-0 c.in-Entries-Entries.is-0 c.self.invariant.1 in
+    let most = entries_most c.rhs.inside.state c.in-Entries-Entries.field-0-1 c.in-Entries-Entries.is-1 c.rhs.invariant.1 in
+    (search rules, (leaf_rest g.row.N c.in-Entries-Entries.field-0-0.size c.in-Entries-Entries.field-0-1.size c.div_ceil.result c.div_ceil.ensures small most c.if-len-right_len.false, leaf_some g.row.N c.in-Entries-Entries.field-0-0.size c.in-Entries-Entries.field-0-1.size c.div_ceil.result c.div_ceil.ensures small most c.if-len-right_len.false c.self.invariant.0.least))

@@ -1,12 +1,15 @@
-use Rattle.std.proofs.Common.{rules}
-use Rattle.bforest_nodes.proofs.States.{branch_of_inner, children_within}
+use Rattle.std.proofs.Common.{arith}
+use Rattle.bforest_nodes.proofs.States.{branch_of_inner, children_within, right_most}
 use Rattle.bforest_nodes.proofs.node.NodeData.child.Goals as goal
 
 pub unreachable-requires : goal.unreachable-requires
 unreachable-requires g c = branch_of_inner c.self.inside.state c.in_default.not-Branch (rw (← c.self.view_is) at c.requires.inner)
 
 pub returns : goal.returns
-returns g c = search rules
+returns g c = record { child = rw (← c.self.view_is, c.in-Branch.is) c.at.ensures }
 
 pub at-requires : goal.at-requires
-at-requires g c = search (rules, children_within _ _ _ _ _ _ c.self.view_is c.in-Branch.is c.requires.within)
+at-requires g c =
+    let most = right_most c.self.inside.state c.in-Branch.size c.in-Branch.field-1 c.in-Branch.tree c.in-Branch.is c.self.invariant.1 in
+    let within = children_within c.self.inside.state c.in-Branch.size c.in-Branch.field-1 c.in-Branch.tree c.args.self.now c.args.index c.self.view_is c.in-Branch.is c.requires.within in
+    (omega arith, (omega (arith, most), omega (arith, within)))

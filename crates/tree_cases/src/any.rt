@@ -1,0 +1,120 @@
+//! A tree of one of the capacities that lines can name, so that who asks it has no capacity as a parameter.
+
+use crate::tree::Tree;
+use bforest_core::OutOfMemory;
+use bforest_plain_tests::Plain;
+use std::alloc::{AllocError, Global};
+
+/// A tree whose leaves hold at most 3, 7, 15 or 255 entries.
+#[derive(Drop)]
+pub(crate) enum AnyTree {
+    Least(Tree<3>),
+    Map(Tree<7>),
+    Set(Tree<15>),
+    Greatest(Tree<255>),
+}
+
+// What a call gives on the tree, whichever it is.
+macro_rules! each {
+    ($any:expr, $tree:ident => $call:expr) => {
+        match $any {
+            AnyTree::Least($tree) => $call,
+            AnyTree::Map($tree) => $call,
+            AnyTree::Set($tree) => $call,
+            AnyTree::Greatest($tree) => $call,
+        }
+    };
+}
+
+impl AnyTree {
+    /// No tree, in a pool of at most so many slots, or nothing where there is no such capacity.
+    pub(crate) fn new(alloc: Global, capacity: u32, limit: u32) -> Option<Self> {
+        Some(match capacity {
+            3 => AnyTree::Least(Tree::new(alloc, limit)),
+            7 => AnyTree::Map(Tree::new(alloc, limit)),
+            15 => AnyTree::Set(Tree::new(alloc, limit)),
+            255 => AnyTree::Greatest(Tree::new(alloc, limit)),
+            _ => return None,
+        })
+    }
+
+    /// Puts an entry in, or writes the value where the key is present.
+    pub(crate) fn insert(&mut self, key: u32, value: u32) -> Result<(), OutOfMemory> {
+        each!(self, tree => tree.insert(key, value))
+    }
+
+    /// Takes a key out. Answers its value, and the entry at which the path stands then.
+    pub(crate) fn remove(&mut self, key: u32) -> (Option<u32>, Option<(u32, u32)>) {
+        each!(self, tree => tree.remove(key))
+    }
+
+    /// Ends the tree.
+    pub(crate) fn end(&mut self) {
+        each!(self, tree => tree.end())
+    }
+
+    /// Adds one to the value of a key, and says whether it is present.
+    pub(crate) fn count(&mut self, key: u32) -> bool {
+        each!(self, tree => tree.count(key))
+    }
+
+    /// The value of a key.
+    pub(crate) fn get(&self, key: u32) -> Option<u32> {
+        each!(self, tree => tree.get(key))
+    }
+
+    /// The number of the leaf where a search for a key ends, and its place there.
+    pub(crate) fn position(&self, key: u32) -> Option<(u32, usize)> {
+        each!(self, tree => tree.position(key))
+    }
+
+    /// Whether a root has this number.
+    pub(crate) fn is_root(&self, number: u32) -> bool {
+        each!(self, tree => tree.is_root(number))
+    }
+
+    /// The first entry whose key is not less.
+    pub(crate) fn entry_from(&self, key: u32) -> Option<(u32, u32)> {
+        each!(self, tree => tree.entry_from(key))
+    }
+
+    /// The entry behind that of a key, if the key is present.
+    pub(crate) fn entry_after(&self, key: u32) -> Option<(u32, u32)> {
+        each!(self, tree => tree.entry_after(key))
+    }
+
+    /// The entry in front of that of a key, if the key is present.
+    pub(crate) fn entry_before(&self, key: u32) -> Option<(u32, u32)> {
+        each!(self, tree => tree.entry_before(key))
+    }
+
+    /// The root's number.
+    pub(crate) fn root(&self) -> Option<u32> {
+        each!(self, tree => tree.root())
+    }
+
+    /// How many levels the tree has, and how many slots the pool, in all and free.
+    pub(crate) fn sizes(&self) -> (usize, u32, u32) {
+        each!(self, tree => (tree.levels(), tree.slots(), tree.free()))
+    }
+
+    /// How many nodes a key takes that is absent.
+    pub(crate) fn need(&self, key: u32) -> Option<u32> {
+        each!(self, tree => tree.need(key))
+    }
+
+    /// Writes the keys of the nodes, level by level, the root's first: `40 / 10 20 30 | 40 50 60 70`.
+    pub(crate) fn show(&self, alloc: Global, out: &mut String) -> Result<(), AllocError> {
+        each!(self, tree => tree.show(alloc, out))
+    }
+
+    /// Whether the tree has these entries: from both ends, and by key.
+    pub(crate) fn has_entries(&self, list: &[(u32, u32)]) -> bool {
+        each!(self, tree => tree.gives(list) && tree.gives_back(list) && tree.finds(list))
+    }
+
+    /// Whether the nodes have the sizes of the plain program's, level by level.
+    pub(crate) fn has_sizes(&self, alloc: Global, plain: &Plain) -> Result<bool, AllocError> {
+        each!(self, tree => tree.has_sizes(alloc, plain))
+    }
+}
