@@ -1,3 +1,4 @@
+pub mod Calls
 pub mod Forest
 pub mod Memory
 pub mod Retain

@@ -1,6 +1,7 @@
 //! The table of all trees of a forest.
-ghost use Rattle.bforest.specs.Forest.{IsAccounted, IsLive, IsTooMany, Keeps, NeedsGrowth, empty, free_of, limit_of, slots_of};
-ghost use Rattle.std.specs.Prelude.{Err, IsOk, IsTrue, OnErr, OnOk, ◌+◌, ◌-◌, ◌<◌, ◌↔◌, ◌≡◌, ◌≤◌};
+ghost use Rattle.bforest.specs.Forest.{IsAccounted, IsLive, empty, free_of, limit_of, slots_of};
+ghost use Rattle.bforest.specs.Calls.{Reserves};
+ghost use Rattle.std.specs.Prelude.{IsTrue, ◌↔◌, ◌≡◌, ◌≤◌};
 
 use crate::map::Map;
 use bforest_core::OutOfMemory;
@@ -78,15 +79,7 @@ impl<K: Copy, V: Copy> MapForest<K, V> {
     /// `Full` where the limit does not allow so many slots, which is tested first, and `Memory` where the table could not grow. After
     /// either the forest is as before.
     pub fn reserve_nodes(&mut self, n: u32) -> Result<(), OutOfMemory>
-        ensures keeps { Keeps self.old self.new }
-        ensures free { OnOk result (n ≤ free_of self.new) }
-        ensures grown { OnOk result (free_of self.old < n → free_of self.new ≡ n) }
-        ensures slots { OnOk result (slots_of self.new ≡ slots_of self.old + (n - free_of self.old)) }
-        ensures enough { n ≤ free_of self.old → IsOk result }
-        ensures same { n ≤ free_of self.old → self.new ≡ self.old }
-        ensures refused { OnErr result (self.new ≡ self.old) }
-        ensures full { (result ≡ Err OutOfMemory.Full) ↔ IsTooMany n self.old }
-        ensures memory { result ≡ Err OutOfMemory.Memory → NeedsGrowth n self.old }
+        ensures { Reserves self.old n result self.new }
     {
         self.trees.reserve(n)
     }

@@ -1,8 +1,9 @@
 //! The handle of one map.
-ghost use Rattle.bforest_nodes.specs.Entries.{IsIncreasing, cut, put, value_for};
-ghost use Rattle.bforest.specs.Forest.{Becomes, Forest, Gives, IsLive, IsTooMany, NeedsGrowth, Takes, first_level, free_of, list_of, need_of, sizes_of, sizes_with, sizes_without};
+ghost use Rattle.bforest_nodes.specs.Entries.{IsIncreasing, value_for};
+ghost use Rattle.bforest.specs.Calls.{Clears, Filters, Inserts, Removes};
+ghost use Rattle.bforest.specs.Forest.{Forest, IsLive, first_level, list_of, sizes_of};
 ghost use Rattle.bforest.specs.Memory.{IsReadable};
-ghost use Rattle.bforest.specs.Retain.{Answers, MayAsk, MayAskEach, Retains};
+ghost use Rattle.bforest.specs.Retain.{Answers, MayAsk, MayAskEach};
 ghost use Rattle.std.specs.Option.{option_map_or};
 ghost use Rattle.std.specs.declared.cmp.Ordering.{Ordering};
 ghost use Rattle.std.specs.Ordering.{is_lt};
@@ -98,32 +99,7 @@ impl<K: Copy, V: Copy> Map<K, V> {
     ) -> Result<Option<V>, OutOfMemory>
         requires live { IsLive forest.old self.old }
         requires increasing { IsIncreasing (C.order comp.now) (list_of forest.old self.old) }
-
-        // What an insertion answers and leaves.
-        ensures ok { IfOk result
-            (λ old. old ≡ value_for (C.order comp.now) (list_of forest.old self.old) key) }
-        ensures put { OnOk result (Becomes forest.old self.old forest.new self.new
-            (put (C.order comp.now) (list_of forest.old self.old) key value)) }
-        ensures sizes { OnOk result (sizes_of forest.new self.new
-            ≡ sizes_with 7 (C.order comp.now) forest.old self.old key) }
-        ensures same_number { IfOk result (λ old. IsSome old → self.new ≡ self.old) }
-        ensures same_levels { OnOk result ((self.new ≡ self.old)
-            ↔ (length (sizes_of forest.new self.new) ≡ length (sizes_of forest.old self.old))) }
-        ensures account { OnOk result
-            (Takes (need_of 7 (C.order comp.now) forest.old self.old key) forest.old forest.new) }
-        ensures increasing { IsIncreasing (C.order comp.now) (list_of forest.new self.new) }
-
-        // When it is refused, and what a refusal leaves.
-        ensures full { (result ≡ Err OutOfMemory.Full)
-            ↔ IsTooMany (need_of 7 (C.order comp.now) forest.old self.old key) forest.old }
-        ensures memory { result ≡ Err OutOfMemory.Memory
-            → NeedsGrowth (need_of 7 (C.order comp.now) forest.old self.old key) forest.old }
-        ensures succeeds { need_of 7 (C.order comp.now) forest.old self.old key ≤ free_of forest.old
-            → IsOk result }
-        ensures absent { OnErr result
-            (value_for (C.order comp.now) (list_of forest.old self.old) key ≡ None) }
-        ensures refused_forest { OnErr result (forest.new ≡ forest.old) }
-        ensures refused_handle { OnErr result (self.new ≡ self.old) }
+        ensures { Inserts 7 (C.order comp.now) forest.old self.old key value result forest.new self.new }
     {
         self.try_insert(key, value, forest, comp)
     }
@@ -146,32 +122,7 @@ impl<K: Copy, V: Copy> Map<K, V> {
     ) -> Result<Option<V>, OutOfMemory>
         requires live { IsLive forest.old self.old }
         requires increasing { IsIncreasing (C.order comp.now) (list_of forest.old self.old) }
-
-        // What an insertion answers and leaves.
-        ensures ok { IfOk result
-            (λ old. old ≡ value_for (C.order comp.now) (list_of forest.old self.old) key) }
-        ensures put { OnOk result (Becomes forest.old self.old forest.new self.new
-            (put (C.order comp.now) (list_of forest.old self.old) key value)) }
-        ensures sizes { OnOk result (sizes_of forest.new self.new
-            ≡ sizes_with 7 (C.order comp.now) forest.old self.old key) }
-        ensures same_number { IfOk result (λ old. IsSome old → self.new ≡ self.old) }
-        ensures same_levels { OnOk result ((self.new ≡ self.old)
-            ↔ (length (sizes_of forest.new self.new) ≡ length (sizes_of forest.old self.old))) }
-        ensures account { OnOk result
-            (Takes (need_of 7 (C.order comp.now) forest.old self.old key) forest.old forest.new) }
-        ensures increasing { IsIncreasing (C.order comp.now) (list_of forest.new self.new) }
-
-        // When it is refused, and what a refusal leaves.
-        ensures full { (result ≡ Err OutOfMemory.Full)
-            ↔ IsTooMany (need_of 7 (C.order comp.now) forest.old self.old key) forest.old }
-        ensures memory { result ≡ Err OutOfMemory.Memory
-            → NeedsGrowth (need_of 7 (C.order comp.now) forest.old self.old key) forest.old }
-        ensures succeeds { need_of 7 (C.order comp.now) forest.old self.old key ≤ free_of forest.old
-            → IsOk result }
-        ensures absent { OnErr result
-            (value_for (C.order comp.now) (list_of forest.old self.old) key ≡ None) }
-        ensures refused_forest { OnErr result (forest.new ≡ forest.old) }
-        ensures refused_handle { OnErr result (self.new ≡ self.old) }
+        ensures { Inserts 7 (C.order comp.now) forest.old self.old key value result forest.new self.new }
     {
         let mut path = Path::default();
         forest.trees.insert(&mut self.root, &mut path, key, value, comp)
@@ -189,18 +140,7 @@ impl<K: Copy, V: Copy> Map<K, V> {
     ) -> Option<V>
         requires live { IsLive forest.old self.old }
         requires increasing { IsIncreasing (C.order comp.now) (list_of forest.old self.old) }
-        ensures value { result ≡ value_for (C.order comp.now) (list_of forest.old self.old) key }
-        ensures cut { Becomes forest.old self.old forest.new self.new
-            (cut (C.order comp.now) (list_of forest.old self.old) key) }
-        ensures sizes { sizes_of forest.new self.new
-            ≡ sizes_without 7 (C.order comp.now) forest.old self.old key }
-        ensures same_levels { (self.new ≡ self.old)
-            ↔ (length (sizes_of forest.new self.new) ≡ length (sizes_of forest.old self.old)) }
-        ensures account { Gives (sizes_of forest.old self.old) (sizes_of forest.new self.new)
-            forest.old forest.new }
-        ensures increasing { IsIncreasing (C.order comp.now) (list_of forest.new self.new) }
-        ensures absent_forest { result ≡ None → forest.new ≡ forest.old }
-        ensures absent_handle { result ≡ None → self.new ≡ self.old }
+        ensures { Removes 7 (C.order comp.now) forest.old self.old key result forest.new self.new }
     {
         forest.trees.remove(&mut self.root, key, comp)
     }
@@ -209,9 +149,7 @@ impl<K: Copy, V: Copy> Map<K, V> {
     /// keys and takes no memory. Other handles of the same number are no longer live.
     pub fn clear(&mut self, forest: &mut MapForest<K, V>)
         requires live { IsLive forest.old self.old }
-        ensures handle { self.new ≡ None }
-        ensures cleared { Becomes forest.old self.old forest.new self.new [] }
-        ensures account { Gives (sizes_of forest.old self.old) [] forest.old forest.new }
+        ensures { Clears forest.old self.old forest.new self.new }
     {
         forest.trees.free_tree(&mut self.root);
     }
@@ -226,17 +164,7 @@ impl<K: Copy, V: Copy> Map<K, V> {
         requires live { IsLive forest.old self.old }
         requires callable { MayAskEach (Answers F.FnMut) (MayAsk F.FnMut) predicate
             (list_of forest.old self.old) }
-        ensures kept { Retains (Answers F.FnMut) 7 predicate 0
-            (list_of forest.old self.old) (sizes_of forest.old self.old)
-            (list_of forest.new self.new) (sizes_of forest.new self.new) }
-        ensures changed { Becomes forest.old self.old forest.new self.new (list_of forest.new self.new) }
-        ensures same_levels { (self.new ≡ self.old)
-            ↔ (length (sizes_of forest.new self.new) ≡ length (sizes_of forest.old self.old)) }
-        ensures account { Gives (sizes_of forest.old self.old) (sizes_of forest.new self.new)
-            forest.old forest.new }
-        ensures increasing { (order : K → K → Ordering)
-            → IsIncreasing order (list_of forest.old self.old)
-            → IsIncreasing order (list_of forest.new self.new) }
+        ensures { Filters 7 (Answers F.FnMut) forest.old self.old predicate forest.new self.new }
     {
         forest.trees.retain(&mut self.root, Asked { predicate });
     }

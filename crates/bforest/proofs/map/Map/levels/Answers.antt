@@ -8,3 +8,9 @@ returns-clause-depth g c = λ two. rw (← c.self.view_is, ← c.forest.view_is)
 
 pub returns-clause-leaves : goal.returns-clause-leaves
 returns-clause-leaves g c = rw (← c.self.view_is, ← c.forest.view_is) c.levels.ensures.leaves
+
+pub returns-clause-count : goal.returns-clause-count
+returns-clause-count g c = rw (← c.self.view_is, ← c.forest.view_is) c.levels.ensures.count
+
+pub returns-clause-most : goal.returns-clause-most
+returns-clause-most g c = c.levels.ensures.most

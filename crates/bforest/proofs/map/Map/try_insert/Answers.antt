@@ -1,19 +1,4 @@
 use Rattle.bforest.proofs.map.Map.try_insert.Goals as goal
 
-pub returns-clause-ok : goal.returns-clause-ok
-returns-clause-ok g c = rw (← c.self.view_is, ← c.forest.view_is) c.insert.ensures.ok
-
-pub returns-clause-same_number : goal.returns-clause-same_number
-returns-clause-same_number g c = rw (← c.self.view_is) c.insert.ensures.same_number
-
-pub returns-clause-same_levels : goal.returns-clause-same_levels
-returns-clause-same_levels g c = rw (← c.self.view_is, ← c.forest.view_is) c.insert.ensures.same_levels
-
-pub returns-clause-full : goal.returns-clause-full
-returns-clause-full g c = rw (← c.self.view_is, ← c.forest.view_is) c.insert.ensures.full
-
-pub returns-clause-memory : goal.returns-clause-memory
-returns-clause-memory g c = rw (← c.self.view_is, ← c.forest.view_is) c.insert.ensures.memory
-
-pub returns-clause-succeeds : goal.returns-clause-succeeds
-returns-clause-succeeds g c = rw (← c.self.view_is, ← c.forest.view_is) c.insert.ensures.succeeds
+pub returns : goal.returns
+returns g c = rw (← c.self.view_is, ← c.forest.view_is) (record { ok = c.insert.ensures.ok; put = c.insert.ensures.put; sizes = c.insert.ensures.sizes; same_number = c.insert.ensures.same_number; same_levels = c.insert.ensures.same_levels; account = c.insert.ensures.account; increasing = c.insert.ensures.increasing; full = c.insert.ensures.full; memory = c.insert.ensures.memory; succeeds = c.insert.ensures.succeeds; absent = c.insert.ensures.absent; refused_forest = c.insert.ensures.refused_forest; refused_handle = c.insert.ensures.refused_handle; })

@@ -1,0 +1,10 @@
+use Rattle.bforest.proofs.forest.MapForest.slots.Goals as goal
+
+pub returns-clause-count : goal.returns-clause-count
+returns-clause-count g c = rw (← c.self.view_is) c.slots.ensures.count
+
+pub returns-clause-within : goal.returns-clause-within
+returns-clause-within g c = rw (← c.self.view_is) c.slots.ensures.within
+
+pub returns-clause-account : goal.returns-clause-account
+returns-clause-account g c = rw (← c.self.view_is) c.slots.ensures.account

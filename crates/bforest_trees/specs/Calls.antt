@@ -1,0 +1,69 @@
+-- What a call that may change one tree answers and leaves: one record for each, which every such call of a map cites.
+use Rattle.bforest_core.specs.declared.pool.OutOfMemory.TheVariants.{Full, Memory}
+use Rattle.bforest_core.specs.declared.pool.OutOfMemory.{OutOfMemory}
+use Rattle.bforest_nodes.specs.Entries.{IsIncreasing, cut, put, value_for}
+use Rattle.bforest_trees.specs.Forest.{Becomes, Forest, Gives, IsTooMany, Keeps, NeedsGrowth, Takes, free_of, list_of, need_of, sizes_of, sizes_with, sizes_without, slots_of}
+use Rattle.bforest_trees.specs.Retain.{Retains}
+use Rattle.std.specs.Prelude.{Bool, Err, IfOk, IsOk, IsSome, List, None, OnErr, OnOk, Option, Result, [], length, ◌+◌, ◌-◌, ◌<◌, ◌↔◌, ◌≡◌, ◌≤◌, ℕ}
+use Rattle.std.specs.declared.cmp.Ordering.{Ordering}
+
+module _ {K X : Type 0} where
+  -- the handle stays exactly where the tree has as many levels as before
+  abbrev pub SameLevels : Forest K X → Option ℕ → Forest K X → Option ℕ → Type 0
+  SameLevels f h f' h' = (h' ≡ h) ↔ (length (sizes_of f' h') ≡ length (sizes_of f h))
+
+  -- f was asked for n free slots. All trees stay; where fewer lay free, exactly n do now
+  pub record Reserves (f : Forest K X) (n : ℕ) (result : Result (Unit {0}) OutOfMemory) (f' : Forest K X) : Type 0 where
+    pub keeps : Keeps f f'
+    pub free : OnOk result (n ≤ free_of f')
+    pub grown : OnOk result (free_of f < n → free_of f' ≡ n)
+    pub slots : OnOk result (slots_of f' ≡ slots_of f + (n - free_of f))
+    pub enough : n ≤ free_of f → IsOk result
+    pub same : n ≤ free_of f → f' ≡ f
+    pub refused : OnErr result (f' ≡ f)
+    pub full : (result ≡ Err Full) ↔ IsTooMany n f
+    pub memory : result ≡ Err Memory → NeedsGrowth n f
+
+  -- the tree of h ended
+  pub record Clears (f : Forest K X) (h : Option ℕ) (f' : Forest K X) (h' : Option ℕ) : Type 0 where
+    pub handle : h' ≡ None
+    pub cleared : Becomes f h f' h' []
+    pub account : Gives (sizes_of f h) [] f f'
+
+  -- q was asked of each entry of h, where a leaf has at most so many, and those answered yes stay, with the values that were left there
+  pub record Filters {F : Type 0} (most : ℕ) (step : F → K → X → Bool → X → F → Type 0) (f : Forest K X) (h : Option ℕ) (q : F) (f' : Forest K X) (h' : Option ℕ) : Type 0 where
+    pub kept : Retains step most q 0 (list_of f h) (sizes_of f h) (list_of f' h') (sizes_of f' h')
+    pub changed : Becomes f h f' h' (list_of f' h')
+    pub same_levels : SameLevels f h f' h'
+    pub account : Gives (sizes_of f h) (sizes_of f' h') f f'
+    pub increasing : (order : K → K → Ordering) → IsIncreasing order (list_of f h) → IsIncreasing order (list_of f' h')
+
+-- where a leaf has at most so many entries
+module _ {K X : Type 0} (most : ℕ) (cmp : K → K → Ordering) where
+  -- x was put in at the key k of h, or written there where the key was present: the value that was there is answered. Or it was refused,
+  -- and nothing changed
+  pub record Inserts (f : Forest K X) (h : Option ℕ) (k : K) (x : X) (result : Result (Option X) OutOfMemory) (f' : Forest K X) (h' : Option ℕ) : Type 0 where
+    pub ok : IfOk result (λ old. old ≡ value_for cmp (list_of f h) k)
+    pub put : OnOk result (Becomes f h f' h' (put cmp (list_of f h) k x))
+    pub sizes : OnOk result (sizes_of f' h' ≡ sizes_with most cmp f h k)
+    pub same_number : IfOk result (λ old. IsSome old → h' ≡ h)
+    pub same_levels : OnOk result (SameLevels f h f' h')
+    pub account : OnOk result (Takes (need_of most cmp f h k) f f')
+    pub increasing : IsIncreasing cmp (list_of f' h')
+    pub full : (result ≡ Err Full) ↔ IsTooMany (need_of most cmp f h k) f
+    pub memory : result ≡ Err Memory → NeedsGrowth (need_of most cmp f h k) f
+    pub succeeds : need_of most cmp f h k ≤ free_of f → IsOk result
+    pub absent : OnErr result (value_for cmp (list_of f h) k ≡ None)
+    pub refused_forest : OnErr result (f' ≡ f)
+    pub refused_handle : OnErr result (h' ≡ h)
+
+  -- the key k was taken out of h: the value that was there is answered
+  pub record Removes (f : Forest K X) (h : Option ℕ) (k : K) (result : Option X) (f' : Forest K X) (h' : Option ℕ) : Type 0 where
+    pub value : result ≡ value_for cmp (list_of f h) k
+    pub cut : Becomes f h f' h' (cut cmp (list_of f h) k)
+    pub sizes : sizes_of f' h' ≡ sizes_without most cmp f h k
+    pub same_levels : SameLevels f h f' h'
+    pub account : Gives (sizes_of f h) (sizes_of f' h') f f'
+    pub increasing : IsIncreasing cmp (list_of f' h')
+    pub absent_forest : result ≡ None → f' ≡ f
+    pub absent_handle : result ≡ None → h' ≡ h
