@@ -7,7 +7,7 @@ ghost use Rattle.bforest.specs.Retain.{Answers, MayAsk, MayAskEach};
 ghost use Rattle.std.specs.Option.{option_map_or};
 ghost use Rattle.std.specs.declared.cmp.Ordering.{Ordering};
 ghost use Rattle.std.specs.Ordering.{is_lt};
-ghost use Rattle.std.specs.Prelude.{IfOk, IsOk, IsSome, IsTrue, None, OnErr, OnOk, [], true, ◌↔◌, length, ◌*◌, ◌+◌, ◌-◌, ◌/◌, ◌<◌, ◌^◌, ◌≡◌, ◌≤◌};
+ghost use Rattle.std.specs.Prelude.{IsTrue, None, [], true, ◌↔◌, length, ◌+◌, ◌-◌, ◌/◌, ◌<◌, ◌^◌, ◌≡◌, ◌≤◌};
 
 use crate::forest::MapForest;
 use crate::map_iter::MapIter;
@@ -125,7 +125,9 @@ impl<K: Copy, V: Copy> Map<K, V> {
         ensures { Inserts 7 (C.order comp.now) forest.old self.old key value result forest.new self.new }
     {
         let mut path = Path::default();
-        forest.trees.insert(&mut self.root, &mut path, key, value, comp)
+        forest
+            .trees
+            .insert(&mut self.root, &mut path, key, value, comp)
     }
 
     /// Takes the entry whose key compares equal to `key` out, and answers its value, or `None` where there is none and nothing changes.

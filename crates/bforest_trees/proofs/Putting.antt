@@ -1,6 +1,6 @@
 -- What an insertion needs and leaves, where its key is present and where it is absent.
-use Rattle.bforest_trees.proofs.Changed.{becomes, grows, list-root, sizes-new, sizes-root, takes}
-use Rattle.bforest_trees.specs.Forest.{Becomes, Forest, NeedsGrowth, Takes, list_at, list_of, need_of, sizes_at, sizes_of as forest_sizes, sizes_with}
+use Rattle.bforest_trees.proofs.Changed.{becomes, list-root, sizes-new, sizes-root, takes}
+use Rattle.bforest_trees.specs.Forest.{Becomes, Forest, Takes, list_at, list_of, need_of, sizes_at, sizes_of as forest_sizes, sizes_with}
 use Rattle.bforest_nodes.proofs.Found.{put-absent, put-present}
 use Rattle.bforest_nodes.specs.Entries.{entry_for, is_present, place, put, value_for, with_value}
 use Rattle.bforest_core.specs.Change.{Changes, TakesNodes}

@@ -1,11 +1,10 @@
 -- Where a path stands in the list of a handle.
-use Rattle.bforest_trees.specs.Forest.{Becomes, Forest, free_of, list_of, sizes_of, slots_of}
+use Rattle.bforest_trees.specs.Forest.{Forest, list_of}
 use Rattle.bforest_trees.specs.Layout.{place_in}
 use Rattle.bforest_core.specs.Change.{StandsUnder}
 use Rattle.bforest_core.specs.Levels.{LevelNode}
 use Rattle.bforest_core.specs.Trees.{tree_of}
 use Rattle.bforest_core.specs.declared.path.Path.{Path}
-use Rattle.bforest_nodes.specs.Entries.{with_value}
 use Rattle.std.specs.Prelude.{List, None, Option, Some, [], get_or, if◌then◌else◌, length, ◌==◌, ◌≡◌, ◌≢◌, ℕ}
 
 module _ {K X : Type 0} where

@@ -1,5 +1,5 @@
 //! A predicate on entries.
-ghost use Rattle.std.specs.Prelude.{◌≡◌, Bool};
+ghost use Rattle.std.specs.Prelude.{Bool};
 ghost use Rattle.bforest_trees.specs.Retain.{Answers, MayAsk};
 
 use std::marker::Model;

@@ -1,5 +1,5 @@
 //! The table of all trees of a forest: each call on one tree, once for maps and sets.
-ghost use Rattle.bforest_trees.specs.Forest.{Becomes, Gives, IsAccounted, IsLive, IsTooMany, Keeps, NeedsGrowth, Takes, empty, first_level, free_of, limit_of, list_at, list_of, need_of, room_of, sizes_at, sizes_of, sizes_with, sizes_without, slots_of};
+ghost use Rattle.bforest_trees.specs.Forest.{Becomes, Gives, IsAccounted, IsLive, IsTooMany, Keeps, NeedsGrowth, Takes, empty, first_level, free_of, limit_of, list_at, list_of, need_of, sizes_at, sizes_of, sizes_with, sizes_without, slots_of};
 ghost use Rattle.bforest_trees.specs.Place.{IsSpot};
 ghost use Rattle.bforest_trees.specs.Retain.{MayAskEach, Retains};
 ghost use Rattle.bforest_core.specs.Levels.{half_of};
@@ -8,7 +8,7 @@ ghost use Rattle.bforest_core.specs.Trees.{IsUnion};
 ghost use Rattle.bforest_nodes.specs.Content.{IsLeafCapacity};
 ghost use Rattle.bforest_nodes.specs.Entries.{IsIncreasing, cut, place, put, value_for};
 ghost use Rattle.std.specs.declared.cmp.Ordering.{Ordering};
-ghost use Rattle.std.specs.Prelude.{Err, IfOk, IsOk, IsSome, IsTrue, List, None, OnErr, OnOk, Option, Some, [], length, remove, ◌*◌, ◌+◌, ◌-◌, ◌/◌, ◌<◌, ◌^◌, ◌∷◌, ◌≡◌, ◌≢◌, ◌≤◌, ◌↔◌, ℕ};
+ghost use Rattle.std.specs.Prelude.{Err, IfOk, IsOk, IsSome, IsTrue, None, OnErr, OnOk, Option, Some, [], length, remove, ◌*◌, ◌+◌, ◌-◌, ◌/◌, ◌<◌, ◌^◌, ◌∷◌, ◌≡◌, ◌≢◌, ◌≤◌, ◌↔◌, ℕ};
 
 use crate::predicate::Predicate;
 use crate::retain;

@@ -4,7 +4,7 @@ use Rattle.bforest_trees.proofs.trees.Trees.free_tree.Goals as goal
 use Rattle.bforest_trees.specs.Forest.{Becomes, Forest, Gives, sizes_of}
 use Rattle.bforest_core.specs.Levels.{sizes_of as tree_sizes}
 use Rattle.bforest_core.specs.Trees.{tree_of}
-use Rattle.std.proofs.Common.{List, None, Option, Some, [], rules, subst, sym, ◌∙◌, ◌≡◌, ℕ}
+use Rattle.std.proofs.Common.{List, Option, Some, [], rules, subst, sym, ◌∙◌, ◌≡◌, ℕ}
 
 pub free_tree-requires : goal.free_tree-requires
 free_tree-requires g c =

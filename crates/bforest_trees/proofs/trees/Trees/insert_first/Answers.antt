@@ -1,9 +1,9 @@
 use Rattle.bforest_trees.proofs.Changed.{becomes-new, sizes-new, takes}
 use Rattle.bforest_trees.proofs.Spots.{spot-under}
 use Rattle.bforest_trees.proofs.trees.Trees.insert_first.Goals as goal
-use Rattle.bforest_trees.specs.Forest.{Becomes, Forest, Takes, room_of}
+use Rattle.bforest_trees.specs.Forest.{Becomes, Forest, Takes}
 use Rattle.bforest_core.proofs.Planting.{planted-alloc}
-use Rattle.std.proofs.Common.{List, None, Some, [], arith, rules, subst, ◌<◌, ◌∷◌, ℕ}
+use Rattle.std.proofs.Common.{List, None, Some, [], arith, rules, subst, ◌∷◌}
 
 pub first-requires : goal.first-requires
 first-requires g c =

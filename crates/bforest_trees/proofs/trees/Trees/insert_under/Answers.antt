@@ -128,8 +128,7 @@ returns-in-Some-clause-full g c =
     let s = seen p c.args.self.now n c.self.view_is c.requires.live in
     let here = present-some cmp (flat (tree_of p.nodes n).leaves) k c.in-Some.old (sym c.find.ensures.value ∙ c.in-Some.is) in
     let at = place cmp (flat (tree_of p.nodes n).leaves) k in
-    let stands = c.find.ensures.present here in
-    (
+    let stands = c.find.ensures.present here in (
       λ bad. absurd (cc),
       λ low. absurd (let few = rw (← c.self.view_is, need-present g.row.N cmp p n k s.root here) at low in omega (arith, few)),
     )
@@ -333,8 +332,7 @@ returns-clause-full g c =
     let at = place cmp (flat (tree_of p.nodes n).leaves) k in
     let placed = c.find.ensures.absent gone in
     let told = c.insert.ensures in
-    let needs = need-absent g.row.N cmp p n k s.root gone in
-    (
+    let needs = need-absent g.row.N cmp p n k s.root gone in (
       λ bad. absurd (cc),
       λ low. absurd (let few = rw (← c.self.view_is, needs) at low in let bad = (told.full n at placed).1 few in let is = c.in-Ok.is in cc),
     )

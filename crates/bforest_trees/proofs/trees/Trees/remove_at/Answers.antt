@@ -1,10 +1,7 @@
-use Rattle.bforest_trees.proofs.Cutting.{IsTaken, taken-at}
+use Rattle.bforest_trees.proofs.Cutting.{taken-at}
 use Rattle.bforest_trees.proofs.Spots.{spot-stands}
 use Rattle.bforest_trees.proofs.trees.Trees.remove_at.Goals as goal
-use Rattle.bforest_trees.specs.Forest.{Becomes, Forest, Gives, list_of, sizes_of}
-use Rattle.bforest_trees.specs.Place.{StandsIn}
-use Rattle.bforest_core.specs.Sizes.{shrink}
-use Rattle.std.proofs.Common.{length, remove, rules, subst, sym, ◌≡◌, ◌↔◌}
+use Rattle.std.proofs.Common.{rules}
 
 pub remove-requires : goal.remove-requires
 remove-requires g c =

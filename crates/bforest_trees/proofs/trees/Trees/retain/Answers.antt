@@ -47,7 +47,7 @@ returns-in-Some-clause-kept g c =
     let told = c.retain.ensures in
     let q = c.args.predicate in
     let kept = subst (λ (z : List (List ℕ)). Retains step g.row.N q 0 (list_of f h) z (list_of new o) (sizes_of new o)) s.sizes
-        (subst (λ (l : List (g.row.K.Denot × g.row.V.Denot)). Retains step g.row.N q 0 l (tree_sizes (tree_of p.nodes n)) (list_of new o) (sizes_of new o)) s.list (list-kept step g.row.N p new n q o told.retained told.ended)) in
+    (subst (λ (l : List (g.row.K.Denot × g.row.V.Denot)). Retains step g.row.N q 0 l (tree_sizes (tree_of p.nodes n)) (list_of new o) (sizes_of new o)) s.list (list-kept step g.row.N p new n q o told.retained told.ended)) in
     rw c.packed.ensures kept
 
 pub returns-in-Some-clause-changed : goal.returns-in-Some-clause-changed
@@ -115,5 +115,5 @@ returns-in-Some-clause-increasing g c =
     let told = c.retain.ensures in
     let q = c.args.predicate in
     let kept = subst (λ (z : List (List ℕ)). Retains step g.row.N q 0 (list_of f h) z (list_of new o) (sizes_of new o)) s.sizes
-        (subst (λ (l : List (g.row.K.Denot × g.row.V.Denot)). Retains step g.row.N q 0 l (tree_sizes (tree_of p.nodes n)) (list_of new o) (sizes_of new o)) s.list (list-kept step g.row.N p new n q o told.retained told.ended)) in
+    (subst (λ (l : List (g.row.K.Denot × g.row.V.Denot)). Retains step g.row.N q 0 l (tree_sizes (tree_of p.nodes n)) (list_of new o) (sizes_of new o)) s.list (list-kept step g.row.N p new n q o told.retained told.ended)) in
     λ cmp up. rw c.packed.ensures (IsIncreasing-kept step g.row.N cmp q 0 (list_of f h) (sizes_of f h) (list_of new o) (sizes_of new o) kept up)
