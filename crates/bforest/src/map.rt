@@ -179,7 +179,8 @@ impl<K: Copy, V: Copy> Map<K, V> {
         ensures count { result ≡ length (sizes_of forest.now self.now) }
         ensures most { result ≤ 17 }
         ensures depth { 2 ≤ result → 4 ^ (result - 1) < length (list_of forest.now self.now) }
-        ensures leaves { length (first_level (sizes_of forest.now self.now)) ≤ (length (list_of forest.now self.now) + 3) / 4 }
+        ensures leaves { length (first_level (sizes_of forest.now self.now))
+            ≤ (length (list_of forest.now self.now) + 3) / 4 }
     {
         forest.trees.levels(self.root)
     }

@@ -60,6 +60,7 @@ module _ {K V : Type 0} where
       λ m. omega (arith, f.account m, at-most-one m (length old.nodes), count_parts m before gone after old.chain) in
       let ins = every_outer (IsIn old.nodes) before gone after f.inside in
       record {
+        capacity = f.capacity;
         fit = every_put (IsFit most) before come after (every_outer (IsFit most) before gone after f.fit) fit;
         inside = every-join (IsIn new.nodes) before (come ++ after) (trees-same old.nodes new.nodes before (λ m here. others m (omega (arith, here, one m))) ins.0)
             (every-join (IsIn new.nodes) come after inside (trees-same old.nodes new.nodes after (λ m here. others m (omega (arith, here, one m))) ins.1));

@@ -3,7 +3,7 @@ use Rattle.std.proofs.Common.{◌≡◌, ◌≢◌, ℕ, ◌-◌, ◌≤◌, ◌
 use Rattle.std.specs.List.{flat_map}
 use Rattle.std.proofs.lemmas.List.{length-map}
 use Rattle.std.proofs.lemmas.Bool.{cases_lt}
-use Rattle.bforest_nodes.specs.Content.{Leaf}
+use Rattle.bforest_nodes.specs.Content.{IsLeafCapacity, Leaf}
 use Rattle.bforest_core.specs.Table.{Table, front_of, free_count, slot_count, fresh_nodes, down_from, with_front, reserved}
 use Rattle.bforest_core.specs.Levels.{node, flat, sizes, sizes_of, Tree}
 use Rattle.bforest_core.specs.Place.{count, numbers_of}
@@ -36,8 +36,8 @@ module _ {K V : Type 0} where
       ]
 
   -- a table of no slots has no tree
-  pub IsUnion-empty : (most n : ℕ) → IsUnion {K = K} {V = V} most (record { nodes = []; chain = []; limit = n })
-  IsUnion-empty most n = ([], record { fit = tt; inside = tt; some = tt; low = tt; free = tt; account = λ m. sym (past-none m 0 (omega arith)) })
+  pub IsUnion-empty : (most n : ℕ) → IsLeafCapacity most → IsUnion {K = K} {V = V} most (record { nodes = []; chain = []; limit = n })
+  IsUnion-empty most n capacity = ([], record { capacity = capacity; fit = tt; inside = tt; some = tt; low = tt; free = tt; account = λ m. sym (past-none m 0 (omega arith)) })
 
   -- a tree under a root has an entry, and at most 17 levels
   pub roots-live : (most : ℕ) (table : Table K V) (root : ℕ) → IsUnion most table → IsTrue (is_root table.nodes root) → (flat (tree_of table.nodes root).leaves ≢ []) × (length (sizes_of (tree_of table.nodes root)) ≤ 17)

@@ -74,6 +74,7 @@ module _ {K V : Type 0} where
       λ m some. elim (cases_lt m (length table.nodes)) [ inl low ↦ low | inr past ↦ absurd (omega (arith, f.account m, past-none m (length table.nodes) past, some, c m)) ] in
       let slots : length (table.nodes ++ more) ≡ length table.nodes + n = omega (arith, length-append table.nodes more, length-fresh_nodes K V (slot_count table) n (front_of table.chain)) in
       record {
+        capacity = f.capacity;
         fit = f.fit;
         inside = trees-same table.nodes (table.nodes ++ more) trees (λ m some. slots_same table.nodes more m (low m (omega (arith, some)))) f.inside;
         some = f.some;

@@ -4,7 +4,7 @@ use Rattle.std.specs.List.{sum_by}
 use Rattle.bforest_core.specs.Table.{Table, slot_count, free_count}
 use Rattle.bforest_nodes.specs.Content.{Content}
 use Rattle.bforest_core.specs.Levels.{flat, sizes_of}
-use Rattle.bforest_core.specs.Place.{Stands, PlacedAt}
+use Rattle.bforest_core.specs.Place.{IsPathAt, PlacedAt, PointsAt, Stands}
 use Rattle.bforest_core.specs.Trees.{tree_of, is_root, IsUnion, OthersKeep}
 
 -- how many nodes a tree of these sizes has
@@ -58,3 +58,13 @@ module _ {K V : Type 0} where
   pub record PlacedUnder (slots : List (Content K V)) (root : ℕ) (path indices : List ℕ) (size place : ℕ) : Type 0 where
     pub root_is : IsTrue (is_root slots root)
     pub at : PlacedAt path indices size (tree_of slots root) place
+
+  -- or at this entry, or with no node at the end
+  pub record AtUnder (slots : List (Content K V)) (root : ℕ) (path indices : List ℕ) (size place : ℕ) : Type 0 where
+    pub root_is : IsTrue (is_root slots root)
+    pub at : IsPathAt path indices size (tree_of slots root) place
+
+  -- or at this entry, or behind the last entry of a leaf in front of it
+  pub record PointsUnder (slots : List (Content K V)) (root : ℕ) (path indices : List ℕ) (size place : ℕ) : Type 0 where
+    pub root_is : IsTrue (is_root slots root)
+    pub points : PointsAt path indices size (tree_of slots root) place

@@ -10,3 +10,4 @@ pub mod Descent
 pub mod Steps
 pub mod Change
 pub mod Removal
+pub mod Paths

@@ -1,7 +1,7 @@
 -- The trees of a table: computed, and as a witness.
 use Rattle.std.specs.Prelude.{◌≡◌, ℕ, zero, suc, ◌≤◌, ◌↔◌, ◌≢◌, Bool, true, false, if◌then◌else◌, nat_lt, nat_eq, ◌&&◌, IsTrue, None, List, [], ◌∷◌, ◌++◌, map, length, take, drop, slice_index_or}
 use Rattle.std.specs.List.{flat_map, zip}
-use Rattle.bforest_nodes.specs.Content.{Content, Inner, Leaf, Free, IsFree, children_of}
+use Rattle.bforest_nodes.specs.Content.{Content, Inner, Leaf, Free, IsFree, IsLeafCapacity, children_of}
 use Rattle.bforest_core.specs.Table.{Table}
 use Rattle.bforest_core.specs.Levels.{LevelNode, node, flat, heads, Tree, IsFit}
 use Rattle.bforest_core.specs.Place.{IsIn, numbers_of, count}
@@ -65,9 +65,11 @@ Every P [] = Unit {0}
 Every P (first ∷ rest) = P first × Every P rest
 
 module _ {K V : Type 0} where
-  -- these are the trees of a table: each is fit and not empty, lies in it and has at most 17 levels, the slots of the
-  -- chain are free, and the slots are the numbers of the trees and of the chain, each once
+  -- these are the trees of a table, where a leaf may have so many entries: each is fit and not empty, lies in it and has
+  -- at most 17 levels, the slots of the chain are free, and the slots are the numbers of the trees and of the chain,
+  -- each once
   pub record IsForest (most : ℕ) (table : Table K V) (trees : List (Tree K V)) : Type 0 where
+    pub capacity : IsLeafCapacity most
     pub fit : Every (IsFit most) trees
     pub inside : Every (IsIn table.nodes) trees
     pub some : Every (λ (tree : Tree K V). 1 ≤ length (flat tree.leaves)) trees

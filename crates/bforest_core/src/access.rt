@@ -19,9 +19,14 @@ pub(crate) fn put_child<K: Copy, V: Copy, const N: usize>(
     child: Node,
 ) -> bool
     requires used { IsUsed pool.old node }
-    requires inner { (keys : List K) × (children : List ℕ) × (slice_get pool.old.nodes node ≡ Some (Inner keys children)) × (index ≤ length keys) }
-    ensures room { (keys : List K) (children : List ℕ) → slice_get pool.old.nodes node ≡ Some (Inner keys children) → IsTrue result ↔ (length children < 8) }
-    ensures node { (keys : List K) (children : List ℕ) → slice_get pool.old.nodes node ≡ Some (Inner keys children) → pool.new ≡ with_node pool.old node (if result then with_child (Inner keys children) index key child else Inner keys children) }
+    requires inner { (keys : List K) × (children : List ℕ)
+        × (slice_get pool.old.nodes node ≡ Some (Inner keys children)) × (index ≤ length keys) }
+    ensures room { (keys : List K) (children : List ℕ) → slice_get pool.old.nodes node
+        ≡ Some (Inner keys children) → IsTrue result ↔ (length children < 8) }
+    ensures node { (keys : List K) (children : List ℕ) → slice_get pool.old.nodes node
+        ≡ Some (Inner keys children) → pool.new
+        ≡ with_node pool.old node (if result then with_child (Inner keys children) index key child else Inner
+        keys children) }
 {
     pool.node_mut(node).try_inner_insert(index, key, child)
 }
@@ -33,9 +38,13 @@ pub(crate) fn follow<K: Copy, V: Copy, const N: usize, C: Comparator<K>>(
     key: K,
     comp: &C,
 ) -> (usize, Node)
-    requires inner { (keys : List K) × (children : List ℕ) × (slice_get pool.now.nodes node ≡ Some (Inner keys children)) × IsStrictlySortedBy (C.order comp.now) keys }
-    ensures index { (keys : List K) (children : List ℕ) → slice_get pool.now.nodes node ≡ Some (Inner keys children) → result.0 ≡ child_index (C.order comp.now) keys key }
-    ensures child { (keys : List K) (children : List ℕ) → slice_get pool.now.nodes node ≡ Some (Inner keys children) → slice_get children result.0 ≡ Some result.1 }
+    requires inner { (keys : List K) × (children : List ℕ)
+        × (slice_get pool.now.nodes node ≡ Some (Inner keys children)) × IsStrictlySortedBy (C.order comp.now)
+        keys }
+    ensures index { (keys : List K) (children : List ℕ) → slice_get pool.now.nodes node
+        ≡ Some (Inner keys children) → result.0 ≡ child_index (C.order comp.now) keys key }
+    ensures child { (keys : List K) (children : List ℕ) → slice_get pool.now.nodes node
+        ≡ Some (Inner keys children) → slice_get children result.0 ≡ Some result.1 }
     ensures most { result.0 ≤ 255 }
 {
     let (keys, children) = pool.node(node).unwrap_inner();
@@ -51,9 +60,12 @@ pub(crate) fn look_up<K: Copy, V: Copy, const N: usize, C: Comparator<K>>(
     comp: &C,
 ) -> (usize, Option<V>)
     requires capacity { IsLeafCapacity N }
-    requires leaf { (entries : List (K × V)) × (slice_get pool.now.nodes node ≡ Some (leaf_content entries)) × IsIncreasing (C.order comp.now) entries }
-    ensures place { (entries : List (K × V)) → slice_get pool.now.nodes node ≡ Some (leaf_content entries) → result.0 ≡ place (C.order comp.now) entries key }
-    ensures value { (entries : List (K × V)) → slice_get pool.now.nodes node ≡ Some (leaf_content entries) → result.1 ≡ value_for (C.order comp.now) entries key }
+    requires leaf { (entries : List (K × V)) × (slice_get pool.now.nodes node ≡ Some (leaf_content entries))
+        × IsIncreasing (C.order comp.now) entries }
+    ensures place { (entries : List (K × V)) → slice_get pool.now.nodes node ≡ Some (leaf_content entries)
+        → result.0 ≡ place (C.order comp.now) entries key }
+    ensures value { (entries : List (K × V)) → slice_get pool.now.nodes node ≡ Some (leaf_content entries)
+        → result.1 ≡ value_for (C.order comp.now) entries key }
     ensures most { result.0 ≤ 255 }
 {
     let (keys, values) = pool.node(node).unwrap_leaf();
@@ -68,8 +80,10 @@ pub(crate) fn last_index<K: Copy, V: Copy, const N: usize>(
     pool: &NodePool<K, V, N>,
     node: Node,
 ) -> usize
-    requires some { (content : Content K V) × (slice_get pool.now.nodes node ≡ Some content) × (1 ≤ entry_count content) }
-    ensures last { (content : Content K V) → slice_get pool.now.nodes node ≡ Some content → result ≡ entry_count content - 1 }
+    requires some { (content : Content K V) × (slice_get pool.now.nodes node ≡ Some content)
+        × (1 ≤ entry_count content) }
+    ensures last { (content : Content K V) → slice_get pool.now.nodes node ≡ Some content → result
+        ≡ entry_count content - 1 }
     ensures most { result ≤ 255 }
 {
     pool.node(node).entries() - 1
@@ -84,9 +98,13 @@ pub(crate) fn put_entry<K: Copy, V: Copy, const N: usize>(
     value: V,
 ) -> bool
     requires used { IsUsed pool.old node }
-    requires leaf { (keys : List K) × (vals : List V) × (slice_get pool.old.nodes node ≡ Some (Leaf keys vals)) × (index ≤ length keys) }
-    ensures room { (keys : List K) (vals : List V) → slice_get pool.old.nodes node ≡ Some (Leaf keys vals) → IsTrue result ↔ (length keys < N) }
-    ensures node { (keys : List K) (vals : List V) → slice_get pool.old.nodes node ≡ Some (Leaf keys vals) → pool.new ≡ with_node pool.old node (if result then with_entry (Leaf keys vals) index key value else Leaf keys vals) }
+    requires leaf { (keys : List K) × (vals : List V)
+        × (slice_get pool.old.nodes node ≡ Some (Leaf keys vals)) × (index ≤ length keys) }
+    ensures room { (keys : List K) (vals : List V) → slice_get pool.old.nodes node ≡ Some (Leaf keys vals)
+        → IsTrue result ↔ (length keys < N) }
+    ensures node { (keys : List K) (vals : List V) → slice_get pool.old.nodes node ≡ Some (Leaf keys vals)
+        → pool.new ≡ with_node pool.old node (if result then with_entry (Leaf keys vals) index key value else
+        Leaf keys vals) }
 {
     pool.node_mut(node).try_leaf_insert(index, key, value)
 }
@@ -97,7 +115,8 @@ pub(crate) fn entries<K: Copy, V: Copy, const N: usize>(
     node: Node,
 ) -> usize
     requires { (content : Content K V) × (slice_get pool.now.nodes node ≡ Some content) × (¬ IsFree content) }
-    ensures value { (content : Content K V) → slice_get pool.now.nodes node ≡ Some content → result ≡ entry_count content }
+    ensures value { (content : Content K V) → slice_get pool.now.nodes node ≡ Some content → result
+        ≡ entry_count content }
     ensures most { result ≤ 255 }
 {
     pool.node(node).entries()
@@ -109,8 +128,10 @@ pub(crate) fn separator<K: Copy, V: Copy, const N: usize>(
     node: Node,
     index: usize,
 ) -> K
-    requires { (keys : List K) × (children : List ℕ) × (slice_get pool.now.nodes node ≡ Some (Inner keys children)) × (index < length keys) }
-    ensures { (keys : List K) (children : List ℕ) → slice_get pool.now.nodes node ≡ Some (Inner keys children) → slice_get keys index ≡ Some result }
+    requires { (keys : List K) × (children : List ℕ)
+        × (slice_get pool.now.nodes node ≡ Some (Inner keys children)) × (index < length keys) }
+    ensures { (keys : List K) (children : List ℕ) → slice_get pool.now.nodes node ≡ Some (Inner keys children)
+        → slice_get keys index ≡ Some result }
 {
     pool.node(node).separator(index)
 }
@@ -121,8 +142,10 @@ pub(crate) fn child<K: Copy, V: Copy, const N: usize>(
     node: Node,
     index: usize,
 ) -> Node
-    requires { (keys : List K) × (children : List ℕ) × (slice_get pool.now.nodes node ≡ Some (Inner keys children)) × (index < length children) }
-    ensures { (keys : List K) (children : List ℕ) → slice_get pool.now.nodes node ≡ Some (Inner keys children) → slice_get children index ≡ Some result }
+    requires { (keys : List K) × (children : List ℕ)
+        × (slice_get pool.now.nodes node ≡ Some (Inner keys children)) × (index < length children) }
+    ensures { (keys : List K) (children : List ℕ) → slice_get pool.now.nodes node ≡ Some (Inner keys children)
+        → slice_get children index ≡ Some result }
 {
     pool.node(node).child(index)
 }
@@ -135,8 +158,10 @@ pub(crate) fn set_separator<K: Copy, V: Copy, const N: usize>(
     key: K,
 )
     requires used { IsUsed pool.old node }
-    requires inner { (keys : List K) × (children : List ℕ) × (slice_get pool.old.nodes node ≡ Some (Inner keys children)) × (index < length keys) }
-    ensures { (keys : List K) (children : List ℕ) → slice_get pool.old.nodes node ≡ Some (Inner keys children) → pool.new ≡ with_node pool.old node (with_key (Inner keys children) index key) }
+    requires inner { (keys : List K) × (children : List ℕ)
+        × (slice_get pool.old.nodes node ≡ Some (Inner keys children)) × (index < length keys) }
+    ensures { (keys : List K) (children : List ℕ) → slice_get pool.old.nodes node ≡ Some (Inner keys children)
+        → pool.new ≡ with_node pool.old node (with_key (Inner keys children) index key) }
 {
     pool.node_mut(node).set_separator(index, key);
 }
@@ -148,9 +173,13 @@ pub(crate) fn remove_child<K: Copy, V: Copy, const N: usize>(
     index: usize,
 ) -> Removed
     requires used { IsUsed pool.old node }
-    requires inner { (keys : List K) × (children : List ℕ) × (slice_get pool.old.nodes node ≡ Some (Inner keys children)) × (index < length children) }
-    ensures node { (keys : List K) (children : List ℕ) → slice_get pool.old.nodes node ≡ Some (Inner keys children) → pool.new ≡ with_node pool.old node (without_child (Inner keys children) index) }
-    ensures answer { (keys : List K) (children : List ℕ) → slice_get pool.old.nodes node ≡ Some (Inner keys children) → result ≡ removed_answer 8 index (length children - 1) }
+    requires inner { (keys : List K) × (children : List ℕ)
+        × (slice_get pool.old.nodes node ≡ Some (Inner keys children)) × (index < length children) }
+    ensures node { (keys : List K) (children : List ℕ) → slice_get pool.old.nodes node
+        ≡ Some (Inner keys children) → pool.new
+        ≡ with_node pool.old node (without_child (Inner keys children) index) }
+    ensures answer { (keys : List K) (children : List ℕ) → slice_get pool.old.nodes node
+        ≡ Some (Inner keys children) → result ≡ removed_answer 8 index (length children - 1) }
 {
     pool.node_mut(node).inner_remove(index)
 }
@@ -162,16 +191,20 @@ pub(crate) fn remove_entry<K: Copy, V: Copy, const N: usize>(
     index: usize,
 )
     requires used { IsUsed pool.old node }
-    requires leaf { (keys : List K) × (vals : List V) × (slice_get pool.old.nodes node ≡ Some (Leaf keys vals)) × (index < length keys) }
-    ensures { (keys : List K) (vals : List V) → slice_get pool.old.nodes node ≡ Some (Leaf keys vals) → pool.new ≡ with_node pool.old node (without_entry (Leaf keys vals) index) }
+    requires leaf { (keys : List K) × (vals : List V)
+        × (slice_get pool.old.nodes node ≡ Some (Leaf keys vals)) × (index < length keys) }
+    ensures { (keys : List K) (vals : List V) → slice_get pool.old.nodes node ≡ Some (Leaf keys vals)
+        → pool.new ≡ with_node pool.old node (without_entry (Leaf keys vals) index) }
 {
     let _answer = pool.node_mut(node).leaf_remove(index);
 }
 
 // The first key of a leaf.
 pub(crate) fn leaf_key<K: Copy, V: Copy, const N: usize>(pool: &NodePool<K, V, N>, node: Node) -> K
-    requires { (keys : List K) × (vals : List V) × (slice_get pool.now.nodes node ≡ Some (Leaf keys vals)) × (0 < length keys) }
-    ensures { (keys : List K) (vals : List V) → slice_get pool.now.nodes node ≡ Some (Leaf keys vals) → slice_get keys 0 ≡ Some result }
+    requires { (keys : List K) × (vals : List V) × (slice_get pool.now.nodes node ≡ Some (Leaf keys vals))
+        × (0 < length keys) }
+    ensures { (keys : List K) (vals : List V) → slice_get pool.now.nodes node ≡ Some (Leaf keys vals)
+        → slice_get keys 0 ≡ Some result }
 {
     pool.node(node).leaf_crit_key()
 }

@@ -1,5 +1,8 @@
 //! Paths from a leaf to the root of its tree.
-ghost use Rattle.std.specs.Prelude.{◌≡◌, ◌≢◌, Some, None, get_or, slice_set};
+ghost use Rattle.std.specs.Prelude.{◌≡◌, IsTrue, Some, None};
+ghost use Rattle.bforest_nodes.specs.Content.{IsLeaf};
+ghost use Rattle.bforest_core.specs.Table.{Table};
+ghost use Rattle.bforest_core.specs.Trees.{IsUnion, is_root, slot};
 
 mod find;
 mod insert;
@@ -23,11 +26,13 @@ pub struct Path<K, V, const N: usize> {
 }
 
 impl<K: Copy, V: Copy, const N: usize> Path<K, V, N> {
+    ghost use Rattle.bforest_core.specs.Paths.{IsAtEnd, StandsOn, index_of, leaf_of};
+
     /// Goes to the first entry of a tree of one leaf, its root.
     pub fn set_root_node(&mut self, root: Node)
-        ensures size { self.new.size ≡ 1 }
-        ensures node { self.new.node ≡ slice_set self.old.node 0 root }
-        ensures entry { self.new.entry ≡ slice_set self.old.entry 0 0 }
+        ensures leaf { leaf_of self.new ≡ root }
+        ensures stands { (table : Table K V) → IsUnion N table → IsTrue (is_root table.nodes root)
+            → IsLeaf (slot table.nodes root) → StandsOn table root self.new 0 }
     {
         self.size = 1;
         self.node[0] = root;
@@ -36,8 +41,8 @@ impl<K: Copy, V: Copy, const N: usize> Path<K, V, N> {
 
     /// The leaf and the index of the place in it, or nothing at the end.
     pub fn leaf_pos(&self) -> Option<(Node, usize)>
-        ensures end { self.now.size ≡ 0 → result ≡ None }
-        ensures place { self.now.size ≢ 0 → result ≡ Some (get_or self.now.node 0 0, get_or self.now.entry 0 0) }
+        ensures end { IsAtEnd self.now → result ≡ None }
+        ensures place { (¬ IsAtEnd self.now) → result ≡ Some (leaf_of self.now, index_of self.now) }
     {
         if self.size == 0 {
             None
@@ -48,8 +53,10 @@ impl<K: Copy, V: Copy, const N: usize> Path<K, V, N> {
 }
 
 impl<K: Copy, V: Copy, const N: usize> Default for Path<K, V, N> {
+    ghost use Rattle.bforest_core.specs.Paths.{IsAtEnd};
+
     fn default() -> Self
-        ensures { result.size ≡ 0 }
+        ensures { IsAtEnd result }
     {
         Path {
             size: 0,

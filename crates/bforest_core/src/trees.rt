@@ -24,7 +24,6 @@ impl<K: Copy, V: Copy, const N: usize> NodePool<K, V, N> {
     /// Ends the tree under a root: all its nodes are freed, and lie in front of the chain. It reads each inner node twice for each of its
     /// children, and takes no memory.
     pub fn free_tree(&mut self, root: Node)
-        requires capacity { IsLeafCapacity N }
         requires union { IsUnion N self.old }
         requires root { IsTrue (is_root self.old.nodes root) }
         ensures ended { Ends N self.old self.new root }
@@ -36,8 +35,13 @@ impl<K: Copy, V: Copy, const N: usize> NodePool<K, V, N> {
     // Frees a node and all that are below it. So many levels lie above.
     fn free_under(&mut self, node: Node, depth: usize)
         requires capacity { IsLeafCapacity N }
-        requires under { (leaves : List (LevelNode K V)) × (lower : List (List (LevelNode K ℕ))) × (first : K) × Under N self.old.nodes leaves lower ((first, node) ∷ []) × Distinct (numbers_under leaves lower ++ self.old.chain) × (depth + length lower ≤ 16) }
-        ensures { (leaves : List (LevelNode K V)) (lower : List (List (LevelNode K ℕ))) (first : K) → Under N self.old.nodes leaves lower ((first, node) ∷ []) → Distinct (numbers_under leaves lower ++ self.old.chain) → GivesAll self.old self.new (numbers_under leaves lower) }
+        requires under { (leaves : List (LevelNode K V)) × (lower : List (List (LevelNode K ℕ))) × (first : K)
+            × Under N self.old.nodes leaves lower ((first, node) ∷ [])
+            × Distinct (numbers_under leaves lower ++ self.old.chain) × (depth + length lower ≤ 16) }
+        ensures { (leaves : List (LevelNode K V)) (lower : List (List (LevelNode K ℕ))) (first : K)
+            → Under N self.old.nodes leaves lower ((first, node) ∷ [])
+            → Distinct (numbers_under leaves lower ++ self.old.chain)
+            → GivesAll self.old self.new (numbers_under leaves lower) }
     {
         for index in 0..self.child_count(node) {
             let child = self.node(node).child(index);
@@ -49,7 +53,8 @@ impl<K: Copy, V: Copy, const N: usize> NodePool<K, V, N> {
     // How many children a node has: none where it is a leaf.
     fn child_count(&self, node: Node) -> usize
         requires { node < slot_count self.now }
-        ensures { (content : Content K V) → slice_get self.now.nodes node ≡ Some content → result ≡ length (children_of content) }
+        ensures { (content : Content K V) → slice_get self.now.nodes node ≡ Some content → result
+            ≡ length (children_of content) }
     {
         let node = self.node(node);
         if node.is_inner() { node.entries() } else { 0 }
@@ -69,12 +74,13 @@ impl<K: Copy, V: Copy, const N: usize> NodePool<K, V, N> {
 
     /// How many levels the tree under a root has, the root's and the leaves' counted. One node each.
     pub fn levels(&self, root: Node) -> usize
-        requires capacity { IsLeafCapacity N }
         requires union { IsUnion N self.now }
         requires root { IsTrue (is_root self.now.nodes root) }
         ensures value { result ≡ length (sizes_of (tree_of self.now.nodes root)) }
-        ensures leaves { length (tree_of self.now.nodes root).leaves ≤ (length (flat (tree_of self.now.nodes root).leaves) + (half_of N - 1)) / half_of N }
-        ensures depth { 2 ≤ result → half_of N * 4 ^ (result - 2) < length (flat (tree_of self.now.nodes root).leaves) }
+        ensures leaves { length (tree_of self.now.nodes root).leaves
+            ≤ (length (flat (tree_of self.now.nodes root).leaves) + (half_of N - 1)) / half_of N }
+        ensures depth { 2 ≤ result → half_of N * 4 ^ (result - 2)
+            < length (flat (tree_of self.now.nodes root).leaves) }
         ensures most { result ≤ 17 }
     {
         self.levels_from(root, 0)
@@ -83,8 +89,12 @@ impl<K: Copy, V: Copy, const N: usize> NodePool<K, V, N> {
     // How many levels there are from a node down. So many levels lie above.
     fn levels_from(&self, node: Node, depth: usize) -> usize
         requires capacity { IsLeafCapacity N }
-        requires under { (leaves : List (LevelNode K V)) × (lower : List (List (LevelNode K ℕ))) × (first : K) × (b : List (K × ℕ)) × Under N self.now.nodes leaves lower ((first, node) ∷ b) × (depth + length lower ≤ 16) }
-        ensures { (leaves : List (LevelNode K V)) (lower : List (List (LevelNode K ℕ))) (first : K) (b : List (K × ℕ)) → Under N self.now.nodes leaves lower ((first, node) ∷ b) → result ≡ length lower + 1 }
+        requires under { (leaves : List (LevelNode K V)) × (lower : List (List (LevelNode K ℕ))) × (first : K)
+            × (b : List (K × ℕ)) × Under N self.now.nodes leaves lower ((first, node) ∷ b)
+            × (depth + length lower ≤ 16) }
+        ensures { (leaves : List (LevelNode K V)) (lower : List (List (LevelNode K ℕ))) (first : K)
+            (b : List (K × ℕ)) → Under N self.now.nodes leaves lower ((first, node) ∷ b) → result
+            ≡ length lower + 1 }
     {
         if self.node(node).is_inner() {
             self.levels_from(self.node(node).child(0), depth + 1) + 1

@@ -13,7 +13,6 @@ use bforest_nodes::{Comparator, Node};
 impl<K: Copy, V: Copy, const N: usize> NodePool<K, V, N> {
     /// The value of a key in the tree under `root`. It reads one node of each level, and keeps no path.
     pub fn value_of<C: Comparator<K>>(&self, key: K, root: Node, comp: &C) -> Option<V>
-        requires capacity { IsLeafCapacity N }
         requires union { IsUnion N self.now }
         requires root { IsTrue (is_root self.now.nodes root) }
         requires increasing { IsIncreasing (C.order comp.now) (flat (tree_of self.now.nodes root).leaves) }
@@ -25,8 +24,16 @@ impl<K: Copy, V: Copy, const N: usize> NodePool<K, V, N> {
     // The value of a key, the search for which goes through `node`. So many levels lie above.
     fn value_below<C: Comparator<K>>(&self, key: K, node: Node, depth: usize, comp: &C) -> Option<V>
         requires capacity { IsLeafCapacity N }
-        requires under { (leaves : List (LevelNode K V)) × (lower : List (List (LevelNode K ℕ))) × (before : List (K × ℕ)) × (first : K) × (after : List (K × ℕ)) × Under N self.now.nodes leaves lower (before ++ (first, node) ∷ after) × IsIncreasing (C.order comp.now) (flat leaves) × GoesThrough (C.order comp.now) before first after key × (depth + length lower ≤ 16) }
-        ensures { (leaves : List (LevelNode K V)) (lower : List (List (LevelNode K ℕ))) (before : List (K × ℕ)) (first : K) (after : List (K × ℕ)) → Under N self.now.nodes leaves lower (before ++ (first, node) ∷ after) → IsIncreasing (C.order comp.now) (flat leaves) → GoesThrough (C.order comp.now) before first after key → result ≡ value_for (C.order comp.now) (flat leaves) key }
+        requires under { (leaves : List (LevelNode K V)) × (lower : List (List (LevelNode K ℕ)))
+            × (before : List (K × ℕ)) × (first : K) × (after : List (K × ℕ))
+            × Under N self.now.nodes leaves lower (before ++ (first, node) ∷ after)
+            × IsIncreasing (C.order comp.now) (flat leaves) × GoesThrough (C.order comp.now) before first
+            after key × (depth + length lower ≤ 16) }
+        ensures { (leaves : List (LevelNode K V)) (lower : List (List (LevelNode K ℕ)))
+            (before : List (K × ℕ)) (first : K) (after : List (K × ℕ)) → Under N self.now.nodes leaves lower
+            (before ++ (first, node) ∷ after) → IsIncreasing (C.order comp.now) (flat leaves)
+            → GoesThrough (C.order comp.now) before first after key → result
+            ≡ value_for (C.order comp.now) (flat leaves) key }
     {
         if !self.node(node).is_inner() {
             return look_up(self, node, key, comp).1;

@@ -4,7 +4,9 @@ pub mod Putting
 pub mod Measures
 pub mod After
 pub mod Reading
+pub mod Inserting
 pub mod Rooms
+pub mod Reserving
 pub mod Accounts
 pub mod Cutting
 pub mod Following

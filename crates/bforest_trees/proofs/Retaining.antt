@@ -1,7 +1,8 @@
 -- What stays of a list that increases, and the answer of `retain` as a change of a forest.
 use Rattle.bforest_trees.proofs.Changed.{becomes, list-root, sizes-root}
 use Rattle.bforest_trees.proofs.Cutting.{becomes-ended, gives}
-use Rattle.bforest_trees.specs.Forest.{Becomes, Forest, Gives, list_of, sizes_of as forest_sizes}
+use Rattle.bforest_trees.specs.Calls.{Filters}
+use Rattle.bforest_trees.specs.Forest.{Becomes, Forest, Gives, list_at, list_of, sizes_at, sizes_of as forest_sizes}
 use Rattle.bforest_trees.specs.Retain.{Retained, RetainedNone, Retains}
 use Rattle.bforest_core.specs.Levels.{flat, sizes_of}
 use Rattle.bforest_core.specs.Sizes.{shrink}
@@ -77,3 +78,16 @@ module _ {F K X : Type 0} (step : F → K → X → Bool → X → F → Type 0)
   pub gives-kept : (o : Option ℕ) → IfSome o (λ r'. Retained most step f f' r r' q) → (o ≡ None → RetainedNone most step f f' r q) → Gives sizes_was (forest_sizes f' o) f f'
   gives-kept None c e = gives f f' sizes_was [] (e refl).gives
   gives-kept (Some r') c e = subst (λ (z : List (List ℕ)). Gives sizes_was z f f') (sym (sizes-root f' r' c.changes.root_is ∙ c.changes.sizes_are)) (gives f f' sizes_was c.sizes c.gives)
+
+  -- all that is left
+  pub filters : (o : Option ℕ) → list_was ≡ list_at f r → sizes_was ≡ sizes_at f r → IfSome o (λ r'. Retained most step f f' r r' q) → (o ≡ None → RetainedNone most step f f' r q) → Filters most step f (Some r) q f' o
+  filters o list sizes c e =
+      let kept = subst (λ (z : List (List ℕ)). Retains step most q 0 (list_at f r) z (list_of f' o) (forest_sizes f' o)) sizes
+      (subst (λ (l : List (K × X)). Retains step most q 0 l sizes_was (list_of f' o) (forest_sizes f' o)) list (list-kept o c e)) in
+      record {
+        kept = kept;
+        changed = becomes-kept o c e;
+        same_levels = subst (λ (z : List (List ℕ)). (o ≡ Some r) ↔ (length (forest_sizes f' o) ≡ length z)) sizes (same-kept o c);
+        account = subst (λ (z : List (List ℕ)). Gives z (forest_sizes f' o) f f') sizes (gives-kept o c e);
+        increasing = λ cmp up. IsIncreasing-kept step most cmp q 0 (list_at f r) (sizes_at f r) (list_of f' o) (forest_sizes f' o) kept up;
+      }

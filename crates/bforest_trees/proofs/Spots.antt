@@ -13,7 +13,7 @@ use Rattle.bforest_core.specs.Place.{IsIn, IsPathAt, PointsAt, Stands, count, nu
 use Rattle.bforest_core.specs.Trees.{IsUnion, is_root, tree_of}
 use Rattle.bforest_nodes.specs.Content.{IsLeafCapacity}
 use Rattle.bforest_nodes.specs.Entries.{is_present, place}
-use Rattle.std.proofs.Common.{Bool, IsTrue, List, None, Option, Some, ap, arith, false, get_or, if◌then◌else◌, inl, inr, length, refl, subst, suc, sym, true, zero, ◌==◌, ◌∙◌, ◌≡◌, ◌≢◌, ◌≤◌, ℕ}
+use Rattle.std.proofs.Common.{Bool, IsTrue, List, None, Option, Some, ap, arith, false, get_or, if◌then◌else◌, inl, inr, length, refl, subst, suc, sym, true, zero, ◌<◌, ◌==◌, ◌∙◌, ◌≡◌, ◌≢◌, ◌≤◌, ℕ}
 use Rattle.std.proofs.lemmas.Bool.Decides.{eqb_tells}
 use Rattle.std.specs.List.{flat_map}
 use Rattle.std.specs.declared.cmp.Ordering.{Ordering}
@@ -47,6 +47,10 @@ module _ {K X : Type 0} where
         end = λ none. absurd (some none);
         spot = (λ j. if not_zero size some j then length (list_of f (Some n)) else place_in (leaves_of f (Some n)) (get_or path 0 0) (get_or indices 0 0)) ∙ place-under most f n path indices size p sound u;
       }
+
+  -- a path in front of the end has a node
+  pub spot-some : (f : Forest K X) (h : Option ℕ) (path indices : List ℕ) (size p : ℕ) → StandsIn f h path indices size p → p < length (list_of f h) → size ≢ 0
+  spot-some f h path indices size p s low none = let last = s.end none in omega (arith, last, low)
 
   -- at the end
   pub spot-end : (f : Forest K X) (h : Option ℕ) (path indices : List ℕ) (size p : ℕ) → size ≡ 0 → p ≡ length (list_of f h) → StandsIn f h path indices size p

@@ -1,14 +1,15 @@
 //! The table of all trees of a forest: each call on one tree, once for maps and sets.
-ghost use Rattle.bforest_trees.specs.Forest.{Becomes, Gives, IsAccounted, IsLive, IsTooMany, Keeps, NeedsGrowth, Takes, empty, first_level, free_of, limit_of, list_at, list_of, need_of, sizes_at, sizes_of, sizes_with, sizes_without, slots_of};
+ghost use Rattle.bforest_trees.specs.Forest.{Becomes, Gives, IsAccounted, IsLive, Takes, empty, first_level, free_of, limit_of, list_at, list_of, sizes_of, slots_of};
+ghost use Rattle.bforest_trees.specs.Calls.{Clears, Filters, Inserts, Removes, Reserves, SameLevels};
 ghost use Rattle.bforest_trees.specs.Place.{IsSpot};
-ghost use Rattle.bforest_trees.specs.Retain.{MayAskEach, Retains};
+ghost use Rattle.bforest_trees.specs.Retain.{MayAskEach};
 ghost use Rattle.bforest_core.specs.Levels.{half_of};
 ghost use Rattle.bforest_core.specs.Sizes.{shrink};
 ghost use Rattle.bforest_core.specs.Trees.{IsUnion};
 ghost use Rattle.bforest_nodes.specs.Content.{IsLeafCapacity};
-ghost use Rattle.bforest_nodes.specs.Entries.{IsIncreasing, cut, place, put, value_for};
+ghost use Rattle.bforest_nodes.specs.Entries.{IsIncreasing, place, value_for};
 ghost use Rattle.std.specs.declared.cmp.Ordering.{Ordering};
-ghost use Rattle.std.specs.Prelude.{Err, IfOk, IsOk, IsSome, IsTrue, None, OnErr, OnOk, Option, Some, [], length, remove, ◌*◌, ◌+◌, ◌-◌, ◌/◌, ◌<◌, ◌^◌, ◌∷◌, ◌≡◌, ◌≢◌, ◌≤◌, ◌↔◌, ℕ};
+ghost use Rattle.std.specs.Prelude.{Err, IsTrue, None, Option, Some, [], length, remove, ◌*◌, ◌+◌, ◌-◌, ◌/◌, ◌<◌, ◌^◌, ◌≡◌, ◌≢◌, ◌≤◌, ◌↔◌, ℕ};
 
 use crate::predicate::Predicate;
 use crate::retain;
@@ -87,15 +88,7 @@ impl<K: Copy, V: Copy, const N: usize> Trees<K, V, N> {
 
     /// Makes sure that `n` slots lie free. All trees stay.
     pub fn reserve(&mut self, n: u32) -> Result<(), OutOfMemory>
-        ensures keeps { Keeps self.old self.new }
-        ensures free { OnOk result (n ≤ free_of self.new) }
-        ensures grown { OnOk result (free_of self.old < n → free_of self.new ≡ n) }
-        ensures slots { OnOk result (slots_of self.new ≡ slots_of self.old + (n - free_of self.old)) }
-        ensures enough { n ≤ free_of self.old → IsOk result }
-        ensures same { n ≤ free_of self.old → self.new ≡ self.old }
-        ensures refused { OnErr result (self.new ≡ self.old) }
-        ensures full { (result ≡ Err OutOfMemory.Full) ↔ IsTooMany n self.old }
-        ensures memory { result ≡ Err OutOfMemory.Memory → NeedsGrowth n self.old }
+        ensures { Reserves self.old n result self.new }
     {
         self.pool.reserve(n)
     }
@@ -112,9 +105,7 @@ impl<K: Copy, V: Copy, const N: usize> Trees<K, V, N> {
     /// Ends a tree.
     pub fn free_tree(&mut self, handle: &mut PackedNode)
         requires live { IsLive self.old handle.old }
-        ensures handle { handle.new ≡ None }
-        ensures cleared { Becomes self.old handle.old self.new handle.new [] }
-        ensures account { Gives (sizes_of self.old handle.old) [] self.old self.new }
+        ensures { Clears self.old handle.old self.new handle.new }
     {
         if let Some(root) = handle.take() {
             self.pool.free_tree(root);
@@ -125,16 +116,7 @@ impl<K: Copy, V: Copy, const N: usize> Trees<K, V, N> {
     pub fn retain<P: Predicate<K, V>>(&mut self, handle: &mut PackedNode, predicate: P)
         requires live { IsLive self.old handle.old }
         requires callable { MayAskEach P.step P.may predicate (list_of self.old handle.old) }
-        ensures kept { Retains P.step N predicate 0
-            (list_of self.old handle.old) (sizes_of self.old handle.old)
-            (list_of self.new handle.new) (sizes_of self.new handle.new) }
-        ensures changed { Becomes self.old handle.old self.new handle.new (list_of self.new handle.new) }
-        ensures same_levels { (handle.new ≡ handle.old)
-            ↔ (length (sizes_of self.new handle.new) ≡ length (sizes_of self.old handle.old)) }
-        ensures account { Gives (sizes_of self.old handle.old) (sizes_of self.new handle.new) self.old self.new }
-        ensures increasing { (order : K → K → Ordering)
-            → IsIncreasing order (list_of self.old handle.old)
-            → IsIncreasing order (list_of self.new handle.new) }
+        ensures { Filters N P.step self.old handle.old predicate self.new handle.new }
     {
         if let Some(root) = handle.expand() {
             *handle = packed(retain::retain(&mut self.pool, root, predicate));
@@ -180,84 +162,38 @@ impl<K: Copy, V: Copy, const N: usize> Trees<K, V, N> {
         requires live { IsLive self.old handle.old }
         requires increasing { IsIncreasing (C.order comp.now) (list_of self.old handle.old) }
         requires stands { (p : ℕ) × IsSpot self.old handle.old path.old p }
-
-        ensures ok { IfOk result
-            (λ old. old ≡ value_for (C.order comp.now) (list_of self.old handle.old) key) }
-        ensures put { OnOk result (Becomes self.old handle.old self.new handle.new
-            (put (C.order comp.now) (list_of self.old handle.old) key value)) }
-        ensures sizes { OnOk result (sizes_of self.new handle.new
-            ≡ sizes_with N (C.order comp.now) self.old handle.old key) }
-        ensures same_number { IfOk result (λ old. IsSome old → handle.new ≡ handle.old) }
-        ensures same_levels { OnOk result ((handle.new ≡ handle.old)
-            ↔ (length (sizes_of self.new handle.new) ≡ length (sizes_of self.old handle.old))) }
-        ensures account { OnOk result
-            (Takes (need_of N (C.order comp.now) self.old handle.old key) self.old self.new) }
-        ensures increasing { IsIncreasing (C.order comp.now) (list_of self.new handle.new) }
+        ensures inserted { Inserts N (C.order comp.now) self.old handle.old key value result
+            self.new handle.new }
         ensures spot { IsSpot self.new handle.new path.new
             (place (C.order comp.now) (list_of self.old handle.old) key) }
-
-        ensures full { (result ≡ Err OutOfMemory.Full)
-            ↔ IsTooMany (need_of N (C.order comp.now) self.old handle.old key) self.old }
-        ensures memory { result ≡ Err OutOfMemory.Memory
-            → NeedsGrowth (need_of N (C.order comp.now) self.old handle.old key) self.old }
-        ensures succeeds { need_of N (C.order comp.now) self.old handle.old key ≤ free_of self.old
-            → IsOk result }
-        ensures absent { OnErr result
-            (value_for (C.order comp.now) (list_of self.old handle.old) key ≡ None) }
-        ensures refused_forest { OnErr result (self.new ≡ self.old) }
-        ensures refused_handle { OnErr result (handle.new ≡ handle.old) }
     {
         match handle.expand() {
-            Some(root) => {
-                let (root, old) = self.insert_under(root, path, key, value, comp)?;
-                *handle = PackedNode::some(root);
-                Ok(old)
-            }
-            None => {
-                let root = self.insert_first(path, key, value)?;
-                *handle = PackedNode::some(root);
-                Ok(None)
-            }
+            Some(root) => self.insert_under(root, handle, path, key, value, comp),
+            None => self.insert_first(handle, path, key, value),
         }
     }
 
-    // The same in the tree of a root. Answers the root of now, too.
+    // The same in the tree of a root.
     fn insert_under<C: Comparator<K>>(
         &mut self,
         root: Node,
+        handle: &mut PackedNode,
         path: &mut Path<K, V, N>,
         key: K,
         value: V,
         comp: &C,
-    ) -> Result<(Node, Option<V>), OutOfMemory>
+    ) -> Result<Option<V>, OutOfMemory>
+        requires root { handle.old ≡ Some root }
         requires live { list_at self.old root ≢ [] }
         requires increasing { IsIncreasing (C.order comp.now) (list_at self.old root) }
-
-        ensures ok { IfOk result
-            (λ r. r.1 ≡ value_for (C.order comp.now) (list_at self.old root) key) }
-        ensures put { IfOk result (λ r. Becomes self.old (Some root) self.new (Some r.0)
-            (put (C.order comp.now) (list_at self.old root) key value)) }
-        ensures sizes { IfOk result (λ r. sizes_at self.new r.0
-            ≡ sizes_with N (C.order comp.now) self.old (Some root) key) }
-        ensures same_root { IfOk result (λ r. (r.0 ≡ root)
-            ↔ (length (sizes_with N (C.order comp.now) self.old (Some root) key) ≡ length (sizes_at self.old root))) }
-        ensures account { OnOk result (Takes (need_of N (C.order comp.now) self.old (Some root) key) self.old self.new) }
-        ensures spot { IfOk result (λ r. IsSpot self.new (Some r.0) path.new
-            (place (C.order comp.now) (list_at self.old root) key)) }
-
-        ensures full { (result ≡ Err OutOfMemory.Full)
-            ↔ IsTooMany (need_of N (C.order comp.now) self.old (Some root) key) self.old }
-        ensures memory { result ≡ Err OutOfMemory.Memory
-            → NeedsGrowth (need_of N (C.order comp.now) self.old (Some root) key) self.old }
-        ensures enough { need_of N (C.order comp.now) self.old (Some root) key ≤ free_of self.old → IsOk result }
-        ensures absent { OnErr result (value_for (C.order comp.now) (list_at self.old root) key ≡ None) }
-        ensures refused { OnErr result (self.new ≡ self.old) }
-        ensures refused_spot { OnErr result (IsSpot self.new (Some root) path.new
-            (place (C.order comp.now) (list_at self.old root) key)) }
+        ensures inserted { Inserts N (C.order comp.now) self.old (Some root) key value result
+            self.new handle.new }
+        ensures spot { IsSpot self.new handle.new path.new
+            (place (C.order comp.now) (list_at self.old root) key) }
     {
         if let Some(old) = path.find(key, root, &self.pool, comp) {
             path.set_value(value, &mut self.pool);
-            return Ok((root, Some(old)));
+            return Ok(Some(old));
         }
         let root = match path.insert(key, value, &mut self.pool) {
             Ok(root) => root,
@@ -266,30 +202,28 @@ impl<K: Copy, V: Copy, const N: usize> Trees<K, V, N> {
                 return Err(refused);
             }
         };
-        Ok((root, None))
+        *handle = PackedNode::some(root);
+        Ok(None)
     }
 
-    // Adds a tree of one entry, to which the path goes, and answers its root. Where it is refused, the path stays.
+    // The same where there is no tree.
     fn insert_first(
         &mut self,
+        handle: &mut PackedNode,
         path: &mut Path<K, V, N>,
         key: K,
         value: V,
-    ) -> Result<Node, OutOfMemory>
-        ensures planted { IfOk result
-            (λ n. Becomes self.old None self.new (Some n) ((key, value) ∷ [])) }
-        ensures sizes { IfOk result (λ n. sizes_at self.new n ≡ (1 ∷ []) ∷ []) }
-        ensures account { OnOk result (Takes 1 self.old self.new) }
-        ensures spot { IfOk result (λ n. IsSpot self.new (Some n) path.new 0) }
-        ensures full { (result ≡ Err OutOfMemory.Full) ↔ IsTooMany 1 self.old }
-        ensures memory { result ≡ Err OutOfMemory.Memory → NeedsGrowth 1 self.old }
-        ensures enough { 1 ≤ free_of self.old → IsOk result }
-        ensures refused { OnErr result (self.new ≡ self.old) }
-        ensures refused_path { OnErr result (path.new ≡ path.old) }
+    ) -> Result<Option<V>, OutOfMemory>
+        requires empty { handle.old ≡ None }
+        requires stands { (p : ℕ) × IsSpot self.old None path.old p }
+        ensures inserted { (order : K → K → Ordering)
+            → Inserts N order self.old None key value result self.new handle.new }
+        ensures spot { IsSpot self.new handle.new path.new 0 }
     {
         let root = self.pool.alloc_node(key, value)?;
+        *handle = PackedNode::some(root);
         path.first(root, &self.pool);
-        Ok(root)
+        Ok(None)
     }
 
     /// Goes to the place of a key, and answers its value.
@@ -322,18 +256,7 @@ impl<K: Copy, V: Copy, const N: usize> Trees<K, V, N> {
     ) -> Option<V>
         requires live { IsLive self.old handle.old }
         requires increasing { IsIncreasing (C.order comp.now) (list_of self.old handle.old) }
-        ensures value { result ≡ value_for (C.order comp.now) (list_of self.old handle.old) key }
-        ensures cut { Becomes self.old handle.old self.new handle.new
-            (cut (C.order comp.now) (list_of self.old handle.old) key) }
-        ensures sizes { sizes_of self.new handle.new
-            ≡ sizes_without N (C.order comp.now) self.old handle.old key }
-        ensures same_levels { (handle.new ≡ handle.old)
-            ↔ (length (sizes_of self.new handle.new) ≡ length (sizes_of self.old handle.old)) }
-        ensures account { Gives (sizes_of self.old handle.old) (sizes_of self.new handle.new)
-            self.old self.new }
-        ensures increasing { IsIncreasing (C.order comp.now) (list_of self.new handle.new) }
-        ensures absent_forest { result ≡ None → self.new ≡ self.old }
-        ensures absent_handle { result ≡ None → handle.new ≡ handle.old }
+        ensures { Removes N (C.order comp.now) self.old handle.old key result self.new handle.new }
     {
         let mut path = Path::default();
         let value = self.goto(*handle, &mut path, key, comp)?;
@@ -343,15 +266,15 @@ impl<K: Copy, V: Copy, const N: usize> Trees<K, V, N> {
 
     /// Takes the entry out where a path stands. The path goes to the one that followed, or to the end.
     pub fn remove_at(&mut self, handle: &mut PackedNode, path: &mut Path<K, V, N>)
-        requires some { path.old.size ≢ 0 }
-        requires stands { (p : ℕ) × IsSpot self.old handle.old path.old p }
+        requires stands { (p : ℕ) × IsSpot self.old handle.old path.old p
+            × (p < length (list_of self.old handle.old)) }
         ensures removed { (p : ℕ) → IsSpot self.old handle.old path.old p
             → Becomes self.old handle.old self.new handle.new (remove (list_of self.old handle.old) p) }
         ensures sizes { (p : ℕ) → IsSpot self.old handle.old path.old p
             → sizes_of self.new handle.new ≡ shrink N p (sizes_of self.old handle.old) }
-        ensures same_levels { (handle.new ≡ handle.old)
-            ↔ (length (sizes_of self.new handle.new) ≡ length (sizes_of self.old handle.old)) }
-        ensures account { Gives (sizes_of self.old handle.old) (sizes_of self.new handle.new) self.old self.new }
+        ensures same_levels { SameLevels self.old handle.old self.new handle.new }
+        ensures account { Gives (sizes_of self.old handle.old) (sizes_of self.new handle.new)
+            self.old self.new }
         ensures spot { (p : ℕ) → IsSpot self.old handle.old path.old p
             → IsSpot self.new handle.new path.new p }
     {

@@ -2,11 +2,10 @@
 ghost use Rattle.std.specs.Prelude.{◌≡◌, ℕ, ◌+◌, ◌-◌, ◌<◌, ◌≤◌, IsTrue, false, true, List, ◌∷◌, ◌++◌, length, get_or, slice_get, slice_set, Some};
 ghost use Rattle.bforest_nodes.specs.Content.{IsLeafCapacity};
 ghost use Rattle.bforest_core.specs.Levels.{LevelNode, flat};
-ghost use Rattle.bforest_core.specs.Descent.{GoesThrough, Under, Descended, StandsFor};
+ghost use Rattle.bforest_core.specs.Descent.{GoesThrough, Under, Descended};
 ghost use Rattle.bforest_nodes.specs.Entries.{is_present, IsIncreasing, place, value_for};
 ghost use Rattle.bforest_core.specs.Place.{leaf_content};
-ghost use Rattle.bforest_core.specs.Change.{StandsUnder, PlacedUnder};
-ghost use Rattle.bforest_core.specs.Trees.{IsUnion, is_root, tree_of};
+ghost use Rattle.bforest_core.specs.Trees.{IsUnion, is_root};
 
 use crate::access::{follow, look_up};
 use crate::path::Path;
@@ -14,6 +13,8 @@ use crate::pool::NodePool;
 use bforest_nodes::{Comparator, Node};
 
 impl<K: Copy, V: Copy, const N: usize> Path<K, V, N> {
+    ghost use Rattle.bforest_core.specs.Paths.{IsPlaced, StandsOn, list_under};
+
     /// Goes to where a search for `key` ends in the tree under `root`, and answers the key's value. Where the key is absent, the path stands
     /// at the leaf's place for it, which may be behind the leaf's last entry.
     pub fn find<C: Comparator<K>>(
@@ -23,14 +24,14 @@ impl<K: Copy, V: Copy, const N: usize> Path<K, V, N> {
         pool: &NodePool<K, V, N>,
         comp: &C,
     ) -> Option<V>
-        requires capacity { IsLeafCapacity N }
         requires union { IsUnion N pool.now }
         requires root { IsTrue (is_root pool.now.nodes root) }
-        requires increasing { IsIncreasing (C.order comp.now) (flat (tree_of pool.now.nodes root).leaves) }
-        ensures value { result ≡ value_for (C.order comp.now) (flat (tree_of pool.now.nodes root).leaves) key }
-        ensures present { is_present (C.order comp.now) (flat (tree_of pool.now.nodes root).leaves) key ≡ true → StandsUnder pool.now.nodes root self.new.node self.new.entry self.new.size (place (C.order comp.now) (flat (tree_of pool.now.nodes root).leaves) key) }
-        ensures absent { is_present (C.order comp.now) (flat (tree_of pool.now.nodes root).leaves) key ≡ false → PlacedUnder pool.now.nodes root self.new.node self.new.entry self.new.size (place (C.order comp.now) (flat (tree_of pool.now.nodes root).leaves) key) }
-        ensures path { StandsFor (C.order comp.now) self.new.node self.new.entry self.new.size (tree_of pool.now.nodes root) key }
+        requires increasing { IsIncreasing (C.order comp.now) (list_under pool.now root) }
+        ensures value { result ≡ value_for (C.order comp.now) (list_under pool.now root) key }
+        ensures present { is_present (C.order comp.now) (list_under pool.now root) key ≡ true
+            → StandsOn pool.now root self.new (place (C.order comp.now) (list_under pool.now root) key) }
+        ensures absent { is_present (C.order comp.now) (list_under pool.now root) key ≡ false
+            → IsPlaced pool.now root self.new (place (C.order comp.now) (list_under pool.now root) key) }
     {
         let levels = pool.levels(root);
         self.size = levels;
@@ -48,8 +49,17 @@ impl<K: Copy, V: Copy, const N: usize> Path<K, V, N> {
     ) -> Option<V>
         requires capacity { IsLeafCapacity N }
         requires height { level ≤ 16 }
-        requires under { (leaves : List (LevelNode K V)) × (lower : List (List (LevelNode K ℕ))) × (before : List (K × ℕ)) × (first : K) × (after : List (K × ℕ)) × Under N pool.now.nodes leaves lower (before ++ (first, node) ∷ after) × IsIncreasing (C.order comp.now) (flat leaves) × GoesThrough (C.order comp.now) before first after key × (level ≡ length lower) }
-        ensures descended { (leaves : List (LevelNode K V)) (lower : List (List (LevelNode K ℕ))) (before : List (K × ℕ)) (first : K) (after : List (K × ℕ)) → Under N pool.now.nodes leaves lower (before ++ (first, node) ∷ after) → IsIncreasing (C.order comp.now) (flat leaves) → GoesThrough (C.order comp.now) before first after key → level ≡ length lower → (result ≡ value_for (C.order comp.now) (flat leaves) key) × Descended (C.order comp.now) leaves lower key (length before) self.old.node self.old.entry self.new.node self.new.entry }
+        requires under { (leaves : List (LevelNode K V)) × (lower : List (List (LevelNode K ℕ)))
+            × (before : List (K × ℕ)) × (first : K) × (after : List (K × ℕ))
+            × Under N pool.now.nodes leaves lower (before ++ (first, node) ∷ after)
+            × IsIncreasing (C.order comp.now) (flat leaves) × GoesThrough (C.order comp.now) before first
+            after key × (level ≡ length lower) }
+        ensures descended { (leaves : List (LevelNode K V)) (lower : List (List (LevelNode K ℕ)))
+            (before : List (K × ℕ)) (first : K) (after : List (K × ℕ)) → Under N pool.now.nodes leaves lower
+            (before ++ (first, node) ∷ after) → IsIncreasing (C.order comp.now) (flat leaves)
+            → GoesThrough (C.order comp.now) before first after key → level ≡ length lower
+            → (result ≡ value_for (C.order comp.now) (flat leaves) key) × Descended (C.order comp.now) leaves
+            lower key (length before) self.old.node self.old.entry self.new.node self.new.entry }
         ensures size { self.new.size ≡ self.old.size }
     {
         if level == 0 {
@@ -69,10 +79,14 @@ impl<K: Copy, V: Copy, const N: usize> Path<K, V, N> {
         comp: &C,
     ) -> Option<V>
         requires capacity { IsLeafCapacity N }
-        requires leaf { (entries : List (K × V)) × (slice_get pool.now.nodes node ≡ Some (leaf_content entries)) × IsIncreasing (C.order comp.now) entries }
+        requires leaf { (entries : List (K × V))
+            × (slice_get pool.now.nodes node ≡ Some (leaf_content entries))
+            × IsIncreasing (C.order comp.now) entries }
         ensures node { self.new.node ≡ slice_set self.old.node 0 node }
-        ensures entry { (entries : List (K × V)) → slice_get pool.now.nodes node ≡ Some (leaf_content entries) → self.new.entry ≡ slice_set self.old.entry 0 (place (C.order comp.now) entries key) }
-        ensures value { (entries : List (K × V)) → slice_get pool.now.nodes node ≡ Some (leaf_content entries) → result ≡ value_for (C.order comp.now) entries key }
+        ensures entry { (entries : List (K × V)) → slice_get pool.now.nodes node ≡ Some (leaf_content entries)
+            → self.new.entry ≡ slice_set self.old.entry 0 (place (C.order comp.now) entries key) }
+        ensures value { (entries : List (K × V)) → slice_get pool.now.nodes node ≡ Some (leaf_content entries)
+            → result ≡ value_for (C.order comp.now) entries key }
         ensures size { self.new.size ≡ self.old.size }
     {
         let (index, value) = look_up(pool, node, key, comp);

@@ -1,13 +1,12 @@
 //! Putting an entry in where a path is.
 ghost use Rattle.std.specs.Prelude.{insert, IfOk, IsOk, OnOk, OnErr, Ok, Err, ◌≡◌, ℕ, suc, ◌+◌, ◌-◌, ◌<◌, ◌≤◌, ◌↔◌, false, true, List, [], ◌∷◌, ◌++◌, map, length, get_or, Some, if◌then◌else◌};
-ghost use Rattle.bforest_nodes.specs.Content.{IsLeafCapacity};
 ghost use Rattle.bforest_core.specs.Table.{IsFullAt, NeedsGrowth, room, free_count};
-ghost use Rattle.bforest_core.specs.Levels.{LevelNode, flat, sizes, Tree, sizes_of};
+ghost use Rattle.bforest_core.specs.Levels.{LevelNode, sizes, Tree, sizes_of};
 ghost use Rattle.bforest_core.specs.Sizes.{gain_above, need_above, growth, need};
 ghost use Rattle.bforest_core.specs.Climb.{top_of, Above, Grown, Halved, Inserted, LeafHalved, Placed};
 ghost use Rattle.bforest_nodes.specs.Entries.{place};
-ghost use Rattle.bforest_core.specs.Trees.{IsUnion, tree_of};
-ghost use Rattle.bforest_core.specs.Change.{Changes, TakesNodes, PlacedUnder, StandsUnder};
+ghost use Rattle.bforest_core.specs.Trees.{IsUnion};
+ghost use Rattle.bforest_core.specs.Change.{Changes, TakesNodes};
 
 use crate::access::{put_child, put_entry};
 use crate::path::Path;
@@ -15,6 +14,8 @@ use crate::pool::{NodePool, OutOfMemory};
 use bforest_nodes::Node;
 
 impl<K: Copy, V: Copy, const N: usize> Path<K, V, N> {
+    ghost use Rattle.bforest_core.specs.Paths.{Placing, StandsOn, list_under, sizes_under};
+
     /// Puts an entry in here, and answers the tree's root. The path stands at the entry afterwards.
     ///
     /// It takes one node for each full node from the leaf upwards, and one for a new root where all are full; these are had by one
@@ -29,20 +30,30 @@ impl<K: Copy, V: Copy, const N: usize> Path<K, V, N> {
         value: V,
         pool: &mut NodePool<K, V, N>,
     ) -> Result<Node, OutOfMemory>
-        requires capacity { IsLeafCapacity N }
         requires union { IsUnion N pool.old }
-        requires placed { (root : ℕ) × (place : ℕ) × PlacedUnder pool.old.nodes root self.old.node self.old.entry self.old.size place }
+        requires placed { Placing pool.old self.old }
 
         // What an insertion leaves.
-        ensures inserted { (root place : ℕ) → PlacedUnder pool.old.nodes root self.old.node self.old.entry self.old.size place → IfOk result (λ root'. Changes N pool.old pool.new root root' (insert (flat (tree_of pool.old.nodes root).leaves) place (key, value)) (growth N place (sizes_of (tree_of pool.old.nodes root)))) }
-        ensures account { (root place : ℕ) → PlacedUnder pool.old.nodes root self.old.node self.old.entry self.old.size place → OnOk result (TakesNodes (need N place (sizes_of (tree_of pool.old.nodes root))) pool.old pool.new) }
-        ensures stands { (root place : ℕ) → PlacedUnder pool.old.nodes root self.old.node self.old.entry self.old.size place → IfOk result (λ root'. StandsUnder pool.new.nodes root' self.new.node self.new.entry self.new.size place) }
-        ensures same_root { (root place : ℕ) → PlacedUnder pool.old.nodes root self.old.node self.old.entry self.old.size place → IfOk result (λ root'. (root' ≡ root) ↔ (length (growth N place (sizes_of (tree_of pool.old.nodes root))) ≡ length (sizes_of (tree_of pool.old.nodes root)))) }
+        ensures inserted { (at : Placing pool.old self.old)
+            → IfOk result (λ root'. Changes N pool.old pool.new at.root root'
+            (insert (list_under pool.old at.root) at.place (key, value))
+            (growth N at.place (sizes_under pool.old at.root))) }
+        ensures account { (at : Placing pool.old self.old)
+            → OnOk result (TakesNodes (need N at.place (sizes_under pool.old at.root)) pool.old pool.new) }
+        ensures stands { (at : Placing pool.old self.old)
+            → IfOk result (λ root'. StandsOn pool.new root' self.new at.place) }
+        ensures same_root { (at : Placing pool.old self.old) → IfOk result (λ root'. (root' ≡ at.root)
+            ↔ (length (growth N at.place (sizes_under pool.old at.root))
+            ≡ length (sizes_under pool.old at.root))) }
 
         // When it is refused, and what a refusal leaves.
-        ensures full { (root place : ℕ) → PlacedUnder pool.old.nodes root self.old.node self.old.entry self.old.size place → (result ≡ Err OutOfMemory.Full) ↔ (room pool.old < need N place (sizes_of (tree_of pool.old.nodes root))) }
-        ensures memory { (root place : ℕ) → PlacedUnder pool.old.nodes root self.old.node self.old.entry self.old.size place → result ≡ Err OutOfMemory.Memory → NeedsGrowth (need N place (sizes_of (tree_of pool.old.nodes root))) pool.old }
-        ensures enough { (root place : ℕ) → PlacedUnder pool.old.nodes root self.old.node self.old.entry self.old.size place → need N place (sizes_of (tree_of pool.old.nodes root)) ≤ free_count pool.old → IsOk result }
+        ensures full { (at : Placing pool.old self.old)
+            → (result ≡ Err OutOfMemory.Full)
+            ↔ (room pool.old < need N at.place (sizes_under pool.old at.root)) }
+        ensures memory { (at : Placing pool.old self.old) → result ≡ Err OutOfMemory.Memory
+            → NeedsGrowth (need N at.place (sizes_under pool.old at.root)) pool.old }
+        ensures enough { (at : Placing pool.old self.old)
+            → need N at.place (sizes_under pool.old at.root) ≤ free_count pool.old → IsOk result }
         ensures refused_pool { OnErr result (pool.new ≡ pool.old) }
         ensures refused_path { OnErr result (self.new ≡ self.old) }
     {
@@ -64,10 +75,10 @@ impl<K: Copy, V: Copy, const N: usize> Path<K, V, N> {
 
     /// How many nodes an insertion here takes: one for each full node from the leaf upwards, and one for a new root where all are full.
     pub fn needed(&self, pool: &NodePool<K, V, N>) -> u32
-        requires capacity { IsLeafCapacity N }
         requires union { IsUnion N pool.now }
-        requires placed { (root : ℕ) × (place : ℕ) × PlacedUnder pool.now.nodes root self.now.node self.now.entry self.now.size place }
-        ensures value { (root place : ℕ) → PlacedUnder pool.now.nodes root self.now.node self.now.entry self.now.size place → result ≡ need N place (sizes_of (tree_of pool.now.nodes root)) }
+        requires placed { Placing pool.now self.now }
+        ensures value { (at : Placing pool.now self.now) → result
+            ≡ need N at.place (sizes_under pool.now at.root) }
     {
         self.needed_here(pool)
     }
@@ -75,8 +86,10 @@ impl<K: Copy, V: Copy, const N: usize> Path<K, V, N> {
     // The same of a path whose tree is not named by its root.
     fn needed_here(&self, pool: &NodePool<K, V, N>) -> u32
         requires height { self.now.size ≤ 17 }
-        requires placed { (tree : Tree K V) × (place : ℕ) × Placed N pool.now self.now.node self.now.entry self.now.size tree place }
-        ensures value { (tree : Tree K V) (place : ℕ) → Placed N pool.now self.now.node self.now.entry self.now.size tree place → result ≡ need N place (sizes_of tree) }
+        requires placed { (tree : Tree K V) × (place : ℕ) × Placed N pool.now self.now.node self.now.entry
+            self.now.size tree place }
+        ensures value { (tree : Tree K V) (place : ℕ) → Placed N pool.now self.now.node self.now.entry
+            self.now.size tree place → result ≡ need N place (sizes_of tree) }
     {
         if pool.node(self.node[0]).is_full() {
             self.needed_above(1, pool)
@@ -88,8 +101,11 @@ impl<K: Copy, V: Copy, const N: usize> Path<K, V, N> {
     // How many nodes it takes that the path's node below level `up` becomes two.
     fn needed_above(&self, up: usize, pool: &NodePool<K, V, N>) -> u32
         requires height { self.now.size ≤ 17 }
-        requires pending { (rows : List (List (LevelNode K ℕ))) × (list : List (K × ℕ)) × (place : ℕ) × Above pool.now self.now.node self.now.entry up self.now.size rows list place }
-        ensures value { (rows : List (List (LevelNode K ℕ))) (list : List (K × ℕ)) (place : ℕ) → Above pool.now self.now.node self.now.entry up self.now.size rows list place → result ≡ need_above (Some place) (map sizes rows) }
+        requires pending { (rows : List (List (LevelNode K ℕ))) × (list : List (K × ℕ)) × (place : ℕ)
+            × Above pool.now self.now.node self.now.entry up self.now.size rows list place }
+        ensures value { (rows : List (List (LevelNode K ℕ))) (list : List (K × ℕ)) (place : ℕ)
+            → Above pool.now self.now.node self.now.entry up self.now.size rows list place → result
+            ≡ need_above (Some place) (map sizes rows) }
         ensures few { result + up ≤ 2 + self.now.size }
     {
         if up == self.size {
@@ -103,8 +119,11 @@ impl<K: Copy, V: Copy, const N: usize> Path<K, V, N> {
 
     // Puts the entry into the path's leaf. Where there is no room it answers false, and nothing changed.
     fn put_here(&self, key: K, value: V, pool: &mut NodePool<K, V, N>) -> bool
-        requires placed { (tree : Tree K V) × (place : ℕ) × Placed N pool.old self.now.node self.now.entry self.now.size tree place }
-        ensures inserted { result ≡ true → (tree : Tree K V) (place : ℕ) → Placed N pool.old self.now.node self.now.entry self.now.size tree place → Inserted N pool.old pool.new self.now.node self.now.entry self.now.size tree place (key, value) }
+        requires placed { (tree : Tree K V) × (place : ℕ) × Placed N pool.old self.now.node self.now.entry
+            self.now.size tree place }
+        ensures inserted { result ≡ true → (tree : Tree K V) (place : ℕ)
+            → Placed N pool.old self.now.node self.now.entry self.now.size tree place
+            → Inserted N pool.old pool.new self.now.node self.now.entry self.now.size tree place (key, value) }
         ensures full { result ≡ false → IsFullAt N pool.old.nodes (get_or self.now.node 0 0) }
         ensures pool { result ≡ false → pool.new ≡ pool.old }
     {
@@ -115,8 +134,12 @@ impl<K: Copy, V: Copy, const N: usize> Path<K, V, N> {
     fn split_leaf(&mut self, key: K, value: V, pool: &mut NodePool<K, V, N>)
         requires height { self.old.size ≤ 17 }
         requires full { IsFullAt N pool.old.nodes (get_or self.old.node 0 0) }
-        requires placed { (tree : Tree K V) × (place : ℕ) × Placed N pool.old self.old.node self.old.entry self.old.size tree place × (need N place (sizes_of tree) ≤ length pool.old.chain) × (length (growth N place (sizes_of tree)) ≤ 17) }
-        ensures inserted { (tree : Tree K V) (place : ℕ) → Placed N pool.old self.old.node self.old.entry self.old.size tree place → Inserted N pool.old pool.new self.new.node self.new.entry self.new.size tree place (key, value) }
+        requires placed { (tree : Tree K V) × (place : ℕ) × Placed N pool.old self.old.node self.old.entry
+            self.old.size tree place × (need N place (sizes_of tree) ≤ length pool.old.chain)
+            × (length (growth N place (sizes_of tree)) ≤ 17) }
+        ensures inserted { (tree : Tree K V) (place : ℕ) → Placed N pool.old self.old.node self.old.entry
+            self.old.size tree place → Inserted N pool.old pool.new self.new.node self.new.entry self.new.size
+            tree place (key, value) }
     {
         let leaf = self.node[0];
         let half = self.halve_leaf(key, value, pool);
@@ -128,8 +151,11 @@ impl<K: Copy, V: Copy, const N: usize> Path<K, V, N> {
     fn halve_leaf(&mut self, key: K, value: V, pool: &mut NodePool<K, V, N>) -> (K, Node, bool)
         requires room { 0 < length pool.old.chain }
         requires full { IsFullAt N pool.old.nodes (get_or self.old.node 0 0) }
-        requires placed { (tree : Tree K V) × (place : ℕ) × Placed N pool.old self.old.node self.old.entry self.old.size tree place }
-        ensures halved { (tree : Tree K V) (place : ℕ) → Placed N pool.old self.old.node self.old.entry self.old.size tree place → LeafHalved N pool.old pool.new self.old.node self.new.node self.new.entry self.old.size tree place (key, value) result.0 result.1 result.2 }
+        requires placed { (tree : Tree K V) × (place : ℕ) × Placed N pool.old self.old.node self.old.entry
+            self.old.size tree place }
+        ensures halved { (tree : Tree K V) (place : ℕ) → Placed N pool.old self.old.node self.old.entry
+            self.old.size tree place → LeafHalved N pool.old pool.new self.old.node self.new.node
+            self.new.entry self.old.size tree place (key, value) result.0 result.1 result.2 }
         ensures size { self.new.size ≡ self.old.size }
     {
         let leaf = self.node[0];
@@ -160,8 +186,19 @@ impl<K: Copy, V: Copy, const N: usize> Path<K, V, N> {
         pool: &mut NodePool<K, V, N>,
     )
         requires height { self.old.size ≤ 17 }
-        requires pending { (rows : List (List (LevelNode K ℕ))) × (before : List (K × ℕ)) × (first : K) × (after : List (K × ℕ)) × Above pool.old self.old.node self.old.entry up self.old.size rows (before ++ (first, left) ∷ after) (length before) × (need_above (Some (length before)) (map sizes rows) ≤ suc (length pool.old.chain)) × (up + length (gain_above (Some (length before)) (map sizes rows)) ≤ 17) }
-        ensures { (rows : List (List (LevelNode K ℕ))) (before : List (K × ℕ)) (first : K) (after : List (K × ℕ)) → Above pool.old self.old.node self.old.entry up self.old.size rows (before ++ (first, left) ∷ after) (length before) → (taken : List ℕ) × (suc (length taken) ≡ need_above (Some (length before)) (map sizes rows)) × Grown pool.old pool.new self.old.node self.old.entry self.new.node self.new.entry up self.old.size self.new.size rows (before ++ (first, left) ∷ (key, child) ∷ after) (if moved then suc (length before) else length before) (gain_above (Some (length before)) (map sizes rows)) taken }
+        requires pending { (rows : List (List (LevelNode K ℕ))) × (before : List (K × ℕ)) × (first : K)
+            × (after : List (K × ℕ)) × Above pool.old self.old.node self.old.entry up self.old.size rows
+            (before ++ (first, left) ∷ after) (length before)
+            × (need_above (Some (length before)) (map sizes rows) ≤ suc (length pool.old.chain))
+            × (up + length (gain_above (Some (length before)) (map sizes rows)) ≤ 17) }
+        ensures { (rows : List (List (LevelNode K ℕ))) (before : List (K × ℕ)) (first : K)
+            (after : List (K × ℕ)) → Above pool.old self.old.node self.old.entry up self.old.size rows
+            (before ++ (first, left) ∷ after) (length before) → (taken : List ℕ)
+            × (suc (length taken) ≡ need_above (Some (length before)) (map sizes rows))
+            × Grown pool.old pool.new self.old.node self.old.entry self.new.node self.new.entry up
+            self.old.size self.new.size rows (before ++ (first, left) ∷ (key, child) ∷ after)
+            (if moved then suc (length before) else length before)
+            (gain_above (Some (length before)) (map sizes rows)) taken }
     {
         if up == self.size {
             self.push_root(left, key, child, moved, pool);
@@ -183,7 +220,14 @@ impl<K: Copy, V: Copy, const N: usize> Path<K, V, N> {
     )
         requires height { self.old.size ≤ 16 }
         requires room { 0 < length pool.old.chain }
-        ensures { (rows : List (List (LevelNode K ℕ))) (before : List (K × ℕ)) (first : K) (after : List (K × ℕ)) → Above pool.old self.old.node self.old.entry self.old.size self.old.size rows (before ++ (first, left) ∷ after) (length before) → (taken : List ℕ) × (suc (length taken) ≡ need_above (Some (length before)) (map sizes rows)) × Grown pool.old pool.new self.old.node self.old.entry self.new.node self.new.entry self.old.size self.old.size self.new.size rows (before ++ (first, left) ∷ (key, child) ∷ after) (if moved then suc (length before) else length before) (gain_above (Some (length before)) (map sizes rows)) taken }
+        ensures { (rows : List (List (LevelNode K ℕ))) (before : List (K × ℕ)) (first : K)
+            (after : List (K × ℕ)) → Above pool.old self.old.node self.old.entry self.old.size self.old.size
+            rows (before ++ (first, left) ∷ after) (length before) → (taken : List ℕ)
+            × (suc (length taken) ≡ need_above (Some (length before)) (map sizes rows))
+            × Grown pool.old pool.new self.old.node self.old.entry self.new.node self.new.entry self.old.size
+            self.old.size self.new.size rows (before ++ (first, left) ∷ (key, child) ∷ after)
+            (if moved then suc (length before) else length before)
+            (gain_above (Some (length before)) (map sizes rows)) taken }
     {
         let root = pool.inner_node(left, key, child);
         self.node[self.size] = root;
@@ -203,8 +247,16 @@ impl<K: Copy, V: Copy, const N: usize> Path<K, V, N> {
     ) -> bool
         requires height { self.old.size ≤ 17 }
         requires within { up < self.old.size }
-        requires pending { (rows : List (List (LevelNode K ℕ))) × (before : List (K × ℕ)) × (x : K × ℕ) × (after : List (K × ℕ)) × Above pool.old self.old.node self.old.entry up self.old.size rows (before ++ x ∷ after) (length before) }
-        ensures grown { result ≡ true → (rows : List (List (LevelNode K ℕ))) (before : List (K × ℕ)) (x : K × ℕ) (after : List (K × ℕ)) → Above pool.old self.old.node self.old.entry up self.old.size rows (before ++ x ∷ after) (length before) → (1 ≡ need_above (Some (length before)) (map sizes rows)) × Grown pool.old pool.new self.old.node self.old.entry self.new.node self.new.entry up self.old.size self.new.size rows (before ++ x ∷ (key, child) ∷ after) (if moved then suc (length before) else length before) (gain_above (Some (length before)) (map sizes rows)) [] }
+        requires pending { (rows : List (List (LevelNode K ℕ))) × (before : List (K × ℕ)) × (x : K × ℕ)
+            × (after : List (K × ℕ)) × Above pool.old self.old.node self.old.entry up self.old.size rows
+            (before ++ x ∷ after) (length before) }
+        ensures grown { result ≡ true → (rows : List (List (LevelNode K ℕ))) (before : List (K × ℕ))
+            (x : K × ℕ) (after : List (K × ℕ)) → Above pool.old self.old.node self.old.entry up self.old.size
+            rows (before ++ x ∷ after) (length before)
+            → (1 ≡ need_above (Some (length before)) (map sizes rows)) × Grown pool.old pool.new self.old.node
+            self.old.entry self.new.node self.new.entry up self.old.size self.new.size rows
+            (before ++ x ∷ (key, child) ∷ after) (if moved then suc (length before) else length before)
+            (gain_above (Some (length before)) (map sizes rows)) [] }
         ensures full { result ≡ false → IsFullAt N pool.old.nodes (get_or self.old.node up 0) }
         ensures pool { result ≡ false → pool.new ≡ pool.old }
         ensures path { result ≡ false → self.new ≡ self.old }
@@ -234,8 +286,14 @@ impl<K: Copy, V: Copy, const N: usize> Path<K, V, N> {
         requires within { up < self.old.size }
         requires room { 0 < length pool.old.chain }
         requires full { IsFullAt N pool.old.nodes (get_or self.old.node up 0) }
-        requires pending { (rows : List (List (LevelNode K ℕ))) × (before : List (K × ℕ)) × (x : K × ℕ) × (after : List (K × ℕ)) × Above pool.old self.old.node self.old.entry up self.old.size rows (before ++ x ∷ after) (length before) }
-        ensures halved { (rows : List (List (LevelNode K ℕ))) (before : List (K × ℕ)) (x : K × ℕ) (after : List (K × ℕ)) → Above pool.old self.old.node self.old.entry up self.old.size rows (before ++ x ∷ after) (length before) → Halved pool.old pool.new self.old.node self.old.entry self.new.node self.new.entry up self.old.size rows (before ++ x ∷ (key, child) ∷ after) (length before) (if moved then suc (length before) else length before) result.0 result.1 result.2 }
+        requires pending { (rows : List (List (LevelNode K ℕ))) × (before : List (K × ℕ)) × (x : K × ℕ)
+            × (after : List (K × ℕ)) × Above pool.old self.old.node self.old.entry up self.old.size rows
+            (before ++ x ∷ after) (length before) }
+        ensures halved { (rows : List (List (LevelNode K ℕ))) (before : List (K × ℕ)) (x : K × ℕ)
+            (after : List (K × ℕ)) → Above pool.old self.old.node self.old.entry up self.old.size rows
+            (before ++ x ∷ after) (length before) → Halved pool.old pool.new self.old.node self.old.entry
+            self.new.node self.new.entry up self.old.size rows (before ++ x ∷ (key, child) ∷ after)
+            (length before) (if moved then suc (length before) else length before) result.0 result.1 result.2 }
         ensures size { self.new.size ≡ self.old.size }
     {
         let node = self.node[up];

@@ -15,8 +15,15 @@ impl<K: Copy, V: Copy, const N: usize> Path<K, V, N> {
     // Takes the entry at the path out of level `up`, and gives the next one its key.
     fn take_left(&self, up: usize, pool: &mut NodePool<K, V, N>)
         requires height { self.now.size ≤ 17 }
-        requires pending { (rows : List (List (LevelNode K ℕ))) × (before : List (K × ℕ)) × (first : K) × (m : ℕ) × (next_first : K) × (n : ℕ) × (after : List (K × ℕ)) × Above pool.old self.now.node self.now.entry up self.now.size rows (before ++ (first, m) ∷ (next_first, n) ∷ after) (length before) }
-        ensures { (rows : List (List (LevelNode K ℕ))) (before : List (K × ℕ)) (first : K) (m : ℕ) (next_first : K) (n : ℕ) (after : List (K × ℕ)) → Above pool.old self.now.node self.now.entry up self.now.size rows (before ++ (first, m) ∷ (next_first, n) ∷ after) (length before) → Loosened pool.old pool.new self.now.node self.now.entry up self.now.size rows (before ++ (first, n) ∷ after) (length before) }
+        requires pending { (rows : List (List (LevelNode K ℕ))) × (before : List (K × ℕ)) × (first : K)
+            × (m : ℕ) × (next_first : K) × (n : ℕ) × (after : List (K × ℕ))
+            × Above pool.old self.now.node self.now.entry up self.now.size rows
+            (before ++ (first, m) ∷ (next_first, n) ∷ after) (length before) }
+        ensures { (rows : List (List (LevelNode K ℕ))) (before : List (K × ℕ)) (first : K) (m : ℕ)
+            (next_first : K) (n : ℕ) (after : List (K × ℕ)) → Above pool.old self.now.node self.now.entry up
+            self.now.size rows (before ++ (first, m) ∷ (next_first, n) ∷ after) (length before)
+            → Loosened pool.old pool.new self.now.node self.now.entry up self.now.size rows
+            (before ++ (first, n) ∷ after) (length before) }
     {
         let parent = self.node[up];
         let index = self.entry[up] as usize;
@@ -36,9 +43,20 @@ impl<K: Copy, V: Copy, const N: usize> Path<K, V, N> {
     pub(super) fn settle_leaf(&mut self, pool: &mut NodePool<K, V, N>) -> bool
         requires capacity { IsLeafCapacity N }
         requires height { self.old.size ≤ 17 }
-        requires pending { (before : List (LevelNode K V)) × (n : ℕ) × (es : List (K × V)) × (after : List (LevelNode K V)) × (rest : List (List (LevelNode K ℕ))) × OnLevel leaf_content (half_of N) N pool.old self.old.node self.old.entry 0 self.old.size before n es after rest }
-        ensures healed { result ≡ false → (before : List (LevelNode K V)) (n : ℕ) (es : List (K × V)) (after : List (LevelNode K V)) (rest : List (List (LevelNode K ℕ))) → OnLevel leaf_content (half_of N) N pool.old self.old.node self.old.entry 0 self.old.size before n es after rest → Healed leaf_content (half_of N) N pool.old pool.new self.old.node self.old.entry self.new.node self.new.entry 0 self.old.size before n es after rest }
-        ensures joined { result ≡ true → (before : List (LevelNode K V)) (n : ℕ) (es : List (K × V)) (after : List (LevelNode K V)) (rest : List (List (LevelNode K ℕ))) → OnLevel leaf_content (half_of N) N pool.old self.old.node self.old.entry 0 self.old.size before n es after rest → Joined leaf_content (half_of N) N pool.old pool.new self.old.node self.old.entry self.new.node self.new.entry 0 self.old.size before n es after rest }
+        requires pending { (before : List (LevelNode K V)) × (n : ℕ) × (es : List (K × V))
+            × (after : List (LevelNode K V)) × (rest : List (List (LevelNode K ℕ)))
+            × OnLevel leaf_content (half_of N) N pool.old self.old.node self.old.entry 0 self.old.size before
+            n es after rest }
+        ensures healed { result ≡ false → (before : List (LevelNode K V)) (n : ℕ) (es : List (K × V))
+            (after : List (LevelNode K V)) (rest : List (List (LevelNode K ℕ)))
+            → OnLevel leaf_content (half_of N) N pool.old self.old.node self.old.entry 0 self.old.size before
+            n es after rest → Healed leaf_content (half_of N) N pool.old pool.new self.old.node self.old.entry
+            self.new.node self.new.entry 0 self.old.size before n es after rest }
+        ensures joined { result ≡ true → (before : List (LevelNode K V)) (n : ℕ) (es : List (K × V))
+            (after : List (LevelNode K V)) (rest : List (List (LevelNode K ℕ)))
+            → OnLevel leaf_content (half_of N) N pool.old self.old.node self.old.entry 0 self.old.size before
+            n es after rest → Joined leaf_content (half_of N) N pool.old pool.new self.old.node self.old.entry
+            self.new.node self.new.entry 0 self.old.size before n es after rest }
         ensures size { self.new.size ≡ self.old.size }
     {
         let leaf = self.node[0];
@@ -68,9 +86,20 @@ impl<K: Copy, V: Copy, const N: usize> Path<K, V, N> {
     // Balances the inner node at `level`, which lost an entry, with its right neighbour. Whether it went into it.
     fn settle_inner(&mut self, level: usize, pool: &mut NodePool<K, V, N>) -> bool
         requires height { self.old.size ≤ 17 }
-        requires pending { (before : List (LevelNode K ℕ)) × (n : ℕ) × (es : List (K × ℕ)) × (after : List (LevelNode K ℕ)) × (rest : List (List (LevelNode K ℕ))) × OnLevel inner_content 4 8 pool.old self.old.node self.old.entry level self.old.size before n es after rest }
-        ensures healed { result ≡ false → (before : List (LevelNode K ℕ)) (n : ℕ) (es : List (K × ℕ)) (after : List (LevelNode K ℕ)) (rest : List (List (LevelNode K ℕ))) → OnLevel inner_content 4 8 pool.old self.old.node self.old.entry level self.old.size before n es after rest → Healed inner_content 4 8 pool.old pool.new self.old.node self.old.entry self.new.node self.new.entry level self.old.size before n es after rest }
-        ensures joined { result ≡ true → (before : List (LevelNode K ℕ)) (n : ℕ) (es : List (K × ℕ)) (after : List (LevelNode K ℕ)) (rest : List (List (LevelNode K ℕ))) → OnLevel inner_content 4 8 pool.old self.old.node self.old.entry level self.old.size before n es after rest → Joined inner_content 4 8 pool.old pool.new self.old.node self.old.entry self.new.node self.new.entry level self.old.size before n es after rest }
+        requires pending { (before : List (LevelNode K ℕ)) × (n : ℕ) × (es : List (K × ℕ))
+            × (after : List (LevelNode K ℕ)) × (rest : List (List (LevelNode K ℕ)))
+            × OnLevel inner_content 4 8 pool.old self.old.node self.old.entry level self.old.size before n es
+            after rest }
+        ensures healed { result ≡ false → (before : List (LevelNode K ℕ)) (n : ℕ) (es : List (K × ℕ))
+            (after : List (LevelNode K ℕ)) (rest : List (List (LevelNode K ℕ)))
+            → OnLevel inner_content 4 8 pool.old self.old.node self.old.entry level self.old.size before n es
+            after rest → Healed inner_content 4 8 pool.old pool.new self.old.node self.old.entry self.new.node
+            self.new.entry level self.old.size before n es after rest }
+        ensures joined { result ≡ true → (before : List (LevelNode K ℕ)) (n : ℕ) (es : List (K × ℕ))
+            (after : List (LevelNode K ℕ)) (rest : List (List (LevelNode K ℕ)))
+            → OnLevel inner_content 4 8 pool.old self.old.node self.old.entry level self.old.size before n es
+            after rest → Joined inner_content 4 8 pool.old pool.new self.old.node self.old.entry self.new.node
+            self.new.entry level self.old.size before n es after rest }
         ensures size { self.new.size ≡ self.old.size }
     {
         let here = self.node[level];
@@ -101,8 +130,16 @@ impl<K: Copy, V: Copy, const N: usize> Path<K, V, N> {
     // neighbour gets its key.
     pub(super) fn merge_above(&mut self, up: usize, pool: &mut NodePool<K, V, N>)
         requires height { self.old.size ≤ 17 }
-        requires pending { (rows : List (List (LevelNode K ℕ))) × (before : List (K × ℕ)) × (first : K) × (m : ℕ) × (next_first : K) × (n : ℕ) × (after : List (K × ℕ)) × Above pool.old self.old.node self.old.entry up self.old.size rows (before ++ (first, m) ∷ (next_first, n) ∷ after) (length before) }
-        ensures merged { (rows : List (List (LevelNode K ℕ))) (before : List (K × ℕ)) (first : K) (m : ℕ) (next_first : K) (n : ℕ) (after : List (K × ℕ)) → Above pool.old self.old.node self.old.entry up self.old.size rows (before ++ (first, m) ∷ (next_first, n) ∷ after) (length before) → (freed : List ℕ) × Rebuilt pool.old pool.new self.old.node self.old.entry self.new.node self.new.entry up self.old.size rows (before ++ (first, n) ∷ after) (length before) (loss_above (Some (length before)) (map sizes rows)) freed }
+        requires pending { (rows : List (List (LevelNode K ℕ))) × (before : List (K × ℕ)) × (first : K)
+            × (m : ℕ) × (next_first : K) × (n : ℕ) × (after : List (K × ℕ))
+            × Above pool.old self.old.node self.old.entry up self.old.size rows
+            (before ++ (first, m) ∷ (next_first, n) ∷ after) (length before) }
+        ensures merged { (rows : List (List (LevelNode K ℕ))) (before : List (K × ℕ)) (first : K) (m : ℕ)
+            (next_first : K) (n : ℕ) (after : List (K × ℕ)) → Above pool.old self.old.node self.old.entry up
+            self.old.size rows (before ++ (first, m) ∷ (next_first, n) ∷ after) (length before)
+            → (freed : List ℕ) × Rebuilt pool.old pool.new self.old.node self.old.entry self.new.node
+            self.new.entry up self.old.size rows (before ++ (first, n) ∷ after) (length before)
+            (loss_above (Some (length before)) (map sizes rows)) freed }
         ensures size { self.new.size ≡ self.old.size }
     {
         self.take_left(up, pool);
@@ -115,8 +152,13 @@ impl<K: Copy, V: Copy, const N: usize> Path<K, V, N> {
     // nodes that this leaves empty go too.
     pub(super) fn drop_above(&self, up: usize, pool: &mut NodePool<K, V, N>)
         requires height { self.now.size ≤ 17 }
-        requires pending { (rows : List (List (LevelNode K ℕ))) × (before : List (K × ℕ)) × (y : K × ℕ) × (x : K × ℕ) × Above pool.old self.now.node self.now.entry up self.now.size rows (before ++ y ∷ x ∷ []) (suc (length before)) }
-        ensures { (rows : List (List (LevelNode K ℕ))) (before : List (K × ℕ)) (y : K × ℕ) (x : K × ℕ) → Above pool.old self.now.node self.now.entry up self.now.size rows (before ++ y ∷ x ∷ []) (suc (length before)) → (freed : List ℕ) × Dropped pool.old pool.new self.now.node self.now.size rows (before ++ y ∷ []) (loss_above (Some (suc (length before))) (map sizes rows)) freed }
+        requires pending { (rows : List (List (LevelNode K ℕ))) × (before : List (K × ℕ)) × (y : K × ℕ)
+            × (x : K × ℕ) × Above pool.old self.now.node self.now.entry up self.now.size rows
+            (before ++ y ∷ x ∷ []) (suc (length before)) }
+        ensures { (rows : List (List (LevelNode K ℕ))) (before : List (K × ℕ)) (y : K × ℕ) (x : K × ℕ)
+            → Above pool.old self.now.node self.now.entry up self.now.size rows (before ++ y ∷ x ∷ [])
+            (suc (length before)) → (freed : List ℕ) × Dropped pool.old pool.new self.now.node self.now.size
+            rows (before ++ y ∷ []) (loss_above (Some (suc (length before))) (map sizes rows)) freed }
     {
         let parent = self.node[up];
         if entries(pool, parent) == 1 {

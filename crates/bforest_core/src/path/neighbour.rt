@@ -13,8 +13,12 @@ impl<K: Copy, V: Copy, const N: usize> Path<K, V, N> {
     // The right neighbour of the path's node below level `up`, which may have another parent, with the key between the two.
     pub(super) fn right_sibling(&self, up: usize, pool: &NodePool<K, V, N>) -> Option<(K, Node)>
         requires height { self.now.size ≤ 17 }
-        requires pending { (rows : List (List (LevelNode K ℕ))) × (before : List (K × ℕ)) × (x : K × ℕ) × (after : List (K × ℕ)) × Above pool.now self.now.node self.now.entry up self.now.size rows (before ++ x ∷ after) (length before) }
-        ensures { (rows : List (List (LevelNode K ℕ))) (before : List (K × ℕ)) (x : K × ℕ) (after : List (K × ℕ)) → Above pool.now self.now.node self.now.entry up self.now.size rows (before ++ x ∷ after) (length before) → NextIs result after }
+        requires pending { (rows : List (List (LevelNode K ℕ))) × (before : List (K × ℕ)) × (x : K × ℕ)
+            × (after : List (K × ℕ)) × Above pool.now self.now.node self.now.entry up self.now.size rows
+            (before ++ x ∷ after) (length before) }
+        ensures { (rows : List (List (LevelNode K ℕ))) (before : List (K × ℕ)) (x : K × ℕ)
+            (after : List (K × ℕ)) → Above pool.now self.now.node self.now.entry up self.now.size rows
+            (before ++ x ∷ after) (length before) → NextIs result after }
     {
         if up == self.size {
             return None;
@@ -37,8 +41,14 @@ impl<K: Copy, V: Copy, const N: usize> Path<K, V, N> {
     // Renews the key between the path's node below level `up` and its right neighbour.
     pub(super) fn rekey_next(&self, up: usize, key: K, pool: &mut NodePool<K, V, N>)
         requires height { self.now.size ≤ 17 }
-        requires pending { (rows : List (List (LevelNode K ℕ))) × (before : List (K × ℕ)) × (x : K × ℕ) × (first : K) × (n : ℕ) × (after : List (K × ℕ)) × Above pool.old self.now.node self.now.entry up self.now.size rows (before ++ x ∷ (first, n) ∷ after) (length before) }
-        ensures { (rows : List (List (LevelNode K ℕ))) (before : List (K × ℕ)) (x : K × ℕ) (first : K) (n : ℕ) (after : List (K × ℕ)) → Above pool.old self.now.node self.now.entry up self.now.size rows (before ++ x ∷ (first, n) ∷ after) (length before) → Rebuilt pool.old pool.new self.now.node self.now.entry self.now.node self.now.entry up self.now.size rows (before ++ x ∷ (key, n) ∷ after) (length before) (map sizes rows) [] }
+        requires pending { (rows : List (List (LevelNode K ℕ))) × (before : List (K × ℕ)) × (x : K × ℕ)
+            × (first : K) × (n : ℕ) × (after : List (K × ℕ)) × Above pool.old self.now.node self.now.entry up
+            self.now.size rows (before ++ x ∷ (first, n) ∷ after) (length before) }
+        ensures { (rows : List (List (LevelNode K ℕ))) (before : List (K × ℕ)) (x : K × ℕ) (first : K) (n : ℕ)
+            (after : List (K × ℕ)) → Above pool.old self.now.node self.now.entry up self.now.size rows
+            (before ++ x ∷ (first, n) ∷ after) (length before) → Rebuilt pool.old pool.new self.now.node
+            self.now.entry self.now.node self.now.entry up self.now.size rows (before ++ x ∷ (key, n) ∷ after)
+            (length before) (map sizes rows) [] }
     {
         let parent = self.node[up];
         let index = self.entry[up] as usize;
@@ -52,8 +62,14 @@ impl<K: Copy, V: Copy, const N: usize> Path<K, V, N> {
     // Renews the first key of the path's node below level `up`: in the table its separator, if it has one.
     pub(super) fn rekey_here(&self, up: usize, key: K, pool: &mut NodePool<K, V, N>)
         requires height { self.now.size ≤ 17 }
-        requires pending { (rows : List (List (LevelNode K ℕ))) × (before : List (K × ℕ)) × (first : K) × (n : ℕ) × (after : List (K × ℕ)) × Above pool.old self.now.node self.now.entry up self.now.size rows (before ++ (first, n) ∷ after) (length before) }
-        ensures { (rows : List (List (LevelNode K ℕ))) (before : List (K × ℕ)) (first : K) (n : ℕ) (after : List (K × ℕ)) → Above pool.old self.now.node self.now.entry up self.now.size rows (before ++ (first, n) ∷ after) (length before) → Rebuilt pool.old pool.new self.now.node self.now.entry self.now.node self.now.entry up self.now.size rows (before ++ (key, n) ∷ after) (length before) (map sizes rows) [] }
+        requires pending { (rows : List (List (LevelNode K ℕ))) × (before : List (K × ℕ)) × (first : K)
+            × (n : ℕ) × (after : List (K × ℕ)) × Above pool.old self.now.node self.now.entry up self.now.size
+            rows (before ++ (first, n) ∷ after) (length before) }
+        ensures { (rows : List (List (LevelNode K ℕ))) (before : List (K × ℕ)) (first : K) (n : ℕ)
+            (after : List (K × ℕ)) → Above pool.old self.now.node self.now.entry up self.now.size rows
+            (before ++ (first, n) ∷ after) (length before) → Rebuilt pool.old pool.new self.now.node
+            self.now.entry self.now.node self.now.entry up self.now.size rows (before ++ (key, n) ∷ after)
+            (length before) (map sizes rows) [] }
     {
         if up >= self.size {
             return;
@@ -69,8 +85,14 @@ impl<K: Copy, V: Copy, const N: usize> Path<K, V, N> {
     // Goes to the first entry of the next node on `level`, where there is one.
     pub(super) fn enter_next(&mut self, level: usize, pool: &NodePool<K, V, N>)
         requires height { self.old.size ≤ 17 }
-        requires pending { (rows : List (List (LevelNode K ℕ))) × (before : List (K × ℕ)) × (x : K × ℕ) × (y : K × ℕ) × (after : List (K × ℕ)) × Above pool.now self.old.node self.old.entry (suc level) self.old.size rows (before ++ x ∷ y ∷ after) (length before) }
-        ensures moved { (rows : List (List (LevelNode K ℕ))) (before : List (K × ℕ)) (x : K × ℕ) (y : K × ℕ) (after : List (K × ℕ)) → Above pool.now self.old.node self.old.entry (suc level) self.old.size rows (before ++ x ∷ y ∷ after) (length before) → Above pool.now self.new.node self.new.entry (suc level) self.old.size rows (before ++ x ∷ y ∷ after) (suc (length before)) × (get_or self.new.node level 0 ≡ y.1) }
+        requires pending { (rows : List (List (LevelNode K ℕ))) × (before : List (K × ℕ)) × (x : K × ℕ)
+            × (y : K × ℕ) × (after : List (K × ℕ)) × Above pool.now self.old.node self.old.entry (suc level)
+            self.old.size rows (before ++ x ∷ y ∷ after) (length before) }
+        ensures moved { (rows : List (List (LevelNode K ℕ))) (before : List (K × ℕ)) (x : K × ℕ) (y : K × ℕ)
+            (after : List (K × ℕ)) → Above pool.now self.old.node self.old.entry (suc level) self.old.size
+            rows (before ++ x ∷ y ∷ after) (length before) → Above pool.now self.new.node self.new.entry
+            (suc level) self.old.size rows (before ++ x ∷ y ∷ after) (suc (length before))
+            × (get_or self.new.node level 0 ≡ y.1) }
         ensures first { get_or self.new.entry level 0 ≡ 0 }
         ensures nodes_below { SameBelow level self.old.node self.new.node }
         ensures entries_below { SameBelow level self.old.entry self.new.entry }

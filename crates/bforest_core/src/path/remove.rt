@@ -1,13 +1,13 @@
 //! Taking out the entry where a path is.
-ghost use Rattle.std.specs.Prelude.{remove, true, false, IfSome, ◌≡◌, ◌≢◌, ℕ, suc, ◌+◌, ◌-◌, ◌<◌, ◌≤◌, ◌↔◌, IsTrue, List, [], ◌∷◌, ◌++◌, length, get_or, slice_get, Some, None};
+ghost use Rattle.std.specs.Prelude.{remove, true, false, IfSome, ◌≡◌, ◌≢◌, ℕ, ◌+◌, ◌-◌, ◌<◌, ◌≤◌, ◌↔◌, List, [], ◌∷◌, ◌++◌, length, get_or, slice_get, Some, None};
 ghost use Rattle.bforest_nodes.specs.Content.{IsLeafCapacity};
-ghost use Rattle.bforest_core.specs.Levels.{LevelNode, flat, sizes_of, Tree};
+ghost use Rattle.bforest_core.specs.Levels.{LevelNode, flat, Tree};
 ghost use Rattle.bforest_core.specs.Sizes.{shrink};
 ghost use Rattle.bforest_core.specs.Table.{Table};
-ghost use Rattle.bforest_core.specs.Place.{IsPathAt, leaf_content, root_of, count};
+ghost use Rattle.bforest_core.specs.Place.{leaf_content, root_of, count};
 ghost use Rattle.bforest_core.specs.Removal.{UpTo, Trimmed, StandsIn, LeafLoss, Removed, Emptied};
-ghost use Rattle.bforest_core.specs.Change.{Changes, Ends, GivesNodes, StandsUnder};
-ghost use Rattle.bforest_core.specs.Trees.{IsUnion, tree_of};
+ghost use Rattle.bforest_core.specs.Change.{Changes, Ends, GivesNodes};
+ghost use Rattle.bforest_core.specs.Trees.{IsUnion};
 
 use crate::access::{child, entries, leaf_key, remove_entry};
 use crate::path::Path;
@@ -15,28 +15,39 @@ use crate::pool::NodePool;
 use bforest_nodes::Node;
 
 impl<K: Copy, V: Copy, const N: usize> Path<K, V, N> {
+    ghost use Rattle.bforest_core.specs.Paths.{IsAtEnd, OnEntry, StandsAt, list_under, sizes_under};
+
     /// Takes the entry here out, and answers the root of its tree, or nothing where it was the tree's last entry, whose node is freed
     /// with it. The path goes to the entry that followed, or to the end. It takes no memory.
     ///
     /// Where a leaf falls under half full it is filled from its right neighbour, or goes into it, and so on upwards; a root with a single
     /// child is discarded. Freed nodes lie in front of the chain.
     pub fn remove(&mut self, pool: &mut NodePool<K, V, N>) -> Option<Node>
-        requires capacity { IsLeafCapacity N }
         requires union { IsUnion N pool.old }
-        requires stands { (root : ℕ) × (place : ℕ) × StandsUnder pool.old.nodes root self.old.node self.old.entry self.old.size place }
+        requires stands { OnEntry pool.old self.old }
 
         // What a removal leaves.
-        ensures removed { (root place : ℕ) → StandsUnder pool.old.nodes root self.old.node self.old.entry self.old.size place → IfSome result (λ root'. Changes N pool.old pool.new root root' (remove (flat (tree_of pool.old.nodes root).leaves) place) (shrink N place (sizes_of (tree_of pool.old.nodes root)))) }
-        ensures account { (root place : ℕ) → StandsUnder pool.old.nodes root self.old.node self.old.entry self.old.size place → GivesNodes (sizes_of (tree_of pool.old.nodes root)) (shrink N place (sizes_of (tree_of pool.old.nodes root))) pool.old pool.new }
-        ensures stands { (root place : ℕ) → StandsUnder pool.old.nodes root self.old.node self.old.entry self.old.size place → IfSome result (λ root'. IsPathAt self.new.node self.new.entry self.new.size (tree_of pool.new.nodes root') place) }
-        ensures same_root { (root place : ℕ) → StandsUnder pool.old.nodes root self.old.node self.old.entry self.old.size place → IfSome result (λ root'. (root' ≡ root) ↔ (length (shrink N place (sizes_of (tree_of pool.old.nodes root))) ≡ length (sizes_of (tree_of pool.old.nodes root)))) }
+        ensures removed { (at : OnEntry pool.old self.old)
+            → IfSome result (λ root'. Changes N pool.old pool.new at.root root'
+            (remove (list_under pool.old at.root) at.place)
+            (shrink N at.place (sizes_under pool.old at.root))) }
+        ensures account { (at : OnEntry pool.old self.old) → GivesNodes (sizes_under pool.old at.root)
+            (shrink N at.place (sizes_under pool.old at.root)) pool.old pool.new }
+        ensures stands { (at : OnEntry pool.old self.old)
+            → IfSome result (λ root'. StandsAt pool.new root' self.new at.place) }
+        ensures same_root { (at : OnEntry pool.old self.old) → IfSome result (λ root'. (root' ≡ at.root)
+            ↔ (length (shrink N at.place (sizes_under pool.old at.root))
+            ≡ length (sizes_under pool.old at.root))) }
 
         // When it was the last entry, and what is left then.
-        ensures last { (root place : ℕ) → StandsUnder pool.old.nodes root self.old.node self.old.entry self.old.size place → (result ≡ None) ↔ (length (flat (tree_of pool.old.nodes root).leaves) ≡ 1) }
-        ensures ended { result ≡ None → (root place : ℕ) → StandsUnder pool.old.nodes root self.old.node self.old.entry self.old.size place → Ends N pool.old pool.new root }
-        ensures end { result ≡ None → self.new.size ≡ 0 }
-        ensures none_left { result ≡ None → (root place : ℕ) → StandsUnder pool.old.nodes root self.old.node self.old.entry self.old.size place → shrink N place (sizes_of (tree_of pool.old.nodes root)) ≡ [] }
-        ensures freed_root { (root place : ℕ) → StandsUnder pool.old.nodes root self.old.node self.old.entry self.old.size place → result ≢ Some root → 0 < count root pool.new.chain }
+        ensures last { (at : OnEntry pool.old self.old)
+            → (result ≡ None) ↔ (length (list_under pool.old at.root) ≡ 1) }
+        ensures ended { result ≡ None → (at : OnEntry pool.old self.old) → Ends N pool.old pool.new at.root }
+        ensures end { result ≡ None → IsAtEnd self.new }
+        ensures none_left { result ≡ None → (at : OnEntry pool.old self.old)
+            → shrink N at.place (sizes_under pool.old at.root) ≡ [] }
+        ensures freed_root { (at : OnEntry pool.old self.old)
+            → result ≢ Some at.root → 0 < count at.root pool.new.chain }
     {
         let root = self.root();
         if entries(pool, self.node[0]) == 1 {
@@ -50,10 +61,15 @@ impl<K: Copy, V: Copy, const N: usize> Path<K, V, N> {
     // tree's root, or nothing where there is no tree any more.
     fn remove_leaf(&mut self, root: Node, pool: &mut NodePool<K, V, N>) -> Option<Node>
         requires capacity { IsLeafCapacity N }
-        requires stands { (tree : Tree K V) × (place : ℕ) × StandsIn N pool.old self.old.node self.old.entry self.old.size tree place × (root_of tree ≡ root) }
-        requires single { (x : K × V) × (slice_get pool.old.nodes (get_or self.old.node 0 0) ≡ Some (leaf_content (x ∷ []))) }
-        ensures removed { (tree : Tree K V) (place : ℕ) → StandsIn N pool.old self.old.node self.old.entry self.old.size tree place → IfSome result (λ root'. Removed N pool.old pool.new self.new.node self.new.entry self.new.size tree place root') }
-        ensures emptied { result ≡ None → (tree : Tree K V) (place : ℕ) → StandsIn N pool.old self.old.node self.old.entry self.old.size tree place → Emptied N pool.old pool.new tree place }
+        requires stands { (tree : Tree K V) × (place : ℕ) × StandsIn N pool.old self.old.node self.old.entry
+            self.old.size tree place × (root_of tree ≡ root) }
+        requires single { (x : K × V) × (slice_get pool.old.nodes (get_or self.old.node 0 0)
+            ≡ Some (leaf_content (x ∷ []))) }
+        ensures removed { (tree : Tree K V) (place : ℕ) → StandsIn N pool.old self.old.node self.old.entry
+            self.old.size tree place → IfSome result (λ root'. Removed N pool.old pool.new self.new.node
+            self.new.entry self.new.size tree place root') }
+        ensures emptied { result ≡ None → (tree : Tree K V) (place : ℕ) → StandsIn N pool.old self.old.node
+            self.old.entry self.old.size tree place → Emptied N pool.old pool.new tree place }
         ensures end { self.new.size ≡ 0 }
     {
         pool.free_node(self.node[0]);
@@ -70,9 +86,13 @@ impl<K: Copy, V: Copy, const N: usize> Path<K, V, N> {
     // Takes the entry out of the path's leaf, which has others. Answers the tree's root.
     fn remove_entry(&mut self, root: Node, pool: &mut NodePool<K, V, N>) -> Node
         requires capacity { IsLeafCapacity N }
-        requires stands { (tree : Tree K V) × (place : ℕ) × StandsIn N pool.old self.old.node self.old.entry self.old.size tree place × (root_of tree ≡ root) }
-        requires others { (x y : K × V) × (es : List (K × V)) × (slice_get pool.old.nodes (get_or self.old.node 0 0) ≡ Some (leaf_content (x ∷ y ∷ es))) }
-        ensures { (tree : Tree K V) (place : ℕ) → StandsIn N pool.old self.old.node self.old.entry self.old.size tree place → Removed N pool.old pool.new self.new.node self.new.entry self.new.size tree place result }
+        requires stands { (tree : Tree K V) × (place : ℕ) × StandsIn N pool.old self.old.node self.old.entry
+            self.old.size tree place × (root_of tree ≡ root) }
+        requires others { (x y : K × V) × (es : List (K × V))
+            × (slice_get pool.old.nodes (get_or self.old.node 0 0) ≡ Some (leaf_content (x ∷ y ∷ es))) }
+        ensures { (tree : Tree K V) (place : ℕ) → StandsIn N pool.old self.old.node self.old.entry
+            self.old.size tree place → Removed N pool.old pool.new self.new.node self.new.entry self.new.size
+            tree place result }
     {
         self.take_entry(pool);
         if self.is_past_end(pool) {
@@ -89,9 +109,13 @@ impl<K: Copy, V: Copy, const N: usize> Path<K, V, N> {
 
     // Takes the entry out of the path's leaf, which has others. Where it was the first, the rows above get the key of the next.
     fn take_entry(&self, pool: &mut NodePool<K, V, N>)
-        requires stands { (tree : Tree K V) × (place : ℕ) × StandsIn N pool.old self.now.node self.now.entry self.now.size tree place }
-        requires others { (x y : K × V) × (es : List (K × V)) × (slice_get pool.old.nodes (get_or self.now.node 0 0) ≡ Some (leaf_content (x ∷ y ∷ es))) }
-        ensures { (tree : Tree K V) (place : ℕ) → StandsIn N pool.old self.now.node self.now.entry self.now.size tree place → LeafLoss N pool.old pool.new self.now.node self.now.entry self.now.size tree place }
+        requires stands { (tree : Tree K V) × (place : ℕ) × StandsIn N pool.old self.now.node self.now.entry
+            self.now.size tree place }
+        requires others { (x y : K × V) × (es : List (K × V))
+            × (slice_get pool.old.nodes (get_or self.now.node 0 0) ≡ Some (leaf_content (x ∷ y ∷ es))) }
+        ensures { (tree : Tree K V) (place : ℕ) → StandsIn N pool.old self.now.node self.now.entry
+            self.now.size tree place → LeafLoss N pool.old pool.new self.now.node self.now.entry self.now.size
+            tree place }
     {
         let leaf = self.node[0];
         let index = self.entry[0] as usize;
@@ -106,9 +130,14 @@ impl<K: Copy, V: Copy, const N: usize> Path<K, V, N> {
     // Whether the path is behind its leaf's last entry, and no leaf follows.
     fn is_past_end(&self, pool: &NodePool<K, V, N>) -> bool
         requires height { self.now.size ≤ 17 }
-        requires lost { (old : Table K V) × (tree : Tree K V) × (place : ℕ) × LeafLoss N old pool.now self.now.node self.now.entry self.now.size tree place }
-        ensures past { result ≡ true → (old : Table K V) (tree : Tree K V) (place : ℕ) → (l : LeafLoss N old pool.now self.now.node self.now.entry self.now.size tree place) → (l.after ≡ []) × (get_or self.now.entry 0 0 ≡ length l.entries) }
-        ensures within { result ≡ false → (old : Table K V) (tree : Tree K V) (place : ℕ) → (l : LeafLoss N old pool.now self.now.node self.now.entry self.now.size tree place) → get_or self.now.entry 0 0 < length (l.entries ++ flat l.after) }
+        requires lost { (old : Table K V) × (tree : Tree K V) × (place : ℕ)
+            × LeafLoss N old pool.now self.now.node self.now.entry self.now.size tree place }
+        ensures past { result ≡ true → (old : Table K V) (tree : Tree K V) (place : ℕ)
+            → (l : LeafLoss N old pool.now self.now.node self.now.entry self.now.size tree place)
+            → (l.after ≡ []) × (get_or self.now.entry 0 0 ≡ length l.entries) }
+        ensures within { result ≡ false → (old : Table K V) (tree : Tree K V) (place : ℕ)
+            → (l : LeafLoss N old pool.now self.now.node self.now.entry self.now.size tree place)
+            → get_or self.now.entry 0 0 < length (l.entries ++ flat l.after) }
     {
         if (self.entry[0] as usize) < entries(pool, self.node[0]) {
             return false;
@@ -120,8 +149,11 @@ impl<K: Copy, V: Copy, const N: usize> Path<K, V, N> {
     // go.
     fn trim(&mut self, root: Node, pool: &mut NodePool<K, V, N>) -> Node
         requires height { self.old.size ≤ 17 }
-        requires rooted { (rows : List (List (LevelNode K ℕ))) × (list : List (K × ℕ)) × UpTo pool.old self.old.size rows list root }
-        ensures trimmed { (rows : List (List (LevelNode K ℕ))) (list : List (K × ℕ)) → UpTo pool.old self.old.size rows list root → (freed : List ℕ) × Trimmed pool.old pool.new self.old.size self.new.size rows list root result freed }
+        requires rooted { (rows : List (List (LevelNode K ℕ))) × (list : List (K × ℕ))
+            × UpTo pool.old self.old.size rows list root }
+        ensures trimmed { (rows : List (List (LevelNode K ℕ))) (list : List (K × ℕ))
+            → UpTo pool.old self.old.size rows list root → (freed : List ℕ)
+            × Trimmed pool.old pool.new self.old.size self.new.size rows list root result freed }
         ensures nodes { self.new.node ≡ self.old.node }
         ensures entries { self.new.entry ≡ self.old.entry }
     {

@@ -4,9 +4,8 @@ ghost use Rattle.bforest_nodes.specs.Content.{IsLeafCapacity};
 ghost use Rattle.bforest_core.specs.Levels.{LevelNode, flat, Tree, IsFit};
 ghost use Rattle.bforest_core.specs.Descent.{Under, Led, LedLast};
 ghost use Rattle.bforest_nodes.specs.Entries.{place};
-ghost use Rattle.bforest_core.specs.Place.{inner_content, entry_items, leaf_content, IsIn, Stands, PointsAt, IsPathAt, entry_before};
-ghost use Rattle.bforest_core.specs.Trees.{IsUnion, is_root, tree_of};
-ghost use Rattle.bforest_core.specs.Change.{StandsUnder};
+ghost use Rattle.bforest_core.specs.Place.{inner_content, entry_items, leaf_content, IsIn, Stands, entry_before};
+ghost use Rattle.bforest_core.specs.Trees.{IsUnion, is_root};
 ghost use Rattle.bforest_core.specs.Steps.{Over, Moved};
 
 use crate::access::{child, entries, last_index};
@@ -15,13 +14,14 @@ use crate::pool::NodePool;
 use bforest_nodes::Node;
 
 impl<K: Copy, V: Copy, const N: usize> Path<K, V, N> {
+    ghost use Rattle.bforest_core.specs.Paths.{IsAtEnd, OnEntry, Pointing, Standing, StandingUnder, StandsAt, StandsOn, list_under};
+
     /// Goes to the first entry of the tree under `root`, and answers it.
     pub fn first(&mut self, root: Node, pool: &NodePool<K, V, N>) -> (K, V)
-        requires capacity { IsLeafCapacity N }
         requires union { IsUnion N pool.now }
         requires root { IsTrue (is_root pool.now.nodes root) }
-        ensures value { slice_get (flat (tree_of pool.now.nodes root).leaves) 0 ≡ Some result }
-        ensures path { StandsUnder pool.now.nodes root self.new.node self.new.entry self.new.size 0 }
+        ensures value { slice_get (list_under pool.now root) 0 ≡ Some result }
+        ensures stands { StandsOn pool.now root self.new 0 }
     {
         let level = self.descend_first(root, 0, pool);
         self.size = level + 1;
@@ -31,8 +31,13 @@ impl<K: Copy, V: Copy, const N: usize> Path<K, V, N> {
     // Goes from `node` down to the first entry below it. Answers the node's level. So many levels lie above.
     fn descend_first(&mut self, node: Node, depth: usize, pool: &NodePool<K, V, N>) -> usize
         requires capacity { IsLeafCapacity N }
-        requires under { (leaves : List (LevelNode K V)) × (lower : List (List (LevelNode K ℕ))) × (first : K) × (b : List (K × ℕ)) × Under N pool.now.nodes leaves lower ((first, node) ∷ b) × (depth + length lower ≤ 16) }
-        ensures level { (leaves : List (LevelNode K V)) (lower : List (List (LevelNode K ℕ))) (first : K) (b : List (K × ℕ)) → Under N pool.now.nodes leaves lower ((first, node) ∷ b) → (result ≡ length lower) × Led leaves lower self.old.node self.old.entry self.new.node self.new.entry }
+        requires under { (leaves : List (LevelNode K V)) × (lower : List (List (LevelNode K ℕ))) × (first : K)
+            × (b : List (K × ℕ)) × Under N pool.now.nodes leaves lower ((first, node) ∷ b)
+            × (depth + length lower ≤ 16) }
+        ensures level { (leaves : List (LevelNode K V)) (lower : List (List (LevelNode K ℕ))) (first : K)
+            (b : List (K × ℕ)) → Under N pool.now.nodes leaves lower ((first, node) ∷ b)
+            → (result ≡ length lower) × Led leaves lower self.old.node self.old.entry self.new.node
+            self.new.entry }
         ensures size { self.new.size ≡ self.old.size }
     {
         if !pool.node(node).is_inner() {
@@ -47,13 +52,13 @@ impl<K: Copy, V: Copy, const N: usize> Path<K, V, N> {
 
     /// Goes to the next entry and answers it. From the last entry it goes to the end, where it answers `None` from then on.
     pub fn next(&mut self, pool: &NodePool<K, V, N>) -> Option<(K, V)>
-        requires capacity { IsLeafCapacity N }
-        requires height { self.old.size ≤ 17 }
-        requires stands { self.old.size ≢ 0 → (tree : Tree K V) × (place : ℕ) × IsFit N tree × IsIn pool.now.nodes tree × Stands self.old.node self.old.entry self.old.size tree place }
-        ensures value { self.old.size ≢ 0 → (tree : Tree K V) (place : ℕ) → IsFit N tree → IsIn pool.now.nodes tree → Stands self.old.node self.old.entry self.old.size tree place → result ≡ slice_get (flat tree.leaves) (suc place) }
-        ensures moved { result ≢ None → (tree : Tree K V) (place : ℕ) → IsFit N tree → IsIn pool.now.nodes tree → Stands self.old.node self.old.entry self.old.size tree place → Stands self.new.node self.new.entry self.new.size tree (suc place) }
-        ensures end { result ≡ None → self.new.size ≡ 0 }
-        ensures stays { self.old.size ≡ 0 → result ≡ None }
+        requires union { IsUnion N pool.now }
+        requires stands { (¬ IsAtEnd self.old) → OnEntry pool.now self.old }
+        ensures value { (at : OnEntry pool.now self.old) → result ≡ slice_get (list_under pool.now at.root)
+            (suc at.place) }
+        ensures stands { (at : OnEntry pool.now self.old) → StandsAt pool.now at.root self.new (suc at.place) }
+        ensures end { result ≡ None → IsAtEnd self.new }
+        ensures stays { IsAtEnd self.old → result ≡ None }
     {
         if self.size == 0 {
             return None;
@@ -70,9 +75,14 @@ impl<K: Copy, V: Copy, const N: usize> Path<K, V, N> {
     fn next_entry(&mut self, pool: &NodePool<K, V, N>) -> bool
         requires capacity { IsLeafCapacity N }
         requires height { self.old.size ≤ 17 }
-        requires stands { (tree : Tree K V) × (place : ℕ) × IsFit N tree × IsIn pool.now.nodes tree × Stands self.old.node self.old.entry self.old.size tree place }
-        ensures moved { result ≡ true → (tree : Tree K V) (place : ℕ) → IsFit N tree → IsIn pool.now.nodes tree → Stands self.old.node self.old.entry self.old.size tree place → Stands self.new.node self.new.entry self.old.size tree (suc place) }
-        ensures last { result ≡ false → (tree : Tree K V) (place : ℕ) → IsFit N tree → IsIn pool.now.nodes tree → Stands self.old.node self.old.entry self.old.size tree place → suc place ≡ length (flat tree.leaves) }
+        requires stands { (tree : Tree K V) × (place : ℕ) × IsFit N tree × IsIn pool.now.nodes tree
+            × Stands self.old.node self.old.entry self.old.size tree place }
+        ensures moved { result ≡ true → (tree : Tree K V) (place : ℕ) → IsFit N tree
+            → IsIn pool.now.nodes tree → Stands self.old.node self.old.entry self.old.size tree place
+            → Stands self.new.node self.new.entry self.old.size tree (suc place) }
+        ensures last { result ≡ false → (tree : Tree K V) (place : ℕ) → IsFit N tree
+            → IsIn pool.now.nodes tree → Stands self.old.node self.old.entry self.old.size tree place
+            → suc place ≡ length (flat tree.leaves) }
         ensures same { result ≡ false → self.new ≡ self.old }
         ensures size { self.new.size ≡ self.old.size }
     {
@@ -90,8 +100,10 @@ impl<K: Copy, V: Copy, const N: usize> Path<K, V, N> {
 
     // Whether the path's leaf has an entry of this index.
     fn has_entry(&self, index: usize, pool: &NodePool<K, V, N>) -> bool
-        requires { (entries : List (K × V)) × (slice_get pool.now.nodes (get_or self.now.node 0 0) ≡ Some (leaf_content entries)) }
-        ensures within { (entries : List (K × V)) → slice_get pool.now.nodes (get_or self.now.node 0 0) ≡ Some (leaf_content entries) → IsTrue result ↔ (index < length entries) }
+        requires { (entries : List (K × V)) × (slice_get pool.now.nodes (get_or self.now.node 0 0)
+            ≡ Some (leaf_content entries)) }
+        ensures within { (entries : List (K × V)) → slice_get pool.now.nodes (get_or self.now.node 0 0)
+            ≡ Some (leaf_content entries) → IsTrue result ↔ (index < length entries) }
         ensures most { IsTrue result → index ≤ 255 }
     {
         index < entries(pool, self.node[0])
@@ -99,9 +111,11 @@ impl<K: Copy, V: Copy, const N: usize> Path<K, V, N> {
 
     /// The entry here, or `None` at the end.
     pub fn entry(&self, pool: &NodePool<K, V, N>) -> Option<(K, V)>
-        requires capacity { IsLeafCapacity N }
-        requires stands { self.now.size ≢ 0 → (tree : Tree K V) × (place : ℕ) × IsFit N tree × IsIn pool.now.nodes tree × Stands self.now.node self.now.entry self.now.size tree place }
-        ensures value { (tree : Tree K V) (place : ℕ) → IsFit N tree → IsIn pool.now.nodes tree → IsPathAt self.now.node self.now.entry self.now.size tree place → result ≡ slice_get (flat tree.leaves) place }
+        requires union { IsUnion N pool.now }
+        requires stands { (¬ IsAtEnd self.now) → OnEntry pool.now self.now }
+        ensures value { (at : Standing pool.now self.now) → result ≡ slice_get (list_under pool.now at.root)
+            at.place }
+        ensures end { IsAtEnd self.now → result ≡ None }
     {
         let levels = self.size;
         if levels == 0 {
@@ -113,8 +127,10 @@ impl<K: Copy, V: Copy, const N: usize> Path<K, V, N> {
 
     // The path's entry.
     fn entry_here(&self, pool: &NodePool<K, V, N>) -> (K, V)
-        requires { (entries : List (K × V)) × (slice_get pool.now.nodes (get_or self.now.node 0 0) ≡ Some (leaf_content entries)) × (get_or self.now.entry 0 0 < length entries) }
-        ensures { (entries : List (K × V)) → slice_get pool.now.nodes (get_or self.now.node 0 0) ≡ Some (leaf_content entries) → slice_get entries (get_or self.now.entry 0 0) ≡ Some result }
+        requires { (entries : List (K × V)) × (slice_get pool.now.nodes (get_or self.now.node 0 0)
+            ≡ Some (leaf_content entries)) × (get_or self.now.entry 0 0 < length entries) }
+        ensures { (entries : List (K × V)) → slice_get pool.now.nodes (get_or self.now.node 0 0)
+            ≡ Some (leaf_content entries) → slice_get entries (get_or self.now.entry 0 0) ≡ Some result }
     {
         pool.node(self.node[0]).entry(self.entry[0] as usize)
     }
@@ -124,7 +140,8 @@ impl<K: Copy, V: Copy, const N: usize> Path<K, V, N> {
         requires most { index ≤ 255 }
         ensures nodes { self.new.node ≡ self.old.node }
         ensures here { get_or self.new.entry 0 0 ≡ index }
-        ensures above { (level : ℕ) → level ≢ 0 → get_or self.new.entry level 0 ≡ get_or self.old.entry level 0 }
+        ensures above { (level : ℕ) → level ≢ 0 → get_or self.new.entry level 0
+            ≡ get_or self.old.entry level 0 }
         ensures size { self.new.size ≡ self.old.size }
     {
         self.entry[0] = index as u8;
@@ -133,9 +150,14 @@ impl<K: Copy, V: Copy, const N: usize> Path<K, V, N> {
     // Moves the path's node on `level` to the next one. Where there is none it answers false, and nothing changed.
     pub(super) fn next_node(&mut self, level: usize, pool: &NodePool<K, V, N>) -> bool
         requires height { self.old.size ≤ 17 }
-        requires over { (rows : List (List (LevelNode K ℕ))) × (list : List (K × ℕ)) × (place : ℕ) × Over pool.now.nodes self.old.node self.old.entry (suc level) self.old.size rows list place }
-        ensures moved { result ≡ true → (rows : List (List (LevelNode K ℕ))) (list : List (K × ℕ)) (place : ℕ) → Over pool.now.nodes self.old.node self.old.entry (suc level) self.old.size rows list place → Moved self.old.node self.old.entry self.new.node self.new.entry level rows list (suc place) }
-        ensures last { result ≡ false → (rows : List (List (LevelNode K ℕ))) (list : List (K × ℕ)) (place : ℕ) → Over pool.now.nodes self.old.node self.old.entry (suc level) self.old.size rows list place → suc place ≡ length list }
+        requires over { (rows : List (List (LevelNode K ℕ))) × (list : List (K × ℕ)) × (place : ℕ)
+            × Over pool.now.nodes self.old.node self.old.entry (suc level) self.old.size rows list place }
+        ensures moved { result ≡ true → (rows : List (List (LevelNode K ℕ))) (list : List (K × ℕ)) (place : ℕ)
+            → Over pool.now.nodes self.old.node self.old.entry (suc level) self.old.size rows list place
+            → Moved self.old.node self.old.entry self.new.node self.new.entry level rows list (suc place) }
+        ensures last { result ≡ false → (rows : List (List (LevelNode K ℕ))) (list : List (K × ℕ)) (place : ℕ)
+            → Over pool.now.nodes self.old.node self.old.entry (suc level) self.old.size rows list place
+            → suc place ≡ length list }
         ensures same { result ≡ false → self.new ≡ self.old }
         ensures size { self.new.size ≡ self.old.size }
     {
@@ -157,8 +179,10 @@ impl<K: Copy, V: Copy, const N: usize> Path<K, V, N> {
     // Whether the path's inner node on `level` has so many children that one has this index.
     fn has_child(&self, level: usize, index: usize, pool: &NodePool<K, V, N>) -> bool
         requires within { level ≤ 16 }
-        requires inner { (entries : List (K × ℕ)) × (slice_get pool.now.nodes (get_or self.now.node level 0) ≡ Some (inner_content entries)) }
-        ensures within { (entries : List (K × ℕ)) → slice_get pool.now.nodes (get_or self.now.node level 0) ≡ Some (inner_content entries) → IsTrue result ↔ (index < length entries) }
+        requires inner { (entries : List (K × ℕ)) × (slice_get pool.now.nodes (get_or self.now.node level 0)
+            ≡ Some (inner_content entries)) }
+        ensures within { (entries : List (K × ℕ)) → slice_get pool.now.nodes (get_or self.now.node level 0)
+            ≡ Some (inner_content entries) → IsTrue result ↔ (index < length entries) }
         ensures most { IsTrue result → index ≤ 255 }
     {
         index < entries(pool, self.node[level])
@@ -168,11 +192,17 @@ impl<K: Copy, V: Copy, const N: usize> Path<K, V, N> {
     fn go_to_child(&mut self, level: usize, index: usize, pool: &NodePool<K, V, N>)
         requires within { level ≤ 15 }
         requires most { index ≤ 255 }
-        requires inner { (entries : List (K × ℕ)) × (slice_get pool.now.nodes (get_or self.old.node (suc level) 0) ≡ Some (inner_content entries)) × (index < length entries) }
-        ensures child { (entries : List (K × ℕ)) → slice_get pool.now.nodes (get_or self.old.node (suc level) 0) ≡ Some (inner_content entries) → slice_get (entry_items entries) index ≡ Some (get_or self.new.node level 0) }
-        ensures nodes { (other : ℕ) → other ≢ level → get_or self.new.node other 0 ≡ get_or self.old.node other 0 }
+        requires inner { (entries : List (K × ℕ))
+            × (slice_get pool.now.nodes (get_or self.old.node (suc level) 0) ≡ Some (inner_content entries))
+            × (index < length entries) }
+        ensures child { (entries : List (K × ℕ))
+            → slice_get pool.now.nodes (get_or self.old.node (suc level) 0) ≡ Some (inner_content entries)
+            → slice_get (entry_items entries) index ≡ Some (get_or self.new.node level 0) }
+        ensures nodes { (other : ℕ) → other ≢ level → get_or self.new.node other 0
+            ≡ get_or self.old.node other 0 }
         ensures entry { get_or self.new.entry (suc level) 0 ≡ index }
-        ensures entries { (other : ℕ) → other ≢ suc level → get_or self.new.entry other 0 ≡ get_or self.old.entry other 0 }
+        ensures entries { (other : ℕ) → other ≢ suc level → get_or self.new.entry other 0
+            ≡ get_or self.old.entry other 0 }
         ensures size { self.new.size ≡ self.old.size }
     {
         let child = child(pool, self.node[level + 1], index);
@@ -182,12 +212,10 @@ impl<K: Copy, V: Copy, const N: usize> Path<K, V, N> {
 
     /// From one past a leaf's last entry it goes to the first entry of the next leaf, or to the end. Anywhere else nothing changes.
     pub fn normalize(&mut self, pool: &NodePool<K, V, N>)
-        requires capacity { IsLeafCapacity N }
-        requires height { self.old.size ≤ 17 }
-        requires points { self.old.size ≢ 0 → (tree : Tree K V) × (place : ℕ) × IsFit N tree × IsIn pool.now.nodes tree × PointsAt self.old.node self.old.entry self.old.size tree place }
-        ensures moved { self.new.size ≢ 0 → self.old.size ≢ 0 → (tree : Tree K V) (place : ℕ) → IsFit N tree → IsIn pool.now.nodes tree → PointsAt self.old.node self.old.entry self.old.size tree place → Stands self.new.node self.new.entry self.new.size tree place }
-        ensures end { self.new.size ≡ 0 → self.old.size ≢ 0 → (tree : Tree K V) (place : ℕ) → IsFit N tree → IsIn pool.now.nodes tree → PointsAt self.old.node self.old.entry self.old.size tree place → place ≡ length (flat tree.leaves) }
-        ensures stays { self.old.size ≡ 0 → self.new.size ≡ 0 }
+        requires union { IsUnion N pool.now }
+        requires points { (¬ IsAtEnd self.old) → Pointing pool.now self.old }
+        ensures stands { (at : Pointing pool.now self.old) → StandsAt pool.now at.root self.new at.place }
+        ensures end { IsAtEnd self.old → IsAtEnd self.new }
     {
         if self.size == 0 {
             return;
@@ -204,12 +232,13 @@ impl<K: Copy, V: Copy, const N: usize> Path<K, V, N> {
 
     /// Goes to the entry before and answers it; from the end it goes to the last. At the first entry it stays, and answers `None`.
     pub fn prev(&mut self, root: Node, pool: &NodePool<K, V, N>) -> Option<(K, V)>
-        requires capacity { IsLeafCapacity N }
         requires union { IsUnion N pool.now }
         requires root { IsTrue (is_root pool.now.nodes root) }
-        requires stands { self.old.size ≢ 0 → (place : ℕ) × Stands self.old.node self.old.entry self.old.size (tree_of pool.now.nodes root) place }
-        ensures value { (place : ℕ) → IsPathAt self.old.node self.old.entry self.old.size (tree_of pool.now.nodes root) place → result ≡ entry_before (flat (tree_of pool.now.nodes root).leaves) place }
-        ensures moved { (place : ℕ) → IsPathAt self.old.node self.old.entry self.old.size (tree_of pool.now.nodes root) place → Stands self.new.node self.new.entry self.new.size (tree_of pool.now.nodes root) (place - 1) }
+        requires stands { StandingUnder pool.now root self.old }
+        ensures value { (at : StandingUnder pool.now root self.old)
+            → result ≡ entry_before (list_under pool.now root) at.place }
+        ensures stands { (at : StandingUnder pool.now root self.old)
+            → StandsOn pool.now root self.new (at.place - 1) }
     {
         if self.size == 0 {
             let top = self.descend_last(root, 0, pool);
@@ -226,8 +255,13 @@ impl<K: Copy, V: Copy, const N: usize> Path<K, V, N> {
     // Goes from `node`, the last of its level, down to the last entry below it. Answers the node's level. So many levels lie above.
     fn descend_last(&mut self, node: Node, depth: usize, pool: &NodePool<K, V, N>) -> usize
         requires capacity { IsLeafCapacity N }
-        requires under { (leaves : List (LevelNode K V)) × (lower : List (List (LevelNode K ℕ))) × (before : List (K × ℕ)) × (first : K) × Under N pool.now.nodes leaves lower (before ++ (first, node) ∷ []) × (depth + length lower ≤ 16) }
-        ensures level { (leaves : List (LevelNode K V)) (lower : List (List (LevelNode K ℕ))) (before : List (K × ℕ)) (first : K) → Under N pool.now.nodes leaves lower (before ++ (first, node) ∷ []) → (result ≡ length lower) × LedLast leaves lower (length before) self.old.node self.old.entry self.new.node self.new.entry }
+        requires under { (leaves : List (LevelNode K V)) × (lower : List (List (LevelNode K ℕ)))
+            × (before : List (K × ℕ)) × (first : K) × Under N pool.now.nodes leaves lower
+            (before ++ (first, node) ∷ []) × (depth + length lower ≤ 16) }
+        ensures level { (leaves : List (LevelNode K V)) (lower : List (List (LevelNode K ℕ)))
+            (before : List (K × ℕ)) (first : K) → Under N pool.now.nodes leaves lower
+            (before ++ (first, node) ∷ []) → (result ≡ length lower) × LedLast leaves lower (length before)
+            self.old.node self.old.entry self.new.node self.new.entry }
         ensures size { self.new.size ≡ self.old.size }
     {
         let last = last_index(pool, node);
@@ -245,9 +279,14 @@ impl<K: Copy, V: Copy, const N: usize> Path<K, V, N> {
     fn prev_entry(&mut self, pool: &NodePool<K, V, N>) -> bool
         requires capacity { IsLeafCapacity N }
         requires height { self.old.size ≤ 17 }
-        requires stands { (tree : Tree K V) × (place : ℕ) × IsFit N tree × IsIn pool.now.nodes tree × Stands self.old.node self.old.entry self.old.size tree place }
-        ensures moved { result ≡ true → (tree : Tree K V) (place : ℕ) → IsFit N tree → IsIn pool.now.nodes tree → Stands self.old.node self.old.entry self.old.size tree place → (0 < place) × Stands self.new.node self.new.entry self.old.size tree (place - 1) }
-        ensures first { result ≡ false → (tree : Tree K V) (place : ℕ) → IsFit N tree → IsIn pool.now.nodes tree → Stands self.old.node self.old.entry self.old.size tree place → place ≡ 0 }
+        requires stands { (tree : Tree K V) × (place : ℕ) × IsFit N tree × IsIn pool.now.nodes tree
+            × Stands self.old.node self.old.entry self.old.size tree place }
+        ensures moved { result ≡ true → (tree : Tree K V) (place : ℕ) → IsFit N tree
+            → IsIn pool.now.nodes tree → Stands self.old.node self.old.entry self.old.size tree place
+            → (0 < place) × Stands self.new.node self.new.entry self.old.size tree (place - 1) }
+        ensures first { result ≡ false → (tree : Tree K V) (place : ℕ) → IsFit N tree
+            → IsIn pool.now.nodes tree → Stands self.old.node self.old.entry self.old.size tree place → place
+            ≡ 0 }
         ensures same { result ≡ false → self.new ≡ self.old }
         ensures size { self.new.size ≡ self.old.size }
     {
@@ -267,9 +306,15 @@ impl<K: Copy, V: Copy, const N: usize> Path<K, V, N> {
     // Moves the path's node on `level` to the one before. Where there is none it answers false, and nothing changed.
     fn prev_node(&mut self, level: usize, pool: &NodePool<K, V, N>) -> bool
         requires height { self.old.size ≤ 17 }
-        requires over { (rows : List (List (LevelNode K ℕ))) × (list : List (K × ℕ)) × (place : ℕ) × Over pool.now.nodes self.old.node self.old.entry (suc level) self.old.size rows list place }
-        ensures moved { result ≡ true → (rows : List (List (LevelNode K ℕ))) (list : List (K × ℕ)) (place : ℕ) → Over pool.now.nodes self.old.node self.old.entry (suc level) self.old.size rows list place → (0 < place) × Moved self.old.node self.old.entry self.new.node self.new.entry level rows list (place - 1) }
-        ensures first { result ≡ false → (rows : List (List (LevelNode K ℕ))) (list : List (K × ℕ)) (place : ℕ) → Over pool.now.nodes self.old.node self.old.entry (suc level) self.old.size rows list place → place ≡ 0 }
+        requires over { (rows : List (List (LevelNode K ℕ))) × (list : List (K × ℕ)) × (place : ℕ)
+            × Over pool.now.nodes self.old.node self.old.entry (suc level) self.old.size rows list place }
+        ensures moved { result ≡ true → (rows : List (List (LevelNode K ℕ))) (list : List (K × ℕ)) (place : ℕ)
+            → Over pool.now.nodes self.old.node self.old.entry (suc level) self.old.size rows list place
+            → (0 < place) × Moved self.old.node self.old.entry self.new.node self.new.entry level rows list
+            (place - 1) }
+        ensures first { result ≡ false → (rows : List (List (LevelNode K ℕ))) (list : List (K × ℕ))
+            (place : ℕ) → Over pool.now.nodes self.old.node self.old.entry (suc level) self.old.size rows list
+            place → place ≡ 0 }
         ensures same { result ≡ false → self.new ≡ self.old }
         ensures size { self.new.size ≡ self.old.size }
     {

@@ -25,7 +25,7 @@ descend-requires g c =
     let tree = tree_of slots c.args.root in
     let w = is-rooted g.row.N c.args.pool.now c.args.root c.requires.union c.requires.root in
     let levels_is = top_is tree _ c.levels-levels.ensures.value in
-    (search rules, (search rules, (c.requires.capacity, (omega (arith, levels_is, w.low), (tree.leaves, tree.above, [], (whole_top g.row.N slots c.args.root tree w).first, [], whole_under g.row.N slots c.args.root tree w, c.requires.increasing, all_through order _ c.args.key, levels_is)))))
+    (search rules, (search rules, (c.requires.union.1.capacity, (omega (arith, levels_is, w.low), (tree.leaves, tree.above, [], (whole_top g.row.N slots c.args.root tree w).first, [], whole_under g.row.N slots c.args.root tree w, c.requires.increasing, all_through order _ c.args.key, levels_is)))))
 
 pub returns-clause-value : goal.returns-clause-value
 returns-clause-value g c =
@@ -36,16 +36,6 @@ returns-clause-value g c =
     let levels_is = top_is tree _ c.levels-levels.ensures.value in
     let r = c.descend.ensures.descended tree.leaves tree.above [] (whole_top g.row.N slots c.args.root tree w).first [] (whole_under g.row.N slots c.args.root tree w) c.requires.increasing (all_through order _ c.args.key) levels_is in
     r.0
-
-pub returns-clause-path : goal.returns-clause-path
-returns-clause-path g c =
-    let order = g.C.Comparator.order c.args.comp.now in
-    let slots = c.args.pool.now.nodes in
-    let tree = tree_of slots c.args.root in
-    let w = is-rooted g.row.N c.args.pool.now c.args.root c.requires.union c.requires.root in
-    let levels_is = top_is tree _ c.levels-levels.ensures.value in
-    let r = c.descend.ensures.descended tree.leaves tree.above [] (whole_top g.row.N slots c.args.root tree w).first [] (whole_under g.row.N slots c.args.root tree w) c.requires.increasing (all_through order _ c.args.key) levels_is in
-    stands_for order tree c.args.key _ _ _ _ _ r.1 (size_is tree _ _ c.levels-levels.ensures.value c.descend.ensures.size)
 
 pub returns-clause-present : goal.returns-clause-present
 returns-clause-present g c = λ here.

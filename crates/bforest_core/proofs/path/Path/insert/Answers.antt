@@ -22,14 +22,14 @@ most_same a b m n is same most = omega (arith, is, same, most)
 pub put_here-requires : goal.put_here-requires
 put_here-requires g c =
     let w = c.requires.placed in
-    (search rules, (search rules, (tree_of c.args.pool.now.nodes w.0, w.1, placed-under _ _ w.0 w.1 _ _ _ c.requires.union w.2)))
+    (search rules, (search rules, (tree_of c.args.pool.now.nodes w.root, w.place, placed-under _ _ w.root w.place _ _ _ c.requires.union w.placed)))
 
 pub needed_here-requires : goal.needed_here-requires
 needed_here-requires g c =
     let w = c.requires.placed in
     let pool_is = c.put_here.ensures.pool c.if-not-put_here.true in
-    let placed = placed-under _ _ w.0 w.1 _ _ _ c.requires.union w.2 in
-    (search rules, (search rules, ((under-low _ _ w.0 w.1 _ _ _ c.requires.union w.2).1, (tree_of c.args.pool.now.nodes w.0, w.1, placed_from _ c.args.pool.now c.put_here.new.pool _ _ _ _ w.1 pool_is placed))))
+    let placed = placed-under _ _ w.root w.place _ _ _ c.requires.union w.placed in
+    (search rules, (search rules, ((under-low _ _ w.root w.place _ _ _ c.requires.union w.placed).1, (tree_of c.args.pool.now.nodes w.root, w.place, placed_from _ c.args.pool.now c.put_here.new.pool _ _ _ _ w.place pool_is placed))))
 
 pub split_leaf-requires : goal.split_leaf-requires
 split_leaf-requires g c =
@@ -37,29 +37,29 @@ split_leaf-requires g c =
     let t0 = c.args.pool.now in
     let ms = c.args.self.now.node in
     let union = c.requires.union in
-    let tree = tree_of t0.nodes w.0 in
-    let n = need g.row.N w.1 (sizes_of tree) in
+    let tree = tree_of t0.nodes w.root in
+    let n = need g.row.N w.place (sizes_of tree) in
     let pool_is = c.put_here.ensures.pool c.if-not-put_here.true in
-    let mid_is = mid-is _ t0 c.put_here.new.pool c.reserve.new.self w.0 w.1 _ _ _ c.needed_here.result union w.2 pool_is c.needed_here.ensures.value c.in_ok-reserve.ensures.ok in
-    let d = leaf_spot _ _ _ _ _ tree w.1 (placed-under _ t0 w.0 w.1 _ _ _ union w.2) in
+    let mid_is = mid-is _ t0 c.put_here.new.pool c.reserve.new.self w.root w.place _ _ _ c.needed_here.result union w.placed pool_is c.needed_here.ensures.value c.in_ok-reserve.ensures.ok in
+    let d = leaf_spot _ _ _ _ _ tree w.place (placed-under _ t0 w.root w.place _ _ _ union w.placed) in
     let full = full-reserved g.row.N t0 n (get_or ms 0 0) (leaf_content (d.l ++ d.r)) d.slot_is (c.put_here.ensures.full c.if-not-put_here.true) in
     let slots = ap (λ (z : Table g.row.K.Denot g.row.V.Denot). length z.nodes) pool_is in
-    let levels = under-low _ _ w.0 w.1 _ _ _ union w.2 in
-    let placed = placed-mid _ t0 c.reserve.new.self w.0 w.1 _ _ _ n union w.2 mid_is in
-    (search rules, (search rules, (levels.1, (rw mid_is full, (tree, w.1, placed, omega (arith, ap (λ z. length z.chain) mid_is, reserved-free t0 n), growth-low _ t0 w.0 w.1 union w.2.root_is (omega (arith, slots, c.in_ok-reserve.ensures.numbers)))))))
+    let levels = under-low _ _ w.root w.place _ _ _ union w.placed in
+    let placed = placed-mid _ t0 c.reserve.new.self w.root w.place _ _ _ n union w.placed mid_is in
+    (search rules, (search rules, (levels.1, (rw mid_is full, (tree, w.place, placed, omega (arith, ap (λ z. length z.chain) mid_is, reserved-free t0 n), growth-low _ t0 w.root w.place union w.placed.root_is (omega (arith, slots, c.in_ok-reserve.ensures.numbers)))))))
 
 pub root-requires : goal.root-requires
 root-requires g c =
     let w = c.requires.placed in
     let joined = c.if-not-put_here in
     let t0 = c.args.pool.now in
-    let put : Put g.row.N t0 joined.pool w.0 w.1 (c.args.key, c.args.value) joined.self.node joined.self.entry joined.self.size = elim joined.branch [
+    let put : Put g.row.N t0 joined.pool w.root w.place (c.args.key, c.args.value) joined.self.node joined.self.entry joined.self.size = elim joined.branch [
       | then-not-put_here+in_ok-reserve v ↦
-          put-from _ t0 v.split_leaf.new.pool joined.pool w.0 w.1 _ _ v.split_leaf.new.self joined.self v.pool-is v.self-is
-          (put-split _ t0 c.put_here.new.pool v.reserve.new.self v.split_leaf.new.pool w.0 w.1 _ _ _ v.needed_here.result _ _ _ _ c.requires.union w.2 (c.put_here.ensures.pool v.if-not-put_here.true) v.in_ok-reserve.ensures.numbers v.needed_here.ensures.value (λ short. (let e = v.in_ok-reserve.ensures.full.1 short in absurd cc)) v.in_ok-reserve.ensures.ok v.split_leaf.ensures.inserted)
+          put-from _ t0 v.split_leaf.new.pool joined.pool w.root w.place _ _ v.split_leaf.new.self joined.self v.pool-is v.self-is
+          (put-split _ t0 c.put_here.new.pool v.reserve.new.self v.split_leaf.new.pool w.root w.place _ _ _ v.needed_here.result _ _ _ _ c.requires.union w.placed (c.put_here.ensures.pool v.if-not-put_here.true) v.in_ok-reserve.ensures.numbers v.needed_here.ensures.value (λ short. (let e = v.in_ok-reserve.ensures.full.1 short in absurd cc)) v.in_ok-reserve.ensures.ok v.split_leaf.ensures.inserted)
       | else-not-put_here v ↦
-          put-from _ t0 c.put_here.new.pool joined.pool w.0 w.1 _ _ c.args.self.now joined.self v.pool-is v.self-is
-          (put-here _ t0 c.put_here.new.pool w.0 w.1 _ _ _ _ c.requires.union w.2 (c.put_here.ensures.inserted v.if-not-put_here.false _ w.1 (placed-under _ t0 w.0 w.1 _ _ _ c.requires.union w.2)))
+          put-from _ t0 c.put_here.new.pool joined.pool w.root w.place _ _ c.args.self.now joined.self v.pool-is v.self-is
+          (put-here _ t0 c.put_here.new.pool w.root w.place _ _ _ _ c.requires.union w.placed (c.put_here.ensures.inserted v.if-not-put_here.false _ w.place (placed-under _ t0 w.root w.place _ _ _ c.requires.union w.placed)))
     ] in
     (search rules, (put.some, put.low))
 
@@ -93,9 +93,9 @@ err_at g c =
     e.1 ∙ ap Err e.2
 
 pub returns-in_err-reserve-clause-full : goal.returns-in_err-reserve-clause-full
-returns-in_err-reserve-clause-full g c = λ root place p.
+returns-in_err-reserve-clause-full g c = λ at.
     let full = c.in_err-reserve.ensures.full in
-    let n_is = need_at g c root place p in
+    let n_is = need_at g c at.root at.place at.placed in
     let pool_is = c.put_here.ensures.pool c.if-not-put_here.true in
     let room_is = ap (λ z. room z) pool_is in (
       λ is. less_same _ _ _ _ n_is room_is (full.0 (err-same c.from_residual.result c.in_err-reserve.field-0.0 _ _ _ (err_at g c) is refl refl)),
@@ -103,15 +103,15 @@ returns-in_err-reserve-clause-full g c = λ root place p.
     )
 
 pub returns-in_err-reserve-clause-memory : goal.returns-in_err-reserve-clause-memory
-returns-in_err-reserve-clause-memory g c = λ root place p is.
-    let n_is = need_at g c root place p in
+returns-in_err-reserve-clause-memory g c = λ at is.
+    let n_is = need_at g c at.root at.place at.placed in
     let pool_is = c.put_here.ensures.pool c.if-not-put_here.true in
     let grows = c.in_err-reserve.ensures.memory (err-same c.from_residual.result c.in_err-reserve.field-0.0 _ _ _ (err_at g c) is refl refl) in
     subst (λ (z : ℕ). NeedsGrowth z c.args.pool.now) n_is (subst (λ (z : Table g.row.K.Denot g.row.V.Denot). NeedsGrowth c.needed_here.result z) pool_is grows)
 
 pub returns-in_err-reserve-clause-enough : goal.returns-in_err-reserve-clause-enough
-returns-in_err-reserve-clause-enough g c = λ root place p enough.
-    let n_is = need_at g c root place p in
+returns-in_err-reserve-clause-enough g c = λ at enough.
+    let n_is = need_at g c at.root at.place at.placed in
     let pool_is = c.put_here.ensures.pool c.if-not-put_here.true in
     let ok = c.in_err-reserve.ensures.enough (most_same _ _ _ _ n_is (ap (λ z. length z.chain) pool_is) enough) in
     absurd cc
@@ -122,18 +122,18 @@ returns-in_err-reserve-clause-refused_pool g c =
     rw e (c.in_err-reserve.ensures.err ∙ c.put_here.ensures.pool c.if-not-put_here.true)
 
 pub returns-clause-inserted : goal.returns-clause-inserted
-returns-clause-inserted g c = λ root place p. rw c.root.ensures (put_at g c root place p).is.changes
+returns-clause-inserted g c = λ at. rw c.root.ensures (put_at g c at.root at.place at.placed).is.changes
 
 pub returns-clause-account : goal.returns-clause-account
-returns-clause-account g c = λ root place p. (put_at g c root place p).is.takes
+returns-clause-account g c = λ at. (put_at g c at.root at.place at.placed).is.takes
 
 pub returns-clause-stands : goal.returns-clause-stands
-returns-clause-stands g c = λ root place p. rw c.root.ensures (put_at g c root place p).is.stands
+returns-clause-stands g c = λ at. rw c.root.ensures (put_at g c at.root at.place at.placed).is.stands
 
 pub returns-clause-same_root : goal.returns-clause-same_root
-returns-clause-same_root g c = λ root place p. rw c.root.ensures (put_at g c root place p).is.same_root
+returns-clause-same_root g c = λ at. rw c.root.ensures (put_at g c at.root at.place at.placed).is.same_root
 
 pub returns-clause-full : goal.returns-clause-full
-returns-clause-full g c = λ root place p.
-    let enough = (put_at g c root place p).enough in
+returns-clause-full g c = λ at.
+    let enough = (put_at g c at.root at.place at.placed).enough in
     (λ is. absurd cc, λ short. absurd (omega (arith, short, enough)))

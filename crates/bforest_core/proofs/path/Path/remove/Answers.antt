@@ -12,14 +12,14 @@ use Rattle.bforest_core.proofs.path.Path.remove.Goals as goal
 pub root-root-requires : goal.root-root-requires
 root-root-requires g c =
     let w = c.requires.stands in
-    let s = stands_in _ _ w.0 w.1 _ _ _ c.requires.union w.2 in
+    let s = stands_in _ _ w.root w.place _ _ _ c.requires.union w.on in
     (search rules, (omega (arith, s.stands.size_is), omega (arith, s.stands.size_is, s.low)))
 
 pub entries-requires : goal.entries-requires
 entries-requires g c =
     let w = c.requires.stands in
     let path = c.args.self.now.node in
-    let d = leaf_at _ _ _ _ _ _ w.1 (stands_in _ _ w.0 w.1 _ _ _ c.requires.union w.2) in
+    let d = leaf_at _ _ _ _ _ _ w.place (stands_in _ _ w.root w.place _ _ _ c.requires.union w.on) in
     let here : get_or path 0 c.index-self-0.result ≡ get_or path 0 0 = get_or_default path 0 c.index-self-0.result 0 (omega arith) in
     (search rules, (leaf_content (d.l ++ d.x ∷ d.r), rw here d.slot_is, λ free. free))
 
@@ -27,28 +27,28 @@ pub remove_leaf-requires : goal.remove_leaf-requires
 remove_leaf-requires g c =
     let w = c.requires.stands in
     let path = c.args.self.now.node in
-    let s = stands_in _ _ w.0 w.1 _ _ _ c.requires.union w.2 in
-    let tree = tree_of c.args.pool.now.nodes w.0 in
-    let d = leaf_at _ _ _ _ _ _ w.1 s in
+    let s = stands_in _ _ w.root w.place _ _ _ c.requires.union w.on in
+    let tree = tree_of c.args.pool.now.nodes w.root in
+    let d = leaf_at _ _ _ _ _ _ w.place s in
     let es = d.l ++ d.x ∷ d.r in
     let here : get_or path 0 c.index-self-0.result ≡ get_or path 0 0 = get_or_default path 0 c.index-self-0.result 0 (omega arith) in
     let counted = c.entries.ensures.value (leaf_content es) (rw here d.slot_is) in
     let slot = one_slot es _ (omega (arith, counted, c.if-entries-eq1.true, leaf_keys es)) d.slot_is in
-    (search rules, (search rules, (c.requires.capacity, ((tree, w.1, s, root-stands g.row.N tree path _ _ w.1 s.fit s.stands ∙ sym c.root-root.ensures), (slot.0, slot.1)))))
+    (search rules, (search rules, (c.requires.union.1.capacity, ((tree, w.place, s, root-stands g.row.N tree path _ _ w.place s.fit s.stands ∙ sym c.root-root.ensures), (slot.0, slot.1)))))
 
 pub remove_entry-requires : goal.remove_entry-requires
 remove_entry-requires g c =
     let w = c.requires.stands in
     let path = c.args.self.now.node in
-    let s = stands_in _ _ w.0 w.1 _ _ _ c.requires.union w.2 in
-    let tree = tree_of c.args.pool.now.nodes w.0 in
-    let d = leaf_at _ _ _ _ _ _ w.1 s in
+    let s = stands_in _ _ w.root w.place _ _ _ c.requires.union w.on in
+    let tree = tree_of c.args.pool.now.nodes w.root in
+    let d = leaf_at _ _ _ _ _ _ w.place s in
     let es = d.l ++ d.x ∷ d.r in
     let here : get_or path 0 c.index-self-0.result ≡ get_or path 0 0 = get_or_default path 0 c.index-self-0.result 0 (omega arith) in
     let counted = c.entries.ensures.value (leaf_content es) (rw here d.slot_is) in
     let more : length es ≢ 1 = λ one. c.if-entries-eq1.false (omega (arith, counted, one, leaf_keys es)) in
     let slot = more_slot es _ (omega (arith, length-append d.l (d.x ∷ d.r))) more d.slot_is in
-    (search rules, (search rules, (c.requires.capacity, ((tree, w.1, s, root-stands g.row.N tree path _ _ w.1 s.fit s.stands ∙ sym c.root-root.ensures), (slot.0, slot.1, slot.2, slot.3)))))
+    (search rules, (search rules, (c.requires.union.1.capacity, ((tree, w.place, s, root-stands g.row.N tree path _ _ w.place s.fit s.stands ∙ sym c.root-root.ensures), (slot.0, slot.1, slot.2, slot.3)))))
 
 -- what the removal of a leaf says
 leaf_said : (g : Over) (c : goal.After-remove_leaf g) (root place : ℕ) → StandsUnder c.args.pool.now.nodes root c.args.self.now.node c.args.self.now.entry c.args.self.now.size place →
@@ -69,43 +69,43 @@ entry_said g c root place u =
     (removal g.row.N c.args.pool.now c.remove_entry.new.pool root place _ _ _ c.remove_entry.new.self.node c.remove_entry.new.self.entry c.remove_entry.new.self.size c.remove_entry.result c.requires.union u (c.remove_entry.ensures tree place s))
 
 pub returns-then-entries-eq1-clause-removed : goal.returns-then-entries-eq1-clause-removed
-returns-then-entries-eq1-clause-removed g c = λ root place u. if_some _ _ c.remove_leaf.result (λ root' r. r.changes) (leaf_said g c root place u).some
+returns-then-entries-eq1-clause-removed g c = λ at. if_some _ _ c.remove_leaf.result (λ root' r. r.changes) (leaf_said g c at.root at.place at.on).some
 
 pub returns-then-entries-eq1-clause-account : goal.returns-then-entries-eq1-clause-account
-returns-then-entries-eq1-clause-account g c = λ root place u. (leaf_said g c root place u).gives
+returns-then-entries-eq1-clause-account g c = λ at. (leaf_said g c at.root at.place at.on).gives
 
 pub returns-then-entries-eq1-clause-stands : goal.returns-then-entries-eq1-clause-stands
-returns-then-entries-eq1-clause-stands g c = λ root place u. if_some _ _ c.remove_leaf.result (λ root' r. r.at) (leaf_said g c root place u).some
+returns-then-entries-eq1-clause-stands g c = λ at. if_some _ _ c.remove_leaf.result (λ root' r. record { root_is = r.changes.root_is; at = r.at }) (leaf_said g c at.root at.place at.on).some
 
 pub returns-then-entries-eq1-clause-same_root : goal.returns-then-entries-eq1-clause-same_root
-returns-then-entries-eq1-clause-same_root g c = λ root place u. if_some _ _ c.remove_leaf.result (λ root' r. r.same_root) (leaf_said g c root place u).some
+returns-then-entries-eq1-clause-same_root g c = λ at. if_some _ _ c.remove_leaf.result (λ root' r. r.same_root) (leaf_said g c at.root at.place at.on).some
 
 pub returns-then-entries-eq1-clause-last : goal.returns-then-entries-eq1-clause-last
-returns-then-entries-eq1-clause-last g c = λ root place u. (leaf_said g c root place u).last
+returns-then-entries-eq1-clause-last g c = λ at. (leaf_said g c at.root at.place at.on).last
 
 pub returns-then-entries-eq1-clause-ended : goal.returns-then-entries-eq1-clause-ended
-returns-then-entries-eq1-clause-ended g c = λ none root place u. (leaf_said g c root place u).ended none
+returns-then-entries-eq1-clause-ended g c = λ none at. (leaf_said g c at.root at.place at.on).ended none
 
 pub returns-then-entries-eq1-clause-none_left : goal.returns-then-entries-eq1-clause-none_left
-returns-then-entries-eq1-clause-none_left g c = λ none root place u. (leaf_said g c root place u).none_left none
+returns-then-entries-eq1-clause-none_left g c = λ none at. (leaf_said g c at.root at.place at.on).none_left none
 
 pub returns-then-entries-eq1-clause-freed_root : goal.returns-then-entries-eq1-clause-freed_root
-returns-then-entries-eq1-clause-freed_root g c = λ root place u ne. (leaf_said g c root place u).freed_root ne
+returns-then-entries-eq1-clause-freed_root g c = λ at ne. (leaf_said g c at.root at.place at.on).freed_root ne
 
 pub returns-else-entries-eq1-clause-removed : goal.returns-else-entries-eq1-clause-removed
-returns-else-entries-eq1-clause-removed g c = λ root place u. (entry_said g c root place u).some.changes
+returns-else-entries-eq1-clause-removed g c = λ at. (entry_said g c at.root at.place at.on).some.changes
 
 pub returns-else-entries-eq1-clause-account : goal.returns-else-entries-eq1-clause-account
-returns-else-entries-eq1-clause-account g c = λ root place u. (entry_said g c root place u).gives
+returns-else-entries-eq1-clause-account g c = λ at. (entry_said g c at.root at.place at.on).gives
 
 pub returns-else-entries-eq1-clause-stands : goal.returns-else-entries-eq1-clause-stands
-returns-else-entries-eq1-clause-stands g c = λ root place u. (entry_said g c root place u).some.at
+returns-else-entries-eq1-clause-stands g c = λ at. (let r = (entry_said g c at.root at.place at.on).some in record { root_is = r.changes.root_is; at = r.at })
 
 pub returns-else-entries-eq1-clause-same_root : goal.returns-else-entries-eq1-clause-same_root
-returns-else-entries-eq1-clause-same_root g c = λ root place u. (entry_said g c root place u).some.same_root
+returns-else-entries-eq1-clause-same_root g c = λ at. (entry_said g c at.root at.place at.on).some.same_root
 
 pub returns-else-entries-eq1-clause-last : goal.returns-else-entries-eq1-clause-last
-returns-else-entries-eq1-clause-last g c = λ root place u. (entry_said g c root place u).last
+returns-else-entries-eq1-clause-last g c = λ at. (entry_said g c at.root at.place at.on).last
 
 pub returns-else-entries-eq1-clause-freed_root : goal.returns-else-entries-eq1-clause-freed_root
-returns-else-entries-eq1-clause-freed_root g c = λ root place u ne. (entry_said g c root place u).freed_root ne
+returns-else-entries-eq1-clause-freed_root g c = λ at ne. (entry_said g c at.root at.place at.on).freed_root ne

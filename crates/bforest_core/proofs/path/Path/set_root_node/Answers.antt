@@ -1,5 +1,7 @@
-use Rattle.std.proofs.Common.{refl}
+use Rattle.std.proofs.Common.{rules, ◌≡◌, get_or, refl}
+use Rattle.bforest_core.proofs.Standing.{on-leaf}
 use Rattle.bforest_core.proofs.path.Path.set_root_node.Goals as goal
 
-pub returns-clause-entry : goal.returns-clause-entry
-returns-clause-entry g c = refl
+pub returns-clause-stands : goal.returns-clause-stands
+returns-clause-stands g c = λ table union is leaf.
+    on-leaf g.row.N table c.args.root _ _ union is leaf (search rules) (search rules)

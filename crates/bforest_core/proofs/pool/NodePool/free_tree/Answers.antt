@@ -13,7 +13,7 @@ free_under-requires g c =
     let tree = tree_of slots c.args.root in
     let w = is-rooted g.row.N c.args.self.now c.args.root c.requires.union c.requires.root in
     let r = rooted g.row.N c.args.self.now c.args.root c.requires.union c.requires.root in
-    (search rules, (c.requires.capacity, (tree.leaves, tree.above, (whole_top g.row.N slots c.args.root tree w).first, whole_under g.row.N slots c.args.root tree w, r.apart, omega (arith, w.low))))
+    (search rules, (c.requires.union.1.capacity, (tree.leaves, tree.above, (whole_top g.row.N slots c.args.root tree w).first, whole_under g.row.N slots c.args.root tree w, r.apart, omega (arith, w.low))))
 
 pub returns-clause-ended : goal.returns-clause-ended
 returns-clause-ended g c =

@@ -18,7 +18,7 @@ levels_from-requires g c =
     let slots = c.args.self.now.nodes in
     let tree = tree_of slots c.args.root in
     let w = is-rooted g.row.N c.args.self.now c.args.root c.requires.union c.requires.root in
-    (search rules, (c.requires.capacity, (tree.leaves, tree.above, (whole_top g.row.N slots c.args.root tree w).first, [], whole_under g.row.N slots c.args.root tree w, omega (arith, w.low))))
+    (search rules, (c.requires.union.1.capacity, (tree.leaves, tree.above, (whole_top g.row.N slots c.args.root tree w).first, [], whole_under g.row.N slots c.args.root tree w, omega (arith, w.low))))
 
 pub returns-clause-value : goal.returns-clause-value
 returns-clause-value g c =
@@ -32,7 +32,7 @@ pub returns-clause-leaves : goal.returns-clause-leaves
 returns-clause-leaves g c =
     let tree = tree_of c.args.self.now.nodes c.args.root in
     let w = is-rooted g.row.N c.args.self.now c.args.root c.requires.union c.requires.root in
-    let one = some_leaf _ c.requires.capacity in
+    let one = some_leaf _ c.requires.union.1.capacity in
     let few = leaves-few (half_of g.row.N) g.row.N tree.leaves one w.fit.leaves_fit in
     (le-div_iff_mul-le one).1 (subst (λ (z : ℕ). z ≤ length (flat tree.leaves) + (half_of g.row.N - 1)) (mul_comm (half_of g.row.N) (length tree.leaves)) few)
 
@@ -42,7 +42,7 @@ returns-clause-depth g c = λ two.
     let tree = tree_of slots c.args.root in
     let w = is-rooted g.row.N c.args.self.now c.args.root c.requires.union c.requires.root in
     let r = c.levels_from.ensures tree.leaves tree.above (whole_top g.row.N slots c.args.root tree w).first [] (whole_under g.row.N slots c.args.root tree w) in
-    let d = depth (half_of g.row.N) g.row.N (some_leaf _ c.requires.capacity) tree.leaves tree.above w.fit.leaves_fit w.fit.stacked w.fit.topped (omega (arith, r, two)) in
+    let d = depth (half_of g.row.N) g.row.N (some_leaf _ c.requires.union.1.capacity) tree.leaves tree.above w.fit.leaves_fit w.fit.stacked w.fit.topped (omega (arith, r, two)) in
     let e : length tree.above - 1 ≡ c.levels_from.result - 2 = omega (arith, r) in
     subst (λ (z : ℕ). half_of g.row.N * 4 ^ z < length (flat tree.leaves)) e d
 

@@ -9,7 +9,7 @@ value_mut-requires g c =
     let s = c.requires.stands in
     let ms = c.args.path.now.node in
     let here : get_or ms 0 c.index-path-0.result ≡ get_or ms 0 0 = get_or_default ms 0 c.index-path-0.result 0 (omega arith) in
-    let r = entry-used g.row.N c.args.self.now s.0 s.1 ms c.args.path.now.entry c.args.path.now.size c.requires.union s.2 in
+    let r = entry-used g.row.N c.args.self.now s.root s.place ms c.args.path.now.entry c.args.path.now.size c.requires.union s.on in
     (search rules, (rw here r.0, rw here r.1))
 
 pub returns : goal.returns
@@ -22,8 +22,8 @@ returns g c =
       (refl, λ w. ap (λ z. with_value_at table z (get_or js 0 0) w) here),
       record {
         writes_back = tt;
-        value = λ root place s. c.value_mut.ensures.value ∙ ap (λ z. value_at table.nodes z (get_or js 0 0)) here ∙ value-under g.row.N table root place ms js size c.requires.union s;
-        written = λ root place s value. (value-written g.row.N table root place ms js size c.requires.union s value).0;
-        stands = λ root place s value. (value-written g.row.N table root place ms js size c.requires.union s value).1;
+        value = λ at. c.value_mut.ensures.value ∙ ap (λ z. value_at table.nodes z (get_or js 0 0)) here ∙ value-under g.row.N table at.root at.place ms js size c.requires.union at.on;
+        written = λ at value. (value-written g.row.N table at.root at.place ms js size c.requires.union at.on value).0;
+        stands = λ at value. (value-written g.row.N table at.root at.place ms js size c.requires.union at.on value).1;
       },
     )

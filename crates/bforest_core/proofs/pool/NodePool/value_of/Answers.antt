@@ -10,7 +10,7 @@ value_below-requires g c =
     let slots = c.args.self.now.nodes in
     let tree = tree_of slots c.args.root in
     let w = is-rooted g.row.N c.args.self.now c.args.root c.requires.union c.requires.root in
-    (search rules, (c.requires.capacity, (tree.leaves, tree.above, [], (whole_top g.row.N slots c.args.root tree w).first, [], whole_under g.row.N slots c.args.root tree w, c.requires.increasing, all_through order _ c.args.key, omega (arith, w.low))))
+    (search rules, (c.requires.union.1.capacity, (tree.leaves, tree.above, [], (whole_top g.row.N slots c.args.root tree w).first, [], whole_under g.row.N slots c.args.root tree w, c.requires.increasing, all_through order _ c.args.key, omega (arith, w.low))))
 
 pub returns : goal.returns
 returns g c =

@@ -1,0 +1,85 @@
+-- Where a path stands in a pool: the words of its public calls. The path is read by these words alone.
+use Rattle.std.specs.Prelude.{◌≡◌, ℕ, IsTrue, List, length, get_or, if◌then◌else◌, ◌==◌, ◌+◌, ◌∷◌, [], nat_eq}
+use Rattle.bforest_core.specs.Change.{AtUnder, PlacedUnder, PointsUnder, StandsUnder}
+use Rattle.bforest_core.specs.Levels.{LevelNode, flat, node, sizes_of}
+use Rattle.bforest_core.specs.Table.{Table}
+use Rattle.bforest_core.specs.Trees.{tree_of}
+use Rattle.bforest_core.specs.declared.path.Path.{Path}
+
+module _ {K V : Type 0} where
+  -- the list of the tree under a root
+  abbrev pub list_under : Table K V → ℕ → List (K × V)
+  list_under table root = flat (tree_of table.nodes root).leaves
+
+  -- the sizes of its nodes, level by level, the leaves first
+  abbrev pub sizes_under : Table K V → ℕ → List (List ℕ)
+  sizes_under table root = sizes_of (tree_of table.nodes root)
+
+  -- the leaf of a path
+  abbrev pub leaf_of : {n : ℕ} → Path K V n → ℕ
+  leaf_of path = get_or path.node 0 0
+
+  -- the index in its leaf
+  abbrev pub index_of : {n : ℕ} → Path K V n → ℕ
+  index_of path = get_or path.entry 0 0
+
+  -- the path is at the end, with no node
+  abbrev pub IsAtEnd : {n : ℕ} → Path K V n → Type 0
+  IsAtEnd path = path.size ≡ 0
+
+  -- the path stands on the entry at this place of the list under a root
+  abbrev pub StandsOn : {n : ℕ} → Table K V → ℕ → Path K V n → ℕ → Type 0
+  StandsOn table root path place = StandsUnder table.nodes root path.node path.entry path.size place
+
+  -- it stands on that entry, or at the end, whose place is the list's length
+  abbrev pub StandsAt : {n : ℕ} → Table K V → ℕ → Path K V n → ℕ → Type 0
+  StandsAt table root path place = AtUnder table.nodes root path.node path.entry path.size place
+
+  -- it is in a leaf under the root, where an entry may come in at this place: behind an entry of the leaf, or in front
+  -- of the first leaf
+  abbrev pub IsPlaced : {n : ℕ} → Table K V → ℕ → Path K V n → ℕ → Type 0
+  IsPlaced table root path place = PlacedUnder table.nodes root path.node path.entry path.size place
+
+  -- it is on the entry at this place, or behind the last entry of a leaf, which is in front of this place
+  abbrev pub PointsTo : {n : ℕ} → Table K V → ℕ → Path K V n → ℕ → Type 0
+  PointsTo table root path place = PointsUnder table.nodes root path.node path.entry path.size place
+
+  -- the root and the place of the entry on which a path stands
+  pub record OnEntry {n : ℕ} (table : Table K V) (path : Path K V n) : Type 0 where
+    pub root : ℕ
+    pub place : ℕ
+    pub on : StandsOn table root path place
+
+  -- the root and the place where a path stands, the end too
+  pub record Standing {n : ℕ} (table : Table K V) (path : Path K V n) : Type 0 where
+    pub root : ℕ
+    pub place : ℕ
+    pub at : StandsAt table root path place
+
+  -- the place where a path stands under this root, the end too
+  pub record StandingUnder {n : ℕ} (table : Table K V) (root : ℕ) (path : Path K V n) : Type 0 where
+    pub place : ℕ
+    pub at : StandsAt table root path place
+
+  -- the root and the place where an entry may come in at a path
+  pub record Placing {n : ℕ} (table : Table K V) (path : Path K V n) : Type 0 where
+    pub root : ℕ
+    pub place : ℕ
+    pub placed : IsPlaced table root path place
+
+  -- the root and the place to which a path points
+  pub record Pointing {n : ℕ} (table : Table K V) (path : Path K V n) : Type 0 where
+    pub root : ℕ
+    pub place : ℕ
+    pub to : PointsTo table root path place
+
+  -- the place in a row of the entry at an index of the node of this number
+  abbrev pub place_in : List (LevelNode K V) → ℕ → ℕ → ℕ
+  place_in [] number index = 0
+  place_in (node first entries ∷ rest) number index =
+      if nat_eq first number then index else length entries + place_in rest number index
+
+  -- the place under a root where a path stands, from the path's leaf and its index there
+  abbrev pub spot : {n : ℕ} → Table K V → ℕ → Path K V n → ℕ
+  spot table root path =
+      if path.size == 0 then length (list_under table root) else place_in (tree_of table.nodes root).leaves (leaf_of path) (index_of path)

@@ -1,0 +1,72 @@
+-- What an insertion at a handle answers and leaves, as one record.
+use Rattle.bforest_core.proofs.Stored.{some_same}
+use Rattle.bforest_core.specs.declared.pool.OutOfMemory.TheVariants.{Full, Memory}
+use Rattle.bforest_core.specs.declared.pool.OutOfMemory.{OutOfMemory}
+use Rattle.bforest_nodes.specs.Entries.{IsIncreasing, put, value_for}
+use Rattle.bforest_trees.proofs.Increasing.{IsIncreasing-one}
+use Rattle.bforest_trees.proofs.Putting.{IsPut, present-told, sizes-kept}
+use Rattle.bforest_trees.specs.Calls.{Inserts}
+use Rattle.bforest_trees.specs.Forest.{Becomes, Forest, IsTooMany, NeedsGrowth, Takes, free_of, list_at, list_of, need_of, sizes_at}
+use Rattle.std.proofs.Common.{Err, List, None, Ok, Option, Some, [], ap, false, length, refl, subst, sym, true, ◌∙◌, ◌∷◌, ◌↔◌, ◌≡◌, ◌≤◌, ℕ}
+use Rattle.std.proofs.lemmas.Bool.{false≢true}
+use Rattle.std.specs.Option.{is_some}
+use Rattle.std.specs.declared.cmp.Ordering.{Ordering}
+
+module _ {K X : Type 0} (most : ℕ) (cmp : K → K → Ordering) (f : Forest K X) (k : K) (x : X) where
+  module _ (n : ℕ) where
+    abbrev needed : ℕ
+    needed = need_of most cmp f (Some n) k
+
+    -- into the tree of a number
+    pub inserts-ok : (f' : Forest K X) (n' : ℕ) (old : Option X) → value_for cmp (list_at f n) k ≡ old → IsPut most cmp f f' n n' k x → IsIncreasing cmp (put cmp (list_at f n) k x) → ¬ IsTooMany needed f → Inserts most cmp f (Some n) k x (Ok old) f' (Some n')
+    inserts-ok f' n' old found told rises low = record {
+      ok = sym found;
+      put = told.put;
+      sizes = told.sizes;
+      same_number = λ is. ap Some (told.same_root.1 (ap length (sizes-kept most cmp f (Some n) k (present-told cmp (list_at f n) k (ap is_some found ∙ is)))));
+      same_levels = (λ same. ap length told.sizes ∙ told.same_root.0 (some_same n' n same), λ e. ap Some (told.same_root.1 (sym (ap length told.sizes) ∙ e)));
+      account = told.account;
+      increasing = subst (IsIncreasing cmp) (sym told.put.list) rises;
+      full = (λ bad. absurd (cc), λ bad. absurd (low bad));
+      memory = λ bad. absurd (cc);
+      succeeds = λ enough. refl;
+      absent = tt;
+      refused_forest = tt;
+      refused_handle = tt;
+    }
+
+  -- a refusal, at any handle
+  pub inserts-err : (h : Option ℕ) (refused : OutOfMemory) → IsIncreasing cmp (list_of f h) → value_for cmp (list_of f h) k ≡ None → (refused ≡ Full) ↔ IsTooMany (need_of most cmp f h k) f → (refused ≡ Memory → NeedsGrowth (need_of most cmp f h k) f) → ¬ (need_of most cmp f h k ≤ free_of f) → Inserts most cmp f h k x (Err refused) f h
+  inserts-err h refused up gone full memory scarce = record {
+    ok = tt;
+    put = tt;
+    sizes = tt;
+    same_number = tt;
+    same_levels = tt;
+    account = tt;
+    increasing = up;
+    full = (λ bad. full.0 (cc), λ bad. ap Err (full.1 bad));
+    memory = λ bad. memory (cc);
+    succeeds = λ enough. absurd (scarce enough);
+    absent = gone;
+    refused_forest = refl;
+    refused_handle = refl;
+  }
+
+  -- the first entry of an empty handle
+  pub inserts-first : (f' : Forest K X) (n : ℕ) → Becomes f None f' (Some n) ((k, x) ∷ []) → sizes_at f' n ≡ (1 ∷ []) ∷ [] → Takes 1 f f' → ¬ IsTooMany 1 f → Inserts most cmp f None k x (Ok None) f' (Some n)
+  inserts-first f' n becomes sizes takes low = record {
+    ok = refl;
+    put = becomes;
+    sizes = sizes;
+    same_number = λ is. absurd (false≢true is);
+    same_levels = (λ same. absurd (cc), λ e. absurd (let one : 1 ≡ 0 = sym (ap length sizes) ∙ e in cc));
+    account = takes;
+    increasing = subst (IsIncreasing cmp) (sym becomes.list) (IsIncreasing-one cmp (k, x));
+    full = (λ bad. absurd (cc), λ bad. absurd (low bad));
+    memory = λ bad. absurd (cc);
+    succeeds = λ enough. refl;
+    absent = tt;
+    refused_forest = tt;
+    refused_handle = tt;
+  }
