@@ -1,5 +1,5 @@
 -- Chains of free nodes: how each change of the slots keeps them.
-use Rattle.std.proofs.Common.{◌≡◌, ◌≢◌, inl, inr, ℕ, ◌+◌, ◌<◌, ◌≤◌, ◌==◌, zero, suc, true, false, List, [], ◌∷◌, ◌++◌, length, set, nat_eq, Some, None, Option, refl, sym, ap, subst, arith, append_assoc, append-nil}
+use Rattle.std.proofs.Common.{◌≡◌, ◌≢◌, inl, inr, ℕ, ◌+◌, ◌<◌, ◌≤◌, ◌==◌, zero, suc, true, false, List, [], ◌∷◌, ◌++◌, length, set, nat_eq, Some, None, Option, refl, slice_get, sym, ap, ◌∙◌, subst, arith, append_assoc, append-nil}
 use Rattle.std.specs.List.{list_any, IsDistinct, AllByRecursion}
 use Rattle.std.proofs.lemmas.List.{length-append, length_push}
 use Rattle.std.proofs.lemmas.Option.{slice_get_within}
@@ -8,7 +8,7 @@ use Rattle.std.proofs.lemmas.Bool.Decides.{Decides-eqb, not_from_Decides, eqb_te
 use Rattle.std.proofs.lemmas.Map.Keys.{IsDistinct-cons}
 use Rattle.bforest_nodes.specs.Content.{Content, Free}
 use Rattle.bforest_core.specs.Chain.{chain_from, IsChain}
-use Rattle.bforest_core.specs.Table.{front_of, down_from, front_of_new, fresh_nodes}
+use Rattle.bforest_core.specs.Table.{IsFreeAt, front_of, down_from, front_of_new, fresh_nodes}
 use Rattle.bforest_core.proofs.Lists.{slice_get-append_left, slice_get-push, slice_get-set_other, slice_get-set_same}
 
 -- numbers that are not equal are apart
@@ -101,6 +101,15 @@ module _ {K V : Type 0} where
       elim (eqb_tells q node) [
         | inl same ↦ omega (arith, same.1, slice_get_within nodes node _ linked.2)
         | inr other ↦ IsChain-below nodes rest linked.0 linked.3 q (rw other.0 at on)
+      ]
+
+  -- these slots are free
+  pub IsChain-free : (nodes : List (Content K V)) (chain : List ℕ) (first : Option ℕ) → IsChain nodes chain first → (q : ℕ) → list_any (nat_eq q) chain ≡ true → IsFreeAt nodes q
+  IsChain-free nodes [] first linked q on = cc
+  IsChain-free nodes (node ∷ rest) first linked q on =
+      elim (eqb_tells q node) [
+        | inl same ↦ (linked.0, ap (λ z. slice_get nodes z) same.1 ∙ linked.2)
+        | inr other ↦ IsChain-free nodes rest linked.0 linked.3 q (rw other.0 at on)
       ]
 
   -- numbers from the count of slots on are on no chain of these slots

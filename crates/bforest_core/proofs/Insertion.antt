@@ -1,9 +1,10 @@
 -- What an insertion into the tree under a root says of the table, where nodes were made free for it before.
-use Rattle.std.proofs.Common.{◌≡◌, ℕ, suc, ◌+◌, ◌-◌, ◌^◌, ◌≤◌, ◌<◌, ◌≢◌, ◌↔◌, IsTrue, Option, Some, None, Result, Err, List, [], ◌∷◌, ◌++◌, map, length, insert, slice_get, sym, ap, ◌∙◌, subst, inl, inr, append-nil, length-append, arith}
+use Rattle.std.proofs.Common.{◌≡◌, ℕ, suc, ◌+◌, ◌-◌, ◌^◌, ◌≤◌, ◌<◌, ◌≢◌, ◌↔◌, IsTrue, Option, Some, None, Result, Err, List, [], ◌∷◌, ◌++◌, drop, map, length, insert, slice_get, sym, ap, ◌∙◌, subst, inl, inr, append-nil, length-append, arith}
 use Rattle.std.specs.List.{flat_map}
 use Rattle.std.proofs.lemmas.Bool.{cases_lt}
 use Rattle.std.proofs.lemmas.Bool.Decides.{eqb_tells}
 use Rattle.std.proofs.lemmas.List.{length-map}
+use Rattle.std.proofs.Math.Seq.{drop-append_seam}
 use Rattle.bforest_core.specs.declared.path.Path.{Path}
 use Rattle.bforest_nodes.specs.Content.{Content}
 use Rattle.bforest_core.specs.Table.{Table, down_from, fresh_nodes, front_of, free_count, slot_count, room, reserved, IsFullAt}
@@ -142,6 +143,7 @@ module _ {K V : Type 0} where
         takes = record {
           slots = i.slots_are ∙ reserved-slots old n;
           free = omega (arith, ap length i.chain_is, length-append i.taken new.chain, i.taken_is, reserved-free old n);
+          chain_is = sym (ap (λ z. drop n z) i.chain_is ∙ ap (λ z. drop z (i.taken ++ new.chain)) (sym i.taken_is) ∙ drop-append_seam i.taken new.chain);
         };
         stands = record { root_is = e.root_is; stands = subst (λ (z : Tree K V). Stands path' indices' size' z place) (sym e.tree_is) i.stands };
         same_root = (

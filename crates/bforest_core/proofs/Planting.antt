@@ -1,5 +1,5 @@
 -- A table of no tree, a first entry of a tree, and what a tree under a root has.
-use Rattle.std.proofs.Common.{◌≡◌, ◌≢◌, ℕ, ◌-◌, ◌≤◌, ◌<◌, IsTrue, Some, List, [], ◌∷◌, length, refl, sym, ap, ◌∙◌, inl, inr, length-append, arith}
+use Rattle.std.proofs.Common.{◌≡◌, ◌≢◌, ℕ, ◌-◌, ◌≤◌, ◌<◌, IsTrue, Some, List, [], ◌∷◌, drop, length, refl, sym, ap, ◌∙◌, inl, inr, length-append, arith}
 use Rattle.std.specs.List.{flat_map}
 use Rattle.std.proofs.lemmas.List.{length-map}
 use Rattle.std.proofs.lemmas.Bool.{cases_lt}
@@ -8,7 +8,7 @@ use Rattle.bforest_core.specs.Table.{Table, front_of, free_count, slot_count, fr
 use Rattle.bforest_core.specs.Levels.{node, flat, sizes, sizes_of, Tree}
 use Rattle.bforest_core.specs.Place.{count, numbers_of}
 use Rattle.bforest_core.specs.Trees.{tree_of, is_root, IsUnion}
-use Rattle.bforest_core.specs.Change.{Changes, TakesNodes}
+use Rattle.bforest_core.specs.Change.{Plants}
 use Rattle.bforest_core.proofs.Tables.{count-append, count-same, absent_ne, takes}
 use Rattle.bforest_core.proofs.Chains.{length-fresh_nodes, length-down_from}
 use Rattle.bforest_core.proofs.Counts.{past-none}
@@ -48,9 +48,10 @@ module _ {K V : Type 0} where
       )
 
   -- what `alloc_node` leaves: a tree of one leaf of one entry, under a number that had no tree, and one node fewer lies free or one slot more is used
-  pub planted-alloc : (most : ℕ) (old new : Table K V) (number : ℕ) (key : K) (value : V) → IsUnion most old → 1 ≤ most → front_of (reserved old 1).chain ≡ Some number → new ≡ with_front (reserved old 1) (reserved old 1).chain (Leaf (key ∷ []) (value ∷ [])) →
-      Changes most old new number number ((key, value) ∷ []) ((1 ∷ []) ∷ []) × (¬ IsTrue (is_root old.nodes number)) × TakesNodes 1 old new
-  planted-alloc most old new number key value union one front is =
+  pub planted-alloc : (most : ℕ) (old new : Table K V) (number : ℕ) (key : K) (value : V) → IsUnion most old → front_of (reserved old 1).chain ≡ Some number → new ≡ with_front (reserved old 1) (reserved old 1).chain (Leaf (key ∷ []) (value ∷ [])) →
+      Plants most old new number (key, value)
+  planted-alloc most old new number key value union front is =
+      let one : 1 ≤ most = omega (arith, union.1.capacity.least) in
       let mid = reserved old 1 in
       let u = reserved-union most old 1 union in
       let f = front_rest number mid.chain front in
@@ -66,8 +67,9 @@ module _ {K V : Type 0} where
       let made = length-fresh_nodes K V (slot_count old) (1 - free_count old) (front_of old.chain) in
       let slots = length-append old.nodes (fresh_nodes {K = K} {V = V} (slot_count old) (1 - free_count old) (front_of old.chain)) in
       let chains = length-append (down_from (slot_count old) (1 - free_count old)) old.chain in
-      let downs = length-down_from (slot_count old) (1 - free_count old) in (
-        record {
+      let downs = length-down_from (slot_count old) (1 - free_count old) in
+      record {
+        changes = record {
           union = e.0.union;
           root_is = e.0.root_is;
           list_is = ap (λ (z : Tree K V). flat z.leaves) e.0.tree_is;
@@ -76,10 +78,11 @@ module _ {K V : Type 0} where
           old_gone = λ ne. absurd (ne refl);
           new_came = λ ne. absurd (ne refl);
           limit_is = t.limit_is;
-        },
-        λ there. e.1 ((reserved-roots most old 1 union number).0 ∙ there),
-        record {
+        };
+        fresh = λ there. e.1 ((reserved-roots most old 1 union number).0 ∙ there);
+        takes = record {
           slots = omega (arith, t.slots_are, slots, made);
           free = omega (arith, ap length t.chain_is, chains, downs);
-        },
-      )
+          chain_is = sym (ap (λ z. drop 1 z) t.chain_is);
+        };
+      }

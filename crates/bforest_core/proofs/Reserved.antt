@@ -1,16 +1,17 @@
 -- New slots in front of the chain leave the trees of a table as they are.
-use Rattle.std.proofs.Common.{◌≡◌, ℕ, zero, suc, ◌+◌, ◌-◌, ◌≤◌, ◌<◌, IsTrue, Bool, true, false, Option, None, List, [], ◌∷◌, ◌++◌, length, get_or, slice_get, refl, sym, ap, ◌∙◌, inl, inr, length-append, arith}
+use Rattle.std.proofs.Common.{◌≡◌, ℕ, zero, suc, ◌+◌, ◌-◌, ◌≤◌, ◌<◌, IsTrue, Bool, true, false, Option, None, List, [], ◌∷◌, ◌++◌, length, get_or, slice_get, refl, sym, ap, ◌∙◌, inl, inr, subst, length-append, arith}
 use Rattle.std.specs.List.{flat_map}
 use Rattle.std.proofs.lemmas.Bool.{cases_lt}
 use Rattle.std.proofs.lemmas.Option.{slice_get-get_or}
 use Rattle.bforest_nodes.specs.Content.{Content, Free, IsFree}
 use Rattle.bforest_core.specs.Table.{Table, down_from, fresh_nodes, front_of, front_of_new, free_count, slot_count, with_slots, reserved}
+use Rattle.bforest_core.specs.Change.{KeepsTrees}
 use Rattle.bforest_core.specs.Levels.{Tree}
 use Rattle.bforest_core.specs.Place.{count, numbers_of}
 use Rattle.bforest_core.specs.Trees.{slot, tree_of, is_root, Every, IsForest, IsUnion, OthersKeep}
 use Rattle.bforest_core.proofs.Tables.{count-append}
 use Rattle.bforest_core.proofs.Lists.{slice_get-append_left}
-use Rattle.bforest_core.proofs.Chains.{length-fresh_nodes}
+use Rattle.bforest_core.proofs.Chains.{length-down_from, length-fresh_nodes}
 use Rattle.bforest_core.proofs.Counts.{once_below, past-none, upto, count-upto}
 use Rattle.bforest_core.proofs.FreeSlots.{free-same}
 use Rattle.bforest_core.proofs.Forests.{every-join}
@@ -113,3 +114,17 @@ module _ {K V : Type 0} where
         (λ now. sym r.0 ∙ k.0.0 now, λ was. k.0.1 (r.0 ∙ was)),
         λ was. k.1 (r.0 ∙ was) ∙ r.1 was,
       )
+
+  -- a table that is the same, and one with nodes made free
+  pub same-keeps : (most : ℕ) (old new : Table K V) → new ≡ old → IsUnion most old → IsUnion most new × KeepsTrees old.nodes new.nodes
+  same-keeps most old new is union =
+      subst (λ (z : Table K V). IsUnion most z × KeepsTrees old.nodes z.nodes) (sym is) (union, λ n. (refl, λ there. refl))
+
+  pub reserved-keeps : (most : ℕ) (old new : Table K V) (n : ℕ) → new ≡ reserved old n → IsUnion most old → IsUnion most new × KeepsTrees old.nodes new.nodes
+  reserved-keeps most old new n is union =
+      subst (λ (z : Table K V). IsUnion most z × KeepsTrees old.nodes z.nodes) (sym is) (reserved-union most old n union, reserved-roots most old n union)
+
+  -- so many lie free then
+  pub reserved-frees : (old new : Table K V) (n : ℕ) → new ≡ reserved old n → n ≤ free_count new
+  reserved-frees old new n is =
+      omega (arith, ap (λ (z : Table K V). length z.chain) is, length-append (down_from (slot_count old) (n - free_count old)) old.chain, length-down_from (slot_count old) (n - free_count old))

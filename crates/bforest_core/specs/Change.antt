@@ -1,7 +1,7 @@
 -- What a call that changes one tree of a table says of it and of the others.
-use Rattle.std.specs.Prelude.{◌≡◌, ◌≢◌, ℕ, ◌+◌, ◌-◌, ◌++◌, IsTrue, List, length}
+use Rattle.std.specs.Prelude.{◌≡◌, ◌≢◌, ℕ, ◌+◌, ◌-◌, ◌++◌, ◌∷◌, [], IsTrue, List, drop, length}
 use Rattle.std.specs.List.{sum_by}
-use Rattle.bforest_core.specs.Table.{Table, slot_count, free_count}
+use Rattle.bforest_core.specs.Table.{Table, slot_count, free_count, reserved}
 use Rattle.bforest_nodes.specs.Content.{Content}
 use Rattle.bforest_core.specs.Levels.{flat, sizes_of}
 use Rattle.bforest_core.specs.Place.{IsPathAt, PlacedAt, PointsAt, Stands}
@@ -29,10 +29,18 @@ module _ {K V : Type 0} where
   KeepsTrees old new =
       (number : ℕ) → (is_root new number ≡ is_root old number) × (IsTrue (is_root old number) → tree_of new number ≡ tree_of old number)
 
-  -- so many nodes were taken: first from those that lay free, then from new slots
+  -- so many nodes were taken: where fewer lay free, slots were added in front of the chain till as many did, and those
+  -- taken are the first of the chain
   pub record TakesNodes (count : ℕ) (old new : Table K V) : Type 0 where
     pub slots : slot_count new ≡ slot_count old + (count - free_count old)
     pub free : free_count new ≡ free_count old - count
+    pub chain_is : new.chain ≡ drop count (reserved old count).chain
+
+  -- a tree of one entry came under a number that was no root; it took one node
+  pub record Plants (most : ℕ) (old new : Table K V) (root : ℕ) (entry : K × V) : Type 0 where
+    pub changes : Changes most old new root root (entry ∷ []) ((1 ∷ []) ∷ [])
+    pub fresh : ¬ IsTrue (is_root old.nodes root)
+    pub takes : TakesNodes 1 old new
 
   -- the tree under a root is gone: it is no root now, and every other root kept its tree
   pub record Ends (most : ℕ) (old new : Table K V) (root : ℕ) : Type 0 where

@@ -1,5 +1,5 @@
 -- What a contract sees of a `NodePool`: numbered nodes, the chain of the free ones, and a limit.
-use Rattle.std.specs.Prelude.{◌≡◌, ℕ, ◌+◌, ◌-◌, ◌*◌, ◌<◌, ◌≤◌, false, List, [], ◌∷◌, ◌++◌, length, slice_set, nat_eq, Option, Some, None, IfSome, slice_get, slice_index_or, option_and_then, zero, suc}
+use Rattle.std.specs.Prelude.{◌≡◌, ℕ, ◌+◌, ◌-◌, ◌*◌, ◌<◌, ◌≤◌, true, false, List, [], ◌∷◌, ◌++◌, length, slice_set, nat_eq, Option, Some, None, IfSome, slice_get, slice_index_or, option_and_then, zero, suc}
 use Rattle.std.specs.List.{list_any, IsDistinct}
 use Rattle.bforest_nodes.specs.Content.{Content, Free, IsLeaf, vals_of, with_value, IsFree, IsCut, entry_count, entry_capacity, left_half, IsSameKind, Balances}
 use Rattle.bforest_nodes.specs.declared.node.SplitOff.{SplitOff}
@@ -47,9 +47,14 @@ module _ {K V : Type 0} where
     pub within : node < slot_count table
     pub off_chain : list_any (nat_eq node) table.chain ≡ false
 
-  -- the chain names different slots, and the slots are within the limit
+  -- the slot of this number is free
+  abbrev pub IsFreeAt : List (Content K V) → ℕ → Type 0
+  IsFreeAt nodes number = (next : Option ℕ) × (slice_get nodes number ≡ Some (Free next))
+
+  -- the chain names different slots, all of which are free, and the slots are within the limit
   pub record IsTable (table : Table K V) : Type 0 where
     pub distinct : IsDistinct nat_eq table.chain
+    pub free : (number : ℕ) → list_any (nat_eq number) table.chain ≡ true → IsFreeAt table.nodes number
     pub free_within : free_count table ≤ slot_count table
     pub slots_within : slot_count table ≤ table.limit
     pub limit_within : table.limit ≤ 4294967295

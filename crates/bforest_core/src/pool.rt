@@ -2,6 +2,8 @@
 ghost use Rattle.std.specs.Prelude.{◌≡◌, ◌≢◌, ℕ, ◌+◌, ◌-◌, ◌<◌, ◌≤◌, ◌↔◌, ◌++◌, length, IsTrue, IsOk, IfOk, OnOk, OnErr, Ok, Err, Some, None, [], ◌∷◌, slice_get, slice_set, vec_len};
 ghost use Rattle.std.specs.Borrow.{sem, LendsBoth, Array};
 ghost use Rattle.bforest_nodes.specs.Content.{Inner, Leaf, IsLeafCapacity};
+ghost use Rattle.bforest_core.specs.Change.{KeepsTrees, Plants};
+ghost use Rattle.bforest_core.specs.Trees.{IsUnion};
 ghost use Rattle.bforest_core.specs.Table.{slot_count, free_count, room, NeedsGrowth, IsUsed, IsTable, reserved, without_front, with_front, with_freed, fresh_nodes, front_of, front_of_new, IsFullAt, IsSplitAt, IsUnderflowedAt, IsBalancedAt, IsEntryAt, value_at};
 
 use bforest_nodes::{Node, NodeData, PackedNode, SplitOff};
@@ -145,6 +147,8 @@ impl<K: Copy, V: Copy, const N: usize> NodePool<K, V, N> {
         ensures memory { result ≡ Err OutOfMemory.Memory → NeedsGrowth n self.old }
         ensures enough { n ≤ free_count self.old → IsOk result }
         ensures numbers { slot_count self.old ≤ 4294967295 }
+        ensures free { OnOk result (n ≤ free_count self.new) }
+        ensures trees { IsUnion N self.old → IsUnion N self.new × KeepsTrees self.old.nodes self.new.nodes }
     {
         if n <= self.free {
             return Ok(());
@@ -178,6 +182,8 @@ impl<K: Copy, V: Copy, const N: usize> NodePool<K, V, N> {
         ensures memory { result ≡ Err OutOfMemory.Memory → NeedsGrowth 1 self.old }
         ensures enough { 1 ≤ free_count self.old → IsOk result }
         ensures used { IfOk result (λ node. IsUsed self.new node) }
+        ensures planted { IsUnion N self.old
+            → IfOk result (λ node. Plants N self.old self.new node (key, value)) }
     {
         self.reserve(1)?;
         let node = self.take_slot();

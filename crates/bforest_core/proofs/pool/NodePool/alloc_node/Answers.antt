@@ -5,6 +5,7 @@ use Rattle.bforest_nodes.specs.Content.{Leaf}
 use Rattle.bforest_core.specs.Table.{front_of}
 use Rattle.bforest_core.proofs.Allocating.{ok_not_err, reserved_taken_is, used_written}
 use Rattle.bforest_core.proofs.Insertion.{err-same, err-back, reserved-free}
+use Rattle.bforest_core.proofs.Planting.{planted-alloc}
 use Rattle.bforest_core.proofs.pool.NodePool.alloc_node.Given.{Over}
 use Rattle.bforest_core.proofs.pool.NodePool.alloc_node.Goals as goal
 
@@ -59,3 +60,10 @@ returns-clause-full g c = (λ is. absurd (ok_not_err _ _ is), λ short. absurd (
 
 pub returns-clause-memory : goal.returns-clause-memory
 returns-clause-memory g c = λ is. absurd (ok_not_err _ _ is)
+
+pub returns-clause-planted : goal.returns-clause-planted
+returns-clause-planted g c = λ union.
+    planted-alloc g.row.N c.args.self.now _ c.take_slot-node.result c.args.key c.args.value union (returns-clause-node g c) (returns-clause-ok g c)
+
+pub returns-in_err-reserve-clause-planted : goal.returns-in_err-reserve-clause-planted
+returns-in_err-reserve-clause-planted g c = λ union. (let e = err_at g c in rw e tt)

@@ -2,6 +2,7 @@ use Rattle.std.proofs.Common.{◌≡◌, ◌+◌, ◌-◌, length, vec_len, arit
 use Rattle.bforest_core.proofs.Allocating.{ok_not_err, full_not_memory, sees, has_room, lacks_room, finds_room, needs_growth, not_enough, stays_reserved, few_slots}
 use Rattle.bforest_core.proofs.Pools.{IsPool-grown}
 use Rattle.bforest_core.proofs.Chains.{front_of-is}
+use Rattle.bforest_core.proofs.Reserved.{reserved-frees, reserved-keeps, same-keeps}
 use Rattle.bforest_core.proofs.pool.NodePool.reserve.Goals as goal
 
 pub invariant_of-self : goal.invariant_of-self
@@ -96,3 +97,21 @@ invariant_of-self-in-Err g c = rw c.in-Err.ensures.err c.self.invariant
 
 pub returns-in-Err-clause-err : goal.returns-in-Err-clause-err
 returns-in-Err-clause-err g c = rw c.in-Err.ensures.err c.self.view_is
+
+pub returns-then-n-self-clause-free : goal.returns-then-n-self-clause-free
+returns-then-n-self-clause-free g c = reserved-frees c.args.self.now _ c.args.n (returns-then-n-self-clause-ok g c)
+
+pub returns-in-Ok-clause-free : goal.returns-in-Ok-clause-free
+returns-in-Ok-clause-free g c = reserved-frees c.args.self.now _ c.args.n (returns-in-Ok-clause-ok g c)
+
+pub returns-then-n-self-clause-trees : goal.returns-then-n-self-clause-trees
+returns-then-n-self-clause-trees g c = λ union. same-keeps g.row.N c.args.self.now _ refl union
+
+pub returns-then-missing-self-clause-trees : goal.returns-then-missing-self-clause-trees
+returns-then-missing-self-clause-trees g c = λ union. same-keeps g.row.N c.args.self.now _ refl union
+
+pub returns-in-Err-clause-trees : goal.returns-in-Err-clause-trees
+returns-in-Err-clause-trees g c = λ union. same-keeps g.row.N c.args.self.now _ (returns-in-Err-clause-err g c) union
+
+pub returns-in-Ok-clause-trees : goal.returns-in-Ok-clause-trees
+returns-in-Ok-clause-trees g c = λ union. reserved-keeps g.row.N c.args.self.now _ c.args.n (returns-in-Ok-clause-ok g c) union

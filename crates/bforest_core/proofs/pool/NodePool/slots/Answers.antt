@@ -1,4 +1,5 @@
 use Rattle.std.proofs.Common.{◌≡◌, length, arith}
+use Rattle.bforest_core.proofs.Chains.{IsChain-free}
 use Rattle.bforest_core.proofs.Pools.{free_within}
 use Rattle.bforest_core.proofs.pool.NodePool.slots.Goals as goal
 
@@ -6,6 +7,7 @@ pub returns-clause-table : goal.returns-clause-table
 returns-clause-table g c =
     rw (← c.self.view_is) (record {
       distinct = c.self.invariant.distinct;
+      free = IsChain-free _ _ _ c.self.invariant.linked;
       free_within = omega (arith, c.self.invariant.counted, free_within _ _ _ _ _ c.self.invariant);
       slots_within = c.self.invariant.slots_within;
       limit_within = c.self.invariant.limit_within;
