@@ -13,6 +13,16 @@ use crate::path::Path;
 use crate::pool::{NodePool, OutOfMemory};
 use bforest_nodes::Node;
 
+// The right half of a node that was halved.
+#[derive(Clone, Copy, Drop)]
+pub(super) struct RightHalf<K> {
+    // The first key below it.
+    key: K,
+    node: Node,
+    // Whether the path went there.
+    moved: bool,
+}
+
 impl<K: Copy, V: Copy, const N: usize> Path<K, V, N> {
     ghost use Rattle.bforest_core.specs.Paths.{Placing, StandsOn, list_under, sizes_under};
 
@@ -143,19 +153,18 @@ impl<K: Copy, V: Copy, const N: usize> Path<K, V, N> {
     {
         let leaf = self.node[0];
         let half = self.halve_leaf(key, value, pool);
-        self.insert_above(1, leaf, half.0, half.1, half.2, pool);
+        self.insert_above(1, leaf, half, pool);
     }
 
-    // Halves the path's full leaf, and puts the entry into one half, to which the path goes. Answers the right half with its first key,
-    // and whether the path went there.
-    fn halve_leaf(&mut self, key: K, value: V, pool: &mut NodePool<K, V, N>) -> (K, Node, bool)
+    // Halves the path's full leaf, and puts the entry into one half, to which the path goes. Answers the right half.
+    fn halve_leaf(&mut self, key: K, value: V, pool: &mut NodePool<K, V, N>) -> RightHalf<K>
         requires room { 0 < length pool.old.chain }
         requires full { IsFullAt N pool.old.nodes (get_or self.old.node 0 0) }
         requires placed { (tree : Tree K V) × (place : ℕ) × Placed N pool.old self.old.node self.old.entry
             self.old.size tree place }
         ensures halved { (tree : Tree K V) (place : ℕ) → Placed N pool.old self.old.node self.old.entry
             self.old.size tree place → LeafHalved N pool.old pool.new self.old.node self.new.node
-            self.new.entry self.old.size tree place (key, value) result.0 result.1 result.2 }
+            self.new.entry self.old.size tree place (key, value) result.key result.node result.moved }
         ensures size { self.new.size ≡ self.old.size }
     {
         let leaf = self.node[0];
@@ -164,25 +173,31 @@ impl<K: Copy, V: Copy, const N: usize> Path<K, V, N> {
         let first = halves.crit_key;
         if index <= N / 2 {
             let _room = put_entry(pool, leaf, index, key, value);
-            (first, right, false)
+            RightHalf {
+                key: first,
+                node: right,
+                moved: false,
+            }
         } else {
             let behind = index - halves.lhs_entries;
             let _room = put_entry(pool, right, behind, key, value);
             self.node[0] = right;
             self.entry[0] = behind as u8;
-            (first_key(behind, key, first), right, true)
+            RightHalf {
+                key: first_key(behind, key, first),
+                node: right,
+                moved: true,
+            }
         }
     }
 
-    // Puts `child` with its first key behind `left`, which is the path's node below level `up` or became two with `child`. The path goes
-    // to `child` where it `moved` there.
+    // Puts the right half behind `left`, the node that became two with it, which is the path's node below level `up` or was. The path goes
+    // to the right half where it moved there.
     fn insert_above(
         &mut self,
         up: usize,
         left: Node,
-        key: K,
-        child: Node,
-        moved: bool,
+        half: RightHalf<K>,
         pool: &mut NodePool<K, V, N>,
     )
         requires height { self.old.size ≤ 17 }
@@ -196,28 +211,21 @@ impl<K: Copy, V: Copy, const N: usize> Path<K, V, N> {
             (before ++ (first, left) ∷ after) (length before) → (taken : List ℕ)
             × (suc (length taken) ≡ need_above (Some (length before)) (map sizes rows))
             × Grown pool.old pool.new self.old.node self.old.entry self.new.node self.new.entry up
-            self.old.size self.new.size rows (before ++ (first, left) ∷ (key, child) ∷ after)
-            (if moved then suc (length before) else length before)
+            self.old.size self.new.size rows (before ++ (first, left) ∷ (half.key, half.node) ∷ after)
+            (if half.moved then suc (length before) else length before)
             (gain_above (Some (length before)) (map sizes rows)) taken }
     {
         if up == self.size {
-            self.push_root(left, key, child, moved, pool);
-        } else if !self.insert_here(up, key, child, moved, pool) {
+            self.push_root(left, half, pool);
+        } else if !self.insert_here(up, half, pool) {
             let node = self.node[up];
-            let next = self.split_here(up, key, child, moved, pool);
-            self.insert_above(up + 1, node, next.0, next.1, next.2, pool);
+            let next = self.split_here(up, half, pool);
+            self.insert_above(up + 1, node, next, pool);
         }
     }
 
-    // Makes a new root of the root `left` and of `child`.
-    fn push_root(
-        &mut self,
-        left: Node,
-        key: K,
-        child: Node,
-        moved: bool,
-        pool: &mut NodePool<K, V, N>,
-    )
+    // Makes a new root of the root `left` and of the right half.
+    fn push_root(&mut self, left: Node, half: RightHalf<K>, pool: &mut NodePool<K, V, N>)
         requires height { self.old.size ≤ 16 }
         requires room { 0 < length pool.old.chain }
         ensures { (rows : List (List (LevelNode K ℕ))) (before : List (K × ℕ)) (first : K)
@@ -225,26 +233,19 @@ impl<K: Copy, V: Copy, const N: usize> Path<K, V, N> {
             rows (before ++ (first, left) ∷ after) (length before) → (taken : List ℕ)
             × (suc (length taken) ≡ need_above (Some (length before)) (map sizes rows))
             × Grown pool.old pool.new self.old.node self.old.entry self.new.node self.new.entry self.old.size
-            self.old.size self.new.size rows (before ++ (first, left) ∷ (key, child) ∷ after)
-            (if moved then suc (length before) else length before)
+            self.old.size self.new.size rows (before ++ (first, left) ∷ (half.key, half.node) ∷ after)
+            (if half.moved then suc (length before) else length before)
             (gain_above (Some (length before)) (map sizes rows)) taken }
     {
-        let root = pool.inner_node(left, key, child);
+        let root = pool.inner_node(left, half.key, half.node);
         self.node[self.size] = root;
-        self.entry[self.size] = index_behind(0, moved) as u8;
+        self.entry[self.size] = index_behind(0, half.moved) as u8;
         self.size += 1;
     }
 
-    // Puts `child` into the path's node on level `up`, behind the path's child. Where there is no room it answers false, and nothing
-    // changed.
-    fn insert_here(
-        &mut self,
-        up: usize,
-        key: K,
-        child: Node,
-        moved: bool,
-        pool: &mut NodePool<K, V, N>,
-    ) -> bool
+    // Puts the right half into the path's node on level `up`, behind the path's child. Where there is no room it answers false, and
+    // nothing changed.
+    fn insert_here(&mut self, up: usize, half: RightHalf<K>, pool: &mut NodePool<K, V, N>) -> bool
         requires height { self.old.size ≤ 17 }
         requires within { up < self.old.size }
         requires pending { (rows : List (List (LevelNode K ℕ))) × (before : List (K × ℕ)) × (x : K × ℕ)
@@ -255,7 +256,7 @@ impl<K: Copy, V: Copy, const N: usize> Path<K, V, N> {
             rows (before ++ x ∷ after) (length before)
             → (1 ≡ need_above (Some (length before)) (map sizes rows)) × Grown pool.old pool.new self.old.node
             self.old.entry self.new.node self.new.entry up self.old.size self.new.size rows
-            (before ++ x ∷ (key, child) ∷ after) (if moved then suc (length before) else length before)
+            (before ++ x ∷ (half.key, half.node) ∷ after) (if half.moved then suc (length before) else length before)
             (gain_above (Some (length before)) (map sizes rows)) [] }
         ensures full { result ≡ false → IsFullAt N pool.old.nodes (get_or self.old.node up 0) }
         ensures pool { result ≡ false → pool.new ≡ pool.old }
@@ -264,24 +265,22 @@ impl<K: Copy, V: Copy, const N: usize> Path<K, V, N> {
     {
         let node = self.node[up];
         let entry = self.entry[up] as usize;
-        if put_child(pool, node, entry, key, child) {
-            self.entry[up] = index_behind(entry, moved) as u8;
+        if put_child(pool, node, entry, half.key, half.node) {
+            self.entry[up] = index_behind(entry, half.moved) as u8;
             true
         } else {
             false
         }
     }
 
-    // Halves the path's full node on level `up`, and puts `child` behind the path's child. The path goes to the half of its place. Answers
-    // the right half with its first key, and whether the path went there.
+    // Halves the path's full node on level `up`, and puts the right half of the level below behind the path's child. The path goes to the
+    // half of its place. Answers the right half of this level.
     fn split_here(
         &mut self,
         up: usize,
-        key: K,
-        child: Node,
-        moved: bool,
+        half: RightHalf<K>,
         pool: &mut NodePool<K, V, N>,
-    ) -> (K, Node, bool)
+    ) -> RightHalf<K>
         requires height { self.old.size ≤ 17 }
         requires within { up < self.old.size }
         requires room { 0 < length pool.old.chain }
@@ -292,22 +291,30 @@ impl<K: Copy, V: Copy, const N: usize> Path<K, V, N> {
         ensures halved { (rows : List (List (LevelNode K ℕ))) (before : List (K × ℕ)) (x : K × ℕ)
             (after : List (K × ℕ)) → Above pool.old self.old.node self.old.entry up self.old.size rows
             (before ++ x ∷ after) (length before) → Halved pool.old pool.new self.old.node self.old.entry
-            self.new.node self.new.entry up self.old.size rows (before ++ x ∷ (key, child) ∷ after)
-            (length before) (if moved then suc (length before) else length before) result.0 result.1 result.2 }
+            self.new.node self.new.entry up self.old.size rows (before ++ x ∷ (half.key, half.node) ∷ after)
+            (length before) (if half.moved then suc (length before) else length before) result.key result.node result.moved }
         ensures size { self.new.size ≡ self.old.size }
     {
         let node = self.node[up];
         let entry = self.entry[up] as usize;
         let (right, halves) = pool.split_node(node, entry);
         if entry < 4 {
-            let _room = put_child(pool, node, entry, key, child);
-            self.entry[up] = index_behind(entry, moved) as u8;
-            (halves.crit_key, right, false)
+            let _room = put_child(pool, node, entry, half.key, half.node);
+            self.entry[up] = index_behind(entry, half.moved) as u8;
+            RightHalf {
+                key: halves.crit_key,
+                node: right,
+                moved: false,
+            }
         } else {
-            let _room = put_child(pool, right, entry - 4, key, child);
+            let _room = put_child(pool, right, entry - 4, half.key, half.node);
             self.node[up] = right;
-            self.entry[up] = index_behind(entry - 4, moved) as u8;
-            (halves.crit_key, right, true)
+            self.entry[up] = index_behind(entry - 4, half.moved) as u8;
+            RightHalf {
+                key: halves.crit_key,
+                node: right,
+                moved: true,
+            }
         }
     }
 }

@@ -48,8 +48,8 @@ returns-then-put_child-clause-grown g c = λ done rows a x b p.
     let slot : slice_get c.args.pool.now.nodes (get_or ms up c.index-self-up.result) ≡ Some (inner_content es) = rw here d.f.slot_is in
     let written = c.put_child.ensures.node (drop 1 (entry_keys es)) (entry_items es) slot in
     let room : length es < 8 = omega (arith, item_count es, (c.put_child.ensures.room (drop 1 (entry_keys es)) (entry_items es) slot).0 c.if-put_child.true) in
-    settle_room _ c.put_child.new.pool ms js (set js up c.index_behind.result) up _ rows a x (c.args.key, c.args.child) b c.args.moved d room
-    (puts c.args.pool.now c.put_child.new.pool n _ (inner_content es) d.f.slot_is (put_is c.put_child.result _ _ _ (get_or js up 0) d.q.l x d.q.r c.args.key c.args.child c.if-put_child.true d.q.entry_is (rw here at written)))
+    settle_room _ c.put_child.new.pool ms js (set js up c.index_behind.result) up _ rows a x (c.args.half.key, c.args.half.node) b c.args.half.moved d room
+    (puts c.args.pool.now c.put_child.new.pool n _ (inner_content es) d.f.slot_is (put_is c.put_child.result _ _ _ (get_or js up 0) d.q.l x d.q.r c.args.half.key c.args.half.node c.if-put_child.true d.q.entry_is (rw here at written)))
     (get_or-set_same js up c.index_behind.result 0 (omega arith) ∙ c.index_behind.ensures.value)
     (λ i other. get_or-set_other js up i c.index_behind.result 0 other)
 

@@ -34,10 +34,10 @@ pub returns-then-entry-lt4-clause-halved : goal.returns-then-entry-lt4-clause-ha
 returns-then-entry-lt4-clause-halved g c = λ rows a x b p.
     let low : c.args.up < length c.args.self.now.node = omega arith in
     let low_js : c.args.up < length c.args.self.now.entry = omega arith in
-    early_halves g.row.N c.args.pool.now c.split_node-right.new.self c.args.self.now.node c.args.self.now.entry c.args.up c.args.self.now.size rows a x b p c.index-self-up.result c.requires.within low c.requires.full c.split_node-right.result.0 c.split_node-right.result.1 c.split_node-right.ensures.node c.split_node-right.ensures.used c.split_node-right.ensures.split c.put_child-room.new.pool c.args.key c.args.child c.args.moved c.put_child-room.result c.index_behind.result c.if-entry-lt4.true c.put_child-room.ensures.room c.put_child-room.ensures.node c.index_behind.ensures.value low_js
+    early_halves g.row.N c.args.pool.now c.split_node-right.new.self c.args.self.now.node c.args.self.now.entry c.args.up c.args.self.now.size rows a x b p c.index-self-up.result c.requires.within low c.requires.full c.split_node-right.result.0 c.split_node-right.result.1 c.split_node-right.ensures.node c.split_node-right.ensures.used c.split_node-right.ensures.split c.put_child-room.new.pool c.args.half.key c.args.half.node c.args.half.moved c.put_child-room.result c.index_behind.result c.if-entry-lt4.true c.put_child-room.ensures.room c.put_child-room.ensures.node c.index_behind.ensures.value low_js
 
 pub returns-else-entry-lt4-clause-halved : goal.returns-else-entry-lt4-clause-halved
 returns-else-entry-lt4-clause-halved g c = λ rows a x b p.
     let low : c.args.up < length c.args.self.now.node = omega arith in
     let low_js : c.args.up < length c.args.self.now.entry = omega arith in
-    late_halves g.row.N c.args.pool.now c.split_node-right.new.self c.args.self.now.node c.args.self.now.entry c.args.up c.args.self.now.size rows a x b p c.index-self-up.result c.requires.within low c.requires.full c.split_node-right.result.0 c.split_node-right.result.1 c.split_node-right.ensures.node c.split_node-right.ensures.used c.split_node-right.ensures.split c.put_child-room-else-entry-lt4.new.pool c.args.key c.args.child c.args.moved c.put_child-room-else-entry-lt4.result c.index_behind-else-entry-lt4.result c.if-entry-lt4.false c.put_child-room-else-entry-lt4.ensures.room c.put_child-room-else-entry-lt4.ensures.node c.index_behind-else-entry-lt4.ensures.value low_js
+    late_halves g.row.N c.args.pool.now c.split_node-right.new.self c.args.self.now.node c.args.self.now.entry c.args.up c.args.self.now.size rows a x b p c.index-self-up.result c.requires.within low c.requires.full c.split_node-right.result.0 c.split_node-right.result.1 c.split_node-right.ensures.node c.split_node-right.ensures.used c.split_node-right.ensures.split c.put_child-room-else-entry-lt4.new.pool c.args.half.key c.args.half.node c.args.half.moved c.put_child-room-else-entry-lt4.result c.index_behind-else-entry-lt4.result c.if-entry-lt4.false c.put_child-room-else-entry-lt4.ensures.room c.put_child-room-else-entry-lt4.ensures.node c.index_behind-else-entry-lt4.ensures.value low_js

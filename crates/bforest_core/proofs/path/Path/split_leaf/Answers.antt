@@ -45,6 +45,6 @@ returns g c = record {
       let above = above_from t1 t1 s1.node s1.node s1.entry s1.entry 1 1 s0.size s1.size h.rows _ _ (length (heads h.before)) refl refl refl refl c.halve_leaf-half.ensures.size (ap (λ z. heads h.before ++ (h.first.0, z) ∷ heads h.after) here) h.above in
       let r = c.insert_above.ensures h.rows (heads h.before) h.first.0 (heads h.after) above in
       let g2 = grown_from t1 t1 t2 s1.node s1.node s1.entry s1.entry s2.node s2.entry 1 1 s1.size s0.size s2.size h.rows _ _ _ _ r.0 refl refl refl refl (sym c.halve_leaf-half.ensures.size)
-      (ap (λ z. heads h.before ++ (h.first.0, z) ∷ (half.0, half.1) ∷ heads h.after) (sym here)) r.2 in
+      (ap (λ z. heads h.before ++ (h.first.0, z) ∷ (half.key, half.node) ∷ heads h.after) (sym here)) r.2 in
       inserted _ t0 t1 t2 s0.node s0.entry s1.node s1.entry s2.node s2.entry s0.size s2.size tree place _ _ _ _ r.0 p h r.1 g2;
 }
