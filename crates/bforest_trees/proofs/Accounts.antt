@@ -1,7 +1,7 @@
 -- The free slots and the nodes of all trees, as the words of a forest say it.
 use Rattle.bforest_trees.specs.Forest.{Forest, IsAccounted, nodes_at, numbers_below, sizes_at}
-use Rattle.bforest_core.proofs.Account.{account, nodes-count}
-use Rattle.bforest_core.proofs.Counts.{upto}
+use Rattle.bforest_core.proofs.union.Account.{account, nodes-count}
+use Rattle.bforest_core.proofs.rows.Counts.{upto}
 use Rattle.bforest_core.specs.Levels.{sizes_of}
 use Rattle.bforest_core.specs.Place.{numbers_of}
 use Rattle.bforest_core.specs.Trees.{IsUnion, is_root, tree_of}

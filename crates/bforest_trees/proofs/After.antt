@@ -1,7 +1,7 @@
 -- What a call that may be refused leaves.
 use Rattle.bforest_trees.proofs.Changed.{becomes-new}
 use Rattle.bforest_trees.specs.Forest.{Becomes, Forest, free_of, slots_of}
-use Rattle.bforest_core.proofs.Chains.{length-down_from, length-fresh_nodes}
+use Rattle.bforest_core.proofs.table.Chains.{length-down_from, length-fresh_nodes}
 use Rattle.bforest_core.specs.Change.{Changes}
 use Rattle.bforest_core.specs.Table.{down_from, free_count, fresh_nodes, front_of, reserved, slot_count, with_slots}
 use Rattle.bforest_core.specs.Trees.{IsUnion, is_root}

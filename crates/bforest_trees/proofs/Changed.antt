@@ -1,6 +1,6 @@
 -- The words of contracts against those of a pool's calls.
 use Rattle.bforest_trees.specs.Forest.{Becomes, Forest, IsLive, Keeps, NeedsGrowth, Takes, list_at, list_of, sizes_at, sizes_of}
-use Rattle.bforest_core.proofs.Unions.{rooted}
+use Rattle.bforest_core.proofs.union.Unions.{rooted}
 use Rattle.bforest_core.specs.Change.{Changes, KeepsTrees, TakesNodes}
 use Rattle.bforest_core.specs.Levels.{flat, sizes_of as tree_sizes}
 use Rattle.bforest_core.specs.Table.{NeedsGrowth as NodesNeedGrowth}

@@ -2,7 +2,7 @@
 use Rattle.bforest_trees.proofs.Changed.{becomes, list-none, list-root, same_list, same_sizes, sizes-new, sizes-none, sizes-root}
 use Rattle.bforest_trees.proofs.Spots.{IsSound, spot-at, spot-none, spot-stands}
 use Rattle.bforest_trees.specs.Place.{StandsIn}
-use Rattle.bforest_core.proofs.Steps.{entry_at, read}
+use Rattle.bforest_core.proofs.walks.Steps.{entry_at, read}
 use Rattle.bforest_core.specs.Change.{StandsUnder}
 use Rattle.bforest_core.specs.Place.{IsPathAt, Stands}
 use Rattle.bforest_core.specs.Levels.{Tree}

@@ -1,6 +1,6 @@
 -- One change of a tree of a table after another.
-use Rattle.bforest_core.proofs.Forests.{free-unused}
-use Rattle.bforest_core.proofs.FreeSlots.{free-at}
+use Rattle.bforest_core.proofs.union.Forests.{free-unused}
+use Rattle.bforest_core.proofs.union.FreeSlots.{free-at}
 use Rattle.bforest_core.specs.Change.{Changes, Ends, GivesNodes}
 use Rattle.bforest_core.specs.Place.{count}
 use Rattle.bforest_core.specs.Table.{Table}

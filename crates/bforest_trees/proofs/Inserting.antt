@@ -1,5 +1,5 @@
 -- What an insertion at a handle answers and leaves, as one record.
-use Rattle.bforest_core.proofs.Stored.{some_same}
+use Rattle.bforest_core.proofs.table.Stored.{some_same}
 use Rattle.bforest_core.specs.declared.pool.OutOfMemory.TheVariants.{Full, Memory}
 use Rattle.bforest_core.specs.declared.pool.OutOfMemory.{OutOfMemory}
 use Rattle.bforest_nodes.specs.Entries.{IsIncreasing, put, value_for}

@@ -1,9 +1,9 @@
 -- Where an iterator's path stands, what is left, and a step of it.
 use Rattle.bforest_trees.specs.Layout.{IsReading, entries_from, place_in}
-use Rattle.bforest_core.proofs.Entered.{entry_is, leaf_slot, pair_read}
-use Rattle.bforest_core.proofs.Tables.{count-append, count-same}
-use Rattle.bforest_core.proofs.Tops.{root-stands}
-use Rattle.bforest_core.proofs.Unions.{rooted}
+use Rattle.bforest_core.proofs.walks.Entered.{entry_is, leaf_slot, pair_read}
+use Rattle.bforest_core.proofs.table.Tables.{count-append, count-same}
+use Rattle.bforest_core.proofs.rows.Tops.{root-stands}
+use Rattle.bforest_core.proofs.union.Unions.{rooted}
 use Rattle.bforest_core.specs.Change.{StandsUnder}
 use Rattle.bforest_core.specs.Climb.{top_of}
 use Rattle.bforest_nodes.specs.Content.{Content, IsLeaf, entry_count, keys_of, vals_of}

@@ -1,6 +1,6 @@
 -- What the calls of a pool that may be refused say of its trees.
-use Rattle.bforest_core.proofs.Planting.{planted-alloc}
-use Rattle.bforest_core.proofs.Reserved.{reserved-roots, reserved-union}
+use Rattle.bforest_core.proofs.union.Planting.{planted-alloc}
+use Rattle.bforest_core.proofs.union.Reserved.{reserved-roots, reserved-union}
 use Rattle.bforest_core.specs.Change.{Changes, KeepsTrees, TakesNodes}
 use Rattle.bforest_nodes.specs.Content.{Leaf}
 use Rattle.bforest_core.specs.Table.{Table, front_of, reserved, with_front}

@@ -4,9 +4,9 @@ use Rattle.bforest_trees.proofs.Following.{chained-no-root, changes-both, ends-b
 use Rattle.bforest_trees.proofs.Reading.{ended, standing-in}
 use Rattle.bforest_trees.specs.Layout.{entries_from}
 use Rattle.bforest_trees.specs.Retain.{MayAskEach, Retained, RetainedNone, Retains, Stepped, SteppedLast}
-use Rattle.bforest_core.proofs.LevelRows.{flat-append}
-use Rattle.bforest_core.proofs.Lists.{drop-read, drop_remove, length_remove, read_none, take_remove}
-use Rattle.bforest_core.proofs.Tables.{count-append}
+use Rattle.bforest_core.proofs.rows.LevelRows.{flat-append}
+use Rattle.bforest_core.proofs.table.Lists.{drop-read, drop_remove, length_remove, read_none, take_remove}
+use Rattle.bforest_core.proofs.table.Tables.{count-append}
 use Rattle.bforest_core.specs.Change.{Changes, GivesNodes, StandsUnder}
 use Rattle.bforest_core.specs.Levels.{LevelNode, Tree, flat, half_of, node, sizes_of}
 use Rattle.bforest_core.specs.Place.{IsAt, IsPathAt, Stands, count}

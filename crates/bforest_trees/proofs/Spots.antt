@@ -4,9 +4,9 @@ use Rattle.bforest_trees.proofs.Reading.{place_by}
 use Rattle.bforest_trees.specs.Forest.{Forest, list_of}
 use Rattle.bforest_trees.specs.Layout.{place_in}
 use Rattle.bforest_trees.specs.Place.{StandsIn, leaves_of, spot_in}
-use Rattle.bforest_core.proofs.Pointed.{points-placed, points-stands}
-use Rattle.bforest_core.proofs.Tables.{count-append}
-use Rattle.bforest_core.proofs.Unions.{rooted}
+use Rattle.bforest_core.proofs.walks.Pointed.{points-placed, points-stands}
+use Rattle.bforest_core.proofs.table.Tables.{count-append}
+use Rattle.bforest_core.proofs.union.Unions.{rooted}
 use Rattle.bforest_core.specs.Change.{PlacedUnder, StandsUnder}
 use Rattle.bforest_core.specs.Levels.{IsFit, Tree, flat, numbers}
 use Rattle.bforest_core.specs.Place.{IsIn, IsPathAt, PointsAt, Stands, count, numbers_of}

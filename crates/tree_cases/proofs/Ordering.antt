@@ -10,7 +10,7 @@ use Rattle.bforest_core.specs.Levels.{flat}
 use Rattle.bforest_core.specs.Table.{Table, front_of, reserved, with_front}
 use Rattle.bforest_nodes.specs.Content.{Leaf}
 use Rattle.bforest_core.specs.Trees.{IsUnion, is_root, tree_of}
-use Rattle.bforest_core.proofs.Planting.{planted-alloc}
+use Rattle.bforest_core.proofs.union.Planting.{planted-alloc}
 use Rattle.bforest_nodes.proofs.Ordered.{IsIncreasing-put, IsIncreasing-remove}
 use Rattle.tree_cases.specs.Ordered.{IsOrderedAt}
 

@@ -6,9 +6,9 @@ use Rattle.bforest_core.specs.Levels.{Tree, IsFit, flat}
 use Rattle.bforest_core.specs.Place.{IsIn, IsPathAt, PointsAt, Stands}
 use Rattle.bforest_core.specs.Table.{Table}
 use Rattle.bforest_core.specs.Trees.{IsUnion, is_root, tree_of}
-use Rattle.bforest_core.proofs.Backward.{at_entry}
-use Rattle.bforest_core.proofs.Pointed.{points-placed}
-use Rattle.bforest_core.proofs.Unions.{rooted}
+use Rattle.bforest_core.proofs.walks.Backward.{at_entry}
+use Rattle.bforest_core.proofs.walks.Pointed.{points-placed}
+use Rattle.bforest_core.proofs.union.Unions.{rooted}
 use Rattle.tree_cases.specs.Ordered.{CanGoOn, StandsSomewhere}
 
 -- at an entry of the tree under a root

@@ -13,7 +13,7 @@ use crate::pool::NodePool;
 
 impl<K: Copy, V: Copy, const N: usize> Path<K, V, N> {
     // Takes the entry at the path out of level `up`, and gives the next one its key.
-    fn take_left(&self, up: usize, pool: &mut NodePool<K, V, N>)
+    fn remove_merged(&self, up: usize, pool: &mut NodePool<K, V, N>)
         requires height { self.now.size ≤ 17 }
         requires pending { (rows : List (List (LevelNode K ℕ))) × (before : List (K × ℕ)) × (first : K)
             × (m : ℕ) × (next_first : K) × (n : ℕ) × (after : List (K × ℕ))
@@ -34,13 +34,13 @@ impl<K: Copy, V: Copy, const N: usize> Path<K, V, N> {
             let _answer = remove_child(pool, parent, index);
         } else {
             let key = separator(pool, parent, index - 1);
-            self.rekey_next(up + 1, key, pool);
+            self.update_next_separator(up + 1, key, pool);
             let _answer = remove_child(pool, parent, index);
         }
     }
 
     // Balances the path's leaf, which lost an entry, with its right neighbour. Whether it went into it.
-    pub(super) fn settle_leaf(&mut self, pool: &mut NodePool<K, V, N>) -> bool
+    pub(super) fn rebalance_leaf(&mut self, pool: &mut NodePool<K, V, N>) -> bool
         requires capacity { IsLeafCapacity N }
         requires height { self.old.size ≤ 17 }
         requires pending { (before : List (LevelNode K V)) × (n : ℕ) × (es : List (K × V))
@@ -71,7 +71,7 @@ impl<K: Copy, V: Copy, const N: usize> Path<K, V, N> {
             None => false,
             Some(next) => match pool.balance_nodes(leaf, next.0, next.1) {
                 Some(new_key) => {
-                    self.rekey_next(1, new_key, pool);
+                    self.update_next_separator(1, new_key, pool);
                     false
                 }
                 None => {
@@ -84,7 +84,7 @@ impl<K: Copy, V: Copy, const N: usize> Path<K, V, N> {
     }
 
     // Balances the inner node at `level`, which lost an entry, with its right neighbour. Whether it went into it.
-    fn settle_inner(&mut self, level: usize, pool: &mut NodePool<K, V, N>) -> bool
+    fn rebalance_inner(&mut self, level: usize, pool: &mut NodePool<K, V, N>) -> bool
         requires height { self.old.size ≤ 17 }
         requires pending { (before : List (LevelNode K ℕ)) × (n : ℕ) × (es : List (K × ℕ))
             × (after : List (LevelNode K ℕ)) × (rest : List (List (LevelNode K ℕ)))
@@ -114,7 +114,7 @@ impl<K: Copy, V: Copy, const N: usize> Path<K, V, N> {
             None => false,
             Some(next) => match pool.balance_nodes(here, next.0, next.1) {
                 Some(new_key) => {
-                    self.rekey_next(level + 1, new_key, pool);
+                    self.update_next_separator(level + 1, new_key, pool);
                     false
                 }
                 None => {
@@ -142,15 +142,15 @@ impl<K: Copy, V: Copy, const N: usize> Path<K, V, N> {
             (loss_above (Some (length before)) (map sizes rows)) freed }
         ensures size { self.new.size ≡ self.old.size }
     {
-        self.take_left(up, pool);
-        if self.settle_inner(up, pool) {
+        self.remove_merged(up, pool);
+        if self.rebalance_inner(up, pool) {
             self.merge_above(up + 1, pool);
         }
     }
 
     // The path's node below level `up` was the right-most and is empty: its entry is taken out of the level, and the
     // nodes that this leaves empty go too.
-    pub(super) fn drop_above(&self, up: usize, pool: &mut NodePool<K, V, N>)
+    pub(super) fn remove_emptied(&self, up: usize, pool: &mut NodePool<K, V, N>)
         requires height { self.now.size ≤ 17 }
         requires pending { (rows : List (List (LevelNode K ℕ))) × (before : List (K × ℕ)) × (y : K × ℕ)
             × (x : K × ℕ) × Above pool.old self.now.node self.now.entry up self.now.size rows
@@ -163,7 +163,7 @@ impl<K: Copy, V: Copy, const N: usize> Path<K, V, N> {
         let parent = self.node[up];
         if entries(pool, parent) == 1 {
             pool.free_node(parent);
-            self.drop_above(up + 1, pool);
+            self.remove_emptied(up + 1, pool);
         } else {
             let last = self.entry[up] as usize;
             let _answer = remove_child(pool, parent, last);

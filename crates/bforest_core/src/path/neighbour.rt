@@ -39,7 +39,7 @@ impl<K: Copy, V: Copy, const N: usize> Path<K, V, N> {
     }
 
     // Renews the key between the path's node below level `up` and its right neighbour.
-    pub(super) fn rekey_next(&self, up: usize, key: K, pool: &mut NodePool<K, V, N>)
+    pub(super) fn update_next_separator(&self, up: usize, key: K, pool: &mut NodePool<K, V, N>)
         requires height { self.now.size ≤ 17 }
         requires pending { (rows : List (List (LevelNode K ℕ))) × (before : List (K × ℕ)) × (x : K × ℕ)
             × (first : K) × (n : ℕ) × (after : List (K × ℕ)) × Above pool.old self.now.node self.now.entry up
@@ -55,12 +55,12 @@ impl<K: Copy, V: Copy, const N: usize> Path<K, V, N> {
         if index + 1 < entries(pool, parent) {
             set_separator(pool, parent, index, key);
         } else {
-            self.rekey_next(up + 1, key, pool);
+            self.update_next_separator(up + 1, key, pool);
         }
     }
 
     // Renews the first key of the path's node below level `up`: in the table its separator, if it has one.
-    pub(super) fn rekey_here(&self, up: usize, key: K, pool: &mut NodePool<K, V, N>)
+    pub(super) fn update_separator(&self, up: usize, key: K, pool: &mut NodePool<K, V, N>)
         requires height { self.now.size ≤ 17 }
         requires pending { (rows : List (List (LevelNode K ℕ))) × (before : List (K × ℕ)) × (first : K)
             × (n : ℕ) × (after : List (K × ℕ)) × Above pool.old self.now.node self.now.entry up self.now.size
@@ -78,7 +78,7 @@ impl<K: Copy, V: Copy, const N: usize> Path<K, V, N> {
         if index > 0 {
             set_separator(pool, self.node[up], index - 1, key);
         } else {
-            self.rekey_here(up + 1, key, pool);
+            self.update_separator(up + 1, key, pool);
         }
     }
 

@@ -77,8 +77,8 @@ impl<K: Copy, V: Copy, const N: usize> Path<K, V, N> {
             self.size = 0;
             return None;
         }
-        self.drop_above(1, pool);
-        let top = self.trim(root, pool);
+        self.remove_emptied(1, pool);
+        let top = self.collapse_root(root, pool);
         self.size = 0;
         Some(top)
     }
@@ -99,9 +99,9 @@ impl<K: Copy, V: Copy, const N: usize> Path<K, V, N> {
             self.size = 0;
             return root;
         }
-        if self.settle_leaf(pool) {
+        if self.rebalance_leaf(pool) {
             self.merge_above(1, pool);
-            self.trim(root, pool)
+            self.collapse_root(root, pool)
         } else {
             root
         }
@@ -124,7 +124,7 @@ impl<K: Copy, V: Copy, const N: usize> Path<K, V, N> {
             return;
         }
         let key = leaf_key(pool, leaf);
-        self.rekey_here(1, key, pool);
+        self.update_separator(1, key, pool);
     }
 
     // Whether the path is behind its leaf's last entry, and no leaf follows.
@@ -147,7 +147,7 @@ impl<K: Copy, V: Copy, const N: usize> Path<K, V, N> {
 
     // Discards roots with a single child, from `root` downwards, and frees them. Answers the root that stays; of the path's levels as many
     // go.
-    fn trim(&mut self, root: Node, pool: &mut NodePool<K, V, N>) -> Node
+    fn collapse_root(&mut self, root: Node, pool: &mut NodePool<K, V, N>) -> Node
         requires height { self.old.size ≤ 17 }
         requires rooted { (rows : List (List (LevelNode K ℕ))) × (list : List (K × ℕ))
             × UpTo pool.old self.old.size rows list root }
@@ -167,6 +167,6 @@ impl<K: Copy, V: Copy, const N: usize> Path<K, V, N> {
         let only = child(pool, root, 0);
         pool.free_node(root);
         self.size -= 1;
-        self.trim(only, pool)
+        self.collapse_root(only, pool)
     }
 }

@@ -1,7 +1,7 @@
 use Rattle.std.proofs.Common.{rules, slice_get, sym, ap, subst, ◌<◌, ◌∙◌}
 use Rattle.std.proofs.lemmas.Option.{slice_get_within}
 use Rattle.bforest_nodes.specs.Content.{Inner, IsInner, children_of, entry_count}
-use Rattle.bforest_core.proofs.Stored.{read_same}
+use Rattle.bforest_core.proofs.table.Stored.{read_same}
 use Rattle.bforest_core.proofs.access.child.Goals as goal
 
 pub node-requires : goal.node-requires

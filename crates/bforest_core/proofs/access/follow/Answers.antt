@@ -1,8 +1,8 @@
 use Rattle.std.proofs.Common.{rules, length, refl, subst, sym, arith}
 use Rattle.std.proofs.lemmas.Option.{slice_get_read, slice_get_within}
 use Rattle.bforest_nodes.specs.Content.{Inner, IsInner}
-use Rattle.bforest_core.proofs.Stored.{read_same}
-use Rattle.bforest_core.proofs.Following.{follow_sorted, follow_index, follow_within, follow_most, follow_child}
+use Rattle.bforest_core.proofs.table.Stored.{read_same}
+use Rattle.bforest_core.proofs.walks.Following.{follow_sorted, follow_index, follow_within, follow_most, follow_child}
 use Rattle.bforest_core.proofs.access.follow.Goals as goal
 
 pub returns-clause-index : goal.returns-clause-index

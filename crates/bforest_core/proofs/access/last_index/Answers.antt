@@ -1,7 +1,7 @@
 use Rattle.std.proofs.Common.{rules, ap, subst, ◌-◌, ◌∙◌, arith}
 use Rattle.std.proofs.lemmas.Option.{slice_get_within}
 use Rattle.bforest_nodes.specs.Content.{IsFree, entry_count}
-use Rattle.bforest_core.proofs.Stored.{read_same, not_free}
+use Rattle.bforest_core.proofs.table.Stored.{read_same, not_free}
 use Rattle.bforest_core.proofs.access.last_index.Goals as goal
 
 pub node-requires : goal.node-requires

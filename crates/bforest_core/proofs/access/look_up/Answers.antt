@@ -2,8 +2,8 @@ use Rattle.std.proofs.Common.{rules, length, refl, sym, subst, arith}
 use Rattle.std.proofs.lemmas.Option.{slice_get_read, slice_get_within}
 use Rattle.bforest_nodes.specs.Content.{HasShape, IsLeaf}
 use Rattle.bforest_core.specs.Place.{leaf_content}
-use Rattle.bforest_core.proofs.Stored.{read_same}
-use Rattle.bforest_core.proofs.LeafSearch.{leaf_lists, increasing_same, ok_place, ok_within, ok_value, err_place, err_within, err_value}
+use Rattle.bforest_core.proofs.table.Stored.{read_same}
+use Rattle.bforest_core.proofs.walks.LeafSearch.{leaf_lists, increasing_same, ok_place, ok_within, ok_value, err_place, err_within, err_value}
 use Rattle.bforest_core.proofs.access.look_up.Goals as goal
 
 pub bounds-values-index : goal.bounds-values-index

@@ -1,7 +1,7 @@
 use Rattle.std.proofs.Common.{rules, length, if◌then◌else◌, IsTrue, sym, ap, subst, ◌↔◌, ◌<◌, ◌≤◌, ◌∙◌}
 use Rattle.bforest_nodes.specs.Content.{Inner, IsInner, entry_count, keys_of, with_child}
 use Rattle.bforest_core.specs.Table.{with_node}
-use Rattle.bforest_core.proofs.Stored.{read_same}
+use Rattle.bforest_core.proofs.table.Stored.{read_same}
 use Rattle.bforest_core.proofs.access.put_child.Goals as goal
 
 pub node_mut-requires : goal.node_mut-requires

@@ -1,7 +1,7 @@
 use Rattle.std.proofs.Common.{rules, if◌then◌else◌, IsTrue, sym, ap, subst, ◌↔◌, ◌<◌, ◌≤◌, ◌∙◌}
 use Rattle.bforest_nodes.specs.Content.{Leaf, IsLeaf, entry_count, with_entry}
 use Rattle.bforest_core.specs.Table.{with_node}
-use Rattle.bforest_core.proofs.Stored.{read_same}
+use Rattle.bforest_core.proofs.table.Stored.{read_same}
 use Rattle.bforest_core.proofs.access.put_entry.Goals as goal
 
 pub node_mut-requires : goal.node_mut-requires

@@ -1,9 +1,9 @@
 use Rattle.bforest_trees.proofs.Sifting.{sifting-first, sifting-last, sifting-left, sifting-may, sifting-next, sifting-none, sifting-stands}
 use Rattle.bforest_trees.proofs.retain.retain.Goals as goal
 use Rattle.bforest_trees.specs.Layout.{entries_from}
-use Rattle.bforest_core.proofs.Backward.{at_entry}
-use Rattle.bforest_core.proofs.Descent.{some_leaf}
-use Rattle.bforest_core.proofs.Unions.{rooted}
+use Rattle.bforest_core.proofs.walks.Backward.{at_entry}
+use Rattle.bforest_core.proofs.walks.Descent.{some_leaf}
+use Rattle.bforest_core.proofs.union.Unions.{rooted}
 use Rattle.bforest_core.specs.Trees.{tree_of}
 use Rattle.std.proofs.Common.{arith, length, refl, rules, sym, ◌<◌, ◌∙◌}
 

@@ -1,6 +1,6 @@
 use Rattle.bforest_trees.proofs.Sifting.{at-next, at-within, sifted-out}
 use Rattle.bforest_trees.proofs.retain.retain_step.Goals as goal
-use Rattle.bforest_core.proofs.Unions.{rooted}
+use Rattle.bforest_core.proofs.union.Unions.{rooted}
 use Rattle.bforest_core.specs.Levels.{flat, sizes_of}
 use Rattle.bforest_core.specs.Trees.{tree_of}
 use Rattle.std.proofs.Common.{[], arith, get_or, refl, rules, subst, true, ◌≢◌, ◌≤◌, ℕ}

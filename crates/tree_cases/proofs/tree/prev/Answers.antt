@@ -1,6 +1,6 @@
 use Rattle.std.proofs.Common.{◌-◌}
 use Rattle.bforest_core.specs.Trees.{tree_of}
-use Rattle.bforest_core.proofs.Shrunk.{path-at}
+use Rattle.bforest_core.proofs.removal.Shrunk.{path-at}
 use Rattle.tree_cases.proofs.tree.prev.Goals as goal
 
 pub returns : goal.returns

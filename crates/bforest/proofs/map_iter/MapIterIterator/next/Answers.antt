@@ -1,7 +1,7 @@
-use Rattle.bforest_core.proofs.Lists.{drop-read}
+use Rattle.bforest_core.proofs.table.Lists.{drop-read}
 use Rattle.bforest_trees.proofs.Reading.{at, content_leaf, content_read, ended, stepped}
 use Rattle.bforest.proofs.map_iter.MapIterIterator.next.Goals as goal
-use Rattle.bforest_core.proofs.Stored.{some_same}
+use Rattle.bforest_core.proofs.table.Stored.{some_same}
 use Rattle.bforest_core.specs.Levels.{flat}
 use Rattle.bforest_core.specs.Place.{leaf_content}
 use Rattle.bforest_core.specs.Trees.{tree_of}

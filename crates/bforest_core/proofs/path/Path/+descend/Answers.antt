@@ -3,8 +3,8 @@ use Rattle.std.proofs.lemmas.List.{get_or-set_same, get_or-set_other}
 use Rattle.bforest_nodes.specs.Entries.{place}
 use Rattle.bforest_core.specs.Place.{entry_keys, entry_items}
 use Rattle.bforest_core.specs.Descent.{Under}
-use Rattle.bforest_core.proofs.Rising.{increasing_rest}
-use Rattle.bforest_core.proofs.Descent.{some_leaf, leaf_at, inner_at, inner_count, onward, leaf_value, landed, passed}
+use Rattle.bforest_core.proofs.walks.Rising.{increasing_rest}
+use Rattle.bforest_core.proofs.walks.Descent.{some_leaf, leaf_at, inner_at, inner_count, onward, leaf_value, landed, passed}
 use Rattle.bforest_core.proofs.path.Path.+descend.Goals as goal
 
 pub find_here-requires : goal.find_here-requires

@@ -5,9 +5,9 @@ use Rattle.bforest_nodes.specs.Content.{IsInner, entry_count, children_of}
 use Rattle.bforest_core.specs.Levels.{flat}
 use Rattle.bforest_core.specs.Descent.{Under}
 use Rattle.bforest_core.specs.Place.{inner_content}
-use Rattle.bforest_core.proofs.Descent.{some_leaf}
-use Rattle.bforest_core.proofs.Stored.{some_same}
-use Rattle.bforest_core.proofs.Leading.{front_within, front_leaf, front_inner, front_count, led_leaf, led_inner}
+use Rattle.bforest_core.proofs.walks.Descent.{some_leaf}
+use Rattle.bforest_core.proofs.table.Stored.{some_same}
+use Rattle.bforest_core.proofs.walks.Leading.{front_within, front_leaf, front_inner, front_count, led_leaf, led_inner}
 use Rattle.bforest_core.proofs.path.Path.+descend_first.Goals as goal
 
 pub node-requires : goal.node-requires

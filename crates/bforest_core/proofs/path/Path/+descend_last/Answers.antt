@@ -1,8 +1,8 @@
 use Rattle.std.proofs.Common.{rules, sym, ◌∙◌, arith}
 use Rattle.std.proofs.lemmas.Bool.{false≢true}
-use Rattle.bforest_core.proofs.Descent.{some_leaf}
-use Rattle.bforest_core.proofs.Trailing.{back_held}
-use Rattle.bforest_core.proofs.LastDown.{node_within, ends_here, child_asks, below_asks, below_fewer, level_is, leads_here}
+use Rattle.bforest_core.proofs.walks.Descent.{some_leaf}
+use Rattle.bforest_core.proofs.walks.Trailing.{back_held}
+use Rattle.bforest_core.proofs.walks.LastDown.{node_within, ends_here, child_asks, below_asks, below_fewer, level_is, leads_here}
 use Rattle.bforest_core.proofs.path.Path.+descend_last.Goals as goal
 
 pub last_index-last-requires : goal.last_index-last-requires

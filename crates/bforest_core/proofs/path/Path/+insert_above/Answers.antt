@@ -1,7 +1,7 @@
 use Rattle.std.proofs.Common.{rules, ◌≡◌, ℕ, ◌+◌, ◌≤◌, [], map, length, refl, sym, ap, subst, ◌∙◌, arith, add-one}
 use Rattle.bforest_core.specs.Levels.{sizes}
-use Rattle.bforest_core.proofs.Rise.{gain-some, need_top, above_from, grown_from}
-use Rattle.bforest_core.proofs.Climbing.{low_then, above_then, room_then, next_asks, fewer_next, next_takes}
+use Rattle.bforest_core.proofs.insertion.Rise.{gain-some, need_top, above_from, grown_from}
+use Rattle.bforest_core.proofs.insertion.Climbing.{low_then, above_then, room_then, next_asks, fewer_next, next_takes}
 use Rattle.bforest_core.proofs.path.Path.+insert_above.Goals as goal
 
 pub push_root-requires : goal.push_root-requires

@@ -1,17 +1,17 @@
 use Rattle.std.proofs.Common.{rules, ◌+◌, ◌-◌, ◌<◌, [], ◌∷◌, ◌++◌, length, get_or, arith, add-one, ◌∙◌}
 use Rattle.bforest_core.specs.Levels.{heads}
-use Rattle.bforest_core.proofs.Zipper.{above_two}
-use Rattle.bforest_core.proofs.Merge.{merge_healed, merge_again}
+use Rattle.bforest_core.proofs.rows.Zipper.{above_two}
+use Rattle.bforest_core.proofs.removal.Merge.{merge_healed, merge_again}
 use Rattle.bforest_core.proofs.path.Path.+merge_above.Goals as goal
 
 pub merge_above-requires : goal.merge_above-requires
 merge_above-requires g t c κs within =
     let w = c.requires.pending in
     let low = above_two _ _ _ _ _ w.0 w.1 (w.2, w.3) (w.4, w.5) w.6 _ w.7 in
-    let l = c.take_left.ensures w.0 w.1 w.2 w.3 w.4 w.5 w.6 w.7 in
-    let j = c.settle_inner.ensures.joined c.if-settle_inner.true l.before _ l.entries l.after l.rest l.on_level in
-    let less : c.settle_inner.new.self.size - (c.args.up + 1) < t = omega (arith, c.decreases, low, c.settle_inner.ensures.size) in
-    let size = c.settle_inner.ensures.size in (
+    let l = c.remove_merged.ensures w.0 w.1 w.2 w.3 w.4 w.5 w.6 w.7 in
+    let j = c.rebalance_inner.ensures.joined c.if-rebalance_inner.true l.before _ l.entries l.after l.rest l.on_level in
+    let less : c.rebalance_inner.new.self.size - (c.args.up + 1) < t = omega (arith, c.decreases, low, c.rebalance_inner.ensures.size) in
+    let size = c.rebalance_inner.ensures.size in (
       less,
       (
         within.0,
@@ -34,34 +34,34 @@ merge_above-requires g t c κs within =
       ),
     )
 
-pub returns-then-settle_inner-clause-merged : goal.returns-then-settle_inner-clause-merged
-returns-then-settle_inner-clause-merged g t c = λ rows a k m k2 n b p.
-    let l = c.take_left.ensures rows a k m k2 n b p in
-    let j = c.settle_inner.ensures.joined c.if-settle_inner.true l.before _ l.entries l.after l.rest l.on_level in
-    let size = c.settle_inner.ensures.size in
+pub returns-then-rebalance_inner-clause-merged : goal.returns-then-rebalance_inner-clause-merged
+returns-then-rebalance_inner-clause-merged g t c = λ rows a k m k2 n b p.
+    let l = c.remove_merged.ensures rows a k m k2 n b p in
+    let j = c.rebalance_inner.ensures.joined c.if-rebalance_inner.true l.before _ l.entries l.after l.rest l.on_level in
+    let size = c.rebalance_inner.ensures.size in
     let r = c.merge_above.ensures.merged l.rest (heads l.before) j.first.0 (get_or c.args.self.now.node c.args.up 0) j.key j.right (heads j.after') (rw (add-one, size) j.above) in
     (_, merge_again _ _ _ _ _ _ _ _ _ _ _ _ _ _ rows (a ++ (k, n) ∷ b) (length a) l j (omega arith) size r.0 r.1)
 
-pub returns-else-settle_inner-clause-merged : goal.returns-else-settle_inner-clause-merged
-returns-else-settle_inner-clause-merged g t c = λ rows a k m k2 n b p.
-    let l = c.take_left.ensures rows a k m k2 n b p in
-    let h = c.settle_inner.ensures.healed c.if-settle_inner.false l.before _ l.entries l.after l.rest l.on_level in
+pub returns-else-rebalance_inner-clause-merged : goal.returns-else-rebalance_inner-clause-merged
+returns-else-rebalance_inner-clause-merged g t c = λ rows a k m k2 n b p.
+    let l = c.remove_merged.ensures rows a k m k2 n b p in
+    let h = c.rebalance_inner.ensures.healed c.if-rebalance_inner.false l.before _ l.entries l.after l.rest l.on_level in
     ([], merge_healed _ _ _ _ _ _ _ _ _ rows (a ++ (k, n) ∷ b) (length a) l h)
 
-pub take_left-requires : goal.take_left-requires
-take_left-requires g t c = (search rules, (search rules, (c.requires.height, c.requires.pending)))
+pub remove_merged-requires : goal.remove_merged-requires
+remove_merged-requires g t c = (search rules, (search rules, (c.requires.height, c.requires.pending)))
 
-pub settle_inner-requires : goal.settle_inner-requires
-settle_inner-requires g t c =
+pub rebalance_inner-requires : goal.rebalance_inner-requires
+rebalance_inner-requires g t c =
     let w = c.requires.pending in
-    let l = c.take_left.ensures w.0 w.1 w.2 w.3 w.4 w.5 w.6 w.7 in
+    let l = c.remove_merged.ensures w.0 w.1 w.2 w.3 w.4 w.5 w.6 w.7 in
     (search rules, (search rules, (c.requires.height, (l.before, get_or c.args.self.now.node c.args.up 0, l.entries, l.after, l.rest, l.on_level))))
 
-pub returns-then-settle_inner-clause-size : goal.returns-then-settle_inner-clause-size
-returns-then-settle_inner-clause-size g t c = c.merge_above.ensures.size ∙ c.settle_inner.ensures.size
+pub returns-then-rebalance_inner-clause-size : goal.returns-then-rebalance_inner-clause-size
+returns-then-rebalance_inner-clause-size g t c = c.merge_above.ensures.size ∙ c.rebalance_inner.ensures.size
 
-pub returns-else-settle_inner-clause-size : goal.returns-else-settle_inner-clause-size
-returns-else-settle_inner-clause-size g t c = c.settle_inner.ensures.size
+pub returns-else-rebalance_inner-clause-size : goal.returns-else-rebalance_inner-clause-size
+returns-else-rebalance_inner-clause-size g t c = c.rebalance_inner.ensures.size
 
 pub overflow_add-up : goal.overflow_add-up
 overflow_add-up g t c =

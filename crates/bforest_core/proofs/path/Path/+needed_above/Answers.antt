@@ -2,8 +2,8 @@ use Rattle.std.proofs.Common.{rules, ◌≡◌, suc, ◌+◌, ◌-◌, ◌<◌, 
 use Rattle.std.proofs.lemmas.List.{get_or_default}
 use Rattle.std.proofs.lemmas.Option.{slice_get_within}
 use Rattle.bforest_core.specs.Place.{inner_content}
-use Rattle.bforest_core.proofs.Rise.{above_from}
-use Rattle.bforest_core.proofs.Needs.{floor, floor_full, floor_room, inner_full, inner_not_free, not_so, top_need}
+use Rattle.bforest_core.proofs.insertion.Rise.{above_from}
+use Rattle.bforest_core.proofs.rows.Needs.{floor, floor_full, floor_room, inner_full, inner_not_free, not_so, top_need}
 use Rattle.bforest_core.proofs.path.Path.+needed_above.Goals as goal
 
 pub node-requires : goal.node-requires

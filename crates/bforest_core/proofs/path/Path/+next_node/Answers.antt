@@ -1,6 +1,6 @@
 use Rattle.std.proofs.Common.{rules, ◌+◌, sym, ◌∙◌, arith, add-one}
 use Rattle.std.proofs.lemmas.Bool.{false≢true}
-use Rattle.bforest_core.proofs.Turns.{only_last, above_asks, above_fewer, has_asks, index_low, next_asks, next_moves, first_child_asks, first_child_moves, last_moves}
+use Rattle.bforest_core.proofs.walks.Turns.{only_last, above_asks, above_fewer, has_asks, index_low, next_asks, next_moves, first_child_asks, first_child_moves, last_moves}
 use Rattle.bforest_core.proofs.path.Path.+next_node.Goals as goal
 
 pub overflow_add-level : goal.overflow_add-level

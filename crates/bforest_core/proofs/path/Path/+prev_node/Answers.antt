@@ -1,6 +1,6 @@
 use Rattle.std.proofs.Common.{rules, ◌+◌, ◌<◌, length, sym, ◌∙◌, arith, add-one}
 use Rattle.std.proofs.lemmas.Bool.{false≢true}
-use Rattle.bforest_core.proofs.Turns.{only_first, above_asks, above_fewer, before_asks, before_moves, last_asks, last_child_asks, last_child_moves, first_moves}
+use Rattle.bforest_core.proofs.walks.Turns.{only_first, above_asks, above_fewer, before_asks, before_moves, last_asks, last_child_asks, last_child_moves, first_moves}
 use Rattle.bforest_core.proofs.path.Path.+prev_node.Goals as goal
 
 pub overflow_add-level : goal.overflow_add-level

@@ -1,7 +1,7 @@
 use Rattle.std.proofs.Common.{rules, ◌+◌, ◌<◌, length, arith, subst}
 use Rattle.bforest_core.specs.Place.{inner_content}
-use Rattle.bforest_core.proofs.Settling.{Beside}
-use Rattle.bforest_core.proofs.Neighbour.{index_low, above_asks, above_fewer, first_asks, counted_asks, key_asks, item_asks, same_parent, none_right, next_parent}
+use Rattle.bforest_core.proofs.removal.Rebalancing.{Beside}
+use Rattle.bforest_core.proofs.removal.Neighbour.{index_low, above_asks, above_fewer, first_asks, counted_asks, key_asks, item_asks, same_parent, none_right, next_parent}
 use Rattle.bforest_core.proofs.path.Path.+right_sibling.Goals as goal
 
 pub overflow_add-index : goal.overflow_add-index

@@ -1,8 +1,8 @@
 use Rattle.std.proofs.Common.{rules, suc, ◌∷◌, ◌++◌, length, set, refl, ◌∙◌, arith}
 use Rattle.std.proofs.lemmas.List.{get_or-set_same, get_or-set_other}
-use Rattle.bforest_core.proofs.Neighbours.{over-above, must_move, entered_next}
-use Rattle.bforest_core.proofs.Zipper.{above_two}
-use Rattle.bforest_core.proofs.Tops.{top-same}
+use Rattle.bforest_core.proofs.removal.Neighbours.{over-above, must_move, entered_next}
+use Rattle.bforest_core.proofs.rows.Zipper.{above_two}
+use Rattle.bforest_core.proofs.rows.Tops.{top-same}
 use Rattle.bforest_core.proofs.path.Path.enter_next.Goals as goal
 
 pub next_node-moved-requires : goal.next_node-moved-requires

@@ -2,10 +2,10 @@ use Rattle.std.proofs.Common.{rules, Some, sym, arith}
 use Rattle.std.proofs.lemmas.Option.{slice_get_past}
 use Rattle.bforest_core.specs.Levels.{flat}
 use Rattle.bforest_core.specs.Trees.{tree_of}
-use Rattle.bforest_core.proofs.Backward.{at_entry, at_end}
-use Rattle.bforest_core.proofs.Descent.{some_leaf}
-use Rattle.bforest_core.proofs.Entered.{leaf_slot, entry_is}
-use Rattle.bforest_core.proofs.Unions.{is-rooted}
+use Rattle.bforest_core.proofs.walks.Backward.{at_entry, at_end}
+use Rattle.bforest_core.proofs.walks.Descent.{some_leaf}
+use Rattle.bforest_core.proofs.walks.Entered.{leaf_slot, entry_is}
+use Rattle.bforest_core.proofs.union.Unions.{is-rooted}
 use Rattle.bforest_core.proofs.path.Path.entry.Goals as goal
 
 pub entry_here-requires : goal.entry_here-requires

@@ -3,8 +3,8 @@ use Rattle.std.proofs.lemmas.List.{get_or_default, length-map}
 use Rattle.std.proofs.lemmas.Option.{slice_get_within}
 use Rattle.bforest_nodes.specs.Content.{IsLeaf, entry_count, keys_of, vals_of}
 use Rattle.bforest_core.specs.Place.{leaf_content}
-use Rattle.bforest_core.proofs.Entered.{pair_read}
-use Rattle.bforest_core.proofs.Stored.{some_same}
+use Rattle.bforest_core.proofs.walks.Entered.{pair_read}
+use Rattle.bforest_core.proofs.table.Stored.{some_same}
 use Rattle.bforest_core.proofs.path.Path.entry_here.Goals as goal
 
 pub returns : goal.returns

@@ -2,9 +2,9 @@ use Rattle.std.proofs.Common.{rules, ◌≡◌, ℕ, suc, ◌-◌, [], length, a
 use Rattle.std.proofs.lemmas.List.{length-map}
 use Rattle.bforest_core.specs.Levels.{Tree, sizes, sizes_of}
 use Rattle.bforest_core.specs.Trees.{tree_of}
-use Rattle.bforest_core.proofs.Unions.{is-rooted}
-use Rattle.bforest_core.proofs.Sought.{placed-for, stands-under}
-use Rattle.bforest_core.proofs.Whole.{whole_top, whole_under, all_through, stands_for}
+use Rattle.bforest_core.proofs.union.Unions.{is-rooted}
+use Rattle.bforest_core.proofs.walks.Sought.{placed-for, stands-under}
+use Rattle.bforest_core.proofs.walks.Whole.{whole_top, whole_under, all_through, stands_for}
 use Rattle.bforest_core.proofs.path.Path.find.Goals as goal
 
 -- the level of the root

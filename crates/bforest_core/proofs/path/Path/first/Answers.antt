@@ -1,9 +1,9 @@
 use Rattle.std.proofs.Common.{rules, ◌+◌, [], Some, arith}
 use Rattle.bforest_core.specs.Trees.{tree_of}
-use Rattle.bforest_core.proofs.Descent.{some_leaf}
-use Rattle.bforest_core.proofs.Unions.{is-rooted}
-use Rattle.bforest_core.proofs.Whole.{whole_top, whole_under, led_stands}
-use Rattle.bforest_core.proofs.Entered.{leaf_slot, entry_is}
+use Rattle.bforest_core.proofs.walks.Descent.{some_leaf}
+use Rattle.bforest_core.proofs.union.Unions.{is-rooted}
+use Rattle.bforest_core.proofs.walks.Whole.{whole_top, whole_under, led_stands}
+use Rattle.bforest_core.proofs.walks.Entered.{leaf_slot, entry_is}
 use Rattle.bforest_core.proofs.path.Path.first.Goals as goal
 
 pub descend_first-level-requires : goal.descend_first-level-requires

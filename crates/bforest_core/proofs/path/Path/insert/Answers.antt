@@ -6,8 +6,8 @@ use Rattle.bforest_core.specs.Sizes.{need}
 use Rattle.bforest_core.specs.Place.{leaf_content}
 use Rattle.bforest_core.specs.Change.{PlacedUnder}
 use Rattle.bforest_core.specs.Trees.{tree_of}
-use Rattle.bforest_core.proofs.LeafSpot.{leaf_spot, placed_from}
-use Rattle.bforest_core.proofs.Insertion.{placed-under, under-low, growth-low, mid-is, placed-mid, reserved-free, full-reserved, Put, put-here, put-split, put-from, err-same, err-back}
+use Rattle.bforest_core.proofs.insertion.LeafSpot.{leaf_spot, placed_from}
+use Rattle.bforest_core.proofs.insertion.Insertion.{placed-under, under-low, growth-low, mid-is, placed-mid, reserved-free, full-reserved, Put, put-here, put-split, put-from, err-same, err-back}
 use Rattle.bforest_core.proofs.path.Path.insert.Goals.{then-not-put_here+in_ok-reserve, else-not-put_here}
 use Rattle.bforest_core.proofs.path.Path.insert.Given.{Over}
 use Rattle.bforest_core.proofs.path.Path.insert.Goals as goal

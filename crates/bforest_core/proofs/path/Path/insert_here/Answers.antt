@@ -4,10 +4,10 @@ use Rattle.std.proofs.lemmas.List.{get_or_default, get_or-set_same, get_or-set_o
 use Rattle.bforest_nodes.specs.Content.{with_child}
 use Rattle.bforest_core.specs.Table.{Table, with_node}
 use Rattle.bforest_core.specs.Place.{inner_content, entry_keys, entry_items}
-use Rattle.bforest_core.proofs.Tables.{is_used, puts, with_node_here}
-use Rattle.bforest_core.proofs.Zipper.{spot}
-use Rattle.bforest_core.proofs.Stored.{key_count, item_count, with_child_is}
-use Rattle.bforest_core.proofs.Room.{settle_room}
+use Rattle.bforest_core.proofs.table.Tables.{is_used, puts, with_node_here}
+use Rattle.bforest_core.proofs.rows.Zipper.{spot}
+use Rattle.bforest_core.proofs.table.Stored.{key_count, item_count, with_child_is}
+use Rattle.bforest_core.proofs.insertion.Room.{settle_room}
 use Rattle.bforest_core.proofs.path.Path.insert_here.Goals as goal
 
 -- what was written where there was room

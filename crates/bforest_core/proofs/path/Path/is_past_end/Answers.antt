@@ -2,8 +2,8 @@ use Rattle.std.proofs.Common.{rules, ◌≡◌, get_or, length-append, arith}
 use Rattle.std.proofs.lemmas.List.{get_or_default}
 use Rattle.bforest_core.specs.Levels.{flat, heads}
 use Rattle.bforest_core.specs.Place.{leaf_content}
-use Rattle.bforest_core.proofs.LeafLoss.{leaf_keys}
-use Rattle.bforest_core.proofs.PastEnd.{loss_slot, loss_form, loss_none, loss_next}
+use Rattle.bforest_core.proofs.removal.LeafLoss.{leaf_keys}
+use Rattle.bforest_core.proofs.removal.PastEnd.{loss_slot, loss_form, loss_none, loss_next}
 use Rattle.bforest_core.proofs.path.Path.is_past_end.Goals as goal
 
 pub entries-requires : goal.entries-requires

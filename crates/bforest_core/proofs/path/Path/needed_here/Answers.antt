@@ -2,8 +2,8 @@ use Rattle.std.proofs.Common.{rules, ◌≡◌, ◌++◌, length, get_or, slice_
 use Rattle.std.proofs.lemmas.List.{get_or_default}
 use Rattle.std.proofs.lemmas.Option.{slice_get_within}
 use Rattle.bforest_core.specs.Place.{leaf_content}
-use Rattle.bforest_core.proofs.LeafSpot.{leaf_spot}
-use Rattle.bforest_core.proofs.Needs.{above_leaves, leaf_need_full, leaf_need_room, leaf_is_full, leaf_not_free, not_so}
+use Rattle.bforest_core.proofs.insertion.LeafSpot.{leaf_spot}
+use Rattle.bforest_core.proofs.rows.Needs.{above_leaves, leaf_need_full, leaf_need_room, leaf_is_full, leaf_not_free, not_so}
 use Rattle.bforest_core.proofs.path.Path.needed_here.Goals as goal
 
 pub node-requires : goal.node-requires

@@ -4,10 +4,10 @@ use Rattle.bforest_core.specs.Levels.{flat}
 use Rattle.bforest_core.specs.Place.{Stands}
 use Rattle.bforest_core.specs.Paths.{OnEntry}
 use Rattle.bforest_core.specs.Trees.{tree_of}
-use Rattle.bforest_core.proofs.Descent.{some_leaf}
-use Rattle.bforest_core.proofs.Entered.{leaf_slot, entry_is}
-use Rattle.bforest_core.proofs.Standing.{on-low, path-on}
-use Rattle.bforest_core.proofs.Unions.{is-rooted}
+use Rattle.bforest_core.proofs.walks.Descent.{some_leaf}
+use Rattle.bforest_core.proofs.walks.Entered.{leaf_slot, entry_is}
+use Rattle.bforest_core.proofs.walks.Standing.{on-low, path-on}
+use Rattle.bforest_core.proofs.union.Unions.{is-rooted}
 use Rattle.bforest_core.proofs.path.Path.next.Given.{Over}
 use Rattle.bforest_core.proofs.path.Path.next.Goals as goal
 

@@ -1,8 +1,8 @@
 use Rattle.std.proofs.Common.{rules, ◌+◌, ◌<◌, ◌≤◌, length, get_or, sym, ◌∙◌, arith}
 use Rattle.std.proofs.lemmas.Bool.{false≢true}
 use Rattle.bforest_core.specs.Levels.{heads}
-use Rattle.bforest_core.proofs.Descent.{some_leaf}
-use Rattle.bforest_core.proofs.Entered.{leaf_slot, over_leaves, entry_within, entry_over, entry_last, leaf_room}
+use Rattle.bforest_core.proofs.walks.Descent.{some_leaf}
+use Rattle.bforest_core.proofs.walks.Entered.{leaf_slot, over_leaves, entry_within, entry_over, entry_last, leaf_room}
 use Rattle.bforest_core.proofs.path.Path.next_entry.Goals as goal
 
 pub overflow_add-next : goal.overflow_add-next

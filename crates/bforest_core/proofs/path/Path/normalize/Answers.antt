@@ -2,10 +2,10 @@ use Rattle.std.proofs.Common.{rules, ◌<◌, length, get_or, sym, ◌∙◌, ar
 use Rattle.std.proofs.lemmas.Bool.{false≢true}
 use Rattle.bforest_core.specs.Levels.{heads}
 use Rattle.bforest_core.specs.Trees.{tree_of}
-use Rattle.bforest_core.proofs.Descent.{some_leaf}
-use Rattle.bforest_core.proofs.Pointed.{pointed_slot, pointed_over, pointed_here, pointed_next, pointed_last}
-use Rattle.bforest_core.proofs.Standing.{path-on}
-use Rattle.bforest_core.proofs.Unions.{is-rooted}
+use Rattle.bforest_core.proofs.walks.Descent.{some_leaf}
+use Rattle.bforest_core.proofs.walks.Pointed.{pointed_slot, pointed_over, pointed_here, pointed_next, pointed_last}
+use Rattle.bforest_core.proofs.walks.Standing.{path-on}
+use Rattle.bforest_core.proofs.union.Unions.{is-rooted}
 use Rattle.bforest_core.proofs.path.Path.normalize.Goals as goal
 
 pub has_entry-requires : goal.has_entry-requires

@@ -2,12 +2,12 @@ use Rattle.std.proofs.Common.{rules, ◌≡◌, ℕ, ◌+◌, ◌-◌, [], lengt
 use Rattle.bforest_core.specs.Levels.{flat}
 use Rattle.bforest_core.specs.Place.{Stands, entry_before}
 use Rattle.bforest_core.specs.Trees.{tree_of}
-use Rattle.bforest_core.proofs.Descent.{some_leaf}
-use Rattle.bforest_core.proofs.Unions.{is-rooted}
-use Rattle.bforest_core.proofs.Whole.{whole_top, whole_under}
-use Rattle.bforest_core.proofs.Entered.{leaf_slot, entry_is}
-use Rattle.bforest_core.proofs.Trailing.{last_stands}
-use Rattle.bforest_core.proofs.Backward.{before_is, at_entry, at_end, stay}
+use Rattle.bforest_core.proofs.walks.Descent.{some_leaf}
+use Rattle.bforest_core.proofs.union.Unions.{is-rooted}
+use Rattle.bforest_core.proofs.walks.Whole.{whole_top, whole_under}
+use Rattle.bforest_core.proofs.walks.Entered.{leaf_slot, entry_is}
+use Rattle.bforest_core.proofs.walks.Trailing.{last_stands}
+use Rattle.bforest_core.proofs.walks.Backward.{before_is, at_entry, at_end, stay}
 use Rattle.bforest_core.proofs.path.Path.prev.Goals as goal
 
 pub descend_last-top-requires : goal.descend_last-top-requires

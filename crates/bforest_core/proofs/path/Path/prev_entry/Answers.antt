@@ -3,9 +3,9 @@ use Rattle.std.proofs.lemmas.List.{get_or_default}
 use Rattle.std.proofs.lemmas.Bool.{false≢true}
 use Rattle.bforest_core.specs.Levels.{heads}
 use Rattle.bforest_core.specs.Place.{leaf_content}
-use Rattle.bforest_core.proofs.Descent.{some_leaf}
-use Rattle.bforest_core.proofs.Entered.{over_leaves}
-use Rattle.bforest_core.proofs.Backward.{back_within, back_leaf, back_slot, back_over, back_first, last_entry_is, some_entry}
+use Rattle.bforest_core.proofs.walks.Descent.{some_leaf}
+use Rattle.bforest_core.proofs.walks.Entered.{over_leaves}
+use Rattle.bforest_core.proofs.walks.Backward.{back_within, back_leaf, back_slot, back_over, back_first, last_entry_is, some_entry}
 use Rattle.bforest_core.proofs.path.Path.prev_entry.Goals as goal
 
 pub returns-then-here-gt0-clause-moved : goal.returns-then-here-gt0-clause-moved

@@ -4,9 +4,9 @@ use Rattle.std.proofs.lemmas.List.{get_or_default}
 use Rattle.bforest_nodes.specs.Content.{with_entry}
 use Rattle.bforest_core.specs.Table.{Table, with_node}
 use Rattle.bforest_core.specs.Place.{leaf_content, entry_keys, entry_items}
-use Rattle.bforest_core.proofs.Tables.{is_used, puts, with_node_here}
-use Rattle.bforest_core.proofs.Stored.{with_entry_is}
-use Rattle.bforest_core.proofs.LeafSpot.{leaf_spot, put_leaf, keys_count}
+use Rattle.bforest_core.proofs.table.Tables.{is_used, puts, with_node_here}
+use Rattle.bforest_core.proofs.table.Stored.{with_entry_is}
+use Rattle.bforest_core.proofs.insertion.LeafSpot.{leaf_spot, put_leaf, keys_count}
 use Rattle.bforest_core.proofs.path.Path.put_here.Goals as goal
 
 -- what was written where there was room

@@ -3,9 +3,9 @@ use Rattle.std.proofs.lemmas.List.{get_or_default}
 use Rattle.bforest_core.specs.Place.{leaf_content}
 use Rattle.bforest_core.specs.Trees.{tree_of}
 use Rattle.bforest_core.specs.Change.{StandsUnder}
-use Rattle.bforest_core.proofs.Tops.{root-stands}
-use Rattle.bforest_core.proofs.LeafLoss.{leaf_keys, leaf_at}
-use Rattle.bforest_core.proofs.Removal.{stands_in, removal, Said, outcome, said, if_some, one_slot, more_slot}
+use Rattle.bforest_core.proofs.rows.Tops.{root-stands}
+use Rattle.bforest_core.proofs.removal.LeafLoss.{leaf_keys, leaf_at}
+use Rattle.bforest_core.proofs.removal.Removal.{stands_in, removal, Said, outcome, said, if_some, one_slot, more_slot}
 use Rattle.bforest_core.proofs.path.Path.remove.Given.{Over}
 use Rattle.bforest_core.proofs.path.Path.remove.Goals as goal
 

@@ -3,10 +3,10 @@ use Rattle.std.proofs.lemmas.List.{get_or_default}
 use Rattle.bforest_core.specs.Table.{with_freed}
 use Rattle.bforest_core.specs.Levels.{heads}
 use Rattle.bforest_core.specs.Place.{leaf_content}
-use Rattle.bforest_core.proofs.Tables.{is_used}
-use Rattle.bforest_core.proofs.Shrunk.{up_to}
-use Rattle.bforest_core.proofs.Removing.{stands_root}
-use Rattle.bforest_core.proofs.LeafDrop.{last_leaf, emptied_tree, leaf_drop, drop_untrimmed, drop_removed}
+use Rattle.bforest_core.proofs.table.Tables.{is_used}
+use Rattle.bforest_core.proofs.removal.Shrunk.{up_to}
+use Rattle.bforest_core.proofs.removal.Removing.{stands_root}
+use Rattle.bforest_core.proofs.removal.LeafEmptied.{last_leaf, emptied_tree, leaf_drop, drop_untrimmed, drop_removed}
 use Rattle.bforest_core.proofs.path.Path.remove_leaf.Goals as goal
 
 pub free_node-requires : goal.free_node-requires
@@ -24,8 +24,8 @@ returns-then-self-eq1-clause-emptied g c = λ none tree place s.
     let here : get_or path 0 c.index-self-0.result ≡ get_or path 0 0 = get_or_default path 0 c.index-self-0.result 0 (omega arith) in
     emptied_tree _ _ c.free_node.new.self _ _ _ tree place s d c.if-self-eq1.true (c.free_node.ensures.freed ∙ ap (λ z. with_freed c.args.pool.now z) here)
 
-pub drop_above-requires : goal.drop_above-requires
-drop_above-requires g c =
+pub remove_emptied-requires : goal.remove_emptied-requires
+remove_emptied-requires g c =
     let s = c.requires.stands in
     let path = c.args.self.now.node in
     let d = last_leaf _ _ _ _ _ s.0 s.1 c.requires.single.0 c.requires.capacity s.2 c.requires.single.1 in
@@ -33,15 +33,15 @@ drop_above-requires g c =
     let l = leaf_drop _ _ c.free_node.new.self _ _ _ s.0 s.1 s.2 d (λ e. c.if-self-eq1.false e) (c.free_node.ensures.freed ∙ ap (λ z. with_freed c.args.pool.now z) here) in
     (search rules, (search rules, (omega (arith, s.2.low, s.2.stands.size_is), (s.0.above, heads l.init, (l.w.0, l.number), (l.d.x.0, get_or path 0 0), l.above))))
 
-pub trim-top-requires : goal.trim-top-requires
-trim-top-requires g c =
+pub collapse_root-top-requires : goal.collapse_root-top-requires
+collapse_root-top-requires g c =
     let s = c.requires.stands in
     let path = c.args.self.now.node in
     let d = last_leaf _ _ _ _ _ s.0 s.1 c.requires.single.0 c.requires.capacity s.2 c.requires.single.1 in
     let here : get_or path 0 c.index-self-0.result ≡ get_or path 0 0 = get_or_default path 0 c.index-self-0.result 0 (omega arith) in
     let l = leaf_drop _ _ c.free_node.new.self _ _ _ s.0 s.1 s.2 d (λ e. c.if-self-eq1.false e) (c.free_node.ensures.freed ∙ ap (λ z. with_freed c.args.pool.now z) here) in
-    let r = c.drop_above.ensures s.0.above (heads l.init) (l.w.0, l.number) (l.d.x.0, get_or path 0 0) l.above in
-    let u = drop_untrimmed _ _ c.free_node.new.self c.drop_above.new.pool _ _ _ s.0 s.1 r.0 s.2 l r.1 in
+    let r = c.remove_emptied.ensures s.0.above (heads l.init) (l.w.0, l.number) (l.d.x.0, get_or path 0 0) l.above in
+    let u = drop_untrimmed _ _ c.free_node.new.self c.remove_emptied.new.pool _ _ _ s.0 s.1 r.0 s.2 l r.1 in
     (search rules, (search rules, (omega (arith, s.2.low, s.2.stands.size_is), (u.0, heads l.d.before, up_to _ _ _ _ _ _ _ s.0 s.1 c.args.root l.d.before u.0 _ s.2 u.1 refl s.3))))
 
 pub returns-clause-removed : goal.returns-clause-removed
@@ -51,8 +51,8 @@ returns-clause-removed g c = λ tree place s.
     let d = last_leaf _ _ _ _ _ tree place c.requires.single.0 c.requires.capacity s c.requires.single.1 in
     let here : get_or path 0 c.index-self-0.result ≡ get_or path 0 0 = get_or_default path 0 c.index-self-0.result 0 (omega arith) in
     let l = leaf_drop _ _ c.free_node.new.self _ _ _ tree place s d (λ e. c.if-self-eq1.false e) (c.free_node.ensures.freed ∙ ap (λ z. with_freed c.args.pool.now z) here) in
-    let r = c.drop_above.ensures tree.above (heads l.init) (l.w.0, l.number) (l.d.x.0, get_or path 0 0) l.above in
-    drop_removed _ _ c.free_node.new.self c.drop_above.new.pool c.trim-top.new.pool _ _ c.trim-top.new.self.node c.trim-top.new.self.entry _ c.trim-top.new.self.size tree place c.args.root c.trim-top.result s (stands_root _ _ _ _ _ tree s1.0 place s1.1 c.args.root s s1.2 s1.3) l r c.trim-top.ensures.trimmed
+    let r = c.remove_emptied.ensures tree.above (heads l.init) (l.w.0, l.number) (l.d.x.0, get_or path 0 0) l.above in
+    drop_removed _ _ c.free_node.new.self c.remove_emptied.new.pool c.collapse_root-top.new.pool _ _ c.collapse_root-top.new.self.node c.collapse_root-top.new.self.entry _ c.collapse_root-top.new.self.size tree place c.args.root c.collapse_root-top.result s (stands_root _ _ _ _ _ tree s1.0 place s1.1 c.args.root s s1.2 s1.3) l r c.collapse_root-top.ensures.trimmed
 
 pub returns-then-self-eq1-clause-removed : goal.returns-then-self-eq1-clause-removed
 returns-then-self-eq1-clause-removed g c = λ tree place s. tt

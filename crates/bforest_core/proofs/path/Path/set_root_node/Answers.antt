@@ -1,5 +1,5 @@
 use Rattle.std.proofs.Common.{rules, ◌≡◌, get_or, refl}
-use Rattle.bforest_core.proofs.Standing.{on-leaf}
+use Rattle.bforest_core.proofs.walks.Standing.{on-leaf}
 use Rattle.bforest_core.proofs.path.Path.set_root_node.Goals as goal
 
 pub returns-clause-stands : goal.returns-clause-stands

@@ -1,5 +1,5 @@
 use Rattle.std.proofs.Common.{rules, ◌<◌, length, arith}
-use Rattle.bforest_core.proofs.HalvingNode.{full_asks, index_small, early_asks, early_halves, late_asks, late_halves}
+use Rattle.bforest_core.proofs.insertion.HalvingNode.{full_asks, index_small, early_asks, early_halves, late_asks, late_halves}
 use Rattle.bforest_core.proofs.path.Path.split_here.Goals as goal
 
 pub split_node-right-requires : goal.split_node-right-requires

@@ -4,9 +4,9 @@ use Rattle.bforest_nodes.specs.Content.{Leaf, without_entry}
 use Rattle.bforest_core.specs.Table.{Table, with_node}
 use Rattle.bforest_core.specs.Levels.{heads, Tree}
 use Rattle.bforest_core.specs.Place.{leaf_content, entry_keys, entry_items}
-use Rattle.bforest_core.proofs.Stored.{some_same}
-use Rattle.bforest_core.proofs.Tables.{is_used, Puts}
-use Rattle.bforest_core.proofs.LeafLoss.{leaf_keys, LeafAt, leaf_at, leaf_more, leaf_puts, loss_behind, first_out, loss_first}
+use Rattle.bforest_core.proofs.table.Stored.{some_same}
+use Rattle.bforest_core.proofs.table.Tables.{is_used, Puts}
+use Rattle.bforest_core.proofs.removal.LeafLoss.{leaf_keys, LeafAt, leaf_at, leaf_more, leaf_puts, loss_behind, first_out, loss_first}
 use Rattle.bforest_core.proofs.path.Path.take_entry.Goals as goal
 
 pub remove_entry-requires : goal.remove_entry-requires
@@ -47,8 +47,8 @@ leaf_key-key-requires g c =
     let f = first_out _ _ c.remove_entry.new.pool _ _ _ s.0 s.1 d (leaf_more _ _ _ _ _ s.0 s.1 d x.0 x.1 x.2 x.3) w c.if-index-gt0.false in
     (search rules, (entry_keys (f.next ∷ f.others), entry_items (f.next ∷ f.others), rw here f.slot_is, omega (arith, leaf_keys (f.next ∷ f.others))))
 
-pub rekey_here-requires : goal.rekey_here-requires
-rekey_here-requires g c =
+pub update_separator-requires : goal.update_separator-requires
+update_separator-requires g c =
     let s = c.requires.stands in
     let x = c.requires.others in
     let path = c.args.self.now.node in
@@ -68,5 +68,5 @@ returns g c = λ tree place s.
     let more = leaf_more _ _ _ _ _ tree place d x.0 x.1 x.2 x.3 in
     let f = first_out _ _ c.remove_entry.new.pool _ _ _ tree place d more w c.if-index-gt0.false in
     let key_is = some_same f.next.0 c.leaf_key-key.result (c.leaf_key-key.ensures (entry_keys (f.next ∷ f.others)) (entry_items (f.next ∷ f.others)) (rw here f.slot_is)) in
-    loss_first _ _ c.remove_entry.new.pool c.rekey_here.new.pool _ _ _ tree place c.leaf_key-key.result d more w f key_is
-    (c.rekey_here.ensures tree.above (heads d.before) d.x.0 (get_or path 0 0) (heads d.after) f.above)
+    loss_first _ _ c.remove_entry.new.pool c.update_separator.new.pool _ _ _ tree place c.leaf_key-key.result d more w f key_is
+    (c.update_separator.ensures tree.above (heads d.before) d.x.0 (get_or path 0 0) (heads d.after) f.above)

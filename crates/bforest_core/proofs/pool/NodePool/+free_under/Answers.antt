@@ -4,10 +4,10 @@ use Rattle.std.proofs.lemmas.Option.{slice_get_within}
 use Rattle.bforest_nodes.specs.Content.{IsInner, children_of, entry_count}
 use Rattle.bforest_core.specs.Descent.{Under}
 use Rattle.bforest_core.specs.Removal.{GivesAll, numbers_under}
-use Rattle.bforest_core.proofs.Descent.{some_leaf}
-use Rattle.bforest_core.proofs.Stored.{some_same}
-use Rattle.bforest_core.proofs.Sweep.{Sweeping, child_turn, gives-top, inner-children, sweep-first, sweep-last, sweep-next, sweeping, under-open}
-use Rattle.bforest_core.proofs.Tables.{is_used}
+use Rattle.bforest_core.proofs.walks.Descent.{some_leaf}
+use Rattle.bforest_core.proofs.table.Stored.{some_same}
+use Rattle.bforest_core.proofs.union.Sweep.{Sweeping, child_turn, gives-top, inner-children, sweep-first, sweep-last, sweep-next, sweeping, under-open}
+use Rattle.bforest_core.proofs.table.Tables.{is_used}
 use Rattle.bforest_core.proofs.pool.NodePool.+free_under.Goals as goal
 
 pub child_count-index-end-requires : goal.child_count-index-end-requires

@@ -2,7 +2,7 @@ use Rattle.std.proofs.Common.{ℕ, ◌-◌, List, ◌++◌}
 use Rattle.bforest_core.specs.Levels.{LevelNode}
 use Rattle.bforest_core.specs.Place.{Distinct}
 use Rattle.bforest_core.specs.Removal.{numbers_under}
-use Rattle.bforest_core.proofs.Sweep.{Opened, Sweeping}
+use Rattle.bforest_core.proofs.union.Sweep.{Opened, Sweeping}
 use Rattle.bforest_core.proofs.pool.NodePool.+free_under.Given as goal
 
 abbrev pub decreases-free_under : goal.decreases-free_under

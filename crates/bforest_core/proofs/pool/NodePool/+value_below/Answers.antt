@@ -2,8 +2,8 @@ use Rattle.std.proofs.Common.{rules, ℕ, ◌+◌, ◌-◌, ◌<◌, List, ◌�
 use Rattle.std.proofs.lemmas.Bool.{false≢true}
 use Rattle.bforest_core.specs.Place.{entry_keys, entry_items}
 use Rattle.bforest_core.specs.Descent.{Under}
-use Rattle.bforest_core.proofs.Rising.{increasing_rest}
-use Rattle.bforest_core.proofs.Descent.{some_leaf, in_slots, leaf_case, inner_case, inner_count, onward, leaf_value}
+use Rattle.bforest_core.proofs.walks.Rising.{increasing_rest}
+use Rattle.bforest_core.proofs.walks.Descent.{some_leaf, in_slots, leaf_case, inner_case, inner_count, onward, leaf_value}
 use Rattle.bforest_core.proofs.pool.NodePool.+value_below.Goals as goal
 
 pub node-requires : goal.node-requires

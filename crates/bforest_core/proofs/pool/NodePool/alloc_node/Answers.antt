@@ -3,9 +3,9 @@ use Rattle.std.proofs.lemmas.Bool.{false≢true}
 use Rattle.std.proofs.lemmas.Result.{err_from_is_err_and}
 use Rattle.bforest_nodes.specs.Content.{Leaf}
 use Rattle.bforest_core.specs.Table.{front_of}
-use Rattle.bforest_core.proofs.Allocating.{ok_not_err, reserved_taken_is, used_written}
-use Rattle.bforest_core.proofs.Insertion.{err-same, err-back, reserved-free}
-use Rattle.bforest_core.proofs.Planting.{planted-alloc}
+use Rattle.bforest_core.proofs.table.Allocating.{ok_not_err, reserved_taken_is, used_written}
+use Rattle.bforest_core.proofs.insertion.Insertion.{err-same, err-back, reserved-free}
+use Rattle.bforest_core.proofs.union.Planting.{planted-alloc}
 use Rattle.bforest_core.proofs.pool.NodePool.alloc_node.Given.{Over}
 use Rattle.bforest_core.proofs.pool.NodePool.alloc_node.Goals as goal
 

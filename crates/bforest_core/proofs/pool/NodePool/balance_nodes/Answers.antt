@@ -1,9 +1,9 @@
 use Rattle.std.proofs.Common.{rules, arith, ◌∙◌, ◌≡◌, ◌<◌, ◌*◌, ℕ, List, Some, sym, slice_get, length, length-set, vec_len, slice_set}
 use Rattle.bforest_nodes.specs.Content.{Content, IsSameKind, entry_count, entry_capacity}
 use Rattle.bforest_core.specs.Table.{IsUnderflowedAt}
-use Rattle.bforest_core.proofs.Lists.{refilled}
-use Rattle.bforest_core.proofs.Stored.{read_same}
-use Rattle.bforest_core.proofs.Pools.{IsPool-set_two}
+use Rattle.bforest_core.proofs.table.Lists.{refilled}
+use Rattle.bforest_core.proofs.table.Stored.{read_same}
+use Rattle.bforest_core.proofs.table.Pools.{IsPool-set_two}
 use Rattle.bforest_core.proofs.pool.NodePool.balance_nodes.Goals as goal
 
 pub two_nodes-lhs-requires-clause-left_within : goal.two_nodes-lhs-requires-clause-left_within

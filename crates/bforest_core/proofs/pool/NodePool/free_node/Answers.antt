@@ -1,6 +1,6 @@
 use Rattle.std.proofs.Common.{arith, ◌<◌, length}
-use Rattle.bforest_core.proofs.Pools.{IsPool-freed, free_below}
-use Rattle.bforest_core.proofs.Chains.{front_of-is}
+use Rattle.bforest_core.proofs.table.Pools.{IsPool-freed, free_below}
+use Rattle.bforest_core.proofs.table.Chains.{front_of-is}
 use Rattle.bforest_core.proofs.pool.NodePool.free_node.Goals as goal
 
 pub overflow_add-self : goal.overflow_add-self

@@ -1,10 +1,10 @@
 use Rattle.std.proofs.Common.{rules, arith}
 use Rattle.bforest_core.specs.Place.{numbers_of}
 use Rattle.bforest_core.specs.Trees.{tree_of}
-use Rattle.bforest_core.proofs.Account.{length-same, nodes-count}
-use Rattle.bforest_core.proofs.Roots.{uprooted-union}
-use Rattle.bforest_core.proofs.Unions.{is-rooted, rooted}
-use Rattle.bforest_core.proofs.Whole.{whole_top, whole_under}
+use Rattle.bforest_core.proofs.union.Account.{length-same, nodes-count}
+use Rattle.bforest_core.proofs.union.Roots.{uprooted-union}
+use Rattle.bforest_core.proofs.union.Unions.{is-rooted, rooted}
+use Rattle.bforest_core.proofs.walks.Whole.{whole_top, whole_under}
 use Rattle.bforest_core.proofs.pool.NodePool.free_tree.Goals as goal
 
 pub free_under-requires : goal.free_under-requires

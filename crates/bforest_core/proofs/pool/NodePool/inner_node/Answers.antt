@@ -1,5 +1,5 @@
 use Rattle.std.proofs.Common.{rules}
-use Rattle.bforest_core.proofs.Allocating.{taken_is, used_written}
+use Rattle.bforest_core.proofs.table.Allocating.{taken_is, used_written}
 use Rattle.bforest_core.proofs.pool.NodePool.inner_node.Goals as goal
 
 pub take_slot-node-requires : goal.take_slot-node-requires

@@ -3,7 +3,7 @@ use Rattle.std.specs.List.{flat_map}
 use Rattle.std.proofs.lemmas.Bool.{cases_lt, false≢true}
 use Rattle.bforest_nodes.specs.Content.{children_of}
 use Rattle.bforest_core.specs.Place.{count}
-use Rattle.bforest_core.proofs.Counts.{named-more, named-slot}
+use Rattle.bforest_core.proofs.rows.Counts.{named-more, named-slot}
 use Rattle.bforest_core.proofs.pool.NodePool.is_child.Goals as goal
 
 pub returns-then-names : goal.returns-then-names

@@ -6,7 +6,7 @@ use Rattle.std.proofs.lemmas.List.{get_or_past}
 use Rattle.bforest_nodes.specs.Content.{Content, Inner, Leaf, Free, IsFree, children_of}
 use Rattle.bforest_core.specs.Place.{count}
 use Rattle.bforest_core.specs.Trees.{slot, is_used, is_root}
-use Rattle.bforest_core.proofs.Read.{slot-is}
+use Rattle.bforest_core.proofs.table.Read.{slot-is}
 use Rattle.bforest_core.proofs.pool.NodePool.is_root.Goals as goal
 use Rattle.bforest_core.proofs.pool.NodePool.is_root.Goals.{then-number-slots, else-number-slots}
 

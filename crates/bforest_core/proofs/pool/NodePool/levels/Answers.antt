@@ -3,10 +3,10 @@ use Rattle.std.proofs.lemmas.List.{length-map}
 use Rattle.std.proofs.Math.Nat.{le-div_iff_mul-le, mul_comm}
 use Rattle.bforest_core.specs.Levels.{Tree, flat, sizes, sizes_of, half_of}
 use Rattle.bforest_core.specs.Trees.{tree_of}
-use Rattle.bforest_core.proofs.Bounds.{leaves-few, depth}
-use Rattle.bforest_core.proofs.Descent.{some_leaf}
-use Rattle.bforest_core.proofs.Unions.{is-rooted}
-use Rattle.bforest_core.proofs.Whole.{whole_top, whole_under}
+use Rattle.bforest_core.proofs.rows.Bounds.{leaves-few, depth}
+use Rattle.bforest_core.proofs.walks.Descent.{some_leaf}
+use Rattle.bforest_core.proofs.union.Unions.{is-rooted}
+use Rattle.bforest_core.proofs.walks.Whole.{whole_top, whole_under}
 use Rattle.bforest_core.proofs.pool.NodePool.levels.Goals as goal
 
 -- the leaves are a level, too

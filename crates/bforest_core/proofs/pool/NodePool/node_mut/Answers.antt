@@ -1,6 +1,6 @@
 use Rattle.std.proofs.Common.{◌≡◌, slice_get, Some, ◌<◌, length, refl}
 use Rattle.std.proofs.lemmas.Option.{slice_get_read}
-use Rattle.bforest_core.proofs.Pools.{IsPool-set, chain_from-set}
+use Rattle.bforest_core.proofs.table.Pools.{IsPool-set, chain_from-set}
 use Rattle.bforest_core.proofs.pool.NodePool.node_mut.Goals as goal
 
 pub invariant_of-self-lent : goal.invariant_of-self-lent

@@ -1,8 +1,8 @@
 use Rattle.std.proofs.Common.{◌≡◌, ◌+◌, ◌-◌, length, vec_len, arith, refl, sym}
-use Rattle.bforest_core.proofs.Allocating.{ok_not_err, full_not_memory, sees, has_room, lacks_room, finds_room, needs_growth, not_enough, stays_reserved, few_slots}
-use Rattle.bforest_core.proofs.Pools.{IsPool-grown}
-use Rattle.bforest_core.proofs.Chains.{front_of-is}
-use Rattle.bforest_core.proofs.Reserved.{reserved-frees, reserved-keeps, same-keeps}
+use Rattle.bforest_core.proofs.table.Allocating.{ok_not_err, full_not_memory, sees, has_room, lacks_room, finds_room, needs_growth, not_enough, stays_reserved, few_slots}
+use Rattle.bforest_core.proofs.table.Pools.{IsPool-grown}
+use Rattle.bforest_core.proofs.table.Chains.{front_of-is}
+use Rattle.bforest_core.proofs.union.Reserved.{reserved-frees, reserved-keeps, same-keeps}
 use Rattle.bforest_core.proofs.pool.NodePool.reserve.Goals as goal
 
 pub invariant_of-self : goal.invariant_of-self

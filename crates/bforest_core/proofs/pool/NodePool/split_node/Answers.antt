@@ -1,7 +1,7 @@
 use Rattle.std.proofs.Common.{rules, slice_get, Some, arith, refl, ◌∙◌, ◌≡◌, ℕ, ◌<◌, length, length-set, vec_len, slice_set, sym}
-use Rattle.bforest_core.proofs.Lists.{refilled}
-use Rattle.bforest_core.proofs.Fronts.{nodes-without_front, off-without_front, with_front-is, apart_front}
-use Rattle.bforest_core.proofs.Pools.{IsPool-set_two}
+use Rattle.bforest_core.proofs.table.Lists.{refilled}
+use Rattle.bforest_core.proofs.table.Fronts.{nodes-without_front, off-without_front, with_front-is, apart_front}
+use Rattle.bforest_core.proofs.table.Pools.{IsPool-set_two}
 use Rattle.bforest_core.proofs.pool.NodePool.split_node.Goals as goal
 
 -- a number within the slots is within as many

@@ -1,9 +1,9 @@
 use Rattle.std.proofs.Common.{rules, refl, arith, ◌<◌, Some, length, sym, ap, ◌∙◌, subst}
 use Rattle.std.proofs.lemmas.Option.{slice_get_read}
 use Rattle.bforest_core.specs.Table.{Table}
-use Rattle.bforest_core.proofs.Chains.{front_of-is}
-use Rattle.bforest_core.proofs.Pools.{first_some}
-use Rattle.bforest_core.proofs.Taking.{some, within, is_free, pool_after, chain_after, off_after}
+use Rattle.bforest_core.proofs.table.Chains.{front_of-is}
+use Rattle.bforest_core.proofs.table.Pools.{first_some}
+use Rattle.bforest_core.proofs.table.Taking.{some, within, is_free, pool_after, chain_after, off_after}
 use Rattle.bforest_core.proofs.pool.NodePool.take_slot.Goals as goal
 
 pub unwrap-node-requires : goal.unwrap-node-requires

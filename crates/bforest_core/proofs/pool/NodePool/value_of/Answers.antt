@@ -1,7 +1,7 @@
 use Rattle.std.proofs.Common.{rules, [], arith}
 use Rattle.bforest_core.specs.Trees.{tree_of}
-use Rattle.bforest_core.proofs.Unions.{is-rooted}
-use Rattle.bforest_core.proofs.Whole.{whole_top, whole_under, all_through}
+use Rattle.bforest_core.proofs.union.Unions.{is-rooted}
+use Rattle.bforest_core.proofs.walks.Whole.{whole_top, whole_under, all_through}
 use Rattle.bforest_core.proofs.pool.NodePool.value_of.Goals as goal
 
 pub value_below-requires : goal.value_below-requires

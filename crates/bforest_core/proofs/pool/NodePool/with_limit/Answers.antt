@@ -1,6 +1,6 @@
 use Rattle.std.proofs.Common.{arith, refl}
-use Rattle.bforest_core.proofs.Pools.{IsPool-empty}
-use Rattle.bforest_core.proofs.Fronts.{empty-is}
+use Rattle.bforest_core.proofs.table.Pools.{IsPool-empty}
+use Rattle.bforest_core.proofs.table.Fronts.{empty-is}
 use Rattle.bforest_core.proofs.pool.NodePool.with_limit.Goals as goal
 
 pub invariant_of-result : goal.invariant_of-result

@@ -4,8 +4,8 @@ use Rattle.bforest_trees.proofs.Inserting.{inserts-err, inserts-first}
 use Rattle.bforest_trees.proofs.Spots.{spot-empty, spot-under}
 use Rattle.bforest_trees.proofs.trees.Trees.insert_first.Given.{Over}
 use Rattle.bforest_trees.proofs.trees.Trees.insert_first.Goals as goal
-use Rattle.bforest_core.proofs.Insertion.{err-back, err-same}
-use Rattle.bforest_core.proofs.Planting.{planted-alloc}
+use Rattle.bforest_core.proofs.insertion.Insertion.{err-back, err-same}
+use Rattle.bforest_core.proofs.union.Planting.{planted-alloc}
 use Rattle.std.proofs.Common.{Err, List, None, [], ap, arith, refl, rules, ◌∙◌, ◌∷◌, ◌≡◌}
 use Rattle.std.proofs.lemmas.Bool.{false≢true}
 use Rattle.std.proofs.lemmas.Result.{err_from_is_err_and}

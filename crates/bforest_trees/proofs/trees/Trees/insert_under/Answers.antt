@@ -4,7 +4,7 @@ use Rattle.bforest_trees.proofs.Inserting.{inserts-err, inserts-ok}
 use Rattle.bforest_trees.proofs.Putting.{absent-none, need-absent, need-present, present-some, put-here, put-new}
 use Rattle.bforest_trees.proofs.Spots.{known, spot-normal, spot-under}
 use Rattle.bforest_trees.proofs.trees.Trees.insert_under.Goals as goal
-use Rattle.bforest_core.proofs.Pointed.{points-placed}
+use Rattle.bforest_core.proofs.walks.Pointed.{points-placed}
 use Rattle.bforest_core.specs.Levels.{flat}
 use Rattle.bforest_core.specs.Trees.{tree_of}
 use Rattle.bforest_nodes.proofs.Ordered.{IsIncreasing-put}

@@ -1,5 +1,5 @@
 use Rattle.bforest_trees.proofs.trees.Trees.with_limit.Goals as goal
-use Rattle.bforest_core.proofs.Planting.{IsUnion-empty}
+use Rattle.bforest_core.proofs.union.Planting.{IsUnion-empty}
 use Rattle.bforest_core.specs.Table.{Table}
 use Rattle.bforest_core.specs.Trees.{IsUnion}
 use Rattle.std.proofs.Common.{subst, sym}

@@ -1,6 +1,6 @@
 use Rattle.std.proofs.Common.{subst, sym}
 use Rattle.bforest_core.specs.Trees.{IsUnion}
-use Rattle.bforest_core.proofs.Planting.{IsUnion-empty}
+use Rattle.bforest_core.proofs.union.Planting.{IsUnion-empty}
 use Rattle.tree_cases.proofs.tree.Tree.new.Goals as goal
 
 pub invariant_of-result : goal.invariant_of-result

@@ -1,0 +1,121 @@
+-- One entry more in a row: where its node has room, and where it is halved.
+use Rattle.std.proofs.Common.{◌≡◌, ◌⊎◌, nat_le, ◌/◌, ℕ, suc, ◌+◌, ◌-◌, ◌≤◌, ◌<◌, nat_lt, if◌then◌else◌, true, false, Option, Some, None, List, [], ◌∷◌, ◌++◌, length, refl, sym, ap, ◌∙◌, inl, inr, append_assoc, length-append, arith}
+use Rattle.std.proofs.lemmas.Bool.{cases_lt}
+use Rattle.bforest_core.specs.Levels.{LevelNode, node, flat, head_of, heads, sizes, FitRow}
+use Rattle.bforest_core.specs.Sizes.{inner_gain, past, leaf_gain}
+use Rattle.bforest_core.proofs.rows.Bounds.{below_lt, above_lt}
+use Rattle.bforest_core.proofs.rows.LevelRows.{flat-append, heads-append, FitRow-split, FitRow-join}
+
+module _ {K X : Type 0} where
+  -- a node's head is that of its first entry
+  pub head-grown : (n : ℕ) (l : List (K × X)) (x : K × X) (r s : List (K × X)) → head_of n (l ++ x ∷ r) ≡ head_of n (l ++ x ∷ s)
+  head-grown n [] x r s = refl
+  head-grown n (z ∷ l) x r s = refl
+
+  -- an entry put into a node with room
+  pub FitRow-put : (half most : ℕ) (before after : List (LevelNode K X)) (m : ℕ) (es fs : List (K × X)) → length fs ≡ suc (length es) → length es < most → FitRow half most (before ++ node m es ∷ after) → FitRow half most (before ++ node m fs ∷ after)
+  FitRow-put half most before after m es fs more lt f =
+      let s = FitRow-split half most before (node m es) after f in
+      FitRow-join half most before (node m fs) after s.0 (omega (arith, more, s.1.0), omega (arith, more, lt), s.1.2)
+
+  -- a node that became two
+  pub flat-halved : (before after : List (LevelNode K X)) (m n : ℕ) (xs ys : List (K × X)) → flat (before ++ node m xs ∷ node n ys ∷ after) ≡ flat before ++ ((xs ++ ys) ++ flat after)
+  flat-halved before after m n xs ys =
+      flat-append before _ ∙ ap (λ z. flat before ++ z) (sym (append_assoc xs ys (flat after)))
+
+  pub heads-halved : (before after : List (LevelNode K X)) (m n : ℕ) (x : K × X) (xs : List (K × X)) (y : K × X) (ys : List (K × X)) → heads (before ++ node m (x ∷ xs) ∷ node n (y ∷ ys) ∷ after) ≡ heads before ++ (x.0, m) ∷ (y.0, n) ∷ heads after
+  heads-halved before after m n x xs y ys = heads-append before _
+
+  pub FitRow-halved : (half most : ℕ) (before after : List (LevelNode K X)) (m n : ℕ) (es xs ys : List (K × X)) → 1 ≤ half → FitRow half most (before ++ node m es ∷ after) → half ≤ length xs → length xs ≤ most → half ≤ length ys → length ys ≤ most → FitRow half most (before ++ node m xs ∷ node n ys ∷ after)
+  FitRow-halved half most before [] m n es xs ys one f hx mx hy my =
+      let s = FitRow-split half most before (node m es) [] f in
+      FitRow-join half most before (node m xs) (node n ys ∷ []) s.0 (hx, mx, (omega arith, my, tt))
+  FitRow-halved half most before (z ∷ after) m n es xs ys one f hx mx hy my =
+      let s = FitRow-split half most before (node m es) (z ∷ after) f in
+      FitRow-join half most before (node m xs) (node n ys ∷ z ∷ after) s.0 (hx, mx, (hy, my, s.1.2))
+
+-- a change of a level behind these nodes
+abbrev behind : {K X : Type 0} → List (LevelNode K X) → Option ℕ × List ℕ → Option ℕ × List ℕ
+behind [] change = change
+behind (node m es ∷ before) change = past (length es) (behind before change)
+
+module _ {K X : Type 0} where
+  behind_none : (before : List (LevelNode K X)) (ss : List ℕ) → behind before (None, ss) ≡ (None, sizes before ++ ss)
+  behind_none [] ss = refl
+  behind_none (node m es ∷ before) ss = ap (λ z. past (length es) z) (behind_none before ss)
+
+  behind_some : (before : List (LevelNode K X)) (ss : List ℕ) → behind before (Some 0, ss) ≡ (Some (length before), sizes before ++ ss)
+  behind_some [] ss = refl
+  behind_some (node m es ∷ before) ss = ap (λ z. past (length es) z) (behind_some before ss)
+
+  gain_behind : (before : List (LevelNode K X)) (s e : ℕ) (after : List ℕ) → e < s → inner_gain (length (flat before) + e) (sizes before ++ s ∷ after) ≡ behind before (inner_gain e (s ∷ after))
+  gain_behind [] s e after low = let z : 0 + e ≡ e = omega arith in ap (λ w. inner_gain w (s ∷ after)) z
+  gain_behind (node m es ∷ before) s e after low =
+      let len : length (flat (node m es ∷ before)) + e ≡ length es + (length (flat before) + e) = omega (arith, length-append es (flat before)) in
+      let a = above_lt (length es + (length (flat before) + e)) (length es) (omega arith) in
+      let d : length es + (length (flat before) + e) - length es ≡ length (flat before) + e = omega arith in
+      rw (len, a, d) (ap (λ z. past (length es) z) (gain_behind before s e after low))
+
+  -- the sizes of a level with one more entry, in a node with room
+  pub gain_room : (before : List (LevelNode K X)) (s e : ℕ) (after : List ℕ) → e < s → s < 8 → inner_gain (length (flat before) + e) (sizes before ++ s ∷ after) ≡ (None, sizes before ++ suc s ∷ after)
+  gain_room before s e after low room =
+      let a = below_lt e s low in
+      let b = below_lt s 8 room in
+      let one : inner_gain e (s ∷ after) ≡ (None, suc s ∷ after) = rw (a, b) refl in
+      gain_behind before s e after low ∙ ap (λ z. behind before z) one ∙ behind_none before (suc s ∷ after)
+
+  -- in a full node
+  pub gain_full : (before : List (LevelNode K X)) (s e left right : ℕ) (after : List ℕ) → e < s → s ≡ 8 → (if nat_lt e 4 then 5 ∷ 4 ∷ after else 4 ∷ 5 ∷ after) ≡ left ∷ right ∷ after → inner_gain (length (flat before) + e) (sizes before ++ s ∷ after) ≡ (Some (length before), sizes before ++ left ∷ right ∷ after)
+  gain_full before s e left right after low full halves =
+      let a = below_lt e s low in
+      let b = above_lt s 8 (omega arith) in
+      let one : inner_gain e (s ∷ after) ≡ (Some 0, left ∷ right ∷ after) = rw (a, b) (ap (λ z. (Some 0, z)) halves) in
+      gain_behind before s e after low ∙ ap (λ z. behind before z) one ∙ behind_some before (left ∷ right ∷ after)
+
+-- the sizes of the halves
+pub halves_left : (e left right : ℕ) (after : List ℕ) → e < 4 → left ≡ 5 → right ≡ 4 → (if nat_lt e 4 then 5 ∷ 4 ∷ after else 4 ∷ 5 ∷ after) ≡ left ∷ right ∷ after
+halves_left e left right after low l r = rw (below_lt e 4 low, l, r) refl
+
+pub halves_right : (e left right : ℕ) (after : List ℕ) → 4 ≤ e → left ≡ 4 → right ≡ 5 → (if nat_lt e 4 then 5 ∷ 4 ∷ after else 4 ∷ 5 ∷ after) ≡ left ∷ right ∷ after
+halves_right e left right after high l r = rw (above_lt e 4 high, l, r) refl
+
+-- a full node becomes two
+pub gain_some : {K X : Type 0} (before : List (LevelNode K X)) (s e : ℕ) (after : List ℕ) → e < s → s ≡ 8 → (inner_gain (length (flat before) + e) (sizes before ++ s ∷ after)).0 ≡ Some (length before)
+gain_some before s e after low full =
+    elim (cases_lt e 4) [
+      | inl lt ↦ ap (λ z. z.0) (gain_full before s e 5 4 after low full (halves_left e 5 4 after lt refl refl))
+      | inr ge ↦ ap (λ z. z.0) (gain_full before s e 4 5 after low full (halves_right e 4 5 after ge refl refl))
+    ]
+
+here_le : (a b : ℕ) → a ≤ b → nat_le a b ≡ true
+here_le a b h = grind arith
+
+past_le : (a b : ℕ) → b < a → nat_le a b ≡ false
+past_le a b h = grind arith
+
+module _ {K X : Type 0} where
+  -- an insertion into a leaf, at its front only in the first one
+  leaf_behind : (most : ℕ) (before : List (LevelNode K X)) (s e : ℕ) (after : List ℕ) → e ≤ s → (before ≡ []) ⊎ (1 ≤ e) → leaf_gain most (length (flat before) + e) (sizes before ++ s ∷ after) ≡ behind before (leaf_gain most e (s ∷ after))
+  leaf_behind most [] s e after low at = let z : 0 + e ≡ e = omega arith in ap (λ w. leaf_gain most w (s ∷ after)) z
+  leaf_behind most (node m es ∷ before) s e after low (inl none) = absurd cc
+  leaf_behind most (node m es ∷ before) s e after low (inr one) =
+      let len : length (flat (node m es ∷ before)) + e ≡ length es + (length (flat before) + e) = omega (arith, length-append es (flat before)) in
+      let a = past_le (length es + (length (flat before) + e)) (length es) (omega arith) in
+      let d : length es + (length (flat before) + e) - length es ≡ length (flat before) + e = omega arith in
+      rw (len, a, d) (ap (λ z. past (length es) z) (leaf_behind most before s e after low (inr one)))
+
+  -- the sizes of the leaves with one more entry, in a leaf with room
+  pub leaf_room : (most : ℕ) (before : List (LevelNode K X)) (s e : ℕ) (after : List ℕ) → e ≤ s → (before ≡ []) ⊎ (1 ≤ e) → s < most → leaf_gain most (length (flat before) + e) (sizes before ++ s ∷ after) ≡ (None, sizes before ++ suc s ∷ after)
+  leaf_room most before s e after low at room =
+      let a = here_le e s low in
+      let b = below_lt s most room in
+      let one : leaf_gain most e (s ∷ after) ≡ (None, suc s ∷ after) = rw (a, b) refl in
+      leaf_behind most before s e after low at ∙ ap (λ z. behind before z) one ∙ behind_none before (suc s ∷ after)
+
+  -- in a full leaf
+  pub leaf_full : (most : ℕ) (before : List (LevelNode K X)) (s e : ℕ) (after : List ℕ) → e ≤ s → (before ≡ []) ⊎ (1 ≤ e) → s ≡ most → leaf_gain most (length (flat before) + e) (sizes before ++ s ∷ after) ≡ (Some (length before), sizes before ++ (most + 1) / 2 ∷ (most + 1) / 2 ∷ after)
+  leaf_full most before s e after low at full =
+      let a = here_le e s low in
+      let b = above_lt s most (omega arith) in
+      let one : leaf_gain most e (s ∷ after) ≡ (Some 0, (most + 1) / 2 ∷ (most + 1) / 2 ∷ after) = rw (a, b) refl in
+      leaf_behind most before s e after low at ∙ ap (λ z. behind before z) one ∙ behind_some before ((most + 1) / 2 ∷ (most + 1) / 2 ∷ after)

@@ -1,0 +1,97 @@
+-- Halving the path's full inner node, and putting the child into one half: each answer of `split_here` is one of these.
+use Rattle.std.proofs.Common.{◌≡◌, ℕ, suc, ◌-◌, ◌≤◌, ◌<◌, IsTrue, ◌↔◌, true, false, Bool, if◌then◌else◌, List, ◌∷◌, ◌++◌, drop, length, set, get_or, slice_get, Some, refl, sym, ap, ◌∙◌, subst, arith}
+use Rattle.std.proofs.lemmas.List.{get_or_default, get_or-set_same, get_or-set_other}
+use Rattle.bforest_nodes.specs.Content.{Inner, with_child}
+use Rattle.bforest_nodes.specs.declared.node.SplitOff.{SplitOff}
+use Rattle.bforest_core.specs.Table.{Table, IsUsed, IsFullAt, IsSplitAt, front_of, with_node}
+use Rattle.bforest_core.specs.Levels.{LevelNode}
+use Rattle.bforest_core.specs.Place.{inner_content, entry_keys, entry_items}
+use Rattle.bforest_core.specs.Climb.{Above, Halved}
+use Rattle.bforest_core.proofs.table.Tables.{is_used}
+use Rattle.bforest_core.proofs.rows.Zipper.{Spot, spot}
+use Rattle.bforest_core.proofs.table.Stored.{item_count}
+use Rattle.bforest_core.proofs.insertion.Halving.{Split, full_is, split_spot, left_asks, right_asks, halves_early, halves_late}
+use Rattle.bforest_core.proofs.insertion.Parted.{parted_early, parted_late}
+use Rattle.bforest_core.proofs.insertion.HalvingLeaf.{FullAt, put_done}
+
+module _ {K V : Type 0} where
+  -- what putting a child in asks
+  pub record RoomAt (t : Table K V) (number index : ℕ) : Type 0 where
+    pub used : IsUsed t number
+    pub keys : List K
+    pub children : List ℕ
+    pub slot : slice_get t.nodes number ≡ Some (Inner keys children)
+    pub within : index ≤ length keys
+
+  -- whether there was room
+  abbrev pub HasRoom : Table K V → ℕ → Bool → Type 0
+  HasRoom t number put = (keys : List K) (children : List ℕ) → slice_get t.nodes number ≡ Some (Inner keys children) → IsTrue put ↔ (length children < 8)
+
+  -- what putting it in leaves
+  abbrev pub Puts : Table K V → Table K V → ℕ → ℕ → K → ℕ → Bool → Type 0
+  Puts t u number index key child put = (keys : List K) (children : List ℕ) → slice_get t.nodes number ≡ Some (Inner keys children) → u ≡ with_node t number (if put then with_child (Inner keys children) index key child else Inner keys children)
+
+  module _ (cap : ℕ) (t s : Table K V) (ms js : List ℕ) (up size : ℕ) (rows : List (List (LevelNode K ℕ))) (a : List (K × ℕ)) (x : K × ℕ) (b : List (K × ℕ)) (p : Above t ms js up size rows (a ++ x ∷ b) (length a))
+      (r : ℕ) (within : up < size) (low : up < length ms) (full : IsFullAt cap t.nodes (get_or ms up 0)) where
+    d : Spot t ms js up size rows a x b
+    d = spot t ms js up size rows a x b p within
+
+    num_is : get_or ms up r ≡ get_or ms up 0
+    num_is = get_or_default ms up r 0 low
+
+    pub full_asks : FullAt cap t (get_or ms up r)
+    full_asks = record {
+      used = subst (λ (z : ℕ). IsUsed t z) (sym num_is) (is_used t (get_or ms up 0) (inner_content (d.q.l ++ x ∷ d.q.r)) d.f.slot_is d.f.none_chain);
+      full = subst (λ (z : ℕ). IsFullAt cap t.nodes z) (sym num_is) full;
+    }
+
+    pub index_small : get_or js up 0 < 8
+    index_small = omega (arith, d.count_is, d.most_is)
+
+    eight : length (d.q.l ++ x ∷ d.q.r) ≡ 8
+    eight = full_is cap t.nodes (get_or ms up 0) (d.q.l ++ x ∷ d.q.r) d.f.slot_is full
+
+    module _ (right : ℕ) (parts : SplitOff K) (front : front_of t.chain ≡ Some right) (used : IsUsed s right) (split : IsSplitAt cap t (get_or ms up r) (get_or js up 0) parts s) where
+      cut : Split t s (get_or ms up 0) right (d.q.l ++ x ∷ d.q.r) parts.crit_key
+      cut = split_spot cap t s ms js up size rows a x b (get_or ms up r) right parts d num_is full front used split
+
+      left_slot : slice_get s.nodes (get_or ms up r) ≡ Some (inner_content (cut.z ∷ cut.zs))
+      left_slot = ap (λ z. slice_get s.nodes z) num_is ∙ cut.here
+
+      pub early_asks : get_or js up 0 < 4 → RoomAt s (get_or ms up r) (get_or js up 0)
+      early_asks early =
+          let asks = left_asks t s (get_or ms up 0) right (get_or js up 0) (d.q.l ++ x ∷ d.q.r) parts.crit_key cut d.f.none_chain early in
+          record {
+            used = subst (λ (z : ℕ). IsUsed s z) (sym num_is) asks.0;
+            keys = drop 1 (entry_keys (cut.z ∷ cut.zs));
+            children = entry_items (cut.z ∷ cut.zs);
+            slot = left_slot;
+            within = asks.2;
+          }
+
+      pub early_halves : (u : Table K V) (key : K) (child : ℕ) (moved put : Bool) (index : ℕ) → get_or js up 0 < 4 → HasRoom s (get_or ms up r) put → Puts s u (get_or ms up r) (get_or js up 0) key child put → index ≡ (if moved then suc (get_or js up 0) else get_or js up 0) → up < length js →
+          Halved t u ms js ms (set js up index) up size rows (a ++ x ∷ (key, child) ∷ b) (length a) (if moved then suc (length a) else length a) parts.crit_key right false
+      early_halves u key child moved put index early has puts index_is low_js =
+          let lefts = cut.z ∷ cut.zs in
+          let room = (has (drop 1 (entry_keys lefts)) (entry_items lefts) left_slot).1 (omega (arith, item_count lefts, cut.four)) in
+          let written = put_done put s u (get_or ms up r) (get_or ms up 0) (with_child (inner_content lefts) (get_or js up 0) key child) (inner_content lefts) num_is room (puts (drop 1 (entry_keys lefts)) (entry_items lefts) left_slot) in
+          let h = halves_early t s u (get_or ms up 0) right (get_or js up 0) d.q.l x d.q.r parts.crit_key key child d.q.entry_is early eight cut written in
+          parted_early t u ms js ms (set js up index) up size rows a x (key, child) b parts.crit_key right moved d eight early h
+          (λ i. refl) (λ i other. get_or-set_other js up i index 0 other) (get_or-set_same js up index 0 low_js ∙ index_is)
+
+      right_is : (slice_get s.nodes right ≡ Some (inner_content (cut.y ∷ cut.ys))) × (get_or js up 0 - 4 ≤ length (drop 1 (entry_keys (cut.y ∷ cut.ys)))) × (length (cut.y ∷ cut.ys) ≡ 4)
+      right_is = right_asks t s (get_or ms up 0) right (get_or js up 0) (d.q.l ++ x ∷ d.q.r) parts.crit_key cut eight index_small
+
+      pub late_asks : RoomAt s right (get_or js up 0 - 4)
+      late_asks = record { used = used; keys = drop 1 (entry_keys (cut.y ∷ cut.ys)); children = entry_items (cut.y ∷ cut.ys); slot = right_is.0; within = right_is.1 }
+
+      pub late_halves : (u : Table K V) (key : K) (child : ℕ) (moved put : Bool) (index : ℕ) → 4 ≤ get_or js up 0 → HasRoom s right put → Puts s u right (get_or js up 0 - 4) key child put → index ≡ (if moved then suc (get_or js up 0 - 4) else get_or js up 0 - 4) → up < length js →
+          Halved t u ms js (set ms up right) (set js up index) up size rows (a ++ x ∷ (key, child) ∷ b) (length a) (if moved then suc (length a) else length a) parts.crit_key right true
+      late_halves u key child moved put index late has puts index_is low_js =
+          let rights = cut.y ∷ cut.ys in
+          let four = right_is.2 in
+          let room = (has (drop 1 (entry_keys rights)) (entry_items rights) right_is.0).1 (omega (arith, item_count rights, four)) in
+          let written = put_done put s u right right (with_child (inner_content rights) (get_or js up 0 - 4) key child) (inner_content rights) refl room (puts (drop 1 (entry_keys rights)) (entry_items rights) right_is.0) in
+          let h = halves_late t s u (get_or ms up 0) right (get_or js up 0) d.q.l x d.q.r parts.crit_key key child d.q.entry_is late eight cut written in
+          parted_late t u ms js (set ms up right) (set js up index) up size rows a x (key, child) b parts.crit_key right moved d eight late h
+          (λ i other. get_or-set_other ms up i right 0 other) (get_or-set_same ms up right 0 low) (λ i other. get_or-set_other js up i index 0 other) (get_or-set_same js up index 0 low_js ∙ index_is)

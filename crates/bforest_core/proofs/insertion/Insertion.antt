@@ -1,0 +1,234 @@
+-- What an insertion into the tree under a root says of the table, where nodes were made free for it before.
+use Rattle.std.proofs.Common.{◌≡◌, ℕ, suc, ◌+◌, ◌-◌, ◌^◌, ◌≤◌, ◌<◌, ◌≢◌, ◌↔◌, IsTrue, Option, Some, None, Result, Err, List, [], ◌∷◌, ◌++◌, drop, map, length, insert, slice_get, sym, ap, ◌∙◌, subst, inl, inr, append-nil, length-append, arith}
+use Rattle.std.specs.List.{flat_map}
+use Rattle.std.proofs.lemmas.Bool.{cases_lt}
+use Rattle.std.proofs.lemmas.Bool.Decides.{eqb_tells}
+use Rattle.std.proofs.lemmas.List.{length-map}
+use Rattle.std.proofs.Math.Seq.{drop-append_seam}
+use Rattle.bforest_core.specs.declared.path.Path.{Path}
+use Rattle.bforest_nodes.specs.Content.{Content}
+use Rattle.bforest_core.specs.Table.{Table, down_from, fresh_nodes, front_of, free_count, slot_count, room, reserved, IsFullAt}
+use Rattle.bforest_core.specs.Levels.{LevelNode, node, flat, heads, sizes, numbers, Stacked, Topped, Tree, sizes_of}
+use Rattle.bforest_core.specs.Sizes.{leaf_gain, gain_above, growth, need}
+use Rattle.bforest_core.specs.Place.{IsAt, Stands, count, root_of, numbers_of}
+use Rattle.bforest_core.specs.Climb.{top_of, Placed, Inserted}
+use Rattle.bforest_core.specs.Trees.{tree_of, is_root, IsUnion}
+use Rattle.bforest_core.specs.Change.{Changes, TakesNodes, PlacedUnder, StandsUnder}
+use Rattle.bforest_core.proofs.rows.LevelRows.{flat-append}
+use Rattle.bforest_core.proofs.table.Tables.{count-append}
+use Rattle.bforest_core.proofs.table.Lists.{slice_get-append_left}
+use Rattle.bforest_core.proofs.table.Chains.{length-fresh_nodes, length-down_from}
+use Rattle.bforest_core.proofs.rows.Counts.{once_below, below-one, few-below}
+use Rattle.bforest_core.proofs.union.Forests.{root-among}
+use Rattle.bforest_core.proofs.rows.Bounds.{climb-seventeen}
+use Rattle.bforest_core.proofs.union.Unions.{Rooted, IsPlanted, rooted}
+use Rattle.bforest_core.proofs.union.Roots.{exchanged}
+use Rattle.bforest_core.proofs.union.Reserved.{reserved-union, reserved-roots, reserved-then}
+use Rattle.bforest_core.proofs.insertion.LeafSpot.{placed_from, inserted_from}
+use Rattle.bforest_core.proofs.rows.Tops.{root-stands}
+
+-- a row has the entries of each of its nodes
+row_some : {K X : Type 0} (row : List (LevelNode K X)) (n index place : ℕ) → IsAt row n index place → 1 ≤ length (flat row)
+row_some row n index place at =
+    omega (arith, ap (λ z. length (flat z)) at.row_is, ap length (flat-append at.before (node n at.entries ∷ at.after)), length-append (flat at.before) (at.entries ++ flat at.after), length-append at.entries (flat at.after), at.within)
+
+-- a row is seen as no more nodes than it has
+heads-few : {K X : Type 0} (row : List (LevelNode K X)) → length (heads row) ≤ length (numbers row)
+heads-few [] = omega arith
+heads-few (node n [] ∷ row) = omega (arith, heads-few row)
+heads-few (node n (e ∷ es) ∷ row) = omega (arith, heads-few row)
+
+-- an insertion leaves at most 16 rows above the leaves
+gain-low : {K : Type 0} (k : Option ℕ) (hs : List (K × ℕ)) (rows : List (List (LevelNode K ℕ))) → Stacked hs rows → Topped hs rows → length hs < 2 ^ 32 → length rows ≤ 16 → length (gain_above k (map sizes rows)) ≤ 16
+gain-low None hs rows s t few low = omega (arith, low, length-map rows sizes)
+gain-low (Some p) hs rows s t few low = climb-seventeen p hs rows s t few low
+
+module _ {K V : Type 0} where
+  -- a tree has no more leaves than there are slots
+  leaves_within : (most : ℕ) (table : Table K V) (root : ℕ) (tree : Tree K V) → Rooted most table root tree → length (heads tree.leaves) ≤ length table.nodes
+  leaves_within most table root tree r =
+      let c = λ (m : ℕ). count-append m (numbers tree.leaves) (flat_map numbers tree.above) in
+      let once : (m : ℕ) → count m (numbers tree.leaves) ≤ once_below m (length table.nodes) = λ m. elim (cases_lt m (length table.nodes)) [
+        | inl low ↦ omega (arith, below-one m (length table.nodes) low, c m, count-append m (numbers_of tree) table.chain, r.apart m)
+        | inr past ↦ elim (cases_lt 0 (count m (numbers tree.leaves))) [
+          | inl some ↦ absurd (omega (arith, past, r.within m (omega (arith, some, c m))))
+          | inr none ↦ omega (arith, none)
+        ]
+      ] in
+      omega (arith, heads-few tree.leaves, few-below (length table.nodes) (numbers tree.leaves) once)
+
+  -- an insertion leaves at most 17 levels, where the slots have numbers
+  pub growth-low : (most : ℕ) (table : Table K V) (root place : ℕ) → IsUnion most table → IsTrue (is_root table.nodes root) → slot_count table ≤ 4294967295 → length (growth most place (sizes_of (tree_of table.nodes root))) ≤ 17
+  growth-low most table root place union is slots =
+      let r = rooted most table root union is in
+      let tree = tree_of table.nodes root in
+      let few : length (heads tree.leaves) < 2 ^ 32 = omega (arith, leaves_within most table root tree r, slots) in
+      omega (arith, gain-low (leaf_gain most place (sizes tree.leaves)).0 (heads tree.leaves) tree.above r.fit.stacked r.fit.topped few r.low)
+
+  -- a path under a root is at a place of its tree, which lies in the table
+  pub placed-under : (most : ℕ) (table : Table K V) (root place : ℕ) (path indices : List ℕ) (size : ℕ) → IsUnion most table → PlacedUnder table.nodes root path indices size place → Placed most table path indices size (tree_of table.nodes root) place
+  placed-under most table root place path indices size union p =
+      let r = rooted most table root union p.root_is in
+      record { fit = r.fit; inside = r.inside; apart = r.apart; at = p.at }
+
+  -- and has at least one level and at most 17
+  pub under-low : (most : ℕ) (table : Table K V) (root place : ℕ) (path indices : List ℕ) (size : ℕ) → IsUnion most table → PlacedUnder table.nodes root path indices size place → (0 < size) × (size ≤ 17)
+  under-low most table root place path indices size union p =
+      let r = rooted most table root union p.root_is in
+      (omega (arith, p.at.size_is), omega (arith, p.at.size_is, r.low))
+
+  -- the same after nodes were made free
+  placed-reserved : (most : ℕ) (table : Table K V) (n root place : ℕ) (path indices : List ℕ) (size : ℕ) → IsUnion most table → PlacedUnder table.nodes root path indices size place → Placed most (reserved table n) path indices size (tree_of table.nodes root) place
+  placed-reserved most table n root place path indices size union p =
+      let same = reserved-roots most table n union root in
+      let r = rooted most (reserved table n) root (reserved-union most table n union) (same.0 ∙ p.root_is) in
+      let s = subst (λ (z : Tree K V). Rooted most (reserved table n) root z) (same.1 p.root_is) r in
+      record { fit = s.fit; inside = s.inside; apart = s.apart; at = p.at }
+
+  -- so many lie free then
+  pub reserved-free : (table : Table K V) (n : ℕ) → length (reserved table n).chain ≡ (n - free_count table) + free_count table
+  reserved-free table n = omega (arith, length-append (down_from (slot_count table) (n - free_count table)) table.chain, length-down_from (slot_count table) (n - free_count table))
+
+  -- of so many slots
+  reserved-slots : (table : Table K V) (n : ℕ) → length (reserved table n).nodes ≡ slot_count table + (n - free_count table)
+  reserved-slots table n = omega (arith, length-append table.nodes (fresh_nodes (slot_count table) (n - free_count table) (front_of table.chain)), length-fresh_nodes K V (slot_count table) (n - free_count table) (front_of table.chain))
+
+  -- where so many lay free already, nothing changed
+  pub reserved-enough : (table : Table K V) (n : ℕ) → n ≤ free_count table → reserved table n ≡ table
+  reserved-enough table n enough =
+      let none : n - free_count table ≡ 0 = omega (arith, enough) in
+      rw none (ap (λ z. record table { nodes = z }) (append-nil table.nodes))
+
+  -- all that an insertion says of the table and of the path
+  pub record Insertion (most : ℕ) (old new : Table K V) (root root' place : ℕ) (entry : K × V) (path' indices' : List ℕ) (size' : ℕ) : Type 0 where
+    pub changes : Changes most old new root root' (insert (flat (tree_of old.nodes root).leaves) place entry) (growth most place (sizes_of (tree_of old.nodes root)))
+    pub takes : TakesNodes (need most place (sizes_of (tree_of old.nodes root))) old new
+    pub stands : StandsUnder new.nodes root' path' indices' size' place
+    pub same_root : (root' ≡ root) ↔ (length (growth most place (sizes_of (tree_of old.nodes root))) ≡ length (sizes_of (tree_of old.nodes root)))
+
+  -- a root that was on the chain is another than before
+  new_ne : (most : ℕ) (table new : Table K V) (root : ℕ) (tree : Tree K V) (root' : ℕ) (taken : List ℕ) → Rooted most table root tree → table.chain ≡ taken ++ new.chain → 0 < count root' taken → root' ≢ root
+  new_ne most table new root tree root' taken r chain_is some same =
+      let among = subst (λ (z : ℕ). 0 < count z (numbers_of tree)) (r.root_is ∙ sym same) (root-among most table.nodes tree r.fit r.inside r.some) in
+      omega (arith, among, some, r.apart root', count-append root' (numbers_of tree) table.chain, ap (λ z. count root' z) chain_is, count-append root' taken new.chain)
+
+  -- under the number of its tree's root
+  inserted_root : (most : ℕ) (old new : Table K V) (root place : ℕ) (path' indices' : List ℕ) (size' : ℕ) (entry : K × V) → IsUnion most old → IsTrue (is_root old.nodes root) → size' ≤ 17 →
+      (i : Inserted most (reserved old (need most place (sizes_of (tree_of old.nodes root)))) new path' indices' size' (tree_of old.nodes root) place entry) → Insertion most old new root (root_of i.tree') place entry path' indices' size'
+  inserted_root most old new root place path' indices' size' entry union is low i =
+      let tree = tree_of old.nodes root in
+      let n = need most place (sizes_of tree) in
+      let mid = reserved old n in
+      let root' = root_of i.tree' in
+      let roots = reserved-roots most old n union root in
+      let same = roots.1 is in
+      let union_mid = reserved-union most old n union in
+      let r = subst (λ (z : Tree K V). Rooted most mid root z) same (rooted most mid root union_mid (roots.0 ∙ is)) in
+      let nums = λ (m : ℕ). ap (λ z. count m (numbers_of z)) same in
+      let planted : IsPlanted most new.nodes i.tree' = record { fit = i.fit; inside = i.inside; some = row_some i.tree'.leaves _ _ _ i.stands.leaf; low = omega (arith, low, i.stands.size_is) } in
+      let e = exchanged most mid new root i.tree' i.taken union_mid (roots.0 ∙ is) planted i.chain_is i.slots_are (λ m. omega (arith, i.numbers_are m, nums m)) (λ m none. i.others m (omega (arith, none, nums m))) in
+      let levels : length (growth most place (sizes_of tree)) ≡ suc (length i.tree'.above) = omega (arith, ap length i.sizes_are, length-map i.tree'.above sizes) in
+      let levels_were : length (sizes_of tree) ≡ suc (length tree.above) = omega (arith, length-map tree.above sizes) in
+      record {
+        changes = record {
+          union = e.union;
+          root_is = e.root_is;
+          list_is = ap (λ z. flat z.leaves) e.tree_is ∙ i.flat_is;
+          sizes_are = ap sizes_of e.tree_is ∙ i.sizes_are;
+          others = reserved-then most old n new root root' union e.others;
+          old_gone = e.old_gone;
+          new_came = λ ne was. e.new_came ne ((reserved-roots most old n union root').0 ∙ was);
+          limit_is = i.limit_is;
+        };
+        takes = record {
+          slots = i.slots_are ∙ reserved-slots old n;
+          free = omega (arith, ap length i.chain_is, length-append i.taken new.chain, i.taken_is, reserved-free old n);
+          chain_is = sym (ap (λ z. drop n z) i.chain_is ∙ ap (λ z. drop z (i.taken ++ new.chain)) (sym i.taken_is) ∙ drop-append_seam i.taken new.chain);
+        };
+        stands = record { root_is = e.root_is; stands = subst (λ (z : Tree K V). Stands path' indices' size' z place) (sym e.tree_is) i.stands };
+        same_root = (
+          λ same_number. elim (eqb_tells (length i.tree'.above) (length tree.above)) [
+            | inl w ↦ omega (arith, levels, levels_were, w.1)
+            | inr w ↦ absurd (new_ne most mid new root tree root' i.taken r i.chain_is (i.new_root w.1) same_number)
+          ],
+          λ same_levels. i.same_root (omega (arith, levels, levels_were, same_levels)) ∙ r.root_is,
+        );
+      }
+
+  -- an entry came into the tree under a root, after as many nodes were made free as it needs
+  pub insertion : (most : ℕ) (old new : Table K V) (root place : ℕ) (path' indices' : List ℕ) (size' : ℕ) (entry : K × V) → IsUnion most old → IsTrue (is_root old.nodes root) → size' ≤ 17 →
+      Inserted most (reserved old (need most place (sizes_of (tree_of old.nodes root)))) new path' indices' size' (tree_of old.nodes root) place entry → Insertion most old new root (top_of path' size') place entry path' indices' size'
+  insertion most old new root place path' indices' size' entry union is low i =
+      subst (λ (z : ℕ). Insertion most old new root z place entry path' indices' size') (root-stands most i.tree' path' indices' size' place i.fit i.stands)
+      (inserted_root most old new root place path' indices' size' entry union is low i)
+
+  -- an entry came in, with or without new nodes, and the path has as many levels as it can
+  pub record Put (most : ℕ) (old new : Table K V) (root place : ℕ) (entry : K × V) (path' indices' : List ℕ) (size' : ℕ) : Type 0 where
+    pub some : 0 < size'
+    pub low : size' ≤ 17
+    pub is : Insertion most old new root (top_of path' size') place entry path' indices' size'
+    pub enough : need most place (sizes_of (tree_of old.nodes root)) ≤ room old
+
+  -- where the leaf had room
+  pub put-here : (most : ℕ) (old new : Table K V) (root place : ℕ) (path indices : List ℕ) (size : ℕ) (entry : K × V) → IsUnion most old → PlacedUnder old.nodes root path indices size place →
+      Inserted most old new path indices size (tree_of old.nodes root) place entry → Put most old new root place entry path indices size
+  put-here most old new root place path indices size entry union p i =
+      let n = need most place (sizes_of (tree_of old.nodes root)) in
+      let enough : n ≤ free_count old = omega (arith, i.taken_is, ap length i.chain_is, length-append i.taken new.chain) in
+      let levels = under-low most old root place path indices size union p in
+      record {
+        some = levels.0;
+        low = levels.1;
+        is = insertion most old new root place path indices size entry union p.root_is levels.1 (inserted_from most old (reserved old n) new path indices size (tree_of old.nodes root) place entry (reserved-enough old n enough) i);
+        enough = omega (arith, enough);
+      }
+
+  -- so many nodes were made free as an insertion needs
+  pub mid-is : (most : ℕ) (old was mid : Table K V) (root place : ℕ) (path indices : List ℕ) (size n : ℕ) → IsUnion most old → PlacedUnder old.nodes root path indices size place → was ≡ old →
+      ((tree : Tree K V) (place : ℕ) → Placed most was path indices size tree place → n ≡ need most place (sizes_of tree)) → mid ≡ reserved was n → mid ≡ reserved old (need most place (sizes_of (tree_of old.nodes root)))
+  mid-is most old was mid root place path indices size n union p was_is needs mid_is =
+      let tree = tree_of old.nodes root in
+      let n_is = needs tree place (placed_from most old was path indices size tree place was_is (placed-under most old root place path indices size union p)) in
+      mid_is ∙ ap (λ z. reserved z n) was_is ∙ ap (λ z. reserved old z) n_is
+
+  -- and the path is at the place still
+  pub placed-mid : (most : ℕ) (old mid : Table K V) (root place : ℕ) (path indices : List ℕ) (size n : ℕ) → IsUnion most old → PlacedUnder old.nodes root path indices size place → mid ≡ reserved old n → Placed most mid path indices size (tree_of old.nodes root) place
+  placed-mid most old mid root place path indices size n union p mid_is =
+      placed_from most (reserved old n) mid path indices size (tree_of old.nodes root) place mid_is (placed-reserved most old n root place path indices size union p)
+
+  -- where the leaf became two, after so many nodes were made free
+  pub put-split : (most : ℕ) (old was mid new : Table K V) (root place : ℕ) (path indices : List ℕ) (size n : ℕ) (path' indices' : List ℕ) (size' : ℕ) (entry : K × V) → IsUnion most old → PlacedUnder old.nodes root path indices size place → was ≡ old → slot_count was ≤ 4294967295 →
+      ((tree : Tree K V) (place : ℕ) → Placed most was path indices size tree place → n ≡ need most place (sizes_of tree)) → ¬ (room was < n) → mid ≡ reserved was n →
+      ((tree : Tree K V) (place : ℕ) → Placed most mid path indices size tree place → Inserted most mid new path' indices' size' tree place entry) → Put most old new root place entry path' indices' size'
+  put-split most old was mid new root place path indices size n path' indices' size' entry union p was_is slots needs enough mid_is inserts =
+      let tree = tree_of old.nodes root in
+      let n_is = needs tree place (placed_from most old was path indices size tree place was_is (placed-under most old root place path indices size union p)) in
+      let mid_old = mid-is most old was mid root place path indices size n union p was_is needs mid_is in
+      let i = inserts tree place (placed-mid most old mid root place path indices size (need most place (sizes_of tree)) union p mid_old) in
+      let slots_old : slot_count old ≤ 4294967295 = omega (arith, slots, ap (λ z. length z.nodes) was_is) in
+      let low : size' ≤ 17 = omega (arith, i.stands.size_is, ap length i.sizes_are, length-map i.tree'.above sizes, growth-low most old root place union p.root_is slots_old) in
+      record {
+        some = omega (arith, i.stands.size_is);
+        low = low;
+        is = insertion most old new root place path' indices' size' entry union p.root_is low (inserted_from most mid (reserved old (need most place (sizes_of tree))) new path' indices' size' tree place entry (sym mid_old) i);
+        enough = omega (arith, enough, n_is, ap (λ z. room z) was_is);
+      }
+
+  -- a full leaf is still full after nodes were made free
+  pub full-reserved : (most : ℕ) (table : Table K V) (n m : ℕ) (content : Content K V) → slice_get table.nodes m ≡ Some content → IsFullAt most table.nodes m → IsFullAt most (reserved table n).nodes m
+  full-reserved most table n m content found full =
+      rw (slice_get-append_left table.nodes (fresh_nodes (slot_count table) (n - free_count table) (front_of table.chain)) m content found) (rw found at full)
+
+  -- by equations of tables and of paths
+  pub put-from : (most : ℕ) (old new new1 : Table K V) (root place : ℕ) (entry : K × V) (most1 : ℕ) (at at1 : Path K V most1) → new1 ≡ new → at1 ≡ at → Put most old new root place entry at.node at.entry at.size → Put most old new1 root place entry at1.node at1.entry at1.size
+  put-from most old new new1 root place entry most1 at at1 e1 e2 p =
+      subst (λ (z : Table K V). Put most old z root place entry at1.node at1.entry at1.size) (sym e1)
+      (subst (λ (z : Path K V most1). Put most old new root place entry z.node z.entry z.size) (sym e2) p)
+
+-- errors of two calls that are one are one as the first call answers them
+pub err-same : {A B E : Type 0} (x : Result A E) (e f : E) (y z : Result B E) → x ≡ Err e → x ≡ Err f → y ≡ Err e → z ≡ Err f → y ≡ z
+err-same x e f y z xe xf ye zf = let same : e ≡ f = cc in ye ∙ ap Err same ∙ sym zf
+
+-- and as the second does
+pub err-back : {A B E : Type 0} (x : Result A E) (e f : E) (y z : Result B E) → x ≡ Err e → y ≡ Err e → z ≡ Err f → y ≡ z → x ≡ Err f
+err-back x e f y z xe ye zf yz = let same : e ≡ f = cc in xe ∙ ap Err same

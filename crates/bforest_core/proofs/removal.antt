@@ -1,0 +1,24 @@
+-- Lemmas on a removal.
+pub mod Frees
+pub mod Losses
+pub mod Collapse
+pub mod LeafLoss
+pub mod PastEnd
+pub mod Shrunk
+pub mod Removing
+pub mod LeafEmptied
+pub mod Removal
+pub mod Loosen
+pub mod RemoveMerged
+pub mod Balance
+pub mod Rebalance
+pub mod Neighbours
+pub mod Separators
+pub mod Merge
+pub mod RemoveEmptied
+pub mod Healing
+pub mod Rebalancing
+pub mod Neighbour
+pub mod Separating
+pub mod RemovingMerged
+pub mod RemovingEmptied

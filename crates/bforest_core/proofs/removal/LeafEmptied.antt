@@ -1,0 +1,228 @@
+-- The only entry of a leaf goes, and the leaf with it: it is the right-most.
+use Rattle.std.proofs.Common.{◌≡◌, ◌≢◌, ℕ, suc, ◌+◌, ◌≤◌, Some, List, [], ◌∷◌, ◌++◌, map, length, get_or, slice_get, refl, sym, ap, ◌∙◌, subst, append_assoc, append-nil, length-append, length-set, arith}
+use Rattle.std.specs.List.{flat_map, remove}
+use Rattle.bforest_nodes.specs.Content.{Free, IsLeafCapacity}
+use Rattle.bforest_core.specs.Table.{Table, with_freed, front_of}
+use Rattle.bforest_core.specs.Levels.{LevelNode, node, flat, heads, sizes, numbers, FitRow, Solid, Stacked, Topped, Tree, half_of, sizes_of}
+use Rattle.bforest_core.specs.Sizes.{loss, loss_above, shrink}
+use Rattle.bforest_core.specs.Place.{RowIn, leaf_content, count, Distinct, root_above, root_of, numbers_of}
+use Rattle.bforest_core.specs.Climb.{Above}
+use Rattle.bforest_core.specs.Removal.{Dropped, UpTo, Trimmed, StandsIn, Removed, Emptied}
+use Rattle.bforest_core.proofs.rows.LevelRows.{flat-append, heads-append, sizes-append, Solid-full}
+use Rattle.bforest_core.proofs.table.Tables.{count-append, count-row, row-split, row-same, rows-same, ne_from_count, absent_ne, slice_get-set_apart}
+use Rattle.bforest_core.proofs.rows.Tops.{root-stands}
+use Rattle.bforest_core.proofs.removal.Losses.{loss_at}
+use Rattle.bforest_core.proofs.removal.Frees.{freed-then, freed-is}
+use Rattle.bforest_core.proofs.removal.Collapse.{heads-flat, frees-one}
+use Rattle.bforest_core.proofs.removal.LeafLoss.{remove_flat, leaf_count, leaf_at}
+use Rattle.bforest_core.proofs.removal.Shrunk.{Untrimmed, up_to, trimmed_removed}
+
+-- solid nodes fit as a row
+fit_solid : {K X : Type 0} (half most : ℕ) → 1 ≤ half → (row : List (LevelNode K X)) → Solid half most row → FitRow half most row
+fit_solid half most one [] s = tt
+fit_solid half most one (node m es ∷ []) s = (omega (arith, s.0, one), s.1, tt)
+fit_solid half most one (node m es ∷ next ∷ ns) s = (s.0, s.1, fit_solid half most one (next ∷ ns) s.2)
+
+-- parts of a list of one
+one_entry : {A : Type 0} (l : List A) (x : A) (r : List A) → length (l ++ x ∷ r) ≡ 1 → (l ≡ []) × (r ≡ [])
+one_entry [] x [] one = (refl, refl)
+one_entry [] x (y ∷ r) one = absurd (omega (arith, one))
+one_entry (y ∷ l) x r one = absurd (omega (arith, one, length-append l (x ∷ r)))
+
+-- nothing follows a node of one entry
+none_after : {K X : Type 0} (half most m : ℕ) (es : List (K × X)) (after : List (LevelNode K X)) → 2 ≤ half → length es ≡ 1 → FitRow half most (node m es ∷ after) → after ≡ []
+none_after half most m es [] two one f = refl
+none_after half most m es (next ∷ after) two one f = absurd (omega (arith, f.0, one, two))
+
+-- no nodes before
+no_before : {K X : Type 0} (half most : ℕ) → 1 ≤ half → (before : List (LevelNode K X)) → Solid half most before → length (heads before) ≡ 0 → before ≡ []
+no_before half most one [] s e = refl
+no_before half most one (x ∷ before) s e = absurd (omega (arith, e, Solid-full half most one (x ∷ before) s))
+
+-- no levels above
+no_above : {K : Type 0} (rows : List (List (LevelNode K ℕ))) → length rows ≡ 0 → rows ≡ []
+no_above [] e = refl
+no_above (row ∷ rows) e = absurd (omega (arith, e))
+
+-- the last of some nodes
+last_before : {K X : Type 0} (half most : ℕ) → 1 ≤ half → (before : List (LevelNode K X)) → Solid half most before → 1 ≤ length (heads before) → (init : List (LevelNode K X)) × (number : ℕ) × (w : K × X) × (ws : List (K × X)) × (before ≡ init ++ node number (w ∷ ws) ∷ [])
+last_before half most one [] s some = absurd (omega (arith, some))
+last_before half most one (node n [] ∷ []) s some = absurd (omega (arith, s.0, one))
+last_before half most one (node n (w ∷ ws) ∷ []) s some = ([], n, w, ws, refl)
+last_before half most one (node n es ∷ next ∷ before) s some =
+    let full = Solid-full half most one (next ∷ before) s.2 in
+    let r = last_before half most one (next ∷ before) s.2 (omega (arith, full)) in
+    (node n es ∷ r.0, r.1, r.2, r.3, ap (λ z. node n es ∷ z) r.4)
+
+module _ {K V : Type 0} where
+  -- the tree, cut at its last leaf, which has one entry
+  pub record LastLeaf (most : ℕ) (t : Table K V) (path indices : List ℕ) (size : ℕ) (tree : Tree K V) (place : ℕ) : Type 0 where
+    pub before : List (LevelNode K V)
+    pub x : K × V
+    pub leaves_are : tree.leaves ≡ before ++ node (get_or path 0 0) (x ∷ []) ∷ []
+    pub place_is : place ≡ length (flat before)
+    pub half : 1 ≤ half_of most
+    pub solid : Solid (half_of most) most before
+    pub inside : RowIn leaf_content t.nodes (before ++ node (get_or path 0 0) (x ∷ []) ∷ [])
+    pub slot_is : slice_get t.nodes (get_or path 0 0) ≡ Some (leaf_content (x ∷ []))
+    pub above : Above t path indices 1 size tree.above (heads (before ++ node (get_or path 0 0) (x ∷ []) ∷ [])) (length (heads before))
+    pub apart : Distinct ((numbers (before ++ node (get_or path 0 0) (x ∷ []) ∷ []) ++ flat_map numbers tree.above) ++ t.chain)
+    pub none_before : count (get_or path 0 0) (numbers before) ≡ 0
+    pub none_rows : count (get_or path 0 0) (flat_map numbers tree.above) ≡ 0
+    pub none_chain : count (get_or path 0 0) t.chain ≡ 0
+
+  -- a leaf of one entry is the last
+  pub last_leaf : (most : ℕ) (t : Table K V) (path indices : List ℕ) (size : ℕ) (tree : Tree K V) (place : ℕ) (y : K × V) → IsLeafCapacity most → StandsIn most t path indices size tree place → slice_get t.nodes (get_or path 0 0) ≡ Some (leaf_content (y ∷ [])) → LastLeaf most t path indices size tree place
+  last_leaf most t path indices size tree place y capacity s slot =
+      let d = leaf_at most t path indices size tree place s in
+      let n = get_or path 0 0 in
+      let one : length (d.l ++ d.x ∷ d.r) ≡ 1 = leaf_count (d.l ++ d.x ∷ d.r) (y ∷ []) (slice_get t.nodes n) d.slot_is slot in
+      let two : 2 ≤ half_of most = omega (arith, capacity.least) in
+      let ends = one_entry d.l d.x d.r one in
+      let none = none_after (half_of most) most n (d.l ++ d.x ∷ d.r) d.after two one d.fit in
+      let es_is : d.l ++ d.x ∷ d.r ≡ d.x ∷ [] = ap (λ z. z ++ d.x ∷ d.r) ends.0 ∙ ap (λ z. d.x ∷ z) ends.1 in
+      let row_is : d.before ++ node n (d.l ++ d.x ∷ d.r) ∷ d.after ≡ d.before ++ node n (d.x ∷ []) ∷ [] = ap (λ z. d.before ++ node n z ∷ d.after) es_is ∙ ap (λ z. d.before ++ node n (d.x ∷ []) ∷ z) none in
+      record {
+        before = d.before;
+        x = d.x;
+        leaves_are = d.leaves_are ∙ row_is;
+        place_is = omega (arith, d.place_is, ap length ends.0);
+        half = d.half;
+        solid = d.solid;
+        inside = subst (λ (z : List (LevelNode K V)). RowIn leaf_content t.nodes z) row_is d.inside;
+        slot_is = d.slot_is ∙ ap (λ z. Some (leaf_content z)) es_is;
+        above = subst (λ (z : List (LevelNode K V)). Above t path indices 1 size tree.above (heads z) (length (heads d.before))) row_is d.above;
+        apart = subst (λ (z : List (LevelNode K V)). Distinct ((numbers z ++ flat_map numbers tree.above) ++ t.chain)) row_is d.apart;
+        none_before = omega (arith, d.none);
+        none_rows = d.none_rows;
+        none_chain = d.none_chain;
+      }
+
+  -- it was the only leaf
+  pub emptied_tree : (most : ℕ) (t v : Table K V) (path indices : List ℕ) (size : ℕ) (tree : Tree K V) (place : ℕ) → StandsIn most t path indices size tree place → (d : LastLeaf most t path indices size tree place) → size ≡ 1 → v ≡ with_freed t (get_or path 0 0) → Emptied most t v tree place
+  emptied_tree most t v path indices size tree place s d one is =
+      let n = get_or path 0 0 in
+      let above_is : tree.above ≡ [] = no_above tree.above (omega (arith, one, s.stands.size_is)) in
+      let seen = subst (λ (z : List (List (LevelNode K ℕ))). Stacked (heads tree.leaves) z) above_is s.fit.stacked in
+      let seen_is : length (heads tree.leaves) ≡ 1 = seen in
+      let none : d.before ≡ [] = no_before (half_of most) most d.half d.before d.solid (omega (arith, seen_is, ap (λ z. length (heads z)) d.leaves_are, ap length (heads-append d.before (node n (d.x ∷ []) ∷ [])), length-append (heads d.before) ((d.x.0, n) ∷ []))) in
+      let leaves_are : tree.leaves ≡ node n (d.x ∷ []) ∷ [] = d.leaves_are ∙ ap (λ z. z ++ node n (d.x ∷ []) ∷ []) none in
+      let levels : sizes_of tree ≡ (1 ∷ []) ∷ [] = ap (λ z. sizes z ∷ map sizes tree.above) leaves_are ∙ ap (λ z. (1 ∷ []) ∷ map sizes z) above_is in
+      let first : place ≡ 0 = d.place_is ∙ ap (λ z. length (flat z)) none in
+      let nums : (m : ℕ) → count m (n ∷ []) ≡ count m (numbers_of tree) = λ m. sym (ap (λ z. count m (numbers z ++ flat_map numbers tree.above)) leaves_are ∙ ap (λ z. count m ((n ∷ []) ++ flat_map numbers z)) above_is) in
+      let f = frees-one t v n (leaf_content (d.x ∷ [])) d.slot_is is in
+      record {
+        single = ap (λ z. length (flat z)) leaves_are;
+        none_left = ap (λ z. shrink most place z) levels ∙ ap (λ z. shrink most z ((1 ∷ []) ∷ [])) first;
+        levels_are = levels;
+        freed = n ∷ [];
+        freed_is = nums;
+        frees = record {
+          others = λ m none. f.others m (omega (arith, none, nums m));
+          freed_are = f.freed_are;
+          chain_is = f.chain_is;
+          slots_are = f.slots_are;
+          limit_is = f.limit_is;
+        };
+      }
+
+  -- others stand before it: the rows above, after it was freed
+  pub record LeafDrop (most : ℕ) (t v : Table K V) (path indices : List ℕ) (size : ℕ) (tree : Tree K V) (place : ℕ) : Type 0 where
+    pub d : LastLeaf most t path indices size tree place
+    pub init : List (LevelNode K V)
+    pub number : ℕ
+    pub w : K × V
+    pub ws : List (K × V)
+    pub before_is : d.before ≡ init ++ node number (w ∷ ws) ∷ []
+    pub above : Above v path indices 1 size tree.above (heads init ++ (w.0, number) ∷ (d.x.0, get_or path 0 0) ∷ []) (suc (length (heads init)))
+    pub freed_is : v ≡ with_freed t (get_or path 0 0)
+
+  -- they are found where there is a level above
+  pub leaf_drop : (most : ℕ) (t v : Table K V) (path indices : List ℕ) (size : ℕ) (tree : Tree K V) (place : ℕ) → StandsIn most t path indices size tree place → LastLeaf most t path indices size tree place → size ≢ 1 → v ≡ with_freed t (get_or path 0 0) → LeafDrop most t v path indices size tree place
+  leaf_drop most t v path indices size tree place s d more is =
+      let n = get_or path 0 0 in
+      let low = two_leaves (heads tree.leaves) tree.above s.fit.topped (λ (e : length tree.above ≡ 0). more (omega (arith, e, s.stands.size_is))) in
+      let some : 1 ≤ length (heads d.before) = omega (arith, low, ap (λ z. length (heads z)) d.leaves_are, ap length (heads-append d.before (node n (d.x ∷ []) ∷ [])), length-append (heads d.before) ((d.x.0, n) ∷ [])) in
+      let r = last_before (half_of most) most d.half d.before d.solid some in
+      let other : (m : ℕ) → m ≢ n → slice_get v.nodes m ≡ slice_get t.nodes m = λ m ne. ap (λ z. slice_get z.nodes m) is ∙ slice_get-set_apart t.nodes n m (Free (front_of t.chain)) ne in
+      let hs : heads d.before ≡ heads r.0 ++ (r.2.0, r.1) ∷ [] = ap heads r.4 ∙ heads-append r.0 (node r.1 (r.2 ∷ r.3) ∷ []) in
+      let list : heads (d.before ++ node n (d.x ∷ []) ∷ []) ≡ heads r.0 ++ (r.2.0, r.1) ∷ (d.x.0, n) ∷ [] = heads-append d.before (node n (d.x ∷ []) ∷ []) ∙ ap (λ z. z ++ (d.x.0, n) ∷ []) hs ∙ append_assoc (heads r.0) ((r.2.0, r.1) ∷ []) ((d.x.0, n) ∷ []) in
+      let len : length (heads d.before) ≡ suc (length (heads r.0)) = omega (arith, ap length hs, length-append (heads r.0) ((r.2.0, r.1) ∷ [])) in
+      let a = d.above in
+      let b : Above v path indices 1 size tree.above (heads (d.before ++ node n (d.x ∷ []) ∷ [])) (length (heads d.before)) = record {
+        stacked = a.stacked;
+        inside = rows-same t.nodes v.nodes tree.above (λ m here. other m (ne_from_count m n (flat_map numbers tree.above) here d.none_rows)) a.inside;
+        stands = a.stands;
+        height = a.height;
+        apart = λ m. omega (arith, d.apart m, count-append m (numbers (d.before ++ node n (d.x ∷ []) ∷ []) ++ flat_map numbers tree.above) t.chain, count-append m (numbers (d.before ++ node n (d.x ∷ []) ∷ [])) (flat_map numbers tree.above), count-row m d.before n (d.x ∷ []) [], count-append m (flat_map numbers tree.above) v.chain, ap (λ z. count m z.chain) is);
+      } in
+      record {
+        d = d;
+        init = r.0;
+        number = r.1;
+        w = r.2;
+        ws = r.3;
+        before_is = r.4;
+        above = subst (λ (z : ℕ). Above v path indices 1 size tree.above (heads r.0 ++ (r.2.0, r.1) ∷ (d.x.0, n) ∷ []) z) len (subst (λ (z : List (K × ℕ)). Above v path indices 1 size tree.above z (length (heads d.before))) list b);
+        freed_is = is;
+      }
+    where
+      two_leaves : (list : List (K × ℕ)) (rows : List (List (LevelNode K ℕ))) → Topped list rows → length rows ≢ 0 → 2 ≤ length list
+      two_leaves list [] topped ne = absurd (ne refl)
+      two_leaves list (row ∷ rows) topped ne = topped.0
+
+  -- and after its entry is out of them
+  pub drop_untrimmed : (most : ℕ) (t v u : Table K V) (path indices : List ℕ) (size : ℕ) (tree : Tree K V) (place : ℕ) (freed : List ℕ) → StandsIn most t path indices size tree place → (c : LeafDrop most t v path indices size tree place) →
+      Dropped v u path size tree.above (heads c.init ++ (c.w.0, c.number) ∷ []) (loss_above (Some (suc (length (heads c.init)))) (map sizes tree.above)) freed → (rows : List (List (LevelNode K ℕ))) × Untrimmed most t u tree place c.d.before rows (freed ++ get_or path 0 0 ∷ [])
+  drop_untrimmed most t v u path indices size tree place freed s c r =
+      let n = get_or path 0 0 in
+      let d = c.d in
+      let front : List (LevelNode K V) = d.before in
+      let row : List (LevelNode K V) = front ++ node n (d.x ∷ []) ∷ [] in
+      let hs : heads front ≡ heads c.init ++ (c.w.0, c.number) ∷ [] = ap heads c.before_is ∙ heads-append c.init (node c.number (c.w ∷ c.ws) ∷ []) in
+      let full = Solid-full (half_of most) most d.half front d.solid in
+      let len : suc (length (heads c.init)) ≡ length front = omega (arith, full, ap length hs, length-append (heads c.init) ((c.w.0, c.number) ∷ [])) in
+      let z0 : length (flat front) ≡ length (flat front) + 0 = omega arith in
+      let other : (m : ℕ) → m ≢ n → slice_get v.nodes m ≡ slice_get t.nodes m = λ m ne. ap (λ z. slice_get z.nodes m) c.freed_is ∙ slice_get-set_apart t.nodes n m (Free (front_of t.chain)) ne in
+      let in_v : RowIn leaf_content v.nodes front = row-same leaf_content t.nodes v.nodes front (λ m some. other m (ne_from_count m n (numbers front) some d.none_before)) (row-split leaf_content t.nodes front (node n (d.x ∷ []) ∷ []) d.inside).0 in
+      let l1 = ap (λ z. loss most place z) (ap sizes d.leaves_are ∙ sizes-append front (node n (d.x ∷ []) ∷ [])) ∙ ap (λ z. loss most z (sizes front ++ suc 0 ∷ [])) (d.place_is ∙ z0) ∙ loss_at most front 0 0 [] (omega arith) in
+      let c0 = λ (m : ℕ). ap (λ z. count m (numbers z)) d.leaves_are in
+      let c1 = λ (m : ℕ). count-row m front n (d.x ∷ []) [] in
+      let c2 = λ (m : ℕ). count-append m (numbers tree.leaves) (flat_map numbers tree.above) in
+      let c3 = λ (m : ℕ). count-append m (numbers row ++ flat_map numbers tree.above) t.chain in
+      let c4 = λ (m : ℕ). count-append m (numbers row) (flat_map numbers tree.above) in
+      let c5 = λ (m : ℕ). count-append m (numbers front) (flat_map numbers r.rows') in
+      let c10 = λ (m : ℕ). count-append m freed (n ∷ []) in (
+        r.rows',
+        record {
+          flat_is = sym (ap (λ z. remove (flat z) place) d.leaves_are ∙ ap (λ z. remove (flat row) z) (d.place_is ∙ z0) ∙ remove_flat front n [] d.x [] [] ∙ flat-append front (node n [] ∷ []) ∙ append-nil (flat front));
+          sizes_are = ap (λ z. sizes front ∷ z) r.sizes_are ∙ ap (λ z. sizes front ∷ loss_above (Some z) (map sizes tree.above)) len ∙ ap (λ z. z ∷ loss_above (Some (length front)) (map sizes tree.above)) (sym (append-nil (sizes front))) ∙ sym (ap (λ z. z.1 ∷ loss_above z.0 (map sizes tree.above)) l1);
+          half = d.half;
+          leaves_fit = fit_solid (half_of most) most d.half front d.solid;
+          leaves_in = row-same leaf_content v.nodes u.nodes front (λ m some. r.frees.others m (omega (arith, some, d.apart m, c1 m, c3 m, c4 m))) in_v;
+          some = omega (arith, heads-flat front, full, len);
+          stacked = subst (λ (z : List (K × ℕ)). Stacked z r.rows') (sym hs) r.stacked;
+          rows_in = r.inside;
+          height = r.height;
+          numbers_are = λ m. omega (arith, c0 m, c1 m, c2 m, c5 m, c10 m, r.numbers_are m);
+          root_is = ap (λ z. root_above z r.rows') hs ∙ r.root_is ∙ sym (root-stands most tree path indices size place s.fit s.stands);
+          frees = record {
+            others = λ m none. r.frees.others m (omega (arith, none, c2 m)) ∙ other m (absent_ne m n [] (omega (arith, none, c0 m, c1 m, c2 m)));
+            freed_are = freed-then v u (flat_map numbers tree.above) (n ∷ []) freed r.frees (λ m some. omega (arith, some, d.apart m, c1 m, c3 m, c4 m)) (freed-is t v n (leaf_content (d.x ∷ [])) d.slot_is c.freed_is, tt);
+            chain_is = r.frees.chain_is ∙ ap (λ z. freed ++ z.chain) c.freed_is ∙ sym (append_assoc freed (n ∷ []) t.chain);
+            slots_are = r.frees.slots_are ∙ ap (λ z. length z.nodes) c.freed_is ∙ length-set t.nodes n (Free (front_of t.chain));
+            limit_is = r.frees.limit_is ∙ ap (λ z. z.limit) c.freed_is;
+          };
+        },
+      )
+
+  -- and roots with a single child went: the path is at the end
+  pub drop_removed : (most : ℕ) (t v u u2 : Table K V) (path indices path' indices' : List ℕ) (size size2 : ℕ) (tree : Tree K V) (place root root' : ℕ) → StandsIn most t path indices size tree place → root_of tree ≡ root → (c : LeafDrop most t v path indices size tree place) →
+      (freed : List ℕ) × Dropped v u path size tree.above (heads c.init ++ (c.w.0, c.number) ∷ []) (loss_above (Some (suc (length (heads c.init)))) (map sizes tree.above)) freed →
+      ((rows : List (List (LevelNode K ℕ))) (list : List (K × ℕ)) → UpTo u size rows list root → (gone : List ℕ) × Trimmed u u2 size size2 rows list root root' gone) → Removed most t u2 path' indices' 0 tree place root'
+  drop_removed most t v u u2 path indices path' indices' size size2 tree place root root' s root_is c dropped trims =
+      let d = drop_untrimmed most t v u path indices size tree place dropped.0 s c dropped.1 in
+      let freed : List ℕ = dropped.0 ++ get_or path 0 0 ∷ [] in
+      let up = up_to most t u path indices size size tree place root c.d.before d.0 freed s d.1 refl root_is in
+      let g = trims d.0 (heads c.d.before) up in
+      trimmed_removed most t u u2 path indices size tree place root c.d.before d.0 freed size size2 root' g.0 path' indices' 0 s d.1 root_is g.1 refl c.d.place_is

@@ -1,0 +1,288 @@
+-- The right neighbour of a node, under the same parent or another; its key renewed; the path moved to it.
+use Rattle.std.proofs.Common.{◌≡◌, ℕ, suc, ◌+◌, ◌≤◌, ◌<◌, true, false, List, [], ◌∷◌, ◌++◌, map, length, drop, set, get_or, slice_get, Some, refl, sym, ap, ◌∙◌, subst, append_assoc, length-append, arith}
+use Rattle.std.specs.List.{flat_map}
+use Rattle.bforest_nodes.specs.Content.{Inner, with_key}
+use Rattle.bforest_core.specs.Table.{Table, with_node}
+use Rattle.bforest_core.specs.Levels.{LevelNode, node, flat, heads, head_of, sizes, numbers, FitRow, Stacked}
+use Rattle.bforest_core.specs.Place.{RowIn, inner_content, count, StandsAbove, entry_keys, entry_items}
+use Rattle.bforest_core.specs.Climb.{Above, NextIs}
+use Rattle.bforest_core.specs.Removal.{Rebuilt}
+use Rattle.bforest_core.proofs.rows.LevelRows.{flat-append, heads-append, sizes-append, FitRow-join, least-pos, head-is}
+use Rattle.bforest_core.proofs.table.Tables.{count-append, count-same, count-row, row-split, row-join, row-same, row-put, rows-same, ne_from_count, Puts, puts}
+use Rattle.bforest_core.proofs.removal.Frees.{frees-puts, frees-wider}
+use Rattle.bforest_core.proofs.rows.Zipper.{Cut_above, facts, stands_here}
+use Rattle.bforest_core.proofs.rows.Zipper.{Spot}
+use Rattle.bforest_core.proofs.removal.RemoveMerged.{Across, across_cut}
+use Rattle.bforest_core.proofs.removal.Loosen.{heads-put}
+use Rattle.bforest_core.proofs.rows.Zipper.{stands-same}
+use Rattle.std.specs.Prelude.{Bool, false}
+use Rattle.bforest_core.specs.Steps.{Over, Moved}
+use Rattle.bforest_core.proofs.table.Stored.{slice_get_at, some_same}
+
+second : {X Y : Type 0} (f : X → Y) (l : List X) (x y : X) (r : List X) → slice_get (map f (l ++ x ∷ y ∷ r)) (suc (length l)) ≡ Some (f y)
+second f [] x y r = refl
+second f (z ∷ l) x y r = second f l x y r
+
+second_key : {K : Type 0} (l : List (K × ℕ)) (x y : K × ℕ) (r : List (K × ℕ)) → slice_get (drop 1 (entry_keys (l ++ x ∷ y ∷ r))) (length l) ≡ Some y.0
+second_key [] x y r = refl
+second_key (z ∷ l) x y r = second (λ w. w.0) l x y r
+
+set_second : {K : Type 0} (l : List (K × ℕ)) (x y : K × ℕ) (r : List (K × ℕ)) (key : K) → set (entry_keys (l ++ x ∷ y ∷ r)) (suc (length l)) key ≡ entry_keys (l ++ x ∷ (key, y.1) ∷ r)
+set_second [] x y r key = refl
+set_second (z ∷ l) x y r key = ap (λ w. z.0 ∷ w) (set_second l x y r key)
+
+set_second_key : {K : Type 0} (l : List (K × ℕ)) (x y : K × ℕ) (r : List (K × ℕ)) (key : K) → set (drop 1 (entry_keys (l ++ x ∷ y ∷ r))) (length l) key ≡ drop 1 (entry_keys (l ++ x ∷ (key, y.1) ∷ r))
+set_second_key [] x y r key = refl
+set_second_key (z ∷ l) x y r key = set_second l x y r key
+
+same_items : {K : Type 0} (l : List (K × ℕ)) (x y : K × ℕ) (r : List (K × ℕ)) (key : K) → entry_items (l ++ x ∷ y ∷ r) ≡ entry_items (l ++ x ∷ (key, y.1) ∷ r)
+same_items [] x y r key = refl
+same_items (z ∷ l) x y r key = ap (λ w. z.1 ∷ w) (same_items l x y r key)
+
+-- the next entry under the same parent
+pub record Within {K : Type 0} (l : List (K × ℕ)) (x : K × ℕ) (r : List (K × ℕ)) (e : ℕ) : Type 0 where
+  pub y : K × ℕ
+  pub ys : List (K × ℕ)
+  pub r_is : r ≡ y ∷ ys
+  pub key_is : slice_get (drop 1 (entry_keys (l ++ x ∷ r))) e ≡ Some y.0
+  pub item_is : slice_get (entry_items (l ++ x ∷ r)) (e + 1) ≡ Some y.1
+
+-- the next entry of a node
+pub within : {K : Type 0} (l : List (K × ℕ)) (x : K × ℕ) (r : List (K × ℕ)) (e : ℕ) → length l ≡ e → e + 1 < length (l ++ x ∷ r) → Within l x r e
+within l x [] e l_is more = absurd (omega (arith, more, l_is, length-append l (x ∷ [])))
+within l x (y ∷ ys) e l_is more =
+    let suc_is : e + 1 ≡ suc (length l) = omega (arith, l_is) in
+    record { y = y; ys = ys; r_is = refl; key_is = rw (← l_is) (second_key l x y ys); item_is = rw suc_is (second (λ w. w.1) l x y ys) }
+
+nothing_right : {K : Type 0} (l : List (K × ℕ)) (x : K × ℕ) (r : List (K × ℕ)) (e : ℕ) → length l ≡ e → length (l ++ x ∷ r) ≤ e + 1 → r ≡ []
+nothing_right l x [] e l_is less = refl
+nothing_right l x (y ∷ r) e l_is less = absurd (omega (arith, less, l_is, length-append l (x ∷ y ∷ r)))
+
+-- the next node of a row, under its first key
+pub record NextNode {K : Type 0} (after : List (LevelNode K ℕ)) (k : K) (q : ℕ) : Type 0 where
+  pub f : K × ℕ
+  pub fs : List (K × ℕ)
+  pub rest : List (LevelNode K ℕ)
+  pub after_is : after ≡ node q (f ∷ fs) ∷ rest
+  pub k_is : k ≡ f.0
+
+same_head : {A : Type 0} (p q : A) (xs ys : List A) → p ∷ xs ≡ q ∷ ys → p ≡ q
+same_head p q xs ys e = cc
+
+-- a row that is not empty as it is seen
+pub next_of : {K : Type 0} (after : List (LevelNode K ℕ)) (k : K) (q : ℕ) (cs : List (K × ℕ)) → FitRow 4 8 after → heads after ≡ (k, q) ∷ cs → NextNode after k q
+next_of [] k q cs f e = absurd cc
+next_of (node m [] ∷ after) k q cs f e = absurd (let g = f.0 in omega (arith, g, least-pos 4 (omega arith) after))
+next_of {K} (node m (x ∷ xs) ∷ after) k q cs f e =
+    let kq = same_head {A = K × ℕ} (x.0, m) (k, q) (heads after) cs e in
+    record { f = x; fs = xs; rest = after; after_is = ap (λ z. node z (x ∷ xs) ∷ after) (ap (λ z. z.1) kq); k_is = ap (λ z. z.0) (sym kq) }
+
+-- a row that nothing is seen of has no entries
+pub none_of : {K : Type 0} (after : List (LevelNode K ℕ)) → FitRow 4 8 after → heads after ≡ [] → flat after ≡ []
+none_of [] f e = refl
+none_of (node m [] ∷ after) f e = absurd (let g = f.0 in omega (arith, g, least-pos 4 (omega arith) after))
+none_of (node m (x ∷ xs) ∷ after) f e = absurd cc
+
+module _ {K V : Type 0} where
+  -- no row above: no neighbour
+  pub none_at_top : (t : Table K V) (path indices : List ℕ) (up size : ℕ) (rows : List (List (LevelNode K ℕ))) (a : List (K × ℕ)) (x : K × ℕ) (b : List (K × ℕ)) (p : ℕ) → Above t path indices up size rows (a ++ x ∷ b) p → up ≡ size → b ≡ []
+  none_at_top t path indices up size (row ∷ rows) a x b p h e = absurd (omega (arith, h.height, e))
+  none_at_top t path indices up size [] a x [] p h e = refl
+  none_at_top t path indices up size [] a x (y ∷ b) p h e = absurd (omega (arith, h.stacked, length-append a (x ∷ y ∷ b)))
+
+  -- the rows one level up, under the path's node
+  pub record UpAbove (t : Table K V) (path indices : List ℕ) (up size : ℕ) (before : List (LevelNode K ℕ)) (n : ℕ) (after : List (LevelNode K ℕ)) (rest : List (List (LevelNode K ℕ))) : Type 0 where
+    pub k : K
+    pub above : Above t path indices (suc up) size rest (heads before ++ (k, n) ∷ heads after) (length (heads before))
+
+  -- the rows one level up
+  pub up_above : (t : Table K V) (path indices : List ℕ) (up size : ℕ) (rows : List (List (LevelNode K ℕ))) (a : List (K × ℕ)) (x : K × ℕ) (b : List (K × ℕ)) → (d : Spot t path indices up size rows a x b) → UpAbove t path indices up size d.q.before (get_or path up 0) d.q.after d.q.rest
+  up_above t path indices up size rows a x b d =
+      let q = d.q in
+      let n = get_or path up 0 in
+      let es : List (K × ℕ) = q.l ++ x ∷ q.r in
+      let row : List (LevelNode K ℕ) = q.before ++ node n es ∷ q.after in
+      let h = head-is n es (omega (arith, d.count_is)) in
+      let p = d.whole in
+      let c3 = λ (m : ℕ). count-append m (numbers row ++ flat_map numbers q.rest) t.chain in
+      let c4 = λ (m : ℕ). count-append m (numbers row) (flat_map numbers q.rest) in
+      let c7 = λ (m : ℕ). count-append m (flat_map numbers q.rest) t.chain in
+      record {
+        k = h.first.0;
+        above = record {
+          stacked = subst (λ (w : List (K × ℕ)). Stacked w q.rest) (heads-append q.before (node n es ∷ q.after) ∙ ap (λ z. heads q.before ++ (head_of n z ++ heads q.after)) h.es_is) p.stacked.2;
+          inside = p.inside.1;
+          stands = q.stands;
+          height = omega (arith, p.height);
+          apart = λ m. omega (arith, p.apart m, c3 m, c4 m, c7 m);
+        };
+      }
+
+  -- the neighbour under the same parent
+  pub next_within : (t : Table K V) (path indices : List ℕ) (up size : ℕ) (rows : List (List (LevelNode K ℕ))) (a : List (K × ℕ)) (x : K × ℕ) (b : List (K × ℕ)) (d : Spot t path indices up size rows a x b) (key : K) (next : ℕ) → get_or indices up 0 + 1 < length (d.q.l ++ x ∷ d.q.r) →
+      slice_get (drop 1 (entry_keys (d.q.l ++ x ∷ d.q.r))) (get_or indices up 0) ≡ Some key → slice_get (entry_items (d.q.l ++ x ∷ d.q.r)) (get_or indices up 0 + 1) ≡ Some next → NextIs (Some (key, next)) b
+  next_within t path indices up size rows a x b d key next more k_is n_is =
+      let w = within d.q.l x d.q.r (get_or indices up 0) d.q.entry_is more in
+      let key_is : w.y.0 ≡ key = some_same w.y.0 key (sym w.key_is ∙ k_is) in
+      let next_is : w.y.1 ≡ next = some_same w.y.1 next (sym w.item_is ∙ n_is) in
+      (w.ys ++ flat d.q.after, d.q.b_is ∙ ap (λ z. z ++ flat d.q.after) w.r_is ∙ ap (λ z. (z, w.y.1) ∷ (w.ys ++ flat d.q.after)) key_is ∙ ap (λ z. (key, z) ∷ (w.ys ++ flat d.q.after)) next_is)
+
+  -- no neighbour
+  pub next_none : (t : Table K V) (path indices : List ℕ) (up size : ℕ) (rows : List (List (LevelNode K ℕ))) (a : List (K × ℕ)) (x : K × ℕ) (b : List (K × ℕ)) (d : Spot t path indices up size rows a x b) → length (d.q.l ++ x ∷ d.q.r) ≤ get_or indices up 0 + 1 → heads d.q.after ≡ [] → b ≡ []
+  next_none t path indices up size rows a x b d less none =
+      d.q.b_is ∙ ap (λ z. z ++ flat d.q.after) (nothing_right d.q.l x d.q.r (get_or indices up 0) d.q.entry_is less) ∙ none_of d.q.after d.f.fit.2 none
+
+  -- the next node's slot
+  pub slot_next : (t : Table K V) (path indices : List ℕ) (up size : ℕ) (rows : List (List (LevelNode K ℕ))) (a : List (K × ℕ)) (x : K × ℕ) (b : List (K × ℕ)) (d : Spot t path indices up size rows a x b) (k : K) (q : ℕ) (n : NextNode d.q.after k q) → slice_get t.nodes q ≡ Some (inner_content (n.f ∷ n.fs))
+  slot_next t path indices up size rows a x b d k q n =
+      let i = (row-split inner_content t.nodes d.q.before (node (get_or path up 0) (d.q.l ++ x ∷ d.q.r) ∷ d.q.after) d.f.inside).1.1 in
+      (subst (λ (z : List (LevelNode K ℕ)). RowIn inner_content t.nodes z) n.after_is i).0
+
+  -- the neighbour under the next parent
+  pub next_across : (t : Table K V) (path indices : List ℕ) (up size : ℕ) (rows : List (List (LevelNode K ℕ))) (a : List (K × ℕ)) (x : K × ℕ) (b : List (K × ℕ)) (d : Spot t path indices up size rows a x b) (k : K) (q : ℕ) (n : NextNode d.q.after k q) (next : ℕ) → length (d.q.l ++ x ∷ d.q.r) ≤ get_or indices up 0 + 1 →
+      slice_get (entry_items (n.f ∷ n.fs)) 0 ≡ Some next → NextIs (Some (k, next)) b
+  next_across t path indices up size rows a x b d k q n next less is =
+      let next_is : n.f.1 ≡ next = cc in
+      (n.fs ++ flat n.rest, d.q.b_is ∙ ap (λ z. z ++ flat d.q.after) (nothing_right d.q.l x d.q.r (get_or indices up 0) d.q.entry_is less) ∙ ap flat n.after_is ∙ ap (λ z. (z, n.f.1) ∷ (n.fs ++ flat n.rest)) (sym n.k_is) ∙ ap (λ z. (k, z) ∷ (n.fs ++ flat n.rest)) next_is)
+
+  -- the key renewed under the same parent
+  rekey_at : (t u : Table K V) (path indices : List ℕ) (up size : ℕ) (before : List (LevelNode K ℕ)) (l : List (K × ℕ)) (x y : K × ℕ) (r : List (K × ℕ)) (after : List (LevelNode K ℕ)) (rest : List (List (LevelNode K ℕ))) (key : K) →
+      Cut_above t path indices up size before (get_or path up 0) l x (y ∷ r) after rest → length l ≡ get_or indices up 0 → StandsAbove path indices (suc up) rest (length (heads before)) → Puts t u (get_or path up 0) (inner_content (l ++ x ∷ (key, y.1) ∷ r)) →
+      Rebuilt t u path indices path indices up size ((before ++ node (get_or path up 0) (l ++ x ∷ y ∷ r) ∷ after) ∷ rest) ((flat before ++ l) ++ x ∷ (key, y.1) ∷ (r ++ flat after)) (length (flat before ++ l)) (map sizes ((before ++ node (get_or path up 0) (l ++ x ∷ y ∷ r) ∷ after) ∷ rest)) []
+  rekey_at t u path indices up size before l x y r after rest key p e_is st w =
+      let n = get_or path up 0 in
+      let old : List (K × ℕ) = l ++ x ∷ y ∷ r in
+      let es : List (K × ℕ) = l ++ x ∷ (key, y.1) ∷ r in
+      let f = facts t path indices up size before n l x (y ∷ r) after rest p in
+      let len : length es ≡ length old = omega (arith, length-append l (x ∷ y ∷ r), length-append l (x ∷ (key, y.1) ∷ r)) in
+      let len2 : length es ≡ length l + suc (suc (length r)) = length-append l (x ∷ (key, y.1) ∷ r) in
+      let lo = f.fit.0 in
+      let hi = f.fit.1 in
+      let c = λ (m : ℕ). count-row m before n old after in
+      let c2 = λ (m : ℕ). count-row m before n es after in
+      let c3 = λ (m : ℕ). count-append m (numbers (before ++ node n old ∷ after) ++ flat_map numbers rest) t.chain in
+      let c4 = λ (m : ℕ). count-append m (numbers (before ++ node n old ∷ after)) (flat_map numbers rest) in
+      let c5 = λ (m : ℕ). count-append m (numbers (before ++ node n es ∷ after)) (flat_map numbers rest) in
+      let c6 = λ (m : ℕ). count-append m (numbers (before ++ node n es ∷ after) ++ flat_map numbers rest) u.chain in
+      let c8 = λ (m : ℕ). ap (λ z. count m z) w.chain_is in
+      let hs : heads (before ++ node n old ∷ after) ≡ heads (before ++ node n es ∷ after) = heads-put before n old es after (same_first n l x (y ∷ r) ((key, y.1) ∷ r)) in
+      record {
+        rows' = (before ++ node n es ∷ after) ∷ rest;
+        above = record {
+          stacked = (flat-append before (node n es ∷ after) ∙ simp append_assoc, FitRow-join 4 8 before (node n es) after f.solid (omega (arith, lo, len), omega (arith, hi, len), f.fit.2), subst (λ (z : List (K × ℕ)). Stacked z rest) hs p.stacked.2);
+          inside = (row-put inner_content t.nodes u.nodes before n old es after f.inside w.same w.here f.none, rows-same t.nodes u.nodes rest (λ m some. w.same m (ne_from_count m n (flat_map numbers rest) some f.none_rest)) p.inside.1);
+          stands = stands_here path indices up (before ++ node n es ∷ after) before n (get_or indices up 0) es after rest (length (flat before ++ l)) f.solid refl refl refl (omega (arith, len2, e_is)) (length-append (flat before) l ∙ ap (λ z. length (flat before) + z) e_is) st;
+          height = p.height;
+          apart = λ m. omega (arith, p.apart m, c m, c2 m, c3 m, c4 m, c5 m, c6 m, c8 m);
+        };
+        sizes_are = ap (λ z. z ∷ map sizes rest) (sizes-append before (node n es ∷ after) ∙ ap (λ z. sizes before ++ z ∷ sizes after) len ∙ sym (sizes-append before (node n old ∷ after)));
+        numbers_are = λ m. omega (arith, c m, c2 m, c4 m, c5 m);
+        frees = frees-puts t u n (inner_content es) (numbers (before ++ node n old ∷ after) ++ flat_map numbers rest) (omega (arith, c4 n, c n, count-same n (numbers after))) w;
+        nodes_below = λ i low. refl;
+        entries_below = λ i low. refl;
+        same_top = refl;
+      }
+    where
+      same_first : (n : ℕ) (l : List (K × ℕ)) (x : K × ℕ) (r s : List (K × ℕ)) → head_of n (l ++ x ∷ r) ≡ head_of n (l ++ x ∷ s)
+      same_first n [] x r s = refl
+      same_first n (z ∷ l) x r s = refl
+
+  rekey_of : (t u : Table K V) (path indices : List ℕ) (up size : ℕ) (before : List (LevelNode K ℕ)) (l : List (K × ℕ)) (x : K × ℕ) (r : List (K × ℕ)) (after : List (LevelNode K ℕ)) (rest : List (List (LevelNode K ℕ))) (y : K × ℕ) (b : List (K × ℕ)) (key : K) →
+      Cut_above t path indices up size before (get_or path up 0) l x r after rest → y ∷ b ≡ r ++ flat after → length l ≡ get_or indices up 0 → StandsAbove path indices (suc up) rest (length (heads before)) → get_or indices up 0 + 1 < length (l ++ x ∷ r) →
+      u ≡ with_node t (get_or path up 0) (Inner (set (drop 1 (entry_keys (l ++ x ∷ r))) (get_or indices up 0) key) (entry_items (l ++ x ∷ r))) →
+      Rebuilt t u path indices path indices up size ((before ++ node (get_or path up 0) (l ++ x ∷ r) ∷ after) ∷ rest) ((flat before ++ l) ++ x ∷ (key, y.1) ∷ b) (length (flat before ++ l)) (map sizes ((before ++ node (get_or path up 0) (l ++ x ∷ r) ∷ after) ∷ rest)) []
+  rekey_of t u path indices up size before l x [] after rest y b key p e l_is st more u_is = absurd (omega (arith, more, l_is, length-append l (x ∷ [])))
+  rekey_of t u path indices up size before l x (w ∷ r) after rest y b key p e l_is st more u_is =
+      let n = get_or path up 0 in
+      let hy : y.1 ≡ w.1 = (let g : y ≡ w = cc in ap (λ z. z.1) g) in
+      let hb : b ≡ r ++ flat after = cc in
+      let f = facts t path indices up size before n l x (w ∷ r) after rest p in
+      let content_is : with_key (inner_content (l ++ x ∷ w ∷ r)) (get_or indices up 0) key ≡ inner_content {K = K} {V = V} (l ++ x ∷ (key, w.1) ∷ r) =
+      ap (λ z. Inner (set (drop 1 (entry_keys (l ++ x ∷ w ∷ r))) z key) (entry_items (l ++ x ∷ w ∷ r))) (sym l_is) ∙ ap (λ z. Inner z (entry_items (l ++ x ∷ w ∷ r))) (set_second_key l x w r key) ∙ ap (λ z. Inner (drop 1 (entry_keys (l ++ x ∷ (key, w.1) ∷ r))) z) (same_items l x w r key) in
+      let two = puts t u n (inner_content (l ++ x ∷ (key, w.1) ∷ r)) (inner_content (l ++ x ∷ w ∷ r)) f.slot_is (u_is ∙ ap (λ z. with_node t n z) content_is) in
+      rw (hy, hb) (rekey_at t u path indices up size before l x w r after rest key p l_is st two)
+
+  -- the same, where the rows are cut at the path
+  pub rekey_same : (t u : Table K V) (path indices : List ℕ) (up size : ℕ) (rows : List (List (LevelNode K ℕ))) (a : List (K × ℕ)) (x : K × ℕ) (k : K) (n : ℕ) (b : List (K × ℕ)) (key : K) (d : Spot t path indices up size rows a x ((k, n) ∷ b)) → get_or indices up 0 + 1 < length (d.q.l ++ x ∷ d.q.r) →
+      u ≡ with_node t (get_or path up 0) (Inner (set (drop 1 (entry_keys (d.q.l ++ x ∷ d.q.r))) (get_or indices up 0) key) (entry_items (d.q.l ++ x ∷ d.q.r))) → Rebuilt t u path indices path indices up size rows (a ++ x ∷ (key, n) ∷ b) (length a) (map sizes rows) []
+  rekey_same t u path indices up size rows a x k n b key d more u_is =
+      let q = d.q in
+      let w = rekey_of t u path indices up size q.before q.l x q.r q.after q.rest (k, n) b key d.whole q.b_is q.entry_is q.stands more u_is in
+      subst (λ (z : List (List (LevelNode K ℕ))). Rebuilt t u path indices path indices up size z (a ++ x ∷ (key, n) ∷ b) (length a) (map sizes z) []) (sym q.rows_are)
+      (subst (λ (z : List (K × ℕ)). Rebuilt t u path indices path indices up size ((q.before ++ node (get_or path up 0) (q.l ++ x ∷ q.r) ∷ q.after) ∷ q.rest) (z ++ x ∷ (key, n) ∷ b) (length z) (map sizes ((q.before ++ node (get_or path up 0) (q.l ++ x ∷ q.r) ∷ q.after) ∷ q.rest)) []) (sym q.a_is) w)
+
+  -- or between two parents, whose key has been renewed above
+  rekey_past : (t u : Table K V) (path indices : List ℕ) (up size : ℕ) (before : List (LevelNode K ℕ)) (z : K × ℕ) (l : List (K × ℕ)) (x : K × ℕ) (q : ℕ) (y : K × ℕ) (ys : List (K × ℕ)) (after : List (LevelNode K ℕ)) (rest : List (List (LevelNode K ℕ))) (key : K) →
+      Cut_above t path indices up size before (get_or path up 0) (z ∷ l) x [] (node q (y ∷ ys) ∷ after) rest → suc (length l) ≡ get_or indices up 0 →
+      Rebuilt t u path indices path indices (suc up) size rest (heads before ++ (z.0, get_or path up 0) ∷ (key, q) ∷ heads after) (length (heads before)) (map sizes rest) [] →
+      Rebuilt t u path indices path indices up size ((before ++ node (get_or path up 0) ((z ∷ l) ++ x ∷ []) ∷ node q (y ∷ ys) ∷ after) ∷ rest) ((flat before ++ (z ∷ l)) ++ x ∷ (key, y.1) ∷ (ys ++ flat after)) (length (flat before ++ (z ∷ l)))
+      (map sizes ((before ++ node (get_or path up 0) ((z ∷ l) ++ x ∷ []) ∷ node q (y ∷ ys) ∷ after) ∷ rest)) []
+  rekey_past t u path indices up size before z l x q y ys after rest key p e_is b =
+      let n = get_or path up 0 in
+      let es : List (K × ℕ) = (z ∷ l) ++ x ∷ [] in
+      let row : List (LevelNode K ℕ) = before ++ node n es ∷ node q (y ∷ ys) ∷ after in
+      let row2 : List (LevelNode K ℕ) = before ++ node n es ∷ node q ((key, y.1) ∷ ys) ∷ after in
+      let f = facts t path indices up size before n (z ∷ l) x [] (node q (y ∷ ys) ∷ after) rest p in
+      let c = λ (m : ℕ). count-row m before n es (node q (y ∷ ys) ∷ after) in
+      let c2 = λ (m : ℕ). count-row m before n es (node q ((key, y.1) ∷ ys) ∷ after) in
+      let c3 = λ (m : ℕ). count-append m (numbers row ++ flat_map numbers rest) t.chain in
+      let c4 = λ (m : ℕ). count-append m (numbers row) (flat_map numbers rest) in
+      let c5 = λ (m : ℕ). count-append m (numbers row2) (flat_map numbers b.rows') in
+      let c6 = λ (m : ℕ). count-append m (numbers row2 ++ flat_map numbers b.rows') u.chain in
+      let c8 = λ (m : ℕ). ap (λ z. count m z) b.frees.chain_is in
+      let len : length es ≡ suc (length l) + 1 = length-append (z ∷ l) (x ∷ []) in
+      let in_t : RowIn inner_content t.nodes row2 = (let s = row-split inner_content t.nodes before (node n es ∷ node q (y ∷ ys) ∷ after) f.inside in row-join inner_content t.nodes before (node n es ∷ node q ((key, y.1) ∷ ys) ∷ after) s.0 (s.1.0, (s.1.1.0, s.1.1.1))) in
+      record {
+        rows' = row2 ∷ b.rows';
+        above = record {
+          stacked = (
+            flat-append before (node n es ∷ node q ((key, y.1) ∷ ys) ∷ after) ∙ simp append_assoc,
+            FitRow-join 4 8 before (node n es) (node q ((key, y.1) ∷ ys) ∷ after) f.solid (f.fit.0, f.fit.1, (let g = f.fit.2 in (g.0, g.1, g.2))),
+            subst (λ (w : List (K × ℕ)). Stacked w b.rows') (sym (heads-append before (node n es ∷ node q ((key, y.1) ∷ ys) ∷ after))) b.above.stacked,
+          );
+          inside = (row-same inner_content t.nodes u.nodes row2 (λ m some. b.frees.others m (omega (arith, some, p.apart m, c m, c2 m, c3 m, c4 m))) in_t, b.above.inside);
+          stands = stands_here path indices up row2 before n (get_or indices up 0) es (node q ((key, y.1) ∷ ys) ∷ after) b.rows' (length (flat before ++ (z ∷ l))) f.solid refl refl refl (omega (arith, len, e_is)) (length-append (flat before) (z ∷ l) ∙ ap (λ w. length (flat before) + w) e_is) b.above.stands;
+          height = omega (arith, b.above.height);
+          apart = λ m. omega (arith, p.apart m, b.numbers_are m, c m, c2 m, c3 m, c4 m, c5 m, c6 m, c8 m);
+        };
+        sizes_are = ap (λ w. w ∷ map sizes b.rows') (sizes-append before (node n es ∷ node q ((key, y.1) ∷ ys) ∷ after) ∙ sym (sizes-append before (node n es ∷ node q (y ∷ ys) ∷ after))) ∙ ap (λ w. sizes row ∷ w) b.sizes_are;
+        numbers_are = λ m. omega (arith, c m, c2 m, c4 m, c5 m, b.numbers_are m);
+        frees = frees-wider t u (flat_map numbers rest) (numbers row ++ flat_map numbers rest) [] (λ m none. omega (arith, none, c4 m)) b.frees;
+        nodes_below = λ i low. refl;
+        entries_below = λ i low. refl;
+        same_top = refl;
+      }
+
+  -- the same, where the rows are cut at the path
+  pub rekey_over : (t u : Table K V) (path indices : List ℕ) (up size : ℕ) (rows : List (List (LevelNode K ℕ))) (a : List (K × ℕ)) (x : K × ℕ) (k : K) (n : ℕ) (b : List (K × ℕ)) (key : K) (d : Spot t path indices up size rows a x ((k, n) ∷ b)) (o : Across d.q.l d.q.r d.q.after (k, n) b) →
+      Rebuilt t u path indices path indices (suc up) size d.q.rest (heads d.q.before ++ (o.z.0, get_or path up 0) ∷ (key, o.q) ∷ heads o.rest) (length (heads d.q.before)) (map sizes d.q.rest) [] → Rebuilt t u path indices path indices up size rows (a ++ x ∷ (key, n) ∷ b) (length a) (map sizes rows) []
+  rekey_over t u path indices up size rows a x k n b key d o reb =
+      let q = d.q in
+      let num = get_or path up 0 in
+      let e_is : suc (length o.zs) ≡ get_or indices up 0 = ap length (sym o.l_is) ∙ q.entry_is in
+      let w = rekey_past t u path indices up size q.before o.z o.zs x o.q (k, n) o.ys o.rest q.rest key (across_cut t path indices up size rows a x (k, n) b d o) e_is reb in
+      let rows_are : rows ≡ (q.before ++ node num ((o.z ∷ o.zs) ++ x ∷ []) ∷ node o.q ((k, n) ∷ o.ys) ∷ o.rest) ∷ q.rest =
+      q.rows_are ∙ ap (λ z. (q.before ++ node num (z ++ x ∷ q.r) ∷ q.after) ∷ q.rest) o.l_is ∙ ap (λ z. (q.before ++ node num ((o.z ∷ o.zs) ++ x ∷ z) ∷ q.after) ∷ q.rest) o.r_is ∙ ap (λ z. (q.before ++ node num ((o.z ∷ o.zs) ++ x ∷ []) ∷ z) ∷ q.rest) o.after_is in
+      let a_is : a ≡ flat q.before ++ (o.z ∷ o.zs) = q.a_is ∙ ap (λ z. flat q.before ++ z) o.l_is in
+      subst (λ (z : List (List (LevelNode K ℕ))). Rebuilt t u path indices path indices up size z (a ++ x ∷ (key, n) ∷ b) (length a) (map sizes z) []) (sym rows_are) (rw (a_is, o.b_is) w)
+
+  -- rows above a level, for a step on it
+  pub over-above : (t : Table K V) (path indices : List ℕ) (level size : ℕ) (rows : List (List (LevelNode K ℕ))) (list : List (K × ℕ)) (place : ℕ) → Above t path indices level size rows list place → Over t.nodes path indices level size rows list place
+  over-above t path indices level size rows list place p = record { stacked = p.stacked; inside = p.inside; stands = p.stands; height = p.height }
+
+  -- a step is made where there is a next node
+  pub must_move : (t : Table K V) (path indices : List ℕ) (level size : ℕ) (rows : List (List (LevelNode K ℕ))) (a : List (K × ℕ)) (x y : K × ℕ) (b : List (K × ℕ)) (moved : Bool) →
+      (moved ≡ false → suc (length a) ≡ length (a ++ x ∷ y ∷ b)) → moved ≡ true
+  must_move t path indices level size rows a x y b true last = refl
+  must_move t path indices level size rows a x y b false last = absurd (omega (arith, last refl, length-append a (x ∷ y ∷ b)))
+
+  -- the rows after a step, with another index below them
+  pub entered_next : (t : Table K V) (path indices path' indices' indices2 : List ℕ) (level size : ℕ) (rows : List (List (LevelNode K ℕ))) (a : List (K × ℕ)) (x y : K × ℕ) (b : List (K × ℕ)) → Above t path indices (suc level) size rows (a ++ x ∷ y ∷ b) (length a) →
+      Moved path indices path' indices' level rows (a ++ x ∷ y ∷ b) (suc (length a)) → ((i : ℕ) → suc level ≤ i → get_or indices2 i 0 ≡ get_or indices' i 0) → Above t path' indices2 (suc level) size rows (a ++ x ∷ y ∷ b) (suc (length a)) × (get_or path' level 0 ≡ y.1)
+  entered_next t path indices path' indices' indices2 level size rows a x y b p m same =
+      let len : length (a ++ x ∷ []) ≡ suc (length a) = length-append a (x ∷ []) ∙ omega arith in
+      let found : slice_get (a ++ x ∷ y ∷ b) (suc (length a)) ≡ Some y = ap (λ z. slice_get z (suc (length a))) (sym (append_assoc a (x ∷ []) (y ∷ b))) ∙ slice_get_at (a ++ x ∷ []) y b (suc (length a)) len in
+      let head_is : m.head ≡ y = some_same m.head y (sym m.head_is ∙ found) in (
+        record { stacked = p.stacked; inside = p.inside; stands = stands-same path' indices' path' indices2 (suc level) rows (suc (length a)) (λ i high. refl) same m.stands; height = p.height; apart = p.apart },
+        m.node_is ∙ ap (λ z. z.1) head_is,
+      )

@@ -1,0 +1,183 @@
+-- What a removal from the tree under a root says of the table.
+use Rattle.std.proofs.Common.{◌≡◌, ◌≢◌, ℕ, zero, suc, ◌+◌, ◌≤◌, ◌<◌, ◌↔◌, Option, Some, None, IfSome, List, [], ◌∷◌, ◌++◌, length, get_or, refl, sym, ap, ◌∙◌, subst, inl, inr, length-append, arith}
+use Rattle.std.specs.List.{remove}
+use Rattle.std.proofs.lemmas.Bool.Decides.{eqb_tells}
+use Rattle.std.proofs.lemmas.List.{length-map}
+use Rattle.bforest_nodes.specs.Content.{Content}
+use Rattle.bforest_core.specs.Table.{Table}
+use Rattle.bforest_core.specs.Levels.{node, flat, sizes, Tree, sizes_of}
+use Rattle.bforest_core.specs.Sizes.{shrink}
+use Rattle.bforest_core.specs.Place.{leaf_content, count, root_of, numbers_of, Stands, IsPathAt}
+use Rattle.bforest_core.specs.Trees.{tree_of, IsUnion}
+use Rattle.bforest_core.specs.Change.{Changes, Ends, GivesNodes, StandsUnder, node_count}
+use Rattle.bforest_core.specs.Removal.{StandsIn, Removed, Emptied}
+use Rattle.bforest_core.proofs.rows.LevelRows.{flat-append}
+use Rattle.bforest_core.proofs.table.Tables.{count-append}
+use Rattle.bforest_core.proofs.union.Forests.{root-among}
+use Rattle.bforest_core.proofs.union.Unions.{IsPlanted, rooted}
+use Rattle.bforest_core.proofs.union.Roots.{exchanged-freed, uprooted-union}
+use Rattle.bforest_core.proofs.union.Account.{length-same, nodes-count}
+
+-- one entry fewer
+remove_fewer : {A : Type 0} (xs : List A) (place : ℕ) → place < length xs → suc (length (remove xs place)) ≡ length xs
+remove_fewer [] place low = absurd (omega (arith, low))
+remove_fewer (x ∷ xs) zero low = refl
+remove_fewer (x ∷ xs) (suc place) low = ap suc (remove_fewer xs place (omega (arith, low)))
+
+-- a fact of what there is, if anything, carried over
+pub if_some : {A : Type 0} (P Q : A → Type 0) (found : Option A) → ((x : A) → P x → Q x) → IfSome found P → IfSome found Q
+if_some P Q None h p = p
+if_some P Q (Some x) h p = h x p
+
+-- a slot of a leaf of one entry
+pub one_slot : {K V : Type 0} (es : List (K × V)) (c : Option (Content K V)) → length es ≡ 1 → c ≡ Some (leaf_content es) → (x : K × V) × (c ≡ Some (leaf_content (x ∷ [])))
+one_slot [] c one slot = absurd (omega (arith, one))
+one_slot (x ∷ []) c one slot = (x, slot)
+one_slot (x ∷ y ∷ es) c one slot = absurd (omega (arith, one))
+
+-- and of more
+pub more_slot : {K V : Type 0} (es : List (K × V)) (c : Option (Content K V)) → 1 ≤ length es → length es ≢ 1 → c ≡ Some (leaf_content es) → (x y : K × V) × (rest : List (K × V)) × (c ≡ Some (leaf_content (x ∷ y ∷ rest)))
+more_slot [] c some ne slot = absurd (omega (arith, some))
+more_slot (x ∷ []) c some ne slot = absurd (ne refl)
+more_slot (x ∷ y ∷ es) c some ne slot = (x, y, es, slot)
+
+module _ {K V : Type 0} where
+  -- a path under a root stands in its tree, which lies in the table
+  pub stands_in : (most : ℕ) (table : Table K V) (root place : ℕ) (path indices : List ℕ) (size : ℕ) → IsUnion most table → StandsUnder table.nodes root path indices size place → StandsIn most table path indices size (tree_of table.nodes root) place
+  stands_in most table root place path indices size union s =
+      let r = rooted most table root union s.root_is in
+      record { fit = r.fit; inside = r.inside; apart = r.apart; low = r.low; stands = s.stands }
+
+  -- the place is one of an entry
+  place_low : (path indices : List ℕ) (size : ℕ) (tree : Tree K V) (place : ℕ) → Stands path indices size tree place → place < length (flat tree.leaves)
+  place_low path indices size tree place s =
+      let at = s.leaf in
+      omega (arith, at.place_is, at.within, ap (λ z. length (flat z)) at.row_is, ap length (flat-append at.before (node (get_or path 0 0) at.entries ∷ at.after)), length-append (flat at.before) (at.entries ++ flat at.after), length-append at.entries (flat at.after))
+
+  -- the nodes given back
+  gives : (old new : Table K V) (tree tree' : Tree K V) (levels : List (List ℕ)) (freed : List ℕ) → sizes_of tree' ≡ levels → ((m : ℕ) → count m (numbers_of tree') + count m freed ≡ count m (numbers_of tree)) → new.chain ≡ freed ++ old.chain → length new.nodes ≡ length old.nodes → GivesNodes (sizes_of tree) levels old new
+  gives old new tree tree' levels freed is nums chain slots = record {
+    given = freed;
+    chain_is = chain;
+    slots = slots;
+    count_is = omega (arith, length-same (numbers_of tree' ++ freed) (numbers_of tree) (λ m. count-append m (numbers_of tree') freed ∙ nums m), length-append (numbers_of tree') freed, nodes-count tree, nodes-count tree' ∙ ap (λ z. node_count z) is);
+  }
+
+  -- all that a removal says of the table and of the path
+  pub record Removal (most : ℕ) (old new : Table K V) (root root' place : ℕ) (path' indices' : List ℕ) (size' : ℕ) : Type 0 where
+    pub changes : Changes most old new root root' (remove (flat (tree_of old.nodes root).leaves) place) (shrink most place (sizes_of (tree_of old.nodes root)))
+    pub gives : GivesNodes (sizes_of (tree_of old.nodes root)) (shrink most place (sizes_of (tree_of old.nodes root))) old new
+    pub at : IsPathAt path' indices' size' (tree_of new.nodes root') place
+    pub same_root : (root' ≡ root) ↔ (length (shrink most place (sizes_of (tree_of old.nodes root))) ≡ length (sizes_of (tree_of old.nodes root)))
+    pub others : length (flat (tree_of old.nodes root).leaves) ≢ 1
+    pub freed_root : root' ≢ root → 0 < count root new.chain
+
+  removed_root : (most : ℕ) (old new : Table K V) (root place : ℕ) (path indices : List ℕ) (size : ℕ) (path' indices' : List ℕ) (size' root' : ℕ) → IsUnion most old → StandsUnder old.nodes root path indices size place → (i : Removed most old new path' indices' size' (tree_of old.nodes root) place root') → Removal most old new root (root_of i.tree') place path' indices' size'
+  removed_root most old new root place path indices size path' indices' size' root' union s i =
+      let tree = tree_of old.nodes root in
+      let r = rooted most old root union s.root_is in
+      let planted : IsPlanted most new.nodes i.tree' = record { fit = i.fit; inside = i.inside; some = i.some; low = omega (arith, i.low, r.low) } in
+      let e = exchanged-freed most old new root i.tree' i.freed union s.root_is planted i.frees.chain_is i.frees.freed_are i.frees.slots_are i.numbers_are i.frees.others in
+      let levels : length (shrink most place (sizes_of tree)) ≡ suc (length i.tree'.above) = omega (arith, ap length i.sizes_are, length-map i.tree'.above sizes) in
+      let levels_were : length (sizes_of tree) ≡ suc (length tree.above) = omega (arith, length-map tree.above sizes) in
+      let among = root-among most new.nodes i.tree' i.fit i.inside i.some in
+      let c = λ (m : ℕ). count-append m (numbers_of tree) old.chain in
+      let rooted_is = λ (z : root_of i.tree' ≡ root). ap (λ w. count w i.freed) (z ∙ sym r.root_is) in
+      record {
+        changes = record {
+          union = e.union;
+          root_is = e.root_is;
+          list_is = ap (λ z. flat z.leaves) e.tree_is ∙ i.flat_is;
+          sizes_are = ap sizes_of e.tree_is ∙ i.sizes_are;
+          others = e.others;
+          old_gone = e.old_gone;
+          new_came = e.new_came;
+          limit_is = i.frees.limit_is;
+        };
+        gives = gives old new tree i.tree' (shrink most place (sizes_of tree)) i.freed i.sizes_are i.numbers_are i.frees.chain_is i.frees.slots_are;
+        at = subst (λ (z : Tree K V). IsPathAt path' indices' size' z place) (sym e.tree_is) i.at;
+        same_root = (
+          λ same. elim (eqb_tells (length i.tree'.above) (length tree.above)) [
+            | inl w ↦ omega (arith, levels, levels_were, w.1)
+            | inr w ↦ absurd (omega (arith, i.old_root w.1, rooted_is same, among, i.numbers_are (root_of i.tree'), r.apart (root_of i.tree'), c (root_of i.tree')))
+          ],
+          λ same. i.root_is ∙ i.same_root (omega (arith, levels, levels_were, same)) ∙ r.root_is,
+        );
+        others = λ one. omega (arith, remove_fewer (flat tree.leaves) place (place_low path indices size tree place s.stands), one, ap length i.flat_is, i.some);
+        freed_root = λ ne. elim (eqb_tells (length i.tree'.above) (length tree.above)) [
+          | inl w ↦ absurd (ne (i.root_is ∙ i.same_root w.1 ∙ r.root_is))
+          | inr w ↦ omega (arith, i.old_root w.1, ap (λ z. count z i.freed) r.root_is, ap (λ z. count root z) i.frees.chain_is, count-append root i.freed old.chain)
+        ];
+      }
+
+  -- an entry went out of the tree under a root, which has others
+  pub removal : (most : ℕ) (old new : Table K V) (root place : ℕ) (path indices : List ℕ) (size : ℕ) (path' indices' : List ℕ) (size' root' : ℕ) → IsUnion most old → StandsUnder old.nodes root path indices size place → Removed most old new path' indices' size' (tree_of old.nodes root) place root' → Removal most old new root root' place path' indices' size'
+  removal most old new root place path indices size path' indices' size' root' union s i =
+      subst (λ (z : ℕ). Removal most old new root z place path' indices' size') i.root_is (removed_root most old new root place path indices size path' indices' size' root' union s i)
+
+  -- the last entry went, and the tree with it
+  pub record Ending (most : ℕ) (old new : Table K V) (root place : ℕ) : Type 0 where
+    pub ends : Ends most old new root
+    pub gives : GivesNodes (sizes_of (tree_of old.nodes root)) (shrink most place (sizes_of (tree_of old.nodes root))) old new
+    pub single : length (flat (tree_of old.nodes root).leaves) ≡ 1
+    pub none_left : shrink most place (sizes_of (tree_of old.nodes root)) ≡ []
+    pub freed_root : 0 < count root new.chain
+
+  -- the last entry went out of the tree under a root
+  pub ending : (most : ℕ) (old new : Table K V) (root place : ℕ) (path indices : List ℕ) (size : ℕ) → IsUnion most old → StandsUnder old.nodes root path indices size place → Emptied most old new (tree_of old.nodes root) place → Ending most old new root place
+  ending most old new root place path indices size union s i =
+      let tree = tree_of old.nodes root in
+      let r = rooted most old root union s.root_is in
+      let u = uprooted-union most old new root i.freed union s.root_is i.frees.chain_is i.frees.freed_are i.frees.slots_are i.freed_is i.frees.others in
+      let among = root-among most old.nodes tree r.fit r.inside r.some in
+      record {
+        ends = record { union = u.0; root_gone = u.1; others = u.2; limit_is = i.frees.limit_is };
+        gives = record {
+          given = i.freed;
+          chain_is = i.frees.chain_is;
+          slots = i.frees.slots_are;
+          count_is = omega (arith, length-same i.freed (numbers_of tree) i.freed_is, nodes-count tree, ap (λ z. node_count z) i.none_left);
+        };
+        single = i.single;
+        none_left = i.none_left;
+        freed_root = omega (arith, among, i.freed_is root, ap (λ z. count z (numbers_of tree)) r.root_is, ap (λ z. count root z) i.frees.chain_is, count-append root i.freed old.chain);
+      }
+
+  -- either of the two, as the answer says
+  abbrev pub Outcome : ℕ → Table K V → Table K V → ℕ → ℕ → List ℕ → List ℕ → ℕ → Option ℕ → Type 0
+  Outcome most old new root place path' indices' size' None = Ending most old new root place
+  Outcome most old new root place path' indices' size' (Some root') = Removal most old new root root' place path' indices' size'
+
+  -- as the call for a leaf of one entry says
+  pub outcome : (most : ℕ) (old new : Table K V) (root place : ℕ) (path indices : List ℕ) (size : ℕ) (path' indices' : List ℕ) (size' : ℕ) (found : Option ℕ) → IsUnion most old → StandsUnder old.nodes root path indices size place →
+      IfSome found (λ root'. Removed most old new path' indices' size' (tree_of old.nodes root) place root') → (found ≡ None → Emptied most old new (tree_of old.nodes root) place) → Outcome most old new root place path' indices' size' found
+  outcome most old new root place path indices size path' indices' size' None union s removed emptied = ending most old new root place path indices size union s (emptied refl)
+  outcome most old new root place path indices size path' indices' size' (Some root') union s removed emptied = removal most old new root place path indices size path' indices' size' root' union s removed
+
+  -- what both say
+  pub record Said (most : ℕ) (old new : Table K V) (root place : ℕ) (path' indices' : List ℕ) (size' : ℕ) (found : Option ℕ) : Type 0 where
+    pub some : IfSome found (λ root'. Removal most old new root root' place path' indices' size')
+    pub gives : GivesNodes (sizes_of (tree_of old.nodes root)) (shrink most place (sizes_of (tree_of old.nodes root))) old new
+    pub last : (found ≡ None) ↔ (length (flat (tree_of old.nodes root).leaves) ≡ 1)
+    pub ended : found ≡ None → Ends most old new root
+    pub none_left : found ≡ None → shrink most place (sizes_of (tree_of old.nodes root)) ≡ []
+    pub freed_root : found ≢ Some root → 0 < count root new.chain
+
+  -- each of the two says so
+  pub said : (most : ℕ) (old new : Table K V) (root place : ℕ) (path' indices' : List ℕ) (size' : ℕ) (found : Option ℕ) → Outcome most old new root place path' indices' size' found → Said most old new root place path' indices' size' found
+  said most old new root place path' indices' size' None e = record {
+    some = tt;
+    gives = e.gives;
+    last = (λ is. e.single, λ is. refl);
+    ended = λ is. e.ends;
+    none_left = λ is. e.none_left;
+    freed_root = λ ne. e.freed_root;
+  }
+  said most old new root place path' indices' size' (Some root') r = record {
+    some = r;
+    gives = r.gives;
+    last = (λ is. absurd cc, λ one. absurd (r.others one));
+    ended = λ is. absurd cc;
+    none_left = λ is. absurd cc;
+    freed_root = λ ne. r.freed_root (λ (e : root' ≡ root). ne (ap Some e));
+  }

@@ -1,0 +1,143 @@
+-- Bounds on leaves, on levels and on nodes.
+use Rattle.std.proofs.Common.{◌≡◌, ℕ, suc, ◌+◌, ◌*◌, ◌^◌, ◌≤◌, ◌<◌, ◌-◌, nat_lt, true, false, Option, Some, None, List, [], ◌∷◌, ◌++◌, map, length, refl, sym, ap, ◌∙◌, inl, inr, subst, length-append, arith}
+use Rattle.std.proofs.lemmas.Bool.{cases_lt}
+use Rattle.std.proofs.Math.Nat.{mul-le-mul_left, pow-succ', pow-le-pow_right}
+use Rattle.std.proofs.lemmas.List.{length-map}
+use Rattle.bforest_core.specs.Levels.{LevelNode, node, flat, heads, sizes, FitRow, Stacked, Topped}
+use Rattle.bforest_core.specs.Sizes.{inner_gain, gain_above}
+use Rattle.bforest_core.proofs.rows.LevelRows.{least-pos}
+
+-- a fit row is seen from above node by node
+pub FitRow-full : {K X : Type 0} (half most : ℕ) → 1 ≤ half → (row : List (LevelNode K X)) → FitRow half most row → length (heads row) ≡ length row
+FitRow-full half most one [] f = refl
+FitRow-full half most one (node m [] ∷ ns) f = absurd (omega (arith, f.0, least-pos half one ns))
+FitRow-full half most one (node m (e ∷ es) ∷ ns) f = ap suc (FitRow-full half most one ns f.2)
+
+-- a row has more entries than its nodes but the last would have at half
+pub entries-many : {K X : Type 0} (half most : ℕ) → 1 ≤ half → (m : ℕ) (es : List (K × X)) (ns : List (LevelNode K X)) → FitRow half most (node m es ∷ ns) → half * length ns < length (flat (node m es ∷ ns))
+entries-many {K} {X} half most one m es [] f = let z : half * 0 ≡ 0 = omega arith in omega (arith, f.0, z, length-append es (flat {K = K} {X = X} []))
+entries-many half most one m es (node n fs ∷ ns) f =
+    let r = entries-many half most one n fs ns f.2 in
+    let z : half * suc (length ns) ≡ half * length ns + half = omega arith in
+    omega (arith, r, z, f.0, length-append es (fs ++ flat ns))
+
+-- the leaves are at most as many as half full ones would be, rounded up
+pub leaves-few : {K V : Type 0} (half most : ℕ) (leaves : List (LevelNode K V)) → 1 ≤ half → FitRow half most leaves → half * length leaves ≤ length (flat leaves) + (half - 1)
+leaves-few half most [] one f = let z : half * 0 ≡ 0 = omega arith in omega (arith, z)
+leaves-few half most (node m es ∷ ns) one f =
+    let r = entries-many half most one m es ns f in
+    let z : half * suc (length ns) ≡ half * length ns + half = omega arith in
+    omega (arith, r, z)
+
+-- the levels above a level with more than one node
+pub levels-few : {K : Type 0} (hs : List (K × ℕ)) (row : List (LevelNode K ℕ)) (rows : List (List (LevelNode K ℕ))) → Stacked hs (row ∷ rows) → Topped hs (row ∷ rows) → 4 ^ length rows < length hs
+levels-few hs row [] s t = omega (arith, t.0)
+levels-few hs [] (row2 ∷ rows) s t = let r = levels-few [] row2 rows s.2 t.1 in absurd (omega (arith, r))
+levels-few hs (node m es ∷ ns) (row2 ∷ rows) s t =
+    let r = levels-few (heads (node m es ∷ ns)) row2 rows s.2 t.1 in
+    let e = entries-many 4 8 (omega arith) m es ns s.1 in
+    let full : length (heads (node m es ∷ ns)) ≡ suc (length ns) = FitRow-full 4 8 (omega arith) (node m es ∷ ns) s.1 in
+    let p : 4 ^ suc (length rows) ≡ 4 * 4 ^ length rows = pow-succ' 4 (length rows) in
+    omega (arith, r, e, full, p, ap length s.0)
+
+depth_of : {K V : Type 0} (half most : ℕ) → 1 ≤ half → (leaves : List (LevelNode K V)) (row : List (LevelNode K ℕ)) (rows : List (List (LevelNode K ℕ))) → FitRow half most leaves → Stacked (heads leaves) (row ∷ rows) → Topped (heads leaves) (row ∷ rows) → half * 4 ^ length rows < length (flat leaves)
+depth_of half most one [] row rows f s t = let two : 2 ≤ 0 = t.0 in absurd (omega arith)
+depth_of half most one (node m es ∷ ns) row rows f s t =
+    let r = levels-few (heads (node m es ∷ ns)) row rows s t in
+    let e = entries-many half most one m es ns f in
+    let full : length (heads (node m es ∷ ns)) ≡ suc (length ns) = FitRow-full half most one (node m es ∷ ns) f in
+    let p : half * 4 ^ length rows ≤ half * length ns = mul-le-mul_left half (omega (arith, r, full)) in
+    omega (arith, p, e)
+
+-- a tree with inner levels has more entries than this
+pub depth : {K V : Type 0} (half most : ℕ) → 1 ≤ half → (leaves : List (LevelNode K V)) (above : List (List (LevelNode K ℕ))) → FitRow half most leaves → Stacked (heads leaves) above → Topped (heads leaves) above → 1 ≤ length above → half * 4 ^ (length above - 1) < length (flat leaves)
+depth half most one leaves [] f s t two = absurd (omega arith)
+depth half most one leaves (row ∷ rows) f s t two =
+    let e : length (row ∷ rows) - 1 ≡ length rows = omega arith in
+    rw e (depth_of half most one leaves row rows f s t)
+
+-- how many nodes a level and those above it have
+abbrev pub nodes_from : {K : Type 0} → List (K × ℕ) → List (List (LevelNode K ℕ)) → ℕ
+nodes_from hs [] = length hs
+nodes_from hs (row ∷ rows) = length hs + nodes_from (heads row) rows
+
+nodes-many : {K : Type 0} (hs : List (K × ℕ)) (row : List (LevelNode K ℕ)) (rows : List (List (LevelNode K ℕ))) → Stacked hs (row ∷ rows) → Topped hs (row ∷ rows) → 4 ^ suc (length rows) ≤ 3 * nodes_from hs (row ∷ rows)
+nodes-many hs row [] s t = let one : length (heads row) ≡ 1 = s.2 in omega (arith, t.0, one)
+nodes-many hs row (row2 ∷ rows) s t =
+    let r = nodes-many (heads row) row2 rows s.2 t.1 in
+    let l = levels-few hs row (row2 ∷ rows) s t in
+    let p : 4 ^ suc (suc (length rows)) ≡ 4 * 4 ^ suc (length rows) = pow-succ' 4 (suc (length rows)) in
+    omega (arith, r, l, p)
+
+-- a tree of 18 levels has more nodes than there are numbers
+pub levels-seventeen : {K : Type 0} (hs : List (K × ℕ)) (rows : List (List (LevelNode K ℕ))) → Stacked hs rows → Topped hs rows → nodes_from hs rows < 2 ^ 32 → length rows ≤ 16
+levels-seventeen hs [] s t n = omega arith
+levels-seventeen hs (row ∷ rows) s t n =
+    let r = nodes-many hs row rows s t in
+    elim (cases_lt (length rows) 16) [ inl a ↦ a | inr b ↦ absurd (let p = pow-le-pow_right {n = 4} (omega arith) (let q : 17 ≤ suc (length rows) = omega arith in q) in omega (arith, p, r, n)) ]
+
+-- one level more, at most
+pub gain-most : (k : Option ℕ) (levels : List (List ℕ)) → length (gain_above k levels) ≤ suc (length levels)
+gain-most None levels = omega arith
+gain-most (Some p) [] = omega arith
+gain-most (Some p) (level ∷ levels) = omega (arith, gain-most (inner_gain p level).0 levels)
+
+-- and that only where the top level became two
+some_grew : (k : Option ℕ) (levels : List (List ℕ)) → length (gain_above k levels) ≡ suc (length levels) → (q : ℕ) × (k ≡ Some q)
+some_grew None levels e = absurd (omega (arith, e))
+some_grew (Some q) levels e = (q, refl)
+
+-- a number below another, as the sizes ask it
+pub below_lt : (a b : ℕ) → a < b → nat_lt a b ≡ true
+below_lt a b h = grind arith
+
+-- one not below it
+pub above_lt : (a b : ℕ) → b ≤ a → nat_lt a b ≡ false
+above_lt a b h = grind arith
+
+-- a node with room stays one
+none_small : (p s : ℕ) → s < 8 → (inner_gain p (s ∷ [])).0 ≡ None
+none_small p s room =
+    let b = below_lt s 8 room in
+    elim (cases_lt p s) [ inl lt ↦ (let a = below_lt p s lt in rw (a, b) refl) | inr ge ↦ (let a = above_lt p s ge in rw a refl) ]
+
+root_full : {K : Type 0} (p q : ℕ) (row : List (LevelNode K ℕ)) → length (heads row) ≡ 1 → FitRow 4 8 row → (inner_gain p (sizes row)).0 ≡ Some q → 8 ≤ length (flat row)
+root_full p q [] one f e = absurd (omega (arith, one))
+root_full {K} p q (node m es ∷ []) one f e =
+    let len : length (flat (node m es ∷ [])) ≡ length es = length-append es [] ∙ omega arith in
+    elim (cases_lt (length es) 8) [ inl lt ↦ absurd (let z = none_small p (length es) lt in cc) | inr ge ↦ omega (arith, len, ge) ]
+root_full p q (node m es ∷ n ∷ ns) one f e =
+    absurd (omega (arith, one, FitRow-full 4 8 (omega arith) (node m es ∷ n ∷ ns) f))
+
+-- a tree that gets a new root is wide
+risen : {K : Type 0} (p : ℕ) (hs : List (K × ℕ)) (row : List (LevelNode K ℕ)) (rows : List (List (LevelNode K ℕ))) → Stacked hs (row ∷ rows) → Topped hs (row ∷ rows) → length (gain_above (Some p) (map sizes (row ∷ rows))) ≡ suc (suc (length rows)) → 7 * 4 ^ length rows < length hs
+risen p hs row [] s t e =
+    let g = some_grew (inner_gain p (sizes row)).0 [] (omega (arith, e)) in
+    let f = root_full p g.0 row s.2 s.1 g.1 in
+    omega (arith, f, ap length s.0)
+risen p hs row (row2 ∷ rows) s t e =
+    let len : length (map sizes (row2 ∷ rows)) ≡ suc (length rows) = length-map (row2 ∷ rows) sizes in
+    let g = some_grew (inner_gain p (sizes row)).0 (map sizes (row2 ∷ rows)) (omega (arith, e, len)) in
+    let up : length (gain_above (Some g.0) (map sizes (row2 ∷ rows))) ≡ suc (suc (length rows)) = ap (λ z. length (gain_above z (map sizes (row2 ∷ rows)))) (sym g.1) ∙ omega (arith, e) in
+    let r = risen g.0 (heads row) row2 rows s.2 t.1 up in
+    let w = wide row s.1 (omega (arith, r)) in
+    let p4 : 4 ^ suc (length rows) ≡ 4 * 4 ^ length rows = pow-succ' 4 (length rows) in
+    omega (arith, r, w, p4, ap length s.0)
+  where
+    wide : {K : Type 0} (row : List (LevelNode K ℕ)) → FitRow 4 8 row → 0 < length (heads row) → 4 * length (heads row) < length (flat row) + 4
+    wide [] f some = absurd (omega (arith, some))
+    wide (node m es ∷ ns) f some = omega (arith, entries-many 4 8 (omega arith) m es ns f, FitRow-full 4 8 (omega arith) (node m es ∷ ns) f)
+
+-- an insertion leaves a tree of as many levels as a path has room for
+pub climb-seventeen : {K : Type 0} (p : ℕ) (hs : List (K × ℕ)) (rows : List (List (LevelNode K ℕ))) → Stacked hs rows → Topped hs rows → length hs < 2 ^ 32 → length rows ≤ 16 → length (gain_above (Some p) (map sizes rows)) ≤ 16
+climb-seventeen p hs [] s t few low = omega arith
+climb-seventeen p hs (row ∷ rows) s t few low =
+    let len : length (map sizes (row ∷ rows)) ≡ suc (length rows) = length-map (row ∷ rows) sizes in
+    let most = gain-most (Some p) (map sizes (row ∷ rows)) in
+    elim (cases_lt (length (gain_above (Some p) (map sizes (row ∷ rows)))) 17) [
+      | inl lt ↦ omega (arith, lt)
+      | inr ge ↦ (let fifteen : length rows ≡ 15 = omega (arith, ge, most, len, low) in
+          let e : length (gain_above (Some p) (map sizes (row ∷ rows))) ≡ suc (suc (length rows)) = omega (arith, ge, most, len, low) in
+          let r = subst (λ (z : ℕ). 7 * 4 ^ z < length hs) fifteen (risen p hs row rows s t e) in
+          absurd (omega (arith, r, few)))
+    ]

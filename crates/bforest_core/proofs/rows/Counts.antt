@@ -1,0 +1,132 @@
+-- Counting numbers: lists in which each number stands as often, and what the slots of a table name.
+use Rattle.std.proofs.Common.{◌≡◌, ℕ, zero, suc, ◌+◌, ◌≤◌, ◌<◌, ◌↔◌, IsTrue, nat_eq, nat_lt, if◌then◌else◌, true, false, List, [], ◌∷◌, ◌++◌, length, take, drop, slice_get, Some, None, refl, sym, ap, ◌∙◌, inl, inr, length-append, arith}
+use Rattle.std.specs.List.{flat_map, list_any}
+use Rattle.std.proofs.lemmas.List.{take_all}
+use Rattle.std.proofs.lemmas.List.Concat.{flat_map-append}
+use Rattle.std.proofs.lemmas.Bool.{cases_lt}
+use Rattle.std.proofs.lemmas.Bool.Decides.{eqb_tells}
+use Rattle.std.proofs.lemmas.Option.{slice_get-get_or}
+use Rattle.bforest_nodes.specs.Content.{Content, Free, children_of}
+use Rattle.bforest_core.specs.Place.{count}
+use Rattle.bforest_core.specs.Trees.{slot}
+use Rattle.bforest_nodes.proofs.Seams.{around, last_taken}
+use Rattle.bforest_core.proofs.table.Tables.{count-append, count-same, count-other}
+
+-- how often a number stands among those below another
+abbrev pub once_below : ℕ → ℕ → ℕ
+once_below m n = if nat_lt m n then 1 else 0
+
+-- the number of a slot counts once
+pub below-one : (m n : ℕ) → m < n → once_below m n ≡ 1
+below-one m n low = let e : nat_lt m n ≡ true = grind arith in rw e refl
+
+-- every other not at all
+pub past-none : (m n : ℕ) → n ≤ m → once_below m n ≡ 0
+past-none m n past = let e : nat_lt m n ≡ false = grind arith in rw e refl
+
+-- so none counts twice
+pub at-most-one : (m n : ℕ) → once_below m n ≤ 1
+at-most-one m n = elim (cases_lt m n) [ inl low ↦ omega (arith, below-one m n low) | inr past ↦ omega (arith, past-none m n past) ]
+
+-- a number that counts, with what stands before and after it
+pub standing : (n : ℕ) (ms : List ℕ) → 0 < count n ms → (p : List ℕ) × (q : List ℕ) × (ms ≡ p ++ n ∷ q)
+standing n [] some = absurd (omega (arith, some))
+standing n (m ∷ ms) some =
+    elim (eqb_tells m n) [
+      | inl w ↦ ([], ms, ap (λ z. z ∷ ms) w.1)
+      | inr w ↦ (let r = standing n ms (omega (arith, some, count-other n m ms w.1)) in (m ∷ r.0, r.1, ap (λ z. m ∷ z) r.2))
+    ]
+
+-- a number counts exactly if a search finds it
+pub found-counts : (n : ℕ) (ms : List ℕ) → IsTrue (list_any (λ m. nat_eq m n) ms) ↔ (0 < count n ms)
+found-counts n [] = (λ found. absurd cc, λ some. absurd (omega (arith, some)))
+found-counts n (m ∷ ms) =
+    elim (eqb_tells m n) [
+      | inl w ↦ (let e = w.0 in (λ found. omega (arith, ap (λ z. count z (m ∷ ms)) w.1, count-same m ms), λ some. rw e refl))
+      | inr w ↦ (let e = w.0 in let r = found-counts n ms in (λ found. omega (arith, count-other n m ms w.1, r.0 (rw e at found)), λ some. rw e (r.1 (omega (arith, count-other n m ms w.1, some)))))
+    ]
+
+-- lists in which each number stands as often name each number as often
+pub named-same : (f : ℕ → List ℕ) (xs ys : List ℕ) → ((n : ℕ) → count n xs ≡ count n ys) → (m : ℕ) → count m (flat_map f xs) ≡ count m (flat_map f ys)
+named-same f [] [] same m = refl
+named-same f [] (y ∷ ys) same m = absurd (omega (arith, same y, count-same y ys))
+named-same f (x ∷ xs) ys same m =
+    let s = standing x ys (omega (arith, same x, count-same x xs)) in
+    let less : (n : ℕ) → count n xs ≡ count n (s.0 ++ s.1) = λ n. (let a = ap (λ z. count n z) s.2 in omega (arith, same n, a, count-append n s.0 (x ∷ s.1), count-append n s.0 s.1)) in
+    let ih = named-same f xs (s.0 ++ s.1) less m in
+    let a = ap (λ z. count m (flat_map f z)) s.2 in
+    let b = ap (λ z. count m z) (flat_map-append f s.0 (x ∷ s.1)) ∙ count-append m (flat_map f s.0) (f x ++ flat_map f s.1) in
+    let c = ap (λ z. count m z) (flat_map-append f s.0 s.1) ∙ count-append m (flat_map f s.0) (flat_map f s.1) in
+    omega (arith, ih, a, b, c, count-append m (f x) (flat_map f s.1), count-append m (f x) (flat_map f xs))
+
+-- the numbers below one
+abbrev pub upto : ℕ → List ℕ
+upto zero = []
+upto (suc n) = upto n ++ n ∷ []
+
+-- each counts once
+pub count-upto : (m n : ℕ) → count m (upto n) ≡ once_below m n
+count-upto m zero = sym (past-none m zero (omega arith))
+count-upto m (suc n) =
+    let a = count-append m (upto n) (n ∷ []) in
+    let ih = count-upto m n in
+    elim (eqb_tells n m) [
+      | inl w ↦ (let e = ap (λ z. count z (n ∷ [])) w.1 in omega (arith, a, ih, e, w.1, count-same n [], past-none m n (omega (arith, w.1)), below-one m (suc n) (omega (arith, w.1))))
+      | inr w ↦ elim (cases_lt m n) [
+        | inl low ↦ omega (arith, a, ih, count-other m n [] w.1, below-one m n low, below-one m (suc n) (omega (arith, low)))
+        | inr past ↦ omega (arith, a, ih, count-other m n [] w.1, past-none m n past, past-none m (suc n) (elim (eqb_tells n m) [ inl v ↦ absurd (w.1 v.1) | inr v ↦ (let f : (n ≡ m) → ⊥ = w.1 in grind (arith, f)) ]))
+      ]
+    ]
+
+-- so many
+length-upto : (n : ℕ) → length (upto n) ≡ n
+length-upto zero = refl
+length-upto (suc n) = omega (arith, length-append (upto n) (n ∷ []), length-upto n)
+
+-- a list is no longer than one in which each number stands as often at least
+no-longer : (xs ys : List ℕ) → ((n : ℕ) → count n xs ≤ count n ys) → length xs ≤ length ys
+no-longer [] ys le = omega arith
+no-longer (x ∷ xs) ys le =
+    let s = standing x ys (omega (arith, le x, count-same x xs)) in
+    let less : (n : ℕ) → count n xs ≤ count n (s.0 ++ s.1) = λ n. (let a = ap (λ z. count n z) s.2 in omega (arith, le n, a, count-append n s.0 (x ∷ s.1), count-append n s.0 s.1)) in
+    omega (arith, no-longer xs (s.0 ++ s.1) less, ap length s.2, length-append s.0 (x ∷ s.1), length-append s.0 s.1)
+
+-- so is a list of numbers below one in which none stands twice
+pub few-below : (n : ℕ) (xs : List ℕ) → ((m : ℕ) → count m xs ≤ once_below m n) → length xs ≤ n
+few-below n xs once = omega (arith, no-longer xs (upto n) (λ m. omega (arith, once m, count-upto m n)), length-upto n)
+
+module _ {K V : Type 0} where
+  -- the numbers that the slots of these numbers name
+  abbrev pub named_by : List (Content K V) → List ℕ → List ℕ
+  named_by slots ms = flat_map (λ m. children_of (slot slots m)) ms
+
+  -- one slot more names its children too
+  pub named-more : (slots : List (Content K V)) (k : ℕ) (content : Content K V) (m : ℕ) → slice_get slots k ≡ Some content → count m (flat_map children_of (take (suc k) slots)) ≡ count m (flat_map children_of (take k slots)) + count m (children_of content)
+  named-more slots k content m found =
+      let a = ap (λ z. count m (flat_map children_of z)) (last_taken slots k content found) ∙ ap (λ z. count m z) (flat_map-append children_of (take k slots) (content ∷ [])) in
+      omega (arith, a, count-append m (flat_map children_of (take k slots)) (children_of content ++ []), count-append m (children_of content) [])
+
+  -- what a slot names, the slots name
+  pub named-slot : (slots : List (Content K V)) (k : ℕ) (content : Content K V) (m : ℕ) → slice_get slots k ≡ Some content → count m (children_of content) ≤ count m (flat_map children_of slots)
+  named-slot slots k content m found =
+      let rest = drop (suc k) slots in
+      let a = ap (λ z. count m (flat_map children_of z)) (sym (around slots k content found)) ∙ ap (λ z. count m z) (flat_map-append children_of (take k slots) (content ∷ rest)) in
+      omega (arith, a, count-append m (flat_map children_of (take k slots)) (children_of content ++ flat_map children_of rest), count-append m (children_of content) (flat_map children_of rest))
+
+  -- the first so many slots name what these numbers name
+  named-upto : (slots : List (Content K V)) (n : ℕ) → n ≤ length slots → named_by slots (upto n) ≡ flat_map children_of (take n slots)
+  named-upto slots zero low = refl
+  named-upto slots (suc n) low =
+      let found = slice_get-get_or slots n (Free None) (omega (arith, low)) in
+      let more = last_taken slots n (slot slots n) found in
+      flat_map-append (λ m. children_of (slot slots m)) (upto n) (n ∷ [])
+      ∙ ap (λ z. z ++ (children_of (slot slots n) ++ [])) (named-upto slots n (omega (arith, low)))
+      ∙ sym (flat_map-append children_of (take n slots) (slot slots n ∷ []))
+      ∙ ap (λ z. flat_map children_of z) (sym more)
+
+  -- where each slot stands once in a list, the slots of the list name what all slots name
+  pub all-named : (slots : List (Content K V)) (ms : List ℕ) → ((n : ℕ) → count n ms ≡ once_below n (length slots)) → (m : ℕ) → count m (flat_map children_of slots) ≡ count m (named_by slots ms)
+  all-named slots ms once m =
+      let a = named-same (λ k. children_of (slot slots k)) ms (upto (length slots)) (λ n. once n ∙ sym (count-upto n (length slots))) m in
+      let b = named-upto slots (length slots) (omega arith) ∙ ap (λ z. flat_map children_of z) (take_all (length slots) slots (omega arith)) in
+      sym (a ∙ ap (λ z. count m z) b)

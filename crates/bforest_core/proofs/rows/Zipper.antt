@@ -1,0 +1,164 @@
+-- The parent of a level's entry on the path: the rows above the level, cut there.
+use Rattle.std.proofs.Common.{◌≡◌, ℕ, zero, suc, ◌+◌, ◌≤◌, ◌<◌, List, [], ◌∷◌, ◌++◌, length, get_or, slice_get, Some, refl, sym, ap, ◌∙◌, subst, append_assoc, length-append, arith}
+use Rattle.std.specs.List.{flat_map}
+use Rattle.bforest_core.specs.Table.{Table}
+use Rattle.bforest_core.specs.Levels.{LevelNode, node, flat, heads, numbers, FitRow, Solid}
+use Rattle.bforest_core.specs.Place.{RowIn, inner_content, count, Distinct, StandsAbove}
+use Rattle.bforest_core.specs.Climb.{Above}
+use Rattle.bforest_core.proofs.rows.LevelRows.{flat-append, FitRow-split, Solid-full}
+use Rattle.bforest_core.proofs.table.Tables.{count-append, count-same, count-row, row-split}
+
+-- two ways to cut one list at one place
+pub cut_same : {A : Type 0} (p q : List A) (x y : A) (s t : List A) → p ++ x ∷ s ≡ q ++ y ∷ t → length p ≡ length q → (p ≡ q) × (x ≡ y) × (s ≡ t)
+cut_same [] [] x y s t e h = (refl, cc, cc)
+cut_same [] (z ∷ q) x y s t e h = absurd (omega (arith, h))
+cut_same (z ∷ p) [] x y s t e h = absurd (omega (arith, h))
+cut_same (z ∷ p) (w ∷ q) x y s t e h =
+    let zw : z ≡ w = cc in
+    let r = cut_same p q x y s t (let g : p ++ x ∷ s ≡ q ++ y ∷ t = cc in g) (omega (arith, h)) in
+    ((let k = r.0 in cc), r.1, r.2)
+
+-- a list cut at a place within it
+pub record Cut {A : Type 0} (es : List A) (j : ℕ) : Type 0 where
+  pub l : List A
+  pub x : A
+  pub r : List A
+  pub es_is : es ≡ l ++ x ∷ r
+  pub place_is : length l ≡ j
+
+pub cut : {A : Type 0} (es : List A) (j : ℕ) → j < length es → Cut es j
+cut [] j h = absurd (omega arith)
+cut (e ∷ es) zero h = record { l = []; x = e; r = es; es_is = refl; place_is = refl }
+cut (e ∷ es) (suc j) h =
+    let c = cut es j (omega arith) in
+    record { l = e ∷ c.l; x = c.x; r = c.r; es_is = ap (λ z. e ∷ z) c.es_is; place_is = ap suc c.place_is }
+
+pub record Parent {K : Type 0} (ms js : List ℕ) (up : ℕ) (rows : List (List (LevelNode K ℕ))) (a : List (K × ℕ)) (x : K × ℕ) (b : List (K × ℕ)) : Type 0 where
+  pub before : List (LevelNode K ℕ)
+  pub l : List (K × ℕ)
+  pub r : List (K × ℕ)
+  pub after : List (LevelNode K ℕ)
+  pub rest : List (List (LevelNode K ℕ))
+  pub rows_are : rows ≡ (before ++ node (get_or ms up 0) (l ++ x ∷ r) ∷ after) ∷ rest
+  pub a_is : a ≡ flat before ++ l
+  pub b_is : b ≡ r ++ flat after
+  pub entry_is : length l ≡ get_or js up 0
+  pub stands : StandsAbove ms js (suc up) rest (length (heads before))
+
+-- the rows above a level, cut at the path's node of the lowest of them
+abbrev pub Cut_above : {K V : Type 0} → Table K V → List ℕ → List ℕ → ℕ → ℕ → List (LevelNode K ℕ) → ℕ → List (K × ℕ) → K × ℕ → List (K × ℕ) → List (LevelNode K ℕ) → List (List (LevelNode K ℕ)) → Type 0
+Cut_above t ms js up size before n l x r after rest =
+    Above t ms js up size ((before ++ node n (l ++ x ∷ r) ∷ after) ∷ rest) ((flat before ++ l) ++ x ∷ (r ++ flat after)) (length (flat before ++ l))
+
+parent_at : {K : Type 0} (ms js : List ℕ) (up : ℕ) (row : List (LevelNode K ℕ)) (rest : List (List (LevelNode K ℕ))) (a : List (K × ℕ)) (x : K × ℕ) (b : List (K × ℕ)) (before after : List (LevelNode K ℕ)) (es : List (K × ℕ)) (l : List (K × ℕ)) (y : K × ℕ) (r : List (K × ℕ)) →
+    FitRow 4 8 row → flat row ≡ a ++ x ∷ b → row ≡ before ++ node (get_or ms up 0) es ∷ after → es ≡ l ++ y ∷ r → length l ≡ get_or js up 0 → length a ≡ length (flat before) + get_or js up 0 → StandsAbove ms js (suc up) rest (length before) → Parent ms js up (row ∷ rest) a x b
+parent_at {K} ms js up row rest a x b before after es l y r fit flat_is row_is es_is l_is a_len st =
+    let n = get_or ms up 0 in
+    let whole : a ++ x ∷ b ≡ (flat before ++ l) ++ y ∷ (r ++ flat after) =
+    sym flat_is ∙ ap flat row_is ∙ ap (λ z. flat (before ++ node n z ∷ after)) es_is ∙ simp (flat-append, append_assoc) in
+    let same = cut_same a (flat before ++ l) x y b (r ++ flat after) whole (omega (arith, length-append (flat before) l, a_len, l_is)) in
+    let fit2 : FitRow 4 8 (before ++ node n es ∷ after) = subst (λ (z : List (LevelNode K ℕ)). FitRow 4 8 z) row_is fit in
+    let full : length (heads before) ≡ length before = Solid-full 4 8 (omega arith) before (FitRow-split 4 8 before (node n es) after fit2).0 in
+    record {
+      before = before;
+      l = l;
+      r = r;
+      after = after;
+      rest = rest;
+      rows_are = ap (λ z. z ∷ rest) (row_is ∙ ap (λ z. before ++ node n z ∷ after) es_is ∙ ap (λ z. before ++ node n (l ++ z ∷ r) ∷ after) (sym same.1));
+      a_is = same.0;
+      b_is = same.2;
+      entry_is = l_is;
+      stands = rw full st;
+    }
+
+-- no number of the rows stands twice
+pub apart_here : {K X : Type 0} (n : ℕ) (before : List (LevelNode K X)) (es : List (K × X)) (after : List (LevelNode K X)) (ms fs : List ℕ) → Distinct ((numbers (before ++ node n es ∷ after) ++ ms) ++ fs) →
+    (count n (numbers before) + count n (numbers after) ≡ 0) × (count n ms ≡ 0) × (count n fs ≡ 0)
+apart_here n before es after ms fs d =
+    let one = d n in
+    let a = count-append n (numbers (before ++ node n es ∷ after) ++ ms) fs in
+    let b = count-append n (numbers (before ++ node n es ∷ after)) ms in
+    let c = count-row n before n es after in
+    let e = count-same n (numbers after) in
+    (omega (arith, one, a, b, c, e), omega (arith, one, a, b, c, e), omega (arith, one, a, b, c, e))
+
+-- the path's place among the nodes of a row
+pub stands_here : {K : Type 0} (ms js : List ℕ) (up : ℕ) (row : List (LevelNode K ℕ)) (before : List (LevelNode K ℕ)) (n e : ℕ) (es : List (K × ℕ)) (after : List (LevelNode K ℕ)) (rest : List (List (LevelNode K ℕ))) (p : ℕ) →
+    Solid 4 8 before → row ≡ before ++ node n es ∷ after → get_or ms up 0 ≡ n → get_or js up 0 ≡ e → e < length es → p ≡ length (flat before) + e → StandsAbove ms js (suc up) rest (length (heads before)) → StandsAbove ms js up (row ∷ rest) p
+stands_here ms js up row before n e es after rest p solid row_is n_is e_is within place_is st = (
+  record { before = before; entries = es; after = after; row_is = rw n_is row_is; within = omega (arith, e_is, within); place_is = omega (arith, place_is, e_is) },
+  (let full = Solid-full 4 8 (omega arith) before solid in rw (← full) st),
+)
+
+module _ {K V : Type 0} where
+  pub parent : (t : Table K V) (ms js : List ℕ) (up size : ℕ) (rows : List (List (LevelNode K ℕ))) (a : List (K × ℕ)) (x : K × ℕ) (b : List (K × ℕ)) → Above t ms js up size rows (a ++ x ∷ b) (length a) → up < size →
+      Parent ms js up rows a x b
+  parent t ms js up size [] a x b p low = absurd (omega (arith, p.height, low))
+  parent t ms js up size (row ∷ rest) a x b p low =
+      let at = p.stands.0 in
+      let c = cut at.entries (get_or js up 0) at.within in
+      parent_at ms js up row rest a x b at.before at.after at.entries c.l c.x c.r p.stacked.1 p.stacked.0 at.row_is c.es_is c.place_is at.place_is p.stands.1
+
+  -- the rows above a level of two nodes or more
+  pub above_two : (t : Table K V) (ms js : List ℕ) (up size : ℕ) (rows : List (List (LevelNode K ℕ))) (a : List (K × ℕ)) (x y : K × ℕ) (b : List (K × ℕ)) (p : ℕ) → Above t ms js up size rows (a ++ x ∷ y ∷ b) p → up < size
+  above_two t ms js up size [] a x y b p h = absurd (omega (arith, h.stacked, length-append a (x ∷ y ∷ b)))
+  above_two t ms js up size (row ∷ rest) a x y b p h = omega (arith, h.height)
+
+  pub cut_above : (t : Table K V) (ms js : List ℕ) (up size : ℕ) (rows : List (List (LevelNode K ℕ))) (a : List (K × ℕ)) (x : K × ℕ) (b : List (K × ℕ)) → Above t ms js up size rows (a ++ x ∷ b) (length a) → (q : Parent ms js up rows a x b) →
+      Cut_above t ms js up size q.before (get_or ms up 0) q.l x q.r q.after q.rest
+  cut_above t ms js up size rows a x b p q =
+      let s1 = subst (λ (z : List (List (LevelNode K ℕ))). Above t ms js up size z (a ++ x ∷ b) (length a)) q.rows_are p in
+      let s2 = subst (λ (z : List (K × ℕ)). Above t ms js up size ((q.before ++ node (get_or ms up 0) (q.l ++ x ∷ q.r) ∷ q.after) ∷ q.rest) (z ++ x ∷ b) (length z)) q.a_is s1 in
+      subst (λ (z : List (K × ℕ)). Above t ms js up size ((q.before ++ node (get_or ms up 0) (q.l ++ x ∷ q.r) ∷ q.after) ∷ q.rest) ((flat q.before ++ q.l) ++ x ∷ z) (length (flat q.before ++ q.l))) q.b_is s2
+
+  -- what is known there
+  pub record Facts (t : Table K V) (ms js : List ℕ) (up size : ℕ) (before : List (LevelNode K ℕ)) (n : ℕ) (l : List (K × ℕ)) (x : K × ℕ) (r : List (K × ℕ)) (after : List (LevelNode K ℕ)) (rest : List (List (LevelNode K ℕ))) : Type 0 where
+    pub slot_is : slice_get t.nodes n ≡ Some (inner_content (l ++ x ∷ r))
+    pub solid : Solid 4 8 before
+    pub fit : FitRow 4 8 (node n (l ++ x ∷ r) ∷ after)
+    pub inside : RowIn inner_content t.nodes (before ++ node n (l ++ x ∷ r) ∷ after)
+    pub none : count n (numbers before) + count n (numbers after) ≡ 0
+    pub none_rest : count n (flat_map numbers rest) ≡ 0
+    pub none_chain : count n t.chain ≡ 0
+
+  pub facts : (t : Table K V) (ms js : List ℕ) (up size : ℕ) (before : List (LevelNode K ℕ)) (n : ℕ) (l : List (K × ℕ)) (x : K × ℕ) (r : List (K × ℕ)) (after : List (LevelNode K ℕ)) (rest : List (List (LevelNode K ℕ))) →
+      Cut_above t ms js up size before n l x r after rest → Facts t ms js up size before n l x r after rest
+  facts t ms js up size before n l x r after rest p =
+      let f = FitRow-split 4 8 before (node n (l ++ x ∷ r)) after p.stacked.1 in
+      let d = apart_here n before (l ++ x ∷ r) after (flat_map numbers rest) t.chain p.apart in
+      record {
+        slot_is = (row-split inner_content t.nodes before (node n (l ++ x ∷ r) ∷ after) p.inside.0).1.0;
+        solid = f.0;
+        fit = f.1;
+        inside = p.inside.0;
+        none = d.0;
+        none_rest = d.1;
+        none_chain = d.2;
+      }
+
+  -- what a call finds on a level of the path
+  pub record Spot (t : Table K V) (ms js : List ℕ) (up size : ℕ) (rows : List (List (LevelNode K ℕ))) (a : List (K × ℕ)) (x : K × ℕ) (b : List (K × ℕ)) : Type 0 where
+    pub q : Parent ms js up rows a x b
+    pub whole : Cut_above t ms js up size q.before (get_or ms up 0) q.l x q.r q.after q.rest
+    pub f : Facts t ms js up size q.before (get_or ms up 0) q.l x q.r q.after q.rest
+    pub count_is : length (q.l ++ x ∷ q.r) ≡ get_or js up 0 + suc (length q.r)
+    pub most_is : length (q.l ++ x ∷ q.r) ≤ 8
+
+  pub spot : (t : Table K V) (ms js : List ℕ) (up size : ℕ) (rows : List (List (LevelNode K ℕ))) (a : List (K × ℕ)) (x : K × ℕ) (b : List (K × ℕ)) → Above t ms js up size rows (a ++ x ∷ b) (length a) → up < size → Spot t ms js up size rows a x b
+  spot t ms js up size rows a x b p low =
+      let q = parent t ms js up size rows a x b p low in
+      let w = cut_above t ms js up size rows a x b p q in
+      let f = facts t ms js up size q.before (get_or ms up 0) q.l x q.r q.after q.rest w in
+      record { q = q; whole = w; f = f; count_is = omega (arith, length-append q.l (x ∷ q.r), q.entry_is); most_is = f.fit.1 }
+
+-- a path that is the same from a level on stands where it stood
+pub stands-same : {K : Type 0} (ms js ms' js' : List ℕ) (up : ℕ) (rows : List (List (LevelNode K ℕ))) (p : ℕ) → ((i : ℕ) → up ≤ i → get_or ms' i 0 ≡ get_or ms i 0) → ((i : ℕ) → up ≤ i → get_or js' i 0 ≡ get_or js i 0) → StandsAbove ms js up rows p → StandsAbove ms' js' up rows p
+stands-same ms js ms' js' up [] p f g s = s
+stands-same ms js ms' js' up (row ∷ rows) p f g s =
+    let fm = f up (omega arith) in
+    let gj = g up (omega arith) in
+    let at = s.0 in (
+      record { before = at.before; entries = at.entries; after = at.after; row_is = rw fm at.row_is; within = rw gj at.within; place_is = rw gj at.place_is },
+      stands-same ms js ms' js' (suc up) rows (length at.before) (λ i low. f i (omega (arith, low))) (λ i low. g i (omega (arith, low))) s.1,
+    )

@@ -1,0 +1,69 @@
+-- Taking a free node, and making sure that there are some, over plain values.
+use Rattle.std.proofs.Common.{◌≡◌, ℕ, zero, suc, ◌-◌, ◌≤◌, ◌<◌, List, length, length-set, append-nil, Some, Result, Ok, Err, sym, ap, ◌∙◌, arith}
+use Rattle.bforest_nodes.specs.Content.{Content}
+use Rattle.bforest_core.specs.declared.pool.OutOfMemory.{OutOfMemory}
+use Rattle.bforest_core.specs.declared.pool.OutOfMemory.TheVariants.{Full, Memory}
+use Rattle.bforest_core.specs.Table.{Table, IsUsed, NeedsGrowth, room, reserved, with_slots, front_of, with_node, with_front, without_front}
+use Rattle.bforest_core.proofs.table.Fronts.{with_front-is}
+
+-- an answer is no error
+pub ok_not_err : {A E : Type 0} (x : A) (e : E) → Ok x ≡ Err e → ⊥
+ok_not_err x e is = cc
+
+-- one error is not the other
+pub full_not_memory : {A : Type 0} → ◌≡◌ {A = Result A OutOfMemory} (Err Full) (Err Memory) → ⊥
+full_not_memory is = cc
+
+module _ {K V : Type 0} where
+  -- the front of the chain was taken and written
+  pub taken_is : (t u : Table K V) (node : ℕ) (c d : Content K V) → front_of t.chain ≡ Some node → u ≡ without_front t t.chain → c ≡ d → with_node u node c ≡ with_front t t.chain d
+  taken_is t u node c d front u_is c_is = ap (λ z. with_node z node c) u_is ∙ ap (λ z. with_node (without_front t t.chain) node z) c_is ∙ sym (with_front-is t t.chain node d front)
+
+  pub reserved_taken_is : (old t u : Table K V) (node : ℕ) (c d : Content K V) → t ≡ reserved old 1 → front_of t.chain ≡ Some node → u ≡ without_front t t.chain → c ≡ d → with_node u node c ≡ with_front (reserved old 1) (reserved old 1).chain d
+  reserved_taken_is old t u node c d t_is front u_is c_is = taken_is t u node c d front u_is c_is ∙ ap (λ z. with_front z z.chain d) t_is
+
+  -- a used node that was written is used
+  pub used_written : (t : Table K V) (node : ℕ) (c : Content K V) → IsUsed t node → IsUsed (with_node t node c) node
+  used_written t node c used = record { within = (let w = used.within in omega (arith, length-set t.nodes node c)); off_chain = used.off_chain }
+
+  -- no slots are added
+  record_is : (t : Table K V) (m : ℕ) → m ≡ 0 → t ≡ with_slots t m
+  record_is t zero none = ap (λ z. record t { nodes = z }) (sym (append-nil t.nodes))
+  record_is t (suc m) none = absurd (omega arith)
+
+  -- what the fields of a pool say of its table
+  pub record Sees (t : Table K V) (free limit len : ℕ) : Type 0 where
+    pub free_is : length t.chain ≡ free
+    pub limit_is : t.limit ≡ limit
+    pub len_is : length t.nodes ≡ len
+
+  pub sees : (t : Table K V) (nodes : List (Content K V)) (chain : List ℕ) (free limit len : ℕ) → record { nodes = nodes; chain = chain; limit = limit } ≡ t → length chain ≡ free → len ≡ length nodes → Sees t free limit len
+  sees t nodes chain free limit len view counted len_is = record { free_is = ap (λ z. length z.chain) (sym view) ∙ counted; limit_is = ap (λ z. z.limit) (sym view); len_is = ap (λ z. length z.nodes) (sym view) ∙ sym len_is }
+
+  module _ (t : Table K V) (free limit len n : ℕ) (s : Sees t free limit len) where
+    -- enough lie free
+    pub has_room : n ≤ free → room t < n → ⊥
+    has_room enough short = omega (arith, s.free_is)
+
+    -- too few slots are allowed
+    pub lacks_room : free < n → limit - len < n - free → room t < n
+    lacks_room scarce more = omega (arith, s.free_is, s.limit_is, s.len_is)
+
+    -- enough are
+    pub finds_room : n - free ≤ limit - len → room t < n → ⊥
+    finds_room allowed short = omega (arith, s.free_is, s.limit_is, s.len_is)
+
+    pub needs_growth : free < n → n - free ≤ limit - len → NeedsGrowth n t
+    needs_growth scarce allowed = record { scarce = omega (arith, s.free_is); allowed = omega (arith, s.free_is, s.limit_is, s.len_is) }
+
+    pub not_enough : free < n → n ≤ length t.chain → ⊥
+    not_enough scarce enough = omega (arith, s.free_is)
+
+    pub stays_reserved : n ≤ free → t ≡ reserved t n
+    stays_reserved enough =
+        let none : n - length t.chain ≡ 0 = omega (arith, s.free_is) in
+        record_is t (n - length t.chain) none
+
+  -- so few slots can be numbered
+  pub few_slots : (t : Table K V) (nodes : List (Content K V)) (chain : List ℕ) (limit : ℕ) → record { nodes = nodes; chain = chain; limit = limit } ≡ t → length nodes ≤ limit → limit ≤ 4294967295 → length t.nodes ≤ 4294967295
+  few_slots t nodes chain limit view within most = let e = ap (λ z. length z.nodes) view in omega arith

@@ -1,0 +1,131 @@
+-- Chains of free nodes: how each change of the slots keeps them.
+use Rattle.std.proofs.Common.{◌≡◌, ◌≢◌, inl, inr, ℕ, ◌+◌, ◌<◌, ◌≤◌, ◌==◌, zero, suc, true, false, List, [], ◌∷◌, ◌++◌, length, set, nat_eq, Some, None, Option, refl, slice_get, sym, ap, ◌∙◌, subst, arith, append_assoc, append-nil}
+use Rattle.std.specs.List.{list_any, IsDistinct, AllByRecursion}
+use Rattle.std.proofs.lemmas.List.{length-append, length_push}
+use Rattle.std.proofs.lemmas.Option.{slice_get_within}
+use Rattle.std.proofs.lemmas.Bool.{or_parts}
+use Rattle.std.proofs.lemmas.Bool.Decides.{Decides-eqb, not_from_Decides, eqb_tells}
+use Rattle.std.proofs.lemmas.Map.Keys.{IsDistinct-cons}
+use Rattle.bforest_nodes.specs.Content.{Content, Free}
+use Rattle.bforest_core.specs.Chain.{chain_from, IsChain}
+use Rattle.bforest_core.specs.Table.{IsFreeAt, front_of, down_from, front_of_new, fresh_nodes}
+use Rattle.bforest_core.proofs.table.Lists.{slice_get-append_left, slice_get-push, slice_get-set_other, slice_get-set_same}
+
+-- numbers that are not equal are apart
+apart : (x y : ℕ) → nat_eq x y ≡ false → x ≢ y
+apart x y e = not_from_Decides {P = x ≡ y} (x == y) (Decides-eqb x y) e
+
+-- a number that a list lacks is apart from each of its numbers
+all_apart : (x : ℕ) (ys : List ℕ) → list_any (nat_eq x) ys ≡ false → AllByRecursion (λ y. nat_eq x y ≡ false) ys
+all_apart x [] off = tt
+all_apart x (y ∷ ys) off =
+    let parts = or_parts (nat_eq x y) (list_any (nat_eq x) ys) off in
+    (parts.0, all_apart x ys parts.1)
+
+-- a number that is apart from each number of a list is one that the list lacks
+pub none_apart : (x : ℕ) (ys : List ℕ) → AllByRecursion (λ y. nat_eq x y ≡ false) ys → list_any (nat_eq x) ys ≡ false
+none_apart x [] all = refl
+none_apart x (y ∷ ys) all = rw all.0 (none_apart x ys all.1)
+
+-- a number that the list lacks goes in front
+pub IsDistinct-front : (x : ℕ) (ys : List ℕ) → list_any (nat_eq x) ys ≡ false → IsDistinct nat_eq ys → IsDistinct nat_eq (x ∷ ys)
+IsDistinct-front x ys off distinct = IsDistinct-cons nat_eq x ys (all_apart x ys off) distinct
+
+-- how many new nodes there are
+pub length-fresh_nodes : (K V : Type 0) (first count : ℕ) (next : Option ℕ) → length (fresh_nodes {K = K} {V = V} first count next) ≡ count
+length-fresh_nodes K V first zero next = refl
+length-fresh_nodes K V first (suc count) next =
+    omega (arith, length_push (fresh_nodes {K = K} {V = V} first count next) (Free (front_of_new first count next)), length-fresh_nodes K V first count next)
+
+-- how many new numbers there are
+pub length-down_from : (first count : ℕ) → length (down_from first count) ≡ count
+length-down_from first zero = refl
+length-down_from first (suc count) = ap suc (length-down_from first count)
+
+module _ {K V : Type 0} where
+  -- the numbers met from the front on are those of the chain
+  pub chain_from-is : (nodes : List (Content K V)) (chain : List ℕ) (first : Option ℕ) → IsChain nodes chain first → chain_from nodes (length chain) first ≡ chain
+  chain_from-is nodes [] first linked = refl
+  chain_from-is nodes (node ∷ rest) first linked =
+      rw (linked.1, linked.2) (ap (λ ns. node ∷ ns) (chain_from-is nodes rest linked.0 linked.3))
+
+  -- from no number on, no number is met
+  pub length-chain_from-none : (nodes : List (Content K V)) (count : ℕ) → length (chain_from nodes count None) ≡ 0
+  length-chain_from-none nodes zero = refl
+  length-chain_from-none nodes (suc count) = refl
+
+  -- the front of the chain is the number that it begins at
+  pub front_of-is : (nodes : List (Content K V)) (chain : List ℕ) (first : Option ℕ) → IsChain nodes chain first → front_of chain ≡ first
+  front_of-is nodes [] first linked = sym linked
+  front_of-is nodes (node ∷ rest) first linked = sym linked.1
+
+  -- a write at a slot that is not on the chain
+  pub IsChain-set : (nodes : List (Content K V)) (chain : List ℕ) (first : Option ℕ) (at : ℕ) (content : Content K V) → list_any (nat_eq at) chain ≡ false → IsChain nodes chain first → IsChain (set nodes at content) chain first
+  IsChain-set nodes [] first at content off linked = linked
+  IsChain-set nodes (node ∷ rest) first at content off linked =
+      let parts = or_parts (nat_eq at node) (list_any (nat_eq at) rest) off in
+      (linked.0, linked.1, slice_get-set_other nodes at node content _ (apart at node parts.0) linked.2, IsChain-set nodes rest linked.0 at content parts.1 linked.3)
+
+  -- new slots behind the others
+  pub IsChain-append : (nodes more : List (Content K V)) (chain : List ℕ) (first : Option ℕ) → IsChain nodes chain first → IsChain (nodes ++ more) chain first
+  IsChain-append nodes more [] first linked = linked
+  IsChain-append nodes more (node ∷ rest) first linked =
+      (linked.0, linked.1, slice_get-append_left nodes more node _ linked.2, IsChain-append nodes more rest linked.0 linked.3)
+
+  -- a new node goes in front
+  pub IsChain-push : (nodes : List (Content K V)) (chain : List ℕ) (first : Option ℕ) → IsChain nodes chain first → IsChain (nodes ++ Free first ∷ []) (length nodes ∷ chain) (Some (length nodes))
+  IsChain-push nodes chain first linked =
+      (first, refl, slice_get-push nodes (Free first), IsChain-append nodes (Free first ∷ []) chain first linked)
+
+  -- new nodes, all in front
+  pub IsChain-fresh : (nodes : List (Content K V)) (chain : List ℕ) (first : Option ℕ) (count : ℕ) → IsChain nodes chain first → IsChain (nodes ++ fresh_nodes (length nodes) count first) (down_from (length nodes) count ++ chain) (front_of_new (length nodes) count first)
+  IsChain-fresh nodes chain first zero linked = rw (append-nil nodes) linked
+  IsChain-fresh nodes chain first (suc count) linked =
+      let before = nodes ++ fresh_nodes (length nodes) count first in
+      let size : length before ≡ length nodes + count = omega (arith, length-append nodes (fresh_nodes (length nodes) count first), length-fresh_nodes K V (length nodes) count first) in
+      let next = front_of_new (length nodes) count first in
+      let rest = down_from (length nodes) count ++ chain in
+      let made = IsChain-push before rest next (IsChain-fresh nodes chain first count linked) in
+      let placed = subst (λ k. IsChain (before ++ Free next ∷ []) (k ∷ rest) (Some k)) size made in
+      subst (λ ns. IsChain ns (down_from (length nodes) (suc count) ++ chain) (front_of_new (length nodes) (suc count) first)) (append_assoc nodes (fresh_nodes (length nodes) count first) (Free next ∷ [])) placed
+
+  -- a used slot joins the chain in front
+  pub IsChain-freed : (nodes : List (Content K V)) (chain : List ℕ) (first : Option ℕ) (at : ℕ) → at < length nodes → list_any (nat_eq at) chain ≡ false → IsChain nodes chain first → IsChain (set nodes at (Free first)) (at ∷ chain) (Some at)
+  IsChain-freed nodes chain first at within off linked =
+      (first, refl, slice_get-set_same nodes at (Free first) within, IsChain-set nodes chain first at (Free first) off linked)
+
+  -- the numbers of a chain are those of slots
+  pub IsChain-below : (nodes : List (Content K V)) (chain : List ℕ) (first : Option ℕ) → IsChain nodes chain first → (q : ℕ) → list_any (nat_eq q) chain ≡ true → q < length nodes
+  IsChain-below nodes [] first linked q on = cc
+  IsChain-below nodes (node ∷ rest) first linked q on =
+      elim (eqb_tells q node) [
+        | inl same ↦ omega (arith, same.1, slice_get_within nodes node _ linked.2)
+        | inr other ↦ IsChain-below nodes rest linked.0 linked.3 q (rw other.0 at on)
+      ]
+
+  -- these slots are free
+  pub IsChain-free : (nodes : List (Content K V)) (chain : List ℕ) (first : Option ℕ) → IsChain nodes chain first → (q : ℕ) → list_any (nat_eq q) chain ≡ true → IsFreeAt nodes q
+  IsChain-free nodes [] first linked q on = cc
+  IsChain-free nodes (node ∷ rest) first linked q on =
+      elim (eqb_tells q node) [
+        | inl same ↦ (linked.0, ap (λ z. slice_get nodes z) same.1 ∙ linked.2)
+        | inr other ↦ IsChain-free nodes rest linked.0 linked.3 q (rw other.0 at on)
+      ]
+
+  -- numbers from the count of slots on are on no chain of these slots
+  pub off_chain : (nodes : List (Content K V)) (chain : List ℕ) (first : Option ℕ) (q : ℕ) → IsChain nodes chain first → length nodes ≤ q → list_any (nat_eq q) chain ≡ false
+  off_chain nodes [] first q linked past = refl
+  off_chain nodes (node ∷ rest) first q linked past =
+      let within = slice_get_within nodes node _ linked.2 in
+      elim (eqb_tells q node) [
+        | inl same ↦ absurd (omega (arith, same.1))
+        | inr other ↦ rw other.0 (off_chain nodes rest linked.0 q linked.3 past)
+      ]
+
+  -- new nodes in front of the chain are no others twice
+  pub IsDistinct-fresh : (nodes : List (Content K V)) (chain : List ℕ) (first : Option ℕ) (count : ℕ) → IsChain nodes chain first → IsDistinct nat_eq chain → IsDistinct nat_eq (down_from (length nodes) count ++ chain)
+  IsDistinct-fresh nodes chain first zero linked distinct = distinct
+  IsDistinct-fresh nodes chain first (suc count) linked distinct =
+      let before = nodes ++ fresh_nodes (length nodes) count first in
+      let size : length before ≡ length nodes + count = omega (arith, length-append nodes (fresh_nodes (length nodes) count first), length-fresh_nodes K V (length nodes) count first) in
+      IsDistinct-front (length nodes + count) _ (off_chain before _ _ (length nodes + count) (IsChain-fresh nodes chain first count linked) (omega arith)) (IsDistinct-fresh nodes chain first count linked distinct)

@@ -1,0 +1,107 @@
+-- What a `NodePool` keeps of its slots: how each change of them keeps it.
+use Rattle.std.proofs.Common.{◌≡◌, ℕ, ◌+◌, ◌-◌, ◌<◌, ◌≤◌, zero, suc, false, List, [], ◌∷◌, ◌++◌, length, set, slice_get, nat_eq, Some, None, Option, refl, ap, ◌∙◌, subst, arith, length-set}
+use Rattle.std.specs.List.{list_any, IsDistinct}
+use Rattle.std.specs.Option.{IsSome}
+use Rattle.std.proofs.lemmas.List.{length-append}
+use Rattle.std.proofs.lemmas.Map.Keys.{IsDistinct-tail, IsDistinct-head}
+use Rattle.std.proofs.lemmas.Map.Steps.{length-le_from_distinct_below}
+use Rattle.bforest_nodes.specs.Content.{Content, Free, IsLeafCapacity}
+use Rattle.bforest_core.specs.Chain.{next_of, chain_from, IsChain, IsPool}
+use Rattle.bforest_core.specs.Table.{down_from, front_of_new, fresh_nodes}
+use Rattle.bforest_core.proofs.table.Chains.{none_apart, IsDistinct-front, length-fresh_nodes, length-down_from, chain_from-is, length-chain_from-none, IsChain-set, IsChain-below, IsChain-fresh, IsChain-freed, IsDistinct-fresh}
+
+module _ {K V : Type 0} where
+  -- a chain, of so many different free nodes, makes a pool
+  pub IsPool-made : (n : ℕ) (nodes : List (Content K V)) (chain : List ℕ) (first : Option ℕ) (free limit : ℕ) → IsLeafCapacity n → IsChain nodes chain first → length chain ≡ free → IsDistinct nat_eq chain → length nodes ≤ limit → limit ≤ 4294967295 → IsPool n nodes first free limit
+  IsPool-made n nodes chain first free limit capacity linked counted distinct slots most =
+      let is : chain_from nodes free first ≡ chain = rw (← counted) (chain_from-is nodes chain first linked) in
+      record {
+        capacity = capacity;
+        linked = rw is linked;
+        counted = rw is counted;
+        distinct = rw is distinct;
+        slots_within = slots;
+        limit_within = most;
+      }
+
+  -- no slot
+  pub IsPool-empty : (n limit : ℕ) → IsLeafCapacity n → limit ≤ 4294967295 → IsPool {K = K} {V = V} n [] None 0 limit
+  unfolding IsDistinct
+  IsPool-empty n limit capacity most = IsPool-made n [] [] None 0 limit capacity refl refl tt (omega arith) most
+
+  -- a write at a slot that is not on the chain
+  pub IsPool-set : (n : ℕ) (nodes : List (Content K V)) (first : Option ℕ) (free limit at : ℕ) (content : Content K V) → list_any (nat_eq at) (chain_from nodes free first) ≡ false → IsPool n nodes first free limit → IsPool n (set nodes at content) first free limit
+  IsPool-set n nodes first free limit at content off pool =
+      IsPool-made n (set nodes at content) (chain_from nodes free first) first free limit pool.capacity (IsChain-set nodes _ first at content off pool.linked) pool.counted pool.distinct (omega (arith, length-set nodes at content, pool.slots_within)) pool.limit_within
+
+  -- such a write leaves the chain as it is
+  pub chain_from-set : (n : ℕ) (nodes : List (Content K V)) (first : Option ℕ) (free limit at : ℕ) (content : Content K V) → list_any (nat_eq at) (chain_from nodes free first) ≡ false → IsPool n nodes first free limit → chain_from (set nodes at content) free first ≡ chain_from nodes free first
+  chain_from-set n nodes first free limit at content off pool =
+      let is = chain_from-is (set nodes at content) (chain_from nodes free first) first (IsChain-set nodes _ first at content off pool.linked) in
+      rw pool.counted at is
+
+  -- writes at two slots that are not on the chain
+  pub IsPool-set_two : (n : ℕ) (nodes : List (Content K V)) (first : Option ℕ) (free limit left right : ℕ) (l r : Content K V) → list_any (nat_eq left) (chain_from nodes free first) ≡ false → list_any (nat_eq right) (chain_from nodes free first) ≡ false → IsPool n nodes first free limit
+      → IsPool n (set (set nodes left l) right r) first free limit × (chain_from (set (set nodes left l) right r) free first ≡ chain_from nodes free first)
+  IsPool-set_two n nodes first free limit left right l r off_left off_right pool =
+      let once = IsPool-set n nodes first free limit left l off_left pool in
+      let same = chain_from-set n nodes first free limit left l off_left pool in
+      let off : list_any (nat_eq right) (chain_from (set nodes left l) free first) ≡ false = ap (list_any (nat_eq right)) same ∙ off_right in
+      (IsPool-set n (set nodes left l) first free limit right r off once, chain_from-set n (set nodes left l) first free limit right r off once ∙ same)
+
+  -- as many nodes lie free as there are slots, at most
+  pub free_within : (n : ℕ) (nodes : List (Content K V)) (first : Option ℕ) (free limit : ℕ) → IsPool n nodes first free limit → free ≤ length nodes
+  free_within n nodes first free limit pool =
+      let most = length-le_from_distinct_below (chain_from nodes free first) (length nodes) pool.distinct (IsChain-below nodes _ first pool.linked) in
+      omega (arith, most, pool.counted)
+
+  -- a used slot joins the chain in front
+  pub IsPool-freed : (n : ℕ) (nodes : List (Content K V)) (first : Option ℕ) (free limit at : ℕ) → at < length nodes → list_any (nat_eq at) (chain_from nodes free first) ≡ false → IsPool n nodes first free limit → IsPool n (set nodes at (Free first)) (Some at) (free + 1) limit × (chain_from (set nodes at (Free first)) (free + 1) (Some at) ≡ at ∷ chain_from nodes free first)
+  IsPool-freed n nodes first free limit at within off pool =
+      let linked = IsChain-freed nodes (chain_from nodes free first) first at within off pool.linked in
+      let count : length (at ∷ chain_from nodes free first) ≡ free + 1 = omega (arith, pool.counted) in
+      let is = chain_from-is (set nodes at (Free first)) (at ∷ chain_from nodes free first) (Some at) linked in
+      (IsPool-made n (set nodes at (Free first)) (at ∷ chain_from nodes free first) (Some at) (free + 1) limit pool.capacity linked count (IsDistinct-front at _ off pool.distinct) (omega (arith, length-set nodes at (Free first), pool.slots_within)) pool.limit_within, subst (λ k. chain_from (set nodes at (Free first)) k (Some at) ≡ at ∷ chain_from nodes free first) count is)
+
+  -- where a slot is used, fewer nodes lie free than there are slots
+  pub free_below : (n : ℕ) (nodes : List (Content K V)) (first : Option ℕ) (free limit at : ℕ) → at < length nodes → list_any (nat_eq at) (chain_from nodes free first) ≡ false → IsPool n nodes first free limit → free < length nodes
+  free_below n nodes first free limit at within off pool =
+      let freed = IsPool-freed n nodes first free limit at within off pool in
+      omega (arith, free_within n _ _ _ _ freed.0, length-set nodes at (Free first))
+
+  -- new slots, all in front
+  pub IsPool-grown : (n : ℕ) (nodes : List (Content K V)) (first : Option ℕ) (free limit count : ℕ) → length nodes + count ≤ limit → IsPool n nodes first free limit → IsPool n (nodes ++ fresh_nodes (length nodes) count first) (front_of_new (length nodes) count first) (count + free) limit × (chain_from (nodes ++ fresh_nodes (length nodes) count first) (count + free) (front_of_new (length nodes) count first) ≡ down_from (length nodes) count ++ chain_from nodes free first)
+  IsPool-grown n nodes first free limit count within pool =
+      let chain = down_from (length nodes) count ++ chain_from nodes free first in
+      let linked = IsChain-fresh nodes (chain_from nodes free first) first count pool.linked in
+      let counted : length chain ≡ count + free = omega (arith, length-append (down_from (length nodes) count) (chain_from nodes free first), length-down_from (length nodes) count, pool.counted) in
+      let is = chain_from-is (nodes ++ fresh_nodes (length nodes) count first) chain (front_of_new (length nodes) count first) linked in
+      (IsPool-made n _ chain _ (count + free) limit pool.capacity linked counted (IsDistinct-fresh nodes _ first count pool.linked pool.distinct) (omega (arith, length-append nodes (fresh_nodes (length nodes) count first), length-fresh_nodes K V (length nodes) count first)) pool.limit_within, rw counted at is)
+
+  -- where nodes lie free, there is a first
+  pub first_some : (n : ℕ) (nodes : List (Content K V)) (first : Option ℕ) (free limit : ℕ) → 0 < free → IsPool n nodes first free limit → IsSome first
+  first_some n nodes None free limit some pool = absurd (omega (arith, pool.counted, length-chain_from-none nodes free))
+  first_some n nodes (Some node) free limit some pool = refl
+
+  -- the front of the chain is a free node
+  pub front_is_free : (n : ℕ) (nodes : List (Content K V)) (node free limit : ℕ) → 0 < free → IsPool n nodes (Some node) free limit → (next : Option ℕ) × (slice_get nodes node ≡ Some (Free next))
+  front_is_free n nodes node zero limit some pool = absurd (omega arith)
+  front_is_free n nodes node (suc count) limit some pool = (pool.linked.0, pool.linked.2)
+
+  -- the front leaves the chain
+  pub IsPool-taken : (n : ℕ) (nodes : List (Content K V)) (node : ℕ) (next : Option ℕ) (free limit : ℕ) → 0 < free → IsPool n nodes (Some node) free limit → slice_get nodes node ≡ Some (Free next)
+      → IsPool n nodes next (free - 1) limit × (chain_from nodes free (Some node) ≡ node ∷ chain_from nodes (free - 1) next) × (list_any (nat_eq node) (chain_from nodes (free - 1) next) ≡ false)
+  IsPool-taken n nodes node next zero limit some pool found = absurd (omega arith)
+  IsPool-taken n nodes node next (suc count) limit some pool found =
+      let less : suc count - 1 ≡ count = omega arith in
+      let after : next_of (slice_get nodes node) ≡ next = ap next_of found in
+      let same : pool.linked.0 ≡ next = let there = pool.linked.2 in cc in
+      let tail = chain_from nodes count next in
+      let linked : IsChain nodes tail next = rw (after, same) at pool.linked.3 in
+      let distinct : IsDistinct nat_eq (node ∷ tail) = rw after at pool.distinct in
+      let counted : length tail ≡ count = omega (arith, rw after at pool.counted) in
+      rw (less, after) (
+        IsPool-made n nodes tail next count limit pool.capacity linked counted (IsDistinct-tail nat_eq node tail distinct) pool.slots_within pool.limit_within,
+        refl,
+        none_apart node tail (IsDistinct-head nat_eq node tail distinct),
+      )

@@ -1,0 +1,177 @@
+-- Counting numbers, and rows that a change of the table leaves as they are.
+use Rattle.std.proofs.Common.{◌≡◌, ℕ, zero, suc, ◌+◌, ◌<◌, ◌≢◌, false, nat_eq, List, [], ◌∷◌, ◌++◌, length, set, slice_get, Some, refl, sym, ap, ◌∙◌, inl, inr, length-set, arith}
+use Rattle.std.specs.List.{flat_map, list_any}
+use Rattle.std.proofs.lemmas.Bool.Decides.{eqb_tells}
+use Rattle.bforest_nodes.specs.Content.{Content}
+use Rattle.bforest_core.specs.Table.{Table, with_node, with_front, front_of, IsUsed}
+use Rattle.bforest_core.proofs.table.Lists.{slice_get-set_same}
+use Rattle.std.proofs.lemmas.Option.{slice_get_within}
+use Rattle.bforest_core.specs.Levels.{LevelNode, node, numbers}
+use Rattle.bforest_core.specs.Place.{RowIn, RowsIn, inner_content, count}
+use Rattle.bforest_core.proofs.rows.LevelRows.{numbers-append}
+
+pub count-append : (n : ℕ) (xs ys : List ℕ) → count n (xs ++ ys) ≡ count n xs + count n ys
+count-append n [] ys = omega arith
+count-append n (x ∷ xs) ys = omega (arith, count-append n xs ys)
+
+pub count-same : (n : ℕ) (ms : List ℕ) → count n (n ∷ ms) ≡ suc (count n ms)
+count-same n ms = elim (eqb_tells n n) [ inl w ↦ (let e = w.0 in rw e (omega arith)) | inr w ↦ absurd (w.1 refl) ]
+
+pub count-other : (n m : ℕ) (ms : List ℕ) → m ≢ n → count n (m ∷ ms) ≡ count n ms
+count-other n m ms ne = elim (eqb_tells m n) [ inl w ↦ absurd (ne w.1) | inr w ↦ (let e = w.0 in rw e (omega arith)) ]
+
+pub ne_from_count : (m n : ℕ) (ms : List ℕ) → 0 < count m ms → count n ms ≡ 0 → m ≢ n
+ne_from_count m n ms some none = λ (e : m ≡ n). let h = ap (λ z. count z ms) e in omega (arith, h, some, none)
+
+pub absent_ne : (m x : ℕ) (ms : List ℕ) → count m (x ∷ ms) ≡ 0 → m ≢ x
+absent_ne m x ms z = λ (e : m ≡ x). let c = count-same x ms in let f = ap (λ w. count w (x ∷ ms)) e in omega (arith, f, c, z)
+
+pub count-row : {K X : Type 0} (k : ℕ) (before : List (LevelNode K X)) (n : ℕ) (es : List (K × X)) (after : List (LevelNode K X)) → count k (numbers (before ++ node n es ∷ after)) ≡ count k (numbers before) + count k (n ∷ numbers after)
+count-row k before n es after = ap (λ z. count k z) (numbers-append before (node n es ∷ after)) ∙ count-append k (numbers before) _
+
+-- a number that does not stand on the chain
+pub off_chain : (n : ℕ) (ms : List ℕ) → count n ms ≡ 0 → list_any (nat_eq n) ms ≡ false
+off_chain n [] none = refl
+off_chain n (m ∷ ms) none =
+    let rest = off_chain n ms (omega (arith, none)) in
+    elim (eqb_tells n m) [ inl w ↦ absurd (absent_ne n m ms none w.1) | inr w ↦ (let e = w.0 in rw (e, rest) refl) ]
+
+pub slice_get-set_apart : {X : Type 0} → (xs : List X) (i j : ℕ) (x : X) → j ≢ i → slice_get (set xs i x) j ≡ slice_get xs j
+slice_get-set_apart [] i j x ne = refl
+slice_get-set_apart (y ∷ xs) zero zero x ne = absurd (ne refl)
+slice_get-set_apart (y ∷ xs) zero (suc j) x ne = refl
+slice_get-set_apart (y ∷ xs) (suc i) zero x ne = refl
+slice_get-set_apart (y ∷ xs) (suc i) (suc j) x ne = slice_get-set_apart xs i j x (λ (e : j ≡ i). ne (ap suc e))
+
+-- a write of what is there already
+pub set_here : {X : Type 0} → (xs : List X) (i : ℕ) (x : X) → slice_get xs i ≡ Some x → set xs i x ≡ xs
+set_here [] i x e = refl
+set_here (y ∷ xs) zero x e = let same : y ≡ x = cc in ap (λ z. z ∷ xs) (sym same)
+set_here (y ∷ xs) (suc i) x e = ap (λ z. y ∷ z) (set_here xs i x e)
+
+module _ {K V : Type 0} where
+  pub with_node_here : (t : Table K V) (n : ℕ) (c : Content K V) → slice_get t.nodes n ≡ Some c → with_node t n c ≡ t
+  with_node_here t n c e = ap (λ z. record t { nodes = z }) (set_here t.nodes n c e)
+
+  pub is_used : (t : Table K V) (n : ℕ) (c : Content K V) → slice_get t.nodes n ≡ Some c → count n t.chain ≡ 0 → IsUsed t n
+  is_used t n c found none = record { within = slice_get_within t.nodes n c found; off_chain = off_chain n t.chain none }
+
+  module _ {X : Type 0} (content : List (K × X) → Content K V) where
+    -- what lies in a table lies in any other that agrees at its numbers
+    pub row-same : (t u : List (Content K V)) (row : List (LevelNode K X)) → ((m : ℕ) → 0 < count m (numbers row) → slice_get u m ≡ slice_get t m) → RowIn content t row → RowIn content u row
+    row-same t u [] same i = tt
+    row-same t u (node n es ∷ ns) same i = (
+      same n (let c = count-same n (numbers ns) in omega (arith, c)) ∙ i.0,
+      row-same t u ns (λ m some. same m (omega (arith, some))) i.1,
+    )
+
+    pub row-split : (t : List (Content K V)) (xs ys : List (LevelNode K X)) → RowIn content t (xs ++ ys) → RowIn content t xs × RowIn content t ys
+    row-split t [] ys i = (tt, i)
+    row-split t (node m es ∷ xs) ys i = let r = row-split t xs ys i.1 in ((i.0, r.0), r.1)
+
+    pub row-join : (t : List (Content K V)) (xs ys : List (LevelNode K X)) → RowIn content t xs → RowIn content t ys → RowIn content t (xs ++ ys)
+    row-join t [] ys i j = j
+    row-join t (node m es ∷ xs) ys i j = (i.0, row-join t xs ys i.1 j)
+
+    -- one node changed in its place
+    pub row-put : (t u : List (Content K V)) (before : List (LevelNode K X)) (n : ℕ) (es fs : List (K × X)) (after : List (LevelNode K X)) → RowIn content t (before ++ node n es ∷ after) →
+        ((m : ℕ) → m ≢ n → slice_get u m ≡ slice_get t m) → slice_get u n ≡ Some (content fs) → count n (numbers before) + count n (numbers after) ≡ 0 → RowIn content u (before ++ node n fs ∷ after)
+    row-put t u before n es fs after i same here none =
+        let s = row-split t before (node n es ∷ after) i in
+        row-join u before (node n fs ∷ after)
+        (row-same t u before (λ m some. same m (ne_from_count m n (numbers before) some (omega arith))) s.0)
+        (here, row-same t u after (λ m some. same m (ne_from_count m n (numbers after) some (omega arith))) s.1.1)
+
+    -- two neighbours changed in their place
+    pub row-put_two : (t u : List (Content K V)) (before : List (LevelNode K X)) (n q : ℕ) (es fs xs ys : List (K × X)) (after : List (LevelNode K X)) → RowIn content t (before ++ node n es ∷ node q fs ∷ after) →
+        ((m : ℕ) → m ≢ n → m ≢ q → slice_get u m ≡ slice_get t m) → slice_get u n ≡ Some (content xs) → slice_get u q ≡ Some (content ys) →
+        count n (numbers before) + count n (numbers after) ≡ 0 → count q (numbers before) + count q (numbers after) ≡ 0 → RowIn content u (before ++ node n xs ∷ node q ys ∷ after)
+    row-put_two t u before n q es fs xs ys after i same here there none none_q =
+        let s = row-split t before (node n es ∷ node q fs ∷ after) i in
+        row-join u before (node n xs ∷ node q ys ∷ after)
+        (row-same t u before (λ m some. same m (ne_from_count m n (numbers before) some (omega arith)) (ne_from_count m q (numbers before) some (omega arith))) s.0)
+        (here, (there, row-same t u after (λ m some. same m (ne_from_count m n (numbers after) some (omega arith)) (ne_from_count m q (numbers after) some (omega arith))) s.1.1.1))
+
+    -- one node become two
+    pub row-halved : (t u : List (Content K V)) (before : List (LevelNode K X)) (n q : ℕ) (es xs ys : List (K × X)) (after : List (LevelNode K X)) → RowIn content t (before ++ node n es ∷ after) →
+        ((m : ℕ) → m ≢ n → m ≢ q → slice_get u m ≡ slice_get t m) → slice_get u n ≡ Some (content xs) → slice_get u q ≡ Some (content ys) →
+        count n (numbers before) + count n (numbers after) ≡ 0 → count q (numbers before) + count q (numbers after) ≡ 0 → RowIn content u (before ++ node n xs ∷ node q ys ∷ after)
+    row-halved t u before n q es xs ys after i same here there none none_q =
+        let s = row-split t before (node n es ∷ after) i in
+        row-join u before (node n xs ∷ node q ys ∷ after)
+        (row-same t u before (λ m some. same m (ne_from_count m n (numbers before) some (omega arith)) (ne_from_count m q (numbers before) some (omega arith))) s.0)
+        (here, (there, row-same t u after (λ m some. same m (ne_from_count m n (numbers after) some (omega arith)) (ne_from_count m q (numbers after) some (omega arith))) s.1.1))
+
+    -- the first of two neighbours gone, the second changed
+    pub row-drop_put : (t u : List (Content K V)) (before : List (LevelNode K X)) (n q : ℕ) (es fs ys : List (K × X)) (after : List (LevelNode K X)) → RowIn content t (before ++ node n es ∷ node q fs ∷ after) →
+        ((m : ℕ) → m ≢ n → m ≢ q → slice_get u m ≡ slice_get t m) → slice_get u q ≡ Some (content ys) →
+        count n (numbers before) + count n (numbers after) ≡ 0 → count q (numbers before) + count q (numbers after) ≡ 0 → RowIn content u (before ++ node q ys ∷ after)
+    row-drop_put t u before n q es fs ys after i same there none none_q =
+        let s = row-split t before (node n es ∷ node q fs ∷ after) i in
+        row-join u before (node q ys ∷ after)
+        (row-same t u before (λ m some. same m (ne_from_count m n (numbers before) some (omega arith)) (ne_from_count m q (numbers before) some (omega arith))) s.0)
+        (there, row-same t u after (λ m some. same m (ne_from_count m n (numbers after) some (omega arith)) (ne_from_count m q (numbers after) some (omega arith))) s.1.1.1)
+
+  pub rows-same : (t u : List (Content K V)) (rows : List (List (LevelNode K ℕ))) → ((m : ℕ) → 0 < count m (flat_map numbers rows) → slice_get u m ≡ slice_get t m) → RowsIn t rows → RowsIn u rows
+  rows-same t u [] same i = tt
+  rows-same t u (row ∷ rows) same i = (
+    row-same inner_content t u row (λ m some. same m (omega (arith, some, count-append m (numbers row) (flat_map numbers rows)))) i.0,
+    rows-same t u rows (λ m some. same m (omega (arith, some, count-append m (numbers row) (flat_map numbers rows)))) i.1,
+  )
+
+  -- one slot written
+  pub record Puts (t u : Table K V) (n : ℕ) (c : Content K V) : Type 0 where
+    pub here : slice_get u.nodes n ≡ Some c
+    pub same : (m : ℕ) → m ≢ n → slice_get u.nodes m ≡ slice_get t.nodes m
+    pub chain_is : u.chain ≡ t.chain
+    pub slots_are : length u.nodes ≡ length t.nodes
+    pub limit_is : u.limit ≡ t.limit
+
+  pub puts : (t u : Table K V) (n : ℕ) (c old : Content K V) → slice_get t.nodes n ≡ Some old → u ≡ with_node t n c → Puts t u n c
+  puts t u n c old found is =
+      let low = slice_get_within t.nodes n old found in
+      record {
+        here = ap (λ z. slice_get z.nodes n) is ∙ slice_get-set_same t.nodes n c low;
+        same = λ m ne. ap (λ z. slice_get z.nodes m) is ∙ slice_get-set_apart t.nodes n m c ne;
+        chain_is = ap (λ z. z.chain) is;
+        slots_are = ap (λ z. length z.nodes) is ∙ length-set t.nodes n c;
+        limit_is = ap (λ z. z.limit) is;
+      }
+
+  pub puts-then : (t u v : Table K V) (n : ℕ) (c d : Content K V) → Puts t u n c → Puts u v n d → Puts t v n d
+  puts-then t u v n c d p q = record {
+    here = q.here;
+    same = λ m ne. q.same m ne ∙ p.same m ne;
+    chain_is = q.chain_is ∙ p.chain_is;
+    slots_are = q.slots_are ∙ p.slots_are;
+    limit_is = q.limit_is ∙ p.limit_is;
+  }
+
+  -- the front of the chain written, and taken off it
+  pub record Takes (t u : Table K V) (n : ℕ) (c : Content K V) : Type 0 where
+    pub here : slice_get u.nodes n ≡ Some c
+    pub same : (m : ℕ) → m ≢ n → slice_get u.nodes m ≡ slice_get t.nodes m
+    pub chain_is : t.chain ≡ n ∷ u.chain
+    pub slots_are : length u.nodes ≡ length t.nodes
+    pub limit_is : u.limit ≡ t.limit
+
+  takes_at : (t u : Table K V) (n : ℕ) (c : Content K V) (chain : List ℕ) → t.chain ≡ chain → front_of chain ≡ Some n → u ≡ with_front t chain c → n < length t.nodes → Takes t u n c
+  takes_at t u n c [] is front after low = absurd cc
+  takes_at t u n c (m ∷ rest) is front after low =
+      let same : m ≡ n = cc in
+      let after2 : u ≡ with_front t (n ∷ rest) c = after ∙ ap (λ z. with_front t (z ∷ rest) c) same in
+      record {
+        here = ap (λ z. slice_get z.nodes n) after2 ∙ slice_get-set_same t.nodes n c low;
+        same = λ k ne. ap (λ z. slice_get z.nodes k) after2 ∙ slice_get-set_apart t.nodes n k c ne;
+        chain_is = is ∙ ap (λ z. z ∷ rest) same ∙ ap (λ z. n ∷ z.chain) (sym after2);
+        slots_are = ap (λ z. length z.nodes) after2 ∙ length-set t.nodes n c;
+        limit_is = ap (λ z. z.limit) after2;
+      }
+
+  pub takes : (t u : Table K V) (n : ℕ) (c : Content K V) → front_of t.chain ≡ Some n → u ≡ with_front t t.chain c → n < length t.nodes → Takes t u n c
+  takes t u n c front after low = takes_at t u n c t.chain refl front after low
+
+  -- as many slots as before
+  pub length-with_front : (t : Table K V) (chain : List ℕ) (c : Content K V) → length (with_front t chain c).nodes ≡ length t.nodes
+  length-with_front t [] c = refl
+  length-with_front t (n ∷ chain) c = length-set t.nodes n c

@@ -1,0 +1,12 @@
+-- Lemmas on the trees of a table.
+pub mod FreeSlots
+pub mod Forests
+pub mod Exchange
+pub mod Unions
+pub mod Roots
+pub mod Reserved
+pub mod Planting
+pub mod Account
+pub mod Written
+pub mod Sections
+pub mod Sweep

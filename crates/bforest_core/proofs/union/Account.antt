@@ -1,0 +1,135 @@
+-- Free nodes and the nodes of all trees add up to the slots.
+use Rattle.std.proofs.Common.{◌≡◌, ℕ, zero, suc, ◌+◌, ◌<◌, ◌≢◌, ◌&&◌, None, if◌then◌else◌, nat_eq, Bool, true, false, List, [], ◌∷◌, ◌++◌, map, length, refl, sym, ap, ◌∙◌, subst, inl, inr, length-append, append_assoc, arith}
+use Rattle.std.specs.List.{flat_map, sum_by}
+use Rattle.std.proofs.lemmas.Bool.{cases_lt, false≢true}
+use Rattle.std.proofs.lemmas.List.{get_or_past}
+use Rattle.std.proofs.lemmas.Bool.Decides.{eqb_tells}
+use Rattle.std.proofs.lemmas.List.Sums.{sum_by-cons, sum_by-append}
+use Rattle.bforest_nodes.specs.Content.{Content, Free, children_of}
+use Rattle.bforest_core.specs.Table.{Table}
+use Rattle.bforest_core.specs.Levels.{LevelNode, node, sizes, numbers, sizes_of, Tree}
+use Rattle.bforest_core.specs.Place.{count, root_of, numbers_of}
+use Rattle.bforest_core.specs.Trees.{slot, is_used, tree_of, is_root, IsForest, IsUnion}
+use Rattle.bforest_core.proofs.table.Tables.{count-append, count-same, count-other}
+use Rattle.bforest_core.proofs.rows.Counts.{once_below, below-one, standing, upto, count-upto}
+use Rattle.bforest_core.proofs.union.Forests.{root-counts, roots-once, tree-back}
+
+-- the sum over numbers, split at one
+sum-parts : (f : ℕ → ℕ) (xs : List ℕ) (x : ℕ) (ys : List ℕ) → sum_by f (xs ++ x ∷ ys) ≡ f x + sum_by f (xs ++ ys)
+sum-parts f xs x ys = omega (arith, sum_by-append f xs (x ∷ ys), sum_by-append f xs ys, sum_by-cons f x ys)
+
+-- lists in which each number stands as often have one sum
+sum-same : (f : ℕ → ℕ) (xs ys : List ℕ) → ((n : ℕ) → count n xs ≡ count n ys) → sum_by f xs ≡ sum_by f ys
+sum-same f [] [] same = refl
+sum-same f [] (y ∷ ys) same = absurd (omega (arith, same y, count-same y ys))
+sum-same f (x ∷ xs) ys same =
+    let s = standing x ys (omega (arith, same x, count-same x xs)) in
+    let less : (n : ℕ) → count n xs ≡ count n (s.0 ++ s.1) = λ n. (let a = ap (λ z. count n z) s.2 in omega (arith, same n, a, count-append n s.0 (x ∷ s.1), count-append n s.0 s.1)) in
+    let ih = sum-same f xs (s.0 ++ s.1) less in
+    let a = ap (λ z. sum_by f z) s.2 in
+    omega (arith, ih, a, sum_by-cons f x xs, sum-parts f s.0 x s.1)
+
+-- and one length
+length-sum : (xs : List ℕ) → length xs ≡ sum_by (λ (n : ℕ). 1) xs
+length-sum [] = refl
+length-sum (x ∷ xs) = omega (arith, length-sum xs, sum_by-cons (λ (n : ℕ). 1) x xs)
+
+pub length-same : (xs ys : List ℕ) → ((n : ℕ) → count n xs ≡ count n ys) → length xs ≡ length ys
+length-same xs ys same = omega (arith, length-sum xs, length-sum ys, sum-same (λ n. 1) xs ys same)
+
+length-upto : (n : ℕ) → length (upto n) ≡ n
+length-upto zero = refl
+length-upto (suc n) = omega (arith, length-append (upto n) (n ∷ []), length-upto n)
+
+-- the numbers of a list that pass a test
+abbrev kept : (ℕ → Bool) → List ℕ → List ℕ
+kept p [] = []
+kept p (x ∷ xs) = if p x then x ∷ kept p xs else kept p xs
+
+-- the sum over those is the sum over all of what the others add nothing to
+sum-kept : (p : ℕ → Bool) (f : ℕ → ℕ) (xs : List ℕ) → sum_by f (kept p xs) ≡ sum_by (λ n. if p n then f n else 0) xs
+sum-kept p f [] = refl
+sum-kept p f (x ∷ xs) =
+    let ih = sum-kept p f xs in
+    let a = sum_by-cons (λ n. if p n then f n else 0) x xs in
+    by (p x) refl ih a
+  where
+    by : (b : Bool) → p x ≡ b → sum_by f (kept p xs) ≡ sum_by (λ n. if p n then f n else 0) xs → sum_by (λ n. if p n then f n else 0) (x ∷ xs) ≡ (if p x then f x else 0) + sum_by (λ n. if p n then f n else 0) xs → sum_by f (kept p (x ∷ xs)) ≡ sum_by (λ n. if p n then f n else 0) (x ∷ xs)
+    by true e ih a = let k = ap (λ z. sum_by f (if z then x ∷ kept p xs else kept p xs)) e in let v = ap (λ z. if z then f x else 0) e in omega (arith, k, v, ih, a, sum_by-cons f x (kept p xs))
+    by false e ih a = let k = ap (λ z. sum_by f (if z then x ∷ kept p xs else kept p xs)) e in let v = ap (λ z. if z then f x else 0) e in omega (arith, k, v, ih, a)
+
+-- a number that passes stands among them as often, and no other
+count-kept : (p : ℕ → Bool) (m : ℕ) (xs : List ℕ) → count m (kept p xs) ≡ (if p m then count m xs else 0)
+count-kept p m [] = by (p m)
+  where
+    by : (b : Bool) → ◌≡◌ {A = ℕ} 0 (if b then 0 else 0)
+    by true = refl
+    by false = refl
+count-kept p m (x ∷ xs) =
+    elim (eqb_tells x m) [
+      | inl w ↦ subst (λ (z : ℕ). count m (kept p (z ∷ xs)) ≡ (if p m then count m (z ∷ xs) else 0)) (sym w.1) (here (p m) refl (count-kept p m xs))
+      | inr w ↦ there (p x) refl w.1 (count-kept p m xs)
+    ]
+  where
+    here : (b : Bool) → p m ≡ b → count m (kept p xs) ≡ (if p m then count m xs else 0) → count m (kept p (m ∷ xs)) ≡ (if p m then count m (m ∷ xs) else 0)
+    here true e ih = let k = ap (λ z. if z then count m xs else 0) e in rw e (omega (arith, ih, k))
+    here false e ih = let k = ap (λ z. if z then count m xs else 0) e in rw e (omega (arith, ih, k))
+
+    there : (b : Bool) → p x ≡ b → x ≢ m → count m (kept p xs) ≡ (if p m then count m xs else 0) → count m (kept p (x ∷ xs)) ≡ (if p m then count m (x ∷ xs) else 0)
+    there true e ne ih = rw e (count-other m x (kept p xs) ne ∙ ih ∙ ap (λ z. if p m then z else 0) (sym (count-other m x xs ne)))
+    there false e ne ih = rw e (ih ∙ ap (λ z. if p m then z else 0) (sym (count-other m x xs ne)))
+
+module _ {K V : Type 0} where
+  -- past the last slot is no root
+  root-within : (slots : List (Content K V)) (m : ℕ) → is_root slots m ≡ true → m < length slots
+  unfolding is_root
+  root-within slots m root =
+      elim (cases_lt m (length slots)) [
+        | inl low ↦ low
+        | inr past ↦ absurd (let e : is_used (slot slots m) ≡ false = ap is_used (get_or_past slots m (Free None) past) in false≢true (sym (ap (λ z. z && nat_eq (count m (flat_map children_of slots)) 0) e) ∙ root))
+      ]
+
+  -- how many nodes the tree under a number has
+  abbrev pub nodes_under : List (Content K V) → ℕ → ℕ
+  nodes_under slots root = length (numbers_of (tree_of slots root))
+
+  trees-sum : (most : ℕ) (table : Table K V) (before trees : List (Tree K V)) → IsForest most table (before ++ trees) → length (flat_map numbers_of trees) ≡ sum_by (λ n. nodes_under table.nodes n) (map root_of trees)
+  trees-sum most table before [] f = refl
+  trees-sum most table before (tree ∷ trees) f =
+      let ih = trees-sum most table (before ++ tree ∷ []) trees (subst (λ (z : List (Tree K V)). IsForest most table z) (sym (append_assoc before (tree ∷ []) trees)) f) in
+      let back = ap (λ (z : Tree K V). length (numbers_of z)) (tree-back most table (before ++ tree ∷ trees) before tree trees (root_of tree) f refl refl).0 in
+      omega (arith, ih, back, length-append (numbers_of tree) (flat_map numbers_of trees), sum_by-cons (λ n. nodes_under table.nodes n) (root_of tree) (map root_of trees))
+
+  -- the roots are the numbers of slots that pass the test
+  roots-kept : (most : ℕ) (table : Table K V) (trees : List (Tree K V)) → IsForest most table trees → (m : ℕ) → count m (map root_of trees) ≡ count m (kept (is_root table.nodes) (upto (length table.nodes)))
+  roots-kept most table trees f m =
+      by (is_root table.nodes m) refl ∙ sym (count-kept (is_root table.nodes) m (upto (length table.nodes)) ∙ ap (λ z. if is_root table.nodes m then z else 0) (count-upto m (length table.nodes)))
+    where
+      by : (b : Bool) → is_root table.nodes m ≡ b → count m (map root_of trees) ≡ (if is_root table.nodes m then once_below m (length table.nodes) else 0)
+      by true e = let k = ap (λ z. if z then once_below m (length table.nodes) else 0) e in omega (arith, k, roots-once most table trees f m, (root-counts most table trees f m).0 e, below-one m (length table.nodes) (root-within table.nodes m e))
+      by false e =
+          let k = ap (λ z. if z then once_below m (length table.nodes) else 0) e in
+          elim (cases_lt 0 (count m (map root_of trees))) [ inl some ↦ absurd (false≢true (sym e ∙ (root-counts most table trees f m).1 some)) | inr past ↦ omega (arith, k, past) ]
+
+  -- the free nodes and the nodes of the trees under all roots are the slots
+  pub account : (most : ℕ) (table : Table K V) → IsUnion most table → length table.nodes ≡ length table.chain + sum_by (λ n. if is_root table.nodes n then length (numbers_of (tree_of table.nodes n)) else 0) (upto (length table.nodes))
+  account most table union =
+      let trees = union.0 in
+      let f = union.1 in
+      let a = length-same (flat_map numbers_of trees ++ table.chain) (upto (length table.nodes)) (λ m. f.account m ∙ sym (count-upto m (length table.nodes))) in
+      let b = trees-sum most table [] trees f in
+      let c = sum-same (λ n. nodes_under table.nodes n) (map root_of trees) (kept (is_root table.nodes) (upto (length table.nodes))) (roots-kept most table trees f) in
+      let d = sum-kept (is_root table.nodes) (λ n. nodes_under table.nodes n) (upto (length table.nodes)) in
+      omega (arith, a, b, c, d, length-append (flat_map numbers_of trees) table.chain, length-upto (length table.nodes))
+
+row-count : {K X : Type 0} (row : List (LevelNode K X)) → length (numbers row) ≡ length (sizes row)
+row-count [] = refl
+row-count (node m es ∷ row) = ap suc (row-count row)
+
+rows-count : {K : Type 0} (rows : List (List (LevelNode K ℕ))) → length (flat_map numbers rows) ≡ sum_by (λ (s : List ℕ). length s) (map sizes rows)
+rows-count [] = refl
+rows-count (row ∷ rows) = omega (arith, length-append (numbers row) (flat_map numbers rows), row-count row, rows-count rows, sum_by-cons (λ (s : List ℕ). length s) (sizes row) (map sizes rows))
+
+-- a tree has as many nodes as its levels together
+pub nodes-count : {K V : Type 0} (tree : Tree K V) → length (numbers_of tree) ≡ sum_by (λ (s : List ℕ). length s) (sizes_of tree)
+nodes-count tree = omega (arith, length-append (numbers tree.leaves) (flat_map numbers tree.above), row-count tree.leaves, rows-count tree.above, sum_by-cons (λ (s : List ℕ). length s) (sizes tree.leaves) (map sizes tree.above))

@@ -1,0 +1,150 @@
+-- Some trees of a table exchanged for others, with what the chain gives or takes: all other roots keep their trees.
+use Rattle.std.proofs.Common.{◌≡◌, ℕ, ◌+◌, ◌≤◌, ◌<◌, ◌↔◌, IsTrue, List, [], ◌∷◌, ◌++◌, map, length, slice_get, sym, ap, ◌∙◌, subst, inl, inr, append_assoc, arith}
+use Rattle.std.specs.List.{flat_map}
+use Rattle.std.proofs.lemmas.List.{map-append}
+use Rattle.std.proofs.lemmas.List.Concat.{flat_map-append}
+use Rattle.std.proofs.lemmas.Bool.{cases_lt}
+use Rattle.bforest_nodes.specs.Content.{Content, IsFree}
+use Rattle.bforest_core.specs.Table.{Table}
+use Rattle.bforest_core.specs.Levels.{flat, numbers, Tree, IsFit}
+use Rattle.bforest_core.specs.Place.{IsIn, leaf_content, count, root_of, numbers_of}
+use Rattle.bforest_core.specs.Trees.{slot, tree_of, is_root, Every, IsForest}
+use Rattle.bforest_core.proofs.table.Tables.{count-append, row-same, rows-same}
+use Rattle.bforest_core.proofs.union.FreeSlots.{free-same}
+use Rattle.bforest_core.proofs.rows.Counts.{once_below, at-most-one}
+use Rattle.bforest_core.proofs.union.Forests.{every-append, every-join, once, roots-once, root-counts, tree-with, tree-back}
+
+-- what holds of each in a list holds of each before and after a part of it, also with another part between them
+every_outer : {X : Type 0} (P : X → Type 0) (before gone after : List X) → Every P (before ++ (gone ++ after)) → Every P before × Every P after
+every_outer P before gone after e = let r = every-append P before (gone ++ after) e in (r.0, (every-append P gone after r.1).1)
+
+every_put : {X : Type 0} (P : X → Type 0) (before come after : List X) → Every P before × Every P after → Every P come → Every P (before ++ (come ++ after))
+every_put P before come after e c = every-join P before (come ++ after) e.0 (every-join P come after c e.1)
+
+module _ {K V : Type 0} where
+  -- a tree lies in any slots that agree at its numbers
+  pub tree-same : (old new : List (Content K V)) (tree : Tree K V) → ((m : ℕ) → 0 < count m (numbers_of tree) → slice_get new m ≡ slice_get old m) → IsIn old tree → IsIn new tree
+  tree-same old new tree same i = record {
+    leaves_in = row-same leaf_content old new tree.leaves (λ m some. same m (omega (arith, some, count-append m (numbers tree.leaves) (flat_map numbers tree.above)))) i.leaves_in;
+    rows_in = rows-same old new tree.above (λ m some. same m (omega (arith, some, count-append m (numbers tree.leaves) (flat_map numbers tree.above)))) i.rows_in;
+  }
+
+  -- so do trees
+  pub trees-same : (old new : List (Content K V)) (trees : List (Tree K V)) → ((m : ℕ) → 0 < count m (flat_map numbers_of trees) → slice_get new m ≡ slice_get old m) → Every (IsIn old) trees → Every (IsIn new) trees
+  trees-same old new [] same i = tt
+  trees-same old new (tree ∷ trees) same i = (
+    tree-same old new tree (λ m some. same m (omega (arith, some, count-append m (numbers_of tree) (flat_map numbers_of trees)))) i.0,
+    trees-same old new trees (λ m some. same m (omega (arith, some, count-append m (numbers_of tree) (flat_map numbers_of trees)))) i.1,
+  )
+
+  -- how often a number stands in three parts of the trees and in the chain
+  count_parts : (m : ℕ) (before some after : List (Tree K V)) (chain : List ℕ) →
+      count m (flat_map numbers_of (before ++ (some ++ after)) ++ chain) ≡ count m (flat_map numbers_of before) + (count m (flat_map numbers_of some) + count m (flat_map numbers_of after)) + count m chain
+  count_parts m before some after chain =
+      let a = ap (λ z. count m (z ++ chain)) (flat_map-append numbers_of before (some ++ after)) in
+      let b = count-append m (flat_map numbers_of before ++ flat_map numbers_of (some ++ after)) chain in
+      let c = count-append m (flat_map numbers_of before) (flat_map numbers_of (some ++ after)) in
+      let d = ap (λ z. count m z) (flat_map-append numbers_of some after) ∙ count-append m (flat_map numbers_of some) (flat_map numbers_of after) in
+      omega (arith, a, b, c, d)
+
+  -- Some trees of a forest exchanged for others that lie in the new table: each number stands there as often as before,
+  -- and the slots of all numbers but theirs and the chain's are as before.
+  pub exchange-trees : (most : ℕ) (old new : Table K V) (before gone come after : List (Tree K V)) → IsForest most old (before ++ (gone ++ after)) →
+      Every (IsFit most) come → Every (IsIn new.nodes) come → Every (λ (tree : Tree K V). 1 ≤ length (flat tree.leaves)) come → Every (λ (tree : Tree K V). length tree.above ≤ 16) come →
+      Every (λ (number : ℕ). IsFree (slot new.nodes number)) new.chain → length new.nodes ≡ length old.nodes →
+      ((m : ℕ) → count m (flat_map numbers_of come) + count m new.chain ≡ count m (flat_map numbers_of gone) + count m old.chain) →
+      ((m : ℕ) → count m (flat_map numbers_of gone) + count m old.chain ≡ 0 → slice_get new.nodes m ≡ slice_get old.nodes m) →
+      IsForest most new (before ++ (come ++ after))
+  exchange-trees most old new before gone come after f fit inside some low free slots nums others =
+      let one : (m : ℕ) → count m (flat_map numbers_of before) + (count m (flat_map numbers_of gone) + count m (flat_map numbers_of after)) + count m old.chain ≤ 1 =
+      λ m. omega (arith, f.account m, at-most-one m (length old.nodes), count_parts m before gone after old.chain) in
+      let ins = every_outer (IsIn old.nodes) before gone after f.inside in
+      record {
+        capacity = f.capacity;
+        fit = every_put (IsFit most) before come after (every_outer (IsFit most) before gone after f.fit) fit;
+        inside = every-join (IsIn new.nodes) before (come ++ after) (trees-same old.nodes new.nodes before (λ m here. others m (omega (arith, here, one m))) ins.0)
+            (every-join (IsIn new.nodes) come after inside (trees-same old.nodes new.nodes after (λ m here. others m (omega (arith, here, one m))) ins.1));
+        some = every_put (λ (tree : Tree K V). 1 ≤ length (flat tree.leaves)) before come after (every_outer (λ (tree : Tree K V). 1 ≤ length (flat tree.leaves)) before gone after f.some) some;
+        low = every_put (λ (tree : Tree K V). length tree.above ≤ 16) before come after (every_outer (λ (tree : Tree K V). length tree.above ≤ 16) before gone after f.low) low;
+        free = free;
+        account = λ m. omega (arith, count_parts m before come after new.chain, count_parts m before gone after old.chain, nums m) ∙ f.account m ∙ ap (λ z. once_below m z) (sym slots);
+      }
+
+  -- how often a number is a root of three parts of the trees
+  count_roots : (m : ℕ) (before some after : List (Tree K V)) → count m (map root_of (before ++ (some ++ after))) ≡ count m (map root_of before) + (count m (map root_of some) + count m (map root_of after))
+  count_roots m before some after =
+      let a = ap (λ z. count m z) (map-append root_of before (some ++ after)) ∙ count-append m (map root_of before) (map root_of (some ++ after)) in
+      let b = ap (λ z. count m z) (map-append root_of some after) ∙ count-append m (map root_of some) (map root_of after) in
+      omega (arith, a, b)
+
+  -- a tree of both witnesses is computed from both tables
+  both_back : (most : ℕ) (old new : Table K V) (trees trees' : List (Tree K V)) → IsForest most old trees → IsForest most new trees' → (other : ℕ) (p p' : List (Tree K V)) (tree : Tree K V) (q q' : List (Tree K V)) → trees ≡ p ++ tree ∷ q → trees' ≡ p' ++ tree ∷ q' → root_of tree ≡ other →
+      tree_of new.nodes other ≡ tree_of old.nodes other
+  both_back most old new trees trees' f g other p p' tree q q' e e' is =
+      (tree-back most new trees' p' tree q' other g e' is).0 ∙ sym (tree-back most old trees p tree q other f e is).0
+
+  -- every number but the roots of the exchanged trees is a root as before, and keeps its tree
+  pub others-keep : (most : ℕ) (old new : Table K V) (before gone come after : List (Tree K V)) → IsForest most old (before ++ (gone ++ after)) → IsForest most new (before ++ (come ++ after)) →
+      (other : ℕ) → count other (map root_of gone) ≡ 0 → count other (map root_of come) ≡ 0 → (IsTrue (is_root new.nodes other) ↔ IsTrue (is_root old.nodes other)) × (IsTrue (is_root old.nodes other) → tree_of new.nodes other ≡ tree_of old.nodes other)
+  others-keep most old new before gone come after f g other none none' =
+      let cf = root-counts most old (before ++ (gone ++ after)) f other in
+      let cg = root-counts most new (before ++ (come ++ after)) g other in
+      let a = count_roots other before gone after in
+      let b = count_roots other before come after in (
+        (λ root. cf.1 (omega (arith, cg.0 root, a, b, none, none')), λ root. cg.1 (omega (arith, cf.0 root, a, b, none, none'))),
+        λ root. elim (cases_lt 0 (count other (map root_of before))) [
+          | inl here ↦ (let r = tree-with before other here in
+              both_back most old new (before ++ (gone ++ after)) (before ++ (come ++ after)) f g other r.0 r.0 r.1 (r.2 ++ (gone ++ after)) (r.2 ++ (come ++ after))
+              (ap (λ z. z ++ (gone ++ after)) r.3 ∙ append_assoc r.0 (r.1 ∷ r.2) (gone ++ after))
+              (ap (λ z. z ++ (come ++ after)) r.3 ∙ append_assoc r.0 (r.1 ∷ r.2) (come ++ after)) r.4)
+          | inr none2 ↦ (let r = tree-with after other (omega (arith, cf.0 root, a, none, none2)) in
+              both_back most old new (before ++ (gone ++ after)) (before ++ (come ++ after)) f g other ((before ++ gone) ++ r.0) ((before ++ come) ++ r.0) r.1 r.2 r.2
+              (ap (λ z. before ++ (gone ++ z)) r.3 ∙ sym (append_assoc before gone (r.0 ++ r.1 ∷ r.2)) ∙ sym (append_assoc (before ++ gone) r.0 (r.1 ∷ r.2)))
+              (ap (λ z. before ++ (come ++ z)) r.3 ∙ sym (append_assoc before come (r.0 ++ r.1 ∷ r.2)) ∙ sym (append_assoc (before ++ come) r.0 (r.1 ∷ r.2))) r.4)
+        ],
+      )
+
+  -- a root of the exchanged trees that none of the others has is no root any more
+  pub roots-gone : (most : ℕ) (old new : Table K V) (before gone come after : List (Tree K V)) → IsForest most old (before ++ (gone ++ after)) → IsForest most new (before ++ (come ++ after)) →
+      (m : ℕ) → 0 < count m (map root_of gone) → count m (map root_of come) ≡ 0 → ¬ IsTrue (is_root new.nodes m)
+  roots-gone most old new before gone come after f g m some none root =
+      omega (arith, (root-counts most new (before ++ (come ++ after)) g m).0 root, count_roots m before gone after, count_roots m before come after, some, none, roots-once most old (before ++ (gone ++ after)) f m)
+
+  -- the same where the chain gave its first numbers
+  pub grown-trees : (most : ℕ) (old new : Table K V) (before gone come after : List (Tree K V)) (taken : List ℕ) → IsForest most old (before ++ (gone ++ after)) →
+      Every (IsFit most) come → Every (IsIn new.nodes) come → Every (λ (tree : Tree K V). 1 ≤ length (flat tree.leaves)) come → Every (λ (tree : Tree K V). length tree.above ≤ 16) come →
+      old.chain ≡ taken ++ new.chain → length new.nodes ≡ length old.nodes →
+      ((m : ℕ) → count m (flat_map numbers_of come) ≡ count m (flat_map numbers_of gone) + count m taken) →
+      ((m : ℕ) → count m (flat_map numbers_of gone) + count m taken ≡ 0 → slice_get new.nodes m ≡ slice_get old.nodes m) →
+      IsForest most new (before ++ (come ++ after))
+  grown-trees most old new before gone come after taken f fit inside some low chain_is slots nums others =
+      let c = λ (m : ℕ). ap (λ z. count m z) chain_is ∙ count-append m taken new.chain in
+      let one = λ (m : ℕ). once most old (before ++ (gone ++ after)) f m in
+      let p = λ (m : ℕ). count_parts m before gone after [] in
+      let q = λ (m : ℕ). count-append m (flat_map numbers_of (before ++ (gone ++ after))) [] in
+      exchange-trees most old new before gone come after f fit inside some low
+      (free-same old.nodes new.nodes new.chain (λ m here. others m (omega (arith, here, c m, one m, p m, q m)))
+      (every-append (λ (number : ℕ). IsFree (slot old.nodes number)) taken new.chain (subst (λ (z : List ℕ). Every (λ (number : ℕ). IsFree (slot old.nodes number)) z) chain_is f.free)).1)
+      slots
+      (λ m. omega (arith, nums m, c m))
+      (λ m none. others m (omega (arith, none, c m)))
+
+  -- and where it got numbers in front, whose slots are free
+  pub shrunk-trees : (most : ℕ) (old new : Table K V) (before gone come after : List (Tree K V)) (freed : List ℕ) → IsForest most old (before ++ (gone ++ after)) →
+      Every (IsFit most) come → Every (IsIn new.nodes) come → Every (λ (tree : Tree K V). 1 ≤ length (flat tree.leaves)) come → Every (λ (tree : Tree K V). length tree.above ≤ 16) come →
+      new.chain ≡ freed ++ old.chain → Every (λ (number : ℕ). IsFree (slot new.nodes number)) freed → length new.nodes ≡ length old.nodes →
+      ((m : ℕ) → count m (flat_map numbers_of come) + count m freed ≡ count m (flat_map numbers_of gone)) →
+      ((m : ℕ) → count m (flat_map numbers_of gone) ≡ 0 → slice_get new.nodes m ≡ slice_get old.nodes m) →
+      IsForest most new (before ++ (come ++ after))
+  shrunk-trees most old new before gone come after freed f fit inside some low chain_is free slots nums others =
+      let c = λ (m : ℕ). ap (λ z. count m z) chain_is ∙ count-append m freed old.chain in
+      let one = λ (m : ℕ). once most old (before ++ (gone ++ after)) f m in
+      let p = λ (m : ℕ). count_parts m before gone after [] in
+      let q = λ (m : ℕ). count-append m (flat_map numbers_of (before ++ (gone ++ after))) [] in
+      exchange-trees most old new before gone come after f fit inside some low
+      (subst (λ (z : List ℕ). Every (λ (number : ℕ). IsFree (slot new.nodes number)) z) (sym chain_is)
+      (every-join (λ (number : ℕ). IsFree (slot new.nodes number)) freed old.chain free
+      (free-same old.nodes new.nodes old.chain (λ m here. others m (omega (arith, here, one m, p m, q m))) f.free)))
+      slots
+      (λ m. omega (arith, nums m, c m))
+      (λ m none. others m (omega (arith, none)))

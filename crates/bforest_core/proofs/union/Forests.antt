@@ -1,0 +1,190 @@
+-- The trees of a table as a witness and as computed: a number is a root exactly if it is that of a tree.
+use Rattle.std.proofs.Common.{◌≡◌, ℕ, ◌+◌, ◌≤◌, ◌<◌, ◌↔◌, nat_eq, IsTrue, true, false, List, [], ◌∷◌, ◌++◌, map, length, None, refl, ap, ◌∙◌, subst, inl, inr, arith}
+use Rattle.std.specs.List.{flat_map}
+use Rattle.std.proofs.lemmas.List.{map-append, get_or_past}
+use Rattle.std.proofs.lemmas.List.Concat.{flat_map-append}
+use Rattle.std.proofs.lemmas.Bool.{and_parts, cases_lt}
+use Rattle.std.proofs.lemmas.Bool.Decides.{eqb_tells}
+use Rattle.bforest_nodes.specs.Content.{Content, Inner, Leaf, Free, IsFree, children_of}
+use Rattle.bforest_core.specs.Table.{Table}
+use Rattle.bforest_core.specs.Levels.{LevelNode, node, flat, heads, numbers, Stacked, Tree, IsFit, half_of}
+use Rattle.bforest_core.specs.Place.{RowIn, RowsIn, IsIn, leaf_content, inner_content, entry_items, count, root_above, root_of, numbers_of}
+use Rattle.bforest_core.specs.Trees.{slot, is_used, tree_of, is_root, Every, IsForest}
+use Rattle.bforest_core.proofs.table.Tables.{count-append, count-same, count-other}
+use Rattle.bforest_core.proofs.table.Read.{items-heads, half-some, slot-is, children-row, children-leaves, read-back}
+use Rattle.bforest_core.proofs.union.FreeSlots.{free-at}
+use Rattle.bforest_core.proofs.rows.Counts.{below-one, at-most-one, named_by, all-named}
+
+-- what holds of each in a list, of each of its parts
+pub every-append : {X : Type 0} (P : X → Type 0) (xs ys : List X) → Every P (xs ++ ys) → Every P xs × Every P ys
+every-append P [] ys e = (tt, e)
+every-append P (x ∷ xs) ys e = let r = every-append P xs ys e.1 in ((e.0, r.0), r.1)
+
+-- and back
+pub every-join : {X : Type 0} (P : X → Type 0) (xs ys : List X) → Every P xs → Every P ys → Every P (xs ++ ys)
+every-join P [] ys a b = b
+every-join P (x ∷ xs) ys a b = (a.0, every-join P xs ys a.1 b)
+
+module _ {K V : Type 0} where
+  -- the nodes above a level name that level and each other, and not the root
+  named_rows : (slots : List (Content K V)) (hs : List (K × ℕ)) (rows : List (List (LevelNode K ℕ))) → Stacked hs rows → RowsIn slots rows → (m : ℕ) →
+      count m (named_by slots (flat_map numbers rows)) + count m (root_above hs rows ∷ []) ≡ count m (entry_items hs) + count m (flat_map numbers rows)
+  named_rows slots [] [] s i m = absurd (omega (arith, s))
+  named_rows slots (x ∷ []) [] s i m = omega arith
+  named_rows slots (x ∷ y ∷ hs) [] s i m = absurd (omega (arith, s))
+  named_rows slots hs (row ∷ rows) s i m =
+      let ih = named_rows slots (heads row) rows s.2 i.1 m in
+      let a = ap (λ z. count m z) (flat_map-append (λ k. children_of (slot slots k)) (numbers row) (flat_map numbers rows)) ∙ count-append m (named_by slots (numbers row)) (named_by slots (flat_map numbers rows)) in
+      let b = ap (λ z. count m z) (children-row slots row i.0 ∙ ap entry_items s.0) in
+      let c = ap (λ z. count m z) (items-heads 4 8 (omega arith) row s.1) in
+      omega (arith, ih, a, b, c, count-append m (numbers row) (flat_map numbers rows))
+
+  -- each number of a tree but its root is named by one node of the tree, and no other number is
+  named_tree : (most : ℕ) (slots : List (Content K V)) (tree : Tree K V) → IsFit most tree → IsIn slots tree → 1 ≤ length (flat tree.leaves) → (m : ℕ) →
+      count m (named_by slots (numbers_of tree)) + count m (root_of tree ∷ []) ≡ count m (numbers_of tree)
+  named_tree most slots tree f i some m =
+      let r = named_rows slots (heads tree.leaves) tree.above f.stacked i.rows_in m in
+      let a = ap (λ z. count m z) (flat_map-append (λ k. children_of (slot slots k)) (numbers tree.leaves) (flat_map numbers tree.above)) ∙ count-append m (named_by slots (numbers tree.leaves)) (named_by slots (flat_map numbers tree.above)) in
+      let b = ap (λ z. count m z) (children-leaves slots tree.leaves i.leaves_in) in
+      let c = ap (λ z. count m z) (items-heads (half_of most) most (half-some most tree.leaves f.leaves_fit some) tree.leaves f.leaves_fit) in
+      omega (arith, r, a, b, c, count-append m (numbers tree.leaves) (flat_map numbers tree.above))
+
+  -- so its root is one of them
+  pub root-among : (most : ℕ) (slots : List (Content K V)) (tree : Tree K V) → IsFit most tree → IsIn slots tree → 1 ≤ length (flat tree.leaves) → 0 < count (root_of tree) (numbers_of tree)
+  root-among most slots tree f i some = omega (arith, named_tree most slots tree f i some (root_of tree), count-same (root_of tree) [])
+
+  -- the same of trees
+  named_trees : (most : ℕ) (slots : List (Content K V)) (trees : List (Tree K V)) → Every (IsFit most) trees → Every (IsIn slots) trees → Every (λ (tree : Tree K V). 1 ≤ length (flat tree.leaves)) trees → (m : ℕ) →
+      count m (named_by slots (flat_map numbers_of trees)) + count m (map root_of trees) ≡ count m (flat_map numbers_of trees)
+  named_trees most slots [] f i some m = omega arith
+  named_trees most slots (tree ∷ trees) f i some m =
+      let one = named_tree most slots tree f.0 i.0 some.0 m in
+      let ih = named_trees most slots trees f.1 i.1 some.1 m in
+      let a = ap (λ z. count m z) (flat_map-append (λ k. children_of (slot slots k)) (numbers_of tree) (flat_map numbers_of trees)) ∙ count-append m (named_by slots (numbers_of tree)) (named_by slots (flat_map numbers_of trees)) in
+      omega (arith, one, ih, a, count-append m (numbers_of tree) (flat_map numbers_of trees))
+
+  -- a free slot names none
+  no_children : (content : Content K V) → IsFree content → children_of content ≡ []
+  no_children (Inner keys children) f = absurd f
+  no_children (Leaf keys vals) f = absurd f
+  no_children (Free next) f = refl
+
+  -- and is no node
+  pub free-unused : (content : Content K V) → IsFree content → is_used content ≡ false
+  free-unused (Inner keys children) f = absurd f
+  free-unused (Leaf keys vals) f = absurd f
+  free-unused (Free next) f = refl
+
+  -- free slots name none
+  named_free : (slots : List (Content K V)) (ms : List ℕ) → Every (λ (m : ℕ). IsFree (slot slots m)) ms → named_by slots ms ≡ []
+  named_free slots [] f = refl
+  named_free slots (m ∷ ms) f = let e = no_children (slot slots m) f.0 in rw e (named_free slots ms f.1)
+
+  -- the slots of a tree are nodes
+  used_row : {X : Type 0} (content : List (K × X) → Content K V) → ((es : List (K × X)) → is_used (content es) ≡ true) → (slots : List (Content K V)) (row : List (LevelNode K X)) → RowIn content slots row → (k : ℕ) → 0 < count k (numbers row) → is_used (slot slots k) ≡ true
+  used_row content is slots [] i k some = absurd (omega (arith, some))
+  used_row content is slots (node m es ∷ ns) i k some =
+      elim (eqb_tells m k) [
+        | inl w ↦ subst (λ (z : ℕ). is_used (slot slots z) ≡ true) w.1 (ap is_used (slot-is slots m (content es) i.0) ∙ is es)
+        | inr w ↦ used_row content is slots ns i.1 k (omega (arith, some, count-other k m (numbers ns) w.1))
+      ]
+
+  -- so are those of inner rows
+  used_rows : (slots : List (Content K V)) (rows : List (List (LevelNode K ℕ))) → RowsIn slots rows → (k : ℕ) → 0 < count k (flat_map numbers rows) → is_used (slot slots k) ≡ true
+  used_rows slots [] i k some = absurd (omega (arith, some))
+  used_rows slots (row ∷ rows) i k some =
+      elim (cases_lt 0 (count k (numbers row))) [
+        | inl here ↦ used_row inner_content (λ es. refl) slots row i.0 k here
+        | inr none ↦ used_rows slots rows i.1 k (omega (arith, some, none, count-append k (numbers row) (flat_map numbers rows)))
+      ]
+
+  -- and those of trees
+  used_trees : (slots : List (Content K V)) (trees : List (Tree K V)) → Every (IsIn slots) trees → (k : ℕ) → 0 < count k (flat_map numbers_of trees) → is_used (slot slots k) ≡ true
+  used_trees slots [] i k some = absurd (omega (arith, some))
+  used_trees slots (tree ∷ trees) i k some =
+      let a = count-append k (numbers_of tree) (flat_map numbers_of trees) in
+      let b = count-append k (numbers tree.leaves) (flat_map numbers tree.above) in
+      elim (cases_lt 0 (count k (numbers tree.leaves))) [
+        | inl here ↦ used_row leaf_content (λ es. refl) slots tree.leaves i.0.leaves_in k here
+        | inr none ↦ elim (cases_lt 0 (count k (flat_map numbers tree.above))) [
+          | inl here ↦ used_rows slots tree.above i.0.rows_in k here
+          | inr none2 ↦ used_trees slots trees i.1 k (omega (arith, some, none, none2, a, b))
+        ]
+      ]
+
+  -- what the slots of a table name: each number of its trees but the roots
+  named_all : (most : ℕ) (table : Table K V) (trees : List (Tree K V)) → IsForest most table trees → (m : ℕ) → count m (flat_map children_of table.nodes) + count m (map root_of trees) ≡ count m (flat_map numbers_of trees)
+  named_all most table trees f m =
+      let a = all-named table.nodes (flat_map numbers_of trees ++ table.chain) f.account m in
+      let b = ap (λ z. count m z) (flat_map-append (λ k. children_of (slot table.nodes k)) (flat_map numbers_of trees) table.chain) ∙ count-append m (named_by table.nodes (flat_map numbers_of trees)) (named_by table.nodes table.chain) in
+      let c = ap (λ z. count m z) (named_free table.nodes table.chain f.free) in
+      omega (arith, a, b, c, named_trees most table.nodes trees f.fit f.inside f.some m)
+
+  -- a number stands in the trees or on the chain once at most
+  pub once : (most : ℕ) (table : Table K V) (trees : List (Tree K V)) → IsForest most table trees → (m : ℕ) → count m (flat_map numbers_of trees) + count m table.chain ≤ 1
+  once most table trees f m = omega (arith, f.account m, at-most-one m (length table.nodes), count-append m (flat_map numbers_of trees) table.chain)
+
+  -- no two trees have one root
+  pub roots-once : (most : ℕ) (table : Table K V) (trees : List (Tree K V)) → IsForest most table trees → (m : ℕ) → count m (map root_of trees) ≤ 1
+  roots-once most table trees f m = omega (arith, named_all most table trees f m, once most table trees f m)
+
+  -- the root of a tree is a root
+  root_there : (most : ℕ) (table : Table K V) (trees : List (Tree K V)) → IsForest most table trees → (m : ℕ) → 0 < count m (map root_of trees) → IsTrue (is_root table.nodes m)
+  unfolding is_root
+  root_there most table trees f m some =
+      let n = named_all most table trees f m in
+      let used = used_trees table.nodes trees f.inside m (omega (arith, some, n)) in
+      let none : count m (flat_map children_of table.nodes) ≡ 0 = omega (arith, some, n, once most table trees f m) in
+      rw (used, none) refl
+
+  -- a node has a slot
+  used_within : (slots : List (Content K V)) (m : ℕ) → is_used (slot slots m) ≡ true → m < length slots
+  used_within slots m used =
+      elim (cases_lt m (length slots)) [ inl low ↦ low | inr past ↦ absurd (let e = ap is_used (get_or_past slots m (Free None) past) in cc) ]
+
+  -- and no other number is
+  root_only : (most : ℕ) (table : Table K V) (trees : List (Tree K V)) → IsForest most table trees → (m : ℕ) → IsTrue (is_root table.nodes m) → 0 < count m (map root_of trees)
+  unfolding is_root
+  root_only most table trees f m root =
+      let parts = and_parts (is_used (slot table.nodes m)) (nat_eq (count m (flat_map children_of table.nodes)) 0) root in
+      let none : count m (flat_map children_of table.nodes) ≡ 0 = elim (eqb_tells (count m (flat_map children_of table.nodes)) 0) [ inl w ↦ w.1 | inr w ↦ absurd (let e = w.0 in let d = parts.1 in cc) ] in
+      let low = used_within table.nodes m parts.0 in
+      let off : count m table.chain ≡ 0 = elim (cases_lt 0 (count m table.chain)) [ inl on ↦ absurd (let e = free-unused (slot table.nodes m) (free-at table.nodes table.chain f.free m on) in let d = parts.0 in cc) | inr off ↦ omega (arith, off) ] in
+      omega (arith, none, off, f.account m, below-one m (length table.nodes) low, count-append m (flat_map numbers_of trees) table.chain, named_all most table trees f m)
+
+  -- a number is a root exactly if it is that of a tree
+  pub root-counts : (most : ℕ) (table : Table K V) (trees : List (Tree K V)) → IsForest most table trees → (m : ℕ) → IsTrue (is_root table.nodes m) ↔ (0 < count m (map root_of trees))
+  root-counts most table trees f m = (root_only most table trees f m, root_there most table trees f m)
+
+  -- the tree of a root
+  pub tree-with : (trees : List (Tree K V)) (m : ℕ) → 0 < count m (map root_of trees) → (before : List (Tree K V)) × (tree : Tree K V) × (after : List (Tree K V)) × (trees ≡ before ++ tree ∷ after) × (root_of tree ≡ m)
+  tree-with [] m some = absurd (omega (arith, some))
+  tree-with (tree ∷ trees) m some =
+      elim (eqb_tells (root_of tree) m) [
+        | inl w ↦ ([], tree, trees, refl, w.1)
+        | inr w ↦ (let r = tree-with trees m (omega (arith, some, count-other m (root_of tree) (map root_of trees) w.1)) in (tree ∷ r.0, r.1, r.2, ap (λ z. tree ∷ z) r.3, r.4))
+      ]
+
+  -- each root is that of a tree of the witness
+  pub root-tree : (most : ℕ) (table : Table K V) (trees : List (Tree K V)) (number : ℕ) → IsForest most table trees → IsTrue (is_root table.nodes number) →
+      (before : List (Tree K V)) × (tree : Tree K V) × (after : List (Tree K V)) × (trees ≡ before ++ tree ∷ after) × (root_of tree ≡ number)
+  root-tree most table trees number f root = tree-with trees number (root_only most table trees f number root)
+
+  tree_back : (most : ℕ) (table : Table K V) (before : List (Tree K V)) (tree : Tree K V) (after : List (Tree K V)) → IsForest most table (before ++ tree ∷ after) → (tree_of table.nodes (root_of tree) ≡ tree) × IsTrue (is_root table.nodes (root_of tree))
+  tree_back most table before tree after f =
+      let fits = every-append (IsFit most) before (tree ∷ after) f.fit in
+      let ins = every-append (IsIn table.nodes) before (tree ∷ after) f.inside in
+      let somes = every-append (λ (tree : Tree K V). 1 ≤ length (flat tree.leaves)) before (tree ∷ after) f.some in
+      let lows = every-append (λ (tree : Tree K V). length tree.above ≤ 16) before (tree ∷ after) f.low in
+      let m = root_of tree in
+      let a = ap (λ z. count m z) (map-append root_of before (tree ∷ after)) in (
+        read-back most table.nodes tree fits.1.0 ins.1.0 somes.1.0 lows.1.0,
+        root_there most table (before ++ tree ∷ after) f m (omega (arith, a, count-append m (map root_of before) (m ∷ map root_of after), count-same m (map root_of after))),
+      )
+
+  -- a tree of the witness is the one that is computed from its root, which is a root
+  pub tree-back : (most : ℕ) (table : Table K V) (trees before : List (Tree K V)) (tree : Tree K V) (after : List (Tree K V)) (root : ℕ) → IsForest most table trees → trees ≡ before ++ tree ∷ after → root_of tree ≡ root →
+      (tree_of table.nodes root ≡ tree) × IsTrue (is_root table.nodes root)
+  tree-back most table trees before tree after root f split is =
+      subst (λ (z : ℕ). (tree_of table.nodes z ≡ tree) × IsTrue (is_root table.nodes z)) is
+      (tree_back most table before tree after (subst (λ (z : List (Tree K V)). IsForest most table z) split f))

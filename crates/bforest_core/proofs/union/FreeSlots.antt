@@ -1,0 +1,49 @@
+-- Slots that are free: those of a chain, of a node that was freed, and those that a change leaves free.
+use Rattle.std.proofs.Common.{◌≡◌, ℕ, ◌<◌, Option, List, [], ◌∷◌, slice_get, None, sym, ap, ◌∙◌, subst, inl, inr, arith}
+use Rattle.std.specs.Option.{unwrap_or}
+use Rattle.std.proofs.lemmas.Bool.Decides.{eqb_tells}
+use Rattle.std.proofs.lemmas.Option.{unwrap_or-slice_get}
+use Rattle.bforest_nodes.specs.Content.{Content, Free, IsFree}
+use Rattle.bforest_core.specs.Chain.{IsChain}
+use Rattle.bforest_core.specs.Table.{Table, front_of, slot_count, with_freed}
+use Rattle.bforest_core.specs.Place.{count}
+use Rattle.bforest_core.specs.Trees.{slot, Every}
+use Rattle.bforest_core.proofs.table.Lists.{slice_get-set_same}
+use Rattle.bforest_core.proofs.table.Tables.{count-same, count-other}
+use Rattle.bforest_core.proofs.table.Read.{slot-is}
+
+module _ {K V : Type 0} where
+  -- where the slots of these numbers are free, so is that of each number among them
+  pub free-at : (slots : List (Content K V)) (ms : List ℕ) → Every (λ (m : ℕ). IsFree (slot slots m)) ms → (k : ℕ) → 0 < count k ms → IsFree (slot slots k)
+  free-at slots [] f k some = absurd (omega (arith, some))
+  free-at slots (m ∷ ms) f k some =
+      elim (eqb_tells m k) [
+        | inl w ↦ subst (λ (z : ℕ). IsFree (slot slots z)) w.1 f.0
+        | inr w ↦ free-at slots ms f.1 k (omega (arith, some, count-other k m ms w.1))
+      ]
+
+  -- a slot that reads the same holds the same
+  slot_same : (old new : List (Content K V)) (m : ℕ) → slice_get new m ≡ slice_get old m → slot new m ≡ slot old m
+  slot_same old new m same = sym (unwrap_or-slice_get new m (Free None)) ∙ ap (λ z. unwrap_or z (Free None)) same ∙ unwrap_or-slice_get old m (Free None)
+
+  -- free slots that are not written stay free
+  pub free-same : (old new : List (Content K V)) (ms : List ℕ) → ((m : ℕ) → 0 < count m ms → slice_get new m ≡ slice_get old m) → Every (λ (m : ℕ). IsFree (slot old m)) ms → Every (λ (m : ℕ). IsFree (slot new m)) ms
+  free-same old new [] same f = tt
+  free-same old new (m ∷ ms) same f = (
+    subst (λ (z : Content K V). IsFree z) (sym (slot_same old new m (same m (omega (arith, count-same m ms))))) f.0,
+    free-same old new ms (λ k some. same k (omega (arith, some))) f.1,
+  )
+
+  -- the slots of a chain are free
+  pub chain-free : (nodes : List (Content K V)) (chain : List ℕ) (first : Option ℕ) → IsChain nodes chain first → Every (λ (m : ℕ). IsFree (slot nodes m)) chain
+  chain-free nodes [] first linked = tt
+  chain-free nodes (m ∷ ms) first linked = (
+    subst (λ (z : Content K V). IsFree z) (sym (slot-is nodes m (Free linked.0) linked.2)) tt,
+    chain-free nodes ms linked.0 linked.3,
+  )
+
+  -- so is that of a node that was freed
+  pub freed-slot : (table : Table K V) (m : ℕ) → m < slot_count table → IsFree (slot (with_freed table m).nodes m)
+  freed-slot table m low =
+      let found = slice_get-set_same table.nodes m (Free (front_of table.chain)) low in
+      subst (λ (z : Content K V). IsFree z) (sym (slot-is (with_freed table m).nodes m (Free (front_of table.chain)) found)) tt

@@ -1,0 +1,88 @@
+-- A table of no tree, a first entry of a tree, and what a tree under a root has.
+use Rattle.std.proofs.Common.{◌≡◌, ◌≢◌, ℕ, ◌-◌, ◌≤◌, ◌<◌, IsTrue, Some, List, [], ◌∷◌, drop, length, refl, sym, ap, ◌∙◌, inl, inr, length-append, arith}
+use Rattle.std.specs.List.{flat_map}
+use Rattle.std.proofs.lemmas.List.{length-map}
+use Rattle.std.proofs.lemmas.Bool.{cases_lt}
+use Rattle.bforest_nodes.specs.Content.{IsLeafCapacity, Leaf}
+use Rattle.bforest_core.specs.Table.{Table, front_of, free_count, slot_count, fresh_nodes, down_from, with_front, reserved}
+use Rattle.bforest_core.specs.Levels.{node, flat, sizes, sizes_of, Tree}
+use Rattle.bforest_core.specs.Place.{count, numbers_of}
+use Rattle.bforest_core.specs.Trees.{tree_of, is_root, IsUnion}
+use Rattle.bforest_core.specs.Change.{Plants}
+use Rattle.bforest_core.proofs.table.Tables.{count-append, count-same, absent_ne, takes}
+use Rattle.bforest_core.proofs.table.Chains.{length-fresh_nodes, length-down_from}
+use Rattle.bforest_core.proofs.rows.Counts.{past-none}
+use Rattle.bforest_core.proofs.union.Unions.{IsPlanted, rooted}
+use Rattle.bforest_core.proofs.union.Roots.{planted-union}
+use Rattle.bforest_core.proofs.union.Reserved.{reserved-union, reserved-then, reserved-roots}
+
+-- a chain with a front
+front_rest : (m : ℕ) (chain : List ℕ) → front_of chain ≡ Some m → (rest : List ℕ) × (chain ≡ m ∷ rest)
+front_rest m [] e = absurd cc
+front_rest m (x ∷ rest) e = (rest, (let same : x ≡ m = cc in ap (λ z. z ∷ rest) same))
+
+-- no slots have no root
+pub no-root : (K V : Type 0) (number : ℕ) → ¬ IsTrue (is_root {K = K} {V = V} [] number)
+unfolding is_root
+no-root K V number is = absurd cc
+
+module _ {K V : Type 0} where
+  -- a number of the chain is that of a slot
+  chain_within : (most : ℕ) (table : Table K V) (m : ℕ) (rest : List ℕ) → IsUnion most table → table.chain ≡ m ∷ rest → m < length table.nodes
+  chain_within most table m rest union is =
+      elim (cases_lt m (length table.nodes)) [
+        | inl low ↦ low
+        | inr past ↦ absurd (omega (arith, union.1.account m, past-none m (length table.nodes) past, count-append m (flat_map numbers_of union.0) table.chain, ap (λ z. count m z) is, count-same m rest))
+      ]
+
+  -- a table of no slots has no tree
+  pub IsUnion-empty : (most n : ℕ) → IsLeafCapacity most → IsUnion {K = K} {V = V} most (record { nodes = []; chain = []; limit = n })
+  IsUnion-empty most n capacity = ([], record { capacity = capacity; fit = tt; inside = tt; some = tt; low = tt; free = tt; account = λ m. sym (past-none m 0 (omega arith)) })
+
+  -- a tree under a root has an entry, and at most 17 levels
+  pub roots-live : (most : ℕ) (table : Table K V) (root : ℕ) → IsUnion most table → IsTrue (is_root table.nodes root) → (flat (tree_of table.nodes root).leaves ≢ []) × (length (sizes_of (tree_of table.nodes root)) ≤ 17)
+  roots-live most table root union is =
+      let r = rooted most table root union is in (
+        λ none. omega (arith, r.some, ap length none),
+        omega (arith, r.low, length-map (tree_of table.nodes root).above sizes),
+      )
+
+  -- what `alloc_node` leaves: a tree of one leaf of one entry, under a number that had no tree, and one node fewer lies free or one slot more is used
+  pub planted-alloc : (most : ℕ) (old new : Table K V) (number : ℕ) (key : K) (value : V) → IsUnion most old → front_of (reserved old 1).chain ≡ Some number → new ≡ with_front (reserved old 1) (reserved old 1).chain (Leaf (key ∷ []) (value ∷ [])) →
+      Plants most old new number (key, value)
+  planted-alloc most old new number key value union front is =
+      let one : 1 ≤ most = omega (arith, union.1.capacity.least) in
+      let mid = reserved old 1 in
+      let u = reserved-union most old 1 union in
+      let f = front_rest number mid.chain front in
+      let t = takes mid new number (Leaf (key ∷ []) (value ∷ [])) front is (chain_within most mid number f.0 u f.1) in
+      let tree : Tree K V = record { leaves = node number ((key, value) ∷ []) ∷ []; above = [] } in
+      let p : IsPlanted most new.nodes tree = record {
+        fit = record { leaves_fit = (omega arith, omega (arith, one), tt); stacked = refl; topped = tt };
+        inside = record { leaves_in = (t.here, tt); rows_in = tt };
+        some = omega arith;
+        low = omega arith;
+      } in
+      let e = planted-union most mid new tree (number ∷ []) u p t.chain_is t.slots_are (λ m. refl) (λ m none. t.same m (absent_ne m number [] none)) in
+      let made = length-fresh_nodes K V (slot_count old) (1 - free_count old) (front_of old.chain) in
+      let slots = length-append old.nodes (fresh_nodes {K = K} {V = V} (slot_count old) (1 - free_count old) (front_of old.chain)) in
+      let chains = length-append (down_from (slot_count old) (1 - free_count old)) old.chain in
+      let downs = length-down_from (slot_count old) (1 - free_count old) in
+      record {
+        changes = record {
+          union = e.0.union;
+          root_is = e.0.root_is;
+          list_is = ap (λ (z : Tree K V). flat z.leaves) e.0.tree_is;
+          sizes_are = ap (λ (z : Tree K V). sizes_of z) e.0.tree_is;
+          others = reserved-then most old 1 new number number union e.0.others;
+          old_gone = λ ne. absurd (ne refl);
+          new_came = λ ne. absurd (ne refl);
+          limit_is = t.limit_is;
+        };
+        fresh = λ there. e.1 ((reserved-roots most old 1 union number).0 ∙ there);
+        takes = record {
+          slots = omega (arith, t.slots_are, slots, made);
+          free = omega (arith, ap length t.chain_is, chains, downs);
+          chain_is = sym (ap (λ z. drop 1 z) t.chain_is);
+        };
+      }

@@ -1,0 +1,130 @@
+-- New slots in front of the chain leave the trees of a table as they are.
+use Rattle.std.proofs.Common.{◌≡◌, ℕ, zero, suc, ◌+◌, ◌-◌, ◌≤◌, ◌<◌, IsTrue, Bool, true, false, Option, None, List, [], ◌∷◌, ◌++◌, length, get_or, slice_get, refl, sym, ap, ◌∙◌, inl, inr, subst, length-append, arith}
+use Rattle.std.specs.List.{flat_map}
+use Rattle.std.proofs.lemmas.Bool.{cases_lt}
+use Rattle.std.proofs.lemmas.Option.{slice_get-get_or}
+use Rattle.bforest_nodes.specs.Content.{Content, Free, IsFree}
+use Rattle.bforest_core.specs.Table.{Table, down_from, fresh_nodes, front_of, front_of_new, free_count, slot_count, with_slots, reserved}
+use Rattle.bforest_core.specs.Change.{KeepsTrees}
+use Rattle.bforest_core.specs.Levels.{Tree}
+use Rattle.bforest_core.specs.Place.{count, numbers_of}
+use Rattle.bforest_core.specs.Trees.{slot, tree_of, is_root, Every, IsForest, IsUnion, OthersKeep}
+use Rattle.bforest_core.proofs.table.Tables.{count-append}
+use Rattle.bforest_core.proofs.table.Lists.{slice_get-append_left}
+use Rattle.bforest_core.proofs.table.Chains.{length-down_from, length-fresh_nodes}
+use Rattle.bforest_core.proofs.rows.Counts.{once_below, past-none, upto, count-upto}
+use Rattle.bforest_core.proofs.union.FreeSlots.{free-same}
+use Rattle.bforest_core.proofs.union.Forests.{every-join}
+use Rattle.bforest_core.proofs.union.Exchange.{trees-same, others-keep}
+
+-- each of so many new numbers is the first or past it
+every-down : (P : ℕ → Type 0) (first : ℕ) → ((m : ℕ) → first ≤ m → P m) → (n : ℕ) → Every P (down_from first n)
+every-down P first f zero = tt
+every-down P first f (suc n) = (f (first + n) (omega arith), every-down P first f n)
+
+-- one slot more
+once-suc : (m n : ℕ) → once_below m (suc n) ≡ once_below m n + count m (n ∷ [])
+once-suc m n = omega (arith, count-upto m (suc n), count-upto m n, count-append m (upto n) (n ∷ []))
+
+-- the new numbers are those that so many more slots have
+count-down : (m first n : ℕ) → count m (down_from first n) + once_below m first ≡ once_below m (first + n)
+count-down m first zero = let e : first + 0 ≡ first = omega arith in rw e (omega arith)
+count-down m first (suc n) =
+    let e : first + suc n ≡ suc (first + n) = omega arith in
+    let a = ap (λ z. once_below m z) e in
+    omega (arith, a, once-suc m (first + n), count-down m first n)
+
+-- tests that are true together are the same
+same-test : (a b : Bool) → (a ≡ true → b ≡ true) → (b ≡ true → a ≡ true) → a ≡ b
+same-test true b f g = sym (f refl)
+same-test false true f g = g refl
+same-test false false f g = refl
+
+module _ {K V : Type 0} where
+  -- one more free slot
+  free_more : (xs : List (Content K V)) (next : Option ℕ) → ((m : ℕ) → IsFree (slot xs m)) → (m : ℕ) → IsFree (slot (xs ++ Free next ∷ []) m)
+  free_more [] next f zero = tt
+  free_more [] next f (suc m) = tt
+  free_more (x ∷ xs) next f zero = f zero
+  free_more (x ∷ xs) next f (suc m) = free_more xs next (λ k. f (suc k)) m
+
+-- new slots are free
+fresh_free : (K V : Type 0) (first n : ℕ) (next : Option ℕ) (m : ℕ) → IsFree (slot (fresh_nodes {K = K} {V = V} first n next) m)
+fresh_free K V first zero next m = tt
+fresh_free K V first (suc n) next m = free_more (fresh_nodes {K = K} {V = V} first n next) (front_of_new first n next) (fresh_free K V first n next) m
+
+module _ {K V : Type 0} where
+  -- so is each slot from them on
+  past_free : (xs more : List (Content K V)) → ((m : ℕ) → IsFree (slot more m)) → (m : ℕ) → length xs ≤ m → IsFree (slot (xs ++ more) m)
+  past_free [] more f m past = f m
+  past_free (x ∷ xs) more f zero past = absurd (omega (arith, past))
+  past_free (x ∷ xs) more f (suc m) past = past_free xs more f m (omega (arith, past))
+
+  -- the slots before them are as they were
+  slots_same : (xs more : List (Content K V)) (m : ℕ) → m < length xs → slice_get (xs ++ more) m ≡ slice_get xs m
+  slots_same xs more m low =
+      let e = slice_get-get_or xs m (Free None) low in
+      slice_get-append_left xs more m (get_or xs m (Free None)) e ∙ sym e
+
+  -- the trees of a table with so many new slots
+  pub with-slots-forest : (most : ℕ) (table : Table K V) (n : ℕ) (trees : List (Tree K V)) → IsForest most table trees → IsForest most (with_slots table n) trees
+  with-slots-forest most table n trees f =
+      let more : List (Content K V) = fresh_nodes (slot_count table) n (front_of table.chain) in
+      let c = λ (m : ℕ). count-append m (flat_map numbers_of trees) table.chain in
+      let low : (m : ℕ) → 0 < count m (flat_map numbers_of trees) + count m table.chain → m < length table.nodes =
+      λ m some. elim (cases_lt m (length table.nodes)) [ inl low ↦ low | inr past ↦ absurd (omega (arith, f.account m, past-none m (length table.nodes) past, some, c m)) ] in
+      let slots : length (table.nodes ++ more) ≡ length table.nodes + n = omega (arith, length-append table.nodes more, length-fresh_nodes K V (slot_count table) n (front_of table.chain)) in
+      record {
+        capacity = f.capacity;
+        fit = f.fit;
+        inside = trees-same table.nodes (table.nodes ++ more) trees (λ m some. slots_same table.nodes more m (low m (omega (arith, some)))) f.inside;
+        some = f.some;
+        low = f.low;
+        free = every-join (λ (number : ℕ). IsFree (slot (table.nodes ++ more) number)) (down_from (slot_count table) n) table.chain
+            (every-down (λ (number : ℕ). IsFree (slot (table.nodes ++ more) number)) (slot_count table) (past_free table.nodes more (fresh_free K V (slot_count table) n (front_of table.chain))) n)
+            (free-same table.nodes (table.nodes ++ more) table.chain (λ m some. slots_same table.nodes more m (low m (omega (arith, some)))) f.free);
+        account = λ m. omega (arith, count-append m (flat_map numbers_of trees) (down_from (slot_count table) n ++ table.chain), count-append m (down_from (slot_count table) n) table.chain, c m, f.account m, count-down m (slot_count table) n) ∙ ap (λ z. once_below m z) (sym slots);
+      }
+
+  -- two tables with the same trees: the same roots, and under each the same tree
+  pub same-trees : (most : ℕ) (old new : Table K V) (trees : List (Tree K V)) → IsForest most old trees → IsForest most new trees → (number : ℕ) →
+      (is_root new.nodes number ≡ is_root old.nodes number) × (IsTrue (is_root old.nodes number) → tree_of new.nodes number ≡ tree_of old.nodes number)
+  same-trees most old new trees f g number =
+      let k = others-keep most old new [] [] [] trees f g number refl refl in
+      (same-test (is_root new.nodes number) (is_root old.nodes number) k.0.0 k.0.1, k.1)
+
+  -- at least n nodes made free: the same trees
+  pub reserved-forest : (most : ℕ) (table : Table K V) (n : ℕ) (trees : List (Tree K V)) → IsForest most table trees → IsForest most (reserved table n) trees
+  reserved-forest most table n trees f = with-slots-forest most table (n - free_count table) trees f
+
+  -- the used slots are still a union of trees
+  pub reserved-union : (most : ℕ) (table : Table K V) (n : ℕ) → IsUnion most table → IsUnion most (reserved table n)
+  reserved-union most table n union = (union.0, reserved-forest most table n union.0 union.1)
+
+  -- and the same roots, with the same trees
+  pub reserved-roots : (most : ℕ) (table : Table K V) (n : ℕ) → IsUnion most table → (number : ℕ) →
+      (is_root (reserved table n).nodes number ≡ is_root table.nodes number) × (IsTrue (is_root table.nodes number) → tree_of (reserved table n).nodes number ≡ tree_of table.nodes number)
+  reserved-roots most table n union number = same-trees most table (reserved table n) union.0 union.1 (reserved-forest most table n union.0 union.1) number
+
+  -- what keeps other trees of the table with more slots keeps those of the table
+  pub reserved-then : (most : ℕ) (table : Table K V) (n : ℕ) (new : Table K V) (root root' : ℕ) → IsUnion most table → OthersKeep (reserved table n).nodes new.nodes root root' → OthersKeep table.nodes new.nodes root root'
+  reserved-then most table n new root root' union keep other ne ne' =
+      let r = reserved-roots most table n union other in
+      let k = keep other ne ne' in (
+        (λ now. sym r.0 ∙ k.0.0 now, λ was. k.0.1 (r.0 ∙ was)),
+        λ was. k.1 (r.0 ∙ was) ∙ r.1 was,
+      )
+
+  -- a table that is the same, and one with nodes made free
+  pub same-keeps : (most : ℕ) (old new : Table K V) → new ≡ old → IsUnion most old → IsUnion most new × KeepsTrees old.nodes new.nodes
+  same-keeps most old new is union =
+      subst (λ (z : Table K V). IsUnion most z × KeepsTrees old.nodes z.nodes) (sym is) (union, λ n. (refl, λ there. refl))
+
+  pub reserved-keeps : (most : ℕ) (old new : Table K V) (n : ℕ) → new ≡ reserved old n → IsUnion most old → IsUnion most new × KeepsTrees old.nodes new.nodes
+  reserved-keeps most old new n is union =
+      subst (λ (z : Table K V). IsUnion most z × KeepsTrees old.nodes z.nodes) (sym is) (reserved-union most old n union, reserved-roots most old n union)
+
+  -- so many lie free then
+  pub reserved-frees : (old new : Table K V) (n : ℕ) → new ≡ reserved old n → n ≤ free_count new
+  reserved-frees old new n is =
+      omega (arith, ap (λ (z : Table K V). length z.chain) is, length-append (down_from (slot_count old) (n - free_count old)) old.chain, length-down_from (slot_count old) (n - free_count old))

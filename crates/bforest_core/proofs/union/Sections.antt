@@ -1,0 +1,123 @@
+-- A stack of rows cut in two between two nodes of its top.
+use Rattle.std.proofs.Common.{◌≡◌, ℕ, suc, ◌+◌, ◌≤◌, List, [], ◌∷◌, ◌++◌, length, refl, sym, ap, subst, ◌∙◌, arith}
+use Rattle.std.specs.List.{flat_map}
+use Rattle.bforest_nodes.specs.Content.{Content}
+use Rattle.bforest_core.specs.Levels.{LevelNode, node, flat, heads, numbers, FitRow, half_of}
+use Rattle.bforest_core.specs.Place.{RowIn, RowsIn, leaf_content, inner_content, count}
+use Rattle.bforest_core.specs.Descent.{StackedTo, Under}
+use Rattle.bforest_core.specs.Removal.{numbers_under}
+use Rattle.bforest_core.proofs.rows.LevelRows.{flat-append, numbers-append, least-pos}
+use Rattle.bforest_core.proofs.table.Tables.{count-append}
+
+-- two lists that are the same have the same parts
+pub tail_same : {A : Type 0} (x y : A) (xs ys : List A) → x ∷ xs ≡ y ∷ ys → (x ≡ y) × (xs ≡ ys)
+tail_same x y xs ys e = (cc, cc)
+
+module _ {K X : Type 0} where
+  -- a row cut where it is seen from above
+  pub record RowCut (row : List (LevelNode K X)) (a b : List (K × ℕ)) : Type 0 where
+    pub left : List (LevelNode K X)
+    pub right : List (LevelNode K X)
+    pub row_is : row ≡ left ++ right
+    pub left_is : heads left ≡ a
+    pub right_is : heads right ≡ b
+
+  row-cut : (half most : ℕ) → 1 ≤ half → (row : List (LevelNode K X)) (a b : List (K × ℕ)) → FitRow half most row → heads row ≡ a ++ b → RowCut row a b
+  row-cut half most one row [] b f h = record { left = []; right = row; row_is = refl; left_is = refl; right_is = h }
+  row-cut half most one [] (x ∷ a) b f h = absurd cc
+  row-cut half most one (node m [] ∷ ns) (x ∷ a) b f h = absurd (omega (arith, f.0, least-pos half one ns))
+  row-cut half most one (node m (e ∷ es) ∷ ns) (x ∷ a) b f h =
+      let s = tail_same (e.0, m) x (heads ns) (a ++ b) h in
+      let r = row-cut half most one ns a b f.2 s.1 in
+      record {
+        left = node m (e ∷ es) ∷ r.left;
+        right = r.right;
+        row_is = ap (λ z. node m (e ∷ es) ∷ z) r.row_is;
+        left_is = ap (λ z. (e.0, m) ∷ z) r.left_is ∙ ap (λ z. z ∷ a) s.0;
+        right_is = r.right_is;
+      }
+
+  -- both parts of a fit row fit
+  fit_cut : (half most : ℕ) → 1 ≤ half → (xs ys : List (LevelNode K X)) → FitRow half most (xs ++ ys) → FitRow half most xs × FitRow half most ys
+  fit_cut half most one [] ys f = (tt, f)
+  fit_cut half most one (node m es ∷ []) ys f = ((omega (arith, f.0, least-pos half one ys), f.1, tt), f.2)
+  fit_cut half most one (node m es ∷ (x ∷ xs)) ys f =
+      let r = fit_cut half most one (x ∷ xs) ys f.2 in ((f.0, f.1, r.0), r.1)
+
+  -- and both lie in the slots
+  in_cut : {V : Type 0} (content : List (K × X) → Content K V) (slots : List (Content K V)) (xs ys : List (LevelNode K X)) → RowIn content slots (xs ++ ys) → RowIn content slots xs × RowIn content slots ys
+  in_cut content slots [] ys i = (tt, i)
+  in_cut content slots (node m es ∷ xs) ys i = let r = in_cut content slots xs ys i.1 in ((i.0, r.0), r.1)
+
+-- inner rows cut below two parts of the top
+pub record RowsCut {K V : Type 0} (slots : List (Content K V)) (list : List (K × ℕ)) (rows : List (List (LevelNode K ℕ))) (a b : List (K × ℕ)) : Type 0 where
+  pub list_left : List (K × ℕ)
+  pub list_right : List (K × ℕ)
+  pub left : List (List (LevelNode K ℕ))
+  pub right : List (List (LevelNode K ℕ))
+  pub list_is : list ≡ list_left ++ list_right
+  pub left_stacked : StackedTo list_left left a
+  pub right_stacked : StackedTo list_right right b
+  pub left_in : RowsIn slots left
+  pub right_in : RowsIn slots right
+  pub left_height : length left ≡ length rows
+  pub right_height : length right ≡ length rows
+  pub counted : (m : ℕ) → count m (flat_map numbers rows) ≡ count m (flat_map numbers left) + count m (flat_map numbers right)
+
+module _ {K V : Type 0} where
+  rows_more : (slots : List (Content K V)) (list : List (K × ℕ)) (row : List (LevelNode K ℕ)) (rows : List (List (LevelNode K ℕ))) (a b : List (K × ℕ)) → flat row ≡ list → FitRow 4 8 row → RowIn inner_content slots row → (r : RowsCut slots (heads row) rows a b) → RowCut row r.list_left r.list_right → RowsCut slots list (row ∷ rows) a b
+  rows_more slots list row rows a b is f i r c =
+      let fits = fit_cut 4 8 (omega arith) c.left c.right (subst (λ z. FitRow 4 8 z) c.row_is f) in
+      let ins = in_cut inner_content slots c.left c.right (subst (λ z. RowIn inner_content slots z) c.row_is i) in
+      record {
+        list_left = flat c.left;
+        list_right = flat c.right;
+        left = c.left ∷ r.left;
+        right = c.right ∷ r.right;
+        list_is = sym is ∙ ap (λ z. flat z) c.row_is ∙ flat-append c.left c.right;
+        left_stacked = (refl, fits.0, subst (λ z. StackedTo z r.left a) (sym c.left_is) r.left_stacked);
+        right_stacked = (refl, fits.1, subst (λ z. StackedTo z r.right b) (sym c.right_is) r.right_stacked);
+        left_in = (ins.0, r.left_in);
+        right_in = (ins.1, r.right_in);
+        left_height = ap suc r.left_height;
+        right_height = ap suc r.right_height;
+        counted = λ m. omega (arith, r.counted m, ap (λ z. count m (numbers z)) c.row_is, ap (λ z. count m z) (numbers-append c.left c.right), count-append m (numbers c.left) (numbers c.right), count-append m (numbers row) (flat_map numbers rows), count-append m (numbers c.left) (flat_map numbers r.left), count-append m (numbers c.right) (flat_map numbers r.right));
+      }
+
+  rows-cut : (slots : List (Content K V)) (list : List (K × ℕ)) (rows : List (List (LevelNode K ℕ))) (a b : List (K × ℕ)) → StackedTo list rows (a ++ b) → RowsIn slots rows → RowsCut slots list rows a b
+  rows-cut slots list [] a b s i =
+      record { list_left = a; list_right = b; left = []; right = []; list_is = s; left_stacked = refl; right_stacked = refl; left_in = tt; right_in = tt; left_height = refl; right_height = refl; counted = λ m. refl }
+  rows-cut slots list (row ∷ rows) a b s i =
+      let r = rows-cut slots (heads row) rows a b s.2 i.1 in
+      rows_more slots list row rows a b s.0 s.1 i.0 r (row-cut 4 8 (omega arith) row r.list_left r.list_right s.1 r.list_is)
+
+module _ {K V : Type 0} (most : ℕ) (slots : List (Content K V)) where
+  -- what lies under some nodes, cut between two of them
+  pub record UnderCut (leaves : List (LevelNode K V)) (lower : List (List (LevelNode K ℕ))) (a b : List (K × ℕ)) : Type 0 where
+    pub leaves_left : List (LevelNode K V)
+    pub leaves_right : List (LevelNode K V)
+    pub lower_left : List (List (LevelNode K ℕ))
+    pub lower_right : List (List (LevelNode K ℕ))
+    pub left : Under most slots leaves_left lower_left a
+    pub right : Under most slots leaves_right lower_right b
+    pub left_height : length lower_left ≡ length lower
+    pub right_height : length lower_right ≡ length lower
+    pub counted : (m : ℕ) → count m (numbers_under leaves lower) ≡ count m (numbers_under leaves_left lower_left) + count m (numbers_under leaves_right lower_right)
+
+  pub under-cut : 1 ≤ half_of most → (leaves : List (LevelNode K V)) (lower : List (List (LevelNode K ℕ))) (a b : List (K × ℕ)) → Under most slots leaves lower (a ++ b) → UnderCut leaves lower a b
+  under-cut one leaves lower a b u =
+      let r = rows-cut slots (heads leaves) lower a b u.stacked u.rows_in in
+      let c = row-cut (half_of most) most one leaves r.list_left r.list_right u.leaves_fit r.list_is in
+      let fits = fit_cut (half_of most) most one c.left c.right (subst (λ z. FitRow (half_of most) most z) c.row_is u.leaves_fit) in
+      let ins = in_cut leaf_content slots c.left c.right (subst (λ z. RowIn leaf_content slots z) c.row_is u.leaves_in) in
+      record {
+        leaves_left = c.left;
+        leaves_right = c.right;
+        lower_left = r.left;
+        lower_right = r.right;
+        left = record { leaves_fit = fits.0; leaves_in = ins.0; stacked = subst (λ z. StackedTo z r.left a) (sym c.left_is) r.left_stacked; rows_in = r.left_in };
+        right = record { leaves_fit = fits.1; leaves_in = ins.1; stacked = subst (λ z. StackedTo z r.right b) (sym c.right_is) r.right_stacked; rows_in = r.right_in };
+        left_height = r.left_height;
+        right_height = r.right_height;
+        counted = λ m. omega (arith, r.counted m, ap (λ z. count m (numbers z)) c.row_is, ap (λ z. count m z) (numbers-append c.left c.right), count-append m (numbers c.left) (numbers c.right), count-append m (numbers leaves) (flat_map numbers lower), count-append m (numbers c.left) (flat_map numbers r.left), count-append m (numbers c.right) (flat_map numbers r.right));
+      }

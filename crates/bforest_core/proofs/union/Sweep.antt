@@ -1,0 +1,274 @@
+-- Freeing all that is below a node, child by child.
+use Rattle.std.proofs.Common.{◌≡◌, ℕ, zero, suc, ◌+◌, ◌≤◌, ◌<◌, List, [], ◌∷◌, ◌++◌, length, drop, slice_get, Some, append-nil, refl, sym, ap, subst, ◌∙◌, length-set, inl, inr, arith}
+use Rattle.std.specs.List.{flat_map}
+use Rattle.std.proofs.lemmas.Bool.Decides.{eqb_tells}
+use Rattle.bforest_nodes.specs.Content.{Content, Inner, Leaf, Free, IsInner, children_of, entry_count}
+use Rattle.bforest_core.specs.Table.{Table, front_of, with_freed}
+use Rattle.bforest_core.specs.Levels.{LevelNode, node, flat, heads, numbers, FitRow, half_of}
+use Rattle.bforest_core.specs.Place.{leaf_content, inner_content, entry_items, count, Distinct}
+use Rattle.bforest_core.specs.Descent.{StackedTo, Under}
+use Rattle.bforest_core.specs.Removal.{Frees, GivesAll, numbers_under}
+use Rattle.bforest_core.proofs.union.FreeSlots.{freed-slot}
+use Rattle.bforest_core.proofs.removal.Frees.{frees-refl, frees-then, frees-wider}
+use Rattle.bforest_core.proofs.walks.Downward.{stacked_last}
+use Rattle.bforest_core.proofs.walks.Leading.{Front, LeafFront, InnerFront, front_step, front_count}
+use Rattle.bforest_core.proofs.rows.LevelRows.{least-pos}
+use Rattle.std.proofs.lemmas.Option.{slice_get_within}
+use Rattle.bforest_core.proofs.table.Lists.{drop-read}
+use Rattle.bforest_core.proofs.union.Sections.{UnderCut, under-cut, tail_same}
+use Rattle.bforest_core.proofs.table.Tables.{count-append, count-same, count-other, row-same, rows-same, slice_get-set_apart}
+
+-- a fit row that shows no node from above has none
+no_nodes : {K X : Type 0} (half most : ℕ) → 1 ≤ half → (row : List (LevelNode K X)) → FitRow half most row → heads row ≡ [] → row ≡ []
+no_nodes half most one [] f h = refl
+no_nodes half most one (node m [] ∷ ns) f h = absurd (omega (arith, f.0, least-pos half one ns))
+no_nodes half most one (node m (e ∷ es) ∷ ns) f h = absurd cc
+
+-- nor do rows below no node
+rows_none : {K : Type 0} (list : List (K × ℕ)) (rows : List (List (LevelNode K ℕ))) → StackedTo list rows [] → (list ≡ []) × ((m : ℕ) → count m (flat_map numbers rows) ≡ 0)
+rows_none list [] s = (s, λ m. refl)
+rows_none list (row ∷ rows) s =
+    let r = rows_none (heads row) rows s.2 in
+    let none : row ≡ [] = no_nodes 4 8 (omega arith) row s.1 r.0 in
+    (sym s.0 ∙ ap flat none, λ m. omega (arith, count-append m (numbers row) (flat_map numbers rows), ap (λ z. count m (numbers z)) none, r.1 m))
+
+module _ {K V : Type 0} where
+  -- one freeing after another, of other nodes
+  frees-both : (a b c : Table K V) (own own' given given' : List ℕ) → ((m : ℕ) → 0 < count m given → count m own' ≡ 0) → Frees a b own given → Frees b c own' given' → Frees a c (own ++ own') (given' ++ given)
+  frees-both a b c own own' given given' apart p q =
+      let n = λ (m : ℕ). count-append m own own' in
+      frees-then a b c (own ++ own') own' given given' (λ m z. omega (arith, z, n m)) apart (frees-wider a b own (own ++ own') given (λ m z. omega (arith, z, n m)) p) q
+
+  -- what lies under some nodes lies there in any slots that agree
+  under-same : (most : ℕ) (old new : List (Content K V)) (leaves : List (LevelNode K V)) (lower : List (List (LevelNode K ℕ))) (top : List (K × ℕ)) → ((m : ℕ) → 0 < count m (numbers_under leaves lower) → slice_get new m ≡ slice_get old m) → Under most old leaves lower top → Under most new leaves lower top
+  under-same most old new leaves lower top same u = record {
+    leaves_fit = u.leaves_fit;
+    leaves_in = row-same leaf_content old new leaves (λ m some. same m (omega (arith, some, count-append m (numbers leaves) (flat_map numbers lower)))) u.leaves_in;
+    stacked = u.stacked;
+    rows_in = rows-same old new lower (λ m some. same m (omega (arith, some, count-append m (numbers leaves) (flat_map numbers lower)))) u.rows_in;
+  }
+
+  under_none : (most : ℕ) → 1 ≤ half_of most → (slots : List (Content K V)) (leaves : List (LevelNode K V)) (lower : List (List (LevelNode K ℕ))) → Under most slots leaves lower [] → (m : ℕ) → count m (numbers_under leaves lower) ≡ 0
+  under_none most one slots leaves lower u m =
+      let r = rows_none (heads leaves) lower u.stacked in
+      let none : leaves ≡ [] = no_nodes (half_of most) most one leaves u.leaves_fit r.0 in
+      omega (arith, count-append m (numbers leaves) (flat_map numbers lower), ap (λ z. count m (numbers z)) none, r.1 m)
+
+  -- all below the first so many of the top's nodes is freed, and what is below the others stands as it was
+  pub record Swept (most : ℕ) (old now : Table K V) (leaves : List (LevelNode K V)) (rows : List (List (LevelNode K ℕ))) (top : List (K × ℕ)) (index : ℕ) : Type 0 where
+    pub left_leaves : List (LevelNode K V)
+    pub left_rows : List (List (LevelNode K ℕ))
+    pub own : List ℕ
+    pub given : List ℕ
+    pub under : Under most old.nodes left_leaves left_rows (drop index top)
+    pub height : length left_rows ≡ length rows
+    pub frees : Frees old now own given
+    pub counted : (m : ℕ) → count m given ≡ count m own
+    pub split : (m : ℕ) → count m (numbers_under leaves rows) ≡ count m own + count m (numbers_under left_leaves left_rows)
+
+  module _ (most : ℕ) (one : 1 ≤ half_of most) (old : Table K V) (leaves : List (LevelNode K V)) (rows : List (List (LevelNode K ℕ))) (top : List (K × ℕ)) where
+    -- at first nothing is freed
+    pub sweep-first : Under most old.nodes leaves rows top → Swept most old old leaves rows top 0
+    sweep-first u = record { left_leaves = leaves; left_rows = rows; own = []; given = []; under = u; height = refl; frees = frees-refl old []; counted = λ m. refl; split = λ m. omega arith }
+
+    -- the next child of the top, and what lies below it
+    pub record Turn (now : Table K V) (index : ℕ) (x : K × ℕ) : Type 0 where
+      pub swept : Swept most old now leaves rows top index
+      pub cut : UnderCut most old.nodes swept.left_leaves swept.left_rows (x ∷ []) (drop (suc index) top)
+      pub under : Under most now.nodes cut.leaves_left cut.lower_left (x ∷ [])
+      pub apart : Distinct (numbers_under cut.leaves_left cut.lower_left ++ now.chain)
+
+    -- there is one as long as the index is one of the top
+    pub sweep-turn : (now : Table K V) (index : ℕ) (x : K × ℕ) → Distinct (numbers_under leaves rows ++ old.chain) → Swept most old now leaves rows top index → slice_get top index ≡ Some x → Turn now index x
+    sweep-turn now index x apart s found =
+        let todo : drop index top ≡ x ∷ drop (suc index) top = drop-read top index x found in
+        let cut = under-cut most old.nodes one s.left_leaves s.left_rows (x ∷ []) (drop (suc index) top) (subst (λ (z : List (K × ℕ)). Under most old.nodes s.left_leaves s.left_rows z) todo s.under) in
+        record {
+          swept = s;
+          cut = cut;
+          under = under-same most old.nodes now.nodes cut.leaves_left cut.lower_left (x ∷ []) (λ m some. s.frees.others m (apart_own m s cut apart some)) cut.left;
+          apart = λ m. apart_chain m s cut apart;
+        }
+      where
+        apart_own : (m : ℕ) (s : Swept most old now leaves rows top index) (cut : UnderCut most old.nodes s.left_leaves s.left_rows (x ∷ []) (drop (suc index) top)) → Distinct (numbers_under leaves rows ++ old.chain) → 0 < count m (numbers_under cut.leaves_left cut.lower_left) → count m s.own ≡ 0
+        apart_own m s cut apart some = omega (arith, apart m, count-append m (numbers_under leaves rows) old.chain, s.split m, cut.counted m, some)
+
+        apart_chain : (m : ℕ) (s : Swept most old now leaves rows top index) (cut : UnderCut most old.nodes s.left_leaves s.left_rows (x ∷ []) (drop (suc index) top)) → Distinct (numbers_under leaves rows ++ old.chain) → count m (numbers_under cut.leaves_left cut.lower_left ++ now.chain) ≤ 1
+        apart_chain m s cut apart = omega (arith, apart m, count-append m (numbers_under leaves rows) old.chain, s.split m, cut.counted m, s.counted m, ap (λ z. count m z) s.frees.chain_is, count-append m s.given old.chain, count-append m (numbers_under cut.leaves_left cut.lower_left) now.chain)
+
+    -- and then it is freed too
+    pub sweep-next : (now new : Table K V) (index : ℕ) (x : K × ℕ) → Distinct (numbers_under leaves rows ++ old.chain) → (t : Turn now index x) → GivesAll now new (numbers_under t.cut.leaves_left t.cut.lower_left) → Swept most old new leaves rows top (suc index)
+    sweep-next now new index x apart t g = record {
+      left_leaves = t.cut.leaves_right;
+      left_rows = t.cut.lower_right;
+      own = t.swept.own ++ numbers_under t.cut.leaves_left t.cut.lower_left;
+      given = g.given ++ t.swept.given;
+      under = t.cut.right;
+      height = t.cut.right_height ∙ t.swept.height;
+      frees = frees-both old now new t.swept.own (numbers_under t.cut.leaves_left t.cut.lower_left) t.swept.given g.given (λ m some. omega (arith, apart m, some, t.swept.counted m, count-append m (numbers_under leaves rows) old.chain, t.swept.split m, t.cut.counted m)) t.swept.frees g.frees;
+      counted = λ m. omega (arith, count-append m g.given t.swept.given, count-append m t.swept.own (numbers_under t.cut.leaves_left t.cut.lower_left), g.counted m, t.swept.counted m);
+      split = λ m. omega (arith, count-append m t.swept.own (numbers_under t.cut.leaves_left t.cut.lower_left), t.swept.split m, t.cut.counted m);
+    }
+
+    -- at last all is freed
+    pub sweep-last : (now : Table K V) (index : ℕ) → length top ≤ index → Swept most old now leaves rows top index → GivesAll old now (numbers_under leaves rows)
+    sweep-last now index past s =
+        let none : drop index top ≡ [] = dropped top index past in
+        let left = under_none most one old.nodes s.left_leaves s.left_rows (subst (λ (z : List (K × ℕ)). Under most old.nodes s.left_leaves s.left_rows z) none s.under) in
+        record {
+          given = s.given;
+          frees = record {
+            others = λ m zero. s.frees.others m (omega (arith, zero, s.split m));
+            freed_are = s.frees.freed_are;
+            chain_is = s.frees.chain_is;
+            slots_are = s.frees.slots_are;
+            limit_is = s.frees.limit_is;
+          };
+          counted = λ m. omega (arith, s.counted m, s.split m, left m);
+        }
+      where
+        dropped : (top : List (K × ℕ)) (index : ℕ) → length top ≤ index → drop index top ≡ []
+        dropped [] zero past = refl
+        dropped [] (suc index) past = refl
+        dropped (x ∷ top) zero past = absurd (omega (arith, past))
+        dropped (x ∷ top) (suc index) past = dropped top index (omega (arith, past))
+
+  -- the node itself is freed after all that is below it
+  pub gives-top : (old now : Table K V) (own all : List ℕ) (top : ℕ) → top < length now.nodes → count top own ≡ 0 → ((m : ℕ) → count m all ≡ count m own + count m (top ∷ [])) → GivesAll old now own → GivesAll old (with_freed now top) all
+  gives-top old now own all top low none all_is g =
+      let one : Frees now (with_freed now top) (top ∷ []) (top ∷ []) = record {
+        others = λ m other. slice_get-set_apart now.nodes top m (Free (front_of now.chain)) (λ (e : m ≡ top). absurd (omega (arith, other, count-one m top e)));
+        freed_are = (freed-slot now top low, tt);
+        chain_is = refl;
+        slots_are = length-set now.nodes top (Free (front_of now.chain));
+        limit_is = refl;
+      } in
+      let both = frees-both old now (with_freed now top) own (top ∷ []) g.given (top ∷ []) (λ m some. other_top m some) g.frees one in
+      record {
+        given = top ∷ g.given;
+        frees = record {
+          others = λ m zero. both.others m (omega (arith, zero, all_is m, count-append m own (top ∷ [])));
+          freed_are = both.freed_are;
+          chain_is = both.chain_is;
+          slots_are = both.slots_are;
+          limit_is = both.limit_is;
+        };
+        counted = λ m. omega (arith, all_is m, g.counted m, count-append m (top ∷ []) g.given);
+      }
+    where
+      count-one : (m n : ℕ) → m ≡ n → 0 < count m (n ∷ [])
+      count-one m n e = subst (λ (z : ℕ). 0 < count z (n ∷ [])) (sym e) (omega (arith, count-same n []))
+
+      other_top : (m : ℕ) → 0 < count m g.given → count m (top ∷ []) ≡ 0
+      other_top m some =
+          elim (eqb_tells top m) [
+            | inl w ↦ absurd (let e = ap (λ z. count z own) w.1 in omega (arith, some, none, e, g.counted m))
+            | inr w ↦ count-other m top [] w.1
+          ]
+
+-- the entry whose item stands at an index
+item_at : {K : Type 0} (top : List (K × ℕ)) (index child : ℕ) → slice_get (entry_items top) index ≡ Some child → (x : K × ℕ) × (slice_get top index ≡ Some x) × (x.1 ≡ child)
+item_at [] zero child found = absurd cc
+item_at [] (suc index) child found = absurd cc
+item_at (y ∷ top) zero child found = (y, refl, cc)
+item_at (y ∷ top) (suc index) child found = item_at top index child found
+
+-- a row of one node seen from above
+one_node : {K X : Type 0} (half most : ℕ) → 1 ≤ half → (row : List (LevelNode K X)) (first : K) (number : ℕ) → FitRow half most row → heads row ≡ (first, number) ∷ [] → (f : Front row number) → row ≡ node number (f.e ∷ f.es) ∷ []
+one_node half most one row first number fit h f =
+    let row_is = f.row_is in
+    let tail : heads f.after ≡ [] = (tail_same (f.e.0, number) (first, number) (heads f.after) [] (ap heads (sym row_is) ∙ h)).1 in
+    let fits = subst (λ z. FitRow half most z) row_is fit in
+    row_is ∙ ap (λ z. node number (f.e ∷ f.es) ∷ z) (no_nodes half most one f.after fits.2 tail)
+
+module _ {K V : Type 0} where
+  -- only an inner node has children, and they are its entries
+  pub inner-children : (content : Content K V) → 0 < length (children_of content) → IsInner content × (entry_count content ≡ length (children_of content))
+  inner-children (Inner keys children) some = (tt, refl)
+  inner-children (Leaf keys vals) some = absurd (omega (arith, some))
+  inner-children (Free next) some = absurd (omega (arith, some))
+
+  -- the node at the top of what lies under it: its content, and what lies under its children, if it has some
+  pub record Opened (most : ℕ) (slots : List (Content K V)) (leaves : List (LevelNode K V)) (lower : List (List (LevelNode K ℕ))) (number : ℕ) : Type 0 where
+    pub low : List (LevelNode K V)
+    pub rows : List (List (LevelNode K ℕ))
+    pub top : List (K × ℕ)
+    pub content : Content K V
+    pub slot_is : slice_get slots number ≡ Some content
+    pub children_are : children_of content ≡ entry_items top
+    pub under : Under most slots low rows top
+    pub counted : (m : ℕ) → count m (numbers_under leaves lower) ≡ count m (numbers_under low rows) + count m (number ∷ [])
+    pub height : 0 < length top → suc (length rows) ≡ length lower
+
+  module _ (most : ℕ) (one : 1 ≤ half_of most) (slots : List (Content K V)) (leaves : List (LevelNode K V)) where
+    open_leaf : (lower : List (List (LevelNode K ℕ))) (first : K) (number : ℕ) → Under most slots leaves lower ((first, number) ∷ []) → LeafFront slots leaves lower number → Opened most slots leaves lower number
+    open_leaf lower first number u s =
+        let stacked = subst (λ z. StackedTo (heads leaves) z ((first, number) ∷ [])) s.lower_is u.stacked in
+        let row = one_node (half_of most) most one leaves first number u.leaves_fit stacked s.front in
+        record {
+          low = [];
+          rows = [];
+          top = [];
+          content = leaf_content (s.front.e ∷ s.front.es);
+          slot_is = s.slot_is;
+          children_are = refl;
+          under = record { leaves_fit = tt; leaves_in = tt; stacked = refl; rows_in = tt };
+          counted = λ m. omega (arith, count-append m (numbers leaves) (flat_map numbers lower), ap (λ z. count m (numbers z)) row, ap (λ z. count m (flat_map numbers z)) s.lower_is);
+          height = λ some. absurd (omega (arith, some));
+        }
+
+    open_inner : (lower : List (List (LevelNode K ℕ))) (first : K) (number : ℕ) → Under most slots leaves lower ((first, number) ∷ []) → InnerFront most slots leaves lower number → Opened most slots leaves lower number
+    open_inner lower first number u s =
+        let st = stacked_last (heads leaves) s.rows s.row ((first, number) ∷ []) (subst (λ z. StackedTo (heads leaves) z ((first, number) ∷ [])) s.lower_is u.stacked) in
+        let row = one_node 4 8 (omega arith) s.row first number st.1 st.2 s.front in
+        record {
+          low = leaves;
+          rows = s.rows;
+          top = s.front.e ∷ s.front.es;
+          content = inner_content (s.front.e ∷ s.front.es);
+          slot_is = s.slot_is;
+          children_are = refl;
+          under = record {
+            leaves_fit = u.leaves_fit;
+            leaves_in = u.leaves_in;
+            stacked = subst (λ z. StackedTo (heads leaves) s.rows z) (ap flat row ∙ append-nil (s.front.e ∷ s.front.es)) st.0;
+            rows_in = s.under.rows_in;
+          };
+          counted = λ m. omega (arith, count-append m (numbers leaves) (flat_map numbers lower), count-append m (numbers leaves) (flat_map numbers s.rows), ap (λ z. count m (flat_map numbers z)) s.lower_is, rows_more m s.rows s.row, ap (λ z. count m (numbers z)) row);
+          height = λ some. sym (front_count most one slots leaves lower number s);
+        }
+      where
+        rows_more : (m : ℕ) (rows : List (List (LevelNode K ℕ))) (row : List (LevelNode K ℕ)) → count m (flat_map numbers (rows ++ row ∷ [])) ≡ count m (flat_map numbers rows) + count m (numbers row)
+        rows_more m [] row = omega (arith, ap (λ z. count m z) (append-nil (numbers row)))
+        rows_more m (r ∷ rows) row = omega (arith, rows_more m rows row, count-append m (numbers r) (flat_map numbers rows), count-append m (numbers r) (flat_map numbers (rows ++ row ∷ [])))
+
+    pub under-open : (lower : List (List (LevelNode K ℕ))) (first : K) (number : ℕ) → Under most slots leaves lower ((first, number) ∷ []) → Opened most slots leaves lower number
+    under-open lower first number u = elim (front_step most one slots leaves lower first number [] u) [ inl s ↦ open_leaf lower first number u s | inr s ↦ open_inner lower first number u s ]
+
+  -- the sweep of a node's children, with what it shows of the node itself
+  pub record Sweeping (most : ℕ) (old now : Table K V) (leaves : List (LevelNode K V)) (lower : List (List (LevelNode K ℕ))) (number index : ℕ) : Type 0 where
+    pub opened : Opened most old.nodes leaves lower number
+    pub swept : Swept most old now opened.low opened.rows opened.top index
+    pub alone : count number (numbers_under opened.low opened.rows) ≡ 0
+    pub apart : Distinct (numbers_under opened.low opened.rows ++ old.chain)
+    pub slot_is : slice_get now.nodes number ≡ Some opened.content
+    pub off_chain : count number now.chain ≡ 0
+
+  pub sweeping : (most : ℕ) (old now : Table K V) (leaves : List (LevelNode K V)) (lower : List (List (LevelNode K ℕ))) (number index : ℕ) → Distinct (numbers_under leaves lower ++ old.chain) → (o : Opened most old.nodes leaves lower number) → Swept most old now o.low o.rows o.top index → Sweeping most old now leaves lower number index
+  sweeping most old now leaves lower number index apart o s =
+      let one : count number (number ∷ []) ≡ 1 = count-same number [] in
+      let a = apart number in
+      record {
+        opened = o;
+        swept = s;
+        alone = omega (arith, a, one, o.counted number, count-append number (numbers_under leaves lower) old.chain);
+        apart = λ m. omega (arith, apart m, o.counted m, count-append m (numbers_under leaves lower) old.chain, count-append m (numbers_under o.low o.rows) old.chain);
+        slot_is = s.frees.others number (omega (arith, a, one, o.counted number, s.split number, count-append number (numbers_under leaves lower) old.chain)) ∙ o.slot_is;
+        off_chain = omega (arith, a, one, o.counted number, s.split number, s.counted number, ap (λ z. count number z) s.frees.chain_is, count-append number s.given old.chain, count-append number (numbers_under leaves lower) old.chain);
+      }
+
+  -- the child at the index, and what lies below it
+  pub child_turn : (most : ℕ) (one : 1 ≤ half_of most) (old now : Table K V) (leaves : List (LevelNode K V)) (lower : List (List (LevelNode K ℕ))) (number index child : ℕ) → (s : Sweeping most old now leaves lower number index) → slice_get (children_of s.opened.content) index ≡ Some child → (x : K × ℕ) × (x.1 ≡ child) × (index < length s.opened.top) × Turn most one old s.opened.low s.opened.rows s.opened.top now index x
+  child_turn most one old now leaves lower number index child s found =
+      let i = item_at s.opened.top index child (ap (λ z. slice_get z index) (sym s.opened.children_are) ∙ found) in
+      (i.0, i.2, slice_get_within s.opened.top index i.0 i.1, sweep-turn most one old s.opened.low s.opened.rows s.opened.top now index i.0 s.apart s.swept i.1)

@@ -1,0 +1,17 @@
+-- Lemmas on going down and stepping.
+pub mod Following
+pub mod Sought
+pub mod LeafSearch
+pub mod Rising
+pub mod Downward
+pub mod Descent
+pub mod Whole
+pub mod Steps
+pub mod Entered
+pub mod Leading
+pub mod Pointed
+pub mod Backward
+pub mod Turns
+pub mod Trailing
+pub mod LastDown
+pub mod Standing

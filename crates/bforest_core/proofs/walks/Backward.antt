@@ -1,0 +1,123 @@
+-- A step of a path to the node or the entry before.
+use Rattle.std.proofs.Common.{◌≡◌, ◌≢◌, ℕ, zero, suc, ◌+◌, ◌-◌, ◌≤◌, ◌<◌, List, [], ◌∷◌, ◌++◌, length, get_or, slice_get, Some, refl, sym, ap, subst, ◌∙◌, arith, length-append}
+use Rattle.std.proofs.lemmas.List.{length-map}
+use Rattle.bforest_nodes.specs.Content.{Content, entry_count}
+use Rattle.bforest_core.specs.Levels.{LevelNode, node, flat, heads, Tree, IsFit, half_of}
+use Rattle.bforest_core.specs.Place.{RowIn, leaf_content, inner_content, StandsAbove, Stands, IsIn, IsPathAt, entry_before}
+use Rattle.bforest_core.specs.Steps.{Moved}
+use Rattle.bforest_core.proofs.walks.Steps.{Spot, Nth, nth, next_at}
+use Rattle.bforest_core.proofs.table.Tables.{row-split}
+use Rattle.bforest_core.proofs.table.Stored.{item_count}
+use Rattle.bforest_core.proofs.rows.Zipper.{stands-same}
+
+-- a row of no nodes has no entries
+none_flat : {K X : Type 0} (row : List (LevelNode K X)) → length row ≡ 0 → length (flat row) ≡ 0
+none_flat [] e = refl
+none_flat (x ∷ row) e = absurd (omega (arith, e))
+
+module _ {K V : Type 0} (slots : List (Content K V)) (path indices : List ℕ) (level up size : ℕ) (rows : List (List (LevelNode K ℕ))) (list : List (K × ℕ)) (place : ℕ) (up_is : up ≡ suc level) (s : Spot slots path indices up size rows list place) where
+  -- the last child of the node before is the child before
+  pub back_place : (head : K × ℕ) (n : Nth s.row (length s.before - 1) head) → 0 < length s.before → get_or indices up 0 ≡ 0 → (0 < place) × (place - 1 ≡ length (flat n.before) + length n.others)
+  back_place head n some none =
+      let f = next_at n.before head.1 (n.e ∷ n.others) n.after s.before (get_or path up 0) s.entries s.after (sym n.row_is ∙ s.row_is) (omega (arith, n.place_is, some)) in
+      let l = ap length f in
+      let a = length-append (flat n.before) (n.e ∷ n.others) in
+      (omega (arith, s.place_is, none, l, a), omega (arith, s.place_is, none, l, a))
+
+  -- no node before: it was the first child
+  pub first_place : length s.before ≡ 0 → get_or indices up 0 ≡ 0 → place ≡ 0
+  first_place first none = omega (arith, s.place_is, none, none_flat s.before first)
+
+module _ {K V : Type 0} (most : ℕ) (one : 1 ≤ half_of most) (slots : List (Content K V)) (path indices : List ℕ) (size : ℕ) (tree : Tree K V) (place : ℕ) (fit : IsFit most tree) (inside : IsIn slots tree) (s : Stands path indices size tree place) where
+  -- the entry before in the same leaf
+  pub back_within : (path' indices' : List ℕ) → path' ≡ path → 0 < get_or indices 0 0 → get_or indices' 0 0 ≡ get_or indices 0 0 - 1 → ((i : ℕ) → i ≢ 0 → get_or indices' i 0 ≡ get_or indices i 0) → (0 < place) × Stands path' indices' size tree (place - 1)
+  back_within path' indices' path_is some here above =
+      let n_is = ap (λ z. get_or z 0 0) path_is in (
+        omega (arith, some, s.leaf.place_is),
+        record {
+          leaf = record {
+            before = s.leaf.before;
+            entries = s.leaf.entries;
+            after = s.leaf.after;
+            row_is = s.leaf.row_is ∙ ap (λ z. s.leaf.before ++ node z s.leaf.entries ∷ s.leaf.after) (sym n_is);
+            within = omega (arith, here, s.leaf.within);
+            place_is = omega (arith, here, some, s.leaf.place_is);
+          };
+          above = stands-same path indices path' indices' 1 tree.above (length s.leaf.before) (λ i low. ap (λ z. get_or z i 0) path_is) (λ i low. above i (λ e. omega (arith, e, low))) s.above;
+          size_is = s.size_is;
+        },
+      )
+
+  module _ (path1 indices1 : List ℕ) (m : Moved path indices path1 indices1 0 tree.above (heads tree.leaves) (length s.leaf.before - 1)) where
+    -- the leaf before
+    pub back_leaf : Nth tree.leaves (length s.leaf.before - 1) m.head
+    back_leaf = nth (half_of most) most one tree.leaves fit.leaves_fit (length s.leaf.before - 1) m.head m.head_is
+
+    -- what its slot holds
+    pub back_slot : slice_get slots (get_or path1 0 0) ≡ Some (leaf_content (back_leaf.e ∷ back_leaf.others))
+    back_slot = ap (λ z. slice_get slots z) m.node_is ∙ (row-split leaf_content slots back_leaf.before (node m.head.1 (back_leaf.e ∷ back_leaf.others) ∷ back_leaf.after) (subst (λ (z : List (LevelNode K V)). RowIn leaf_content slots z) back_leaf.row_is inside.leaves_in)).1.0
+
+    -- its last entry
+    pub back_over : (path' indices' : List ℕ) → path' ≡ path1 → 0 < length s.leaf.before → get_or indices 0 0 ≡ 0 → get_or indices' 0 0 ≡ length back_leaf.others → ((i : ℕ) → i ≢ 0 → get_or indices' i 0 ≡ get_or indices1 i 0) → (0 < place) × Stands path' indices' size tree (place - 1)
+    back_over path' indices' path_is some none here above =
+        let n = back_leaf in
+        let f = next_at n.before m.head.1 (n.e ∷ n.others) n.after s.leaf.before (get_or path 0 0) s.leaf.entries s.leaf.after (sym n.row_is ∙ s.leaf.row_is) (omega (arith, n.place_is, some)) in
+        let l = ap length f in
+        let a = length-append (flat n.before) (n.e ∷ n.others) in
+        let n_is : get_or path' 0 0 ≡ m.head.1 = ap (λ z. get_or z 0 0) path_is ∙ m.node_is in (
+          omega (arith, s.leaf.place_is, none, l, a),
+          record {
+            leaf = record {
+              before = n.before;
+              entries = n.e ∷ n.others;
+              after = n.after;
+              row_is = n.row_is ∙ ap (λ z. n.before ++ node z (n.e ∷ n.others) ∷ n.after) (sym n_is);
+              within = omega (arith, here);
+              place_is = omega (arith, here, s.leaf.place_is, none, l, a);
+            };
+            above = subst (λ (z : ℕ). StandsAbove path' indices' 1 tree.above z) (sym n.place_is) (stands-same path1 indices1 path' indices' 1 tree.above (length s.leaf.before - 1) (λ i low. ap (λ z. get_or z i 0) path_is) (λ i low. above i (λ e. omega (arith, e, low))) m.stands);
+            size_is = s.size_is;
+          },
+        )
+
+  -- no leaf before: the first entry of all
+  pub back_first : length s.leaf.before ≡ 0 → get_or indices 0 0 ≡ 0 → place ≡ 0
+  back_first first none = omega (arith, s.leaf.place_is, none, none_flat s.leaf.before first)
+
+-- the last index of an inner node, and of a leaf
+pub last_child_is : {K : Type 0} (V : Type 0) (e : K × ℕ) (es : List (K × ℕ)) → entry_count {K = K} {V = V} (inner_content (e ∷ es)) - 1 ≡ length es
+last_child_is V e es = omega (arith, item_count es)
+
+pub last_entry_is : {K V : Type 0} (e : K × V) (es : List (K × V)) → entry_count (leaf_content (e ∷ es)) - 1 ≡ length es
+last_entry_is e es = omega (arith, length-map es (λ w. w.0))
+
+-- neither is empty
+pub some_child : {K : Type 0} (V : Type 0) (e : K × ℕ) (es : List (K × ℕ)) → 1 ≤ entry_count {K = K} {V = V} (inner_content (e ∷ es))
+some_child V e es = omega arith
+
+pub some_entry : {K V : Type 0} (e : K × V) (es : List (K × V)) → 1 ≤ entry_count (leaf_content (e ∷ es))
+some_entry e es = omega arith
+
+-- a place that is not the first
+pub before_is : {X : Type 0} (list : List X) (place : ℕ) → 0 < place → slice_get list (place - 1) ≡ entry_before list place
+before_is list zero some = absurd (omega (arith, some))
+before_is list (suc place) some = let e : suc place - 1 ≡ place = omega arith in ap (λ z. slice_get list z) e
+
+module _ {K V : Type 0} (path indices : List ℕ) (tree : Tree K V) (place : ℕ) where
+  -- a path with nodes stands at an entry
+  pub at_entry : (size : ℕ) → size ≢ 0 → IsPathAt path indices size tree place → Stands path indices size tree place
+  at_entry zero some at = absurd (some refl)
+  at_entry (suc size) some at = at
+
+  -- a path without is at the end
+  pub at_end : (size : ℕ) → size ≡ 0 → IsPathAt path indices size tree place → place ≡ length (flat tree.leaves)
+  at_end zero none at = at
+  at_end (suc size) none at = absurd (omega (arith, none))
+
+-- the same path stands where it stood
+pub stay : {K V : Type 0} (path indices : List ℕ) (size : ℕ) (path' indices' : List ℕ) (size' : ℕ) (tree : Tree K V) (place place' : ℕ) → path' ≡ path → indices' ≡ indices → size' ≡ size → place' ≡ place → Stands path indices size tree place → Stands path' indices' size' tree place'
+stay path indices size path' indices' size' tree place place' path_is indices_are size_is place_is s =
+    subst (λ (z : List ℕ). Stands z indices' size' tree place') (sym path_is)
+    (subst (λ (z : List ℕ). Stands path z size' tree place') (sym indices_are)
+    (subst (λ (z : ℕ). Stands path indices z tree place') (sym size_is)
+    (subst (λ (z : ℕ). Stands path indices size tree z) (sym place_is) s)))

@@ -1,0 +1,108 @@
+-- Rows seen from the top: the highest of them, and the node of a row that is seen from above.
+use Rattle.std.proofs.Common.{◌≡◌, ℕ, suc, ◌+◌, ◌≤◌, ◌<◌, List, [], ◌∷◌, ◌++◌, length, get_or, refl, sym, ap, subst, ◌∙◌, arith}
+use Rattle.std.specs.List.Sorted.{IsStrictlySortedBy}
+use Rattle.std.specs.List.{AllByRecursion}
+use Rattle.std.specs.Map.{keys_of}
+use Rattle.std.specs.declared.cmp.Ordering.{Ordering}
+use Rattle.std.specs.declared.cmp.Ordering.TheVariants.{Less}
+use Rattle.bforest_nodes.specs.Content.{Content}
+use Rattle.bforest_nodes.specs.Entries.{IsIncreasing}
+use Rattle.bforest_core.specs.Levels.{LevelNode, node, flat, heads, FitRow}
+use Rattle.bforest_core.specs.Place.{RowIn, RowsIn, inner_content, IsAt}
+use Rattle.bforest_core.specs.Descent.{StackedTo, StandsTo, IsUpTo}
+use Rattle.bforest_core.proofs.rows.LevelRows.{least-pos}
+use Rattle.bforest_core.proofs.walks.Rising.{all_split}
+
+-- the last of some elements
+pub record Last {A : Type 0} (xs : List A) : Type 0 where
+  pub init : List A
+  pub last : A
+  pub is : xs ≡ init ++ last ∷ []
+
+pub last_of : {A : Type 0} (x : A) (xs : List A) → Last (x ∷ xs)
+last_of x [] = record { init = []; last = x; is = refl }
+last_of x (y ∷ xs) = let r = last_of y xs in record { init = x ∷ r.init; last = r.last; is = ap (λ z. x ∷ z) r.is }
+
+module _ {K : Type 0} where
+  pub stacked_last : (list : List (K × ℕ)) (rows : List (List (LevelNode K ℕ))) (row : List (LevelNode K ℕ)) (top : List (K × ℕ)) → StackedTo list (rows ++ row ∷ []) top → StackedTo list rows (flat row) × FitRow 4 8 row × (heads row ≡ top)
+  stacked_last list [] row top s = (sym s.0, s.1, s.2)
+  stacked_last list (r ∷ rows) row top s = let w = stacked_last (heads r) rows row top s.2 in ((s.0, s.1, w.0), w.1, w.2)
+
+  pub in_last : {V : Type 0} (slots : List (Content K V)) (rows : List (List (LevelNode K ℕ))) (row : List (LevelNode K ℕ)) → RowsIn slots (rows ++ row ∷ []) → RowsIn slots rows × RowIn inner_content slots row
+  in_last slots [] row i = (tt, i.0)
+  in_last slots (r ∷ rows) row i = let w = in_last slots rows row i.1 in ((i.0, w.0), w.1)
+
+  -- one row more at the top
+  pub stands_more : (path indices : List ℕ) (level : ℕ) (rows : List (List (LevelNode K ℕ))) (row : List (LevelNode K ℕ)) (place q high : ℕ) → StandsTo path indices level rows place q → high ≡ level + length rows → (at : IsAt row (get_or path high 0) (get_or indices high 0) q) →
+      StandsTo path indices level (rows ++ row ∷ []) place (length at.before)
+  stands_more path indices level [] row place q high s e at =
+      let h : high ≡ level = omega (arith, e) in
+      (record { before = at.before; entries = at.entries; after = at.after; row_is = rw h at at.row_is; within = rw h at at.within; place_is = s ∙ (rw h at at.place_is) }, refl)
+  stands_more path indices level (r ∷ rows) row place q high s e at =
+      (s.0, stands_more path indices (suc level) rows row (length s.0.before) q high s.1 (omega (arith, e)) at)
+
+  -- a path that is the same on these levels stands where it stood
+  pub stands_same : (ms js ms' js' : List ℕ) (level : ℕ) (rows : List (List (LevelNode K ℕ))) (place top : ℕ) → ((i : ℕ) → i < level + length rows → get_or ms' i 0 ≡ get_or ms i 0) → ((i : ℕ) → i < level + length rows → get_or js' i 0 ≡ get_or js i 0) → StandsTo ms js level rows place top → StandsTo ms' js' level rows place top
+  stands_same ms js ms' js' level [] place top f g s = s
+  stands_same ms js ms' js' level (row ∷ rows) place top f g s =
+      let fm = f level (omega arith) in
+      let gj = g level (omega arith) in
+      let at = s.0 in (
+        record { before = at.before; entries = at.entries; after = at.after; row_is = rw fm at.row_is; within = rw gj at.within; place_is = rw gj at.place_is },
+        stands_same ms js ms' js' (suc level) rows (length at.before) top (λ i low. f i (omega (arith, low))) (λ i low. g i (omega (arith, low))) s.1,
+      )
+
+cons_same : {A : Type 0} (p q : A) (xs ys : List A) → p ∷ xs ≡ q ∷ ys → (p ≡ q) × (xs ≡ ys)
+cons_same p q xs ys e = (cc, cc)
+
+-- the node of a row that stands between these, seen from above
+pub record Seen {K X : Type 0} (row : List (LevelNode K X)) (a : List (K × ℕ)) (first : K) (number : ℕ) (b : List (K × ℕ)) : Type 0 where
+  pub before : List (LevelNode K X)
+  pub e : K × X
+  pub es : List (K × X)
+  pub after : List (LevelNode K X)
+  pub row_is : row ≡ before ++ node number (e ∷ es) ∷ after
+  pub first_is : e.0 ≡ first
+  pub before_is : length before ≡ length a
+  pub after_is : heads after ≡ b
+
+module _ {K X : Type 0} where
+  pub seen : (half most : ℕ) → 1 ≤ half → (row : List (LevelNode K X)) (a : List (K × ℕ)) (first : K) (number : ℕ) (b : List (K × ℕ)) → FitRow half most row → heads row ≡ a ++ (first, number) ∷ b → Seen row a first number b
+  seen half most one [] [] first number b f h = absurd cc
+  seen half most one [] (z ∷ a) first number b f h = absurd cc
+  seen half most one (node m [] ∷ ns) a first number b f h = absurd (omega (arith, f.0, least-pos half one ns))
+  seen half most one (node m (e ∷ es) ∷ ns) [] first number b f h =
+      let s = cons_same (e.0, m) (first, number) (heads ns) b h in
+      record { before = []; e = e; es = es; after = ns; row_is = ap (λ z. node z (e ∷ es) ∷ ns) (ap (λ z. z.1) s.0); first_is = ap (λ z. z.0) s.0; before_is = refl; after_is = s.1 }
+  seen half most one (node m (e ∷ es) ∷ ns) (z ∷ a) first number b f h =
+      let s = cons_same (e.0, m) z (heads ns) (a ++ (first, number) ∷ b) h in
+      let r = seen half most one ns a first number b f.2 s.1 in
+      record { before = node m (e ∷ es) ∷ r.before; e = r.e; es = r.es; after = r.after; row_is = ap (λ w. node m (e ∷ es) ∷ w) r.row_is; first_is = r.first_is; before_is = ap suc r.before_is; after_is = r.after_is }
+
+  -- what holds of all keys of a row holds of those that are seen
+  heads_all : (P : K → Type 0) (row : List (LevelNode K X)) → AllByRecursion P (keys_of (flat row)) → AllByRecursion P (keys_of (heads row))
+  heads_all P [] h = tt
+  heads_all P (node m [] ∷ ns) h = heads_all P ns h
+  heads_all P (node m (e ∷ es) ∷ ns) h = (h.0, heads_all P ns (all_split P es (flat ns) h.1).1)
+
+  -- the nodes of a row increase as its entries do
+  pub heads_increasing : (cmp : K → K → Ordering) (row : List (LevelNode K X)) → IsIncreasing cmp (flat row) → IsIncreasing cmp (heads row)
+  unfolding IsStrictlySortedBy
+  heads_increasing cmp [] h = tt
+  heads_increasing cmp (node m [] ∷ ns) h = heads_increasing cmp ns h
+  heads_increasing cmp (node m (e ∷ es) ∷ ns) h = (heads_all (λ k. cmp e.0 k ≡ Less) ns (all_split (λ k. cmp e.0 k ≡ Less) es (flat ns) h.0).1, heads_increasing cmp ns (rest es h.1))
+    where
+      rest : (es : List (K × X)) → IsStrictlySortedBy cmp (keys_of (es ++ flat ns)) → IsIncreasing cmp (flat ns)
+      rest [] h = h
+      rest (e ∷ es) h = rest es h.1
+
+  -- the key is before a row's entries as it is before its nodes
+  pub upto_flat : (cmp : K → K → Ordering) (half most : ℕ) → 1 ≤ half → (row : List (LevelNode K X)) (key : K) → FitRow half most row → IsUpTo cmp (heads row) key → IsUpTo cmp (flat row) key
+  upto_flat cmp half most one [] key f u = tt
+  upto_flat cmp half most one (node m [] ∷ ns) key f u = absurd (omega (arith, f.0, least-pos half one ns))
+  upto_flat cmp half most one (node m (e ∷ es) ∷ ns) key f u = u
+
+-- the nodes of the top increase as the entries of the lowest row do
+pub stacked_increasing : {K : Type 0} (cmp : K → K → Ordering) (list : List (K × ℕ)) (rows : List (List (LevelNode K ℕ))) (top : List (K × ℕ)) → StackedTo list rows top → IsIncreasing cmp list → IsIncreasing cmp top
+stacked_increasing cmp list [] top s h = subst (IsIncreasing cmp) s h
+stacked_increasing cmp list (row ∷ rows) top s h = stacked_increasing cmp (heads row) rows top s.2 (heads_increasing cmp row (subst (IsIncreasing cmp) (sym s.0) h))

@@ -1,0 +1,78 @@
+-- A step of a path from entry to entry of a tree.
+use Rattle.std.proofs.Common.{◌≡◌, ◌≢◌, ℕ, zero, suc, ◌+◌, ◌≤◌, ◌<◌, List, [], ◌∷◌, ◌++◌, length, get_or, slice_get, Option, Some, sym, ap, subst, ◌∙◌, arith, length-append}
+use Rattle.bforest_nodes.specs.Content.{Content}
+use Rattle.bforest_core.specs.Levels.{LevelNode, node, flat, heads, FitRow, Tree, IsFit, half_of}
+use Rattle.bforest_core.specs.Place.{RowIn, leaf_content, entry_keys, entry_items, StandsAbove, Stands, IsIn}
+use Rattle.bforest_core.specs.Steps.{Over, Moved}
+use Rattle.bforest_core.proofs.rows.LevelRows.{FitRow-split}
+use Rattle.bforest_core.proofs.walks.Steps.{fit_full, entry_at, read, nth, next_at, none_behind, not_less}
+use Rattle.bforest_core.proofs.table.Stored.{some_same}
+use Rattle.bforest_core.proofs.table.Tables.{row-split}
+use Rattle.bforest_core.proofs.rows.Zipper.{stands-same}
+
+-- an entry from its key and its value
+pub pair_read : {K X : Type 0} (es : List (K × X)) (i : ℕ) (k : K) (x : X) → slice_get (entry_keys es) i ≡ Some k → slice_get (entry_items es) i ≡ Some x → slice_get es i ≡ Some (k, x)
+pair_read [] i k x e f = absurd cc
+pair_read (y ∷ es) zero k x e f =
+    let a : y.0 ≡ k = some_same y.0 k e in
+    let b : y.1 ≡ x = some_same y.1 x f in
+    ap (λ z. Some (z, y.1)) a ∙ ap (λ z. Some (k, z)) b
+pair_read (y ∷ es) (suc i) k x e f = pair_read es i k x e f
+
+module _ {K V : Type 0} (most : ℕ) (one : 1 ≤ half_of most) (slots : List (Content K V)) (path indices : List ℕ) (size : ℕ) (tree : Tree K V) (place : ℕ) (fit : IsFit most tree) (inside : IsIn slots tree) (s : Stands path indices size tree place) where
+  pub leaf_slot : slice_get slots (get_or path 0 0) ≡ Some (leaf_content s.leaf.entries)
+  leaf_slot = (row-split leaf_content slots s.leaf.before (node (get_or path 0 0) s.leaf.entries ∷ s.leaf.after) (subst (λ (z : List (LevelNode K V)). RowIn leaf_content slots z) s.leaf.row_is inside.leaves_in)).1.0
+
+  pub leaf_room : length s.leaf.entries ≤ most
+  leaf_room = (FitRow-split (half_of most) most s.leaf.before (node (get_or path 0 0) s.leaf.entries) s.leaf.after (subst (λ (z : List (LevelNode K V)). FitRow (half_of most) most z) s.leaf.row_is fit.leaves_fit)).1.1
+
+  pub over_leaves : Over slots path indices 1 size tree.above (heads tree.leaves) (length s.leaf.before)
+  over_leaves = record { stacked = fit.stacked; inside = inside.rows_in; stands = s.above; height = omega (arith, s.size_is) }
+
+  -- the entry at the place
+  pub entry_is : (o : Option (K × V)) → slice_get s.leaf.entries (get_or indices 0 0) ≡ o → slice_get (flat tree.leaves) place ≡ o
+  entry_is o e =
+      let x = read s.leaf.entries (get_or indices 0 0) s.leaf.within in
+      ap (λ z. slice_get (flat tree.leaves) z) s.leaf.place_is ∙ entry_at tree.leaves s.leaf.before (get_or path 0 0) s.leaf.entries s.leaf.after (get_or indices 0 0) x.0 s.leaf.row_is x.1 ∙ sym x.1 ∙ e
+
+  -- the next entry of the same leaf
+  pub entry_within : (path' indices' : List ℕ) → path' ≡ path → get_or indices' 0 0 ≡ get_or indices 0 0 + 1 → ((i : ℕ) → i ≢ 0 → get_or indices' i 0 ≡ get_or indices i 0) → get_or indices 0 0 + 1 < length s.leaf.entries → Stands path' indices' size tree (suc place)
+  entry_within path' indices' path_is here above low =
+      let n_is = ap (λ z. get_or z 0 0) path_is in
+      record {
+        leaf = record {
+          before = s.leaf.before;
+          entries = s.leaf.entries;
+          after = s.leaf.after;
+          row_is = s.leaf.row_is ∙ ap (λ z. s.leaf.before ++ node z s.leaf.entries ∷ s.leaf.after) (sym n_is);
+          within = omega (arith, here, low);
+          place_is = omega (arith, here, s.leaf.place_is);
+        };
+        above = stands-same path indices path' indices' 1 tree.above (length s.leaf.before) (λ i low. ap (λ z. get_or z i 0) path_is) (λ i low. above i (λ e. omega (arith, e, low))) s.above;
+        size_is = s.size_is;
+      }
+
+  -- the first entry of the next leaf
+  pub entry_over : (path1 indices1 path' indices' : List ℕ) → Moved path indices path1 indices1 0 tree.above (heads tree.leaves) (suc (length s.leaf.before)) → path' ≡ path1 → get_or indices' 0 0 ≡ 0 → ((i : ℕ) → i ≢ 0 → get_or indices' i 0 ≡ get_or indices1 i 0) → (get_or indices 0 0 + 1 < length s.leaf.entries → ⊥) → Stands path' indices' size tree (suc place)
+  entry_over path1 indices1 path' indices' m path_is here above past =
+      let n = nth (half_of most) most one tree.leaves fit.leaves_fit (suc (length s.leaf.before)) m.head m.head_is in
+      let f = next_at s.leaf.before (get_or path 0 0) s.leaf.entries s.leaf.after n.before m.head.1 (n.e ∷ n.others) n.after (sym s.leaf.row_is ∙ n.row_is) n.place_is in
+      let n_is : get_or path' 0 0 ≡ m.head.1 = ap (λ z. get_or z 0 0) path_is ∙ m.node_is in
+      record {
+        leaf = record {
+          before = n.before;
+          entries = n.e ∷ n.others;
+          after = n.after;
+          row_is = n.row_is ∙ ap (λ z. n.before ++ node z (n.e ∷ n.others) ∷ n.after) (sym n_is);
+          within = omega (arith, here);
+          place_is = omega (arith, here, s.leaf.place_is, s.leaf.within, not_less (get_or indices 0 0 + 1) (length s.leaf.entries) past, ap length f, length-append (flat s.leaf.before) s.leaf.entries);
+        };
+        above = subst (λ (z : ℕ). StandsAbove path' indices' 1 tree.above z) (sym n.place_is) (stands-same path1 indices1 path' indices' 1 tree.above (suc (length s.leaf.before)) (λ i low. ap (λ z. get_or z i 0) path_is) (λ i low. above i (λ e. omega (arith, e, low))) m.stands);
+        size_is = s.size_is;
+      }
+
+  -- the last entry of all
+  pub entry_last : (get_or indices 0 0 + 1 < length s.leaf.entries → ⊥) → suc (length s.leaf.before) ≡ length (heads tree.leaves) → suc place ≡ length (flat tree.leaves)
+  entry_last past last =
+      let b = none_behind tree.leaves s.leaf.before (get_or path 0 0) s.leaf.entries s.leaf.after s.leaf.row_is (last ∙ fit_full (half_of most) most one tree.leaves fit.leaves_fit) in
+      omega (arith, s.leaf.place_is, s.leaf.within, not_less (get_or indices 0 0 + 1) (length s.leaf.entries) past, b)

@@ -1,0 +1,154 @@
+-- Lists of entries that increase, cut in parts, and where a key lies among them.
+use Rattle.std.proofs.Common.{◌≡◌, ◌≢◌, ℕ, zero, suc, ◌+◌, ◌≤◌, Bool, true, false, cond, if◌then◌else◌, List, [], ◌∷◌, ◌++◌, length, slice_get, Option, Some, None, refl, sym, ap, ◌∙◌, arith}
+use Rattle.std.proofs.lemmas.List.Sums.{sum_by-cons, sum_by-append}
+use Rattle.std.proofs.lemmas.Cmp.{alike_right}
+use Rattle.std.specs.Cmp.{IsTotalOrder}
+use Rattle.std.specs.List.Sorted.{IsStrictlySortedBy}
+use Rattle.std.specs.List.{AllByRecursion}
+use Rattle.std.specs.Map.{keys_of}
+use Rattle.std.specs.Option.{is_some, option_and_then}
+use Rattle.std.specs.Ordering.{is_eq, is_gt, is_lt}
+use Rattle.std.specs.declared.cmp.Ordering.{Ordering}
+use Rattle.std.specs.declared.cmp.Ordering.TheVariants.{Less, Equal, Greater}
+use Rattle.bforest_nodes.specs.Entries.{IsIncreasing, place, entry_for, is_present}
+use Rattle.bforest_core.specs.Descent.{child_index}
+use Rattle.bforest_nodes.proofs.Searched.{all_greater_behind, count_up_to-no, count_up_to-none, count_up_to-yes}
+use Rattle.bforest_nodes.proofs.Ordered.{place-later, place-here}
+use Rattle.bforest_core.proofs.table.Lists.{slice_get-append-add}
+
+-- a property of all keys, over a list in two parts
+pub all_split : {K X : Type 0} (P : K → Type 0) (xs ys : List (K × X)) → AllByRecursion P (keys_of (xs ++ ys)) → AllByRecursion P (keys_of xs) × AllByRecursion P (keys_of ys)
+all_split P [] ys h = (tt, h)
+all_split P (x ∷ xs) ys h = let r = all_split P xs ys h.1 in ((h.0, r.0), r.1)
+
+module _ {K : Type 0} (cmp : K → K → Ordering) (o : IsTotalOrder cmp) where
+  -- less than one that is not greater
+  pub less_from : (p q k : K) → cmp p q ≡ Less → cmp q k ≢ Greater → cmp p k ≡ Less
+  less_from p q k l ng = go (cmp q k) refl
+    where
+      go : (r : Ordering) → cmp q k ≡ r → cmp p k ≡ Less
+      go Less t = o.trans p q k l t
+      go Equal t = sym (alike_right o q k p t) ∙ l
+      go Greater t = absurd (ng t)
+
+  -- all less
+  pub all_less : (q k : K) (ps : List K) → AllByRecursion (λ p. cmp p q ≡ Less) ps → cmp q k ≢ Greater → AllByRecursion (λ p. cmp p k ≡ Less) ps
+  all_less q k [] h ng = tt
+  all_less q k (p ∷ ps) h ng = (less_from p q k h.0 ng, all_less q k ps h.1 ng)
+
+  module _ {X : Type 0} where
+    -- the two parts increase, and each key of the first is less than that of an entry behind it
+    pub increasing_split : (xs ys : List (K × X)) → IsIncreasing cmp (xs ++ ys) → IsIncreasing cmp xs × IsIncreasing cmp ys
+    unfolding IsStrictlySortedBy
+    increasing_split [] ys h = (tt, h)
+    increasing_split (x ∷ xs) ys h =
+        let r = increasing_split xs ys h.1 in
+        ((((all_split (λ k. cmp x.0 k ≡ Less) xs ys h.0).0, r.0)), r.1)
+
+    pub all_before : (xs : List (K × X)) (y : K × X) (ys : List (K × X)) → IsIncreasing cmp (xs ++ y ∷ ys) → AllByRecursion (λ k. cmp k y.0 ≡ Less) (keys_of xs)
+    unfolding IsStrictlySortedBy
+    all_before [] y ys h = tt
+    all_before (x ∷ xs) y ys h = ((all_split (λ k. cmp x.0 k ≡ Less) xs (y ∷ ys) h.0).1.0, all_before xs y ys h.1)
+
+    pub increasing_rest : (x : K × X) (xs : List (K × X)) → IsIncreasing cmp (x ∷ xs) → IsIncreasing cmp xs
+    unfolding IsStrictlySortedBy
+    increasing_rest x xs h = h.1
+
+    -- the place of a key in two parts
+    pub place-append : (xs ys : List (K × X)) (k : K) → place cmp (xs ++ ys) k ≡ place cmp xs k + place cmp ys k
+    place-append xs ys k = sum_by-append (λ (y : K × X). cond (is_lt (cmp y.0 k)) 1 0) xs ys
+
+    -- behind a list whose keys are all less
+    pub place_all : (xs : List (K × X)) (k : K) → AllByRecursion (λ p. cmp p k ≡ Less) (keys_of xs) → place cmp xs k ≡ length xs
+    place_all [] k h = refl
+    place_all (x ∷ xs) k h = place-later cmp o x xs k h.0 ∙ ap suc (place_all xs k h.1)
+
+    -- in front of one whose first key is greater
+    pub place_none : (xs : List (K × X)) (k : K) → IsIncreasing cmp xs → AllByRecursion (λ p. cmp p k ≡ Greater) (keys_of xs) → place cmp xs k ≡ 0
+    place_none [] k i h = refl
+    place_none (x ∷ xs) k i h = place-here cmp o x xs k i (ap is_lt h.0)
+
+    -- never past the end
+    pub place-le : (xs : List (K × X)) (k : K) → place cmp xs k ≤ length xs
+    place-le [] k = omega arith
+    place-le (x ∷ xs) k =
+        go (is_lt (cmp x.0 k)) (sum_by-cons (λ (y : K × X). cond (is_lt (cmp y.0 k)) 1 0) x xs) (place-le xs k)
+      where
+        go : (b : Bool) → place cmp (x ∷ xs) k ≡ cond b 1 0 + place cmp xs k → place cmp xs k ≤ length xs → place cmp (x ∷ xs) k ≤ length (x ∷ xs)
+        go true s le = omega (arith, s, le)
+        go false s le = omega (arith, s, le)
+
+    -- what a search at a place within the first part finds, where all behind it is greater
+    abbrev pub test_at : List (K × X) → K → ℕ → Option (K × X)
+    test_at es k i = option_and_then (λ e. if is_eq (cmp e.0 k) then Some e else None) (slice_get es i)
+
+    pub test_past : (ys : List (K × X)) (k : K) → AllByRecursion (λ p. cmp p k ≡ Greater) (keys_of ys) → test_at ys k 0 ≡ None
+    test_past [] k h = refl
+    test_past (y ∷ ys) k h = ap (λ r. if is_eq r then Some y else None) h.0
+
+    pub test_front : (xs ys : List (K × X)) (k : K) (i : ℕ) → i ≤ length xs → AllByRecursion (λ p. cmp p k ≡ Greater) (keys_of ys) → test_at (xs ++ ys) k i ≡ test_at xs k i
+    test_front [] ys k zero le h = test_past ys k h
+    test_front [] ys k (suc i) le h = absurd (omega (arith, le))
+    test_front (x ∷ xs) ys k zero le h = refl
+    test_front (x ∷ xs) ys k (suc i) le h = test_front xs ys k i (omega (arith, le)) h
+
+    -- a list in three parts: the keys of the first are less, and those of the last greater
+    module _ (xs es ys : List (K × X)) (k : K) (increasing : IsIncreasing cmp ys) (low : AllByRecursion (λ p. cmp p k ≡ Less) (keys_of xs)) (high : AllByRecursion (λ p. cmp p k ≡ Greater) (keys_of ys)) where
+      pub place_between : place cmp (xs ++ (es ++ ys)) k ≡ length xs + place cmp es k
+      place_between =
+          omega (arith, place-append xs (es ++ ys) k, place-append es ys k, place_all xs k low, place_none ys k increasing high)
+
+      pub entry_between : entry_for cmp (xs ++ (es ++ ys)) k ≡ entry_for cmp es k
+      entry_between =
+          ap (λ i. test_at (xs ++ (es ++ ys)) k i) place_between
+          ∙ ap (λ e. option_and_then (λ e. if is_eq (cmp e.0 k) then Some e else None) e) (slice_get-append-add xs (es ++ ys) (place cmp es k))
+          ∙ test_front es ys k (place cmp es k) (place-le es k) high
+
+    -- a first key that is not greater: its place is not the first, or it is present
+    pub first_passed : (e : K × X) (es : List (K × X)) (k : K) → IsIncreasing cmp (e ∷ es) → cmp e.0 k ≢ Greater → is_present cmp (e ∷ es) k ≡ false → place cmp (e ∷ es) k ≢ 0
+    first_passed e es k i ng absent = go (cmp e.0 k) refl
+      where
+        go : (r : Ordering) → cmp e.0 k ≡ r → place cmp (e ∷ es) k ≢ 0
+        go Less t = λ z. omega (arith, z, place-later cmp o e es k t)
+        go Equal t = λ z.
+            let p : is_present cmp (e ∷ es) k ≡ true = ap (λ n. is_some (test_at (e ∷ es) k n)) z ∙ ap (λ r. is_some (if is_eq r then Some e else None)) t in
+            let bad : true ≡ false = sym p ∙ absent in absurd (cc)
+        go Greater t = absurd (ng t)
+
+  -- all keys of an increasing list are greater where the first is
+  pub all_greater : {X : Type 0} (ys : List (K × X)) (k : K) → IsIncreasing cmp ys → ((y : K × X) (c : List (K × X)) → ys ≡ y ∷ c → cmp y.0 k ≡ Greater) → AllByRecursion (λ p. cmp p k ≡ Greater) (keys_of ys)
+  unfolding IsStrictlySortedBy
+  all_greater [] k i h = tt
+  all_greater (y ∷ ys) k i h = (h y ys refl, all_greater_behind cmp k o y.0 (keys_of ys) i.0 (ap is_lt (h y ys refl)))
+
+  -- where a search among separators divides them
+  pub record Sides {X : Type 0} (es : List (K × X)) (k : K) (i : ℕ) : Type 0 where
+    pub l : List (K × X)
+    pub r : List (K × X)
+    pub es_is : es ≡ l ++ r
+    pub i_is : length l ≡ i
+    pub low : AllByRecursion (λ p. cmp p k ≢ Greater) (keys_of l)
+    pub high : AllByRecursion (λ p. cmp p k ≡ Greater) (keys_of r)
+
+  no_greater : (p k : K) (r : Ordering) → cmp p k ≡ r → (r ≡ Greater → ⊥) → cmp p k ≢ Greater
+  no_greater p k r t n = λ g. n (sym t ∙ g)
+
+  pub sides : {X : Type 0} (es : List (K × X)) (k : K) → IsIncreasing cmp es → Sides es k (child_index cmp (keys_of es) k)
+  unfolding IsStrictlySortedBy
+  sides [] k h = record { l = []; r = []; es_is = refl; i_is = refl; low = tt; high = tt }
+  sides {X} (e ∷ es) k h = go (cmp e.0 k) refl (sides es k h.1)
+    where
+      ks : List K
+      ks = keys_of es
+
+      behind : is_lt (cmp e.0 k) ≡ false → AllByRecursion (λ p. cmp p k ≡ Greater) ks
+      behind t = all_greater_behind cmp k o e.0 ks h.0 t
+
+      go : (r : Ordering) → cmp e.0 k ≡ r → Sides es k (child_index cmp ks k) → Sides (e ∷ es) k (child_index cmp (e.0 ∷ ks) k)
+      go Less t s = record { l = e ∷ s.l; r = s.r; es_is = ap (λ z. e ∷ z) s.es_is; i_is = ap suc s.i_is ∙ sym (count_up_to-yes cmp e.0 ks k (ap is_gt t)); low = (no_greater e.0 k Less t (λ x. absurd (cc)), s.low); high = s.high }
+      go Equal t s =
+          let one : child_index cmp (e.0 ∷ ks) k ≡ 1 = count_up_to-yes cmp e.0 ks k (ap is_gt t) ∙ ap suc (count_up_to-none cmp k ks (behind (ap is_lt t))) in
+          record { l = e ∷ []; r = es; es_is = refl; i_is = sym one; low = (no_greater e.0 k Equal t (λ x. absurd (cc)), tt); high = behind (ap is_lt t) }
+      go Greater t s =
+          let none : child_index cmp (e.0 ∷ ks) k ≡ 0 = count_up_to-no cmp e.0 ks k (ap is_gt t) ∙ count_up_to-none cmp k ks (behind (ap is_lt t)) in
+          record { l = []; r = e ∷ es; es_is = refl; i_is = sym none; low = tt; high = (t, behind (ap is_lt t)) }
