@@ -5,7 +5,7 @@ use Rattle.std.specs.declared.cmp.Ordering.TheVariants.{Greater}
 use Rattle.bforest_nodes.specs.Content.{Content}
 use Rattle.bforest_nodes.specs.Search.{count_up_to}
 use Rattle.bforest_nodes.specs.Entries.{place, is_present}
-use Rattle.bforest_core.specs.Levels.{LevelNode, node, flat, heads, FitRow, half_of, Tree, IsFit}
+use Rattle.bforest_core.specs.Levels.{LevelNode, node, flat, heads, FitRow, half_of, Tree, IsFit, top_level}
 use Rattle.bforest_core.specs.Place.{RowIn, RowsIn, leaf_content, IsAt, IsIn, root_of, StandsAbove}
 
 -- the path above a level is as before
@@ -97,7 +97,7 @@ pub record IsRooted {K V : Type 0} (most : ℕ) (slots : List (Content K V)) (ro
   pub inside : IsIn slots tree
   pub root_is : root_of tree ≡ root
   pub some : 1 ≤ length (flat tree.leaves)
-  pub low : length tree.above ≤ 16
+  pub low : length tree.above ≤ top_level
 
 -- the path stands in the tree where a search for the key ends
 pub record StandsFor {K V : Type 0} (cmp : K → K → Ordering) (path indices : List ℕ) (size : ℕ) (tree : Tree K V) (key : K) : Type 0 where

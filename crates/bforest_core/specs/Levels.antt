@@ -1,6 +1,14 @@
 -- A B+-tree, level by level: each level is the row of its nodes from left to right.
 use Rattle.std.specs.Prelude.{◌≡◌, ℕ, ◌+◌, ◌/◌, ◌≤◌, List, [], ◌∷◌, ◌++◌, map, length}
 
+-- a tree has at most so many levels, counted from the leaves
+abbrev pub most_levels : ℕ
+most_levels = 17
+
+-- the highest of them, where the leaves are level 0
+abbrev pub top_level : ℕ
+top_level = 16
+
 -- a node is its number and its entries: a key with a value in a leaf, the first key below a child with the
 -- child's number in an inner node
 pub data LevelNode (K X : Type 0) : Type 0 where

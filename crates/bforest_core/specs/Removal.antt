@@ -3,7 +3,7 @@ use Rattle.std.specs.Prelude.{remove, ◌≡◌, ◌≢◌, ℕ, suc, ◌+◌, �
 use Rattle.std.specs.List.{flat_map}
 use Rattle.bforest_nodes.specs.Content.{Content, IsFree}
 use Rattle.bforest_core.specs.Table.{Table}
-use Rattle.bforest_core.specs.Levels.{LevelNode, node, flat, heads, sizes, numbers, FitRow, Solid, Stacked, Topped, least, Tree, IsFit, half_of, sizes_of}
+use Rattle.bforest_core.specs.Levels.{LevelNode, node, flat, heads, sizes, numbers, FitRow, Solid, Stacked, Topped, least, Tree, IsFit, half_of, sizes_of, top_level}
 use Rattle.bforest_core.specs.Sizes.{settled, shrink}
 use Rattle.bforest_core.specs.Place.{RowIn, RowsIn, IsIn, leaf_content, inner_content, count, Distinct, root_above, root_of, numbers_of, Stands, IsPathAt}
 use Rattle.bforest_core.specs.Climb.{Above, SameBelow, top_of}
@@ -157,7 +157,7 @@ module _ {K V : Type 0} where
     pub fit : IsFit most tree
     pub inside : IsIn table.nodes tree
     pub apart : Distinct (numbers_of tree ++ table.chain)
-    pub low : length tree.above ≤ 16
+    pub low : length tree.above ≤ top_level
     pub stands : Stands path indices size tree place
 
   -- the entry at the place went out of the path's leaf, which has others: the path is where it was, at the next entry or

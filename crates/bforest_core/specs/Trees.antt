@@ -3,7 +3,7 @@ use Rattle.std.specs.Prelude.{◌≡◌, ℕ, zero, suc, ◌≤◌, ◌↔◌, �
 use Rattle.std.specs.List.{flat_map, zip}
 use Rattle.bforest_nodes.specs.Content.{Content, Inner, Leaf, Free, IsFree, IsLeafCapacity, children_of}
 use Rattle.bforest_core.specs.Table.{Table}
-use Rattle.bforest_core.specs.Levels.{LevelNode, node, flat, heads, Tree, IsFit}
+use Rattle.bforest_core.specs.Levels.{LevelNode, node, flat, heads, Tree, IsFit, top_level}
 use Rattle.bforest_core.specs.Place.{IsIn, numbers_of, count}
 
 module _ {K V : Type 0} where
@@ -73,7 +73,7 @@ module _ {K V : Type 0} where
     pub fit : Every (IsFit most) trees
     pub inside : Every (IsIn table.nodes) trees
     pub some : Every (λ (tree : Tree K V). 1 ≤ length (flat tree.leaves)) trees
-    pub low : Every (λ (tree : Tree K V). length tree.above ≤ 16) trees
+    pub low : Every (λ (tree : Tree K V). length tree.above ≤ top_level) trees
     pub free : Every (λ (number : ℕ). IsFree (slot table.nodes number)) table.chain
     pub account : (number : ℕ) → count number (flat_map numbers_of trees ++ table.chain) ≡ (if nat_lt number (length table.nodes) then 1 else 0)
 

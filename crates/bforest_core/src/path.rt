@@ -15,13 +15,19 @@ mod value;
 use bforest_nodes::Node;
 use std::marker::PhantomData;
 
+/// The most levels of a tree, which is the most of a path.
+const MAX_LEVELS: usize = 17;
+
+/// The fewest children of an inner node with a right neighbour: half of the most.
+const MIN_CHILDREN: usize = 4;
+
 /// The nodes from a leaf to the root, the leaf first, each with an index: of an entry in the leaf, and in an inner node of the child that
 /// is the node below it. At the end of a list there are none.
 #[derive(Drop)]
 pub struct Path<K, V, const N: usize> {
     size: usize,
-    node: [Node; 17],
-    entry: [u8; 17],
+    node: [Node; MAX_LEVELS],
+    entry: [u8; MAX_LEVELS],
     mark: PhantomData<(K, V)>,
 }
 
@@ -60,8 +66,8 @@ impl<K: Copy, V: Copy, const N: usize> Default for Path<K, V, N> {
     {
         Path {
             size: 0,
-            node: [Node::new(0); 17],
-            entry: [0; 17],
+            node: [Node::new(0); MAX_LEVELS],
+            entry: [0; MAX_LEVELS],
             mark: PhantomData,
         }
     }

@@ -3,7 +3,7 @@ ghost use Rattle.std.specs.Prelude.{◌≡◌, ℕ, ◌+◌, ◌-◌, ◌*◌, �
 ghost use Rattle.std.specs.List.{flat_map};
 ghost use Rattle.bforest_nodes.specs.Content.{Content, IsLeafCapacity, children_of};
 ghost use Rattle.bforest_core.specs.Change.{Ends, GivesNodes};
-ghost use Rattle.bforest_core.specs.Levels.{LevelNode, flat, half_of, sizes_of};
+ghost use Rattle.bforest_core.specs.Levels.{LevelNode, flat, half_of, sizes_of, most_levels, top_level};
 ghost use Rattle.bforest_core.specs.Descent.{Under};
 ghost use Rattle.bforest_core.specs.Place.{count, Distinct};
 ghost use Rattle.bforest_core.specs.Removal.{GivesAll, numbers_under};
@@ -37,7 +37,7 @@ impl<K: Copy, V: Copy, const N: usize> NodePool<K, V, N> {
         requires capacity { IsLeafCapacity N }
         requires under { (leaves : List (LevelNode K V)) × (lower : List (List (LevelNode K ℕ))) × (first : K)
             × Under N self.old.nodes leaves lower ((first, node) ∷ [])
-            × Distinct (numbers_under leaves lower ++ self.old.chain) × (depth + length lower ≤ 16) }
+            × Distinct (numbers_under leaves lower ++ self.old.chain) × (depth + length lower ≤ top_level) }
         ensures { (leaves : List (LevelNode K V)) (lower : List (List (LevelNode K ℕ))) (first : K)
             → Under N self.old.nodes leaves lower ((first, node) ∷ [])
             → Distinct (numbers_under leaves lower ++ self.old.chain)
@@ -81,7 +81,7 @@ impl<K: Copy, V: Copy, const N: usize> NodePool<K, V, N> {
             ≤ (length (flat (tree_of self.now.nodes root).leaves) + (half_of N - 1)) / half_of N }
         ensures depth { 2 ≤ result → half_of N * 4 ^ (result - 2)
             < length (flat (tree_of self.now.nodes root).leaves) }
-        ensures most { result ≤ 17 }
+        ensures most { result ≤ most_levels }
     {
         self.levels_from(root, 0)
     }
@@ -91,7 +91,7 @@ impl<K: Copy, V: Copy, const N: usize> NodePool<K, V, N> {
         requires capacity { IsLeafCapacity N }
         requires under { (leaves : List (LevelNode K V)) × (lower : List (List (LevelNode K ℕ))) × (first : K)
             × (b : List (K × ℕ)) × Under N self.now.nodes leaves lower ((first, node) ∷ b)
-            × (depth + length lower ≤ 16) }
+            × (depth + length lower ≤ top_level) }
         ensures { (leaves : List (LevelNode K V)) (lower : List (List (LevelNode K ℕ))) (first : K)
             (b : List (K × ℕ)) → Under N self.now.nodes leaves lower ((first, node) ∷ b) → result
             ≡ length lower + 1 }

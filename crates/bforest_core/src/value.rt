@@ -3,7 +3,7 @@ ghost use Rattle.std.specs.Prelude.{◌≡◌, ℕ, ◌+◌, ◌≤◌, IsTrue, 
 ghost use Rattle.bforest_nodes.specs.Content.{IsLeafCapacity};
 ghost use Rattle.bforest_nodes.specs.Entries.{IsIncreasing, value_for};
 ghost use Rattle.bforest_core.specs.Descent.{GoesThrough, Under};
-ghost use Rattle.bforest_core.specs.Levels.{LevelNode, flat};
+ghost use Rattle.bforest_core.specs.Levels.{LevelNode, flat, top_level};
 ghost use Rattle.bforest_core.specs.Trees.{IsUnion, is_root, tree_of};
 
 use crate::access::{follow, look_up};
@@ -28,7 +28,7 @@ impl<K: Copy, V: Copy, const N: usize> NodePool<K, V, N> {
             × (before : List (K × ℕ)) × (first : K) × (after : List (K × ℕ))
             × Under N self.now.nodes leaves lower (before ++ (first, node) ∷ after)
             × IsIncreasing (C.order comp.now) (flat leaves) × GoesThrough (C.order comp.now) before first
-            after key × (depth + length lower ≤ 16) }
+            after key × (depth + length lower ≤ top_level) }
         ensures { (leaves : List (LevelNode K V)) (lower : List (List (LevelNode K ℕ)))
             (before : List (K × ℕ)) (first : K) (after : List (K × ℕ)) → Under N self.now.nodes leaves lower
             (before ++ (first, node) ∷ after) → IsIncreasing (C.order comp.now) (flat leaves)

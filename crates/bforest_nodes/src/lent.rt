@@ -18,7 +18,8 @@ pub(crate) fn element_mut<T, const N: usize>(items: &mut [T; N], index: usize) -
 /// The first `len` elements, for writing.
 pub(crate) fn front_mut<T, const N: usize>(items: &mut [T; N], len: usize) -> &mut [T]
     requires { len ≤ N }
-    ensures* writes_back { sem 𝓛 (Lends (Array T.row N) (Array T.row 0) items.entry result (λ w. w ++ drop (length w) items.old)) }
+    ensures* writes_back { sem 𝓛 (Lends (Array T.row N) (Array T.row 0) items.entry result
+        (λ w. w ++ drop (length w) items.old)) }
     ensures value { result.now ≡ take len items.old }
 {
     &mut items[..len]

@@ -125,7 +125,8 @@ impl<T: Copy, const N: usize> Row<T, N> {
         requires room { len + count ≤ N }
         requires from_room { from_len ≤ N }
         requires within { count ≤ from_len }
-        ensures { take (len + count) self.new.items ≡ take len self.old.items ++ take count (take from_len from.now.items) }
+        ensures { take (len + count) self.new.items ≡ take len self.old.items ++ take count
+            (take from_len from.now.items) }
     {
         let items = &mut self.items[..];
         items[len..len + count].copy_from_slice(from.front(count));

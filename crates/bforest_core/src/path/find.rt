@@ -1,7 +1,7 @@
 //! Going to where a key is.
 ghost use Rattle.std.specs.Prelude.{◌≡◌, ℕ, ◌+◌, ◌-◌, ◌<◌, ◌≤◌, IsTrue, false, true, List, ◌∷◌, ◌++◌, length, get_or, slice_get, slice_set, Some};
 ghost use Rattle.bforest_nodes.specs.Content.{IsLeafCapacity};
-ghost use Rattle.bforest_core.specs.Levels.{LevelNode, flat};
+ghost use Rattle.bforest_core.specs.Levels.{LevelNode, flat, top_level};
 ghost use Rattle.bforest_core.specs.Descent.{GoesThrough, Under, Descended};
 ghost use Rattle.bforest_nodes.specs.Entries.{is_present, IsIncreasing, place, value_for};
 ghost use Rattle.bforest_core.specs.Place.{leaf_content};
@@ -48,7 +48,7 @@ impl<K: Copy, V: Copy, const N: usize> Path<K, V, N> {
         comp: &C,
     ) -> Option<V>
         requires capacity { IsLeafCapacity N }
-        requires height { level ≤ 16 }
+        requires height { level ≤ top_level }
         requires under { (leaves : List (LevelNode K V)) × (lower : List (List (LevelNode K ℕ)))
             × (before : List (K × ℕ)) × (first : K) × (after : List (K × ℕ))
             × Under N pool.now.nodes leaves lower (before ++ (first, node) ∷ after)
@@ -96,7 +96,7 @@ impl<K: Copy, V: Copy, const N: usize> Path<K, V, N> {
 
     // Writes where the path stands on a level.
     pub(super) fn set_level(&mut self, level: usize, node: Node, index: usize)
-        requires within { level ≤ 16 }
+        requires within { level ≤ top_level }
         requires most { index ≤ 255 }
         ensures node { self.new.node ≡ slice_set self.old.node level node }
         ensures entry { self.new.entry ≡ slice_set self.old.entry level index }

@@ -1,7 +1,7 @@
 //! Putting an entry in where a path is.
 ghost use Rattle.std.specs.Prelude.{insert, IfOk, IsOk, OnOk, OnErr, Ok, Err, ◌≡◌, ℕ, suc, ◌+◌, ◌-◌, ◌<◌, ◌≤◌, ◌↔◌, false, true, List, [], ◌∷◌, ◌++◌, map, length, get_or, Some, if◌then◌else◌};
 ghost use Rattle.bforest_core.specs.Table.{IsFullAt, NeedsGrowth, room, free_count};
-ghost use Rattle.bforest_core.specs.Levels.{LevelNode, sizes, Tree, sizes_of};
+ghost use Rattle.bforest_core.specs.Levels.{LevelNode, sizes, Tree, sizes_of, most_levels, top_level};
 ghost use Rattle.bforest_core.specs.Sizes.{gain_above, need_above, growth, need};
 ghost use Rattle.bforest_core.specs.Climb.{top_of, Above, Grown, Halved, Inserted, LeafHalved, Placed};
 ghost use Rattle.bforest_nodes.specs.Entries.{place};
@@ -9,7 +9,7 @@ ghost use Rattle.bforest_core.specs.Trees.{IsUnion};
 ghost use Rattle.bforest_core.specs.Change.{Changes, TakesNodes};
 
 use crate::access::{put_child, put_entry};
-use crate::path::Path;
+use crate::path::{MIN_CHILDREN, Path};
 use crate::pool::{NodePool, OutOfMemory};
 use bforest_nodes::Node;
 
@@ -77,7 +77,7 @@ impl<K: Copy, V: Copy, const N: usize> Path<K, V, N> {
     // The root of the path's tree.
     pub(super) fn root(&self) -> Node
         requires some { 0 < self.now.size }
-        requires height { self.now.size ≤ 17 }
+        requires height { self.now.size ≤ most_levels }
         ensures { result ≡ top_of self.now.node self.now.size }
     {
         self.node[self.size - 1]
@@ -95,7 +95,7 @@ impl<K: Copy, V: Copy, const N: usize> Path<K, V, N> {
 
     // The same of a path whose tree is not named by its root.
     fn needed_here(&self, pool: &NodePool<K, V, N>) -> u32
-        requires height { self.now.size ≤ 17 }
+        requires height { self.now.size ≤ most_levels }
         requires placed { (tree : Tree K V) × (place : ℕ) × Placed N pool.now self.now.node self.now.entry
             self.now.size tree place }
         ensures value { (tree : Tree K V) (place : ℕ) → Placed N pool.now self.now.node self.now.entry
@@ -110,7 +110,7 @@ impl<K: Copy, V: Copy, const N: usize> Path<K, V, N> {
 
     // How many nodes it takes that the path's node below level `up` becomes two.
     fn needed_above(&self, up: usize, pool: &NodePool<K, V, N>) -> u32
-        requires height { self.now.size ≤ 17 }
+        requires height { self.now.size ≤ most_levels }
         requires pending { (rows : List (List (LevelNode K ℕ))) × (list : List (K × ℕ)) × (place : ℕ)
             × Above pool.now self.now.node self.now.entry up self.now.size rows list place }
         ensures value { (rows : List (List (LevelNode K ℕ))) (list : List (K × ℕ)) (place : ℕ)
@@ -142,11 +142,11 @@ impl<K: Copy, V: Copy, const N: usize> Path<K, V, N> {
 
     // Halves the path's full leaf, and puts the entry into one half.
     fn split_leaf(&mut self, key: K, value: V, pool: &mut NodePool<K, V, N>)
-        requires height { self.old.size ≤ 17 }
+        requires height { self.old.size ≤ most_levels }
         requires full { IsFullAt N pool.old.nodes (get_or self.old.node 0 0) }
         requires placed { (tree : Tree K V) × (place : ℕ) × Placed N pool.old self.old.node self.old.entry
             self.old.size tree place × (need N place (sizes_of tree) ≤ length pool.old.chain)
-            × (length (growth N place (sizes_of tree)) ≤ 17) }
+            × (length (growth N place (sizes_of tree)) ≤ most_levels) }
         ensures inserted { (tree : Tree K V) (place : ℕ) → Placed N pool.old self.old.node self.old.entry
             self.old.size tree place → Inserted N pool.old pool.new self.new.node self.new.entry self.new.size
             tree place (key, value) }
@@ -200,12 +200,12 @@ impl<K: Copy, V: Copy, const N: usize> Path<K, V, N> {
         half: RightHalf<K>,
         pool: &mut NodePool<K, V, N>,
     )
-        requires height { self.old.size ≤ 17 }
+        requires height { self.old.size ≤ most_levels }
         requires pending { (rows : List (List (LevelNode K ℕ))) × (before : List (K × ℕ)) × (first : K)
             × (after : List (K × ℕ)) × Above pool.old self.old.node self.old.entry up self.old.size rows
             (before ++ (first, left) ∷ after) (length before)
             × (need_above (Some (length before)) (map sizes rows) ≤ suc (length pool.old.chain))
-            × (up + length (gain_above (Some (length before)) (map sizes rows)) ≤ 17) }
+            × (up + length (gain_above (Some (length before)) (map sizes rows)) ≤ most_levels) }
         ensures { (rows : List (List (LevelNode K ℕ))) (before : List (K × ℕ)) (first : K)
             (after : List (K × ℕ)) → Above pool.old self.old.node self.old.entry up self.old.size rows
             (before ++ (first, left) ∷ after) (length before) → (taken : List ℕ)
@@ -226,7 +226,7 @@ impl<K: Copy, V: Copy, const N: usize> Path<K, V, N> {
 
     // Makes a new root of the root `left` and of the right half.
     fn push_root(&mut self, left: Node, half: RightHalf<K>, pool: &mut NodePool<K, V, N>)
-        requires height { self.old.size ≤ 16 }
+        requires height { self.old.size ≤ top_level }
         requires room { 0 < length pool.old.chain }
         ensures { (rows : List (List (LevelNode K ℕ))) (before : List (K × ℕ)) (first : K)
             (after : List (K × ℕ)) → Above pool.old self.old.node self.old.entry self.old.size self.old.size
@@ -246,7 +246,7 @@ impl<K: Copy, V: Copy, const N: usize> Path<K, V, N> {
     // Puts the right half into the path's node on level `up`, behind the path's child. Where there is no room it answers false, and
     // nothing changed.
     fn insert_here(&mut self, up: usize, half: RightHalf<K>, pool: &mut NodePool<K, V, N>) -> bool
-        requires height { self.old.size ≤ 17 }
+        requires height { self.old.size ≤ most_levels }
         requires within { up < self.old.size }
         requires pending { (rows : List (List (LevelNode K ℕ))) × (before : List (K × ℕ)) × (x : K × ℕ)
             × (after : List (K × ℕ)) × Above pool.old self.old.node self.old.entry up self.old.size rows
@@ -281,7 +281,7 @@ impl<K: Copy, V: Copy, const N: usize> Path<K, V, N> {
         half: RightHalf<K>,
         pool: &mut NodePool<K, V, N>,
     ) -> RightHalf<K>
-        requires height { self.old.size ≤ 17 }
+        requires height { self.old.size ≤ most_levels }
         requires within { up < self.old.size }
         requires room { 0 < length pool.old.chain }
         requires full { IsFullAt N pool.old.nodes (get_or self.old.node up 0) }
@@ -298,7 +298,7 @@ impl<K: Copy, V: Copy, const N: usize> Path<K, V, N> {
         let node = self.node[up];
         let entry = self.entry[up] as usize;
         let (right, halves) = pool.split_node(node, entry);
-        if entry < 4 {
+        if entry < MIN_CHILDREN {
             let _room = put_child(pool, node, entry, half.key, half.node);
             self.entry[up] = index_behind(entry, half.moved) as u8;
             RightHalf {
@@ -307,9 +307,9 @@ impl<K: Copy, V: Copy, const N: usize> Path<K, V, N> {
                 moved: false,
             }
         } else {
-            let _room = put_child(pool, right, entry - 4, half.key, half.node);
+            let _room = put_child(pool, right, entry - MIN_CHILDREN, half.key, half.node);
             self.node[up] = right;
-            self.entry[up] = index_behind(entry - 4, half.moved) as u8;
+            self.entry[up] = index_behind(entry - MIN_CHILDREN, half.moved) as u8;
             RightHalf {
                 key: halves.crit_key,
                 node: right,

@@ -1,20 +1,20 @@
 //! Taking a node out of the rows above it, on the way up, and healing what is left too small.
 ghost use Rattle.std.specs.Prelude.{◌≡◌, ℕ, suc, ◌+◌, ◌-◌, ◌<◌, ◌≤◌, List, [], ◌∷◌, ◌++◌, map, length, get_or, Some, None, true, false};
 ghost use Rattle.bforest_nodes.specs.Content.{IsLeafCapacity};
-ghost use Rattle.bforest_core.specs.Levels.{LevelNode, sizes, half_of};
+ghost use Rattle.bforest_core.specs.Levels.{LevelNode, sizes, half_of, most_levels};
 ghost use Rattle.bforest_core.specs.Sizes.{loss_above};
 ghost use Rattle.bforest_core.specs.Place.{inner_content, leaf_content};
 ghost use Rattle.bforest_core.specs.Climb.{Above};
 ghost use Rattle.bforest_core.specs.Removal.{Rebuilt, OnLevel, Loosened, Healed, Joined, Dropped};
 
 use crate::access::{entries, remove_child, separator, set_separator};
-use crate::path::Path;
+use crate::path::{MIN_CHILDREN, Path};
 use crate::pool::NodePool;
 
 impl<K: Copy, V: Copy, const N: usize> Path<K, V, N> {
     // Takes the entry at the path out of level `up`, and gives the next one its key.
     fn remove_merged(&self, up: usize, pool: &mut NodePool<K, V, N>)
-        requires height { self.now.size ≤ 17 }
+        requires height { self.now.size ≤ most_levels }
         requires pending { (rows : List (List (LevelNode K ℕ))) × (before : List (K × ℕ)) × (first : K)
             × (m : ℕ) × (next_first : K) × (n : ℕ) × (after : List (K × ℕ))
             × Above pool.old self.now.node self.now.entry up self.now.size rows
@@ -42,7 +42,7 @@ impl<K: Copy, V: Copy, const N: usize> Path<K, V, N> {
     // Balances the path's leaf, which lost an entry, with its right neighbour. Whether it went into it.
     pub(super) fn rebalance_leaf(&mut self, pool: &mut NodePool<K, V, N>) -> bool
         requires capacity { IsLeafCapacity N }
-        requires height { self.old.size ≤ 17 }
+        requires height { self.old.size ≤ most_levels }
         requires pending { (before : List (LevelNode K V)) × (n : ℕ) × (es : List (K × V))
             × (after : List (LevelNode K V)) × (rest : List (List (LevelNode K ℕ)))
             × OnLevel leaf_content (half_of N) N pool.old self.old.node self.old.entry 0 self.old.size before
@@ -85,7 +85,7 @@ impl<K: Copy, V: Copy, const N: usize> Path<K, V, N> {
 
     // Balances the inner node at `level`, which lost an entry, with its right neighbour. Whether it went into it.
     fn rebalance_inner(&mut self, level: usize, pool: &mut NodePool<K, V, N>) -> bool
-        requires height { self.old.size ≤ 17 }
+        requires height { self.old.size ≤ most_levels }
         requires pending { (before : List (LevelNode K ℕ)) × (n : ℕ) × (es : List (K × ℕ))
             × (after : List (LevelNode K ℕ)) × (rest : List (List (LevelNode K ℕ)))
             × OnLevel inner_content 4 8 pool.old self.old.node self.old.entry level self.old.size before n es
@@ -104,7 +104,7 @@ impl<K: Copy, V: Copy, const N: usize> Path<K, V, N> {
     {
         let here = self.node[level];
         let left = entries(pool, here);
-        if left >= 4 {
+        if left >= MIN_CHILDREN {
             if self.entry[level] as usize == left {
                 self.enter_next(level, pool);
             }
@@ -129,7 +129,7 @@ impl<K: Copy, V: Copy, const N: usize> Path<K, V, N> {
     // The path's node below level `up` went into its right neighbour: its entry is taken out of the level, and the
     // neighbour gets its key.
     pub(super) fn merge_above(&mut self, up: usize, pool: &mut NodePool<K, V, N>)
-        requires height { self.old.size ≤ 17 }
+        requires height { self.old.size ≤ most_levels }
         requires pending { (rows : List (List (LevelNode K ℕ))) × (before : List (K × ℕ)) × (first : K)
             × (m : ℕ) × (next_first : K) × (n : ℕ) × (after : List (K × ℕ))
             × Above pool.old self.old.node self.old.entry up self.old.size rows
@@ -151,7 +151,7 @@ impl<K: Copy, V: Copy, const N: usize> Path<K, V, N> {
     // The path's node below level `up` was the right-most and is empty: its entry is taken out of the level, and the
     // nodes that this leaves empty go too.
     pub(super) fn remove_emptied(&self, up: usize, pool: &mut NodePool<K, V, N>)
-        requires height { self.now.size ≤ 17 }
+        requires height { self.now.size ≤ most_levels }
         requires pending { (rows : List (List (LevelNode K ℕ))) × (before : List (K × ℕ)) × (y : K × ℕ)
             × (x : K × ℕ) × Above pool.old self.now.node self.now.entry up self.now.size rows
             (before ++ y ∷ x ∷ []) (suc (length before)) }

@@ -1,6 +1,6 @@
 //! The node to the right of a path's node, under the same parent or another: found, entered, and its key renewed in the rows above.
 ghost use Rattle.std.specs.Prelude.{◌≡◌, ℕ, suc, ◌≤◌, List, [], ◌∷◌, ◌++◌, map, length, get_or};
-ghost use Rattle.bforest_core.specs.Levels.{LevelNode, sizes};
+ghost use Rattle.bforest_core.specs.Levels.{LevelNode, sizes, most_levels};
 ghost use Rattle.bforest_core.specs.Climb.{Above, NextIs, SameBelow, top_of};
 ghost use Rattle.bforest_core.specs.Removal.{Rebuilt};
 
@@ -12,7 +12,7 @@ use bforest_nodes::Node;
 impl<K: Copy, V: Copy, const N: usize> Path<K, V, N> {
     // The right neighbour of the path's node below level `up`, which may have another parent, with the key between the two.
     pub(super) fn right_sibling(&self, up: usize, pool: &NodePool<K, V, N>) -> Option<(K, Node)>
-        requires height { self.now.size ≤ 17 }
+        requires height { self.now.size ≤ most_levels }
         requires pending { (rows : List (List (LevelNode K ℕ))) × (before : List (K × ℕ)) × (x : K × ℕ)
             × (after : List (K × ℕ)) × Above pool.now self.now.node self.now.entry up self.now.size rows
             (before ++ x ∷ after) (length before) }
@@ -40,7 +40,7 @@ impl<K: Copy, V: Copy, const N: usize> Path<K, V, N> {
 
     // Renews the key between the path's node below level `up` and its right neighbour.
     pub(super) fn update_next_separator(&self, up: usize, key: K, pool: &mut NodePool<K, V, N>)
-        requires height { self.now.size ≤ 17 }
+        requires height { self.now.size ≤ most_levels }
         requires pending { (rows : List (List (LevelNode K ℕ))) × (before : List (K × ℕ)) × (x : K × ℕ)
             × (first : K) × (n : ℕ) × (after : List (K × ℕ)) × Above pool.old self.now.node self.now.entry up
             self.now.size rows (before ++ x ∷ (first, n) ∷ after) (length before) }
@@ -61,7 +61,7 @@ impl<K: Copy, V: Copy, const N: usize> Path<K, V, N> {
 
     // Renews the first key of the path's node below level `up`: in the table its separator, if it has one.
     pub(super) fn update_separator(&self, up: usize, key: K, pool: &mut NodePool<K, V, N>)
-        requires height { self.now.size ≤ 17 }
+        requires height { self.now.size ≤ most_levels }
         requires pending { (rows : List (List (LevelNode K ℕ))) × (before : List (K × ℕ)) × (first : K)
             × (n : ℕ) × (after : List (K × ℕ)) × Above pool.old self.now.node self.now.entry up self.now.size
             rows (before ++ (first, n) ∷ after) (length before) }
@@ -84,7 +84,7 @@ impl<K: Copy, V: Copy, const N: usize> Path<K, V, N> {
 
     // Goes to the first entry of the next node on `level`, where there is one.
     pub(super) fn enter_next(&mut self, level: usize, pool: &NodePool<K, V, N>)
-        requires height { self.old.size ≤ 17 }
+        requires height { self.old.size ≤ most_levels }
         requires pending { (rows : List (List (LevelNode K ℕ))) × (before : List (K × ℕ)) × (x : K × ℕ)
             × (y : K × ℕ) × (after : List (K × ℕ)) × Above pool.now self.old.node self.old.entry (suc level)
             self.old.size rows (before ++ x ∷ y ∷ after) (length before) }

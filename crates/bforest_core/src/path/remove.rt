@@ -1,7 +1,7 @@
 //! Taking out the entry where a path is.
 ghost use Rattle.std.specs.Prelude.{remove, true, false, IfSome, ◌≡◌, ◌≢◌, ℕ, ◌+◌, ◌-◌, ◌<◌, ◌≤◌, ◌↔◌, List, [], ◌∷◌, ◌++◌, length, get_or, slice_get, Some, None};
 ghost use Rattle.bforest_nodes.specs.Content.{IsLeafCapacity};
-ghost use Rattle.bforest_core.specs.Levels.{LevelNode, flat, Tree};
+ghost use Rattle.bforest_core.specs.Levels.{LevelNode, flat, Tree, most_levels};
 ghost use Rattle.bforest_core.specs.Sizes.{shrink};
 ghost use Rattle.bforest_core.specs.Table.{Table};
 ghost use Rattle.bforest_core.specs.Place.{leaf_content, root_of, count};
@@ -129,7 +129,7 @@ impl<K: Copy, V: Copy, const N: usize> Path<K, V, N> {
 
     // Whether the path is behind its leaf's last entry, and no leaf follows.
     fn is_past_end(&self, pool: &NodePool<K, V, N>) -> bool
-        requires height { self.now.size ≤ 17 }
+        requires height { self.now.size ≤ most_levels }
         requires lost { (old : Table K V) × (tree : Tree K V) × (place : ℕ)
             × LeafLoss N old pool.now self.now.node self.now.entry self.now.size tree place }
         ensures past { result ≡ true → (old : Table K V) (tree : Tree K V) (place : ℕ)
@@ -148,7 +148,7 @@ impl<K: Copy, V: Copy, const N: usize> Path<K, V, N> {
     // Discards roots with a single child, from `root` downwards, and frees them. Answers the root that stays; of the path's levels as many
     // go.
     fn collapse_root(&mut self, root: Node, pool: &mut NodePool<K, V, N>) -> Node
-        requires height { self.old.size ≤ 17 }
+        requires height { self.old.size ≤ most_levels }
         requires rooted { (rows : List (List (LevelNode K ℕ))) × (list : List (K × ℕ))
             × UpTo pool.old self.old.size rows list root }
         ensures trimmed { (rows : List (List (LevelNode K ℕ))) (list : List (K × ℕ))

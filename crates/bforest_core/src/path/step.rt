@@ -1,7 +1,7 @@
 //! Steps from an entry to the next, and to the one before.
 ghost use Rattle.std.specs.Prelude.{◌≡◌, ℕ, suc, ◌+◌, ◌-◌, ◌<◌, ◌≤◌, ◌≢◌, ◌↔◌, IsTrue, false, true, List, [], ◌∷◌, ◌++◌, length, get_or, slice_get, Some, None, if◌then◌else◌};
 ghost use Rattle.bforest_nodes.specs.Content.{IsLeafCapacity};
-ghost use Rattle.bforest_core.specs.Levels.{LevelNode, flat, Tree, IsFit};
+ghost use Rattle.bforest_core.specs.Levels.{LevelNode, flat, Tree, IsFit, most_levels, top_level};
 ghost use Rattle.bforest_core.specs.Descent.{Under, Led, LedLast};
 ghost use Rattle.bforest_nodes.specs.Entries.{place};
 ghost use Rattle.bforest_core.specs.Place.{inner_content, entry_items, leaf_content, IsIn, Stands, entry_before};
@@ -33,7 +33,7 @@ impl<K: Copy, V: Copy, const N: usize> Path<K, V, N> {
         requires capacity { IsLeafCapacity N }
         requires under { (leaves : List (LevelNode K V)) × (lower : List (List (LevelNode K ℕ))) × (first : K)
             × (b : List (K × ℕ)) × Under N pool.now.nodes leaves lower ((first, node) ∷ b)
-            × (depth + length lower ≤ 16) }
+            × (depth + length lower ≤ top_level) }
         ensures level { (leaves : List (LevelNode K V)) (lower : List (List (LevelNode K ℕ))) (first : K)
             (b : List (K × ℕ)) → Under N pool.now.nodes leaves lower ((first, node) ∷ b)
             → (result ≡ length lower) × Led leaves lower self.old.node self.old.entry self.new.node
@@ -74,7 +74,7 @@ impl<K: Copy, V: Copy, const N: usize> Path<K, V, N> {
     // Goes to the next entry. At the last it answers false, and nothing changed.
     fn next_entry(&mut self, pool: &NodePool<K, V, N>) -> bool
         requires capacity { IsLeafCapacity N }
-        requires height { self.old.size ≤ 17 }
+        requires height { self.old.size ≤ most_levels }
         requires stands { (tree : Tree K V) × (place : ℕ) × IsFit N tree × IsIn pool.now.nodes tree
             × Stands self.old.node self.old.entry self.old.size tree place }
         ensures moved { result ≡ true → (tree : Tree K V) (place : ℕ) → IsFit N tree
@@ -117,11 +117,10 @@ impl<K: Copy, V: Copy, const N: usize> Path<K, V, N> {
             at.place }
         ensures end { IsAtEnd self.now → result ≡ None }
     {
-        let levels = self.size;
-        if levels == 0 {
-            None
-        } else {
+        if self.size > 0 {
             Some(self.entry_here(pool))
+        } else {
+            None
         }
     }
 
@@ -149,7 +148,7 @@ impl<K: Copy, V: Copy, const N: usize> Path<K, V, N> {
 
     // Moves the path's node on `level` to the next one. Where there is none it answers false, and nothing changed.
     pub(super) fn next_node(&mut self, level: usize, pool: &NodePool<K, V, N>) -> bool
-        requires height { self.old.size ≤ 17 }
+        requires height { self.old.size ≤ most_levels }
         requires over { (rows : List (List (LevelNode K ℕ))) × (list : List (K × ℕ)) × (place : ℕ)
             × Over pool.now.nodes self.old.node self.old.entry (suc level) self.old.size rows list place }
         ensures moved { result ≡ true → (rows : List (List (LevelNode K ℕ))) (list : List (K × ℕ)) (place : ℕ)
@@ -178,7 +177,7 @@ impl<K: Copy, V: Copy, const N: usize> Path<K, V, N> {
 
     // Whether the path's inner node on `level` has so many children that one has this index.
     fn has_child(&self, level: usize, index: usize, pool: &NodePool<K, V, N>) -> bool
-        requires within { level ≤ 16 }
+        requires within { level ≤ top_level }
         requires inner { (entries : List (K × ℕ)) × (slice_get pool.now.nodes (get_or self.now.node level 0)
             ≡ Some (inner_content entries)) }
         ensures within { (entries : List (K × ℕ)) → slice_get pool.now.nodes (get_or self.now.node level 0)
@@ -257,7 +256,7 @@ impl<K: Copy, V: Copy, const N: usize> Path<K, V, N> {
         requires capacity { IsLeafCapacity N }
         requires under { (leaves : List (LevelNode K V)) × (lower : List (List (LevelNode K ℕ)))
             × (before : List (K × ℕ)) × (first : K) × Under N pool.now.nodes leaves lower
-            (before ++ (first, node) ∷ []) × (depth + length lower ≤ 16) }
+            (before ++ (first, node) ∷ []) × (depth + length lower ≤ top_level) }
         ensures level { (leaves : List (LevelNode K V)) (lower : List (List (LevelNode K ℕ)))
             (before : List (K × ℕ)) (first : K) → Under N pool.now.nodes leaves lower
             (before ++ (first, node) ∷ []) → (result ≡ length lower) × LedLast leaves lower (length before)
@@ -278,7 +277,7 @@ impl<K: Copy, V: Copy, const N: usize> Path<K, V, N> {
     // Goes to the entry before. At the first it answers false, and nothing changed.
     fn prev_entry(&mut self, pool: &NodePool<K, V, N>) -> bool
         requires capacity { IsLeafCapacity N }
-        requires height { self.old.size ≤ 17 }
+        requires height { self.old.size ≤ most_levels }
         requires stands { (tree : Tree K V) × (place : ℕ) × IsFit N tree × IsIn pool.now.nodes tree
             × Stands self.old.node self.old.entry self.old.size tree place }
         ensures moved { result ≡ true → (tree : Tree K V) (place : ℕ) → IsFit N tree
@@ -305,7 +304,7 @@ impl<K: Copy, V: Copy, const N: usize> Path<K, V, N> {
 
     // Moves the path's node on `level` to the one before. Where there is none it answers false, and nothing changed.
     fn prev_node(&mut self, level: usize, pool: &NodePool<K, V, N>) -> bool
-        requires height { self.old.size ≤ 17 }
+        requires height { self.old.size ≤ most_levels }
         requires over { (rows : List (List (LevelNode K ℕ))) × (list : List (K × ℕ)) × (place : ℕ)
             × Over pool.now.nodes self.old.node self.old.entry (suc level) self.old.size rows list place }
         ensures moved { result ≡ true → (rows : List (List (LevelNode K ℕ))) (list : List (K × ℕ)) (place : ℕ)

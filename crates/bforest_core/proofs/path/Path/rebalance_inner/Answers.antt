@@ -24,13 +24,13 @@ enter_next-requires g c =
 pub returns-then-self-level-clause-healed : goal.returns-then-self-level-clause-healed
 returns-then-self-level-clause-healed g c = λ same before n es after rest p.
     let low : c.args.level < length c.args.self.now.node = omega (arith, p.above.height) in
-    past_heals inner_content 4 8 _ half_inner (inner_stored g.row.N) _ _ _ _ _ _ c.index-self-level.result (add-one c.args.level) low before n es after rest p _ _ c.entries-left.result c.entries-left.ensures.value c.if-left-ge4.true c.if-self-level.true
+    past_heals inner_content 4 8 _ half_inner (inner_stored g.row.N) _ _ _ _ _ _ c.index-self-level.result (add-one c.args.level) low before n es after rest p _ _ c.entries-left.result c.entries-left.ensures.value c.if-left-ge-MIN_CHILDREN.true c.if-self-level.true
     c.enter_next.ensures.moved c.enter_next.ensures.first c.enter_next.ensures.nodes_below c.enter_next.ensures.entries_below c.enter_next.ensures.same_top
 
 pub returns-else-self-level-clause-healed : goal.returns-else-self-level-clause-healed
 returns-else-self-level-clause-healed g c = λ same before n es after rest p.
     let low : c.args.level < length c.args.self.now.node = omega (arith, p.above.height) in
-    stay_heals inner_content 4 8 _ half_inner (inner_stored g.row.N) _ _ _ _ _ _ c.index-self-level.result (add-one c.args.level) low before n es after rest p c.entries-left.result c.entries-left.ensures.value c.if-left-ge4.true c.if-self-level.false
+    stay_heals inner_content 4 8 _ half_inner (inner_stored g.row.N) _ _ _ _ _ _ c.index-self-level.result (add-one c.args.level) low before n es after rest p c.entries-left.result c.entries-left.ensures.value c.if-left-ge-MIN_CHILDREN.true c.if-self-level.false
 
 pub right_sibling-requires : goal.right_sibling-requires
 right_sibling-requires g c =
@@ -43,14 +43,14 @@ pub balance_nodes-requires : goal.balance_nodes-requires
 balance_nodes-requires g c =
     let w = c.requires.pending in
     let low : c.args.level < length c.args.self.now.node = omega (arith, w.5.above.height) in
-    let r = balance_asks inner_content 4 8 _ half_inner (inner_stored g.row.N) _ _ _ _ _ _ c.index-self-level.result (add-one c.args.level) low w.0 w.1 w.2 w.3 w.4 w.5 c.entries-left.result c.entries-left.ensures.value c.if-left-ge4.false _ _ c.in-Some.is c.right_sibling.ensures in
+    let r = balance_asks inner_content 4 8 _ half_inner (inner_stored g.row.N) _ _ _ _ _ _ c.index-self-level.result (add-one c.args.level) low w.0 w.1 w.2 w.3 w.4 w.5 c.entries-left.result c.entries-left.ensures.value c.if-left-ge-MIN_CHILDREN.false _ _ c.in-Some.is c.right_sibling.ensures in
     (search rules, (r.0, (r.1, (r.2, r.3))))
 
 pub update_next_separator-requires : goal.update_next_separator-requires
 update_next_separator-requires g c =
     let w = c.requires.pending in
     let low : c.args.level < length c.args.self.now.node = omega (arith, w.5.above.height) in
-    let d = rekey_asks inner_content 4 8 _ half_inner (inner_stored g.row.N) _ _ _ _ _ _ c.index-self-level.result (add-one c.args.level) low w.0 w.1 w.2 w.3 w.4 w.5 c.entries-left.result c.entries-left.ensures.value c.if-left-ge4.false _ _ c.in-Some.is c.right_sibling.ensures
+    let d = rekey_asks inner_content 4 8 _ half_inner (inner_stored g.row.N) _ _ _ _ _ _ c.index-self-level.result (add-one c.args.level) low w.0 w.1 w.2 w.3 w.4 w.5 c.entries-left.result c.entries-left.ensures.value c.if-left-ge-MIN_CHILDREN.false _ _ c.in-Some.is c.right_sibling.ensures
     c.balance_nodes.new.self _ c.balance_nodes.ensures.balanced _ c.in-Some-balance_nodes.is in
     (search rules, (search rules, (c.requires.height, (w.4, d.before, d.x, d.key, d.q, d.after, d.above))))
 
@@ -59,7 +59,7 @@ free_node-requires g c =
     let w = c.requires.pending in
     let low : c.args.level < length c.args.self.now.node = omega (arith, w.5.above.height) in (
       search rules,
-      free_asks inner_content 4 8 _ half_inner (inner_stored g.row.N) _ _ _ _ _ _ c.index-self-level.result (add-one c.args.level) low w.0 w.1 w.2 w.3 w.4 w.5 c.entries-left.result c.entries-left.ensures.value c.if-left-ge4.false _ _ c.in-Some.is c.right_sibling.ensures
+      free_asks inner_content 4 8 _ half_inner (inner_stored g.row.N) _ _ _ _ _ _ c.index-self-level.result (add-one c.args.level) low w.0 w.1 w.2 w.3 w.4 w.5 c.entries-left.result c.entries-left.ensures.value c.if-left-ge-MIN_CHILDREN.false _ _ c.in-Some.is c.right_sibling.ensures
           c.balance_nodes.new.self _ c.balance_nodes.ensures.balanced c.in-None-balance_nodes.is,
     )
 
@@ -71,13 +71,13 @@ returns-in-None-clause-healed g c = λ same before n es after rest p.
 pub returns-in-Some-balance_nodes-clause-healed : goal.returns-in-Some-balance_nodes-clause-healed
 returns-in-Some-balance_nodes-clause-healed g c = λ same before n es after rest p.
     let low : c.args.level < length c.args.self.now.node = omega (arith, p.above.height) in
-    rekey_heals inner_content 4 8 _ half_inner (inner_stored g.row.N) _ _ _ _ _ _ c.index-self-level.result (add-one c.args.level) low before n es after rest p c.entries-left.result c.entries-left.ensures.value c.if-left-ge4.false _ _ c.in-Some.is c.right_sibling.ensures
+    rekey_heals inner_content 4 8 _ half_inner (inner_stored g.row.N) _ _ _ _ _ _ c.index-self-level.result (add-one c.args.level) low before n es after rest p c.entries-left.result c.entries-left.ensures.value c.if-left-ge-MIN_CHILDREN.false _ _ c.in-Some.is c.right_sibling.ensures
     c.balance_nodes.new.self _ c.balance_nodes.ensures.balanced _ c.update_next_separator.new.pool c.in-Some-balance_nodes.is c.update_next_separator.ensures
 
 pub returns-in-None-balance_nodes-clause-joined : goal.returns-in-None-balance_nodes-clause-joined
 returns-in-None-balance_nodes-clause-joined g c = λ same before n es after rest p.
     let low : c.args.level < length c.args.self.now.node = omega (arith, p.above.height) in
-    free_joins inner_content 4 8 _ half_inner (inner_stored g.row.N) _ _ _ _ _ _ c.index-self-level.result (add-one c.args.level) low before n es after rest p c.entries-left.result c.entries-left.ensures.value c.if-left-ge4.false _ _ c.in-Some.is c.right_sibling.ensures
+    free_joins inner_content 4 8 _ half_inner (inner_stored g.row.N) _ _ _ _ _ _ c.index-self-level.result (add-one c.args.level) low before n es after rest p c.entries-left.result c.entries-left.ensures.value c.if-left-ge-MIN_CHILDREN.false _ _ c.in-Some.is c.right_sibling.ensures
     c.balance_nodes.new.self _ c.balance_nodes.ensures.balanced c.free_node.new.self c.in-None-balance_nodes.is c.free_node.ensures.freed
 
 pub offset_bounds-self-level : goal.offset_bounds-self-level
@@ -89,8 +89,8 @@ listed g c = omega (arith, c.requires.pending.5.above.height, c.requires.height)
 pub bounds-self-level : goal.bounds-self-level
 bounds-self-level g c = omega (arith, c.requires.pending.5.above.height, c.requires.height)
 
-pub bounds-self-level-then-left-ge4 : goal.bounds-self-level-then-left-ge4
-bounds-self-level-then-left-ge4 g c = omega (arith, c.requires.pending.5.above.height, c.requires.height)
+pub bounds-self-level-then-left-ge-MIN_CHILDREN : goal.bounds-self-level-then-left-ge-MIN_CHILDREN
+bounds-self-level-then-left-ge-MIN_CHILDREN g c = omega (arith, c.requires.pending.5.above.height, c.requires.height)
 
 pub overflow_add-level : goal.overflow_add-level
 overflow_add-level g c = omega (arith, c.requires.pending.5.above.height, c.requires.height)
