@@ -1,5 +1,5 @@
 -- Where a path stands in a pool: the words of its public calls. The path is read by these words alone.
-use Rattle.std.specs.Prelude.{◌≡◌, ℕ, IsTrue, List, length, get_or, if◌then◌else◌, ◌==◌, ◌+◌, ◌∷◌, [], nat_eq}
+use Rattle.std.specs.Prelude.{◌≡◌, ℕ, List, length, get_or, if◌then◌else◌, ◌==◌, ◌+◌, ◌∷◌, [], nat_eq}
 use Rattle.bforest_core.specs.Change.{AtUnder, PlacedUnder, PointsUnder, StandsUnder}
 use Rattle.bforest_core.specs.Levels.{LevelNode, flat, node, sizes_of}
 use Rattle.bforest_core.specs.Table.{Table}

@@ -1,4 +1,4 @@
-use Rattle.std.proofs.Common.{rules, ◌≡◌, get_or, refl}
+use Rattle.std.proofs.Common.{rules}
 use Rattle.bforest_core.proofs.walks.Standing.{on-leaf}
 use Rattle.bforest_core.proofs.path.Path.set_root_node.Goals as goal
 
