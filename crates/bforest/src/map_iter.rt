@@ -23,9 +23,9 @@ impl<'a, K: Copy, V: Copy> Model for MapIter<'a, K, V> {
 
     ghost Value = { List (K × V) };
 
-    ghost view = { λ i. entries_from i.pool.now.nodes i.path.size i.path.node i.path.entry };
+    ghost view = { λ i. entries_from i.pool.now i.path };
 
-    ghost invariant = { λ i. IsReading i.pool.now i.path.size i.path.node i.path.entry };
+    ghost invariant = { λ i. IsReading i.pool.now i.path };
 }
 
 impl<'a, K: Copy, V: Copy> MapIter<'a, K, V> {

@@ -1,6 +1,7 @@
 -- Where a path stands in a pool: the words of its public calls. The path is read by these words alone.
 use Rattle.std.specs.Prelude.{◌≡◌, ℕ, List, length, get_or, if◌then◌else◌, ◌==◌, ◌+◌, ◌∷◌, [], nat_eq}
 use Rattle.bforest_core.specs.Change.{AtUnder, PlacedUnder, PointsUnder, StandsUnder}
+use Rattle.bforest_core.specs.Climb.{top_of}
 use Rattle.bforest_core.specs.Levels.{LevelNode, flat, node, sizes_of}
 use Rattle.bforest_core.specs.Table.{Table}
 use Rattle.bforest_core.specs.Trees.{tree_of}
@@ -22,6 +23,10 @@ module _ {K V : Type 0} where
   -- the index in its leaf
   abbrev pub index_of : {n : ℕ} → Path K V n → ℕ
   index_of path = get_or path.entry 0 0
+
+  -- the root of its tree
+  abbrev pub path_root : {n : ℕ} → Path K V n → ℕ
+  path_root path = top_of path.node path.size
 
   -- the path is at the end, with no node
   abbrev pub IsAtEnd : {n : ℕ} → Path K V n → Type 0

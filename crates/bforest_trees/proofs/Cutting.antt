@@ -1,21 +1,18 @@
 -- What a removal leaves, where its key is present and where it is absent, and what the end of a tree leaves.
 use Rattle.bforest_trees.proofs.Changed.{becomes, list-none, list-root, same_list, same_sizes, sizes-new, sizes-none, sizes-root}
-use Rattle.bforest_trees.proofs.Spots.{IsSound, spot-at, spot-none, spot-stands}
-use Rattle.bforest_trees.specs.Place.{StandsIn}
-use Rattle.bforest_core.proofs.walks.Steps.{entry_at, read}
-use Rattle.bforest_core.specs.Change.{StandsUnder}
-use Rattle.bforest_core.specs.Place.{IsPathAt, Stands}
-use Rattle.bforest_core.specs.Levels.{Tree}
-use Rattle.std.proofs.lemmas.Option.{slice_get_within}
+use Rattle.bforest_trees.proofs.Spots.{spot-on}
+use Rattle.bforest_trees.specs.Place.{IsSpot, OnSpot}
+use Rattle.bforest_core.proofs.walks.Standing.{on-within}
+use Rattle.bforest_core.specs.Paths.{IsAtEnd, OnEntry, StandsAt, StandsOn, list_under, sizes_under}
+use Rattle.bforest_core.specs.declared.path.Path.{Path}
 use Rattle.bforest_trees.specs.Forest.{Becomes, Forest, Gives, IsLive, list_at, list_of, sizes_at, sizes_of as forest_sizes, sizes_without}
 use Rattle.bforest_core.specs.Change.{Changes, Ends, GivesNodes}
 use Rattle.bforest_core.specs.Levels.{flat, sizes_of}
 use Rattle.bforest_core.specs.Sizes.{shrink}
 use Rattle.bforest_core.specs.Table.{Table}
 use Rattle.bforest_core.specs.Trees.{IsUnion, is_root, tree_of}
-use Rattle.bforest_nodes.specs.Content.{IsLeafCapacity}
 use Rattle.bforest_nodes.specs.Entries.{is_present, place}
-use Rattle.std.proofs.Common.{IsTrue, List, None, Option, Some, [], IfSome, ap, arith, false, if◌then◌else◌, length, length-append, get_or, refl, remove, subst, suc, sym, true, zero, ◌+◌, ◌<◌, ◌∙◌, ◌∷◌, ◌≡◌, ◌≢◌, ◌≤◌, ◌↔◌, ℕ}
+use Rattle.std.proofs.Common.{IsTrue, List, None, Option, Some, [], IfSome, ap, arith, false, if◌then◌else◌, length, length-append, refl, remove, subst, suc, sym, true, zero, ◌<◌, ◌∙◌, ◌∷◌, ◌≡◌, ◌≤◌, ◌↔◌, ℕ}
 use Rattle.std.specs.declared.cmp.Ordering.{Ordering}
 
 -- the only entry taken out
@@ -111,34 +108,28 @@ module _ {K X : Type 0} where
   pub sizes-some : (f : Forest K X) (r : ℕ) → IsTrue (is_root f.nodes r) → 1 ≤ length (sizes_at f r)
   sizes-some f r is = subst (λ (z : List (List ℕ)). 1 ≤ length z) (sym (sizes-root f r is)) (omega arith)
 
-  -- a path that stands is at an entry
-  pub stands-within : (path indices : List ℕ) (size : ℕ) (tree : Tree K X) (p : ℕ) → Stands path indices size tree p → p < length (flat tree.leaves)
-  stands-within path indices size tree p s =
-      let x = read s.leaf.entries (get_or indices 0 0) s.leaf.within in
-      subst (λ (z : ℕ). z < length (flat tree.leaves)) (sym s.leaf.place_is) (slice_get_within (flat tree.leaves) (length (flat s.leaf.before) + get_or indices 0 0) x.0 (entry_at tree.leaves s.leaf.before (get_or path 0 0) s.leaf.entries s.leaf.after (get_or indices 0 0) x.0 s.leaf.row_is x.1))
-
   -- what it leaves that the entry at a place of the list of a handle went
-  pub record IsTaken (most : ℕ) (f f' : Forest K X) (h : Option ℕ) (p : ℕ) (o : Option ℕ) (path indices : List ℕ) (size : ℕ) : Type 0 where
+  pub record IsTaken (most : ℕ) (f f' : Forest K X) (h : Option ℕ) (p : ℕ) (o : Option ℕ) (path' : Path K X most) : Type 0 where
     pub union : IsUnion most f'
     pub removed : Becomes f h f' o (remove (list_of f h) p)
     pub sizes : forest_sizes f' o ≡ shrink most p (forest_sizes f h)
     pub same_levels : (o ≡ h) ↔ (length (forest_sizes f' o) ≡ length (forest_sizes f h))
     pub account : Gives (forest_sizes f h) (forest_sizes f' o) f f'
-    pub spot : StandsIn f' o path indices size p
+    pub spot : IsSpot f' o path' p
 
-  module _ (most : ℕ) (f f' : Forest K X) (n p : ℕ) (path indices : List ℕ) (size : ℕ) (u : StandsUnder f.nodes n path indices size p) (path' indices' : List ℕ) (size' : ℕ) where
+  module _ (most : ℕ) (f f' : Forest K X) (n p : ℕ) (path path' : Path K X most) (union : IsUnion most f) (on : StandsOn f n path p) where
     abbrev es : List (K × X)
-    es = flat (tree_of f.nodes n).leaves
+    es = list_under f n
 
     abbrev ss : List (List ℕ)
-    ss = sizes_of (tree_of f.nodes n)
+    ss = sizes_under f n
 
-    pub taken : (o : Option ℕ) → IfSome o (λ r'. Changes most f f' n r' (remove es p) (shrink most p ss)) → GivesNodes ss (shrink most p ss) f f' → IfSome o (λ r'. IsPathAt path' indices' size' (tree_of f'.nodes r') p) → IfSome o (λ r'. (r' ≡ n) ↔ (length (shrink most p ss) ≡ length ss)) →
-        ((o ≡ None) ↔ (length es ≡ 1)) → (o ≡ None → Ends most f f' n) → (o ≡ None → size' ≡ 0) → (o ≡ None → shrink most p ss ≡ []) → IsLeafCapacity most → IsTaken most f f' (Some n) p o path' indices' size'
-    taken o changes gv at same last ended end none cap =
-        let list : es ≡ list_at f n = sym (list-root f n u.root_is) in
-        let sizes : ss ≡ sizes_at f n = sym (sizes-root f n u.root_is) in
-        let low = stands-within path indices size (tree_of f.nodes n) p u.stands in
+    taken : (o : Option ℕ) → IfSome o (λ r'. Changes most f f' n r' (remove es p) (shrink most p ss)) → GivesNodes ss (shrink most p ss) f f' → IfSome o (λ r'. StandsAt f' r' path' p) → IfSome o (λ r'. (r' ≡ n) ↔ (length (shrink most p ss) ≡ length ss)) →
+        ((o ≡ None) ↔ (length es ≡ 1)) → (o ≡ None → Ends most f f' n) → (o ≡ None → IsAtEnd path') → (o ≡ None → shrink most p ss ≡ []) → IsTaken most f f' (Some n) p o path'
+    taken o changes gv at same last ended end none =
+        let list : es ≡ list_at f n = sym (list-root f n on.root_is) in
+        let sizes : ss ≡ sizes_at f n = sym (sizes-root f n on.root_is) in
+        let low = on-within most f n path p union on in
         let now = sizes-cut most f f' n (remove es p) (shrink most p ss) o changes none in
         record {
           union = union-cut most f f' n (remove es p) (shrink most p ss) o changes ended;
@@ -148,24 +139,22 @@ module _ {K X : Type 0} where
           same_levels = subst (λ (z : List (List ℕ)). (o ≡ Some n) ↔ (length (forest_sizes f' o) ≡ length z)) sizes
               (subst (λ (z : List (List ℕ)). (o ≡ Some n) ↔ (length z ≡ length ss)) (sym now) (same-cut n ss (shrink most p ss) o same none (omega arith)));
           account = subst (λ (z : List (List ℕ)). Gives z (forest_sizes f' o) f f') sizes (subst (λ (z : List (List ℕ)). Gives ss z f f') (sym now) (gives f f' ss (shrink most p ss) gv));
-          spot = go o changes at last end low;
+          spot = go o at last end low;
         }
       where
-        go : (o : Option ℕ) → IfSome o (λ r'. Changes most f f' n r' (remove es p) (shrink most p ss)) → IfSome o (λ r'. IsPathAt path' indices' size' (tree_of f'.nodes r') p) → ((o ≡ None) ↔ (length es ≡ 1)) → (o ≡ None → size' ≡ 0) → p < length es → StandsIn f' o path' indices' size' p
-        go None changes at last end low =
-            let one = last.0 refl in
-            let z : 0 ≡ p = omega (arith, one, low) in
-            subst (λ (q : ℕ). StandsIn f' None path' indices' size' q) z (spot-none f' path' indices' size' (end refl))
-        go (Some r') changes at last end low = spot-at most f' r' path' indices' size' p (changes.union, cap) changes.root_is at
+        go : (o : Option ℕ) → IfSome o (λ r'. StandsAt f' r' path' p) → ((o ≡ None) ↔ (length es ≡ 1)) → (o ≡ None → IsAtEnd path') → p < length es → IsSpot f' o path' p
+        go None at last end low = (end refl, (let one = last.0 refl in omega (arith, one, low)))
+        go (Some r') at last end low = at
 
-  pub taken-at : (most : ℕ) (f f' : Forest K X) (h : Option ℕ) (path indices : List ℕ) (size p : ℕ) (path' indices' : List ℕ) (size' : ℕ) (o : Option ℕ) → IsSound most f → StandsIn f h path indices size p → size ≢ 0 →
-      ((r q : ℕ) → StandsUnder f.nodes r path indices size q → IfSome o (λ r'. Changes most f f' r r' (remove (flat (tree_of f.nodes r).leaves) q) (shrink most q (sizes_of (tree_of f.nodes r))))) → ((r q : ℕ) → StandsUnder f.nodes r path indices size q → GivesNodes (sizes_of (tree_of f.nodes r)) (shrink most q (sizes_of (tree_of f.nodes r))) f f') →
-      ((r q : ℕ) → StandsUnder f.nodes r path indices size q → IfSome o (λ r'. IsPathAt path' indices' size' (tree_of f'.nodes r') q)) → ((r q : ℕ) → StandsUnder f.nodes r path indices size q → IfSome o (λ r'. (r' ≡ r) ↔ (length (shrink most q (sizes_of (tree_of f.nodes r))) ≡ length (sizes_of (tree_of f.nodes r))))) →
-      ((r q : ℕ) → StandsUnder f.nodes r path indices size q → (o ≡ None) ↔ (length (flat (tree_of f.nodes r).leaves) ≡ 1)) → (o ≡ None → (r q : ℕ) → StandsUnder f.nodes r path indices size q → Ends most f f' r) → (o ≡ None → size' ≡ 0) → (o ≡ None → (r q : ℕ) → StandsUnder f.nodes r path indices size q → shrink most q (sizes_of (tree_of f.nodes r)) ≡ []) →
-      IsTaken most f f' h p o path' indices' size'
-  taken-at most f f' h path indices size p path' indices' size' o sound s some removed account stands same last ended end none =
-      let t = spot-stands most f h path indices size p sound s some in
-      let n : ℕ = t.root in
-      let u = t.under in
-      subst (λ (z : Option ℕ). IsTaken most f f' z p o path' indices' size') (sym t.handle)
-      (taken most f f' n p path indices size u path' indices' size' o (removed n p u) (account n p u) (stands n p u) (same n p u) (last n p u) (λ e. ended e n p u) end (λ e. none e n p u) sound.1)
+  -- a removal at a path of a handle
+  pub taken-at : (most : ℕ) (f f' : Forest K X) (h : Option ℕ) (path path' : Path K X most) (o : Option ℕ) → IsUnion most f → (at : OnSpot f h path) →
+      ((e : OnEntry f path) → IfSome o (λ r'. Changes most f f' e.root r' (remove (list_under f e.root) e.place) (shrink most e.place (sizes_under f e.root)))) →
+      ((e : OnEntry f path) → GivesNodes (sizes_under f e.root) (shrink most e.place (sizes_under f e.root)) f f') → ((e : OnEntry f path) → IfSome o (λ r'. StandsAt f' r' path' e.place)) →
+      ((e : OnEntry f path) → IfSome o (λ r'. (r' ≡ e.root) ↔ (length (shrink most e.place (sizes_under f e.root)) ≡ length (sizes_under f e.root)))) →
+      ((e : OnEntry f path) → (o ≡ None) ↔ (length (list_under f e.root) ≡ 1)) → (o ≡ None → (e : OnEntry f path) → Ends most f f' e.root) → (o ≡ None → IsAtEnd path') → (o ≡ None → (e : OnEntry f path) → shrink most e.place (sizes_under f e.root) ≡ []) →
+      IsTaken most f f' h at.place o path'
+  taken-at most f f' h path path' o union at removed account stands same last ended end none =
+      let t = spot-on f path most h at.place union at.spot at.within in
+      let e : OnEntry f path = record { root = t.0; place = at.place; on = t.2 } in
+      subst (λ (z : Option ℕ). IsTaken most f f' z at.place o path') (sym t.1)
+      (taken most f f' t.0 at.place path path' union t.2 o (removed e) (account e) (stands e) (same e) (last e) (λ z. ended z e) end (λ z. none z e))

@@ -7,7 +7,7 @@ use Rattle.bforest_trees.proofs.Increasing.{IsIncreasing-one}
 use Rattle.bforest_trees.proofs.Putting.{IsPut, present-told, sizes-kept}
 use Rattle.bforest_trees.specs.Calls.{Inserts}
 use Rattle.bforest_trees.specs.Forest.{Becomes, Forest, IsTooMany, NeedsGrowth, Takes, free_of, list_at, list_of, need_of, sizes_at}
-use Rattle.std.proofs.Common.{Err, List, None, Ok, Option, Some, [], ap, false, length, refl, subst, sym, true, ◌∙◌, ◌∷◌, ◌↔◌, ◌≡◌, ◌≤◌, ℕ}
+use Rattle.std.proofs.Common.{Err, None, Ok, Option, Some, [], ap, length, refl, subst, sym, ◌∙◌, ◌∷◌, ◌↔◌, ◌≡◌, ◌≤◌, ℕ}
 use Rattle.std.proofs.lemmas.Bool.{false≢true}
 use Rattle.std.specs.Option.{is_some}
 use Rattle.std.specs.declared.cmp.Ordering.{Ordering}

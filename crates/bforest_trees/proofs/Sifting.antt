@@ -1,20 +1,21 @@
 -- What the loop of `retain` keeps.
 use Rattle.bforest_trees.proofs.Cutting.{changes-none, gives-none}
 use Rattle.bforest_trees.proofs.Following.{chained-no-root, changes-both, ends-both, gives-both}
-use Rattle.bforest_trees.proofs.Reading.{ended, standing-in}
+use Rattle.bforest_trees.proofs.Reading.{left-at}
 use Rattle.bforest_trees.specs.Layout.{entries_from}
 use Rattle.bforest_trees.specs.Retain.{MayAskEach, Retained, RetainedNone, Retains, Stepped, SteppedLast}
-use Rattle.bforest_core.proofs.rows.LevelRows.{flat-append}
 use Rattle.bforest_core.proofs.table.Lists.{drop-read, drop_remove, length_remove, read_none, take_remove}
 use Rattle.bforest_core.proofs.table.Tables.{count-append}
-use Rattle.bforest_core.specs.Change.{Changes, GivesNodes, StandsUnder}
-use Rattle.bforest_core.specs.Levels.{LevelNode, Tree, flat, half_of, node, sizes_of}
-use Rattle.bforest_core.specs.Place.{IsAt, IsPathAt, Stands, count}
+use Rattle.bforest_core.proofs.walks.Standing.{at-on, on-at}
+use Rattle.bforest_core.specs.Change.{Changes, GivesNodes}
+use Rattle.bforest_core.specs.Paths.{StandsAt, StandsOn, list_under, sizes_under}
+use Rattle.bforest_core.specs.Place.{count}
 use Rattle.bforest_core.specs.Sizes.{loss, loss_above, shrink, trimmed}
 use Rattle.bforest_core.specs.Table.{Table}
-use Rattle.bforest_core.specs.Trees.{IsUnion, is_root, tree_of}
+use Rattle.bforest_core.specs.Trees.{IsUnion, is_root}
+use Rattle.bforest_core.specs.declared.path.Path.{Path}
 use Rattle.bforest_nodes.specs.Entries.{with_value}
-use Rattle.std.proofs.Common.{Bool, IfSome, IsTrue, List, None, Option, Some, [], ap, append-nil, arith, drop, false, if◌then◌else◌, inl, inr, length, length-append, refl, remove, slice_get, subst, suc, sym, take, true, zero, ◌++◌, ◌-◌, ◌<◌, ◌∙◌, ◌∷◌, ◌≡◌, ◌≢◌, ◌≤◌, ◌↔◌, ℕ}
+use Rattle.std.proofs.Common.{Bool, IfSome, IsTrue, List, None, Option, Some, [], ap, append-nil, arith, drop, false, if◌then◌else◌, inl, inr, length, refl, remove, slice_get, subst, suc, sym, take, true, zero, ◌++◌, ◌-◌, ◌<◌, ◌∙◌, ◌∷◌, ◌≡◌, ◌≢◌, ◌≤◌, ◌↔◌, ℕ}
 use Rattle.std.proofs.lemmas.Bool.Decides.{eqb_tells}
 use Rattle.std.proofs.lemmas.Bool.{cases_lt}
 use Rattle.std.proofs.lemmas.List.{drop_all, length-drop, take_all}
@@ -54,28 +55,11 @@ pub shrink-fewer : (n p : ℕ) (sizes : List (List ℕ)) → length (shrink n p 
 shrink-fewer n p [] = omega arith
 shrink-fewer n p (leaves ∷ levels) = omega (arith, trimmed_fewer ((loss n p leaves).1 ∷ loss_above (loss n p leaves).0 levels), loss_fewer (loss n p leaves).0 levels)
 
-module _ {K V : Type 0} where
-  -- a place at which a path stands is one of the list
-  pub at-within : (row : List (LevelNode K V)) (n i p : ℕ) → IsAt row n i p → p < length (flat row)
-  at-within row n i p at =
-      omega (arith, at.within, at.place_is, ap (λ z. length (flat z)) at.row_is, ap length (flat-append at.before (node n at.entries ∷ at.after)), length-append (flat at.before) (at.entries ++ flat at.after), length-append at.entries (flat at.after))
-
-  -- a path that stands at an entry, or is at the end
-  pub stands-at : (path indices : List ℕ) (size : ℕ) (tree : Tree K V) (place : ℕ) → Stands path indices size tree place → IsPathAt path indices size tree place
-  stands-at path indices zero tree place s = absurd (omega (arith, s.size_is))
-  stands-at path indices (suc size) tree place s = s
-
-  -- a path after a step
-  pub at-next : (o : Option (K × V)) (path indices : List ℕ) (size : ℕ) (tree : Tree K V) (place : ℕ) → place < length (flat tree.leaves) → o ≡ slice_get (flat tree.leaves) (suc place) → (o ≢ None → Stands path indices size tree (suc place)) → (o ≡ None → size ≡ 0) → IsPathAt path indices size tree (suc place)
-  at-next None path indices size tree place low value moved end =
-      subst (λ (z : ℕ). IsPathAt path indices z tree (suc place)) (sym (end refl)) (let past = read_none (flat tree.leaves) (suc place) value in omega (arith, low, past))
-  at-next (Some e) path indices size tree place low value moved end = stands-at path indices size tree (suc place) (moved (λ bad. cc))
-
 -- an entry answered no was taken out
-pub sifted-out : {F K X : Type 0} (most : ℕ) (step : F → K → X → Bool → X → F → Type 0) (old new : Table K X) (root : ℕ) (path' indices' : List ℕ) (size' : ℕ) (f f' : F) (list : List (K × X)) (sizes : List (List ℕ)) (place : ℕ) (k : K) (v w : X) → step f k v false w f' → (o : Option ℕ) → IfSome o (λ root'. Changes most old new root root' (remove list place) (shrink most place sizes)) → GivesNodes sizes (shrink most place sizes) old new →
-    IfSome o (λ root'. IsPathAt path' indices' size' (tree_of new.nodes root') place) → IfSome o (λ root'. (root' ≡ root) ↔ (length (shrink most place sizes) ≡ length sizes)) → (o ≢ Some root → 0 < count root new.chain) → IfSome o (λ root'. Stepped most step old new root root' path' indices' size' f f' list sizes place k v)
-sifted-out most step old new root path' indices' size' f f' list sizes place k v w t None ch gv at level freed = tt
-sifted-out most step old new root path' indices' size' f f' list sizes place k v w t (Some root') ch gv at level freed = record {
+pub sifted-out : {F K X : Type 0} (most : ℕ) (step : F → K → X → Bool → X → F → Type 0) (old new : Table K X) (root : ℕ) (path' : Path K X most) (f f' : F) (list : List (K × X)) (sizes : List (List ℕ)) (place : ℕ) (k : K) (v w : X) → step f k v false w f' → (o : Option ℕ) → IfSome o (λ root'. Changes most old new root root' (remove list place) (shrink most place sizes)) → GivesNodes sizes (shrink most place sizes) old new →
+    IfSome o (λ root'. StandsAt new root' path' place) → IfSome o (λ root'. (root' ≡ root) ↔ (length (shrink most place sizes) ≡ length sizes)) → (o ≢ Some root → 0 < count root new.chain) → IfSome o (λ root'. Stepped most step old new root root' path' f f' list sizes place k v)
+sifted-out most step old new root path' f f' list sizes place k v w t None ch gv at level freed = tt
+sifted-out most step old new root path' f f' list sizes place k v w t (Some root') ch gv at level freed = record {
   stays = false;
   left = w;
   stepped = t;
@@ -87,18 +71,11 @@ sifted-out most step old new root path' indices' size' f f' list sizes place k v
 }
 
 module _ {F K X : Type 0} (most : ℕ) (step : F → K → X → Bool → X → F → Type 0) (may : F → K → X → Type 0) (old : Table K X) (first : ℕ) (f₀ : F) where
-  -- the list of the tree under a root
-  abbrev list_under : Table K X → ℕ → List (K × X)
-  list_under t root = flat (tree_of t.nodes root).leaves
-
-  abbrev sizes_under : Table K X → ℕ → List (List ℕ)
-  sizes_under t root = sizes_of (tree_of t.nodes root)
-
   -- all in front of the path's place was asked and is as it stays, and the rest is as it was
-  pub record Sifting (now : Table K X) (root : ℕ) (f : F) (path indices : List ℕ) (size : ℕ) : Type 0 where
+  pub record Sifting (now : Table K X) (root : ℕ) (f : F) (path : Path K X most) : Type 0 where
     pub place : ℕ
     pub changes : Changes most old now first root (list_under now root) (sizes_under now root)
-    pub at : IsPathAt path indices size (tree_of now.nodes root) place
+    pub at : StandsAt now root path place
     pub ready : MayAskEach step may f (drop place (list_under now root))
     pub rest : (ks : List (K × X)) (us : List (List ℕ)) → Retains step most f place (drop place (list_under now root)) (sizes_under now root) ks us → Retains step most f₀ 0 (list_under old first) (sizes_under old first) (take place (list_under now root) ++ ks) us
     pub gives : GivesNodes (sizes_under old first) (sizes_under now root) old now
@@ -107,11 +84,11 @@ module _ {F K X : Type 0} (most : ℕ) (step : F → K → X → Bool → X → 
     pub gone : root ≢ first → (0 < count first now.chain) × (length (sizes_under now root) < length (sizes_under old first))
 
   -- at first nothing was asked
-  pub sifting-first : (path indices : List ℕ) (size : ℕ) → IsUnion most old → IsTrue (is_root old.nodes first) → Stands path indices size (tree_of old.nodes first) 0 → MayAskEach step may f₀ (list_under old first) → Sifting old first f₀ path indices size
-  sifting-first path indices size union is s ready = record {
+  pub sifting-first : (path : Path K X most) → IsUnion most old → StandsOn old first path 0 → MayAskEach step may f₀ (list_under old first) → Sifting old first f₀ path
+  sifting-first path union s ready = record {
     place = 0;
-    changes = changes-none most old first union is;
-    at = stands-at path indices size (tree_of old.nodes first) 0 s;
+    changes = changes-none most old first union s.root_is;
+    at = on-at most old first path 0 union s;
     ready = ready;
     rest = λ ks us r. r;
     gives = gives-none old (sizes_under old first);
@@ -120,7 +97,7 @@ module _ {F K X : Type 0} (most : ℕ) (step : F → K → X → Bool → X → 
     gone = λ ne. absurd (ne refl);
   }
 
-  module _ (now : Table K X) (root : ℕ) (f : F) (path indices : List ℕ) (size : ℕ) (s : Sifting now root f path indices size) where
+  module _ (now : Table K X) (root : ℕ) (f : F) (path : Path K X most) (s : Sifting now root f path) where
     -- at last all was asked
     pub sifting-last : None ≡ slice_get (list_under now root) s.place → Retained most step old now first root f₀
     sifting-last e =
@@ -149,12 +126,8 @@ module _ {F K X : Type 0} (most : ℕ) (step : F → K → X → Bool → X → 
       sifting-may = ready.at [] (drop (suc s.place) (list_under now root)) f k v refl refl
 
       -- the path stands at it
-      pub sifting-stands : StandsUnder now.nodes root path indices size s.place
-      sifting-stands = record { root_is = s.changes.root_is; stands = go size s.at }
-        where
-          go : (size : ℕ) → IsPathAt path indices size (tree_of now.nodes root) s.place → Stands path indices size (tree_of now.nodes root) s.place
-          go zero at = absurd (let low = slice_get_within (list_under now root) s.place (k, v) (sym here) in omega (arith, low, at))
-          go (suc size) at = at
+      pub sifting-stands : StandsOn now root path s.place
+      sifting-stands = at-on most now root path s.place s.changes.union s.at (slice_get_within (list_under now root) s.place (k, v) (sym here))
 
       -- one answer leads to what is asked of the rest
       asked_on : (stays : Bool) (w : X) (f' : F) → step f k v stays w f' → (xs' : List (K × X)) (sizes' : List (List ℕ)) (place' : ℕ) → place' ≡ (if stays then suc s.place else s.place) → sizes' ≡ (if stays then sizes_under now root else shrink most s.place (sizes_under now root)) → drop place' xs' ≡ drop (suc s.place) (list_under now root) → ((ks : List (K × X)) → take place' xs' ++ ks ≡ take s.place (list_under now root) ++ (if stays then (k, w) ∷ ks else ks)) →
@@ -173,10 +146,10 @@ module _ {F K X : Type 0} (most : ℕ) (step : F → K → X → Bool → X → 
       ready_on stays w f' t xs same = record { at = λ before after u q x is r. ready.at ((k, v) ∷ before) after u q x (ap (λ m. (k, v) ∷ m) (sym same ∙ is)) (f', (stays, w, t), r) }
 
       -- what follows of one answer, whichever it is
-      module _ (new : Table K X) (root' : ℕ) (f' : F) (path' indices' : List ℕ) (size' : ℕ) where
+      module _ (new : Table K X) (root' : ℕ) (f' : F) (path' : Path K X most) where
         next_at : (stays : Bool) (w : X) → step f k v stays w f' → (place' : ℕ) (es : List (K × X)) (us : List (List ℕ)) → place' ≡ (if stays then suc s.place else s.place) → us ≡ (if stays then sizes_under now root else shrink most s.place (sizes_under now root)) → length us ≤ length (sizes_under now root) →
             drop place' es ≡ drop (suc s.place) (list_under now root) → ((ks : List (K × X)) → take place' es ++ ks ≡ take s.place (list_under now root) ++ (if stays then (k, w) ∷ ks else ks)) →
-            Changes most now new root root' es us → GivesNodes (sizes_under now root) us now new → IsPathAt path' indices' size' (tree_of new.nodes root') place' → (root' ≡ root) ↔ (length us ≡ length (sizes_under now root)) → (root' ≢ root → 0 < count root new.chain) → length es - place' < length (list_under now root) - s.place → (n : Sifting new root' f' path' indices' size') × (length (list_under new root') - n.place < length (list_under now root) - s.place)
+            Changes most now new root root' es us → GivesNodes (sizes_under now root) us now new → StandsAt new root' path' place' → (root' ≡ root) ↔ (length us ≡ length (sizes_under now root)) → (root' ≢ root → 0 < count root new.chain) → length es - place' < length (list_under now root) - s.place → (n : Sifting new root' f' path') × (length (list_under new root') - n.place < length (list_under now root) - s.place)
         next_at stays w t place' es us place_is us_is few same front ch gv at level freed less =
             let list_is = ch.list_is in
             let sizes_are = ch.sizes_are in
@@ -217,14 +190,14 @@ module _ {F K X : Type 0} (most : ℕ) (step : F → K → X → Bool → X → 
             )
 
         -- the entry here was asked
-        pub sifting-next : Stepped most step now new root root' path' indices' size' f f' (list_under now root) (sizes_under now root) s.place k v → (n : Sifting new root' f' path' indices' size') × (length (list_under new root') - n.place < length (list_under now root) - s.place)
+        pub sifting-next : Stepped most step now new root root' path' f f' (list_under now root) (sizes_under now root) s.place k v → (n : Sifting new root' f' path') × (length (list_under new root') - n.place < length (list_under now root) - s.place)
         sifting-next t = go t.stays t.left t.stepped t.changes t.gives t.at t.same_root t.freed_root
           where
             low : s.place < length (list_under now root)
             low = slice_get_within (list_under now root) s.place (k, v) (sym here)
 
             go : (stays : Bool) (w : X) → step f k v stays w f' → Changes most now new root root' (if stays then with_value (list_under now root) s.place w else remove (list_under now root) s.place) (if stays then sizes_under now root else shrink most s.place (sizes_under now root)) →
-                GivesNodes (sizes_under now root) (if stays then sizes_under now root else shrink most s.place (sizes_under now root)) now new → IsPathAt path' indices' size' (tree_of new.nodes root') (if stays then suc s.place else s.place) → (root' ≡ root) ↔ (length (if stays then sizes_under now root else shrink most s.place (sizes_under now root)) ≡ length (sizes_under now root)) → (root' ≢ root → 0 < count root new.chain) → (n : Sifting new root' f' path' indices' size') × (length (list_under new root') - n.place < length (list_under now root) - s.place)
+                GivesNodes (sizes_under now root) (if stays then sizes_under now root else shrink most s.place (sizes_under now root)) now new → StandsAt new root' path' (if stays then suc s.place else s.place) → (root' ≡ root) ↔ (length (if stays then sizes_under now root else shrink most s.place (sizes_under now root)) ≡ length (sizes_under now root)) → (root' ≢ root → 0 < count root new.chain) → (n : Sifting new root' f' path') × (length (list_under new root') - n.place < length (list_under now root) - s.place)
             go true w st ch gv at level freed = next_at true w st (suc s.place) (with_value (list_under now root) s.place w) (sizes_under now root) refl refl (omega arith) (drop_written (list_under now root) s.place w) (λ ks. take_written (list_under now root) s.place w (k, v) here ks) ch gv at level freed (omega (arith, low, length_written (list_under now root) s.place w))
             go false w st ch gv at level freed = next_at false w st s.place (remove (list_under now root) s.place) (shrink most s.place (sizes_under now root)) refl refl (shrink-fewer most s.place (sizes_under now root)) (drop_remove (list_under now root) s.place low) (λ ks. take_remove (list_under now root) s.place low ks) ch gv at level freed (omega (arith, low, length_remove (list_under now root) s.place low))
 
@@ -242,11 +215,7 @@ module _ {F K X : Type 0} (most : ℕ) (step : F → K → X → Bool → X → 
               gives = gives-both most old now new (sizes_under old first) (sizes_under now root) [] s.gives (subst (λ (z : List (List ℕ)). GivesNodes (sizes_under now root) z now new) t.none_left t.gives);
             }
 
-  module _ (one : 1 ≤ half_of most) (now : Table K X) (root : ℕ) (f : F) (path indices : List ℕ) (size : ℕ) (s : Sifting now root f path indices size) where
+  module _ (now : Table K X) (root : ℕ) (f : F) (path : Path K X most) (s : Sifting now root f path) where
     -- how many entries are left to be asked
-    pub sifting-left : length (entries_from now.nodes size path indices) ≡ length (list_under now root) - s.place
-    sifting-left = go size s.at
-      where
-        go : (size : ℕ) → IsPathAt path indices size (tree_of now.nodes root) s.place → length (entries_from now.nodes size path indices) ≡ length (list_under now root) - s.place
-        go zero at = ap length (ended now zero path indices refl) ∙ (let z : 0 ≡ length (list_under now root) - s.place = omega (arith, at) in z)
-        go (suc size) at = ap length (standing-in most one now root (suc size) s.place path indices s.changes.union (record { root_is = s.changes.root_is; stands = at })) ∙ length-drop s.place (list_under now root)
+    pub sifting-left : length (entries_from now path) ≡ length (list_under now root) - s.place
+    sifting-left = ap length (left-at now root path s.place s.changes.union s.at) ∙ length-drop s.place (list_under now root)

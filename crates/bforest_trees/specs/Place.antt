@@ -1,28 +1,22 @@
 -- Where a path stands in the list of a handle.
 use Rattle.bforest_trees.specs.Forest.{Forest, list_of}
-use Rattle.bforest_trees.specs.Layout.{place_in}
-use Rattle.bforest_core.specs.Change.{StandsUnder}
-use Rattle.bforest_core.specs.Levels.{LevelNode}
-use Rattle.bforest_core.specs.Trees.{tree_of}
+use Rattle.bforest_core.specs.Paths.{IsAtEnd, StandsAt}
 use Rattle.bforest_core.specs.declared.path.Path.{Path}
-use Rattle.std.specs.Prelude.{List, None, Option, Some, [], get_or, if◌then◌else◌, length, ◌==◌, ◌≡◌, ◌≢◌, ℕ}
+use Rattle.std.specs.Prelude.{None, Option, Some, length, ◌<◌, ◌≡◌, ℕ}
 
 module _ {K X : Type 0} where
-  -- the leaves of the tree of a handle
-  abbrev pub leaves_of : Forest K X → Option ℕ → List (LevelNode K X)
-  leaves_of f None = []
-  leaves_of f (Some n) = (tree_of f.nodes n).leaves
-
-  -- the place in the list of a handle at which a path stands: with no node it is the end
-  abbrev pub spot_in : Forest K X → Option ℕ → List ℕ → List ℕ → ℕ → ℕ
-  spot_in f h path indices size =
-      if size == 0 then length (list_of f h) else place_in (leaves_of f h) (get_or path 0 0) (get_or indices 0 0)
-
-  -- the path stands in the tree of the handle at the entry of this place, or with no node at the end, whose place is behind all entries
-  pub record StandsIn (f : Forest K X) (h : Option ℕ) (path indices : List ℕ) (size place : ℕ) : Type 0 where
-    pub stands : size ≢ 0 → (n : ℕ) × (h ≡ Some n) × StandsUnder f.nodes n path indices size place
-    pub end : size ≡ 0 → place ≡ length (list_of f h)
-    pub spot : spot_in f h path indices size ≡ place
-
+  -- the path stands at this place of the list of a handle: on the entry there, or at the end. An empty handle has the end alone
   abbrev pub IsSpot : {n : ℕ} → Forest K X → Option ℕ → Path K X n → ℕ → Type 0
-  IsSpot f h path place = StandsIn f h path.node path.entry path.size place
+  IsSpot f None path place = IsAtEnd path × (place ≡ 0)
+  IsSpot f (Some root) path place = StandsAt f root path place
+
+  -- the place where a path stands in the list of a handle
+  pub record AtSpot {n : ℕ} (f : Forest K X) (h : Option ℕ) (path : Path K X n) : Type 0 where
+    pub place : ℕ
+    pub spot : IsSpot f h path place
+
+  -- the place of the entry on which it stands
+  pub record OnSpot {n : ℕ} (f : Forest K X) (h : Option ℕ) (path : Path K X n) : Type 0 where
+    pub place : ℕ
+    pub spot : IsSpot f h path place
+    pub within : place < length (list_of f h)

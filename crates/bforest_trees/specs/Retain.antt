@@ -1,10 +1,10 @@
 -- Calls of a predicate on a key and a `&mut` to its value, and what stays of a list.
 use Rattle.bforest_core.specs.Change.{Changes, Ends, GivesNodes}
-use Rattle.bforest_core.specs.Levels.{flat, sizes_of}
-use Rattle.bforest_core.specs.Place.{IsPathAt, count}
+use Rattle.bforest_core.specs.Paths.{StandsAt, list_under, sizes_under}
+use Rattle.bforest_core.specs.Place.{count}
+use Rattle.bforest_core.specs.declared.path.Path.{Path}
 use Rattle.bforest_core.specs.Sizes.{shrink}
 use Rattle.bforest_core.specs.Table.{Table}
-use Rattle.bforest_core.specs.Trees.{tree_of}
 use Rattle.bforest_nodes.specs.Entries.{with_value}
 use Rattle.std.specs.Borrow.{MutBor}
 use Rattle.std.specs.Fn.{Called, Mut, Takes}
@@ -43,13 +43,13 @@ module _ {F K X : Type 0} (step : F → K → X → Bool → X → F → Type 0)
 module _ {F K X : Type 0} (most : ℕ) (step : F → K → X → Bool → X → F → Type 0) where
   -- f was asked of the entry at a place of the tree under a root: an entry answered yes stays with the value left there and the
   -- path goes behind it, one answered no is taken out and the path stands at the one that followed
-  pub record Stepped (old new : Table K X) (root root' : ℕ) (path' indices' : List ℕ) (size' : ℕ) (f f' : F) (list : List (K × X)) (sizes : List (List ℕ)) (place : ℕ) (k : K) (v : X) : Type 0 where
+  pub record Stepped (old new : Table K X) (root root' : ℕ) (path' : Path K X most) (f f' : F) (list : List (K × X)) (sizes : List (List ℕ)) (place : ℕ) (k : K) (v : X) : Type 0 where
     pub stays : Bool
     pub left : X
     pub stepped : step f k v stays left f'
     pub changes : Changes most old new root root' (if stays then with_value list place left else remove list place) (if stays then sizes else shrink most place sizes)
     pub gives : GivesNodes sizes (if stays then sizes else shrink most place sizes) old new
-    pub at : IsPathAt path' indices' size' (tree_of new.nodes root') (if stays then suc place else place)
+    pub at : StandsAt new root' path' (if stays then suc place else place)
     pub same_root : (root' ≡ root) ↔ (length (if stays then sizes else shrink most place sizes) ≡ length sizes)
     pub freed_root : root' ≢ root → 0 < count root new.chain
 
@@ -66,13 +66,13 @@ module _ {F K X : Type 0} (most : ℕ) (step : F → K → X → Bool → X → 
   pub record Retained (old new : Table K X) (root root' : ℕ) (f : F) : Type 0 where
     pub list : List (K × X)
     pub sizes : List (List ℕ)
-    pub retains : Retains step most f 0 (flat (tree_of old.nodes root).leaves) (sizes_of (tree_of old.nodes root)) list sizes
+    pub retains : Retains step most f 0 (list_under old root) (sizes_under old root) list sizes
     pub changes : Changes most old new root root' list sizes
-    pub gives : GivesNodes (sizes_of (tree_of old.nodes root)) sizes old new
-    pub same_root : (root' ≡ root) ↔ (length sizes ≡ length (sizes_of (tree_of old.nodes root)))
+    pub gives : GivesNodes (sizes_under old root) sizes old new
+    pub same_root : (root' ≡ root) ↔ (length sizes ≡ length (sizes_under old root))
 
   -- f was asked of each entry of the tree under a root, and none stays
   pub record RetainedNone (old new : Table K X) (root : ℕ) (f : F) : Type 0 where
-    pub retains : Retains step most f 0 (flat (tree_of old.nodes root).leaves) (sizes_of (tree_of old.nodes root)) [] []
+    pub retains : Retains step most f 0 (list_under old root) (sizes_under old root) [] []
     pub ended : Ends most old new root
-    pub gives : GivesNodes (sizes_of (tree_of old.nodes root)) [] old new
+    pub gives : GivesNodes (sizes_under old root) [] old new

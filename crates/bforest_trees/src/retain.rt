@@ -1,8 +1,6 @@
 //! Asking a predicate of each entry of a tree.
-ghost use Rattle.bforest_core.specs.Change.{StandsUnder};
-ghost use Rattle.bforest_nodes.specs.Content.{IsLeafCapacity};
-ghost use Rattle.bforest_core.specs.Levels.{flat, sizes_of};
-ghost use Rattle.bforest_core.specs.Trees.{IsUnion, is_root, tree_of};
+ghost use Rattle.bforest_core.specs.Paths.{StandsOn, list_under, sizes_under};
+ghost use Rattle.bforest_core.specs.Trees.{IsUnion, is_root};
 ghost use Rattle.bforest_trees.specs.Retain.{MayAskEach, Retained, RetainedNone, Stepped, SteppedLast};
 ghost use Rattle.std.specs.Prelude.{IfSome, IsTrue, None, ◌≡◌, ℕ};
 
@@ -16,10 +14,9 @@ pub(crate) fn retain<K: Copy, V: Copy, const N: usize, P: Predicate<K, V>>(
     root: Node,
     predicate: P,
 ) -> Option<Node>
-    requires capacity { IsLeafCapacity N }
     requires union { IsUnion N pool.old }
     requires root { IsTrue (is_root pool.old.nodes root) }
-    requires callable { MayAskEach P.step P.may predicate (flat (tree_of pool.old.nodes root).leaves) }
+    requires callable { MayAskEach P.step P.may predicate (list_under pool.old root) }
     ensures retained { IfSome result (λ root'. Retained N P.step pool.old pool.new root root' predicate) }
     ensures ended { result ≡ None → RetainedNone N P.step pool.old pool.new root predicate }
 {
@@ -42,12 +39,15 @@ fn retain_step<K: Copy, V: Copy, const N: usize, P: Predicate<K, V>>(
     pool: &mut NodePool<K, V, N>,
     predicate: &mut P,
 ) -> Option<Node>
-    requires capacity { IsLeafCapacity N }
     requires union { IsUnion N pool.old }
-    requires stands { (place : ℕ) × StandsUnder pool.old.nodes root path.old.node path.old.entry path.old.size place }
+    requires stands { (place : ℕ) × StandsOn pool.old root path.old place }
     requires callable { P.may predicate.old entry.0 entry.1 }
-    ensures stepped { (place : ℕ) → StandsUnder pool.old.nodes root path.old.node path.old.entry path.old.size place → IfSome result (λ root'. Stepped N P.step pool.old pool.new root root' path.new.node path.new.entry path.new.size predicate.old predicate.new (flat (tree_of pool.old.nodes root).leaves) (sizes_of (tree_of pool.old.nodes root)) place entry.0 entry.1) }
-    ensures ended { result ≡ None → (place : ℕ) → StandsUnder pool.old.nodes root path.old.node path.old.entry path.old.size place → SteppedLast N P.step pool.old pool.new root predicate.old predicate.new (flat (tree_of pool.old.nodes root).leaves) (sizes_of (tree_of pool.old.nodes root)) place entry.0 entry.1 }
+    ensures stepped { (place : ℕ) → StandsOn pool.old root path.old place
+        → IfSome result (λ root'. Stepped N P.step pool.old pool.new root root' path.new predicate.old predicate.new
+        (list_under pool.old root) (sizes_under pool.old root) place entry.0 entry.1) }
+    ensures ended { result ≡ None → (place : ℕ) → StandsOn pool.old root path.old place
+        → SteppedLast N P.step pool.old pool.new root predicate.old predicate.new
+        (list_under pool.old root) (sizes_under pool.old root) place entry.0 entry.1 }
 {
     let (key, mut value) = entry;
     if predicate.ask(key, &mut value) {

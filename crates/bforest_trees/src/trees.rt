@@ -1,7 +1,8 @@
 //! The table of all trees of a forest: each call on one tree, once for maps and sets.
 ghost use Rattle.bforest_trees.specs.Forest.{Becomes, Gives, IsAccounted, IsLive, Takes, empty, first_level, free_of, limit_of, list_at, list_of, sizes_of, slots_of};
 ghost use Rattle.bforest_trees.specs.Calls.{Clears, Filters, Inserts, Removes, Reserves, SameLevels};
-ghost use Rattle.bforest_trees.specs.Place.{IsSpot};
+ghost use Rattle.bforest_trees.specs.Place.{AtSpot, IsSpot, OnSpot};
+ghost use Rattle.bforest_core.specs.Paths.{IsAtEnd};
 ghost use Rattle.bforest_trees.specs.Retain.{MayAskEach};
 ghost use Rattle.bforest_core.specs.Levels.{half_of};
 ghost use Rattle.bforest_core.specs.Sizes.{shrink};
@@ -26,13 +27,12 @@ pub struct Trees<K: Copy, V: Copy, const N: usize> {
 impl<K: Copy, V: Copy, const N: usize> Model for Trees<K, V, N> {
     ghost use Rattle.bforest_trees.specs.Forest.{Forest};
     ghost use Rattle.bforest_core.specs.Trees.{IsUnion};
-    ghost use Rattle.bforest_nodes.specs.Content.{IsLeafCapacity};
 
     ghost Value = { Forest K V };
 
     ghost view = { λ t. t.pool };
 
-    ghost invariant = { λ t. IsUnion N t.pool × IsLeafCapacity N };
+    ghost invariant = { λ t. IsUnion N t.pool };
 }
 
 impl<K: Copy, V: Copy, const N: usize> Trees<K, V, N> {
@@ -161,7 +161,7 @@ impl<K: Copy, V: Copy, const N: usize> Trees<K, V, N> {
     ) -> Result<Option<V>, OutOfMemory>
         requires live { IsLive self.old handle.old }
         requires increasing { IsIncreasing (C.order comp.now) (list_of self.old handle.old) }
-        requires stands { (p : ℕ) × IsSpot self.old handle.old path.old p }
+        requires stands { AtSpot self.old handle.old path.old }
         ensures inserted { Inserts N (C.order comp.now) self.old handle.old key value result
             self.new handle.new }
         ensures spot { IsSpot self.new handle.new path.new
@@ -215,7 +215,7 @@ impl<K: Copy, V: Copy, const N: usize> Trees<K, V, N> {
         value: V,
     ) -> Result<Option<V>, OutOfMemory>
         requires empty { handle.old ≡ None }
-        requires stands { (p : ℕ) × IsSpot self.old None path.old p }
+        requires stands { IsAtEnd path.old }
         ensures inserted { (order : K → K → Ordering)
             → Inserts N order self.old None key value result self.new handle.new }
         ensures spot { IsSpot self.new handle.new path.new 0 }
@@ -236,7 +236,7 @@ impl<K: Copy, V: Copy, const N: usize> Trees<K, V, N> {
     ) -> Option<V>
         requires live { IsLive self.now handle }
         requires increasing { IsIncreasing (C.order comp.now) (list_of self.now handle) }
-        requires stands { (p : ℕ) × IsSpot self.now handle path.old p }
+        requires stands { AtSpot self.now handle path.old }
         ensures value { result ≡ value_for (C.order comp.now) (list_of self.now handle) key }
         ensures spot { IsSpot self.now handle path.new
             (place (C.order comp.now) (list_of self.now handle) key) }
@@ -266,17 +266,16 @@ impl<K: Copy, V: Copy, const N: usize> Trees<K, V, N> {
 
     /// Takes the entry out where a path stands. The path goes to the one that followed, or to the end.
     pub fn remove_at(&mut self, handle: &mut PackedNode, path: &mut Path<K, V, N>)
-        requires stands { (p : ℕ) × IsSpot self.old handle.old path.old p
-            × (p < length (list_of self.old handle.old)) }
-        ensures removed { (p : ℕ) → IsSpot self.old handle.old path.old p
-            → Becomes self.old handle.old self.new handle.new (remove (list_of self.old handle.old) p) }
-        ensures sizes { (p : ℕ) → IsSpot self.old handle.old path.old p
-            → sizes_of self.new handle.new ≡ shrink N p (sizes_of self.old handle.old) }
+        requires stands { OnSpot self.old handle.old path.old }
+        ensures removed { (at : OnSpot self.old handle.old path.old)
+            → Becomes self.old handle.old self.new handle.new (remove (list_of self.old handle.old) at.place) }
+        ensures sizes { (at : OnSpot self.old handle.old path.old)
+            → sizes_of self.new handle.new ≡ shrink N at.place (sizes_of self.old handle.old) }
         ensures same_levels { SameLevels self.old handle.old self.new handle.new }
         ensures account { Gives (sizes_of self.old handle.old) (sizes_of self.new handle.new)
             self.old self.new }
-        ensures spot { (p : ℕ) → IsSpot self.old handle.old path.old p
-            → IsSpot self.new handle.new path.new p }
+        ensures spot { (at : OnSpot self.old handle.old path.old)
+            → IsSpot self.new handle.new path.new at.place }
     {
         *handle = packed(path.remove(&mut self.pool));
     }

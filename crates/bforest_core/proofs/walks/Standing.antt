@@ -1,15 +1,24 @@
 -- A path at a place of the list under a root.
-use Rattle.std.proofs.Common.{◌≡◌, ℕ, zero, suc, ◌≤◌, IsTrue, List, [], get_or, length, inl, inr, refl, subst, ap, arith}
+use Rattle.std.proofs.Common.{◌≡◌, ◌≢◌, ℕ, zero, suc, ◌+◌, ◌==◌, ◌≤◌, ◌<◌, IsTrue, false, if◌then◌else◌, List, [], ◌∷◌, ◌++◌, get_or, length, length-append, inl, inr, refl, sym, subst, ap, ◌∙◌, arith}
+use Rattle.std.specs.List.{flat_map}
+use Rattle.std.proofs.lemmas.Bool.Decides.{eqb_tells}
+use Rattle.bforest_core.specs.declared.path.Path.{Path}
+use Rattle.bforest_core.specs.Paths.{IsPlaced, PointsTo, StandsAt, StandsOn, index_of, leaf_of, list_under, path_root, place_in, spot}
 use Rattle.bforest_nodes.specs.Content.{IsLeaf}
 use Rattle.bforest_core.specs.Change.{StandsUnder}
-use Rattle.bforest_core.specs.Levels.{Tree, flat}
-use Rattle.bforest_core.specs.Place.{IsPathAt, Stands}
+use Rattle.bforest_core.specs.Levels.{LevelNode, Tree, flat, node, numbers}
+use Rattle.bforest_core.specs.Place.{IsPathAt, Stands, count, numbers_of}
 use Rattle.bforest_core.specs.Table.{Table}
 use Rattle.bforest_core.specs.Trees.{IsUnion, is_root, slot, tree_of}
 use Rattle.bforest_core.proofs.walks.Descent.{some_leaf}
 use Rattle.bforest_core.proofs.walks.Leading.{front_step, led_leaf}
 use Rattle.bforest_core.proofs.table.Read.{slot-is}
-use Rattle.bforest_core.proofs.union.Unions.{is-rooted}
+use Rattle.bforest_core.proofs.rows.LevelRows.{flat-append}
+use Rattle.bforest_core.proofs.rows.Tops.{root-stands}
+use Rattle.bforest_core.proofs.table.Tables.{count-append, count-same}
+use Rattle.bforest_core.proofs.walks.Backward.{at_end, at_entry}
+use Rattle.bforest_core.proofs.walks.Pointed.{points-placed, points-stands}
+use Rattle.bforest_core.proofs.union.Unions.{is-rooted, rooted}
 use Rattle.bforest_core.proofs.walks.Whole.{led_stands, whole_top, whole_under}
 
 module _ {K V : Type 0} (path indices : List ℕ) (tree : Tree K V) (place : ℕ) where
@@ -42,3 +51,81 @@ on-leaf most table root path indices union is leaf node_is index_is =
       }
       | inr s ↦ absurd (subst IsLeaf (slot-is slots root _ s.slot_is) leaf)
     ]
+
+module _ {K X : Type 0} where
+  -- the number of a node stands in its row
+  number_there : (before : List (LevelNode K X)) (n : ℕ) (es : List (K × X)) (after : List (LevelNode K X)) → 1 ≤ count n (numbers (before ++ node n es ∷ after))
+  number_there [] n es after = omega (arith, count-same n (numbers after))
+  number_there (node m xs ∷ before) n es after = omega (arith, number_there before n es after, count-append n (m ∷ []) (numbers (before ++ node n es ∷ after)))
+
+  -- the place of an entry by its node's number, where that stands in the row once
+  place_by : (before : List (LevelNode K X)) (n : ℕ) (es : List (K × X)) (after : List (LevelNode K X)) (index : ℕ) → count n (numbers (before ++ node n es ∷ after)) ≤ 1 → place_in (before ++ node n es ∷ after) n index ≡ length (flat before) + index
+  place_by [] n es after index once =
+      elim (eqb_tells n n) [
+        | inl w ↦ (let z : index ≡ 0 + index = omega arith in (λ j. if w.0 j then index else length es + place_in after n index) ∙ z)
+        | inr w ↦ absurd (w.1 refl)
+      ]
+  place_by (node m xs ∷ before) n es after index once =
+      let rest = before ++ node n es ∷ after in
+      elim (eqb_tells m n) [
+        | inl w ↦ absurd (let two = count-same n (numbers rest) in let e = ap (λ z. count n (z ∷ numbers rest)) w.1 in omega (arith, two, e, once, number_there before n es after))
+        | inr w ↦ (
+            let ih = place_by before n es after index (omega (arith, once, count-append n (m ∷ []) (numbers rest))) in
+            (λ j. if w.0 j then index else length xs + place_in rest n index) ∙ omega (arith, ih, length-append xs (flat before))
+            )
+      ]
+
+module _ {K V : Type 0} {n : ℕ} (most : ℕ) (table : Table K V) (root : ℕ) (path : Path K V n) (place : ℕ) (union : IsUnion most table) where
+  -- a path on an entry has a node
+  pub on-some : StandsOn table root path place → path.size ≢ 0
+  on-some on none = omega (arith, none, on.stands.size_is)
+
+  -- it is in the tree of its root
+  pub on-root : StandsOn table root path place → path_root path ≡ root
+  on-root on =
+      let r = rooted most table root union on.root_is in
+      sym (root-stands most (tree_of table.nodes root) path.node path.entry path.size place r.fit on.stands) ∙ r.root_is
+
+  -- its place is in front of the end
+  pub on-within : StandsOn table root path place → place < length (list_under table root)
+  on-within on =
+      let at = on.stands.leaf in
+      omega (arith, at.within, at.place_is, ap (λ z. length (flat z)) at.row_is, ap length (flat-append at.before (node (leaf_of path) at.entries ∷ at.after)), length-append (flat at.before) (at.entries ++ flat at.after), length-append at.entries (flat at.after))
+
+  -- a path is at one place alone, which is computed from its leaf and its index there
+  pub on-spot : StandsOn table root path place → spot table root path ≡ place
+  on-spot on =
+      let tree = tree_of table.nodes root in
+      let at = on.stands.leaf in
+      let r = rooted most table root union on.root_is in
+      let m = leaf_of path in
+      let once : count m (numbers tree.leaves) ≤ 1 = omega (arith, r.apart m, count-append m (numbers_of tree) table.chain, count-append m (numbers tree.leaves) (flat_map numbers tree.above)) in
+      let some : (path.size == 0) ≡ false = elim (eqb_tells path.size 0) [ inl w ↦ absurd (on-some on w.1) | inr w ↦ w.0 ] in
+      (λ j. if some j then length (list_under table root) else place_in tree.leaves m (index_of path))
+      ∙ ap (λ z. place_in z m (index_of path)) at.row_is
+      ∙ place_by at.before m at.entries at.after (index_of path) (subst (λ (z : List (LevelNode K V)). count m (numbers z) ≤ 1) at.row_is once)
+      ∙ sym at.place_is
+
+  -- the end too
+  pub at-spot : StandsAt table root path place → spot table root path ≡ place
+  at-spot s = elim (eqb_tells path.size 0) [
+    | inl w ↦ (λ j. if w.0 j then length (list_under table root) else place_in (tree_of table.nodes root).leaves (leaf_of path) (index_of path)) ∙ sym (at_end path.node path.entry (tree_of table.nodes root) place path.size w.1 s.at)
+    | inr w ↦ on-spot (record { root_is = s.root_is; stands = at_entry path.node path.entry (tree_of table.nodes root) place path.size w.1 s.at })
+  ]
+
+  -- a path that stands on an entry is at its place
+  pub on-at : StandsOn table root path place → StandsAt table root path place
+  on-at on = record { root_is = on.root_is; at = path-on path.node path.entry (tree_of table.nodes root) place path.size on.stands }
+
+  -- a path at a place in front of the end is on its entry
+  pub at-on : StandsAt table root path place → place < length (list_under table root) → StandsOn table root path place
+  at-on s low =
+      let some : path.size ≢ 0 = λ none. omega (arith, low, at_end path.node path.entry (tree_of table.nodes root) place path.size none s.at) in
+      record { root_is = s.root_is; stands = at_entry path.node path.entry (tree_of table.nodes root) place path.size some s.at }
+
+  -- where a search ended, a path points to the key's place
+  pub on-points : StandsOn table root path place → PointsTo table root path place
+  on-points on = record { root_is = on.root_is; points = points-stands path.node path.entry path.size (tree_of table.nodes root) place on.stands }
+
+  pub placed-points : IsPlaced table root path place → PointsTo table root path place
+  placed-points p = record { root_is = p.root_is; points = points-placed path.node path.entry path.size (tree_of table.nodes root) place p.at }

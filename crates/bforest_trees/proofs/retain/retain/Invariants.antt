@@ -5,8 +5,8 @@ use Rattle.std.proofs.Common.{length}
 
 -- all in front of the path was asked
 abbrev pub invariant-loop-entry : goal.invariant-loop-entry
-invariant-loop-entry g l = Sifting g.row.N g.P.Predicate.step g.P.Predicate.may l.fn.pool l.fn.root l.fn.predicate l.pool l.root l.predicate l.path.node l.path.entry l.path.size
+invariant-loop-entry g l = Sifting g.row.N g.P.Predicate.step g.P.Predicate.may l.fn.pool l.fn.root l.fn.predicate l.pool l.root l.predicate l.path
 
 -- how many entries are left
 abbrev pub decreases-loop-entry : goal.decreases-loop-entry
-decreases-loop-entry g l = length (entries_from l.pool.nodes l.path.size l.path.node l.path.entry)
+decreases-loop-entry g l = length (entries_from l.pool l.path)

@@ -9,7 +9,7 @@ pub first-requires : goal.first-requires
 first-requires g c =
     let handle : c.args.map.now ≡ Some c.in-Some.root = sym c.map.view_is ∙ sym c.expand.ensures.value ∙ c.in-Some.is in
     let root = live-root c.args.forest.now c.in-Some.root (subst (λ (h : Option ℕ). IsLive c.args.forest.now h) handle c.requires) in
-    (search rules, (search rules, (search rules, (c.pool-pool.ensures.union, ap (λ z. is_root z.nodes c.in-Some.root) (c.pool-pool.ensures.same ∙ c.forest.view_is) ∙ root))))
+    (search rules, (search rules, (c.pool-pool.ensures.union, ap (λ z. is_root z.nodes c.in-Some.root) (c.pool-pool.ensures.same ∙ c.forest.view_is) ∙ root)))
 
 pub returns-in-Some-clause-entries : goal.returns-in-Some-clause-entries
 returns-in-Some-clause-entries g c =
@@ -17,4 +17,4 @@ returns-in-Some-clause-entries g c =
     let path = c.first.new.self in
     let root = c.in-Some.root in
     let handle : Some root ≡ c.args.map.now = sym c.in-Some.is ∙ c.expand.ensures.value ∙ c.map.view_is in
-    standing pool root path.size 0 path.node path.entry c.pool-pool.ensures.union c.first.ensures.path ∙ sym (list-root pool root c.first.ensures.path.root_is) ∙ ap (λ (z : Forest g.row.K.Denot g.row.V.Denot). list_at z root) (c.pool-pool.ensures.same ∙ c.forest.view_is) ∙ ap (λ (h : Option ℕ). list_of c.args.forest.now h) handle
+    standing pool root path 0 c.pool-pool.ensures.union c.first.ensures.stands ∙ sym (list-root pool root c.first.ensures.stands.root_is) ∙ ap (λ (z : Forest g.row.K.Denot g.row.V.Denot). list_at z root) (c.pool-pool.ensures.same ∙ c.forest.view_is) ∙ ap (λ (h : Option ℕ). list_of c.args.forest.now h) handle

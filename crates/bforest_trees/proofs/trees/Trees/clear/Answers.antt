@@ -6,4 +6,4 @@ use Rattle.std.proofs.Common.{subst, sym}
 
 pub invariant_of-self : goal.invariant_of-self
 invariant_of-self g c =
-    (subst (λ (z : Table g.row.K.Denot g.row.V.Denot). IsUnion g.row.N z) (sym c.clear.ensures.empty) (IsUnion-empty g.row.N c.self.inside.pool.limit c.self.invariant.1), c.self.invariant.1)
+    subst (λ (z : Table g.row.K.Denot g.row.V.Denot). IsUnion g.row.N z) (sym c.clear.ensures.empty) (IsUnion-empty g.row.N c.self.inside.pool.limit c.self.invariant.1.capacity)

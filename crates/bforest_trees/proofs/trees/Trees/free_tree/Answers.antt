@@ -9,7 +9,7 @@ use Rattle.std.proofs.Common.{List, Some, [], refl, rules, subst, sym, ◌∙◌
 pub free_tree-requires : goal.free_tree-requires
 free_tree-requires g c =
     let s = seen-as c.self.inside.pool c.args.self.now c.args.handle.now c.in-Some.root c.self.view_is (sym c.take.ensures.value ∙ c.in-Some.is) c.requires.live in
-    (search rules, (c.self.invariant.1, (c.self.invariant.0, s.root)))
+    (search rules, (c.self.invariant, s.root))
 
 pub returns-in-Some : goal.returns-in-Some
 returns-in-Some g c =

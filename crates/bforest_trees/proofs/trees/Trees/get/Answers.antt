@@ -7,7 +7,7 @@ pub value_of-requires : goal.value_of-requires
 value_of-requires g c =
     let cmp = g.C.Comparator.order c.args.comp.now in
     let s = seen-as c.self.inside.pool c.args.self.now c.args.handle c.in-Some.root c.self.view_is (sym c.expand.ensures.value ∙ c.in-Some.is) c.requires.live in
-    (search rules, (c.self.invariant.1, (c.self.invariant.0, (s.root, subst (IsIncreasing cmp) (sym s.list) c.requires.increasing))))
+    (search rules, (c.self.invariant, (s.root, subst (IsIncreasing cmp) (sym s.list) c.requires.increasing)))
 
 pub returns-in-Some : goal.returns-in-Some
 returns-in-Some g c =

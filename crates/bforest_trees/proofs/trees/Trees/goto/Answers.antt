@@ -1,37 +1,33 @@
 use Rattle.bforest_trees.proofs.Changed.{seen-as}
-use Rattle.bforest_trees.proofs.Spots.{found-points, known, spot-empty, spot-normal}
+use Rattle.bforest_trees.proofs.Spots.{found-points, spot-empty}
 use Rattle.bforest_trees.proofs.trees.Trees.goto.Goals as goal
 use Rattle.bforest_trees.specs.Forest.{Forest, list_of}
-use Rattle.bforest_trees.specs.Place.{StandsIn}
+use Rattle.bforest_trees.specs.Place.{IsSpot}
 use Rattle.bforest_core.specs.Levels.{flat}
 use Rattle.bforest_core.specs.Trees.{tree_of}
 use Rattle.bforest_nodes.specs.Entries.{IsIncreasing, place, value_for}
-use Rattle.std.proofs.Common.{List, None, Option, Some, ap, arith, rules, subst, sym, ◌∙◌, ◌≡◌, ℕ}
+use Rattle.std.proofs.Common.{List, None, Option, Some, ap, rules, subst, sym, ◌∙◌, ◌≡◌, ℕ}
 
 pub returns-in_err-root-clause-spot : goal.returns-in_err-root-clause-spot
 returns-in_err-root-clause-spot g c =
     let cmp = g.C.Comparator.order c.args.comp.now in
     let f = c.args.self.now in
-    let path = c.args.path.now in
     let none : c.args.handle ≡ None = sym c.expand.ensures.value ∙ c.in_err-root.was in
-    spot-empty f c.args.handle path.node path.entry path.size c.requires.stands.0 (place cmp (list_of f c.args.handle) c.args.key) none (ap (λ (o : Option ℕ). place cmp (list_of f o) c.args.key) none) c.requires.stands.1
+    spot-empty f c.args.path.now c.args.handle c.requires.stands.place (place cmp (list_of f c.args.handle) c.args.key) none (ap (λ (o : Option ℕ). place cmp (list_of f o) c.args.key) none) c.requires.stands.spot
 
 pub find-value-requires : goal.find-value-requires
 find-value-requires g c =
     let cmp = g.C.Comparator.order c.args.comp.now in
     let s = seen-as c.self.inside.pool c.args.self.now c.args.handle c.in_ok-root.root c.self.view_is (sym c.expand.ensures.value ∙ c.in_ok-root.was) c.requires.live in
-    (search rules, (search rules, (c.self.invariant.1, (c.self.invariant.0, (s.root, subst (IsIncreasing cmp) (sym s.list) c.requires.increasing)))))
+    (search rules, (search rules, (c.self.invariant, (s.root, subst (IsIncreasing cmp) (sym s.list) c.requires.increasing))))
 
 pub normalize-requires : goal.normalize-requires
 normalize-requires g c =
     let cmp = g.C.Comparator.order c.args.comp.now in
     let p = c.self.inside.pool in
     let n = c.in_ok-root.root in
-    let path = c.find-value.new.self in
-    let s = seen-as p c.args.self.now c.args.handle n c.self.view_is (sym c.expand.ensures.value ∙ c.in_ok-root.was) c.requires.live in
-    let k = known g.row.N p n c.self.invariant.0 s.root in
-    let points = found-points cmp p n path.node path.entry path.size c.args.key c.find-value.ensures.present c.find-value.ensures.absent in
-    (search rules, (search rules, (c.self.invariant.1, (omega (arith, points.size_is, k.low), (λ some. (tree_of p.nodes n, place cmp (flat (tree_of p.nodes n).leaves) c.args.key, k.fit, k.inside, points))))))
+    let points = found-points g.row.N cmp p n c.find-value.new.self c.args.key c.self.invariant c.find-value.ensures.present c.find-value.ensures.absent in
+    (search rules, (search rules, (c.self.invariant, (λ some. record { root = n; place = place cmp (flat (tree_of p.nodes n).leaves) c.args.key; to = points }))))
 
 pub returns-clause-value : goal.returns-clause-value
 returns-clause-value g c =
@@ -44,12 +40,11 @@ returns-clause-spot g c =
     let cmp = g.C.Comparator.order c.args.comp.now in
     let p = c.self.inside.pool in
     let n = c.in_ok-root.root in
-    let path = c.find-value.new.self in
     let new = c.normalize.new.self in
     let handle : c.args.handle ≡ Some n = sym c.expand.ensures.value ∙ c.in_ok-root.was in
     let s = seen-as p c.args.self.now c.args.handle n c.self.view_is handle c.requires.live in
-    let points = found-points cmp p n path.node path.entry path.size c.args.key c.find-value.ensures.present c.find-value.ensures.absent in
-    let at = spot-normal g.row.N p n path.node path.entry path.size new.node new.entry new.size (place cmp (flat (tree_of p.nodes n).leaves) c.args.key) c.self.invariant s.root points c.normalize.ensures.moved c.normalize.ensures.end in
-    subst (λ (z : Forest g.row.K.Denot g.row.V.Denot). StandsIn z c.args.handle new.node new.entry new.size (place cmp (list_of c.args.self.now c.args.handle) c.args.key)) c.self.view_is
-    (subst (λ (h : Option ℕ). StandsIn p h new.node new.entry new.size (place cmp (list_of c.args.self.now c.args.handle) c.args.key)) (sym handle)
-    (subst (λ (es : List (g.row.K.Denot × g.row.V.Denot)). StandsIn p (Some n) new.node new.entry new.size (place cmp es c.args.key)) s.list at))
+    let points = found-points g.row.N cmp p n c.find-value.new.self c.args.key c.self.invariant c.find-value.ensures.present c.find-value.ensures.absent in
+    let at = c.normalize.ensures.stands (record { root = n; place = place cmp (flat (tree_of p.nodes n).leaves) c.args.key; to = points }) in
+    subst (λ (z : Forest g.row.K.Denot g.row.V.Denot). IsSpot z c.args.handle new (place cmp (list_of c.args.self.now c.args.handle) c.args.key)) c.self.view_is
+    (subst (λ (h : Option ℕ). IsSpot p h new (place cmp (list_of c.args.self.now c.args.handle) c.args.key)) (sym handle)
+    (subst (λ (es : List (g.row.K.Denot × g.row.V.Denot)). IsSpot p (Some n) new (place cmp es c.args.key)) s.list at))

@@ -9,7 +9,7 @@ returns-in-Some g c =
     let r = c.in-Some.root in
     let handle : Some r ≡ c.args.handle = sym c.in-Some.is ∙ c.expand.ensures.value in
     let here : IsTrue c.is_root.result ↔ IsLive p (Some r) = (
-      λ t. root-live g.row.N p r c.self.invariant.0 (sym c.is_root.ensures.value ∙ t),
+      λ t. root-live g.row.N p r c.self.invariant (sym c.is_root.ensures.value ∙ t),
       λ live. c.is_root.ensures.value ∙ live-root p r live,
     ) in
     let there : IsTrue c.is_root.result ↔ IsLive p c.args.handle = subst (λ (h : Option ℕ). IsTrue c.is_root.result ↔ IsLive p h) handle here in

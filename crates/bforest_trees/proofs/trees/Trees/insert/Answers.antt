@@ -1,5 +1,5 @@
 use Rattle.bforest_trees.proofs.trees.Trees.insert.Goals as goal
-use Rattle.std.proofs.Common.{None, rules, sym, ◌∙◌, ◌≡◌}
+use Rattle.std.proofs.Common.{None, sym, ◌∙◌, ◌≡◌}
 
 pub returns-in-None-clause-inserted : goal.returns-in-None-clause-inserted
 returns-in-None-clause-inserted g c =

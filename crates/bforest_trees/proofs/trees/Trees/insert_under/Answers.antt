@@ -2,13 +2,13 @@ use Rattle.bforest_trees.proofs.After.{not-ok}
 use Rattle.bforest_trees.proofs.Changed.{grows, list-root, live-root}
 use Rattle.bforest_trees.proofs.Inserting.{inserts-err, inserts-ok}
 use Rattle.bforest_trees.proofs.Putting.{absent-none, need-absent, need-present, present-some, put-here, put-new}
-use Rattle.bforest_trees.proofs.Spots.{known, spot-normal, spot-under}
 use Rattle.bforest_trees.proofs.trees.Trees.insert_under.Goals as goal
-use Rattle.bforest_core.proofs.walks.Pointed.{points-placed}
+use Rattle.bforest_core.proofs.walks.Standing.{on-at, placed-points}
+use Rattle.bforest_core.specs.Paths.{OnEntry, Placing}
 use Rattle.bforest_core.specs.Levels.{flat}
 use Rattle.bforest_core.specs.Trees.{tree_of}
 use Rattle.bforest_nodes.proofs.Ordered.{IsIncreasing-put}
-use Rattle.bforest_nodes.specs.Entries.{IsIncreasing, place, value_for}
+use Rattle.bforest_nodes.specs.Entries.{place, value_for}
 use Rattle.std.proofs.Common.{Err, List, None, Some, ap, arith, rules, subst, sym, ◌∙◌, ◌≡◌, ℕ}
 
 pub find-requires : goal.find-requires
@@ -17,7 +17,7 @@ find-requires g c =
     let p = c.self.inside.pool in
     let n : ℕ = c.args.root in
     let root = live-root p n (rw (← c.self.view_is) at c.requires.live) in
-    (search rules, (search rules, (c.self.invariant.1, (c.self.invariant.0, (root, rw (← c.self.view_is, list-root p n root) at c.requires.increasing)))))
+    (search rules, (search rules, (c.self.invariant, (root, rw (← c.self.view_is, list-root p n root) at c.requires.increasing))))
 
 pub set_value-requires : goal.set_value-requires
 set_value-requires g c =
@@ -26,7 +26,7 @@ set_value-requires g c =
     let n : ℕ = c.args.root in
     let k = c.args.key in
     let here = present-some cmp (flat (tree_of p.nodes n).leaves) k c.in-Some.old (sym c.find.ensures.value ∙ c.in-Some.is) in
-    (search rules, (search rules, (c.self.invariant.0, (n, place cmp (flat (tree_of p.nodes n).leaves) k, c.find.ensures.present here))))
+    (search rules, (search rules, (c.self.invariant, record { root = n; place = place cmp (flat (tree_of p.nodes n).leaves) k; on = c.find.ensures.present here })))
 
 pub invariant_of-self : goal.invariant_of-self
 invariant_of-self g c =
@@ -35,7 +35,7 @@ invariant_of-self g c =
     let n : ℕ = c.args.root in
     let k = c.args.key in
     let here = present-some cmp (flat (tree_of p.nodes n).leaves) k c.in-Some.old (sym c.find.ensures.value ∙ c.in-Some.is) in
-    ((c.set_value.ensures.written n (place cmp (flat (tree_of p.nodes n).leaves) k) (c.find.ensures.present here)).union, c.self.invariant.1)
+    (c.set_value.ensures.written (record { root = n; place = place cmp (flat (tree_of p.nodes n).leaves) k; on = c.find.ensures.present here })).union
 
 pub returns-in-Some-clause-inserted : goal.returns-in-Some-clause-inserted
 returns-in-Some-clause-inserted g c =
@@ -45,7 +45,7 @@ returns-in-Some-clause-inserted g c =
     let k = c.args.key in
     let root = live-root p n (rw (← c.self.view_is) at c.requires.live) in
     let here = present-some cmp (flat (tree_of p.nodes n).leaves) k c.in-Some.old (sym c.find.ensures.value ∙ c.in-Some.is) in
-    let told = put-here g.row.N cmp p n k root here c.set_value.new.pool c.args.value (c.set_value.ensures.written n (place cmp (flat (tree_of p.nodes n).leaves) k) (c.find.ensures.present here)) c.set_value.ensures.slots c.set_value.ensures.chain in
+    let told = put-here g.row.N cmp p n k root here c.set_value.new.pool c.args.value (c.set_value.ensures.written (record { root = n; place = place cmp (flat (tree_of p.nodes n).leaves) k; on = c.find.ensures.present here })) c.set_value.ensures.slots c.set_value.ensures.chain in
     let found : value_for cmp (flat (tree_of p.nodes n).leaves) k ≡ Some c.in-Some.old = sym c.find.ensures.value ∙ c.in-Some.is in
     rw (c.requires.root, ← c.self.view_is)
     (inserts-ok g.row.N cmp p k c.args.value n c.set_value.new.pool n (Some c.in-Some.old)
@@ -63,9 +63,8 @@ returns-in-Some-clause-spot g c =
     let root = live-root p n (rw (← c.self.view_is) at c.requires.live) in
     let here = present-some cmp (flat (tree_of p.nodes n).leaves) k c.in-Some.old (sym c.find.ensures.value ∙ c.in-Some.is) in
     let at = place cmp (flat (tree_of p.nodes n).leaves) k in
-    let stands = c.find.ensures.present here in
-    let path = c.find.new.self in
-    rw (c.requires.root, ← c.self.view_is, list-root p n root) (spot-under g.row.N c.set_value.new.pool n path.node path.entry path.size at ((c.set_value.ensures.written n at stands).union, c.self.invariant.1) (c.set_value.ensures.stands n at stands))
+    let e : OnEntry p c.find.new.self = record { root = n; place = at; on = c.find.ensures.present here } in
+    rw (c.requires.root, ← c.self.view_is, list-root p n root) (on-at g.row.N c.set_value.new.pool n c.find.new.self at (c.set_value.ensures.written e).union (c.set_value.ensures.stands e))
 
 pub insert-requires : goal.insert-requires
 insert-requires g c =
@@ -74,7 +73,7 @@ insert-requires g c =
     let n : ℕ = c.args.root in
     let k = c.args.key in
     let gone = absent-none cmp (flat (tree_of p.nodes n).leaves) k (sym c.find.ensures.value ∙ c.in_default.is) in
-    (search rules, (search rules, (c.self.invariant.1, (c.self.invariant.0, (n, place cmp (flat (tree_of p.nodes n).leaves) k, c.find.ensures.absent gone)))))
+    (search rules, (search rules, (c.self.invariant, record { root = n; place = place cmp (flat (tree_of p.nodes n).leaves) k; placed = c.find.ensures.absent gone })))
 
 pub normalize-requires : goal.normalize-requires
 normalize-requires g c =
@@ -82,14 +81,10 @@ normalize-requires g c =
     let p = c.self.inside.pool in
     let n : ℕ = c.args.root in
     let k = c.args.key in
-    let root = live-root p n (rw (← c.self.view_is) at c.requires.live) in
     let gone = absent-none cmp (flat (tree_of p.nodes n).leaves) k (sym c.find.ensures.value ∙ c.in_default.is) in
     let at = place cmp (flat (tree_of p.nodes n).leaves) k in
-    let placed = c.find.ensures.absent gone in
-    let path = c.insert.new.self in
-    let points = points-placed path.node path.entry path.size (tree_of p.nodes n) at (rw c.in-Err.ensures.refused_path placed.at) in
-    let w = known g.row.N p n c.self.invariant.0 root in
-    (search rules, (search rules, (c.self.invariant.1, (omega (arith, points.size_is, w.low), (λ some. (tree_of p.nodes n, at, w.fit, rw c.in-Err.ensures.refused_pool w.inside, points))))))
+    let points = placed-points g.row.N p n c.find.new.self at c.self.invariant (c.find.ensures.absent gone) in
+    (search rules, (search rules, (rw c.in-Err.ensures.refused_pool c.self.invariant, (λ some. record { root = n; place = at; to = rw (c.in-Err.ensures.refused_pool, c.in-Err.ensures.refused_path) points }))))
 
 pub returns-in-Err-clause-inserted : goal.returns-in-Err-clause-inserted
 returns-in-Err-clause-inserted g c =
@@ -99,19 +94,18 @@ returns-in-Err-clause-inserted g c =
     let k = c.args.key in
     let root = live-root p n (rw (← c.self.view_is) at c.requires.live) in
     let gone = absent-none cmp (flat (tree_of p.nodes n).leaves) k (sym c.find.ensures.value ∙ c.in_default.is) in
-    let at = place cmp (flat (tree_of p.nodes n).leaves) k in
-    let placed = c.find.ensures.absent gone in
+    let placing : Placing p c.find.new.self = record { root = n; place = place cmp (flat (tree_of p.nodes n).leaves) k; placed = c.find.ensures.absent gone } in
     let told = c.insert.ensures in
     let needs = need-absent g.row.N cmp p n k root gone in
-    let full = told.full n at placed in
+    let full = told.full placing in
     let none : value_for cmp (flat (tree_of p.nodes n).leaves) k ≡ None = sym c.find.ensures.value ∙ c.in_default.is in
     rw (c.requires.root, c.in-Err.ensures.refused_pool, ← c.self.view_is)
     (inserts-err g.row.N cmp p k c.args.value (Some n) c.in-Err.refused
     (rw (← c.self.view_is) at c.requires.increasing)
     (subst (λ (l : List (g.row.K.Denot × g.row.V.Denot)). value_for cmp l k ≡ None) (sym (list-root p n root)) none)
     (λ e. rw needs (full.0 (c.in-Err.is ∙ ap Err e)), λ low. let same = full.1 (rw needs at low) in let is = c.in-Err.is in cc)
-    (λ e. rw needs (grows _ p (told.memory n at placed (c.in-Err.is ∙ ap Err e))))
-    (λ low. not-ok c.insert.result c.in-Err.refused c.in-Err.is (told.enough n at placed (rw needs at low))))
+    (λ e. rw needs (grows _ p (told.memory placing (c.in-Err.is ∙ ap Err e))))
+    (λ low. not-ok c.insert.result c.in-Err.refused c.in-Err.is (told.enough placing (rw needs at low))))
 
 pub returns-in-Err-clause-spot : goal.returns-in-Err-clause-spot
 returns-in-Err-clause-spot g c =
@@ -122,11 +116,9 @@ returns-in-Err-clause-spot g c =
     let root = live-root p n (rw (← c.self.view_is) at c.requires.live) in
     let gone = absent-none cmp (flat (tree_of p.nodes n).leaves) k (sym c.find.ensures.value ∙ c.in_default.is) in
     let at = place cmp (flat (tree_of p.nodes n).leaves) k in
-    let placed = c.find.ensures.absent gone in
-    let path = c.insert.new.self in
-    let new = c.normalize.new.self in
-    let points = points-placed path.node path.entry path.size (tree_of p.nodes n) at (rw c.in-Err.ensures.refused_path placed.at) in
-    rw (c.requires.root, c.in-Err.ensures.refused_pool, ← c.self.view_is, list-root p n root) (spot-normal g.row.N p n path.node path.entry path.size new.node new.entry new.size at c.self.invariant root points (rw c.in-Err.ensures.refused_pool at c.normalize.ensures.moved) (rw c.in-Err.ensures.refused_pool at c.normalize.ensures.end))
+    let points = placed-points g.row.N p n c.find.new.self at c.self.invariant (c.find.ensures.absent gone) in
+    let spot = c.normalize.ensures.stands (record { root = n; place = at; to = rw (c.in-Err.ensures.refused_pool, c.in-Err.ensures.refused_path) points }) in
+    rw (c.requires.root, c.in-Err.ensures.refused_pool, ← c.self.view_is, list-root p n root) (rw c.in-Err.ensures.refused_pool at spot)
 
 pub invariant_of-self-2 : goal.invariant_of-self-2
 invariant_of-self-2 g c =
@@ -135,7 +127,7 @@ invariant_of-self-2 g c =
     let n : ℕ = c.args.root in
     let k = c.args.key in
     let gone = absent-none cmp (flat (tree_of p.nodes n).leaves) k (sym c.find.ensures.value ∙ c.in_default.is) in
-    ((c.in-Ok.ensures.inserted n (place cmp (flat (tree_of p.nodes n).leaves) k) (c.find.ensures.absent gone)).union, c.self.invariant.1)
+    (c.in-Ok.ensures.inserted (record { root = n; place = place cmp (flat (tree_of p.nodes n).leaves) k; placed = c.find.ensures.absent gone })).union
 
 pub returns-clause-inserted : goal.returns-clause-inserted
 returns-clause-inserted g c =
@@ -145,17 +137,16 @@ returns-clause-inserted g c =
     let k = c.args.key in
     let root = live-root p n (rw (← c.self.view_is) at c.requires.live) in
     let gone = absent-none cmp (flat (tree_of p.nodes n).leaves) k (sym c.find.ensures.value ∙ c.in_default.is) in
-    let at = place cmp (flat (tree_of p.nodes n).leaves) k in
-    let placed = c.find.ensures.absent gone in
+    let placing : Placing p c.find.new.self = record { root = n; place = place cmp (flat (tree_of p.nodes n).leaves) k; placed = c.find.ensures.absent gone } in
     let needs = need-absent g.row.N cmp p n k root gone in
     let none : value_for cmp (flat (tree_of p.nodes n).leaves) k ≡ None = sym c.find.ensures.value ∙ c.in_default.is in
-    let told = put-new g.row.N cmp p n k root gone c.insert.new.pool c.in-Ok.root c.args.value (c.in-Ok.ensures.inserted n at placed) (c.in-Ok.ensures.account n at placed) (c.in-Ok.ensures.same_root n at placed) in
+    let told = put-new g.row.N cmp p n k root gone c.insert.new.pool c.in-Ok.root c.args.value (c.in-Ok.ensures.inserted placing) (c.in-Ok.ensures.account placing) (c.in-Ok.ensures.same_root placing) in
     rw (c.some.ensures.node, ← c.self.view_is)
     (inserts-ok g.row.N cmp p k c.args.value n c.insert.new.pool c.in-Ok.root None
     (subst (λ (l : List (g.row.K.Denot × g.row.V.Denot)). value_for cmp l k ≡ None) (sym (list-root p n root)) none)
     told
     (IsIncreasing-put cmp (g.met.C.Comparator.total c.args.comp.now) _ k c.args.value (rw (← c.self.view_is) at c.requires.increasing))
-    (λ low. let bad = (c.insert.ensures.full n at placed).1 (rw needs at low) in let is = c.in-Ok.is in cc))
+    (λ low. let bad = (c.insert.ensures.full placing).1 (rw needs at low) in let is = c.in-Ok.is in cc))
 
 pub returns-clause-spot : goal.returns-clause-spot
 returns-clause-spot g c =
@@ -166,6 +157,5 @@ returns-clause-spot g c =
     let root = live-root p n (rw (← c.self.view_is) at c.requires.live) in
     let gone = absent-none cmp (flat (tree_of p.nodes n).leaves) k (sym c.find.ensures.value ∙ c.in_default.is) in
     let at = place cmp (flat (tree_of p.nodes n).leaves) k in
-    let placed = c.find.ensures.absent gone in
-    let path = c.insert.new.self in
-    rw (c.some.ensures.node, ← c.self.view_is, list-root p n root) (spot-under g.row.N c.insert.new.pool c.in-Ok.root path.node path.entry path.size at ((c.in-Ok.ensures.inserted n at placed).union, c.self.invariant.1) (c.in-Ok.ensures.stands n at placed))
+    let placing : Placing p c.find.new.self = record { root = n; place = at; placed = c.find.ensures.absent gone } in
+    rw (c.some.ensures.node, ← c.self.view_is, list-root p n root) (on-at g.row.N c.insert.new.pool c.in-Ok.root c.insert.new.self at (c.in-Ok.ensures.inserted placing).union (c.in-Ok.ensures.stands placing))

@@ -9,7 +9,7 @@ use Rattle.std.proofs.Common.{List, ap, length, rules, subst, sym, ◌*◌, ◌+
 pub levels-requires : goal.levels-requires
 levels-requires g c =
     let s = seen-as c.self.inside.pool c.args.self.now c.args.handle c.in-Some.root c.self.view_is (sym c.expand.ensures.value ∙ c.in-Some.is) c.requires.live in
-    (search rules, (c.self.invariant.1, (c.self.invariant.0, s.root)))
+    (search rules, (c.self.invariant, s.root))
 
 pub returns-in-Some-clause-count : goal.returns-in-Some-clause-count
 returns-in-Some-clause-count g c =

@@ -3,10 +3,11 @@ use Rattle.bforest_trees.proofs.Putting.{absent-none, present-some}
 use Rattle.bforest_trees.proofs.Spots.{spot-end}
 use Rattle.bforest_trees.proofs.trees.Trees.remove.Goals as goal
 use Rattle.bforest_trees.specs.Forest.{Becomes, list_of}
+use Rattle.bforest_trees.specs.Place.{OnSpot}
 use Rattle.bforest_nodes.proofs.Found.{cut-absent, cut-present, place-present}
 use Rattle.bforest_nodes.proofs.Ordered.{IsIncreasing-cut}
 use Rattle.bforest_nodes.specs.Entries.{IsIncreasing, place, value_for}
-use Rattle.std.proofs.Common.{List, None, Some, arith, length, refl, rules, subst, sym, ◌∙◌, ◌≡◌}
+use Rattle.std.proofs.Common.{List, None, Some, refl, rules, subst, sym, ◌∙◌, ◌≡◌}
 
 pub goto-requires : goal.goto-requires
 goto-requires g c =
@@ -15,8 +16,7 @@ goto-requires g c =
     let h = c.args.handle.now in
     let k = c.args.key in
     let es = list_of f h in
-    let path = c.default-path.result in
-    (search rules, (search rules, (c.requires.live, (c.requires.increasing, (length es, spot-end f h path.node path.entry path.size (length es) c.default-path.ensures refl)))))
+    (search rules, (search rules, (c.requires.live, (c.requires.increasing, spot-end f c.default-path.result h c.requires.live c.default-path.ensures))))
 
 pub remove_at-requires : goal.remove_at-requires
 remove_at-requires g c =
@@ -27,7 +27,7 @@ remove_at-requires g c =
     let es = list_of f h in
     let here = present-some cmp es k c.in_ok-value.value (sym c.goto.ensures.value ∙ c.in_ok-value.was) in
     let low = place-present cmp es k here in
-    (search rules, (search rules, (place cmp es k, c.goto.ensures.spot, low)))
+    (search rules, (search rules, record { place = place cmp es k; spot = c.goto.ensures.spot; within = low }))
 
 pub returns : goal.returns
 returns g c =
@@ -39,11 +39,12 @@ returns g c =
     let found : value_for cmp es k ≡ Some c.in_ok-value.value = sym c.goto.ensures.value ∙ c.in_ok-value.was in
     let here = present-some cmp es k c.in_ok-value.value found in
     let told = c.remove_at.ensures in
-    let removed = told.removed (place cmp es k) c.goto.ensures.spot in
+    let at : OnSpot f h c.goto.new.path = record { place = place cmp es k; spot = c.goto.ensures.spot; within = place-present cmp es k here } in
+    let removed = told.removed at in
     record {
       value = sym found;
       cut = subst (λ (l : List (g.row.K.Denot × g.row.V.Denot)). Becomes f h c.remove_at.new.self c.remove_at.new.handle l) (sym (cut-present cmp es k here)) removed;
-      sizes = told.sizes (place cmp es k) c.goto.ensures.spot ∙ sym (without-present g.row.N cmp f h k here);
+      sizes = told.sizes at ∙ sym (without-present g.row.N cmp f h k here);
       same_levels = told.same_levels;
       account = told.account;
       increasing = subst (IsIncreasing cmp) (sym (removed.list ∙ sym (cut-present cmp es k here))) (IsIncreasing-cut cmp es k c.requires.increasing);

@@ -5,4 +5,4 @@ use Rattle.std.proofs.Common.{subst}
 
 pub returns-clause-account : goal.returns-clause-account
 returns-clause-account g c =
-    subst (λ (z : Forest g.row.K.Denot g.row.V.Denot). IsAccounted z) c.self.view_is (accounted c.self.inside.pool g.row.N c.self.invariant.0)
+    subst (λ (z : Forest g.row.K.Denot g.row.V.Denot). IsAccounted z) c.self.view_is (accounted c.self.inside.pool g.row.N c.self.invariant)
