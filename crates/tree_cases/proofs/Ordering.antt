@@ -1,16 +1,14 @@
 -- A tree whose list is what an insertion makes of it has its keys in order.
-use Rattle.std.proofs.Common.{ap, ◌≡◌, ℕ, ◌∙◌, Result, Ok, Err, IfOk, IfSome, IsTrue, OnOk, ◌≤◌, List, [], ◌∷◌, Option, None, Some, refl, remove, subst, sym, true, false}
+use Rattle.std.proofs.Common.{ap, ◌≡◌, ℕ, ◌∙◌, Result, Ok, Err, IfOk, IfSome, List, [], ◌∷◌, Option, None, Some, refl, remove, subst, sym, true, false}
 use Rattle.std.specs.Option.{is_some, option_map}
 use Rattle.std.specs.Ordering.{nat_cmp}
 use Rattle.std.specs.List.Sorted.{IsStrictlySortedBy}
 use Rattle.std.proofs.lemmas.Cmp.{nat_cmp_total}
 use Rattle.bforest_core.specs.Change.{Changes, Ends}
 use Rattle.bforest_nodes.specs.Entries.{entry_for, is_present, put, value_for, IsIncreasing}
-use Rattle.bforest_core.specs.Levels.{flat}
-use Rattle.bforest_core.specs.Table.{Table, front_of, reserved, with_front}
-use Rattle.bforest_nodes.specs.Content.{Leaf}
-use Rattle.bforest_core.specs.Trees.{IsUnion, is_root, tree_of}
-use Rattle.bforest_core.proofs.union.Planting.{planted-alloc}
+use Rattle.bforest_core.specs.Paths.{list_under}
+use Rattle.bforest_core.specs.Table.{Table}
+use Rattle.bforest_core.specs.Trees.{IsUnion}
 use Rattle.bforest_nodes.proofs.Ordered.{IsIncreasing-put, IsIncreasing-remove}
 use Rattle.tree_cases.specs.Ordered.{IsOrderedAt}
 
@@ -28,7 +26,7 @@ unfolding IsStrictlySortedBy
 increasing-one key value = (tt, tt)
 
 -- a tree of one entry
-pub ordered-one : (n : ℕ) (old new : Table ℕ ℕ) (root root' key value : ℕ) (sizes : List (List ℕ)) → Changes n old new root root' ((key, value) ∷ []) sizes → IsUnion n new × IsOrderedAt new.nodes root'
+pub ordered-one : (n : ℕ) (old new : Table ℕ ℕ) (root root' key value : ℕ) (sizes : List (List ℕ)) → Changes n old new root root' ((key, value) ∷ []) sizes → IsUnion n new × IsOrderedAt new root'
 ordered-one n old new root root' key value sizes changes = (
   changes.union,
   record {
@@ -38,12 +36,12 @@ ordered-one n old new root root' key value sizes changes = (
 )
 
 -- a tree with an entry more, or with a value written
-pub ordered-put : (n : ℕ) (old new : Table ℕ ℕ) (root root' key value : ℕ) (list : List (ℕ × ℕ)) (sizes : List (List ℕ)) → IsOrderedAt old.nodes root → Changes n old new root root' list sizes → put nat_cmp (flat (tree_of old.nodes root).leaves) key value ≡ list → IsUnion n new × IsOrderedAt new.nodes root'
+pub ordered-put : (n : ℕ) (old new : Table ℕ ℕ) (root root' key value : ℕ) (list : List (ℕ × ℕ)) (sizes : List (List ℕ)) → IsOrderedAt old root → Changes n old new root root' list sizes → put nat_cmp (list_under old root) key value ≡ list → IsUnion n new × IsOrderedAt new root'
 ordered-put n old new root root' key value list sizes ordered changes is = (
   changes.union,
   record {
     root_is = changes.root_is;
-    increasing = subst (IsIncreasing nat_cmp) (is ∙ sym changes.list_is) (IsIncreasing-put nat_cmp nat_cmp_total (flat (tree_of old.nodes root).leaves) key value ordered.increasing);
+    increasing = subst (IsIncreasing nat_cmp) (is ∙ sym changes.list_is) (IsIncreasing-put nat_cmp nat_cmp_total (list_under old root) key value ordered.increasing);
   },
 )
 
@@ -52,22 +50,16 @@ pub if_ok_weaker : {T E : Type 0} {P Q : T → Type 0} (r : Result T E) → ((x 
 if_ok_weaker (Ok x) f h = f x h
 if_ok_weaker (Err x) f h = h
 
--- a first entry
-pub planted : {E : Type 0} (n : ℕ) (old new : Table ℕ ℕ) (key value : ℕ) (r : Result ℕ E) → IsUnion n old → 1 ≤ n → IfOk r (λ number. front_of (reserved old 1).chain ≡ Some number) →
-    OnOk r (new ≡ with_front (reserved old 1) (reserved old 1).chain (Leaf (key ∷ []) (value ∷ []))) → IfOk r (λ root. IsUnion n new × IsOrderedAt new.nodes root)
-planted n old new key value (Ok root) union one front is = ordered-one n old new root root key value _ (planted-alloc n old new root key value union one front is).0
-planted n old new key value (Err e) union one front is = tt
-
 -- a tree without the entry at a place
-pub ordered-left : (n : ℕ) (old new : Table ℕ ℕ) (root root' place : ℕ) (sizes : List (List ℕ)) → IsOrderedAt old.nodes root → Changes n old new root root' (remove (flat (tree_of old.nodes root).leaves) place) sizes → IsOrderedAt new.nodes root'
+pub ordered-left : (n : ℕ) (old new : Table ℕ ℕ) (root root' place : ℕ) (sizes : List (List ℕ)) → IsOrderedAt old root → Changes n old new root root' (remove (list_under old root) place) sizes → IsOrderedAt new root'
 ordered-left n old new root root' place sizes ordered changes = record {
   root_is = changes.root_is;
-  increasing = subst (IsIncreasing nat_cmp) (sym changes.list_is) (IsIncreasing-remove nat_cmp (flat (tree_of old.nodes root).leaves) place ordered.increasing);
+  increasing = subst (IsIncreasing nat_cmp) (sym changes.list_is) (IsIncreasing-remove nat_cmp (list_under old root) place ordered.increasing);
 }
 
 -- such a tree, where one is left
-pub left-ordered : (n : ℕ) (old new : Table ℕ ℕ) (root place : ℕ) (sizes : List (List ℕ)) (answer : Option ℕ) → IsOrderedAt old.nodes root → IfSome answer (λ root'. Changes n old new root root' (remove (flat (tree_of old.nodes root).leaves) place) sizes) →
-    IfSome answer (λ root'. IsOrderedAt new.nodes root')
+pub left-ordered : (n : ℕ) (old new : Table ℕ ℕ) (root place : ℕ) (sizes : List (List ℕ)) (answer : Option ℕ) → IsOrderedAt old root → IfSome answer (λ root'. Changes n old new root root' (remove (list_under old root) place) sizes) →
+    IfSome answer (λ root'. IsOrderedAt new root')
 left-ordered n old new root place sizes None ordered changes = tt
 left-ordered n old new root place sizes (Some root') ordered changes = ordered-left n old new root root' place sizes ordered changes
 
@@ -75,11 +67,6 @@ left-ordered n old new root place sizes (Some root') ordered changes = ordered-l
 pub left-union : (n : ℕ) (old new : Table ℕ ℕ) (root : ℕ) (list : List (ℕ × ℕ)) (sizes : List (List ℕ)) (answer : Option ℕ) → IfSome answer (λ root'. Changes n old new root root' list sizes) → (answer ≡ None → Ends n old new root) → IsUnion n new
 left-union n old new root list sizes None changes ends = (ends refl).union
 left-union n old new root list sizes (Some root') changes ends = changes.union
-
--- and its root
-pub left-root : (n : ℕ) (old new : Table ℕ ℕ) (root : ℕ) (list : List (ℕ × ℕ)) (sizes : List (List ℕ)) (answer : Option ℕ) → IfSome answer (λ root'. Changes n old new root root' list sizes) → IfSome answer (λ root'. IsUnion n new × IsTrue (is_root new.nodes root'))
-left-root n old new root list sizes None changes = tt
-left-root n old new root list sizes (Some root') changes = (changes.union, changes.root_is)
 
 -- a key that is found is present
 pub found-present : (es : List (ℕ × ℕ)) (key value : ℕ) (r : Option ℕ) → r ≡ value_for nat_cmp es key → r ≡ Some value → is_present nat_cmp es key ≡ true

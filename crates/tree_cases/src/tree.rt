@@ -1,7 +1,8 @@
 //! A tree of numbers in a pool of its own. That it is a tree, with its keys in order, is part of its type, so that tests loop over its calls.
 ghost use Rattle.bforest_nodes.specs.Content.{IsLeafCapacity};
+ghost use Rattle.bforest_core.specs.Paths.{StandingUnder};
 ghost use Rattle.bforest_core.specs.Trees.{IsUnion};
-ghost use Rattle.tree_cases.specs.Ordered.{CanGoOn, IsOrderedAt, StandsSomewhere};
+ghost use Rattle.tree_cases.specs.Ordered.{CanGoOn, IsOrderedAt};
 ghost use Rattle.std.specs.Prelude.{IfOk, IfSome, OnErr, ℕ, ◌<◌, ◌≡◌, ◌≢◌};
 
 use bforest_core::{Node, NodePool, OutOfMemory, Path};
@@ -219,9 +220,8 @@ impl<const N: usize> Tree<N> {
 
 // Makes a tree of one entry, and answers its root.
 fn plant<const N: usize>(pool: &mut Pool<N>, key: u32, value: u32) -> Result<Node, OutOfMemory>
-    requires capacity { IsLeafCapacity N }
     requires union { IsUnion N pool.old }
-    ensures planted { IfOk result (λ root. IsUnion N pool.new × IsOrderedAt pool.new.nodes root) }
+    ensures planted { IfOk result (λ root. IsUnion N pool.new × IsOrderedAt pool.new root) }
     ensures refused { OnErr result (pool.new ≡ pool.old) }
 {
     pool.alloc_node(key, value)
@@ -234,10 +234,9 @@ fn put<const N: usize>(
     key: u32,
     value: u32,
 ) -> Result<Node, OutOfMemory>
-    requires capacity { IsLeafCapacity N }
     requires union { IsUnion N pool.old }
-    requires ordered { IsOrderedAt pool.old.nodes root }
-    ensures put { IfOk result (λ root'. IsUnion N pool.new × IsOrderedAt pool.new.nodes root') }
+    requires ordered { IsOrderedAt pool.old root }
+    ensures put { IfOk result (λ root'. IsUnion N pool.new × IsOrderedAt pool.new root') }
     ensures refused { OnErr result (pool.new ≡ pool.old) }
 {
     let mut path = Path::default();
@@ -255,11 +254,10 @@ fn cut<const N: usize>(
     root: Node,
     key: u32,
 ) -> (Option<Node>, Option<u32>, Option<(u32, u32)>)
-    requires capacity { IsLeafCapacity N }
     requires union { IsUnion N pool.old }
-    requires ordered { IsOrderedAt pool.old.nodes root }
+    requires ordered { IsOrderedAt pool.old root }
     ensures union { IsUnion N pool.new }
-    ensures ordered { IfSome result.0 (λ root'. IsOrderedAt pool.new.nodes root') }
+    ensures ordered { IfSome result.0 (λ root'. IsOrderedAt pool.new root') }
 {
     let mut path = Path::default();
     let Some(value) = path.find(key, root, pool, &()) else {
@@ -271,11 +269,10 @@ fn cut<const N: usize>(
 
 // Adds one to the value of a key, and says whether it is present.
 fn count_at<const N: usize>(pool: &mut Pool<N>, root: Node, key: u32) -> bool
-    requires capacity { IsLeafCapacity N }
     requires union { IsUnion N pool.old }
-    requires ordered { IsOrderedAt pool.old.nodes root }
+    requires ordered { IsOrderedAt pool.old root }
     ensures union { IsUnion N pool.new }
-    ensures ordered { IsOrderedAt pool.new.nodes root }
+    ensures ordered { IsOrderedAt pool.new root }
 {
     let mut path = Path::default();
     match path.find(key, root, pool, &()) {
@@ -370,19 +367,18 @@ fn child<const N: usize>(pool: &Pool<N>, node: Node, index: usize) -> Option<Nod
 
 // Goes to a tree's first entry.
 fn first<const N: usize>(path: &mut Path<u32, u32, N>, root: Node, pool: &Pool<N>) -> (u32, u32)
-    requires capacity { IsLeafCapacity N }
     requires union { IsUnion N pool.now }
-    requires ordered { IsOrderedAt pool.now.nodes root }
-    ensures { CanGoOn N pool.now.nodes path.new.node path.new.entry path.new.size }
+    requires ordered { IsOrderedAt pool.now root }
+    ensures { CanGoOn pool.now path.new }
 {
     path.first(root, pool)
 }
 
 // Goes to the next entry.
 fn next<const N: usize>(path: &mut Path<u32, u32, N>, pool: &Pool<N>) -> Option<(u32, u32)>
-    requires capacity { IsLeafCapacity N }
-    requires stands { CanGoOn N pool.now.nodes path.old.node path.old.entry path.old.size }
-    ensures { CanGoOn N pool.now.nodes path.new.node path.new.entry path.new.size }
+    requires union { IsUnion N pool.now }
+    requires stands { CanGoOn pool.now path.old }
+    ensures { CanGoOn pool.now path.new }
 {
     path.next(pool)
 }
@@ -393,20 +389,18 @@ fn prev<const N: usize>(
     root: Node,
     pool: &Pool<N>,
 ) -> Option<(u32, u32)>
-    requires capacity { IsLeafCapacity N }
     requires union { IsUnion N pool.now }
-    requires ordered { IsOrderedAt pool.now.nodes root }
-    requires stands { StandsSomewhere pool.now.nodes root path.old.node path.old.entry path.old.size }
-    ensures { StandsSomewhere pool.now.nodes root path.new.node path.new.entry path.new.size }
+    requires ordered { IsOrderedAt pool.now root }
+    requires stands { StandingUnder pool.now root path.old }
+    ensures { StandingUnder pool.now root path.new }
 {
     path.prev(root, pool)
 }
 
 // How many nodes a key takes that is absent.
 fn need<const N: usize>(pool: &Pool<N>, root: Node, key: u32) -> Option<u32>
-    requires capacity { IsLeafCapacity N }
     requires union { IsUnion N pool.now }
-    requires ordered { IsOrderedAt pool.now.nodes root }
+    requires ordered { IsOrderedAt pool.now root }
 {
     let mut path = Path::default();
     match path.find(key, root, pool, &()) {
@@ -417,9 +411,8 @@ fn need<const N: usize>(pool: &Pool<N>, root: Node, key: u32) -> Option<u32>
 
 // The first entry whose key is not less.
 fn entry_from<const N: usize>(pool: &Pool<N>, root: Node, key: u32) -> Option<(u32, u32)>
-    requires capacity { IsLeafCapacity N }
     requires union { IsUnion N pool.now }
-    requires ordered { IsOrderedAt pool.now.nodes root }
+    requires ordered { IsOrderedAt pool.now root }
 {
     let mut path = Path::default();
     match path.find(key, root, pool, &()) {
@@ -433,9 +426,8 @@ fn entry_from<const N: usize>(pool: &Pool<N>, root: Node, key: u32) -> Option<(u
 
 // The entry behind that of a key, if the key is present.
 fn entry_after<const N: usize>(pool: &Pool<N>, root: Node, key: u32) -> Option<(u32, u32)>
-    requires capacity { IsLeafCapacity N }
     requires union { IsUnion N pool.now }
-    requires ordered { IsOrderedAt pool.now.nodes root }
+    requires ordered { IsOrderedAt pool.now root }
 {
     let mut path = Path::default();
     path.find(key, root, pool, &())?;
@@ -444,9 +436,8 @@ fn entry_after<const N: usize>(pool: &Pool<N>, root: Node, key: u32) -> Option<(
 
 // The entry in front of that of a key, if the key is present.
 fn entry_before<const N: usize>(pool: &Pool<N>, root: Node, key: u32) -> Option<(u32, u32)>
-    requires capacity { IsLeafCapacity N }
     requires union { IsUnion N pool.now }
-    requires ordered { IsOrderedAt pool.now.nodes root }
+    requires ordered { IsOrderedAt pool.now root }
 {
     let mut path = Path::default();
     path.find(key, root, pool, &())?;
