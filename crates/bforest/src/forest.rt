@@ -1,7 +1,7 @@
 //! The table of all trees of a forest.
-ghost use Rattle.bforest.specs.Forest.{IsAccounted, IsLive, empty, free_of, limit_of, slots_of};
+ghost use Rattle.bforest.specs.Forest.{IsAccounted, IsFitFor, IsLive, empty, free_of, limit_of, list_at, sizes_at, slots_of};
 ghost use Rattle.bforest.specs.Calls.{Reserves};
-ghost use Rattle.std.specs.Prelude.{IsTrue, ◌↔◌, ◌≡◌, ◌≤◌};
+ghost use Rattle.std.specs.Prelude.{IsTrue, [], length, ◌↔◌, ◌<◌, ◌≡◌, ◌≢◌, ◌≤◌, ℕ};
 
 use crate::map::Map;
 use bforest_core::OutOfMemory;
@@ -44,6 +44,7 @@ impl<K: Copy, V: Copy> MapForest<K, V> {
     /// table is kept for later slots. Constant time.
     pub fn clear(&mut self)
         ensures empty { self.new ≡ empty (limit_of self.old) }
+        ensures lists { (n : ℕ) → list_at self.new n ≡ [] }
     {
         self.trees.clear();
     }
@@ -53,6 +54,8 @@ impl<K: Copy, V: Copy> MapForest<K, V> {
         ensures count { result ≡ slots_of self.now }
         ensures within { slots_of self.now ≤ limit_of self.now }
         ensures account { IsAccounted self.now }
+        ensures fit { (n : ℕ) → IsFitFor 7 (length (list_at self.now n)) (sizes_at self.now n) }
+        ensures below { (n : ℕ) → list_at self.now n ≢ [] → n < slots_of self.now }
     {
         self.trees.slots()
     }

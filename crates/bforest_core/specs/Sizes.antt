@@ -1,6 +1,8 @@
 -- The sizes of a tree's nodes, level by level, the leaves first: what an insertion and a removal at a place make of them, and how many
 -- nodes an insertion needs. Functions of sizes and a place alone.
-use Rattle.std.specs.Prelude.{ℕ, zero, suc, ◌+◌, ◌*◌, ◌-◌, ◌/◌, nat_lt, nat_le, Bool, true, false, if◌then◌else◌, Option, None, Some, List, [], ◌∷◌}
+use Rattle.bforest_core.specs.Levels.{half_of}
+use Rattle.std.specs.List.{sum_by}
+use Rattle.std.specs.Prelude.{◌≡◌, ◌≤◌, ℕ, zero, suc, ◌+◌, ◌*◌, ◌-◌, ◌/◌, nat_lt, nat_le, Bool, true, false, if◌then◌else◌, Option, None, Some, List, [], ◌∷◌, length}
 
 -- the node after this one in the row
 abbrev pub one_on : Option ℕ → Option ℕ
@@ -88,3 +90,25 @@ need_above (Some place) (level ∷ levels) = suc (need_above (inner_gain place l
 abbrev pub need : ℕ → ℕ → List (List ℕ) → ℕ
 need n place [] = 1
 need n place (leaves ∷ levels) = need_above (leaf_gain n place leaves).0 levels
+
+-- the least size of a node that these follow: only the right-most may be under half full
+abbrev pub least_size : ℕ → List ℕ → ℕ
+least_size half [] = 1
+least_size half (next ∷ rest) = half
+
+-- no node of the level has more than it can, and each but the last is at least half full
+abbrev pub IsFitLevel : ℕ → ℕ → List ℕ → Type 0
+IsFitLevel half most [] = Unit {0}
+IsFitLevel half most (size ∷ rest) = (least_size half rest ≤ size) × (size ≤ most) × IsFitLevel half most rest
+
+-- the levels above one of so many nodes: these are the children of the next level, and so on up to one root
+abbrev pub IsFitAbove : ℕ → List (List ℕ) → Type 0
+IsFitAbove count [] = count ≡ 1
+IsFitAbove count (level ∷ levels) =
+    (2 ≤ count) × (sum_by (λ size. size) level ≡ count) × IsFitLevel 4 8 level × IsFitAbove (length level) levels
+
+-- the levels of a tree of so many entries, whose leaves have at most `most`; with no entry there is no level
+abbrev pub IsFitFor : ℕ → ℕ → List (List ℕ) → Type 0
+IsFitFor most entries [] = entries ≡ 0
+IsFitFor most entries (leaves ∷ levels) =
+    (sum_by (λ size. size) leaves ≡ entries) × IsFitLevel (half_of most) most leaves × IsFitAbove (length leaves) levels

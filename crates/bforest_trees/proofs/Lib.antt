@@ -13,3 +13,4 @@ pub mod Following
 pub mod Sifting
 pub mod Retaining
 pub mod Spots
+pub mod Fits

@@ -8,7 +8,7 @@ use Rattle.bforest_core.specs.Levels.{flat, sizes_of}
 use Rattle.bforest_core.specs.Sizes.{shrink}
 use Rattle.bforest_core.specs.Trees.{IsUnion, tree_of}
 use Rattle.bforest_nodes.specs.Entries.{IsIncreasing}
-use Rattle.std.proofs.Common.{Bool, IfSome, List, None, Option, Some, [], ap, arith, false, if◌then◌else◌, length, refl, subst, suc, sym, true, ◌∙◌, ◌∷◌, ◌≡◌, ◌↔◌, ℕ}
+use Rattle.std.proofs.Common.{Bool, IfSome, List, None, Option, Some, [], ap, arith, false, if◌then◌else◌, length, refl, subst, suc, sym, true, ◌∙◌, ◌∷◌, ◌≡◌, ◌↔◌, ◌≤◌, ℕ}
 use Rattle.std.specs.List.Sorted.{IsStrictlySortedBy}
 use Rattle.std.specs.List.{AllByRecursion}
 use Rattle.std.specs.Map.{keys_of}
@@ -25,6 +25,18 @@ module _ {F K X : Type 0} (step : F → K → X → Bool → X → F → Type 0)
   all_kept P f place [] sizes ks after h a = subst (λ l. AllByRecursion P (keys_of l)) (sym h.0) tt
   all_kept P f place (e ∷ es) sizes ks after h a =
       subst (λ l. AllByRecursion P (keys_of l)) (sym h.6) (all_if P h.0 (e.0, h.1) h.3 a.0 (all_kept P h.2 (if h.0 then suc place else place) es (if h.0 then sizes else shrink most place sizes) h.3 after h.5 a.1))
+
+  -- no more stay than there were
+  kept_fewer : (f : F) (place : ℕ) (es : List (K × X)) (sizes : List (List ℕ)) (ks : List (K × X)) (after : List (List ℕ)) → Retains step most f place es sizes ks after → length ks ≤ length es
+  kept_fewer f place [] sizes ks after h = omega (arith, ap length h.0)
+  kept_fewer f place (e ∷ es) sizes ks after (true, w, f', rest, t, r, is) = omega (arith, ap length is, kept_fewer f' (suc place) es sizes rest after r)
+  kept_fewer f place (e ∷ es) sizes ks after (false, w, f', rest, t, r, is) = omega (arith, ap length is, kept_fewer f' place es (shrink most place sizes) rest after r)
+
+  -- where all stay, the nodes have the sizes of before
+  pub all-stay : (f : F) (place : ℕ) (es : List (K × X)) (sizes : List (List ℕ)) (ks : List (K × X)) (after : List (List ℕ)) → Retains step most f place es sizes ks after → length ks ≡ length es → after ≡ sizes
+  all-stay f place [] sizes ks after h all = h.1
+  all-stay f place (e ∷ es) sizes ks after (true, w, f', rest, t, r, is) all = all-stay f' (suc place) es sizes rest after r (omega (arith, ap length is, all))
+  all-stay f place (e ∷ es) sizes ks after (false, w, f', rest, t, r, is) all = absurd (omega (arith, ap length is, all, kept_fewer f' place es (shrink most place sizes) rest after r))
 
   module _ (cmp : K → K → Ordering) where
     increasing_if : (b : Bool) (e : K × X) (ks : List (K × X)) → AllByRecursion (λ y. cmp e.0 y ≡ Less) (keys_of ks) → IsIncreasing cmp ks → IsIncreasing cmp (if b then e ∷ ks else ks)
@@ -84,10 +96,12 @@ module _ {F K X : Type 0} (step : F → K → X → Bool → X → F → Type 0)
   filters o list sizes c e =
       let kept = subst (λ (z : List (List ℕ)). Retains step most q 0 (list_at f r) z (list_of f' o) (forest_sizes f' o)) sizes
       (subst (λ (l : List (K × X)). Retains step most q 0 l sizes_was (list_of f' o) (forest_sizes f' o)) list (list-kept o c e)) in
+      let same = subst (λ (z : List (List ℕ)). (o ≡ Some r) ↔ (length (forest_sizes f' o) ≡ length z)) sizes (same-kept o c) in
       record {
         kept = kept;
         changed = becomes-kept o c e;
-        same_levels = subst (λ (z : List (List ℕ)). (o ≡ Some r) ↔ (length (forest_sizes f' o) ≡ length z)) sizes (same-kept o c);
+        same_levels = same;
+        all_stay = λ all. same.1 (ap length (all-stay step most q 0 (list_at f r) (sizes_at f r) (list_of f' o) (forest_sizes f' o) kept all));
         account = subst (λ (z : List (List ℕ)). Gives z (forest_sizes f' o) f f') sizes (gives-kept o c e);
         increasing = λ cmp up. IsIncreasing-kept step most cmp q 0 (list_at f r) (sizes_at f r) (list_of f' o) (forest_sizes f' o) kept up;
       }

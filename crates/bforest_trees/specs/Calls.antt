@@ -35,6 +35,7 @@ module _ {K X : Type 0} where
     pub kept : Retains step most q 0 (list_of f h) (sizes_of f h) (list_of f' h') (sizes_of f' h')
     pub changed : Becomes f h f' h' (list_of f' h')
     pub same_levels : SameLevels f h f' h'
+    pub all_stay : length (list_of f' h') ≡ length (list_of f h) → h' ≡ h
     pub account : Gives (sizes_of f h) (sizes_of f' h') f f'
     pub increasing : (order : K → K → Ordering) → IsIncreasing order (list_of f h) → IsIncreasing order (list_of f' h')
 

@@ -1,11 +1,11 @@
 //! The table of all trees of a forest: each call on one tree, once for maps and sets.
-ghost use Rattle.bforest_trees.specs.Forest.{Becomes, Gives, IsAccounted, IsLive, Takes, empty, first_level, free_of, limit_of, list_at, list_of, sizes_of, slots_of};
+ghost use Rattle.bforest_trees.specs.Forest.{Becomes, Gives, IsAccounted, IsLive, Takes, empty, first_level, free_of, limit_of, list_at, list_of, sizes_at, sizes_of, slots_of};
 ghost use Rattle.bforest_trees.specs.Calls.{Clears, Filters, Inserts, Removes, Reserves, SameLevels};
 ghost use Rattle.bforest_trees.specs.Place.{AtSpot, IsSpot, OnSpot};
 ghost use Rattle.bforest_core.specs.Paths.{IsAtEnd};
 ghost use Rattle.bforest_trees.specs.Retain.{MayAskEach};
 ghost use Rattle.bforest_core.specs.Levels.{half_of};
-ghost use Rattle.bforest_core.specs.Sizes.{shrink};
+ghost use Rattle.bforest_core.specs.Sizes.{IsFitFor, shrink};
 ghost use Rattle.bforest_core.specs.Trees.{IsUnion};
 ghost use Rattle.bforest_nodes.specs.Content.{IsLeafCapacity};
 ghost use Rattle.bforest_nodes.specs.Entries.{IsIncreasing, place, value_for};
@@ -49,6 +49,7 @@ impl<K: Copy, V: Copy, const N: usize> Trees<K, V, N> {
     /// Ends all trees.
     pub fn clear(&mut self)
         ensures empty { self.new ≡ empty (limit_of self.old) }
+        ensures lists { (n : ℕ) → list_at self.new n ≡ [] }
     {
         self.pool.clear();
     }
@@ -58,6 +59,8 @@ impl<K: Copy, V: Copy, const N: usize> Trees<K, V, N> {
         ensures count { result ≡ slots_of self.now }
         ensures within { slots_of self.now ≤ limit_of self.now }
         ensures account { IsAccounted self.now }
+        ensures fit { (n : ℕ) → IsFitFor N (length (list_at self.now n)) (sizes_at self.now n) }
+        ensures below { (n : ℕ) → list_at self.now n ≢ [] → n < slots_of self.now }
     {
         self.pool.slots()
     }
