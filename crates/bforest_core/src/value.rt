@@ -16,7 +16,8 @@ impl<K: Copy, V: Copy, const N: usize> NodePool<K, V, N> {
         requires union { IsUnion N self.now }
         requires root { IsTrue (is_root self.now.nodes root) }
         requires increasing { IsIncreasing (C.order comp.now) (flat (tree_of self.now.nodes root).leaves) }
-        ensures value { result ≡ value_for (C.order comp.now) (flat (tree_of self.now.nodes root).leaves) key }
+        ensures value { result
+            ≡ value_for (C.order comp.now) (flat (tree_of self.now.nodes root).leaves) key }
     {
         self.value_below(key, root, 0, comp)
     }

@@ -9,7 +9,8 @@ ghost use Rattle.std.specs.Prelude.{◌++◌, ◌<◌, ◌≡◌, ◌≤◌, Som
 /// The element at an index, for writing.
 pub(crate) fn element_mut<T, const N: usize>(items: &mut [T; N], index: usize) -> &mut T
     requires { index < N }
-    ensures* writes_back { sem 𝓛 (Lends (Array T.row N) T.row items.entry result (slice_set items.old index)) }
+    ensures* writes_back { sem 𝓛
+        (Lends (Array T.row N) T.row items.entry result (slice_set items.old index)) }
     ensures value { slice_get items.old index ≡ Some result.now }
 {
     &mut items[index]

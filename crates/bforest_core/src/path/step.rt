@@ -54,9 +54,10 @@ impl<K: Copy, V: Copy, const N: usize> Path<K, V, N> {
     pub fn next(&mut self, pool: &NodePool<K, V, N>) -> Option<(K, V)>
         requires union { IsUnion N pool.now }
         requires stands { (¬ IsAtEnd self.old) → OnEntry pool.now self.old }
-        ensures value { (at : OnEntry pool.now self.old) → result ≡ slice_get (list_under pool.now at.root)
-            (suc at.place) }
-        ensures stands { (at : OnEntry pool.now self.old) → StandsAt pool.now at.root self.new (suc at.place) }
+        ensures value { (at : OnEntry pool.now self.old)
+            → result ≡ slice_get (list_under pool.now at.root) (suc at.place) }
+        ensures stands { (at : OnEntry pool.now self.old)
+            → StandsAt pool.now at.root self.new (suc at.place) }
         ensures end { result ≡ None → IsAtEnd self.new }
         ensures stays { IsAtEnd self.old → result ≡ None }
     {
