@@ -1,9 +1,8 @@
 -- The words of contracts against those of a pool's calls.
-use Rattle.bforest_trees.specs.Forest.{Becomes, Forest, IsLive, Keeps, NeedsGrowth, Takes, list_at, list_of, sizes_at, sizes_of}
+use Rattle.bforest_trees.specs.Forest.{Becomes, Forest, IsLive, Keeps, Takes, list_at, list_of, sizes_at, sizes_of}
 use Rattle.bforest_core.proofs.union.Unions.{rooted}
 use Rattle.bforest_core.specs.Change.{Changes, KeepsTrees, TakesNodes}
 use Rattle.bforest_core.specs.Levels.{flat, sizes_of as tree_sizes}
-use Rattle.bforest_core.specs.Table.{NeedsGrowth as NodesNeedGrowth}
 use Rattle.bforest_core.specs.Trees.{IsUnion, is_root, tree_of}
 use Rattle.std.proofs.Common.{Bool, IsTrue, List, None, Option, Some, [], ap, arith, false, if◌then◌else◌, length, refl, subst, sym, true, ◌∙◌, ◌∷◌, ◌≡◌, ◌≢◌, ◌≤◌, ◌↔◌, ℕ}
 
@@ -130,10 +129,6 @@ module _ {K X : Type 0} where
   -- slots that were taken
   pub takes : (d : ℕ) (f f' : Forest K X) → TakesNodes d f f' → Takes d f f'
   takes d f f' t = record { slots = t.slots; free = t.free }
-
-  -- slots that can be had by a growth alone
-  pub grows : (d : ℕ) (f : Forest K X) → NodesNeedGrowth d f → NeedsGrowth d f
-  grows d f t = record { scarce = t.scarce; allowed = t.allowed }
 
   -- what stands under a live handle
   pub record SeenAs (p f : Forest K X) (h : Option ℕ) (n : ℕ) : Type 0 where

@@ -1,10 +1,10 @@
 -- What is left where slots are asked for ahead.
-use Rattle.bforest_core.specs.Table.{NeedsGrowth as NodesNeedGrowth, reserved, room}
+use Rattle.bforest_core.specs.Table.{NeedsGrowth, reserved, room}
 use Rattle.bforest_core.specs.Trees.{IsUnion}
 use Rattle.bforest_core.specs.declared.pool.OutOfMemory.TheVariants.{Full, Memory}
 use Rattle.bforest_core.specs.declared.pool.OutOfMemory.{OutOfMemory}
 use Rattle.bforest_trees.proofs.After.{free-reserved, limit-reserved, ok-then, reserved-same, slots-reserved}
-use Rattle.bforest_trees.proofs.Changed.{grows, keeps}
+use Rattle.bforest_trees.proofs.Changed.{keeps}
 use Rattle.bforest_trees.proofs.Rooms.{reserve-trees}
 use Rattle.bforest_trees.specs.Calls.{Reserves}
 use Rattle.bforest_trees.specs.Forest.{Forest, free_of, slots_of}
@@ -12,7 +12,7 @@ use Rattle.std.proofs.Common.{Err, IsOk, OnErr, OnOk, Result, ap, arith, ◌<◌
 use Rattle.std.proofs.lemmas.Result.{on_ok_weaker}
 
 module _ {K X : Type 0} (most : ℕ) (f f' : Forest K X) (n : ℕ) (r : Result (Unit {0}) OutOfMemory) where
-  pub reserves : IsUnion most f → OnOk r (f' ≡ reserved f n) → OnErr r (f' ≡ f) → (r ≡ Err Full) ↔ (room f < n) → (r ≡ Err Memory → NodesNeedGrowth n f) → (n ≤ free_of f → IsOk r) → Reserves f n r f'
+  pub reserves : IsUnion most f → OnOk r (f' ≡ reserved f n) → OnErr r (f' ≡ f) → (r ≡ Err Full) ↔ (room f < n) → (r ≡ Err Memory → NeedsGrowth n f) → (n ≤ free_of f → IsOk r) → Reserves f n r f'
   reserves union ok err full memory enough = record {
     keeps = keeps f f' (reserve-trees most f f' n union r ok err) (limit-reserved f f' n r ok err);
     free = on_ok_weaker r (λ is. let e = ap (λ z. free_of z) is ∙ free-reserved f n in omega (arith, e)) ok;
@@ -22,5 +22,5 @@ module _ {K X : Type 0} (most : ℕ) (f f' : Forest K X) (n : ℕ) (r : Result (
     same = λ low. ok-then r (enough low) ok ∙ reserved-same f n low;
     refused = err;
     full = full;
-    memory = λ bad. grows n f (memory bad);
+    memory = memory;
   }

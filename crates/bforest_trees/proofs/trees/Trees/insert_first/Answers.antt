@@ -1,4 +1,4 @@
-use Rattle.bforest_trees.proofs.Changed.{becomes-new, grows, sizes-new, takes}
+use Rattle.bforest_trees.proofs.Changed.{becomes-new, sizes-new, takes}
 use Rattle.bforest_trees.proofs.Increasing.{alone}
 use Rattle.bforest_trees.proofs.Inserting.{inserts-err, inserts-first}
 use Rattle.bforest_core.proofs.walks.Standing.{on-at}
@@ -51,7 +51,7 @@ returns-in_err-root-clause-inserted g c = λ order.
     rw (err_at g c, c.requires.empty, told.err, ← c.self.view_is)
     (inserts-err g.row.N order p c.args.key c.args.value None c.in_err-root.field-0.0 (alone order None) refl
     (λ e. told.full.0 (ap Err e), λ low. let same = told.full.1 low in cc)
-    (λ e. grows 1 p (told.memory (ap Err e)))
+    (λ e. told.memory (ap Err e))
     (λ low. false≢true (told.enough low)))
 
 pub returns-in_err-root-clause-spot : goal.returns-in_err-root-clause-spot

@@ -1,5 +1,5 @@
 use Rattle.bforest_trees.proofs.After.{not-ok}
-use Rattle.bforest_trees.proofs.Changed.{grows, list-root, live-root}
+use Rattle.bforest_trees.proofs.Changed.{list-root, live-root}
 use Rattle.bforest_trees.proofs.Inserting.{inserts-err, inserts-ok}
 use Rattle.bforest_trees.proofs.Putting.{absent-none, need-absent, need-present, present-some, put-here, put-new}
 use Rattle.bforest_trees.proofs.trees.Trees.insert_under.Goals as goal
@@ -104,7 +104,7 @@ returns-in-Err-clause-inserted g c =
     (rw (← c.self.view_is) at c.requires.increasing)
     (subst (λ (l : List (g.row.K.Denot × g.row.V.Denot)). value_for cmp l k ≡ None) (sym (list-root p n root)) none)
     (λ e. rw needs (full.0 (c.in-Err.is ∙ ap Err e)), λ low. let same = full.1 (rw needs at low) in let is = c.in-Err.is in cc)
-    (λ e. rw needs (grows _ p (told.memory placing (c.in-Err.is ∙ ap Err e))))
+    (λ e. rw needs (told.memory placing (c.in-Err.is ∙ ap Err e)))
     (λ low. not-ok c.insert.result c.in-Err.refused c.in-Err.is (told.enough placing (rw needs at low))))
 
 pub returns-in-Err-clause-spot : goal.returns-in-Err-clause-spot
