@@ -104,10 +104,6 @@ module _ {K X : Type 0} where
     sizes-cut None c none = sym (none refl)
     sizes-cut (Some r') c none = sizes-new most f f' r r' es ss c
 
-  -- a tree has a level
-  pub sizes-some : (f : Forest K X) (r : ℕ) → IsTrue (is_root f.nodes r) → 1 ≤ length (sizes_at f r)
-  sizes-some f r is = subst (λ (z : List (List ℕ)). 1 ≤ length z) (sym (sizes-root f r is)) (omega arith)
-
   -- what it leaves that the entry at a place of the list of a handle went
   pub record IsTaken (most : ℕ) (f f' : Forest K X) (h : Option ℕ) (p : ℕ) (o : Option ℕ) (path' : Path K X most) : Type 0 where
     pub union : IsUnion most f'

@@ -50,13 +50,6 @@ some-told None e = absurd (cc)
 some-told (Some x) e = refl
 
 module _ {K X : Type 0} (cmp : K → K → Ordering) (es : List (K × X)) (k : K) where
-  -- a key has no value exactly where it is absent
-  pub none-absent : not (is_some (value_for cmp es k)) ≡ not (is_present cmp es k)
-  none-absent = go (entry_for cmp es k)
-    where
-      go : (o : Option (K × X)) → not (is_some (option_map (λ e. e.1) o)) ≡ not (is_some o)
-      go None = refl
-      go (Some e) = refl
 
 -- the sizes stay where the key is present
 pub sizes-kept : {K X : Type 0} (most : ℕ) (cmp : K → K → Ordering) (f : Forest K X) (h : Option ℕ) (k : K) → is_present cmp (list_of f h) k ≡ true → sizes_with most cmp f h k ≡ forest_sizes f h

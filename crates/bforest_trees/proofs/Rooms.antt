@@ -7,10 +7,6 @@ use Rattle.std.proofs.Common.{Err, Ok, OnErr, OnOk, Result, refl, subst, sym, �
 
 module _ {K X E : Type 0} (most : ℕ) (old new : Table K X) where
   module _ {A : Type 0} (count : ℕ) (union : IsUnion most old) where
-    -- nodes made free leave a union of trees
-    pub reserve-union : (r : Result A E) → OnOk r (new ≡ reserved old count) → OnErr r (new ≡ old) → IsUnion most new
-    reserve-union (Ok a) ok err = subst (λ (z : Table K X). IsUnion most z) (sym ok) (reserved-union most old count union)
-    reserve-union (Err x) ok err = subst (λ (z : Table K X). IsUnion most z) (sym err) union
 
     -- and each tree where it was
     pub reserve-trees : (r : Result A E) → OnOk r (new ≡ reserved old count) → OnErr r (new ≡ old) → KeepsTrees old.nodes new.nodes

@@ -186,13 +186,3 @@ module _ {K V : Type 0} where
 -- how many keys
 pub keys_count : {K X : Type 0} → (es : List (K × X)) → length (entry_keys es) ≡ length es
 keys_count es = length-map es (λ w. w.0)
-
--- a tree of one leaf with one entry, in front of which and behind which another may come in
-pub placed_one : {K V : Type 0} (most : ℕ) (t : Table K V) (ms js : List ℕ) (entry : K × V) → 1 ≤ most → get_or js 0 0 ≤ 1 → slice_get t.nodes (get_or ms 0 0) ≡ Some (leaf_content (entry ∷ [])) → Distinct (get_or ms 0 0 ∷ t.chain) →
-    Placed most t ms js 1 (record { leaves = node (get_or ms 0 0) (entry ∷ []) ∷ []; above = [] }) (get_or js 0 0)
-placed_one most t ms js entry one low slot apart = record {
-  fit = record { leaves_fit = (omega arith, omega (arith, one), tt); stacked = refl; topped = tt };
-  inside = record { leaves_in = (slot, tt); rows_in = tt };
-  apart = apart;
-  at = record { before = []; entries = entry ∷ []; after = []; leaves_are = refl; within = low; first = λ zero_is. refl; place_is = (let z : get_or js 0 0 ≡ 0 + get_or js 0 0 = omega arith in z); above = refl; size_is = refl };
-}

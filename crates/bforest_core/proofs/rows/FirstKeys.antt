@@ -2,10 +2,8 @@
 use Rattle.std.proofs.Common.{◌≡◌, ℕ, suc, ◌+◌, ◌<◌, List, [], ◌∷◌, ◌++◌, map, length, get_or, Some, refl, sym, ap, ◌∙◌, subst, arith}
 use Rattle.std.specs.List.{flat_map}
 use Rattle.bforest_nodes.specs.Content.{Content, Inner}
-use Rattle.bforest_core.specs.Table.{Table}
 use Rattle.bforest_core.specs.Levels.{LevelNode, node, flat, heads, sizes, numbers, FitRow, Stacked, Topped}
-use Rattle.bforest_core.specs.Place.{RowIn, RowsIn, inner_content, count, entry_keys, entry_items, IsAt, StandsAbove, root_above}
-use Rattle.bforest_core.specs.Climb.{Above}
+use Rattle.bforest_core.specs.Place.{RowIn, RowsIn, inner_content, entry_keys, entry_items, IsAt, StandsAbove, root_above}
 use Rattle.bforest_core.proofs.rows.LevelRows.{least-pos}
 
 -- the rows over a list whose first entry has another key now
@@ -85,13 +83,3 @@ module _ {K V : Type 0} where
   first-renewed slots (row ∷ rows) k k' n b s i =
       first_row slots k k' n b row rows s.0 s.1 i.0
       (λ (j j' : K) (m : ℕ) (c : List (K × ℕ)) (e : heads row ≡ (j, m) ∷ c). first-renewed slots rows j j' m c (subst (λ (z : List (K × ℕ)). Stacked z rows) e s.2) i.1)
-
-  -- a path over the rows stands over the renewed ones
-  pub above-renewed : (table : Table K V) (path indices : List ℕ) (level size : ℕ) (rows : List (List (LevelNode K ℕ))) (list list' : List (K × ℕ)) (place : ℕ) → Above table path indices level size rows list place → (r : FirstRenewed table.nodes list rows list') → Above table path indices level size r.rows' list' place
-  above-renewed table path indices level size rows list list' place a r = record {
-    stacked = r.stacked;
-    inside = r.rows_in;
-    stands = r.stands path indices level place a.stands;
-    height = omega (arith, a.height, r.height);
-    apart = λ m. (let e = ap (λ z. count m (z ++ table.chain)) r.all_are in omega (arith, a.apart m, e));
-  }

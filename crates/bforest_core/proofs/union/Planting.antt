@@ -1,18 +1,17 @@
 -- A table of no tree, a first entry of a tree, and what a tree under a root has.
-use Rattle.std.proofs.Common.{◌≡◌, ◌≢◌, ℕ, ◌-◌, ◌≤◌, ◌<◌, IsTrue, Some, List, [], ◌∷◌, drop, length, refl, sym, ap, ◌∙◌, inl, inr, length-append, arith}
+use Rattle.std.proofs.Common.{◌≡◌, ℕ, ◌-◌, ◌≤◌, ◌<◌, IsTrue, Some, List, [], ◌∷◌, drop, length, refl, sym, ap, ◌∙◌, inl, inr, length-append, arith}
 use Rattle.std.specs.List.{flat_map}
-use Rattle.std.proofs.lemmas.List.{length-map}
 use Rattle.std.proofs.lemmas.Bool.{cases_lt}
 use Rattle.bforest_nodes.specs.Content.{IsLeafCapacity, Leaf}
 use Rattle.bforest_core.specs.Table.{Table, front_of, free_count, slot_count, fresh_nodes, down_from, with_front, reserved}
-use Rattle.bforest_core.specs.Levels.{node, flat, sizes, sizes_of, Tree}
+use Rattle.bforest_core.specs.Levels.{node, flat, sizes_of, Tree}
 use Rattle.bforest_core.specs.Place.{count, numbers_of}
-use Rattle.bforest_core.specs.Trees.{tree_of, is_root, IsUnion}
+use Rattle.bforest_core.specs.Trees.{is_root, IsUnion}
 use Rattle.bforest_core.specs.Change.{Plants}
 use Rattle.bforest_core.proofs.table.Tables.{count-append, count-same, absent_ne, takes}
 use Rattle.bforest_core.proofs.table.Chains.{length-fresh_nodes, length-down_from}
 use Rattle.bforest_core.proofs.rows.Counts.{past-none}
-use Rattle.bforest_core.proofs.union.Unions.{IsPlanted, rooted}
+use Rattle.bforest_core.proofs.union.Unions.{IsPlanted}
 use Rattle.bforest_core.proofs.union.Roots.{planted-union}
 use Rattle.bforest_core.proofs.union.Reserved.{reserved-union, reserved-then, reserved-roots}
 
@@ -38,14 +37,6 @@ module _ {K V : Type 0} where
   -- a table of no slots has no tree
   pub IsUnion-empty : (most n : ℕ) → IsLeafCapacity most → IsUnion {K = K} {V = V} most (record { nodes = []; chain = []; limit = n })
   IsUnion-empty most n capacity = ([], record { capacity = capacity; fit = tt; inside = tt; some = tt; low = tt; free = tt; account = λ m. sym (past-none m 0 (omega arith)) })
-
-  -- a tree under a root has an entry, and at most 17 levels
-  pub roots-live : (most : ℕ) (table : Table K V) (root : ℕ) → IsUnion most table → IsTrue (is_root table.nodes root) → (flat (tree_of table.nodes root).leaves ≢ []) × (length (sizes_of (tree_of table.nodes root)) ≤ 17)
-  roots-live most table root union is =
-      let r = rooted most table root union is in (
-        λ none. omega (arith, r.some, ap length none),
-        omega (arith, r.low, length-map (tree_of table.nodes root).above sizes),
-      )
 
   -- what `alloc_node` leaves: a tree of one leaf of one entry, under a number that had no tree, and one node fewer lies free or one slot more is used
   pub planted-alloc : (most : ℕ) (old new : Table K V) (number : ℕ) (key : K) (value : V) → IsUnion most old → front_of (reserved old 1).chain ≡ Some number → new ≡ with_front (reserved old 1) (reserved old 1).chain (Leaf (key ∷ []) (value ∷ [])) →

@@ -4,9 +4,8 @@ use Rattle.std.specs.List.{flat_map}
 use Rattle.std.proofs.lemmas.Bool.{cases_lt}
 use Rattle.bforest_nodes.specs.Content.{Content, IsFree}
 use Rattle.bforest_core.specs.Table.{Table}
-use Rattle.bforest_core.specs.Levels.{flat, heads, numbers, Tree, IsFit}
-use Rattle.bforest_core.specs.Place.{IsIn, Stands, count, Distinct, root_of, numbers_of}
-use Rattle.bforest_core.specs.Climb.{Above}
+use Rattle.bforest_core.specs.Levels.{flat, Tree, IsFit}
+use Rattle.bforest_core.specs.Place.{IsIn, count, Distinct, root_of, numbers_of}
 use Rattle.bforest_core.specs.Descent.{IsRooted}
 use Rattle.bforest_core.specs.Trees.{slot, tree_of, is_root, Every, IsForest, IsUnion, OthersKeep}
 use Rattle.bforest_core.proofs.table.Tables.{count-append, count-other}
@@ -69,16 +68,6 @@ module _ {K V : Type 0} where
   is-rooted most table root union is =
       let r = rooted most table root union is in
       record { fit = r.fit; inside = r.inside; root_is = r.root_is; some = r.some; low = r.low }
-
-  -- a path that stands in the tree under a root stands on its rows above the leaves
-  pub rooted-above : (most : ℕ) (table : Table K V) (root : ℕ) (tree : Tree K V) (path indices : List ℕ) (size place : ℕ) → Rooted most table root tree → (at : Stands path indices size tree place) → Above table path indices 1 size tree.above (heads tree.leaves) (length at.leaf.before)
-  rooted-above most table root tree path indices size place r at = record {
-    stacked = r.fit.stacked;
-    inside = r.inside.rows_in;
-    stands = at.above;
-    height = omega (arith, at.size_is);
-    apart = λ m. omega (arith, r.apart m, count-append m (numbers_of tree) table.chain, count-append m (numbers tree.leaves) (flat_map numbers tree.above), count-append m (flat_map numbers tree.above) table.chain);
-  }
 
   -- a fit tree that is not empty, of at most 17 levels, lies in these slots
   pub record IsPlanted (most : ℕ) (slots : List (Content K V)) (tree : Tree K V) : Type 0 where
