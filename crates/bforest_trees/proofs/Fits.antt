@@ -8,7 +8,7 @@ use Rattle.bforest_core.specs.Levels.{FitRow, LevelNode, Stacked, Topped, flat, 
 use Rattle.bforest_core.specs.Place.{count, numbers_of}
 use Rattle.bforest_core.specs.Sizes.{IsFitAbove, IsFitFor, IsFitLevel}
 use Rattle.bforest_core.specs.Trees.{IsUnion, is_root, tree_of}
-use Rattle.std.proofs.Common.{Bool, IsTrue, List, [], ap, arith, false, if◌then◌else◌, inl, inr, length, length-append, map, refl, subst, sym, true, ◌+◌, ◌<◌, ◌∙◌, ◌∷◌, ◌≡◌, ◌≢◌, ◌≤◌, ℕ}
+use Rattle.std.proofs.Common.{Bool, IsTrue, List, [], ap, arith, false, if◌then◌else◌, length, length-append, map, refl, subst, sym, true, ◌+◌, ◌<◌, ◌∙◌, ◌∷◌, ◌≡◌, ◌≢◌, ℕ}
 use Rattle.std.proofs.lemmas.List.Sums.{sum_by-cons}
 use Rattle.std.specs.List.{sum_by}
 

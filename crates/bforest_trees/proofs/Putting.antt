@@ -49,8 +49,6 @@ pub some-told : {A : Type 0} (o : Option A) → not (is_some o) ≡ false → Is
 some-told None e = absurd (cc)
 some-told (Some x) e = refl
 
-module _ {K X : Type 0} (cmp : K → K → Ordering) (es : List (K × X)) (k : K) where
-
 -- the sizes stay where the key is present
 pub sizes-kept : {K X : Type 0} (most : ℕ) (cmp : K → K → Ordering) (f : Forest K X) (h : Option ℕ) (k : K) → is_present cmp (list_of f h) k ≡ true → sizes_with most cmp f h k ≡ forest_sizes f h
 sizes-kept most cmp f h k here = λ j. if here j then forest_sizes f h else growth most (place cmp (list_of f h) k) (forest_sizes f h)

@@ -1,5 +1,5 @@
 -- What the calls of a pool that may be refused say of its trees.
-use Rattle.bforest_core.proofs.union.Reserved.{reserved-roots, reserved-union}
+use Rattle.bforest_core.proofs.union.Reserved.{reserved-roots}
 use Rattle.bforest_core.specs.Change.{KeepsTrees}
 use Rattle.bforest_core.specs.Table.{Table, reserved}
 use Rattle.bforest_core.specs.Trees.{IsUnion}
