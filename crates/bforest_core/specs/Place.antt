@@ -85,19 +85,6 @@ pub record Stands {K V : Type 0} (path indices : List ℕ) (size : ℕ) (tree : 
   pub above : StandsAbove path indices 1 tree.above (length leaf.before)
   pub size_is : size ≡ suc (length tree.above)
 
--- the path stands in the tree at a place where an entry may come in: behind an entry of the leaf, or in front of the
--- first leaf
-pub record PlacedAt {K V : Type 0} (path indices : List ℕ) (size : ℕ) (tree : Tree K V) (place : ℕ) : Type 0 where
-  pub before : List (LevelNode K V)
-  pub entries : List (K × V)
-  pub after : List (LevelNode K V)
-  pub leaves_are : tree.leaves ≡ before ++ node (get_or path 0 0) entries ∷ after
-  pub within : get_or indices 0 0 ≤ length entries
-  pub first : get_or indices 0 0 ≡ 0 → before ≡ []
-  pub place_is : place ≡ length (flat before) + get_or indices 0 0
-  pub above : StandsAbove path indices 1 tree.above (length before)
-  pub size_is : size ≡ suc (length tree.above)
-
 -- the path stands in the tree at an entry of a leaf, or behind a leaf's last entry
 pub record PointsAt {K V : Type 0} (path indices : List ℕ) (size : ℕ) (tree : Tree K V) (place : ℕ) : Type 0 where
   pub before : List (LevelNode K V)
@@ -108,6 +95,11 @@ pub record PointsAt {K V : Type 0} (path indices : List ℕ) (size : ℕ) (tree 
   pub place_is : place ≡ length (flat before) + get_or indices 0 0
   pub above : StandsAbove path indices 1 tree.above (length before)
   pub size_is : size ≡ suc (length tree.above)
+
+-- there an entry may come in: behind an entry of the leaf, or in front of the first leaf
+pub record PlacedAt {K V : Type 0} (path indices : List ℕ) (size : ℕ) (tree : Tree K V) (place : ℕ) : Type 0 where
+  pub points : PointsAt path indices size tree place
+  pub first : get_or indices 0 0 ≡ 0 → points.before ≡ []
 
 -- or at the end, with no node
 abbrev pub is_at_end : ℕ → Type 0

@@ -4,7 +4,7 @@ use Rattle.std.specs.List.{flat_map}
 use Rattle.bforest_nodes.specs.Content.{Content, IsFree}
 use Rattle.bforest_core.specs.Table.{Table}
 use Rattle.bforest_core.specs.Levels.{LevelNode, node, flat, heads, sizes, numbers, FitRow, Solid, Stacked, Topped, least, Tree, IsFit, half_of, sizes_of, top_level}
-use Rattle.bforest_core.specs.Sizes.{settled, shrink}
+use Rattle.bforest_core.specs.Sizes.{rebalanced, shrink}
 use Rattle.bforest_core.specs.Place.{RowIn, RowsIn, IsIn, leaf_content, inner_content, count, Distinct, root_above, root_of, numbers_of, Stands, IsPathAt}
 use Rattle.bforest_core.specs.Climb.{Above, SameBelow, top_of}
 use Rattle.bforest_core.specs.Trees.{slot, Every}
@@ -78,7 +78,7 @@ module _ {K V : Type 0} where
     pub entries' : List (K × X)
     pub after' : List (LevelNode K X)
     pub rest' : List (List (LevelNode K ℕ))
-    pub stays : (settled most (length entries) (sizes after)).0 ≡ false
+    pub stays : (rebalanced most (length entries) (sizes after)).0 ≡ false
     pub inside : RowIn content new.nodes (before' ++ node number' entries' ∷ after')
     pub fit : FitRow half most (before' ++ node number' entries' ∷ after')
     pub list_is : flat (before' ++ node number' entries' ∷ after') ≡ flat (before ++ node number entries ∷ after)
@@ -86,7 +86,7 @@ module _ {K V : Type 0} where
     pub number_is : get_or path' level 0 ≡ number'
     pub within : get_or indices' level 0 < length entries'
     pub place_is : length (flat before') + get_or indices' level 0 ≡ length (flat before) + get_or indices level 0
-    pub sizes_are : sizes (before' ++ node number' entries' ∷ after') ≡ sizes before ++ (settled most (length entries) (sizes after)).1
+    pub sizes_are : sizes (before' ++ node number' entries' ∷ after') ≡ sizes before ++ (rebalanced most (length entries) (sizes after)).1
     pub rest_sizes : map sizes rest' ≡ map sizes rest
     pub row_numbers : numbers (before' ++ node number' entries' ∷ after') ≡ numbers (before ++ node number entries ∷ after)
     pub rest_numbers : (m : ℕ) → count m (flat_map numbers rest') ≡ count m (flat_map numbers rest)
@@ -106,7 +106,7 @@ module _ {K V : Type 0} where
     pub after' : List (LevelNode K X)
     pub entries_are : entries ≡ first ∷ others
     pub after_is : after ≡ node right right_entries ∷ after'
-    pub outcome : settled most (length entries) (sizes after) ≡ (true, length (entries ++ right_entries) ∷ sizes after')
+    pub outcome : rebalanced most (length entries) (sizes after) ≡ (true, length (entries ++ right_entries) ∷ sizes after')
     pub inside : RowIn content new.nodes (before ++ node right (entries ++ right_entries) ∷ after')
     pub fit : FitRow half most (before ++ node right (entries ++ right_entries) ∷ after')
     pub above : Above new path' indices' (suc level) size rest (heads before ++ (first.0, number) ∷ (key, right) ∷ heads after') (length (heads before))

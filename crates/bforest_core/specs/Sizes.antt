@@ -2,17 +2,12 @@
 -- nodes an insertion needs. Functions of sizes and a place alone.
 use Rattle.bforest_core.specs.Levels.{half_of}
 use Rattle.std.specs.List.{sum_by}
-use Rattle.std.specs.Prelude.{◌≡◌, ◌≤◌, ℕ, zero, suc, ◌+◌, ◌*◌, ◌-◌, ◌/◌, nat_lt, nat_le, Bool, true, false, if◌then◌else◌, Option, None, Some, List, [], ◌∷◌, length}
-
--- the node after this one in the row
-abbrev pub one_on : Option ℕ → Option ℕ
-one_on None = None
-one_on (Some index) = Some (suc index)
+use Rattle.std.specs.Prelude.{◌≡◌, ◌≤◌, ℕ, zero, suc, ◌+◌, ◌*◌, ◌-◌, ◌/◌, nat_lt, nat_le, Bool, true, false, if◌then◌else◌, Option, None, Some, option_map, List, [], ◌∷◌, length}
 
 -- a change of one level is the entry of the level above that it concerns, if any, and the sizes after it: this one
 -- lies behind a node of the size
 abbrev pub past : ℕ → Option ℕ × List ℕ → Option ℕ × List ℕ
-past size change = (one_on change.0, size ∷ change.1)
+past size change = (option_map (λ index. suc index) change.0, size ∷ change.1)
 
 -- an insertion at a place of the leaves, which lies in the left-most leaf such that it and those before it hold at
 -- least as many: a full leaf becomes two
@@ -44,22 +39,22 @@ growth n place (leaves ∷ levels) = (leaf_gain n place leaves).1 ∷ gain_above
 
 -- a node that lost an entry, before these: whether it goes, and the sizes from it on. An empty one goes; one under
 -- half full goes into the next if all fits there, else the two share
-abbrev pub settled : ℕ → ℕ → List ℕ → Bool × List ℕ
-settled most zero after = (true, after)
-settled most (suc left) [] = (false, suc left ∷ [])
-settled most (suc left) (next ∷ after) =
+abbrev pub rebalanced : ℕ → ℕ → List ℕ → Bool × List ℕ
+rebalanced most zero after = (true, after)
+rebalanced most (suc left) [] = (false, suc left ∷ [])
+rebalanced most (suc left) (next ∷ after) =
     if nat_lt (2 * suc left) most then (if nat_le (suc left + next) most then (true, (suc left + next) ∷ after) else (false, ((suc left + next) - (suc left + next) / 2) ∷ (suc left + next) / 2 ∷ after))
     else (false, suc left ∷ next ∷ after)
 
--- as a change of the level, at its first node
-abbrev pub this_if : Bool × List ℕ → Option ℕ × List ℕ
-this_if outcome = ((if outcome.0 then Some 0 else None), outcome.1)
+-- as a change of the level, whose first node this one is
+abbrev pub at_front : Bool × List ℕ → Option ℕ × List ℕ
+at_front outcome = ((if outcome.0 then Some 0 else None), outcome.1)
 
 -- the entry at a place goes, and with it the node, perhaps
 abbrev pub loss : ℕ → ℕ → List ℕ → Option ℕ × List ℕ
 loss most place [] = (None, [])
 loss most place (size ∷ after) =
-    if nat_lt place size then this_if (settled most (size - 1) after) else past size (loss most (place - size) after)
+    if nat_lt place size then at_front (rebalanced most (size - 1) after) else past size (loss most (place - size) after)
 
 -- the levels above one of which this node, if any, went
 abbrev pub loss_above : Option ℕ → List (List ℕ) → List (List ℕ)

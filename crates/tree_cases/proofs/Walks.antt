@@ -5,7 +5,6 @@ use Rattle.bforest_core.specs.Table.{Table}
 use Rattle.bforest_core.specs.Trees.{is_root, tree_of}
 use Rattle.bforest_core.specs.declared.path.Path.{Path}
 use Rattle.bforest_core.proofs.walks.Backward.{at_entry}
-use Rattle.bforest_core.proofs.walks.Pointed.{points-placed}
 use Rattle.bforest_core.proofs.walks.Standing.{path-ended, path-on}
 use Rattle.tree_cases.specs.Ordered.{CanGoOn}
 
@@ -25,7 +24,7 @@ module _ {n : ℕ} (table : Table ℕ ℕ) (path : Path ℕ ℕ n) where
 
   -- where an entry may come in, a path points to the place
   pub points-from : (root place : ℕ) → IsPlaced table root path place → PointsTo table root path place
-  points-from root place p = record { root_is = p.root_is; points = points-placed path.node path.entry path.size (tree_of table.nodes root) place p.at }
+  points-from root place p = record { root_is = p.root_is; points = p.at.points }
 
   -- where a path stands that is on an entry
   pub standing-on : (root place : ℕ) → StandsOn table root path place → StandingUnder table root path

@@ -75,7 +75,7 @@ module _ {K V : Type 0} where
   pub under-low : (most : ℕ) (table : Table K V) (root place : ℕ) (path indices : List ℕ) (size : ℕ) → IsUnion most table → PlacedUnder table.nodes root path indices size place → (0 < size) × (size ≤ 17)
   under-low most table root place path indices size union p =
       let r = rooted most table root union p.root_is in
-      (omega (arith, p.at.size_is), omega (arith, p.at.size_is, r.low))
+      (omega (arith, p.at.points.size_is), omega (arith, p.at.points.size_is, r.low))
 
   -- the same after nodes were made free
   placed-reserved : (most : ℕ) (table : Table K V) (n root place : ℕ) (path indices : List ℕ) (size : ℕ) → IsUnion most table → PlacedUnder table.nodes root path indices size place → Placed most (reserved table n) path indices size (tree_of table.nodes root) place

@@ -10,7 +10,7 @@ use Rattle.bforest_core.specs.Climb.{Placed, LeafHalved, Inserted, Grown}
 use Rattle.bforest_core.proofs.rows.LevelRows.{flat-append, heads-append, sizes-append, FitRow-split, Solid-full}
 use Rattle.bforest_core.proofs.table.Tables.{count-append, count-same, count-row, row-same, row-halved, rows-same, ne_from_count, absent_ne}
 use Rattle.bforest_core.proofs.rows.Zipper.{stands-same}
-use Rattle.bforest_core.proofs.rows.Tops.{root-stands, root-placed}
+use Rattle.bforest_core.proofs.rows.Tops.{root-stands, root-points}
 use Rattle.bforest_core.proofs.insertion.Rise.{gain-some}
 use Rattle.bforest_core.proofs.insertion.Grow.{flat-halved, heads-halved, FitRow-halved, leaf_full}
 use Rattle.bforest_core.proofs.insertion.LeafSpot.{LeafSpot, renewed, insert_flat, rows_count}
@@ -75,7 +75,7 @@ module _ {K V : Type 0} where
           inside = rows-same t.nodes u.nodes up.rows' (λ m some. h.same m (ne_from_count m n (flat_map numbers up.rows') some none_rows) (ne_from_count m right (flat_map numbers up.rows') some none_right_rows)) up.inside;
           stands = stands-same ms js ms' js' 1 up.rows' (length (heads d.before)) (λ i high. far_m i (λ (e : i ≡ 0). omega (arith, e, high))) (λ i high. far_j i (λ (e : i ≡ 0). omega (arith, e, high)))
               (subst (λ (z : ℕ). StandsAbove ms js 1 up.rows' z) (sym solid_full) (up.stands (length d.before) d.stands));
-          height = omega (arith, p.at.size_is, rows_count tree.above up.rows' up.sizes_are);
+          height = omega (arith, p.at.points.size_is, rows_count tree.above up.rows' up.sizes_are);
           apart = λ m. omega (arith, d.apart m, c m, c2 m, c4 m, c5 m, nums m);
         };
         topped = subst (λ (z : List (K × ℕ)). Topped z up.rows') hs0 up.topped;
@@ -186,7 +186,7 @@ module _ {K V : Type 0} where
         size_is = omega (arith, g.above.height);
       } in
       let some = FitRow-split (half_of most) most h.before (node n (h.first ∷ h.others)) (node right (h.next ∷ h.more) ∷ h.after) h.fit in
-      let top = root-placed most tree ms js size place (omega (arith, some.1.1)) p.fit p.at in
+      let top = root-points most tree ms js size place (omega (arith, some.1.1)) p.fit p.at.points in
       let top' = root-stands most (record { leaves = row2; above = g.rows' }) ms'' js'' size' place fit' stands in
       record {
         tree' = record { leaves = row2; above = g.rows' };
@@ -202,8 +202,8 @@ module _ {K V : Type 0} where
         chain_is = chain_is;
         slots_are = g.slots_are ∙ h.slots_are;
         limit_is = g.limit_is ∙ h.limit_is;
-        same_root = λ same. (let sizes_same : size' ≡ size = omega (arith, same, g.above.height, p.at.size_is) in
+        same_root = λ same. (let sizes_same : size' ≡ size = omega (arith, same, g.above.height, p.at.points.size_is) in
             top' ∙ g.same_top sizes_same ∙ h.nodes_above (size - 1) (omega (arith, sizes_same, g.above.height, ap length g.sizes_are, length-map g.rows' sizes, gain-some (length (heads h.before)) (map sizes h.rows))) ∙ sym top);
-        new_root = λ other. (let risen = g.new_top (λ (same : size' ≡ size). other (omega (arith, same, g.above.height, p.at.size_is))) in
+        new_root = λ other. (let risen = g.new_top (λ (same : size' ≡ size). other (omega (arith, same, g.above.height, p.at.points.size_is))) in
             subst (λ (z : ℕ). 0 < count z (right ∷ taken)) (sym top') (omega (arith, risen)));
       }

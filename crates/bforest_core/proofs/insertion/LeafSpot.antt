@@ -12,7 +12,7 @@ use Rattle.bforest_core.proofs.rows.LevelRows.{flat-append, sizes-append, FitRow
 use Rattle.bforest_core.proofs.table.Tables.{count-append, count-row, row-split, row-put, rows-same, ne_from_count, absent_ne, Puts}
 use Rattle.bforest_core.proofs.rows.Zipper.{apart_here}
 use Rattle.bforest_core.proofs.insertion.Grow.{FitRow-put, leaf_room}
-use Rattle.bforest_core.proofs.rows.Tops.{root-stands, root-placed}
+use Rattle.bforest_core.proofs.rows.Tops.{root-stands, root-points}
 use Rattle.bforest_core.proofs.insertion.Renew.{Renewed, renew}
 
 -- a list cut behind its first so many
@@ -82,7 +82,7 @@ module _ {K V : Type 0} where
 
   pub leaf_spot : (most : ℕ) (t : Table K V) (ms js : List ℕ) (size : ℕ) (tree : Tree K V) (place : ℕ) → Placed most t ms js size tree place → LeafSpot most t ms js tree place
   leaf_spot most t ms js size tree place p =
-      let at = p.at in
+      let at = p.at.points in
       let n = get_or ms 0 0 in
       let c = pieces at.entries (get_or js 0 0) at.within in
       let row : List (LevelNode K V) = at.before ++ node n (c.l ++ c.r) ∷ at.after in
@@ -100,7 +100,7 @@ module _ {K V : Type 0} where
         leaves_are = is;
         index_is = c.place_is;
         place_is = omega (arith, at.place_is, c.place_is);
-        first = first_of (get_or js 0 0) at.before c.l c.place_is at.first;
+        first = first_of (get_or js 0 0) at.before c.l c.place_is p.at.first;
         fit = fit;
         solid = f.0;
         most_is = f.1.1;
@@ -151,7 +151,7 @@ module _ {K V : Type 0} where
       let stands : Stands ms js size (record { leaves = row2; above = above.rows' }) place = record {
         leaf = record { before = d.before; entries = es; after = d.after; row_is = refl; within = omega (arith, d.index_is, length-append d.l (entry ∷ d.r)); place_is = omega (arith, d.place_is, d.index_is) };
         above = above.stands (length d.before) d.stands;
-        size_is = p.at.size_is ∙ omega (arith, rows_count tree.above above.rows' above.sizes_are);
+        size_is = p.at.points.size_is ∙ omega (arith, rows_count tree.above above.rows' above.sizes_are);
       } in
       record {
         tree' = record { leaves = row2; above = above.rows' };
@@ -171,7 +171,7 @@ module _ {K V : Type 0} where
         chain_is = sym w.chain_is;
         slots_are = w.slots_are;
         limit_is = w.limit_is;
-        same_root = λ same. root-stands most (record { leaves = row2; above = above.rows' }) ms js size place fit' stands ∙ sym (root-placed most tree ms js size place (omega (arith, room)) p.fit p.at);
+        same_root = λ same. root-stands most (record { leaves = row2; above = above.rows' }) ms js size place fit' stands ∙ sym (root-points most tree ms js size place (omega (arith, room)) p.fit p.at.points);
         new_root = λ other. absurd (other (rows_count tree.above above.rows' above.sizes_are));
       }
 

@@ -1,9 +1,9 @@
--- An entry out of the rows above a level: its row settled, then those above.
+-- An entry out of the rows above a level: its row rebalanced, then those above.
 use Rattle.std.proofs.Common.{◌≡◌, ℕ, suc, ◌+◌, ◌≤◌, List, [], ◌∷◌, ◌++◌, map, length, get_or, Some, refl, sym, ap, ◌∙◌, subst, append_assoc, length-append, arith}
 use Rattle.std.specs.List.{flat_map}
 use Rattle.bforest_core.specs.Table.{Table}
 use Rattle.bforest_core.specs.Levels.{LevelNode, node, flat, heads, head_of, sizes, numbers, FitRow, Stacked}
-use Rattle.bforest_core.specs.Sizes.{settled, loss_above}
+use Rattle.bforest_core.specs.Sizes.{rebalanced, loss_above}
 use Rattle.bforest_core.specs.Place.{RowIn, inner_content, count}
 use Rattle.bforest_core.specs.Removal.{Rebuilt, Loosened, Healed, Joined}
 use Rattle.bforest_core.proofs.rows.LevelRows.{flat-append, heads-append, sizes-append, FitRow-split, Solid-full, least-pos}
@@ -14,7 +14,7 @@ use Rattle.bforest_core.proofs.removal.Frees.{freed-then}
 
 -- SHRINK one level, with its outcome known
 pub loss_level : {K X : Type 0} (q : ℕ) (before : List (LevelNode K X)) (m e p : ℕ) (after : List ℕ) (levels all : List (List ℕ)) → all ≡ (sizes before ++ suc m ∷ after) ∷ levels → e ≤ m → p ≡ length (flat before) + e → q ≡ 8 →
-    loss_above (Some p) all ≡ (sizes before ++ (settled q m after).1) ∷ loss_above (placed (length before) (settled q m after).0) levels
+    loss_above (Some p) all ≡ (sizes before ++ (rebalanced q m after).1) ∷ loss_above (placed (length before) (rebalanced q m after).0) levels
 loss_level q before m e p after levels all all_is low p_is q_is =
     let l = loss_at q before m e after (omega (arith, low)) in
     ap (λ z. loss_above (Some p) z) all_is ∙ rw (p_is, ← q_is) (ap (λ z. z.1 ∷ loss_above z.0 levels) l)
@@ -45,7 +45,7 @@ module _ {K V : Type 0} where
           height = omega (arith, h.above.height);
           apart = λ m. omega (arith, l.on_level.apart m, c4 m, c5 m, c6 m, c7 m, c8 m, c9 m, h.rest_numbers m);
         };
-        sizes_are = ap (λ z. z ∷ map sizes h.rest') h.sizes_are ∙ ap (λ z. (sizes l.before ++ (settled 8 (length l.entries) (sizes l.after)).1) ∷ z) h.rest_sizes ∙ sym (ss ∙ ap (λ z. (sizes l.before ++ (settled 8 (length l.entries) (sizes l.after)).1) ∷ loss_above (placed (length l.before) z) (map sizes l.rest)) h.stays);
+        sizes_are = ap (λ z. z ∷ map sizes h.rest') h.sizes_are ∙ ap (λ z. (sizes l.before ++ (rebalanced 8 (length l.entries) (sizes l.after)).1) ∷ z) h.rest_sizes ∙ sym (ss ∙ ap (λ z. (sizes l.before ++ (rebalanced 8 (length l.entries) (sizes l.after)).1) ∷ loss_above (placed (length l.before) z) (map sizes l.rest)) h.stays);
         numbers_are = λ m. omega (arith, l.numbers_are m, c4 m, c5 m, c9 m, h.rest_numbers m);
         frees = record {
           others = λ m none. h.frees.others m (omega (arith, none, l.numbers_are m)) ∙ l.frees.others m none;

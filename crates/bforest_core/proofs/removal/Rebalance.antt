@@ -5,7 +5,7 @@ use Rattle.std.proofs.lemmas.List.{append-nil, get_or-set_other, get_or-set_same
 use Rattle.bforest_nodes.specs.Content.{Content, Free}
 use Rattle.bforest_core.specs.Table.{Table, with_freed, front_of}
 use Rattle.bforest_core.specs.Levels.{LevelNode, node, flat, heads, head_of, sizes, numbers, FitRow, Stacked, least}
-use Rattle.bforest_core.specs.Sizes.{settled}
+use Rattle.bforest_core.specs.Sizes.{rebalanced}
 use Rattle.bforest_core.specs.Place.{RowIn, count, Distinct}
 use Rattle.bforest_core.specs.Climb.{Above, SameBelow, top_of}
 use Rattle.bforest_core.specs.Removal.{Rebuilt, OnLevel, Healed, Joined}
@@ -29,21 +29,21 @@ no_le : (a b : ℕ) → b < a → nat_le a b ≡ false
 no_le a b h = grind arith
 
 -- what SHRINK says of it
-settled_last : (q m : ℕ) → 1 ≤ m → settled q m [] ≡ (false, m ∷ [])
-settled_last q zero one = absurd (omega arith)
-settled_last q (suc m) one = refl
+rebalanced_last : (q m : ℕ) → 1 ≤ m → rebalanced q m [] ≡ (false, m ∷ [])
+rebalanced_last q zero one = absurd (omega arith)
+rebalanced_last q (suc m) one = refl
 
-settled_healthy : (q m r : ℕ) (after : List ℕ) → 1 ≤ m → q ≤ 2 * m → settled q m (r ∷ after) ≡ (false, m ∷ r ∷ after)
-settled_healthy q zero r after one h = absurd (omega arith)
-settled_healthy q (suc m) r after one h = let e = no_lt (2 * suc m) q h in rw e refl
+rebalanced_healthy : (q m r : ℕ) (after : List ℕ) → 1 ≤ m → q ≤ 2 * m → rebalanced q m (r ∷ after) ≡ (false, m ∷ r ∷ after)
+rebalanced_healthy q zero r after one h = absurd (omega arith)
+rebalanced_healthy q (suc m) r after one h = let e = no_lt (2 * suc m) q h in rw e refl
 
-settled_joined : (q m r : ℕ) (after : List ℕ) → 1 ≤ m → 2 * m < q → m + r ≤ q → settled q m (r ∷ after) ≡ (true, (m + r) ∷ after)
-settled_joined q zero r after one h fits = absurd (omega arith)
-settled_joined q (suc m) r after one h fits = let e = yes_lt (2 * suc m) q h in let f = yes_le (suc m + r) q fits in rw (e, f) refl
+rebalanced_joined : (q m r : ℕ) (after : List ℕ) → 1 ≤ m → 2 * m < q → m + r ≤ q → rebalanced q m (r ∷ after) ≡ (true, (m + r) ∷ after)
+rebalanced_joined q zero r after one h fits = absurd (omega arith)
+rebalanced_joined q (suc m) r after one h fits = let e = yes_lt (2 * suc m) q h in let f = yes_le (suc m + r) q fits in rw (e, f) refl
 
-settled_spread : (q m r : ℕ) (after : List ℕ) → 1 ≤ m → 2 * m < q → q < m + r → settled q m (r ∷ after) ≡ (false, ((m + r) - (m + r) / 2) ∷ (m + r) / 2 ∷ after)
-settled_spread q zero r after one h more = absurd (omega arith)
-settled_spread q (suc m) r after one h more = let e = yes_lt (2 * suc m) q h in let f = no_le (suc m + r) q more in rw (e, f) refl
+rebalanced_spread : (q m r : ℕ) (after : List ℕ) → 1 ≤ m → 2 * m < q → q < m + r → rebalanced q m (r ∷ after) ≡ (false, ((m + r) - (m + r) / 2) ∷ (m + r) / 2 ∷ after)
+rebalanced_spread q zero r after one h more = absurd (omega arith)
+rebalanced_spread q (suc m) r after one h more = let e = yes_lt (2 * suc m) q h in let f = no_le (suc m + r) q more in rw (e, f) refl
 
 -- a path is as it was
 pub same-refl : (up : ℕ) (path : List ℕ) → SameBelow up path path
@@ -57,7 +57,7 @@ module _ {K V X : Type 0} (content : List (K × X) → Content K V) (half most :
       let row : List (LevelNode K X) = before ++ node n es ∷ after in
       let one = p.some in
       let fit : FitRow half most row = FitRow-join half most before (node n es) after p.solid (enough after why, p.most_is, p.fits) in
-      let outcome : settled most (length es) (sizes after) ≡ (false, length es ∷ sizes after) = judged after why in
+      let outcome : rebalanced most (length es) (sizes after) ≡ (false, length es ∷ sizes after) = judged after why in
       record {
         before' = before;
         number' = n;
@@ -87,9 +87,9 @@ module _ {K V X : Type 0} (content : List (K × X) → Content K V) (half most :
       enough (x ∷ xs) (inl h) = h
       enough (x ∷ xs) (inr e) = absurd cc
 
-      judged : (xs : List (LevelNode K X)) → (half ≤ length es) ⊎ (xs ≡ []) → settled most (length es) (sizes xs) ≡ (false, length es ∷ sizes xs)
-      judged [] w = settled_last most (length es) p.some
-      judged (node k fs ∷ xs) (inl h) = settled_healthy most (length es) (length fs) (sizes xs) p.some (omega (arith, hm.lo, h))
+      judged : (xs : List (LevelNode K X)) → (half ≤ length es) ⊎ (xs ≡ []) → rebalanced most (length es) (sizes xs) ≡ (false, length es ∷ sizes xs)
+      judged [] w = rebalanced_last most (length es) p.some
+      judged (node k fs ∷ xs) (inl h) = rebalanced_healthy most (length es) (length fs) (sizes xs) p.some (omega (arith, hm.lo, h))
       judged (x ∷ xs) (inr e) = absurd cc
 
   -- the path went past its end, and stands in the next node
@@ -100,7 +100,7 @@ module _ {K V X : Type 0} (content : List (K × X) → Content K V) (half most :
       let row : List (LevelNode K X) = before ++ node n es ∷ node q (f ∷ fs) ∷ after in
       let row2 : List (LevelNode K X) = (before ++ node n es ∷ []) ++ node q (f ∷ fs) ∷ after in
       let same : row2 ≡ row = append_assoc before (node n es ∷ []) (node q (f ∷ fs) ∷ after) in
-      let outcome : settled most (length es) (suc (length fs) ∷ sizes after) ≡ (false, length es ∷ suc (length fs) ∷ sizes after) = settled_healthy most (length es) (suc (length fs)) (sizes after) p.some (omega (arith, hm.lo, healthy)) in
+      let outcome : rebalanced most (length es) (suc (length fs) ∷ sizes after) ≡ (false, length es ∷ suc (length fs) ∷ sizes after) = rebalanced_healthy most (length es) (suc (length fs)) (sizes after) p.some (omega (arith, hm.lo, healthy)) in
       let hs : heads row ≡ heads before ++ (h, n) ∷ (f.0, q) ∷ heads after = heads-append before (node n es ∷ node q (f ∷ fs) ∷ after) ∙ ap (λ z. heads before ++ (z ++ (f.0, q) ∷ heads after)) hd in
       let hs2 : heads (before ++ node n es ∷ []) ≡ heads before ++ (h, n) ∷ [] = heads-append before (node n es ∷ []) ∙ ap (λ z. heads before ++ (z ++ [])) hd in
       let len : length (heads (before ++ node n es ∷ [])) ≡ suc (length (heads before)) = ap length hs2 ∙ length-append (heads before) ((h, n) ∷ []) ∙ omega arith in
@@ -169,8 +169,8 @@ module _ {K V X : Type 0} (content : List (K × X) → Content K V) (half most :
       let row : List (LevelNode K X) = before ++ node n (e ∷ es) ∷ node q (f ∷ fs) ∷ after in
       let row2 : List (LevelNode K X) = before ++ node n (s.x ∷ s.xs) ∷ node q (s.y ∷ s.ys) ∷ after in
       let a = apart_two t before n (e ∷ es) q (f ∷ fs) after rest p.apart in
-      let outcome : settled most (length (e ∷ es)) (length (f ∷ fs) ∷ sizes after) ≡ (false, ((length (e ∷ es) + length (f ∷ fs)) - (length (e ∷ es) + length (f ∷ fs)) / 2) ∷ (length (e ∷ es) + length (f ∷ fs)) / 2 ∷ sizes after) =
-      settled_spread most (length (e ∷ es)) (length (f ∷ fs)) (sizes after) p.some (omega (arith, hm.hi, under)) s.more in
+      let outcome : rebalanced most (length (e ∷ es)) (length (f ∷ fs) ∷ sizes after) ≡ (false, ((length (e ∷ es) + length (f ∷ fs)) - (length (e ∷ es) + length (f ∷ fs)) / 2) ∷ (length (e ∷ es) + length (f ∷ fs)) / 2 ∷ sizes after) =
+      rebalanced_spread most (length (e ∷ es)) (length (f ∷ fs)) (sizes after) p.some (omega (arith, hm.hi, under)) s.more in
       let fit_q = p.fits in
       let x_is : e ≡ s.x = (let w = s.whole in cc) in
       let lo : half ≤ suc (length s.xs) = omega (arith, s.left_is, s.more, hm.lo, hm.hi) in
@@ -224,8 +224,8 @@ module _ {K V X : Type 0} (content : List (K × X) → Content K V) (half most :
       let row : List (LevelNode K X) = before ++ node n (e ∷ es) ∷ node q (f ∷ fs) ∷ after in
       let row2 : List (LevelNode K X) = before ++ node q ((e ∷ es) ++ f ∷ fs) ∷ after in
       let a = apart_two t before n (e ∷ es) q (f ∷ fs) after rest p.apart in
-      let outcome : settled most (length (e ∷ es)) (length (f ∷ fs) ∷ sizes after) ≡ (true, (length (e ∷ es) + length (f ∷ fs)) ∷ sizes after) =
-      settled_joined most (length (e ∷ es)) (length (f ∷ fs)) (sizes after) p.some (omega (arith, hm.hi, under)) s.fits in
+      let outcome : rebalanced most (length (e ∷ es)) (length (f ∷ fs) ∷ sizes after) ≡ (true, (length (e ∷ es) + length (f ∷ fs)) ∷ sizes after) =
+      rebalanced_joined most (length (e ∷ es)) (length (f ∷ fs)) (sizes after) p.some (omega (arith, hm.hi, under)) s.fits in
       let len : length ((e ∷ es) ++ f ∷ fs) ≡ length (e ∷ es) + length (f ∷ fs) = length-append (e ∷ es) (f ∷ fs) in
       let fit_q = p.fits in
       let high : suc up < size = above_two t path indices (suc up) size rest (heads before) (e.0, n) (f.0, q) (heads after) (length (heads before)) (subst (λ (z : List (K × ℕ)). Above t path indices (suc up) size rest z (length (heads before))) (heads-append before (node n (e ∷ es) ∷ node q (f ∷ fs) ∷ after)) p.above) in

@@ -4,7 +4,7 @@ use Rattle.std.specs.List.{flat_map, remove}
 use Rattle.std.proofs.lemmas.List.Concat.{flat_map-append}
 use Rattle.bforest_core.specs.Table.{Table}
 use Rattle.bforest_core.specs.Levels.{LevelNode, node, flat, head_of, heads, sizes, numbers, FitRow, Stacked, Tree, half_of}
-use Rattle.bforest_core.specs.Sizes.{settled, loss, loss_above, trimmed}
+use Rattle.bforest_core.specs.Sizes.{rebalanced, loss, loss_above, trimmed}
 use Rattle.bforest_core.specs.Place.{RowIn, RowsIn, leaf_content, count, root_above, root_of, numbers_of, StandsAbove, Stands, IsPathAt}
 use Rattle.bforest_core.specs.Removal.{Frees, Rebuilt, Healed, Joined, UpTo, Trimmed, StandsIn, LeafLoss, Removed}
 use Rattle.bforest_core.proofs.rows.LevelRows.{flat-append, heads-append, sizes-append, FitRow-split, FitRow-join, Solid-full, least-pos}
@@ -111,7 +111,7 @@ module _ {K V : Type 0} where
       let least_one : 1 ≤ most = omega (arith, l.some, l.most_is) in
       let half : 1 ≤ half_of most = omega (arith, least_one) in
       let l1 = ap (λ z. loss most place z) (l.sizes_were ∙ ap (λ z. sizes l.before ++ suc (length l.entries) ∷ sizes z) none) ∙ ap (λ z. loss most z (sizes l.before ++ suc (length l.entries) ∷ [])) l.place_is ∙ loss_at most l.before (length l.entries) (get_or indices 0 0) [] (omega (arith, l.entry_was)) in
-      let alone = settled_alone most (length l.entries) l.some in
+      let alone = rebalanced_alone most (length l.entries) l.some in
       let l2 = l1 ∙ ap (λ z. (placed (length l.before) z.0, sizes l.before ++ z.1)) alone in
       let full = Solid-full (half_of most) most half l.before l.solid in
       let fit : FitRow (half_of most) most row = FitRow-join (half_of most) most l.before (node n l.entries) [] l.solid (l.some, l.most_is, tt) in
@@ -131,9 +131,9 @@ module _ {K V : Type 0} where
         frees = l.frees;
       }
     where
-      settled_alone : (most m : ℕ) → 1 ≤ m → settled most m [] ≡ (false, m ∷ [])
-      settled_alone most zero some = absurd (omega (arith, some))
-      settled_alone most (suc m) some = refl
+      rebalanced_alone : (most m : ℕ) → 1 ≤ m → rebalanced most m [] ≡ (false, m ∷ [])
+      rebalanced_alone most zero some = absurd (omega (arith, some))
+      rebalanced_alone most (suc m) some = refl
 
   -- the leaf stays, healed by its neighbour or not at all
   pub healed_untrimmed : (most : ℕ) (old mid new : Table K V) (path indices path' indices' : List ℕ) (size : ℕ) (tree : Tree K V) (place : ℕ) → StandsIn most old path indices size tree place → (l : LeafLoss most old mid path indices size tree place) →
@@ -146,7 +146,7 @@ module _ {K V : Type 0} where
       let least_one : 1 ≤ most = omega (arith, l.some, l.most_is) in
       let half : 1 ≤ half_of most = omega (arith, least_one) in
       let l1 = ap (λ z. loss most place z) l.sizes_were ∙ ap (λ z. loss most z (sizes l.before ++ suc (length l.entries) ∷ sizes l.after)) l.place_is ∙ loss_at most l.before (length l.entries) (get_or indices 0 0) (sizes l.after) (omega (arith, l.entry_was)) in
-      let l2 = l1 ∙ ap (λ z. (placed (length l.before) z, sizes l.before ++ (settled most (length l.entries) (sizes l.after)).1)) h.stays in
+      let l2 = l1 ∙ ap (λ z. (placed (length l.before) z, sizes l.before ++ (rebalanced most (length l.entries) (sizes l.after)).1)) h.stays in
       let f = FitRow-split (half_of most) most h.before' (node h.number' h.entries') h.after' h.fit in
       let full = Solid-full (half_of most) most half h.before' f.0 in
       let some : 1 ≤ length h.entries' = omega (arith, h.within) in
@@ -156,7 +156,7 @@ module _ {K V : Type 0} where
       let st = h.above.stands in
       record {
         flat_is = h.list_is ∙ l.flat_is;
-        sizes_are = ap (λ z. z ∷ map sizes h.rest') h.sizes_are ∙ ap (λ z. (sizes l.before ++ (settled most (length l.entries) (sizes l.after)).1) ∷ z) (h.rest_sizes ∙ l.rest_sizes) ∙ sym (ap (λ z. z.1 ∷ loss_above z.0 (map sizes tree.above)) l2);
+        sizes_are = ap (λ z. z ∷ map sizes h.rest') h.sizes_are ∙ ap (λ z. (sizes l.before ++ (rebalanced most (length l.entries) (sizes l.after)).1) ∷ z) (h.rest_sizes ∙ l.rest_sizes) ∙ sym (ap (λ z. z.1 ∷ loss_above z.0 (map sizes tree.above)) l2);
         half = half;
         leaves_fit = h.fit;
         leaves_in = h.inside;

@@ -90,7 +90,7 @@ module _ {K V : Type 0} where
         stacked = d.stacked;
         inside = p.inside.rows_in;
         stands = d.stands;
-        height = omega (arith, p.at.size_is);
+        height = omega (arith, p.at.points.size_is);
         apart = λ m. omega (arith, d.apart m, c m, c2 m, c3 m);
       }
 

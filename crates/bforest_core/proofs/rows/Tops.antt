@@ -2,7 +2,7 @@
 use Rattle.std.proofs.Common.{◌≡◌, ℕ, suc, ◌+◌, ◌-◌, ◌≤◌, ◌<◌, List, [], ◌∷◌, ◌++◌, length, get_or, refl, sym, ap, ◌∙◌, subst, length-append, arith}
 use Rattle.bforest_core.specs.Table.{Table}
 use Rattle.bforest_core.specs.Levels.{LevelNode, node, heads, FitRow, Stacked, Tree, IsFit, half_of}
-use Rattle.bforest_core.specs.Place.{first_number, root_above, root_of, StandsAbove, Stands, PlacedAt}
+use Rattle.bforest_core.specs.Place.{first_number, root_above, root_of, StandsAbove, Stands, PointsAt}
 use Rattle.bforest_core.specs.Climb.{Above, top_of}
 use Rattle.bforest_core.proofs.rows.LevelRows.{heads-append, FitRow-split, least-pos}
 
@@ -44,9 +44,9 @@ module _ {K V : Type 0} where
   root-stands most tree ms js size place fit at =
       top_tree tree.leaves tree.above ms js size (length at.leaf.before) at.leaf.before at.leaf.entries at.leaf.after at.leaf.row_is (omega (arith, at.leaf.within)) fit.stacked at.above at.size_is
 
-  -- and of one in which it is at a place for an entry
-  pub root-placed : (most : ℕ) (tree : Tree K V) (ms js : List ℕ) (size place : ℕ) → 1 ≤ most → IsFit most tree → PlacedAt ms js size tree place → root_of tree ≡ top_of ms size
-  root-placed most tree ms js size place one fit at =
+  -- and of one in which it points to a place
+  pub root-points : (most : ℕ) (tree : Tree K V) (ms js : List ℕ) (size place : ℕ) → 1 ≤ most → IsFit most tree → PointsAt ms js size tree place → root_of tree ≡ top_of ms size
+  root-points most tree ms js size place one fit at =
       let n = get_or ms 0 0 in
       let row = subst (λ (z : List (LevelNode K V)). FitRow (half_of most) most z) at.leaves_are fit.leaves_fit in
       let f = FitRow-split (half_of most) most at.before (node n at.entries) at.after row in

@@ -2,7 +2,7 @@
 use Rattle.std.proofs.Common.{◌≡◌, ◌≢◌, ℕ, suc, ◌≤◌, ◌<◌, List, ◌∷◌, ◌++◌, length, get_or, slice_get, Some, sym, ap, subst, ◌∙◌, arith, length-append}
 use Rattle.bforest_nodes.specs.Content.{Content}
 use Rattle.bforest_core.specs.Levels.{LevelNode, node, flat, heads, Tree, IsFit, half_of}
-use Rattle.bforest_core.specs.Place.{RowIn, leaf_content, StandsAbove, Stands, PlacedAt, PointsAt, IsIn}
+use Rattle.bforest_core.specs.Place.{RowIn, leaf_content, StandsAbove, Stands, PointsAt, IsIn}
 use Rattle.bforest_core.specs.Steps.{Over, Moved}
 use Rattle.bforest_core.proofs.walks.Steps.{fit_full, nth, next_at, none_behind, not_less}
 use Rattle.bforest_core.proofs.table.Tables.{row-split}
@@ -20,19 +20,6 @@ module _ {K V : Type 0} (path indices : List ℕ) (size : ℕ) (tree : Tree K V)
     place_is = s.leaf.place_is;
     above = s.above;
     size_is = s.size_is;
-  }
-
-  -- so is a place where an entry may come in
-  pub points-placed : PlacedAt path indices size tree place → PointsAt path indices size tree place
-  points-placed p = record {
-    before = p.before;
-    entries = p.entries;
-    after = p.after;
-    leaves_are = p.leaves_are;
-    within = p.within;
-    place_is = p.place_is;
-    above = p.above;
-    size_is = p.size_is;
   }
 
 module _ {K V : Type 0} (most : ℕ) (one : 1 ≤ half_of most) (slots : List (Content K V)) (path indices : List ℕ) (size : ℕ) (tree : Tree K V) (place : ℕ) (fit : IsFit most tree) (inside : IsIn slots tree) (p : PointsAt path indices size tree place) where

@@ -16,15 +16,17 @@ module _ {K V : Type 0} (cmp : K → K → Ordering) (slots : List (Content K V)
   placed-for is s none = record {
     root_is = is;
     at = record {
-      before = s.leaf.before;
-      entries = s.leaf.entries;
-      after = s.leaf.after;
-      leaves_are = s.leaf.row_is;
-      within = s.leaf.within;
+      points = record {
+        before = s.leaf.before;
+        entries = s.leaf.entries;
+        after = s.leaf.after;
+        leaves_are = s.leaf.row_is;
+        within = s.leaf.within;
+        place_is = s.leaf.place_is;
+        above = s.above;
+        size_is = s.size_is;
+      };
       first = s.leaf.first none;
-      place_is = s.leaf.place_is;
-      above = s.above;
-      size_is = s.size_is;
     };
   }
 

@@ -17,7 +17,7 @@ use Rattle.bforest_core.proofs.rows.LevelRows.{flat-append}
 use Rattle.bforest_core.proofs.rows.Tops.{root-stands}
 use Rattle.bforest_core.proofs.table.Tables.{count-append, count-same}
 use Rattle.bforest_core.proofs.walks.Backward.{at_end, at_entry}
-use Rattle.bforest_core.proofs.walks.Pointed.{points-placed, points-stands}
+use Rattle.bforest_core.proofs.walks.Pointed.{points-stands}
 use Rattle.bforest_core.proofs.union.Unions.{is-rooted, rooted}
 use Rattle.bforest_core.proofs.walks.Whole.{led_stands, whole_top, whole_under}
 
@@ -128,4 +128,4 @@ module _ {K V : Type 0} {n : ℕ} (most : ℕ) (table : Table K V) (root : ℕ) 
   on-points on = record { root_is = on.root_is; points = points-stands path.node path.entry path.size (tree_of table.nodes root) place on.stands }
 
   pub placed-points : IsPlaced table root path place → PointsTo table root path place
-  placed-points p = record { root_is = p.root_is; points = points-placed path.node path.entry path.size (tree_of table.nodes root) place p.at }
+  placed-points p = record { root_is = p.root_is; points = p.at.points }
