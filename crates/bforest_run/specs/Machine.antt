@@ -1,5 +1,6 @@
 -- What a line may be answered, and what it leaves of the maps.
-use Rattle.bforest_nodes.specs.Entries.{IsIncreasing, cut, put, value_for}
+use Rattle.bforest.specs.Calls as Calls
+use Rattle.bforest_nodes.specs.Entries.{IsIncreasing, value_for}
 use Rattle.bforest.specs.Forest.{Becomes, IsLive, empty, free_of, limit_of, list_of, sizes_of, slots_of}
 use Rattle.bforest_core.specs.declared.pool.OutOfMemory.{OutOfMemory}
 use Rattle.bforest_run.specs.Orders.{order_of}
@@ -12,7 +13,7 @@ use Rattle.bforest_run.specs.declared.store.Answer.{Answer}
 use Rattle.bforest_run.specs.declared.store.Maps.{Maps}
 use Rattle.std.specs.List.{list_any}
 use Rattle.std.specs.Ordering.{is_eq}
-use Rattle.std.specs.Prelude.{Bool, IsSome, IsTrue, List, MatchResult, None, Option, Result, [], filter, length, map, slice_index_or, slice_set, unwrap_or, ◌↔◌, ◌≡◌, ℕ}
+use Rattle.std.specs.Prelude.{Bool, IsTrue, List, None, OnErr, Option, Result, filter, length, map, slice_index_or, slice_set, unwrap_or, ◌↔◌, ◌≡◌, ℕ}
 
 -- the number that a handle has
 abbrev pub number_of : Maps → Handle → Option ℕ
@@ -29,29 +30,27 @@ pub record Checks (old : Maps) (handle : Handle) (order : Order) (given : Answer
   pub unordered : IsLive old.forest (number_of old handle) → (IsIncreasing (order_of order) (entries_of old handle) → ⊥) → (given ≡ answer.Unordered) × (new ≡ old)
   pub made : IsLive old.forest (number_of old handle) → IsIncreasing (order_of order) (entries_of old handle) → Makes
 
--- An insertion answers the value that was there and changes its own tree's list, or is refused where the key is absent, and then
--- nothing changes. Each other handle keeps its number, and this one too where the key was present.
-abbrev pub Inserts : Maps → Handle → Order → ℕ → ℕ → Result (Option ℕ) OutOfMemory → Maps → Type 0
-Inserts old handle order key value result new =
-    MatchResult result
-    (λ before. (before ≡ value_for (order_of order) (entries_of old handle) key)
-    × (new.handles ≡ slice_set old.handles handle.index (number_of new handle))
-    × (IsSome before → number_of new handle ≡ number_of old handle)
-    × Becomes old.forest (number_of old handle) new.forest (number_of new handle) (put (order_of order) (entries_of old handle) key value))
-    (λ _. (value_for (order_of order) (entries_of old handle) key ≡ None) × (new ≡ old))
-
--- A removal answers the value that was there and takes the entry out of its own tree's list; where the key is absent nothing changes.
--- Each other handle keeps its number.
-pub record Removes (old : Maps) (handle : Handle) (order : Order) (key : ℕ) (value : Option ℕ) (new : Maps) : Type 0 where
-  pub found : value ≡ value_for (order_of order) (entries_of old handle) key
+-- The library's insertion was made on the handle's tree: its record says what is answered, when it is refused, and what list, sizes and
+-- counts it leaves. Each other handle keeps its number; where it is refused nothing changes.
+pub record Inserts (old : Maps) (handle : Handle) (order : Order) (key value : ℕ) (result : Result (Option ℕ) OutOfMemory) (new : Maps) : Type 0 where
+  pub call :
+      Calls.Inserts 7 (order_of order) old.forest (number_of old handle) key value
+      result new.forest (number_of new handle)
   pub handles : new.handles ≡ slice_set old.handles handle.index (number_of new handle)
-  pub cut : Becomes old.forest (number_of old handle) new.forest (number_of new handle) (cut (order_of order) (entries_of old handle) key)
+  pub refused : OnErr result (new ≡ old)
+
+-- The library's removal was made on the handle's tree. Each other handle keeps its number; where the key is absent nothing changes.
+pub record Removes (old : Maps) (handle : Handle) (order : Order) (key : ℕ) (value : Option ℕ) (new : Maps) : Type 0 where
+  pub call :
+      Calls.Removes 7 (order_of order) old.forest (number_of old handle) key
+      value new.forest (number_of new handle)
+  pub handles : new.handles ≡ slice_set old.handles handle.index (number_of new handle)
   pub absent : value ≡ None → new ≡ old
 
--- The handle's tree ends and the handle is empty. Each other handle keeps its number.
+-- The handle's tree ended, its nodes lie free, and the handle is empty. Each other handle keeps its number.
 pub record Clears (old : Maps) (handle : Handle) (new : Maps) : Type 0 where
+  pub call : Calls.Clears old.forest (number_of old handle) new.forest (number_of new handle)
   pub handles : new.handles ≡ slice_set old.handles handle.index None
-  pub cleared : Becomes old.forest (number_of old handle) new.forest None []
 
 -- whether one of the keys compares equal to k
 abbrev pub is_listed : Order → List ℕ → ℕ → Bool
@@ -61,10 +60,20 @@ is_listed order keys k = list_any (λ listed. is_eq (order_of order listed k)) k
 abbrev pub retained : Order → Option ℕ → List ℕ → List (ℕ × ℕ) → List (ℕ × ℕ)
 retained order put keys entries = map (λ e. (e.0, unwrap_or put e.1)) (filter (λ e. is_listed order keys e.0) entries)
 
--- The entries whose keys are listed stay in the handle's tree, with the value if there is one. Each other handle keeps its number.
+-- a call at an entry answers whether its key is listed, and leaves there the value if there is one
+abbrev pub AnswersListed : Order → Option ℕ → List ℕ → Unit {0} → ℕ → ℕ → Bool → ℕ → Unit {0} → Type 0
+AnswersListed order put keys _ key value stays left _ = (stays ≡ is_listed order keys key) × (left ≡ unwrap_or put value)
+
+-- Each entry of the handle's tree was asked whether its key is listed, and the others went, one removal each. Those that stay have the
+-- value if there is one. Each other handle keeps its number.
 pub record KeepsListed (old : Maps) (handle : Handle) (order : Order) (put : Option ℕ) (keys : List ℕ) (new : Maps) : Type 0 where
+  pub call :
+      Calls.Filters 7 (AnswersListed order put keys) old.forest (number_of old handle) tt
+      new.forest (number_of new handle)
   pub handles : new.handles ≡ slice_set old.handles handle.index (number_of new handle)
-  pub kept : Becomes old.forest (number_of old handle) new.forest (number_of new handle) (retained order put keys (entries_of old handle))
+  pub kept :
+      Becomes old.forest (number_of old handle) new.forest (number_of new handle)
+      (retained order put keys (entries_of old handle))
 
 -- the answer has all entries
 abbrev pub Lists : Answer → List (ℕ × ℕ) → Type 0

@@ -1,6 +1,7 @@
 //! A forest with its handles, and what it answers.
+ghost use Rattle.bforest.specs.Calls.{Filters};
 ghost use Rattle.bforest.specs.Forest.{Becomes, IsLive, empty, list_of};
-ghost use Rattle.bforest_run.specs.Machine.{is_listed, retained};
+ghost use Rattle.bforest_run.specs.Machine.{AnswersListed, is_listed, retained};
 ghost use Rattle.std.specs.Prelude.{IfOk, None, OnErr, replicate, unwrap_or, ◌≡◌};
 
 use crate::line::{HANDLE_COUNT, Handle, Line};
@@ -215,7 +216,8 @@ fn keep_listed(
     keys: &[u32],
 )
     requires { IsLive forest.old map.old }
-    ensures { Becomes forest.old map.old forest.new map.new
+    ensures call { Filters 7 (AnswersListed order put keys.now) forest.old map.old tt forest.new map.new }
+    ensures kept { Becomes forest.old map.old forest.new map.new
         (retained order put keys.now (list_of forest.old map.old)) }
 {
     map.retain(forest, |key, value| keeps(order, put, keys, key, value));
