@@ -1,4 +1,5 @@
 pub mod Digits
+pub mod Handling
 pub mod Kept
 pub mod Parts
 pub mod Texts
