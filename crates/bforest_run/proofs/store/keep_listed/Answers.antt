@@ -11,6 +11,7 @@ returns-clause-call c =
       kept = retained-as _ (AnswersListed c.args.order c.args.put c.args.keys.now) 7 _ tt (λ k v b w f' t. search rules) 0 (list_of c.args.forest.now c.args.map.now) _ _ _ all.kept;
       changed = all.changed;
       same_levels = all.same_levels;
+      all_stay = all.all_stay;
       account = all.account;
       increasing = all.increasing;
     }
