@@ -7,7 +7,6 @@ use Rattle.std.proofs.Common.{Err, Ok, OnErr, OnOk, Result, refl, subst, sym, �
 
 module _ {K X E : Type 0} (most : ℕ) (old new : Table K X) where
   module _ {A : Type 0} (count : ℕ) (union : IsUnion most old) where
-
     -- and each tree where it was
     pub reserve-trees : (r : Result A E) → OnOk r (new ≡ reserved old count) → OnErr r (new ≡ old) → KeepsTrees old.nodes new.nodes
     reserve-trees (Ok a) ok err = subst (λ (z : Table K X). KeepsTrees old.nodes z.nodes) (sym ok) (reserved-roots most old count union)

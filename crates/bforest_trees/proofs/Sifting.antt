@@ -2,8 +2,9 @@
 use Rattle.bforest_trees.proofs.Cutting.{changes-none, gives-none}
 use Rattle.bforest_trees.proofs.Following.{chained-no-root, changes-both, ends-both, gives-both}
 use Rattle.bforest_trees.proofs.Reading.{left-at}
+use Rattle.bforest_trees.proofs.Answered.{Sifts, retains}
 use Rattle.bforest_trees.specs.Layout.{entries_from}
-use Rattle.bforest_trees.specs.Retain.{MayAskEach, Retained, RetainedNone, Retains, Stepped, SteppedLast}
+use Rattle.bforest_trees.specs.Retain.{MayAskEach, Retained, RetainedNone, Stepped, SteppedLast}
 use Rattle.bforest_core.proofs.table.Lists.{drop-read, drop_remove, length_remove, read_none, take_remove}
 use Rattle.bforest_core.proofs.table.Tables.{count-append}
 use Rattle.bforest_core.proofs.walks.Standing.{at-on, on-at}
@@ -77,7 +78,7 @@ module _ {F K X : Type 0} (most : ℕ) (step : F → K → X → Bool → X → 
     pub changes : Changes most old now first root (list_under now root) (sizes_under now root)
     pub at : StandsAt now root path place
     pub ready : MayAskEach step may f (drop place (list_under now root))
-    pub rest : (ks : List (K × X)) (us : List (List ℕ)) → Retains step most f place (drop place (list_under now root)) (sizes_under now root) ks us → Retains step most f₀ 0 (list_under old first) (sizes_under old first) (take place (list_under now root) ++ ks) us
+    pub rest : (ks : List (K × X)) (us : List (List ℕ)) → Sifts step most f place (drop place (list_under now root)) (sizes_under now root) ks us → Sifts step most f₀ 0 (list_under old first) (sizes_under old first) (take place (list_under now root) ++ ks) us
     pub gives : GivesNodes (sizes_under old first) (sizes_under now root) old now
     pub fewer : length (sizes_under now root) ≤ length (sizes_under old first)
     pub same : root ≡ first → length (sizes_under now root) ≡ length (sizes_under old first)
@@ -107,8 +108,8 @@ module _ {F K X : Type 0} (most : ℕ) (step : F → K → X → Bool → X → 
         record {
           list = list_under now root;
           sizes = sizes_under now root;
-          retains = subst (λ (l : List (K × X)). Retains step most f₀ 0 (list_under old first) (sizes_under old first) l (sizes_under now root)) all
-              (s.rest [] (sizes_under now root) (subst (λ (l : List (K × X)). Retains step most f s.place l (sizes_under now root) [] (sizes_under now root)) (sym none) (refl, refl)));
+          retains = retains step most f₀ (list_under old first) (sizes_under old first) (list_under now root) (sizes_under now root) (subst (λ (l : List (K × X)). Sifts step most f₀ 0 (list_under old first) (sizes_under old first) l (sizes_under now root)) all
+              (s.rest [] (sizes_under now root) (subst (λ (l : List (K × X)). Sifts step most f s.place l (sizes_under now root) [] (sizes_under now root)) (sym none) (refl, refl))));
           changes = s.changes;
           gives = s.gives;
           same_root = (s.same, λ e. elim (eqb_tells root first) [ inl w ↦ w.1 | inr w ↦ absurd (let n = s.gone w.1 in omega (arith, n.1, e)) ]);
@@ -131,15 +132,15 @@ module _ {F K X : Type 0} (most : ℕ) (step : F → K → X → Bool → X → 
 
       -- one answer leads to what is asked of the rest
       asked_on : (stays : Bool) (w : X) (f' : F) → step f k v stays w f' → (xs' : List (K × X)) (sizes' : List (List ℕ)) (place' : ℕ) → place' ≡ (if stays then suc s.place else s.place) → sizes' ≡ (if stays then sizes_under now root else shrink most s.place (sizes_under now root)) → drop place' xs' ≡ drop (suc s.place) (list_under now root) → ((ks : List (K × X)) → take place' xs' ++ ks ≡ take s.place (list_under now root) ++ (if stays then (k, w) ∷ ks else ks)) →
-          (ks : List (K × X)) (us : List (List ℕ)) → Retains step most f' place' (drop place' xs') sizes' ks us → Retains step most f₀ 0 (list_under old first) (sizes_under old first) (take place' xs' ++ ks) us
+          (ks : List (K × X)) (us : List (List ℕ)) → Sifts step most f' place' (drop place' xs') sizes' ks us → Sifts step most f₀ 0 (list_under old first) (sizes_under old first) (take place' xs' ++ ks) us
       asked_on stays w f' t xs' sizes' place' place_is sizes_are same front ks us r =
-          let on : Retains step most f' (if stays then suc s.place else s.place) (drop (suc s.place) (list_under now root)) (if stays then sizes_under now root else shrink most s.place (sizes_under now root)) ks us =
-          subst (λ (z : List (List ℕ)). Retains step most f' (if stays then suc s.place else s.place) (drop (suc s.place) (list_under now root)) z ks us) sizes_are
-          (subst (λ (z : ℕ). Retains step most f' z (drop (suc s.place) (list_under now root)) sizes' ks us) place_is
-          (subst (λ (l : List (K × X)). Retains step most f' place' l sizes' ks us) same r)) in
-          subst (λ (l : List (K × X)). Retains step most f₀ 0 (list_under old first) (sizes_under old first) l us) (sym (front ks))
+          let on : Sifts step most f' (if stays then suc s.place else s.place) (drop (suc s.place) (list_under now root)) (if stays then sizes_under now root else shrink most s.place (sizes_under now root)) ks us =
+          subst (λ (z : List (List ℕ)). Sifts step most f' (if stays then suc s.place else s.place) (drop (suc s.place) (list_under now root)) z ks us) sizes_are
+          (subst (λ (z : ℕ). Sifts step most f' z (drop (suc s.place) (list_under now root)) sizes' ks us) place_is
+          (subst (λ (l : List (K × X)). Sifts step most f' place' l sizes' ks us) same r)) in
+          subst (λ (l : List (K × X)). Sifts step most f₀ 0 (list_under old first) (sizes_under old first) l us) (sym (front ks))
           (s.rest (if stays then (k, w) ∷ ks else ks) us
-          (subst (λ (l : List (K × X)). Retains step most f s.place l (sizes_under now root) (if stays then (k, w) ∷ ks else ks) us) (sym todo) (stays, w, f', ks, t, on, refl)))
+          (subst (λ (l : List (K × X)). Sifts step most f s.place l (sizes_under now root) (if stays then (k, w) ∷ ks else ks) us) (sym todo) (stays, w, f', ks, t, on, refl)))
 
       -- and to the rest that may be asked
       ready_on : (stays : Bool) (w : X) (f' : F) → step f k v stays w f' → (xs : List (K × X)) → xs ≡ drop (suc s.place) (list_under now root) → MayAskEach step may f' xs
@@ -207,10 +208,10 @@ module _ {F K X : Type 0} (most : ℕ) (step : F → K → X → Bool → X → 
             let low = slice_get_within (list_under now root) s.place (k, v) (sym here) in
             let zero_is : s.place ≡ 0 = omega (arith, low, t.last) in
             let none : drop (suc s.place) (list_under now root) ≡ [] = drop_all (suc s.place) (list_under now root) (omega (arith, t.last)) in
-            let last : Retains step most f s.place ((k, v) ∷ []) (sizes_under now root) [] [] = (false, t.left, f', [], t.stepped, (refl, sym t.none_left), refl) in
+            let last : Sifts step most f s.place ((k, v) ∷ []) (sizes_under now root) [] [] = (false, t.left, f', [], t.stepped, (refl, sym t.none_left), refl) in
             record {
-              retains = subst (λ (l : List (K × X)). Retains step most f₀ 0 (list_under old first) (sizes_under old first) l []) (ap (λ z. take z (list_under now root) ++ []) zero_is)
-                  (s.rest [] [] (subst (λ (l : List (K × X)). Retains step most f s.place l (sizes_under now root) [] []) (ap (λ z. (k, v) ∷ z) (sym none) ∙ sym todo) last));
+              retains = retains step most f₀ (list_under old first) (sizes_under old first) [] [] (subst (λ (l : List (K × X)). Sifts step most f₀ 0 (list_under old first) (sizes_under old first) l []) (ap (λ z. take z (list_under now root) ++ []) zero_is)
+                  (s.rest [] [] (subst (λ (l : List (K × X)). Sifts step most f s.place l (sizes_under now root) [] []) (ap (λ z. (k, v) ∷ z) (sym none) ∙ sym todo) last)));
               ended = ends-both most old now new first root (list_under now root) (sizes_under now root) s.changes t.ended;
               gives = gives-both most old now new (sizes_under old first) (sizes_under now root) [] s.gives (subst (λ (z : List (List ℕ)). GivesNodes (sizes_under now root) z now new) t.none_left t.gives);
             }

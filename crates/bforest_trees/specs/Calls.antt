@@ -32,7 +32,7 @@ module _ {K X : Type 0} where
 
   -- q was asked of each entry of h, where a leaf has at most so many, and those answered yes stay, with the values that were left there
   pub record Filters {F : Type 0} (most : ℕ) (step : F → K → X → Bool → X → F → Type 0) (f : Forest K X) (h : Option ℕ) (q : F) (f' : Forest K X) (h' : Option ℕ) : Type 0 where
-    pub kept : Retains step most q 0 (list_of f h) (sizes_of f h) (list_of f' h') (sizes_of f' h')
+    pub kept : Retains step most q (list_of f h) (sizes_of f h) (list_of f' h') (sizes_of f' h')
     pub changed : Becomes f h f' h' (list_of f' h')
     pub same_levels : SameLevels f h f' h'
     pub all_stay : length (list_of f' h') ≡ length (list_of f h) → h' ≡ h

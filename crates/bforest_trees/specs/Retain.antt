@@ -33,12 +33,31 @@ module _ {F K X : Type 0} (step : F → K → X → Bool → X → F → Type 0)
   pub record MayAskEach (may : F → K → X → Type 0) (f : F) (es : List (K × X)) : Type 0 where
     pub at : (before after : List (K × X)) (f' : F) (k : K) (v : X) → es ≡ before ++ (k, v) ∷ after → FoldsTo Asks f before f' → may f' k v
 
-  -- f was asked of each entry in turn, of which the first stands at a place of a tree of these sizes, where leaves have at most so
-  -- many entries: kept has the entries answered yes, with the values left there, and each one answered no is a removal at its place
-  abbrev pub Retains : ℕ → F → ℕ → List (K × X) → List (List ℕ) → List (K × X) → List (List ℕ) → Type 0
-  Retains most f place [] sizes kept after = (kept ≡ []) × (after ≡ sizes)
-  Retains most f place (e ∷ es) sizes kept after =
-      (b : Bool) × (w : X) × (f' : F) × (rest : List (K × X)) × step f e.0 e.1 b w f' × Retains most f' (if b then suc place else place) es (if b then sizes else shrink most place sizes) rest after × (kept ≡ (if b then (e.0, w) ∷ rest else rest))
+  -- f was asked of each entry in turn: one answer each, with the value that the call left
+  abbrev pub AsksEach : F → List (K × X) → List (Bool × X) → Type 0
+  AsksEach f [] answers = answers ≡ []
+  AsksEach f (e ∷ es) [] = ⊥
+  AsksEach f (e ∷ es) (answer ∷ answers) = (f' : F) × step f e.0 e.1 answer.0 answer.1 f' × AsksEach f' es answers
+
+-- the entries answered yes, with the values that were left there
+abbrev pub kept_by : {K X : Type 0} → List (K × X) → List (Bool × X) → List (K × X)
+kept_by [] answers = []
+kept_by (e ∷ es) [] = []
+kept_by (e ∷ es) (answer ∷ answers) = if answer.0 then (e.0, answer.1) ∷ kept_by es answers else kept_by es answers
+
+-- the sizes after one removal for each entry answered no, where the first stands at this place
+abbrev pub sizes_by : {X : Type 0} → ℕ → ℕ → List (Bool × X) → List (List ℕ) → List (List ℕ)
+sizes_by most place [] sizes = sizes
+sizes_by most place (answer ∷ answers) sizes =
+    if answer.0 then sizes_by most (suc place) answers sizes else sizes_by most place answers (shrink most place sizes)
+
+-- f was asked of each entry of a list in nodes of these sizes, where leaves have at most so many entries: those answered yes are kept,
+-- and each one answered no is a removal
+pub record Retains {F K X : Type 0} (step : F → K → X → Bool → X → F → Type 0) (most : ℕ) (f : F) (es : List (K × X)) (sizes : List (List ℕ)) (kept : List (K × X)) (after : List (List ℕ)) : Type 0 where
+  pub answers : List (Bool × X)
+  pub asked : AsksEach step f es answers
+  pub kept_is : kept ≡ kept_by es answers
+  pub sizes_are : after ≡ sizes_by most 0 answers sizes
 
 module _ {F K X : Type 0} (most : ℕ) (step : F → K → X → Bool → X → F → Type 0) where
   -- f was asked of the entry at a place of the tree under a root: an entry answered yes stays with the value left there and the
@@ -66,13 +85,13 @@ module _ {F K X : Type 0} (most : ℕ) (step : F → K → X → Bool → X → 
   pub record Retained (old new : Table K X) (root root' : ℕ) (f : F) : Type 0 where
     pub list : List (K × X)
     pub sizes : List (List ℕ)
-    pub retains : Retains step most f 0 (list_under old root) (sizes_under old root) list sizes
+    pub retains : Retains step most f (list_under old root) (sizes_under old root) list sizes
     pub changes : Changes most old new root root' list sizes
     pub gives : GivesNodes (sizes_under old root) sizes old new
     pub same_root : (root' ≡ root) ↔ (length sizes ≡ length (sizes_under old root))
 
   -- f was asked of each entry of the tree under a root, and none stays
   pub record RetainedNone (old new : Table K X) (root : ℕ) (f : F) : Type 0 where
-    pub retains : Retains step most f 0 (list_under old root) (sizes_under old root) [] []
+    pub retains : Retains step most f (list_under old root) (sizes_under old root) [] []
     pub ended : Ends most old new root
     pub gives : GivesNodes (sizes_under old root) [] old new
