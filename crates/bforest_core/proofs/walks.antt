@@ -1,5 +1,4 @@
 -- Lemmas on going down and stepping.
-pub mod Following
 pub mod Sought
 pub mod LeafSearch
 pub mod Rising

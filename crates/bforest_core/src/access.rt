@@ -47,9 +47,7 @@ pub(crate) fn follow<K: Copy, V: Copy, const N: usize, C: Comparator<K>>(
         ≡ Some (Inner keys children) → slice_get children result.0 ≡ Some result.1 }
     ensures most { result.0 ≤ 255 }
 {
-    let (keys, children) = pool.node(node).unwrap_inner();
-    let index = comp.upper_bound(key, keys);
-    (index, children[index])
+    pool.node(node).follow(key, comp)
 }
 
 // The place of `key` among the entries of a leaf, and its value.
@@ -68,11 +66,7 @@ pub(crate) fn look_up<K: Copy, V: Copy, const N: usize, C: Comparator<K>>(
         → result.1 ≡ value_for (C.order comp.now) entries key }
     ensures most { result.0 ≤ 255 }
 {
-    let (keys, values) = pool.node(node).unwrap_leaf();
-    match comp.search(key, keys) {
-        Ok(index) => (index, Some(values[index])),
-        Err(index) => (index, None),
-    }
+    pool.node(node).look_up(key, comp)
 }
 
 // The index of the last entry or child of a node that has one.

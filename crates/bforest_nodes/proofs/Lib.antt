@@ -9,3 +9,5 @@ mod ArrayMemory
 mod Prefixes
 mod States
 mod Shares
+pub mod Scanned
+pub mod Bounds

@@ -35,7 +35,7 @@ module _ {K : Type 0} (cmp : K → K → Ordering) where
 
   module _ (o : IsTotalOrder cmp) (ks : List K) (k : K) (sorted : IsStrictlySortedBy cmp ks) where
     -- before a key that is not greater all are less
-    before : (i j : ℕ) (d : K) → j < i → i < length ks → is_gt (cmp (get_or ks i d) k) ≡ false → is_lt (cmp (get_or ks j d) k) ≡ true
+    pub before : (i j : ℕ) (d : K) → j < i → i < length ks → is_gt (cmp (get_or ks i d) k) ≡ false → is_lt (cmp (get_or ks j d) k) ≡ true
     before i j d lt within h = go (cmp (get_or ks i d) k) refl h
       where
         go : (r : Ordering) → cmp (get_or ks i d) k ≡ r → is_gt r ≡ false → is_lt (cmp (get_or ks j d) k) ≡ true
@@ -53,7 +53,7 @@ module _ {K : Type 0} (cmp : K → K → Ordering) where
         go Greater e = ap is_lt e
 
     -- the same from it on
-    not_before : (i j : ℕ) (d : K) → i ≤ j → j < length ks → is_lt (cmp (get_or ks i d) k) ≡ false → is_lt (cmp (get_or ks j d) k) ≡ false
+    pub not_before : (i j : ℕ) (d : K) → i ≤ j → j < length ks → is_lt (cmp (get_or ks i d) k) ≡ false → is_lt (cmp (get_or ks j d) k) ≡ false
     not_before i j d le within h = ⊎_elim
         (λ t. after i j d (ltb-true i j t) within h)
         (λ t. let e : i ≡ j = omega (arith, ltb-false i j t) in subst (λ n. is_lt (cmp (get_or ks n d) k) ≡ false) e h)
@@ -64,14 +64,14 @@ module _ {K : Type 0} (cmp : K → K → Ordering) where
     rises = searchable_from_sorted o (λ y. y) ks k (λ j d low within. let e = Less-from_sorted cmp ks j (j + 1) d sorted (omega arith) within in ap is_lt (o.antisymm _ _ ∙ ap ordering_reverse e))
 
     -- a count, and whether the key there compares equal, make the answer
-    by_test : (i : ℕ) (b : Bool) → count_less cmp ks k ≡ i → is_equal_at cmp ks k i ≡ b → search_of cmp ks k ≡ (if b then Ok i else Err i)
+    pub by_test : (i : ℕ) (b : Bool) → count_less cmp ks k ≡ i → is_equal_at cmp ks k i ≡ b → search_of cmp ks k ≡ (if b then Ok i else Err i)
     by_test i b e h = λ j. if both j then Ok (e j) else Err (e j)
       where
         both : is_equal_at cmp ks k (count_less cmp ks k) ≡ b
         both = ap (is_equal_at cmp ks k) e ∙ h
 
     -- whether the key inside the list compares equal
-    test_at : (i : ℕ) (b : Bool) → i < length ks → is_eq (cmp (get_or ks i k) k) ≡ b → is_equal_at cmp ks k i ≡ b
+    pub test_at : (i : ℕ) (b : Bool) → i < length ks → is_eq (cmp (get_or ks i k) k) ≡ b → is_equal_at cmp ks k i ≡ b
     test_at i b within h = ap (λ t. option_map_or (λ x. is_eq (cmp x k)) t false) (slice_get-get_or ks i k within) ∙ h
 
     -- a binary search's answer
@@ -135,7 +135,7 @@ module _ {K : Type 0} (cmp : K → K → Ordering) where
 
     module _ (o : IsTotalOrder cmp) where
       -- a key behind one that is not less is greater
-      greater : (x q : K) → cmp x q ≡ Less → is_lt (cmp x k) ≡ false → cmp q k ≡ Greater
+      pub greater : (x q : K) → cmp x q ≡ Less → is_lt (cmp x k) ≡ false → cmp q k ≡ Greater
       greater x q l h = go (cmp x k) refl
         where
           go : (r : Ordering) → cmp x k ≡ r → cmp q k ≡ Greater

@@ -1,8 +1,9 @@
 //! The order of keys.
-ghost use Rattle.bforest_nodes.specs.Search.{count_up_to, search_of};
+ghost use Rattle.bforest_nodes.specs.Search.{count_less, count_up_to, search_of};
 ghost use Rattle.std.specs.Cmp.{IsTotalOrder};
 ghost use Rattle.std.specs.List.Sorted.{IsStrictlySortedBy};
-ghost use Rattle.std.specs.Prelude.{◌≡◌};
+ghost use Rattle.std.specs.Ordering.{is_gt, is_lt};
+ghost use Rattle.std.specs.Prelude.{false, get_or, length, suc, take, true, ◌<◌, ◌≡◌, ◌≢◌, ◌≤◌, ℕ};
 ghost use Rattle.std.specs.declared.cmp.Ordering.{Ordering};
 
 use std::cmp::{Ord, Ordering};
@@ -44,6 +45,27 @@ pub trait Comparator<K: Copy> {
         }
     }
 
+    /// `search` among the first `len` keys of a row. Of the keys behind them nothing is said, and they change no answer.
+    ///
+    /// A node hands over its whole row, so that an implementation may read at fixed places. Replace it where a comparison costs less
+    /// than a branch that is guessed wrong; the one here searches the part alone, in about log2 of `len` comparisons.
+    fn search_prefix(&self, k: K, row: &[K], len: usize) -> Result<usize, usize>
+        requires { len ≤ length row.now }
+        ensures { IsStrictlySortedBy (order self.now) (take len row.now)
+            → result ≡ search_of (order self.now) (take len row.now) k }
+    {
+        self.search(k, &row[..len])
+    }
+
+    /// `upper_bound` among the first `len` keys of a row, as `search_prefix` is `search` among them.
+    fn upper_bound_prefix(&self, k: K, row: &[K], len: usize) -> usize
+        requires { len ≤ length row.now }
+        ensures { IsStrictlySortedBy (order self.now) (take len row.now)
+            → result ≡ count_up_to (order self.now) (take len row.now) k }
+    {
+        self.upper_bound(k, &row[..len])
+    }
+
     /// Each key equals itself, swapping two keys reverses the answer, and less than and equal are transitive.
     ghost total: { (c : Self) → IsTotalOrder (order c) };
 }
@@ -78,4 +100,72 @@ impl<K: Copy + Ord> Comparator<K> for () {
         }
         count
     }
+
+    fn search_prefix(&self, k: K, row: &[K], len: usize) -> Result<usize, usize> {
+        let at = lower_bound(k, row, len);
+        if at < len && row[at] == k {
+            Ok(at)
+        } else {
+            Err(at)
+        }
+    }
+
+    fn upper_bound_prefix(&self, k: K, row: &[K], len: usize) -> usize {
+        if len == 0 || row[0] > k {
+            return 0;
+        }
+        if row[len - 1] <= k {
+            return len;
+        }
+        first_greater(k, row)
+    }
+}
+
+// How many of the first `len` keys of a row are less than `k`.
+fn lower_bound<K: Copy + Ord>(k: K, row: &[K], len: usize) -> usize
+    requires { len ≤ length row.now }
+    ensures within { result ≤ len }
+    ensures count { IsStrictlySortedBy K.cmp (take len row.now)
+        → result ≡ count_less K.cmp (take len row.now) k }
+{
+    if len == 0 || row[0] >= k {
+        return 0;
+    }
+    if row[len - 1] < k {
+        return len;
+    }
+    first_not_less(k, row)
+}
+
+// The least index behind the first whose key is not less than `k`, or the last index where there is none. It looks at the whole row from
+// the right, and chooses without a branch.
+fn first_not_less<K: Copy + Ord>(k: K, row: &[K]) -> usize
+    requires { 0 < length row.now }
+    ensures within { result < length row.now }
+    ensures before { (j : ℕ) (d : K) → 0 < j → j < result → is_lt (K.cmp (get_or row.now j d) k) ≡ true }
+    ensures here { (d : K) → suc result ≢ length row.now
+        → is_lt (K.cmp (get_or row.now result d) k) ≡ false }
+{
+    let mut at = row.len() - 1;
+    for back in 2..row.len() {
+        let index = row.len() - back;
+        at = if row[index] < k { at } else { index };
+    }
+    at
+}
+
+// The same with a greater key.
+fn first_greater<K: Copy + Ord>(k: K, row: &[K]) -> usize
+    requires { 0 < length row.now }
+    ensures within { result < length row.now }
+    ensures before { (j : ℕ) (d : K) → 0 < j → j < result → is_gt (K.cmp (get_or row.now j d) k) ≡ false }
+    ensures here { (d : K) → suc result ≢ length row.now
+        → is_gt (K.cmp (get_or row.now result d) k) ≡ true }
+{
+    let mut at = row.len() - 1;
+    for back in 2..row.len() {
+        let index = row.len() - back;
+        at = if row[index] > k { index } else { at };
+    }
+    at
 }

@@ -1,8 +1,11 @@
 //! What a node holds: the children of an inner node, the entries of a leaf, or the next free slot.
 ghost use Rattle.bforest_nodes.specs.Content.{Balances, Free, HasShape, Inner, IsCut, IsFree, IsInner, IsLeaf, IsLeafCapacity, IsSameKind, Leaf, children_of, entry_capacity, entry_count, joined, keys_of, left_half, removed_answer, vals_of, with_child, with_entry, with_key, without_child, without_entry};
+ghost use Rattle.bforest_nodes.specs.Search.{count_up_to, search_of};
 ghost use Rattle.std.specs.Borrow.{sem};
-ghost use Rattle.std.specs.Prelude.{IfOk, IsTrue, None, Some, Ok, [], if◌then◌else◌, length, nat_le, slice_get, ◌*◌, ◌+◌, ◌-◌, ◌/◌, ◌<◌, ◌^◌, ◌↔◌, ◌∷◌, ◌≡◌, ◌≤◌};
+ghost use Rattle.std.specs.List.Sorted.{IsStrictlySortedBy};
+ghost use Rattle.std.specs.Prelude.{Err, IfOk, IfSome, IsTrue, None, Some, Ok, [], if◌then◌else◌, length, nat_le, slice_get, ◌*◌, ◌+◌, ◌-◌, ◌/◌, ◌<◌, ◌^◌, ◌↔◌, ◌∷◌, ◌≡◌, ◌≤◌};
 
+use crate::comparator::Comparator;
 use crate::entries::Entries;
 use crate::number::{Node, PackedNode};
 use crate::row::Row;
@@ -192,6 +195,46 @@ impl<K: Copy, V: Copy, const N: usize> NodeData<K, V, N> {
                     keys.capped_front(*size as usize),
                     vals.front(*size as usize),
                 )
+            }
+            _ => unreachable!(),
+        }
+    }
+
+    /// The index of the child of an inner node below which a search for `key` goes on, and the child: so many keys are not greater. It
+    /// compares as `Comparator::upper_bound_prefix` does.
+    pub fn follow<C: Comparator<K>>(&self, key: K, comp: &C) -> (usize, Node)
+        requires inner { IsInner self.now }
+        requires sorted { IsStrictlySortedBy (C.order comp.now) (keys_of self.now) }
+        ensures index { result.0 ≡ count_up_to (C.order comp.now) (keys_of self.now) key }
+        ensures child { slice_get (children_of self.now) result.0 ≡ Some result.1 }
+        ensures most { result.0 ≤ 255 }
+    {
+        match &self.state {
+            State::Branch(size, keys, tree) => {
+                let len = *size as usize;
+                let index = comp.upper_bound_prefix(key, &keys.items, len);
+                (index, tree.at(len + 1, index))
+            }
+            _ => unreachable!(),
+        }
+    }
+
+    /// The place of `key` among the keys of a leaf, and its value where it is there. It compares as `Comparator::search_prefix` does.
+    pub fn look_up<C: Comparator<K>>(&self, key: K, comp: &C) -> (usize, Option<V>)
+        requires leaf { IsLeaf self.now }
+        requires sorted { IsStrictlySortedBy (C.order comp.now) (keys_of self.now) }
+        ensures found { IfSome result.1 (λ v. search_of (C.order comp.now) (keys_of self.now) key ≡ Ok result.0) }
+        ensures value { IfSome result.1 (λ v. slice_get (vals_of self.now) result.0 ≡ Some v) }
+        ensures absent { result.1 ≡ None → search_of (C.order comp.now) (keys_of self.now) key ≡ Err result.0 }
+        ensures most { result.0 ≤ 255 }
+    {
+        match &self.state {
+            State::Entries(Entries { size, keys, vals }) => {
+                let len = *size as usize;
+                match comp.search_prefix(key, &keys.items, len) {
+                    Ok(index) => (index, Some(vals.at(len, index))),
+                    Err(index) => (index, None),
+                }
             }
             _ => unreachable!(),
         }

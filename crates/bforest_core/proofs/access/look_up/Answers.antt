@@ -1,97 +1,42 @@
-use Rattle.std.proofs.Common.{rules, length, refl, sym, subst, arith}
-use Rattle.std.proofs.lemmas.Option.{slice_get_read, slice_get_within}
-use Rattle.bforest_nodes.specs.Content.{HasShape, IsLeaf}
+use Rattle.std.proofs.Common.{rules, ◌≡◌, subst, sym}
+use Rattle.std.proofs.lemmas.Option.{slice_get_within}
+use Rattle.std.specs.List.Sorted.{IsStrictlySortedBy}
+use Rattle.std.specs.Prelude.{Err, IfSome, List, None, Ok, Some, slice_get}
+use Rattle.bforest_nodes.specs.Content.{Content, IsLeaf, keys_of, vals_of}
+use Rattle.bforest_nodes.specs.Entries.{IsIncreasing, place, value_for}
+use Rattle.bforest_nodes.specs.Search.{search_of}
 use Rattle.bforest_core.specs.Place.{leaf_content}
 use Rattle.bforest_core.proofs.table.Stored.{read_same}
-use Rattle.bforest_core.proofs.walks.LeafSearch.{leaf_lists, increasing_same, ok_place, ok_within, ok_value, err_place, err_within, err_value}
+use Rattle.bforest_core.proofs.walks.LeafSearch.{looked}
+use Rattle.bforest_core.proofs.access.look_up.Given.{Over}
+use Rattle.bforest_core.proofs.access.look_up.Goals.{After-look_up}
 use Rattle.bforest_core.proofs.access.look_up.Goals as goal
-
-pub bounds-values-index : goal.bounds-values-index
-bounds-values-index g c =
-    let w = c.requires.leaf in
-    let ks = c.unwrap_leaf.result.0.now in
-    let vs = c.unwrap_leaf.result.1.now in
-    let l = leaf_lists _ _ w.0 ks vs w.1 c.node.ensures.value c.unwrap_leaf.ensures.value in
-    ok_within (g.C.Comparator.order c.args.comp.now) w.0 c.args.key ks vs c.search.result l.0 l.1 w.2 c.search.ensures c.in-Ok.index c.in-Ok.is
-
-pub offset_bounds-values-index : goal.offset_bounds-values-index
-offset_bounds-values-index g c =
-    let w = c.requires.leaf in
-    let ks = c.unwrap_leaf.result.0.now in
-    let vs = c.unwrap_leaf.result.1.now in
-    let l = leaf_lists _ _ w.0 ks vs w.1 c.node.ensures.value c.unwrap_leaf.ensures.value in
-    let low = ok_within (g.C.Comparator.order c.args.comp.now) w.0 c.args.key ks vs c.search.result l.0 l.1 w.2 c.search.ensures c.in-Ok.index c.in-Ok.is in
-    omega (arith, low)
-
-pub returns-in-Ok-clause-place : goal.returns-in-Ok-clause-place
-returns-in-Ok-clause-place g c = λ es slot.
-    let w = c.requires.leaf in
-    let order = g.C.Comparator.order c.args.comp.now in
-    let ks = c.unwrap_leaf.result.0.now in
-    let vs = c.unwrap_leaf.result.1.now in
-    let l0 = leaf_lists _ _ w.0 ks vs w.1 c.node.ensures.value c.unwrap_leaf.ensures.value in
-    let l = leaf_lists _ _ es ks vs slot c.node.ensures.value c.unwrap_leaf.ensures.value in
-    let h = increasing_same order w.0 es ks l0.0 l.0 w.2 in
-    (ok_place order es c.args.key ks vs c.search.result l.0 l.1 h c.search.ensures c.in-Ok.index c.in-Ok.is).0
-
-pub returns-in-Ok-clause-value : goal.returns-in-Ok-clause-value
-returns-in-Ok-clause-value g c = λ es slot.
-    let w = c.requires.leaf in
-    let order = g.C.Comparator.order c.args.comp.now in
-    let ks = c.unwrap_leaf.result.0.now in
-    let vs = c.unwrap_leaf.result.1.now in
-    let l0 = leaf_lists _ _ w.0 ks vs w.1 c.node.ensures.value c.unwrap_leaf.ensures.value in
-    let l = leaf_lists _ _ es ks vs slot c.node.ensures.value c.unwrap_leaf.ensures.value in
-    let h = increasing_same order w.0 es ks l0.0 l.0 w.2 in
-    let low = ok_within order es c.args.key ks vs c.search.result l.0 l.1 h c.search.ensures c.in-Ok.index c.in-Ok.is in
-    ok_value order es c.args.key ks vs c.search.result l.0 l.1 h c.search.ensures c.in-Ok.index c.index-values-index.result c.in-Ok.is (slice_get_read vs (length vs) c.in-Ok.index c.index-values-index.result refl low c.index-values-index.is)
-
-pub returns-in-Err-clause-place : goal.returns-in-Err-clause-place
-returns-in-Err-clause-place g c = λ es slot.
-    let w = c.requires.leaf in
-    let order = g.C.Comparator.order c.args.comp.now in
-    let ks = c.unwrap_leaf.result.0.now in
-    let vs = c.unwrap_leaf.result.1.now in
-    let l0 = leaf_lists _ _ w.0 ks vs w.1 c.node.ensures.value c.unwrap_leaf.ensures.value in
-    let l = leaf_lists _ _ es ks vs slot c.node.ensures.value c.unwrap_leaf.ensures.value in
-    let h = increasing_same order w.0 es ks l0.0 l.0 w.2 in
-    (err_place order es c.args.key ks vs c.search.result l.0 l.1 h c.search.ensures c.in-Err.index c.in-Err.is).0
-
-pub returns-in-Err-clause-value : goal.returns-in-Err-clause-value
-returns-in-Err-clause-value g c = λ es slot.
-    let w = c.requires.leaf in
-    let order = g.C.Comparator.order c.args.comp.now in
-    let ks = c.unwrap_leaf.result.0.now in
-    let vs = c.unwrap_leaf.result.1.now in
-    let l0 = leaf_lists _ _ w.0 ks vs w.1 c.node.ensures.value c.unwrap_leaf.ensures.value in
-    let l = leaf_lists _ _ es ks vs slot c.node.ensures.value c.unwrap_leaf.ensures.value in
-    let h = increasing_same order w.0 es ks l0.0 l.0 w.2 in
-    err_value order es c.args.key ks vs c.search.result l.0 l.1 h c.search.ensures c.in-Err.index c.in-Err.is
-
-pub returns-in-Ok-clause-most : goal.returns-in-Ok-clause-most
-returns-in-Ok-clause-most g c =
-    let w = c.requires.leaf in
-    let ks = c.unwrap_leaf.result.0.now in
-    let vs = c.unwrap_leaf.result.1.now in
-    let l = leaf_lists _ _ w.0 ks vs w.1 c.node.ensures.value c.unwrap_leaf.ensures.value in
-    let low = ok_within (g.C.Comparator.order c.args.comp.now) w.0 c.args.key ks vs c.search.result l.0 l.1 w.2 c.search.ensures c.in-Ok.index c.in-Ok.is in
-    let shape = subst (HasShape _) c.unwrap_leaf.ensures.value c.unwrap_leaf.ensures.shape in
-    omega (arith, low, shape.0, shape.1, c.requires.capacity.most)
-
-pub returns-in-Err-clause-most : goal.returns-in-Err-clause-most
-returns-in-Err-clause-most g c =
-    let w = c.requires.leaf in
-    let ks = c.unwrap_leaf.result.0.now in
-    let vs = c.unwrap_leaf.result.1.now in
-    let l = leaf_lists _ _ w.0 ks vs w.1 c.node.ensures.value c.unwrap_leaf.ensures.value in
-    let low = err_within (g.C.Comparator.order c.args.comp.now) w.0 c.args.key ks vs c.search.result l.0 l.1 w.2 c.search.ensures c.in-Err.index c.in-Err.is in
-    let shape = subst (HasShape _) c.unwrap_leaf.ensures.value c.unwrap_leaf.ensures.shape in
-    omega (arith, low, shape.1, c.requires.capacity.most)
 
 pub node-requires : goal.node-requires
 node-requires g c = (search rules, (search rules, slice_get_within c.args.pool.now.nodes c.args.node (leaf_content c.requires.leaf.0) c.requires.leaf.1))
 
-pub unwrap_leaf-requires : goal.unwrap_leaf-requires
-unwrap_leaf-requires g c =
+pub look_up-requires : goal.look_up-requires
+look_up-requires g c =
     let w = c.requires.leaf in
-    (search rules, subst IsLeaf (sym (read_same c.args.pool.now.nodes c.args.node (leaf_content w.0) c.node.result.now w.1 c.node.ensures.value)) tt)
+    let is = read_same c.args.pool.now.nodes c.args.node (leaf_content w.0) c.node.result.now w.1 c.node.ensures.value in
+    (search rules, (subst IsLeaf (sym is) tt, subst (λ (z : Content g.row.K.Denot g.row.V.Denot). IsStrictlySortedBy (g.C.Comparator.order c.args.comp.now) (keys_of z)) (sym is) w.2))
+
+-- what the node answered, of any entries that its slot holds
+told : (g : Over) (c : After-look_up g) (es : List (g.row.K.Denot × g.row.V.Denot)) → slice_get c.args.pool.now.nodes c.args.node ≡ Some (leaf_content es) →
+    (c.look_up.result.0 ≡ place (g.C.Comparator.order c.args.comp.now) es c.args.key) × (c.look_up.result.1 ≡ value_for (g.C.Comparator.order c.args.comp.now) es c.args.key)
+told g c es slot =
+    let order = g.C.Comparator.order c.args.comp.now in
+    let w = c.requires.leaf in
+    let was = read_same c.args.pool.now.nodes c.args.node (leaf_content w.0) c.node.result.now w.1 c.node.ensures.value in
+    let is = read_same c.args.pool.now.nodes c.args.node (leaf_content es) c.node.result.now slot c.node.ensures.value in
+    let up : IsIncreasing order es = subst (λ (z : Content g.row.K.Denot g.row.V.Denot). IsStrictlySortedBy order (keys_of z)) is (subst (λ (z : Content g.row.K.Denot g.row.V.Denot). IsStrictlySortedBy order (keys_of z)) (sym was) w.2) in
+    looked order es c.args.key up c.look_up.result.1 c.look_up.result.0
+    (subst (λ (z : Content g.row.K.Denot g.row.V.Denot). IfSome c.look_up.result.1 (λ v. search_of order (keys_of z) c.args.key ≡ Ok c.look_up.result.0)) is c.look_up.ensures.found)
+    (subst (λ (z : Content g.row.K.Denot g.row.V.Denot). IfSome c.look_up.result.1 (λ v. slice_get (vals_of z) c.look_up.result.0 ≡ Some v)) is c.look_up.ensures.value)
+    (subst (λ (z : Content g.row.K.Denot g.row.V.Denot). c.look_up.result.1 ≡ None → search_of order (keys_of z) c.args.key ≡ Err c.look_up.result.0) is c.look_up.ensures.absent)
+
+pub returns-clause-place : goal.returns-clause-place
+returns-clause-place g c = λ es slot. (told g c es slot).0
+
+pub returns-clause-value : goal.returns-clause-value
+returns-clause-value g c = λ es slot. (told g c es slot).1

@@ -1,0 +1,57 @@
+use Rattle.std.proofs.Common.{◌-◌, ◌<◌, true, false, get_or, ap, sym, ◌∙◌, inl, inr, arith}
+use Rattle.std.proofs.lemmas.Bool.{false≢true}
+use Rattle.std.proofs.lemmas.Bool.Decides.{eqb_tells}
+use Rattle.std.specs.Ordering.{is_lt}
+use Rattle.bforest_nodes.proofs.Bounds.{less-at, less-before, scan-before, scan-here, scan-within, told-ge, told-lt}
+use Rattle.bforest_nodes.proofs.comparator.lower_bound.Goals.{then-len-eq0-via-then-len-eq0, then-len-eq0-via-else-len-eq0+then-ge}
+use Rattle.bforest_nodes.proofs.comparator.lower_bound.Goals as goal
+
+pub returns-then-len-eq0-clause-count : goal.returns-then-len-eq0-clause-count
+returns-then-len-eq0-clause-count g c = λ sorted.
+    let cmp = g.K.Ord.cmp in
+    less-at cmp g.met.K.Ord.total c.args.row.now c.args.len c.args.k c.requires sorted 0 (omega arith) (λ j d low. absurd (omega (arith, low)))
+    (λ d some. elim c.then-len-eq0.branch [
+      | then-len-eq0-via-then-len-eq0 w ↦ (let none = w.if-len-eq0.true in absurd (omega (arith, some, none)))
+      | then-len-eq0-via-else-len-eq0+then-ge w ↦ told-ge cmp g.K.PartialOrd.partial_cmp g.met.K.Ord.matches_partial_cmp c.args.row.now 0 w.index-row-0.result c.args.k (omega (arith, some, c.requires)) w.index-row-0.is true (sym w.if-ge.true ∙ w.ge.ensures) d
+    ])
+
+pub returns-then-lt-clause-count : goal.returns-then-lt-clause-count
+returns-then-lt-clause-count g c = λ sorted.
+    let cmp = g.K.Ord.cmp in
+    let row = c.args.row.now in
+    let len = c.args.len in
+    let some : 0 < len = let ne = c.if-len-eq0.false in omega (arith, ne) in
+    let last = told-lt cmp g.K.PartialOrd.partial_cmp g.met.K.Ord.matches_partial_cmp row (len - 1) c.index-row-len.result c.args.k (omega (arith, some, c.requires)) c.index-row-len.is true (sym c.if-lt.true ∙ c.lt.ensures) in
+    less-at cmp g.met.K.Ord.total row len c.args.k c.requires sorted len (omega arith)
+    (λ j d low. elim (eqb_tells j (len - 1)) [
+      | inl w ↦ ap (λ z. is_lt (cmp (get_or row z d) c.args.k)) w.1 ∙ last d
+      | inr w ↦ less-before cmp g.met.K.Ord.total row len c.args.k c.requires sorted (len - 1) j d (let ne = w.1 in omega (arith, ne, low)) (omega (arith, some)) (last d)
+    ])
+    (λ d bad. absurd (omega (arith, bad)))
+
+pub returns-clause-within : goal.returns-clause-within
+returns-clause-within g c =
+    let cmp = g.K.Ord.cmp in
+    let row = c.args.row.now in
+    let len = c.args.len in
+    let some : 0 < len = let ne = c.if-len-eq0.false in omega (arith, ne) in
+    let first = told-ge cmp g.K.PartialOrd.partial_cmp g.met.K.Ord.matches_partial_cmp row 0 c.index-row-0.result c.args.k (omega (arith, some, c.requires)) c.index-row-0.is false (sym c.if-ge.false ∙ c.ge.ensures) in
+    let last = told-lt cmp g.K.PartialOrd.partial_cmp g.met.K.Ord.matches_partial_cmp row (len - 1) c.index-row-len.result c.args.k (omega (arith, some, c.requires)) c.index-row-len.is false (sym c.if-lt.false ∙ c.lt.ensures) in
+    let r = c.first_not_less.ensures in
+    let less = scan-within (λ x. is_lt (cmp x c.args.k)) true false (λ e. false≢true (sym e)) row len c.first_not_less.result c.requires some first last r.before r.here c.args.k in
+    omega (arith, less)
+
+pub returns-clause-count : goal.returns-clause-count
+returns-clause-count g c = λ sorted.
+    let cmp = g.K.Ord.cmp in
+    let row = c.args.row.now in
+    let len = c.args.len in
+    let some : 0 < len = let ne = c.if-len-eq0.false in omega (arith, ne) in
+    let first = told-ge cmp g.K.PartialOrd.partial_cmp g.met.K.Ord.matches_partial_cmp row 0 c.index-row-0.result c.args.k (omega (arith, some, c.requires)) c.index-row-0.is false (sym c.if-ge.false ∙ c.ge.ensures) in
+    let last = told-lt cmp g.K.PartialOrd.partial_cmp g.met.K.Ord.matches_partial_cmp row (len - 1) c.index-row-len.result c.args.k (omega (arith, some, c.requires)) c.index-row-len.is false (sym c.if-lt.false ∙ c.lt.ensures) in
+    let r = c.first_not_less.ensures in
+    let test = λ (x : g.row.K.Denot). is_lt (cmp x c.args.k) in
+    let less = scan-within test true false (λ e. false≢true (sym e)) row len c.first_not_less.result c.requires some first last r.before r.here c.args.k in
+    less-at cmp g.met.K.Ord.total row len c.args.k c.requires sorted c.first_not_less.result (omega (arith, less))
+    (scan-before test true false (λ e. false≢true (sym e)) row len c.first_not_less.result c.requires some first last r.before r.here)
+    (scan-here test true false (λ e. false≢true (sym e)) row len c.first_not_less.result c.requires some first last r.before r.here)
