@@ -70,7 +70,8 @@ pub trait Comparator<K: Copy> {
     ghost total: { (c : Self) → IsTotalOrder (order c) };
 }
 
-/// The order of the keys themselves. Its search compares with each key of the slice once, and then with one of them once more.
+/// The order of the keys themselves. Its search in a slice compares with each key once, and then with one of them once more. In a node's
+/// row it compares with the first key and the last that counts, and only between them with all keys of the row but these two.
 impl<K: Copy + Ord> Comparator<K> for () {
     ghost order = { λ _. K.cmp };
 
