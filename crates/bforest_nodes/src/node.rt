@@ -223,9 +223,11 @@ impl<K: Copy, V: Copy, const N: usize> NodeData<K, V, N> {
     pub fn look_up<C: Comparator<K>>(&self, key: K, comp: &C) -> (usize, Option<V>)
         requires leaf { IsLeaf self.now }
         requires sorted { IsStrictlySortedBy (C.order comp.now) (keys_of self.now) }
-        ensures found { IfSome result.1 (λ v. search_of (C.order comp.now) (keys_of self.now) key ≡ Ok result.0) }
+        ensures found { IfSome result.1
+            (λ v. search_of (C.order comp.now) (keys_of self.now) key ≡ Ok result.0) }
         ensures value { IfSome result.1 (λ v. slice_get (vals_of self.now) result.0 ≡ Some v) }
-        ensures absent { result.1 ≡ None → search_of (C.order comp.now) (keys_of self.now) key ≡ Err result.0 }
+        ensures absent { result.1 ≡ None
+            → search_of (C.order comp.now) (keys_of self.now) key ≡ Err result.0 }
         ensures most { result.0 ≤ 255 }
     {
         match &self.state {
