@@ -113,7 +113,7 @@ module _ {K X : Type 0} where
     pub account : Gives (forest_sizes f h) (forest_sizes f' o) f f'
     pub spot : IsSpot f' o path' p
 
-  module _ (most : ℕ) (f f' : Forest K X) (n p : ℕ) (path path' : Path K X most) (union : IsUnion most f) (on : StandsOn f n path p) where
+  module _ (most : ℕ) (f f' : Forest K X) (n p : ℕ) (path path' : Path K X most) (on : StandsOn f n path p) where
     abbrev es : List (K × X)
     es = list_under f n
 
@@ -125,7 +125,7 @@ module _ {K X : Type 0} where
     taken o changes gv at same last ended end none =
         let list : es ≡ list_at f n = sym (list-root f n on.root_is) in
         let sizes : ss ≡ sizes_at f n = sym (sizes-root f n on.root_is) in
-        let low = on-within most f n path p union on in
+        let low = on-within f n path p on in
         let now = sizes-cut most f f' n (remove es p) (shrink most p ss) o changes none in
         record {
           union = union-cut most f f' n (remove es p) (shrink most p ss) o changes ended;
@@ -143,14 +143,14 @@ module _ {K X : Type 0} where
         go (Some r') at last end low = at
 
   -- a removal at a path of a handle
-  pub taken-at : (most : ℕ) (f f' : Forest K X) (h : Option ℕ) (path path' : Path K X most) (o : Option ℕ) → IsUnion most f → (at : OnSpot f h path) →
+  pub taken-at : (most : ℕ) (f f' : Forest K X) (h : Option ℕ) (path path' : Path K X most) (o : Option ℕ) (at : OnSpot f h path) →
       ((e : OnEntry f path) → IfSome o (λ r'. Changes most f f' e.root r' (remove (list_under f e.root) e.place) (shrink most e.place (sizes_under f e.root)))) →
       ((e : OnEntry f path) → GivesNodes (sizes_under f e.root) (shrink most e.place (sizes_under f e.root)) f f') → ((e : OnEntry f path) → IfSome o (λ r'. StandsAt f' r' path' e.place)) →
       ((e : OnEntry f path) → IfSome o (λ r'. (r' ≡ e.root) ↔ (length (shrink most e.place (sizes_under f e.root)) ≡ length (sizes_under f e.root)))) →
       ((e : OnEntry f path) → (o ≡ None) ↔ (length (list_under f e.root) ≡ 1)) → (o ≡ None → (e : OnEntry f path) → Ends most f f' e.root) → (o ≡ None → IsAtEnd path') → (o ≡ None → (e : OnEntry f path) → shrink most e.place (sizes_under f e.root) ≡ []) →
       IsTaken most f f' h at.place o path'
-  taken-at most f f' h path path' o union at removed account stands same last ended end none =
-      let t = spot-on f path most h at.place union at.spot at.within in
+  taken-at most f f' h path path' o at removed account stands same last ended end none =
+      let t = spot-on f path h at.place at.spot at.within in
       let e : OnEntry f path = record { root = t.0; place = at.place; on = t.2 } in
       subst (λ (z : Option ℕ). IsTaken most f f' z at.place o path') (sym t.1)
-      (taken most f f' t.0 at.place path path' union t.2 o (removed e) (account e) (stands e) (same e) (last e) (λ z. ended z e) end (λ z. none z e))
+      (taken most f f' t.0 at.place path path' t.2 o (removed e) (account e) (stands e) (same e) (last e) (λ z. ended z e) end (λ z. none z e))

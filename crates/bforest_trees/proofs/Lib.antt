@@ -5,7 +5,6 @@ pub mod Measures
 pub mod After
 pub mod Reading
 pub mod Inserting
-pub mod Rooms
 pub mod Reserving
 pub mod Accounts
 pub mod Cutting

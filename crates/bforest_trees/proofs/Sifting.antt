@@ -89,7 +89,7 @@ module _ {F K X : Type 0} (most : ℕ) (step : F → K → X → Bool → X → 
   sifting-first path union s ready = record {
     place = 0;
     changes = changes-none most old first union s.root_is;
-    at = on-at most old first path 0 union s;
+    at = on-at old first path 0 s;
     ready = ready;
     rest = λ ks us r. r;
     gives = gives-none old (sizes_under old first);
@@ -128,7 +128,7 @@ module _ {F K X : Type 0} (most : ℕ) (step : F → K → X → Bool → X → 
 
       -- the path stands at it
       pub sifting-stands : StandsOn now root path s.place
-      sifting-stands = at-on most now root path s.place s.changes.union s.at (slice_get_within (list_under now root) s.place (k, v) (sym here))
+      sifting-stands = at-on now root path s.place s.at (slice_get_within (list_under now root) s.place (k, v) (sym here))
 
       -- one answer leads to what is asked of the rest
       asked_on : (stays : Bool) (w : X) (f' : F) → step f k v stays w f' → (xs' : List (K × X)) (sizes' : List (List ℕ)) (place' : ℕ) → place' ≡ (if stays then suc s.place else s.place) → sizes' ≡ (if stays then sizes_under now root else shrink most s.place (sizes_under now root)) → drop place' xs' ≡ drop (suc s.place) (list_under now root) → ((ks : List (K × X)) → take place' xs' ++ ks ≡ take s.place (list_under now root) ++ (if stays then (k, w) ∷ ks else ks)) →

@@ -4,7 +4,7 @@ use Rattle.bforest_trees.specs.Forest.{Forest, IsLive, list_of}
 use Rattle.bforest_trees.specs.Place.{AtSpot, IsSpot}
 use Rattle.bforest_core.proofs.walks.Standing.{at-on, on-points, path-ended, placed-points}
 use Rattle.bforest_core.specs.Paths.{IsAtEnd, IsPlaced, PointsTo, StandsOn, list_under}
-use Rattle.bforest_core.specs.Trees.{IsUnion, tree_of}
+use Rattle.bforest_core.specs.Trees.{tree_of}
 use Rattle.bforest_core.specs.declared.path.Path.{Path}
 use Rattle.bforest_nodes.specs.Entries.{is_present, place}
 use Rattle.std.proofs.Common.{Bool, None, Option, Some, ap, false, length, refl, subst, sym, true, ◌<◌, ◌≡◌, ℕ, arith}
@@ -25,17 +25,17 @@ module _ {K X : Type 0} where
     }
 
     -- a path in front of the end is on an entry of the handle's tree
-    pub spot-on : (most : ℕ) (h : Option ℕ) (p : ℕ) → IsUnion most f → IsSpot f h path p → p < length (list_of f h) → (n : ℕ) × (h ≡ Some n) × StandsOn f n path p
-    spot-on most None p union s low = absurd (omega (arith, low))
-    spot-on most (Some n) p union s low =
+    pub spot-on : (h : Option ℕ) (p : ℕ) → IsSpot f h path p → p < length (list_of f h) → (n : ℕ) × (h ≡ Some n) × StandsOn f n path p
+    spot-on None p s low = absurd (omega (arith, low))
+    spot-on (Some n) p s low =
         let same = ap length (list-root f n s.root_is) in
-        (n, refl, at-on most f n path p union s (omega (arith, low, same)))
+        (n, refl, at-on f n path p s (omega (arith, low, same)))
 
   -- a search ends where a key is, or at a place for it
-  pub found-points : {m : ℕ} (most : ℕ) (cmp : K → K → Ordering) (f : Forest K X) (n : ℕ) (path : Path K X m) (k : K) → IsUnion most f →
+  pub found-points : {m : ℕ} (cmp : K → K → Ordering) (f : Forest K X) (n : ℕ) (path : Path K X m) (k : K) →
       (is_present cmp (list_under f n) k ≡ true → StandsOn f n path (place cmp (list_under f n) k)) → (is_present cmp (list_under f n) k ≡ false → IsPlaced f n path (place cmp (list_under f n) k)) → PointsTo f n path (place cmp (list_under f n) k)
-  found-points most cmp f n path k union here gone = go (is_present cmp (list_under f n) k) refl
+  found-points cmp f n path k here gone = go (is_present cmp (list_under f n) k) refl
     where
       go : (b : Bool) → is_present cmp (list_under f n) k ≡ b → PointsTo f n path (place cmp (list_under f n) k)
-      go true e = on-points most f n path (place cmp (list_under f n) k) union (here e)
-      go false e = placed-points most f n path (place cmp (list_under f n) k) union (gone e)
+      go true e = on-points f n path (place cmp (list_under f n) k) (here e)
+      go false e = placed-points f n path (place cmp (list_under f n) k) (gone e)

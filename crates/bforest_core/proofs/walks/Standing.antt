@@ -75,43 +75,16 @@ module _ {K X : Type 0} where
             )
       ]
 
-module _ {K V : Type 0} {n : ℕ} (most : ℕ) (table : Table K V) (root : ℕ) (path : Path K V n) (place : ℕ) (union : IsUnion most table) where
+module _ {K V : Type 0} {n : ℕ} (table : Table K V) (root : ℕ) (path : Path K V n) (place : ℕ) where
   -- a path on an entry has a node
   pub on-some : StandsOn table root path place → path.size ≢ 0
   on-some on none = omega (arith, none, on.stands.size_is)
-
-  -- it is in the tree of its root
-  pub on-root : StandsOn table root path place → path_root path ≡ root
-  on-root on =
-      let r = rooted most table root union on.root_is in
-      sym (root-stands most (tree_of table.nodes root) path.node path.entry path.size place r.fit on.stands) ∙ r.root_is
 
   -- its place is in front of the end
   pub on-within : StandsOn table root path place → place < length (list_under table root)
   on-within on =
       let at = on.stands.leaf in
       omega (arith, at.within, at.place_is, ap (λ z. length (flat z)) at.row_is, ap length (flat-append at.before (node (leaf_of path) at.entries ∷ at.after)), length-append (flat at.before) (at.entries ++ flat at.after), length-append at.entries (flat at.after))
-
-  -- a path is at one place alone, which is computed from its leaf and its index there
-  pub on-spot : StandsOn table root path place → spot table root path ≡ place
-  on-spot on =
-      let tree = tree_of table.nodes root in
-      let at = on.stands.leaf in
-      let r = rooted most table root union on.root_is in
-      let m = leaf_of path in
-      let once : count m (numbers tree.leaves) ≤ 1 = omega (arith, r.apart m, count-append m (numbers_of tree) table.chain, count-append m (numbers tree.leaves) (flat_map numbers tree.above)) in
-      let some : (path.size == 0) ≡ false = elim (eqb_tells path.size 0) [ inl w ↦ absurd (on-some on w.1) | inr w ↦ w.0 ] in
-      (λ j. if some j then length (list_under table root) else place_in tree.leaves m (index_of path))
-      ∙ ap (λ z. place_in z m (index_of path)) at.row_is
-      ∙ place_by at.before m at.entries at.after (index_of path) (subst (λ (z : List (LevelNode K V)). count m (numbers z) ≤ 1) at.row_is once)
-      ∙ sym at.place_is
-
-  -- the end too
-  pub at-spot : StandsAt table root path place → spot table root path ≡ place
-  at-spot s = elim (eqb_tells path.size 0) [
-    | inl w ↦ (λ j. if w.0 j then length (list_under table root) else place_in (tree_of table.nodes root).leaves (leaf_of path) (index_of path)) ∙ sym (at_end path.node path.entry (tree_of table.nodes root) place path.size w.1 s.at)
-    | inr w ↦ on-spot (record { root_is = s.root_is; stands = at_entry path.node path.entry (tree_of table.nodes root) place path.size w.1 s.at })
-  ]
 
   -- a path that stands on an entry is at its place
   pub on-at : StandsOn table root path place → StandsAt table root path place
@@ -129,3 +102,32 @@ module _ {K V : Type 0} {n : ℕ} (most : ℕ) (table : Table K V) (root : ℕ) 
 
   pub placed-points : IsPlaced table root path place → PointsTo table root path place
   placed-points p = record { root_is = p.root_is; points = p.at.points }
+
+-- in a union of trees
+module _ {K V : Type 0} {n : ℕ} (most : ℕ) (table : Table K V) (root : ℕ) (path : Path K V n) (place : ℕ) (union : IsUnion most table) where
+  -- it is in the tree of its root
+  pub on-root : StandsOn table root path place → path_root path ≡ root
+  on-root on =
+      let r = rooted most table root union on.root_is in
+      sym (root-stands most (tree_of table.nodes root) path.node path.entry path.size place r.fit on.stands) ∙ r.root_is
+
+  -- a path is at one place alone, which is computed from its leaf and its index there
+  pub on-spot : StandsOn table root path place → spot table root path ≡ place
+  on-spot on =
+      let tree = tree_of table.nodes root in
+      let at = on.stands.leaf in
+      let r = rooted most table root union on.root_is in
+      let m = leaf_of path in
+      let once : count m (numbers tree.leaves) ≤ 1 = omega (arith, r.apart m, count-append m (numbers_of tree) table.chain, count-append m (numbers tree.leaves) (flat_map numbers tree.above)) in
+      let some : (path.size == 0) ≡ false = elim (eqb_tells path.size 0) [ inl w ↦ absurd (on-some table root path place on w.1) | inr w ↦ w.0 ] in
+      (λ j. if some j then length (list_under table root) else place_in tree.leaves m (index_of path))
+      ∙ ap (λ z. place_in z m (index_of path)) at.row_is
+      ∙ place_by at.before m at.entries at.after (index_of path) (subst (λ (z : List (LevelNode K V)). count m (numbers z) ≤ 1) at.row_is once)
+      ∙ sym at.place_is
+
+  -- the end too
+  pub at-spot : StandsAt table root path place → spot table root path ≡ place
+  at-spot s = elim (eqb_tells path.size 0) [
+    | inl w ↦ (λ j. if w.0 j then length (list_under table root) else place_in (tree_of table.nodes root).leaves (leaf_of path) (index_of path)) ∙ sym (at_end path.node path.entry (tree_of table.nodes root) place path.size w.1 s.at)
+    | inr w ↦ on-spot (record { root_is = s.root_is; stands = at_entry path.node path.entry (tree_of table.nodes root) place path.size w.1 s.at })
+  ]

@@ -26,7 +26,7 @@ normalize-requires g c =
     let cmp = g.C.Comparator.order c.args.comp.now in
     let p = c.self.inside.pool in
     let n = c.in_ok-root.root in
-    let points = found-points g.row.N cmp p n c.find-value.new.self c.args.key c.self.invariant c.find-value.ensures.present c.find-value.ensures.absent in
+    let points = found-points cmp p n c.find-value.new.self c.args.key c.find-value.ensures.present c.find-value.ensures.absent in
     (search rules, (search rules, (c.self.invariant, (λ some. record { root = n; place = place cmp (flat (tree_of p.nodes n).leaves) c.args.key; to = points }))))
 
 pub returns-clause-value : goal.returns-clause-value
@@ -43,7 +43,7 @@ returns-clause-spot g c =
     let new = c.normalize.new.self in
     let handle : c.args.handle ≡ Some n = sym c.expand.ensures.value ∙ c.in_ok-root.was in
     let s = seen-as p c.args.self.now c.args.handle n c.self.view_is handle c.requires.live in
-    let points = found-points g.row.N cmp p n c.find-value.new.self c.args.key c.self.invariant c.find-value.ensures.present c.find-value.ensures.absent in
+    let points = found-points cmp p n c.find-value.new.self c.args.key c.find-value.ensures.present c.find-value.ensures.absent in
     let at = c.normalize.ensures.stands (record { root = n; place = place cmp (flat (tree_of p.nodes n).leaves) c.args.key; to = points }) in
     subst (λ (z : Forest g.row.K.Denot g.row.V.Denot). IsSpot z c.args.handle new (place cmp (list_of c.args.self.now c.args.handle) c.args.key)) c.self.view_is
     (subst (λ (h : Option ℕ). IsSpot p h new (place cmp (list_of c.args.self.now c.args.handle) c.args.key)) (sym handle)

@@ -36,7 +36,7 @@ returns-clause-spot g c =
     let new = c.alloc_node.new.self in
     let path = c.first.new.self in
     let at = c.in_ok-root.ensures.planted c.self.invariant in
-    rw c.some.ensures.node (on-at g.row.N new c.in_ok-root.root path 0 at.changes.union c.first.ensures.stands)
+    rw c.some.ensures.node (on-at new c.in_ok-root.root path 0 c.first.ensures.stands)
 
 -- the error is that of the node
 err_at : (g : Over) (c : goal.After-from_residual g) → c.from_residual.result ≡ Err c.in_err-root.field-0.0

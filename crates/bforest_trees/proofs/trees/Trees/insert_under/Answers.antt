@@ -64,7 +64,7 @@ returns-in-Some-clause-spot g c =
     let here = present-some cmp (flat (tree_of p.nodes n).leaves) k c.in-Some.old (sym c.find.ensures.value ∙ c.in-Some.is) in
     let at = place cmp (flat (tree_of p.nodes n).leaves) k in
     let e : OnEntry p c.find.new.self = record { root = n; place = at; on = c.find.ensures.present here } in
-    rw (c.requires.root, ← c.self.view_is, list-root p n root) (on-at g.row.N c.set_value.new.pool n c.find.new.self at (c.set_value.ensures.written e).union (c.set_value.ensures.stands e))
+    rw (c.requires.root, ← c.self.view_is, list-root p n root) (on-at c.set_value.new.pool n c.find.new.self at (c.set_value.ensures.stands e))
 
 pub insert-requires : goal.insert-requires
 insert-requires g c =
@@ -83,7 +83,7 @@ normalize-requires g c =
     let k = c.args.key in
     let gone = absent-none cmp (flat (tree_of p.nodes n).leaves) k (sym c.find.ensures.value ∙ c.in_default.is) in
     let at = place cmp (flat (tree_of p.nodes n).leaves) k in
-    let points = placed-points g.row.N p n c.find.new.self at c.self.invariant (c.find.ensures.absent gone) in
+    let points = placed-points p n c.find.new.self at (c.find.ensures.absent gone) in
     (search rules, (search rules, (rw c.in-Err.ensures.refused_pool c.self.invariant, (λ some. record { root = n; place = at; to = rw (c.in-Err.ensures.refused_pool, c.in-Err.ensures.refused_path) points }))))
 
 pub returns-in-Err-clause-inserted : goal.returns-in-Err-clause-inserted
@@ -116,7 +116,7 @@ returns-in-Err-clause-spot g c =
     let root = live-root p n (rw (← c.self.view_is) at c.requires.live) in
     let gone = absent-none cmp (flat (tree_of p.nodes n).leaves) k (sym c.find.ensures.value ∙ c.in_default.is) in
     let at = place cmp (flat (tree_of p.nodes n).leaves) k in
-    let points = placed-points g.row.N p n c.find.new.self at c.self.invariant (c.find.ensures.absent gone) in
+    let points = placed-points p n c.find.new.self at (c.find.ensures.absent gone) in
     let spot = c.normalize.ensures.stands (record { root = n; place = at; to = rw (c.in-Err.ensures.refused_pool, c.in-Err.ensures.refused_path) points }) in
     rw (c.requires.root, c.in-Err.ensures.refused_pool, ← c.self.view_is, list-root p n root) (rw c.in-Err.ensures.refused_pool at spot)
 
@@ -158,4 +158,4 @@ returns-clause-spot g c =
     let gone = absent-none cmp (flat (tree_of p.nodes n).leaves) k (sym c.find.ensures.value ∙ c.in_default.is) in
     let at = place cmp (flat (tree_of p.nodes n).leaves) k in
     let placing : Placing p c.find.new.self = record { root = n; place = at; placed = c.find.ensures.absent gone } in
-    rw (c.some.ensures.node, ← c.self.view_is, list-root p n root) (on-at g.row.N c.insert.new.pool c.in-Ok.root c.insert.new.self at (c.in-Ok.ensures.inserted placing).union (c.in-Ok.ensures.stands placing))
+    rw (c.some.ensures.node, ← c.self.view_is, list-root p n root) (on-at c.insert.new.pool c.in-Ok.root c.insert.new.self at (c.in-Ok.ensures.stands placing))

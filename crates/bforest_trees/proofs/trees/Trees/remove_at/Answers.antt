@@ -9,14 +9,14 @@ use Rattle.std.proofs.Common.{rules}
 pub remove-requires : goal.remove-requires
 remove-requires g c =
     let at : OnSpot c.self.inside.pool c.args.handle.now c.args.path.now = rw (← c.self.view_is) at c.requires.stands in
-    let t = spot-on c.self.inside.pool c.args.path.now g.row.N c.args.handle.now at.place c.self.invariant at.spot at.within in
+    let t = spot-on c.self.inside.pool c.args.path.now c.args.handle.now at.place at.spot at.within in
     (search rules, (search rules, (c.self.invariant, record { root = t.0; place = at.place; on = t.2 })))
 
 -- what the removal leaves
 taken : (g : Over) (c : After-packed g) (at : OnSpot c.self.inside.pool c.args.handle.now c.args.path.now) → IsTaken g.row.N c.self.inside.pool c.remove.new.pool c.args.handle.now at.place c.remove.result c.remove.new.self
 taken g c at =
     let told = c.remove.ensures in
-    taken-at g.row.N c.self.inside.pool c.remove.new.pool c.args.handle.now c.args.path.now c.remove.new.self c.remove.result c.self.invariant at told.removed told.account told.stands told.same_root told.last told.ended told.end told.none_left
+    taken-at g.row.N c.self.inside.pool c.remove.new.pool c.args.handle.now c.args.path.now c.remove.new.self c.remove.result at told.removed told.account told.stands told.same_root told.last told.ended told.end told.none_left
 
 pub invariant_of-self : goal.invariant_of-self
 invariant_of-self g c = (taken g c (rw (← c.self.view_is) at c.requires.stands)).union
