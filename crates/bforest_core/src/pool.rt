@@ -134,7 +134,7 @@ impl<K: Copy, V: Copy, const N: usize> NodePool<K, V, N> {
 
     /// Makes sure that `n` nodes lie free: where fewer do, adds slots until exactly `n` do, by one growth of the table.
     ///
-    /// Where `n` nodes lie free already, it changes nothing and takes no memory.
+    /// No tree changes. Where `n` nodes lie free already, it changes nothing and takes no memory.
     ///
     /// # Errors
     ///

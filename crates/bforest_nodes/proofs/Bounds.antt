@@ -12,10 +12,16 @@ use Rattle.std.specs.declared.cmp.Ordering.{Ordering}
 use Rattle.bforest_nodes.specs.Search.{count_less, count_up_to}
 use Rattle.bforest_nodes.proofs.Searched.{before, count_less-from_parts, count_up_to-no, count_up_to-yes, greater, not_before}
 
--- what a scan of a row finds is among the first keys where the first of these answers low and the last high
+-- an index of one of the first keys: those before it answer low, and it answers high
+pub record Among {K : Type 0} (test : K → Bool) (low high : Bool) (row : List K) (len at : ℕ) : Type 0 where
+  pub within : at < len
+  pub before : (j : ℕ) (d : K) → j < at → test (get_or row j d) ≡ low
+  pub here : (d : K) → at < len → test (get_or row at d) ≡ high
+
+-- what a scan of a row finds is such an index, where the first of these keys answers low and the last high
 module _ {K : Type 0} (test : K → Bool) (low high : Bool) (apart : low ≢ high) (row : List K) (len r : ℕ) (within : len ≤ length row) (some : 0 < len) (first : (d : K) → test (get_or row 0 d) ≡ low) (last : (d : K) → test (get_or row (len - 1) d) ≡ high)
     (before : (j : ℕ) (d : K) → 0 < j → j < r → test (get_or row j d) ≡ low) (here : (d : K) → suc r ≢ length row → test (get_or row r d) ≡ high) where
-  pub scan-within : K → r < len
+  scan-within : K → r < len
   scan-within d = elim (cases_lt r len) [
     | inl less ↦ less
     | inr past ↦ absurd (elim (eqb_tells len 1) [
@@ -24,17 +30,20 @@ module _ {K : Type 0} (test : K → Bool) (low high : Bool) (apart : low ≢ hig
     ])
   ]
 
-  pub scan-before : (j : ℕ) (d : K) → j < r → test (get_or row j d) ≡ low
+  scan-before : (j : ℕ) (d : K) → j < r → test (get_or row j d) ≡ low
   scan-before j d less = elim (eqb_tells j 0) [
     | inl w ↦ ap (λ z. test (get_or row z d)) w.1 ∙ first d
     | inr w ↦ (let ne = w.1 in before j d (omega (arith, ne)) less)
   ]
 
-  pub scan-here : (d : K) → r < len → test (get_or row r d) ≡ high
+  scan-here : (d : K) → r < len → test (get_or row r d) ≡ high
   scan-here d less = elim (eqb_tells (suc r) (length row)) [
     | inl w ↦ (let e = w.1 in ap (λ z. test (get_or row z d)) (omega (arith, e, less, within)) ∙ last d)
     | inr w ↦ here d w.1
   ]
+
+  pub among : K → Among test low high row len r
+  among d = record { within = scan-within d; before = scan-before; here = scan-here }
 
 module _ {K : Type 0} (cmp : K → K → Ordering) where
   -- the first i keys are not greater and the others are

@@ -2,7 +2,8 @@ use Rattle.std.proofs.Common.{◌-◌, ◌<◌, true, false, get_or, ap, sym, �
 use Rattle.std.proofs.lemmas.Bool.{false≢true}
 use Rattle.std.proofs.lemmas.Bool.Decides.{eqb_tells}
 use Rattle.std.specs.Ordering.{is_lt}
-use Rattle.bforest_nodes.proofs.Bounds.{less-at, less-before, scan-before, scan-here, scan-within, told-ge, told-lt}
+use Rattle.bforest_nodes.proofs.Bounds.{Among, among, less-at, less-before, told-ge, told-lt}
+use Rattle.bforest_nodes.proofs.comparator.lower_bound.Given.{Over}
 use Rattle.bforest_nodes.proofs.comparator.lower_bound.Goals.{then-len-eq0-via-then-len-eq0, then-len-eq0-via-else-len-eq0+then-ge}
 use Rattle.bforest_nodes.proofs.comparator.lower_bound.Goals as goal
 
@@ -29,29 +30,24 @@ returns-then-lt-clause-count g c = λ sorted.
     ])
     (λ d bad. absurd (omega (arith, bad)))
 
-pub returns-clause-within : goal.returns-clause-within
-returns-clause-within g c =
+-- what the scan found is among the keys that count
+found : (g : Over) (c : goal.After-first_not_less g) → Among (λ x. is_lt (g.K.Ord.cmp x c.args.k)) true false c.args.row.now c.args.len c.first_not_less.result
+found g c =
     let cmp = g.K.Ord.cmp in
+    let partial = g.K.PartialOrd.partial_cmp in
+    let matches = g.met.K.Ord.matches_partial_cmp in
     let row = c.args.row.now in
     let len = c.args.len in
     let some : 0 < len = let ne = c.if-len-eq0.false in omega (arith, ne) in
-    let first = told-ge cmp g.K.PartialOrd.partial_cmp g.met.K.Ord.matches_partial_cmp row 0 c.index-row-0.result c.args.k (omega (arith, some, c.requires)) c.index-row-0.is false (sym c.if-ge.false ∙ c.ge.ensures) in
-    let last = told-lt cmp g.K.PartialOrd.partial_cmp g.met.K.Ord.matches_partial_cmp row (len - 1) c.index-row-len.result c.args.k (omega (arith, some, c.requires)) c.index-row-len.is false (sym c.if-lt.false ∙ c.lt.ensures) in
+    let first = told-ge cmp partial matches row 0 c.index-row-0.result c.args.k (omega (arith, some, c.requires)) c.index-row-0.is false (sym c.if-ge.false ∙ c.ge.ensures) in
+    let last = told-lt cmp partial matches row (len - 1) c.index-row-len.result c.args.k (omega (arith, some, c.requires)) c.index-row-len.is false (sym c.if-lt.false ∙ c.lt.ensures) in
     let r = c.first_not_less.ensures in
-    let less = scan-within (λ x. is_lt (cmp x c.args.k)) true false (λ e. false≢true (sym e)) row len c.first_not_less.result c.requires some first last r.before r.here c.args.k in
-    omega (arith, less)
+    among (λ (x : g.row.K.Denot). is_lt (cmp x c.args.k)) true false (λ e. false≢true (sym e)) row len c.first_not_less.result c.requires some first last r.before r.here c.args.k
+
+pub returns-clause-within : goal.returns-clause-within
+returns-clause-within g c = let f = found g c in omega (arith, f.within)
 
 pub returns-clause-count : goal.returns-clause-count
 returns-clause-count g c = λ sorted.
-    let cmp = g.K.Ord.cmp in
-    let row = c.args.row.now in
-    let len = c.args.len in
-    let some : 0 < len = let ne = c.if-len-eq0.false in omega (arith, ne) in
-    let first = told-ge cmp g.K.PartialOrd.partial_cmp g.met.K.Ord.matches_partial_cmp row 0 c.index-row-0.result c.args.k (omega (arith, some, c.requires)) c.index-row-0.is false (sym c.if-ge.false ∙ c.ge.ensures) in
-    let last = told-lt cmp g.K.PartialOrd.partial_cmp g.met.K.Ord.matches_partial_cmp row (len - 1) c.index-row-len.result c.args.k (omega (arith, some, c.requires)) c.index-row-len.is false (sym c.if-lt.false ∙ c.lt.ensures) in
-    let r = c.first_not_less.ensures in
-    let test = λ (x : g.row.K.Denot). is_lt (cmp x c.args.k) in
-    let less = scan-within test true false (λ e. false≢true (sym e)) row len c.first_not_less.result c.requires some first last r.before r.here c.args.k in
-    less-at cmp g.met.K.Ord.total row len c.args.k c.requires sorted c.first_not_less.result (omega (arith, less))
-    (scan-before test true false (λ e. false≢true (sym e)) row len c.first_not_less.result c.requires some first last r.before r.here)
-    (scan-here test true false (λ e. false≢true (sym e)) row len c.first_not_less.result c.requires some first last r.before r.here)
+    let f = found g c in
+    less-at g.K.Ord.cmp g.met.K.Ord.total c.args.row.now c.args.len c.args.k c.requires sorted c.first_not_less.result (omega (arith, f.within)) f.before f.here

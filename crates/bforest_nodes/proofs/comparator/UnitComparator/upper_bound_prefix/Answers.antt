@@ -2,7 +2,8 @@ use Rattle.std.proofs.Common.{◌-◌, ◌<◌, true, false, get_or, ap, sym, �
 use Rattle.std.proofs.lemmas.Bool.{false≢true}
 use Rattle.std.proofs.lemmas.Bool.Decides.{eqb_tells}
 use Rattle.std.specs.Ordering.{is_gt}
-use Rattle.bforest_nodes.proofs.Bounds.{scan-before, scan-here, scan-within, told-gt, told-le, up_to-at, up_to-before}
+use Rattle.bforest_nodes.proofs.Bounds.{Among, among, told-gt, told-le, up_to-at, up_to-before}
+use Rattle.bforest_nodes.proofs.comparator.UnitComparator.upper_bound_prefix.Given.{Over}
 use Rattle.bforest_nodes.proofs.comparator.UnitComparator.upper_bound_prefix.Goals.{then-len-eq0-via-then-len-eq0, then-len-eq0-via-else-len-eq0+then-gt}
 use Rattle.bforest_nodes.proofs.comparator.UnitComparator.upper_bound_prefix.Goals as goal
 
@@ -29,17 +30,21 @@ returns-then-le g c = λ sorted.
     ])
     (λ d bad. absurd (omega (arith, bad)))
 
-pub returns : goal.returns
-returns g c = λ sorted.
+-- what the scan found is among the keys that count
+found : (g : Over) (c : goal.After-first_greater g) → Among (λ x. is_gt (g.K.Ord.cmp x c.args.k)) false true c.args.row.now c.args.len c.first_greater.result
+found g c =
     let cmp = g.K.Ord.cmp in
+    let partial = g.K.PartialOrd.partial_cmp in
+    let matches = g.met.K.Ord.matches_partial_cmp in
     let row = c.args.row.now in
     let len = c.args.len in
     let some : 0 < len = let ne = c.if-len-eq0.false in omega (arith, ne) in
-    let first = told-gt cmp g.K.PartialOrd.partial_cmp g.met.K.Ord.matches_partial_cmp row 0 c.index-row-0.result c.args.k (omega (arith, some, c.requires)) c.index-row-0.is false (sym c.if-gt.false ∙ c.gt.ensures) in
-    let last = told-le cmp g.K.PartialOrd.partial_cmp g.met.K.Ord.matches_partial_cmp row (len - 1) c.index-row-len.result c.args.k (omega (arith, some, c.requires)) c.index-row-len.is false (sym c.if-le.false ∙ c.le.ensures) in
+    let first = told-gt cmp partial matches row 0 c.index-row-0.result c.args.k (omega (arith, some, c.requires)) c.index-row-0.is false (sym c.if-gt.false ∙ c.gt.ensures) in
+    let last = told-le cmp partial matches row (len - 1) c.index-row-len.result c.args.k (omega (arith, some, c.requires)) c.index-row-len.is false (sym c.if-le.false ∙ c.le.ensures) in
     let r = c.first_greater.ensures in
-    let test = λ (x : g.row.K.Denot). is_gt (cmp x c.args.k) in
-    let less = scan-within test false true false≢true row len c.first_greater.result c.requires some first last r.before r.here c.args.k in
-    up_to-at cmp g.met.K.Ord.total row len c.args.k c.requires sorted c.first_greater.result (omega (arith, less))
-    (scan-before test false true false≢true row len c.first_greater.result c.requires some first last r.before r.here)
-    (scan-here test false true false≢true row len c.first_greater.result c.requires some first last r.before r.here)
+    among (λ (x : g.row.K.Denot). is_gt (cmp x c.args.k)) false true false≢true row len c.first_greater.result c.requires some first last r.before r.here c.args.k
+
+pub returns : goal.returns
+returns g c = λ sorted.
+    let f = found g c in
+    up_to-at g.K.Ord.cmp g.met.K.Ord.total c.args.row.now c.args.len c.args.k c.requires sorted c.first_greater.result (omega (arith, f.within)) f.before f.here
