@@ -13,7 +13,7 @@ use std::marker::Model;
 #[derive(Drop)]
 pub struct MapIter<'a, K: Copy, V: Copy> {
     pool: &'a NodePool<K, V, 7>,
-    // At the entry that comes next.
+    // In front of the entry that comes next.
     path: Path<K, V, 7>,
 }
 
@@ -60,9 +60,6 @@ impl<'a, K: Copy, V: Copy> Iterator for MapIter<'a, K, V> {
     ghost remaining = { item_count (λ entries. entries) };
 
     fn next(&mut self) -> Option<(K, V)> {
-        let (leaf, index) = self.path.leaf_pos()?;
-        let entry = self.pool.node(leaf).entry(index);
-        self.path.next(self.pool);
-        Some(entry)
+        self.path.pass(self.pool)
     }
 }

@@ -3,7 +3,7 @@ ghost use Rattle.bforest_nodes.specs.Content.{Balances, Free, HasShape, Inner, I
 ghost use Rattle.bforest_nodes.specs.Search.{count_up_to, search_of};
 ghost use Rattle.std.specs.Borrow.{sem};
 ghost use Rattle.std.specs.List.Sorted.{IsStrictlySortedBy};
-ghost use Rattle.std.specs.Prelude.{Err, IfOk, IfSome, IsTrue, None, Some, Ok, [], if◌then◌else◌, length, nat_le, slice_get, ◌*◌, ◌+◌, ◌-◌, ◌/◌, ◌<◌, ◌^◌, ◌↔◌, ◌∷◌, ◌≡◌, ◌≤◌};
+ghost use Rattle.std.specs.Prelude.{Err, IfOk, IfSome, IsSome, IsTrue, None, Some, Ok, [], if◌then◌else◌, length, nat_le, option_map, slice_get, ◌*◌, ◌+◌, ◌-◌, ◌/◌, ◌<◌, ◌^◌, ◌↔◌, ◌∷◌, ◌≡◌, ◌≤◌};
 
 use crate::comparator::Comparator;
 use crate::entries::Entries;
@@ -303,6 +303,27 @@ impl<K: Copy, V: Copy, const N: usize> NodeData<K, V, N> {
             State::Entries(Entries { size, keys, vals }) => {
                 let len = *size as usize;
                 (keys.at(len, index), vals.at(len, index))
+            }
+            _ => unreachable!(),
+        }
+    }
+
+    /// The key and the value of a leaf's entry, or nothing where it has no entry of this index.
+    pub fn get_entry(&self, index: usize) -> Option<(K, V)>
+        requires leaf { IsLeaf self.now }
+        ensures key { option_map (λ e. e.0) result ≡ slice_get (keys_of self.now) index }
+        ensures value { option_map (λ e. e.1) result ≡ slice_get (vals_of self.now) index }
+        ensures most { IsSome result → index < 255 }
+    {
+        match &self.state {
+            State::Entries(Entries { size, keys, vals }) => {
+                let len = *size as usize;
+                if index < len {
+                    let key = keys.at(len, index);
+                    Some((key, vals.at(len, index)))
+                } else {
+                    None
+                }
             }
             _ => unreachable!(),
         }

@@ -1,31 +1,37 @@
--- Where an iterator's path stands, what is left, and a step of it.
+-- To which place an iterator's path points, what is left there, and a step of it.
 use Rattle.bforest_trees.specs.Layout.{IsReading, entries_from}
+use Rattle.bforest_core.proofs.table.Lists.{drop-read}
 use Rattle.bforest_core.proofs.walks.Backward.{at_end, at_entry}
-use Rattle.bforest_core.proofs.walks.Descent.{some_leaf}
-use Rattle.bforest_core.proofs.walks.Entered.{entry_is, leaf_slot, pair_read}
-use Rattle.bforest_core.proofs.table.Stored.{some_same}
-use Rattle.bforest_core.proofs.walks.Standing.{on-root, on-spot}
-use Rattle.bforest_core.proofs.union.Unions.{rooted}
-use Rattle.bforest_core.specs.Paths.{OnEntry, StandsAt, StandsOn, index_of, leaf_of, list_under, path_root, place_in, spot}
-use Rattle.bforest_core.specs.Place.{leaf_content}
+use Rattle.bforest_core.proofs.walks.Standing.{on-points, points-root, points-spot}
+use Rattle.bforest_core.specs.Paths.{IsAtEnd, Pointing, PointsTo, StandsAt, StandsOn, index_of, leaf_of, list_under, path_root, place_in, spot}
 use Rattle.bforest_core.specs.Table.{Table}
 use Rattle.bforest_core.specs.Trees.{IsUnion, tree_of}
 use Rattle.bforest_core.specs.declared.path.Path.{Path}
-use Rattle.bforest_nodes.specs.Content.{Content, IsLeaf, entry_count, keys_of, vals_of}
-use Rattle.std.proofs.Common.{List, None, Option, Some, [], ap, arith, drop, if◌then◌else◌, inl, inr, length, slice_get, subst, suc, sym, true, ◌==◌, ◌<◌, ◌∙◌, ◌≡◌, ◌≢◌, ℕ}
+use Rattle.std.proofs.Common.{arith, IfSome, List, None, Option, Some, [], ap, drop, if◌then◌else◌, inl, inr, length, refl, slice_get, suc, sym, true, zero, ◌==◌, ◌∙◌, ◌∷◌, ◌≡◌, ℕ}
 use Rattle.std.proofs.Math.Seq.{drop-length}
 use Rattle.std.proofs.lemmas.Bool.Decides.{eqb_tells}
-use Rattle.std.proofs.lemmas.List.{length-map}
+use Rattle.std.specs.Iterator.{MakesProgress, YieldsFirst, item_count}
+
+-- nothing is left behind the last
+past_all : {A : Type 0} (es : List A) (i : ℕ) → slice_get es i ≡ None → drop i es ≡ []
+past_all [] zero is = refl
+past_all [] (suc i) is = refl
+past_all (e ∷ es) zero is = absurd cc
+past_all (e ∷ es) (suc i) is = past_all es i is
 
 module _ {K V : Type 0} {n : ℕ} where
-  -- what is left where a path stands on an entry
+  -- what is left where a path points to a place
+  pub pointing : (table : Table K V) (root : ℕ) (path : Path K V n) (place : ℕ) → IsUnion n table → PointsTo table root path place → entries_from table path ≡ drop place (list_under table root)
+  pointing table root path place union to =
+      ap (λ r. drop (spot table r path) (list_under table r)) (points-root n table root path place union to)
+      ∙ ap (λ z. drop z (list_under table root)) (points-spot n table root path place union to)
+
+  -- where it stands on an entry
   pub standing : (table : Table K V) (root : ℕ) (path : Path K V n) (place : ℕ) → IsUnion n table → StandsOn table root path place → entries_from table path ≡ drop place (list_under table root)
-  standing table root path place union on =
-      ap (λ r. drop (spot table r path) (list_under table r)) (on-root n table root path place union on)
-      ∙ ap (λ z. drop z (list_under table root)) (on-spot n table root path place union on)
+  standing table root path place union on = pointing table root path place union (on-points table root path place on)
 
   -- nothing at the end
-  pub ended : (table : Table K V) (path : Path K V n) → path.size ≡ 0 → entries_from table path ≡ []
+  pub ended : (table : Table K V) (path : Path K V n) → IsAtEnd path → entries_from table path ≡ []
   ended table path none =
       let root = path_root path in
       let end : (path.size == 0) ≡ true = elim (eqb_tells path.size 0) [ inl w ↦ w.0 | inr w ↦ absurd (w.1 none) ] in
@@ -39,67 +45,40 @@ module _ {K V : Type 0} {n : ℕ} where
     | inr w ↦ standing table root path place union (record { root_is = s.root_is; stands = at_entry path.node path.entry (tree_of table.nodes root) place path.size w.1 s.at })
   ]
 
-  -- a path that stands on an entry: what its leaf's slot holds, and what is left
-  pub record At (table : Table K V) (path : Path K V n) : Type 0 where
-    pub on : OnEntry table path
-    pub entries : List (K × V)
-    pub slot : slice_get table.nodes (leaf_of path) ≡ Some (leaf_content entries)
-    pub within : index_of path < length entries
-    pub left : entries_from table path ≡ drop on.place (list_under table on.root)
-    pub read : (x : K × V) → slice_get entries (index_of path) ≡ Some x → slice_get (list_under table on.root) on.place ≡ Some x
+  -- a step: the entry that it answered was the first of those that were left
+  pub record Step (table : Table K V) (path path' : Path K V n) (o : Option (K × V)) : Type 0 where
+    pub value : (at : Pointing table path) → o ≡ slice_get (list_under table at.root) at.place
+    pub points : (at : Pointing table path) → IfSome o (λ entry. PointsTo table at.root path' (suc at.place))
+    pub end : o ≡ None → IsAtEnd path'
+    pub stays : IsAtEnd path → o ≡ None
 
-  pub at : (table : Table K V) (path : Path K V n) → IsReading table path → path.size ≢ 0 → At table path
-  at table path r some =
-      let u = r.stands some in
-      let t = rooted n table u.root r.union u.on.root_is in
-      let s = u.on.stands in
-      let one = some_leaf n r.union.1.capacity in
+  pub record Stepped (table : Table K V) (path path' : Path K V n) (o : Option (K × V)) : Type 0 where
+    pub reading : IsReading table path'
+    pub yields : YieldsFirst (λ (entries : List (K × V)). entries) (entries_from table path) o (entries_from table path')
+
+  pub stepped : (table : Table K V) (path path' : Path K V n) (o : Option (K × V)) → IsReading table path → Step table path path' o → Stepped table path path' o
+  stepped table path path' (Some entry) r s = elim (eqb_tells path.size 0) [
+    | inl w ↦ absurd (let bad = s.stays w.1 in cc)
+    | inr w ↦ (
+        let at = r.points w.1 in
+        let to = s.points at in
+        record {
+          reading = record { union = r.union; points = λ some. record { root = at.root; place = suc at.place; to = to } };
+          yields = pointing table at.root path at.place r.union at.to ∙ drop-read (list_under table at.root) at.place entry (sym (s.value at)) ∙ ap (λ z. entry ∷ z) (sym (pointing table at.root path' (suc at.place) r.union to));
+        }
+        )
+  ]
+  stepped table path path' None r s =
+      let end = s.end refl in
       record {
-        on = u;
-        entries = s.leaf.entries;
-        slot = leaf_slot n one table.nodes path.node path.entry path.size (tree_of table.nodes u.root) u.place t.fit t.inside s;
-        within = s.leaf.within;
-        left = standing table u.root path u.place r.union u.on;
-        read = λ x e. entry_is n one table.nodes path.node path.entry path.size (tree_of table.nodes u.root) u.place t.fit t.inside s (Some x) e;
+        reading = record { union = r.union; points = λ some. absurd (some end) };
+        yields = (elim (eqb_tells path.size 0) [
+          | inl w ↦ ended table path w.1
+          | inr w ↦ (let at = r.points w.1 in pointing table at.root path at.place r.union at.to ∙ past_all (list_under table at.root) at.place (sym (s.value at)))
+        ], ended table path' end);
       }
 
-module _ {K V : Type 0} where
-  -- the slot of the path's leaf
-  pub content_leaf : (content : Content K V) (entries : List (K × V)) (index : ℕ) → content ≡ leaf_content entries → index < length entries → IsLeaf content × (index < entry_count content)
-  content_leaf content entries index is low =
-      subst (λ (z : Content K V). IsLeaf z × (index < entry_count z)) (sym is) (tt, omega (arith, low, length-map entries (λ (entry : K × V). entry.0)))
-
-  -- its entry
-  pub content_read : (content : Content K V) (entries : List (K × V)) (index : ℕ) (k : K) (v : V) → content ≡ leaf_content entries → slice_get (keys_of content) index ≡ Some k → slice_get (vals_of content) index ≡ Some v → slice_get entries index ≡ Some (k, v)
-  content_read content entries index k v is key value = pair_read entries index k v (ap (λ z. slice_get (keys_of z) index) (sym is) ∙ key) (ap (λ z. slice_get (vals_of z) index) (sym is) ∙ value)
-
-  -- the leaf and the index that a path which stands tells
-  pub record Read {n : ℕ} (table : Table K V) (path : Path K V n) (leaf index : ℕ) : Type 0 where
-    pub at : At table path
-    pub slot : slice_get table.nodes leaf ≡ Some (leaf_content at.entries)
-    pub within : index < length at.entries
-    pub read : (x : K × V) → slice_get at.entries index ≡ Some x → slice_get (list_under table at.on.root) at.on.place ≡ Some x
-
-  pub read : {n : ℕ} (table : Table K V) (path : Path K V n) (o : Option (ℕ × ℕ)) (leaf index : ℕ) → IsReading table path → (path.size ≡ 0 → o ≡ None) → (path.size ≢ 0 → o ≡ Some (leaf_of path, index_of path)) → o ≡ Some (leaf, index) → Read table path leaf index
-  read table path o leaf index r end place was =
-      let some : path.size ≢ 0 = λ e. let none = sym (end e) ∙ was in cc in
-      let same = some_same (leaf, index) (leaf_of path, index_of path) (sym was ∙ place some) in
-      let a = at table path r some in
-      let index_is = ap (λ z. z.1) same in
-      record {
-        at = a;
-        slot = ap (λ z. slice_get table.nodes z.0) same ∙ a.slot;
-        within = omega (arith, index_is, a.within);
-        read = λ x e. a.read x (ap (λ z. slice_get a.entries z) (sym index_is) ∙ e);
-      }
-
-  -- where the path is after a step
-  pub record Stepped {n : ℕ} (table : Table K V) (path : Path K V n) (rest : List (K × V)) : Type 0 where
-    pub reading : IsReading table path
-    pub left : entries_from table path ≡ rest
-
-  pub stepped : {n : ℕ} (table : Table K V) (root place : ℕ) (path : Path K V n) → IsUnion n table → StandsAt table root path (suc place) → Stepped table path (drop (suc place) (list_under table root))
-  stepped table root place path union s = record {
-    reading = record { union = union; stands = λ some. record { root = root; place = suc place; on = record { root_is = s.root_is; stands = at_entry path.node path.entry (tree_of table.nodes root) (suc place) path.size some s.at } } };
-    left = left-at table root path (suc place) union s;
-  }
+-- an iterator whose entries are given one by one comes to its end
+pub progress : {A P : Type 0} (ready : P) (old new : List A) (o : Option A) → YieldsFirst (λ (entries : List A). entries) old o new → MakesProgress (λ (entries : List A). P) (item_count (λ (entries : List A). entries)) old o new
+progress ready old new (Some entry) steps = record { on = λ fin. (ready, tt, omega (arith, ap length steps)); keeps = ready; rests = λ fin. tt }
+progress ready old new None steps = record { on = λ fin. tt; keeps = tt; rests = λ fin. tt }

@@ -14,7 +14,7 @@ use Rattle.bforest_core.proofs.walks.Descent.{some_leaf}
 use Rattle.bforest_core.proofs.walks.Leading.{front_step, led_leaf}
 use Rattle.bforest_core.proofs.table.Read.{slot-is}
 use Rattle.bforest_core.proofs.rows.LevelRows.{flat-append}
-use Rattle.bforest_core.proofs.rows.Tops.{root-stands}
+use Rattle.bforest_core.proofs.rows.Tops.{root-points, root-stands}
 use Rattle.bforest_core.proofs.table.Tables.{count-append, count-same}
 use Rattle.bforest_core.proofs.walks.Backward.{at_end, at_entry}
 use Rattle.bforest_core.proofs.walks.Pointed.{points-stands}
@@ -111,19 +111,30 @@ module _ {K V : Type 0} {n : ℕ} (most : ℕ) (table : Table K V) (root : ℕ) 
       let r = rooted most table root union on.root_is in
       sym (root-stands most (tree_of table.nodes root) path.node path.entry path.size place r.fit on.stands) ∙ r.root_is
 
-  -- a path is at one place alone, which is computed from its leaf and its index there
-  pub on-spot : StandsOn table root path place → spot table root path ≡ place
-  on-spot on =
+  -- one that points to a place is in the tree of its root
+  pub points-root : PointsTo table root path place → path_root path ≡ root
+  points-root to =
+      let r = rooted most table root union to.root_is in
+      let half = some_leaf most union.1.capacity in
+      sym (root-points most (tree_of table.nodes root) path.node path.entry path.size place (omega (arith, half)) r.fit to.points) ∙ r.root_is
+
+  -- it points to one place alone, which is computed from its leaf and its index there
+  pub points-spot : PointsTo table root path place → spot table root path ≡ place
+  points-spot to =
       let tree = tree_of table.nodes root in
-      let at = on.stands.leaf in
-      let r = rooted most table root union on.root_is in
+      let at = to.points in
+      let r = rooted most table root union to.root_is in
       let m = leaf_of path in
       let once : count m (numbers tree.leaves) ≤ 1 = omega (arith, r.apart m, count-append m (numbers_of tree) table.chain, count-append m (numbers tree.leaves) (flat_map numbers tree.above)) in
-      let some : (path.size == 0) ≡ false = elim (eqb_tells path.size 0) [ inl w ↦ absurd (on-some table root path place on w.1) | inr w ↦ w.0 ] in
+      let some : (path.size == 0) ≡ false = elim (eqb_tells path.size 0) [ inl w ↦ absurd (omega (arith, w.1, at.size_is)) | inr w ↦ w.0 ] in
       (λ j. if some j then length (list_under table root) else place_in tree.leaves m (index_of path))
-      ∙ ap (λ z. place_in z m (index_of path)) at.row_is
-      ∙ place_by at.before m at.entries at.after (index_of path) (subst (λ (z : List (LevelNode K V)). count m (numbers z) ≤ 1) at.row_is once)
+      ∙ ap (λ z. place_in z m (index_of path)) at.leaves_are
+      ∙ place_by at.before m at.entries at.after (index_of path) (subst (λ (z : List (LevelNode K V)). count m (numbers z) ≤ 1) at.leaves_are once)
       ∙ sym at.place_is
+
+  -- so is one that stands on an entry
+  pub on-spot : StandsOn table root path place → spot table root path ≡ place
+  on-spot on = points-spot (on-points table root path place on)
 
   -- the end too
   pub at-spot : StandsAt table root path place → spot table root path ≡ place

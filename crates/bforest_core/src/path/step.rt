@@ -1,5 +1,5 @@
 //! Steps from an entry to the next, and to the one before.
-ghost use Rattle.std.specs.Prelude.{◌≡◌, ℕ, suc, ◌+◌, ◌-◌, ◌<◌, ◌≤◌, ◌≢◌, ◌↔◌, IsTrue, false, true, List, [], ◌∷◌, ◌++◌, length, get_or, slice_get, Some, None, if◌then◌else◌};
+ghost use Rattle.std.specs.Prelude.{◌≡◌, ℕ, suc, ◌+◌, ◌-◌, ◌<◌, ◌≤◌, ◌≢◌, ◌↔◌, IfSome, IsSome, IsTrue, false, true, List, [], ◌∷◌, ◌++◌, length, get_or, slice_get, Some, None, if◌then◌else◌};
 ghost use Rattle.bforest_nodes.specs.Content.{IsLeafCapacity};
 ghost use Rattle.bforest_core.specs.Levels.{LevelNode, flat, Tree, IsFit, most_levels, top_level};
 ghost use Rattle.bforest_core.specs.Descent.{Under, Led, LedLast};
@@ -8,13 +8,13 @@ ghost use Rattle.bforest_core.specs.Place.{inner_content, entry_items, leaf_cont
 ghost use Rattle.bforest_core.specs.Trees.{IsUnion, is_root};
 ghost use Rattle.bforest_core.specs.Steps.{Over, Moved};
 
-use crate::access::{child, entries, last_index};
+use crate::access::{child, entries, get_entry, last_index};
 use crate::path::Path;
 use crate::pool::NodePool;
 use bforest_nodes::Node;
 
 impl<K: Copy, V: Copy, const N: usize> Path<K, V, N> {
-    ghost use Rattle.bforest_core.specs.Paths.{IsAtEnd, OnEntry, Pointing, Standing, StandingUnder, StandsAt, StandsOn, list_under};
+    ghost use Rattle.bforest_core.specs.Paths.{IsAtEnd, OnEntry, Pointing, PointsTo, Standing, StandingUnder, StandsAt, StandsOn, list_under};
 
     /// Goes to the first entry of the tree under `root`, and answers it.
     pub fn first(&mut self, root: Node, pool: &NodePool<K, V, N>) -> (K, V)
@@ -69,6 +69,51 @@ impl<K: Copy, V: Copy, const N: usize> Path<K, V, N> {
         } else {
             self.size = 0;
             None
+        }
+    }
+
+    /// Goes behind the entry to which it points, and answers the entry. Behind a leaf's last entry it points to the first of the next leaf;
+    /// at the end it answers `None`. Inside a leaf it reads that leaf alone, once.
+    pub fn pass(&mut self, pool: &NodePool<K, V, N>) -> Option<(K, V)>
+        requires union { IsUnion N pool.now }
+        requires points { (¬ IsAtEnd self.old) → Pointing pool.now self.old }
+        ensures value { (at : Pointing pool.now self.old)
+            → result ≡ slice_get (list_under pool.now at.root) at.place }
+        ensures points { (at : Pointing pool.now self.old)
+            → IfSome result (λ entry. PointsTo pool.now at.root self.new (suc at.place)) }
+        ensures end { result ≡ None → IsAtEnd self.new }
+        ensures stays { IsAtEnd self.old → result ≡ None }
+    {
+        match self.pass_here(pool) {
+            Some(entry) => Some(entry),
+            None => {
+                self.normalize(pool);
+                self.pass_here(pool)
+            }
+        }
+    }
+
+    // Goes behind the entry here. Behind the leaf's last entry, and at the end, it answers `None`, and nothing changed.
+    fn pass_here(&mut self, pool: &NodePool<K, V, N>) -> Option<(K, V)>
+        requires union { IsUnion N pool.now }
+        requires points { (¬ IsAtEnd self.old) → Pointing pool.now self.old }
+        ensures passed { (at : Pointing pool.now self.old) → IfSome result
+            (λ entry. (slice_get (list_under pool.now at.root) at.place ≡ Some entry)
+            × PointsTo pool.now at.root self.new (suc at.place)) }
+        ensures some { OnEntry pool.now self.old → IsSome result }
+        ensures end { IsAtEnd self.old → result ≡ None }
+        ensures stays { result ≡ None → self.new ≡ self.old }
+    {
+        if self.size == 0 {
+            return None;
+        }
+        let index = self.entry[0] as usize;
+        match get_entry(pool, self.node[0], index) {
+            Some(entry) => {
+                self.set_entry(index + 1);
+                Some(entry)
+            }
+            None => None,
         }
     }
 
