@@ -14,3 +14,4 @@ pub mod Retaining
 pub mod Spots
 pub mod Fits
 pub mod Answered
+pub mod Stepping

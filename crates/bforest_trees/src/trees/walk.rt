@@ -1,0 +1,56 @@
+//! Steps of a path in the list of a handle.
+ghost use Rattle.bforest_trees.specs.Forest.{IsLive, list_of};
+ghost use Rattle.bforest_trees.specs.Place.{AtSpot, IsSpot};
+ghost use Rattle.bforest_core.specs.Place.{entry_before};
+ghost use Rattle.std.specs.Prelude.{length, min, slice_get, ◌+◌, ◌-◌, ◌≡◌};
+
+use crate::trees::Trees;
+use bforest_core::{PackedNode, Path};
+
+impl<K: Copy, V: Copy, const N: usize> Trees<K, V, N> {
+    /// Goes to the first entry and answers it. In an empty list that is the end.
+    pub fn first(&self, handle: PackedNode, path: &mut Path<K, V, N>) -> Option<(K, V)>
+        requires live { IsLive self.now handle }
+        requires stands { AtSpot self.now handle path.old }
+        ensures value { result ≡ slice_get (list_of self.now handle) 0 }
+        ensures spot { IsSpot self.now handle path.new 0 }
+    {
+        let root = handle.expand()?;
+        Some(path.first(root, &self.pool))
+    }
+
+    /// Goes to the next entry and answers it. From the last entry it goes to the end, where it answers `None` from then on.
+    pub fn next(&self, handle: PackedNode, path: &mut Path<K, V, N>) -> Option<(K, V)>
+        requires live { IsLive self.now handle }
+        requires stands { AtSpot self.now handle path.old }
+        ensures value { (at : AtSpot self.now handle path.old)
+            → result ≡ slice_get (list_of self.now handle) (at.place + 1) }
+        ensures spot { (at : AtSpot self.now handle path.old)
+            → IsSpot self.now handle path.new (min (at.place + 1) (length (list_of self.now handle))) }
+    {
+        path.next(&self.pool)
+    }
+
+    /// Goes to the entry before and answers it; from the end it goes to the last. At the first entry it stays, and answers `None`.
+    pub fn prev(&self, handle: PackedNode, path: &mut Path<K, V, N>) -> Option<(K, V)>
+        requires live { IsLive self.now handle }
+        requires stands { AtSpot self.now handle path.old }
+        ensures value { (at : AtSpot self.now handle path.old)
+            → result ≡ entry_before (list_of self.now handle) at.place }
+        ensures spot { (at : AtSpot self.now handle path.old)
+            → IsSpot self.now handle path.new (at.place - 1) }
+    {
+        let root = handle.expand()?;
+        path.prev(root, &self.pool)
+    }
+
+    /// The entry where a path stands, or `None` at the end.
+    pub fn entry(&self, handle: PackedNode, path: &Path<K, V, N>) -> Option<(K, V)>
+        requires live { IsLive self.now handle }
+        requires stands { AtSpot self.now handle path.now }
+        ensures value { (at : AtSpot self.now handle path.now)
+            → result ≡ slice_get (list_of self.now handle) at.place }
+    {
+        path.entry(&self.pool)
+    }
+}
