@@ -30,6 +30,9 @@ module _ {K V : Type 0} {n : ℕ} where
   pub standing : (table : Table K V) (root : ℕ) (path : Path K V n) (place : ℕ) → IsUnion n table → StandsOn table root path place → entries_from table path ≡ drop place (list_under table root)
   standing table root path place union on = pointing table root path place union (on-points table root path place on)
 
+  pub reading : (table : Table K V) (root : ℕ) (path : Path K V n) (place : ℕ) → IsUnion n table → StandsOn table root path place → IsReading table path
+  reading table root path place union on = record { union = union; points = λ some. record { root = root; place = place; to = on-points table root path place on } }
+
   -- nothing at the end
   pub ended : (table : Table K V) (path : Path K V n) → IsAtEnd path → entries_from table path ≡ []
   ended table path none =

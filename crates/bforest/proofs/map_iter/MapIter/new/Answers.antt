@@ -1,5 +1,5 @@
 use Rattle.bforest_trees.proofs.Changed.{list-root, live-root}
-use Rattle.bforest_trees.proofs.Reading.{standing}
+use Rattle.bforest_trees.proofs.Reading.{reading, standing}
 use Rattle.bforest.proofs.map_iter.MapIter.new.Goals as goal
 use Rattle.bforest.specs.Forest.{Forest, IsLive, list_at, list_of}
 use Rattle.bforest_core.specs.Trees.{is_root}
@@ -18,3 +18,6 @@ returns-in-Some-clause-entries g c =
     let root = c.in-Some.root in
     let handle : Some root ≡ c.args.map.now = sym c.in-Some.is ∙ c.expand.ensures.value ∙ c.map.view_is in
     standing pool root path 0 c.pool-pool.ensures.union c.first.ensures.stands ∙ sym (list-root pool root c.first.ensures.stands.root_is) ∙ ap (λ (z : Forest g.row.K.Denot g.row.V.Denot). list_at z root) (c.pool-pool.ensures.same ∙ c.forest.view_is) ∙ ap (λ (h : Option ℕ). list_of c.args.forest.now h) handle
+
+pub invariant_of-iter : goal.invariant_of-iter
+invariant_of-iter g c = reading c.pool-pool.result.now c.in-Some.root c.first.new.self 0 c.pool-pool.ensures.union c.first.ensures.stands
