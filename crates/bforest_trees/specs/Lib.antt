@@ -1,5 +1,6 @@
 pub mod Calls
 pub mod Forest
 pub mod Layout
+pub mod Lending
 pub mod Place
 pub mod Retain

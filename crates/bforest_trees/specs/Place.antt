@@ -1,6 +1,7 @@
 -- Where a path stands in the list of a handle.
-use Rattle.bforest_trees.specs.Forest.{Forest, list_of}
+use Rattle.bforest_trees.specs.Forest.{Becomes, Forest, free_of, list_of, sizes_of, slots_of}
 use Rattle.bforest_core.specs.Paths.{IsAtEnd, StandsAt}
+use Rattle.bforest_nodes.specs.Entries.{with_value}
 use Rattle.bforest_core.specs.declared.path.Path.{Path}
 use Rattle.std.specs.Prelude.{None, Option, Some, length, ◌<◌, ◌≡◌, ℕ}
 
@@ -20,3 +21,12 @@ module _ {K X : Type 0} where
     pub place : ℕ
     pub spot : IsSpot f h path place
     pub within : place < length (list_of f h)
+
+  -- w was written as the value of the entry where the path stands: that is one change of the handle's list, in nodes of the same sizes;
+  -- the path stands where it stood, and the slots stay as many
+  pub record IsWritten {n : ℕ} (f f' : Forest K X) (h : Option ℕ) (path : Path K X n) (place : ℕ) (w : X) : Type 0 where
+    pub becomes : Becomes f h f' h (with_value (list_of f h) place w)
+    pub sizes : sizes_of f' h ≡ sizes_of f h
+    pub slots : slots_of f' ≡ slots_of f
+    pub free : free_of f' ≡ free_of f
+    pub spot : IsSpot f' h path place
