@@ -1,10 +1,10 @@
 -- Where a path stands, from the words of a pool to those of a forest.
 use Rattle.bforest_trees.proofs.Changed.{list-root, live-root}
 use Rattle.bforest_trees.specs.Forest.{Forest, IsLive, list_of}
-use Rattle.bforest_trees.specs.Place.{AtSpot, IsSpot}
-use Rattle.bforest_core.proofs.walks.Standing.{at-on, on-points, path-ended, placed-points}
+use Rattle.bforest_trees.specs.Place.{AtSpot, IsComputed, IsSpot}
+use Rattle.bforest_core.proofs.walks.Standing.{at-on, at-spot, on-points, path-ended, placed-points}
 use Rattle.bforest_core.specs.Paths.{IsAtEnd, IsPlaced, PointsTo, StandsOn, list_under}
-use Rattle.bforest_core.specs.Trees.{tree_of}
+use Rattle.bforest_core.specs.Trees.{IsUnion, tree_of}
 use Rattle.bforest_core.specs.declared.path.Path.{Path}
 use Rattle.bforest_nodes.specs.Entries.{is_present, place}
 use Rattle.std.proofs.Common.{Bool, None, Option, Some, ap, false, length, refl, subst, sym, true, ◌<◌, ◌≡◌, ℕ, arith}
@@ -30,6 +30,11 @@ module _ {K X : Type 0} where
     spot-on (Some n) p s low =
         let same = ap length (list-root f n s.root_is) in
         (n, refl, at-on f n path p s (omega (arith, low, same)))
+
+  -- a path stands at one place alone, which is computed from it
+  pub computed : (most : ℕ) (f : Forest K X) (h : Option ℕ) → IsUnion most f → IsComputed most f h
+  computed most f None union path p s = sym s.1
+  computed most f (Some root) union path p s = at-spot most f root path p union s
 
   -- a search ends where a key is, or at a place for it
   pub found-points : {m : ℕ} (cmp : K → K → Ordering) (f : Forest K X) (n : ℕ) (path : Path K X m) (k : K) →

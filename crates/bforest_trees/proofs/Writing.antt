@@ -1,6 +1,6 @@
 -- A value that is written where a path stands.
 use Rattle.bforest_trees.proofs.Changed.{becomes, list-root, sizes-new, sizes-root}
-use Rattle.bforest_trees.proofs.Spots.{spot-on}
+use Rattle.bforest_trees.proofs.Spots.{computed, spot-on}
 use Rattle.bforest_trees.specs.Forest.{Becomes, Forest, list_of}
 use Rattle.bforest_trees.specs.Place.{IsWritten, OnSpot}
 use Rattle.bforest_core.proofs.union.Written.{value-under, value-written}
@@ -30,6 +30,7 @@ module _ {K X : Type 0} {m : ℕ} (f : Forest K X) (h : Option ℕ) (path : Path
         slots = length-set _ _ _;
         free = refl;
         spot = on-at f' n path p v.1;
+        computed = computed m f' (Some n) v.0.union;
       })
 
   -- the value there

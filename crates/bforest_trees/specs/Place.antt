@@ -1,6 +1,6 @@
 -- Where a path stands in the list of a handle.
 use Rattle.bforest_trees.specs.Forest.{Becomes, Forest, free_of, list_of, sizes_of, slots_of}
-use Rattle.bforest_core.specs.Paths.{IsAtEnd, StandsAt}
+use Rattle.bforest_core.specs.Paths.{IsAtEnd, StandsAt, spot}
 use Rattle.bforest_nodes.specs.Entries.{with_value}
 use Rattle.bforest_core.specs.declared.path.Path.{Path}
 use Rattle.std.specs.Prelude.{None, Option, Some, length, ◌<◌, ◌≡◌, ℕ}
@@ -10,6 +10,15 @@ module _ {K X : Type 0} where
   abbrev pub IsSpot : {n : ℕ} → Forest K X → Option ℕ → Path K X n → ℕ → Type 0
   IsSpot f None path place = IsAtEnd path × (place ≡ 0)
   IsSpot f (Some root) path place = StandsAt f root path place
+
+  -- the place where a path stands, from its leaf and its index there
+  abbrev pub spot_of : {n : ℕ} → Forest K X → Option ℕ → Path K X n → ℕ
+  spot_of f None path = 0
+  spot_of f (Some root) path = spot f root path
+
+  -- each path that stands in the list of a handle, stands at the place that is computed from it
+  abbrev pub IsComputed : ℕ → Forest K X → Option ℕ → Type 0
+  IsComputed n f h = (path : Path K X n) (place : ℕ) → IsSpot f h path place → spot_of f h path ≡ place
 
   -- the place where a path stands in the list of a handle
   pub record AtSpot {n : ℕ} (f : Forest K X) (h : Option ℕ) (path : Path K X n) : Type 0 where
@@ -30,3 +39,4 @@ module _ {K X : Type 0} where
     pub slots : slots_of f' ≡ slots_of f
     pub free : free_of f' ≡ free_of f
     pub spot : IsSpot f' h path place
+    pub computed : IsComputed n f' h

@@ -1,7 +1,7 @@
 //! The table of all trees of a forest: each call on one tree, once for maps and sets.
 ghost use Rattle.bforest_trees.specs.Forest.{Becomes, Gives, IsAccounted, IsLive, Takes, empty, first_level, free_of, limit_of, list_at, list_of, sizes_at, sizes_of, slots_of};
 ghost use Rattle.bforest_trees.specs.Calls.{Clears, Filters, Inserts, Removes, Reserves, SameLevels};
-ghost use Rattle.bforest_trees.specs.Place.{AtSpot, IsSpot, OnSpot};
+ghost use Rattle.bforest_trees.specs.Place.{AtSpot, IsComputed, IsSpot, OnSpot};
 ghost use Rattle.bforest_core.specs.Paths.{IsAtEnd};
 ghost use Rattle.bforest_trees.specs.Retain.{MayAskEach};
 ghost use Rattle.bforest_core.specs.Levels.{half_of};
@@ -172,6 +172,7 @@ impl<K: Copy, V: Copy, const N: usize> Trees<K, V, N> {
             self.new handle.new }
         ensures spot { IsSpot self.new handle.new path.new
             (place (C.order comp.now) (list_of self.old handle.old) key) }
+        ensures computed { IsComputed N self.new handle.new }
     {
         match handle.expand() {
             Some(root) => self.insert_under(root, handle, path, key, value, comp),
@@ -196,6 +197,7 @@ impl<K: Copy, V: Copy, const N: usize> Trees<K, V, N> {
             self.new handle.new }
         ensures spot { IsSpot self.new handle.new path.new
             (place (C.order comp.now) (list_at self.old root) key) }
+        ensures union { IsUnion N self.new }
     {
         if let Some(old) = path.find(key, root, &self.pool, comp) {
             path.set_value(value, &mut self.pool);
@@ -225,6 +227,7 @@ impl<K: Copy, V: Copy, const N: usize> Trees<K, V, N> {
         ensures inserted { (order : K → K → Ordering)
             → Inserts N order self.old None key value result self.new handle.new }
         ensures spot { IsSpot self.new handle.new path.new 0 }
+        ensures union { IsUnion N self.new }
     {
         let root = self.pool.alloc_node(key, value)?;
         *handle = PackedNode::some(root);
@@ -246,6 +249,7 @@ impl<K: Copy, V: Copy, const N: usize> Trees<K, V, N> {
         ensures value { result ≡ value_for (C.order comp.now) (list_of self.now handle) key }
         ensures spot { IsSpot self.now handle path.new
             (place (C.order comp.now) (list_of self.now handle) key) }
+        ensures computed { IsComputed N self.now handle }
     {
         let root = handle.expand()?;
         let value = path.find(key, root, &self.pool, comp);
@@ -282,6 +286,7 @@ impl<K: Copy, V: Copy, const N: usize> Trees<K, V, N> {
             self.old self.new }
         ensures spot { (at : OnSpot self.old handle.old path.old)
             → IsSpot self.new handle.new path.new at.place }
+        ensures computed { IsComputed N self.new handle.new }
     {
         *handle = packed(path.remove(&mut self.pool));
     }

@@ -1,6 +1,6 @@
 //! Steps of a path in the list of a handle.
 ghost use Rattle.bforest_trees.specs.Forest.{IsLive, list_of};
-ghost use Rattle.bforest_trees.specs.Place.{AtSpot, IsSpot};
+ghost use Rattle.bforest_trees.specs.Place.{AtSpot, IsComputed, IsSpot};
 ghost use Rattle.bforest_core.specs.Place.{entry_before};
 ghost use Rattle.std.specs.Prelude.{length, min, slice_get, ◌+◌, ◌-◌, ◌≡◌};
 
@@ -14,6 +14,7 @@ impl<K: Copy, V: Copy, const N: usize> Trees<K, V, N> {
         requires stands { AtSpot self.now handle path.old }
         ensures value { result ≡ slice_get (list_of self.now handle) 0 }
         ensures spot { IsSpot self.now handle path.new 0 }
+        ensures computed { IsComputed N self.now handle }
     {
         let root = handle.expand()?;
         Some(path.first(root, &self.pool))
@@ -27,6 +28,7 @@ impl<K: Copy, V: Copy, const N: usize> Trees<K, V, N> {
             → result ≡ slice_get (list_of self.now handle) (at.place + 1) }
         ensures spot { (at : AtSpot self.now handle path.old)
             → IsSpot self.now handle path.new (min (at.place + 1) (length (list_of self.now handle))) }
+        ensures computed { IsComputed N self.now handle }
     {
         path.next(&self.pool)
     }
@@ -39,6 +41,7 @@ impl<K: Copy, V: Copy, const N: usize> Trees<K, V, N> {
             → result ≡ entry_before (list_of self.now handle) at.place }
         ensures spot { (at : AtSpot self.now handle path.old)
             → IsSpot self.now handle path.new (at.place - 1) }
+        ensures computed { IsComputed N self.now handle }
     {
         let root = handle.expand()?;
         path.prev(root, &self.pool)

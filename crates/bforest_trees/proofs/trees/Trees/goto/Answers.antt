@@ -1,3 +1,4 @@
+use Rattle.bforest_trees.proofs.Spots.{computed}
 use Rattle.bforest_trees.proofs.Changed.{seen-as}
 use Rattle.bforest_trees.proofs.Spots.{found-points, spot-empty}
 use Rattle.bforest_trees.proofs.trees.Trees.goto.Goals as goal
@@ -48,3 +49,6 @@ returns-clause-spot g c =
     subst (λ (z : Forest g.row.K.Denot g.row.V.Denot). IsSpot z c.args.handle new (place cmp (list_of c.args.self.now c.args.handle) c.args.key)) c.self.view_is
     (subst (λ (h : Option ℕ). IsSpot p h new (place cmp (list_of c.args.self.now c.args.handle) c.args.key)) (sym handle)
     (subst (λ (es : List (g.row.K.Denot × g.row.V.Denot)). IsSpot p (Some n) new (place cmp es c.args.key)) s.list at))
+
+pub returns-clause-computed : goal.returns-clause-computed
+returns-clause-computed g c = rw (← c.self.view_is) (computed g.row.N c.self.inside.pool c.args.handle c.self.invariant)

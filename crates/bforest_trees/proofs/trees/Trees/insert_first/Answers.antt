@@ -56,3 +56,9 @@ returns-in_err-root-clause-inserted g c = λ order.
 
 pub returns-in_err-root-clause-spot : goal.returns-in_err-root-clause-spot
 returns-in_err-root-clause-spot g c = rw c.requires.empty (c.requires.stands, refl)
+
+pub returns-clause-union : goal.returns-clause-union
+returns-clause-union g c = invariant_of-self-2 g c
+
+pub returns-in_err-root-clause-union : goal.returns-in_err-root-clause-union
+returns-in_err-root-clause-union g c = rw c.in_err-root.ensures.err c.self.invariant

@@ -159,3 +159,12 @@ returns-clause-spot g c =
     let at = place cmp (flat (tree_of p.nodes n).leaves) k in
     let placing : Placing p c.find.new.self = record { root = n; place = at; placed = c.find.ensures.absent gone } in
     rw (c.some.ensures.node, ← c.self.view_is, list-root p n root) (on-at c.insert.new.pool c.in-Ok.root c.insert.new.self at (c.in-Ok.ensures.stands placing))
+
+pub returns-in-Some-clause-union : goal.returns-in-Some-clause-union
+returns-in-Some-clause-union g c = invariant_of-self g c
+
+pub returns-in-Err-clause-union : goal.returns-in-Err-clause-union
+returns-in-Err-clause-union g c = rw c.in-Err.ensures.refused_pool c.self.invariant
+
+pub returns-clause-union : goal.returns-clause-union
+returns-clause-union g c = invariant_of-self-2 g c

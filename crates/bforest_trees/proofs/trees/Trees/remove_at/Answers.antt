@@ -1,3 +1,4 @@
+use Rattle.bforest_trees.proofs.Spots.{computed}
 use Rattle.bforest_trees.proofs.Cutting.{IsTaken, taken-at}
 use Rattle.bforest_trees.proofs.Spots.{spot-on}
 use Rattle.bforest_trees.proofs.trees.Trees.remove_at.Given.{Over}
@@ -45,3 +46,6 @@ pub returns-clause-account : goal.returns-clause-account
 returns-clause-account g c =
     let t = taken g c (rw (← c.self.view_is) at c.requires.stands) in
     rw (c.packed.ensures, ← c.self.view_is) t.account
+
+pub returns-clause-computed : goal.returns-clause-computed
+returns-clause-computed g c = computed g.row.N c.remove.new.pool c.packed.result (invariant_of-self g c)
