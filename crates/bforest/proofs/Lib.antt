@@ -1,1 +1,2 @@
 pub mod Becoming
+pub mod Cursors

@@ -1,4 +1,6 @@
 pub mod Calls
+pub mod Cursor
 pub mod Forest
+pub mod Lending
 pub mod Memory
 pub mod Retain

@@ -2,9 +2,12 @@
 use Rattle.std.specs.Borrow.{RattleType}
 use Rattle.std.specs.Mem.{FitsInMemory}
 use denote.Param.{number}
+use Rattle.bforest.specs.contracts.forest.MapForest.{the_row as forest_row}
+use Rattle.bforest_trees.specs.contracts.trees.Trees.{the_row as trees_row}
 use Rattle.bforest_nodes.specs.contracts.node.NodeData.{the_row as node_row}
 use Rattle.bforest_core.specs.contracts.pool.NodePool.{the_row as pool_row}
 
--- a pool of these types, and a node, take fewer than 2 ^ 63 bytes
+-- a forest of these types, its trees, their table and a node take fewer than 2 ^ 63 bytes each
 abbrev pub IsReadable : RattleType → RattleType → Type 0
-IsReadable K V = FitsInMemory (pool_row K V (number 7)) × FitsInMemory (node_row K V (number 7))
+IsReadable K V =
+    FitsInMemory (forest_row K V) × FitsInMemory (trees_row K V (number 7)) × FitsInMemory (pool_row K V (number 7)) × FitsInMemory (node_row K V (number 7))

@@ -1,10 +1,17 @@
 //! The table of all trees of a forest.
-ghost use Rattle.bforest.specs.Forest.{IsAccounted, IsFitFor, IsLive, empty, free_of, limit_of, list_at, sizes_at, slots_of};
+ghost use Rattle.bforest.specs.Forest.{IsAccounted, IsFitFor, IsLive, empty, free_of, limit_of, list_at, list_of, sizes_at, slots_of};
 ghost use Rattle.bforest.specs.Calls.{Reserves};
-ghost use Rattle.std.specs.Prelude.{IsTrue, [], length, ◌↔◌, ◌<◌, ◌≡◌, ◌≢◌, ◌≤◌, ℕ};
+ghost use Rattle.bforest.specs.Lending.{lends_value_of};
+ghost use Rattle.bforest_core.specs.Paths.{index_of, leaf_of};
+ghost use Rattle.bforest_core.specs.Table.{with_value_at};
+ghost use Rattle.bforest_core.specs.declared.path.Path.{Path};
+ghost use Rattle.bforest_nodes.specs.Entries.{value_at_place};
+ghost use Rattle.bforest_trees.specs.Place.{IsWritten, OnSpot};
+ghost use Rattle.std.specs.Borrow.{sem};
+ghost use Rattle.std.specs.Prelude.{IsTrue, Option, Some, [], length, ◌↔◌, ◌<◌, ◌≡◌, ◌≢◌, ◌≤◌, ℕ};
 
 use crate::map::Map;
-use bforest_core::OutOfMemory;
+use bforest_core::{Node, OutOfMemory};
 use bforest_trees::Trees;
 use std::alloc::Global;
 use std::marker::Model;
@@ -95,5 +102,19 @@ impl<K: Copy, V: Copy> MapForest<K, V> {
         ensures live { IsTrue result ↔ IsLive self.now map.now }
     {
         self.trees.holds(map.root)
+    }
+
+    /// The value of the entry where a path stands, by the path's leaf and its index there, for writing.
+    pub(crate) fn value_at(&mut self, leaf: Node, index: usize) -> &mut V
+        requires stands { (h : Option ℕ) × (path : Path K V 7) × OnSpot self.old h path
+            × (leaf ≡ leaf_of path) × (index ≡ index_of path) }
+        ensures* writes_back { sem 𝓛 (lends_value_of K.row V.row self.entry leaf index result) }
+        ensures value { (h : Option ℕ) (path : Path K V 7) (at : OnSpot self.old h path) → leaf ≡ leaf_of path
+            → index ≡ index_of path → value_at_place (list_of self.old h) at.place ≡ Some result.now }
+        ensures written { (h : Option ℕ) (path : Path K V 7) (at : OnSpot self.old h path)
+            → leaf ≡ leaf_of path → index ≡ index_of path
+            → (w : V) → IsWritten self.old (with_value_at self.old leaf index w) h path at.place w }
+    {
+        self.trees.value_at(leaf, index)
     }
 }

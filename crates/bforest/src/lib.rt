@@ -7,9 +7,11 @@
 
 mod forest;
 mod map;
+mod map_cursor_mut;
 mod map_iter;
 
 pub use bforest_core::{Comparator, OutOfMemory};
 pub use forest::MapForest;
 pub use map::Map;
+pub use map_cursor_mut::MapCursorMut;
 pub use map_iter::MapIter;

@@ -1,6 +1,7 @@
 //! The handle of one map.
 ghost use Rattle.bforest_nodes.specs.Entries.{IsIncreasing, value_for};
 ghost use Rattle.bforest.specs.Calls.{Clears, Filters, Inserts, Removes};
+ghost use Rattle.bforest.specs.Cursor.{IsCursor, comparator, forest_loan, forest_now, map_loan, map_now, spot};
 ghost use Rattle.bforest.specs.Forest.{Forest, IsLive, first_level, list_of, sizes_of};
 ghost use Rattle.bforest.specs.Memory.{IsReadable};
 ghost use Rattle.bforest.specs.Retain.{Answers, MayAsk, MayAskEach};
@@ -10,6 +11,7 @@ ghost use Rattle.std.specs.Ordering.{is_lt};
 ghost use Rattle.std.specs.Prelude.{IsTrue, None, [], true, ◌↔◌, length, ◌+◌, ◌-◌, ◌/◌, ◌<◌, ◌^◌, ◌≡◌, ◌≤◌};
 
 use crate::forest::MapForest;
+use crate::map_cursor_mut::MapCursorMut;
 use crate::map_iter::MapIter;
 use bforest_core::{Comparator, OutOfMemory, PackedNode, Path};
 use bforest_trees::Asked;
@@ -192,6 +194,26 @@ impl<K: Copy, V: Copy> Map<K, V> {
         ensures ready { IsReadable K.row V.row }
     {
         MapIter::new(self, forest)
+    }
+
+    /// A cursor that reads and writes, at the end.
+    pub fn cursor_mut<'a, C: Comparator<K>>(
+        &'a mut self,
+        forest: &'a mut MapForest<K, V>,
+        comp: &'a C,
+    ) -> MapCursorMut<'a, K, V, C>
+        requires live { IsLive forest.old self.old }
+        requires increasing { IsIncreasing (C.order comp.now) (list_of forest.old self.old) }
+        ensures map_loan { map_loan result ≡ self.entry.ghost_name }
+        ensures forest_loan { forest_loan result ≡ forest.entry.ghost_name }
+        ensures comparator { comparator result ≡ comp.now }
+        ensures forest { forest_now result ≡ forest.old }
+        ensures map { map_now result ≡ self.old }
+        ensures spot { spot result ≡ length (list_of forest.old self.old) }
+        ensures valid { IsCursor C.order result }
+        ensures ready { IsReadable K.row V.row }
+    {
+        MapCursorMut::new(self, forest, comp)
     }
 
     /// Whether each key is less than the next under the comparator: the test for what each call that compares asks. One comparison

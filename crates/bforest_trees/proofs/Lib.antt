@@ -16,3 +16,4 @@ pub mod Fits
 pub mod Answered
 pub mod Stepping
 pub mod Writing
+pub mod Taking

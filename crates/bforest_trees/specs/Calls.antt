@@ -1,16 +1,26 @@
 -- What a call that may change one tree answers and leaves: one record for each, which every such call of a map cites.
+use Rattle.bforest_core.specs.Sizes.{shrink}
 use Rattle.bforest_core.specs.declared.pool.OutOfMemory.TheVariants.{Full, Memory}
 use Rattle.bforest_core.specs.declared.pool.OutOfMemory.{OutOfMemory}
 use Rattle.bforest_nodes.specs.Entries.{IsIncreasing, cut, put, value_for}
 use Rattle.bforest_trees.specs.Forest.{Becomes, Forest, Gives, IsTooMany, Keeps, NeedsGrowth, Takes, free_of, list_of, need_of, sizes_of, sizes_with, sizes_without, slots_of}
 use Rattle.bforest_trees.specs.Retain.{Retains}
-use Rattle.std.specs.Prelude.{Bool, Err, IfOk, IsOk, IsSome, None, OnErr, OnOk, Option, Result, [], length, ◌+◌, ◌-◌, ◌<◌, ◌↔◌, ◌≡◌, ◌≤◌, ℕ}
+use Rattle.std.specs.Prelude.{Bool, Err, IfOk, IsOk, IsSome, None, OnErr, OnOk, Option, Result, [], if◌then◌else◌, length, nat_lt, remove, ◌+◌, ◌-◌, ◌<◌, ◌↔◌, ◌≡◌, ◌≤◌, ℕ}
 use Rattle.std.specs.declared.cmp.Ordering.{Ordering}
 
 module _ {K X : Type 0} where
   -- the handle stays exactly where the tree has as many levels as before
   abbrev pub SameLevels : Forest K X → Option ℕ → Forest K X → Option ℕ → Type 0
   SameLevels f h f' h' = (h' ≡ h) ↔ (length (sizes_of f' h') ≡ length (sizes_of f h))
+
+  -- the entry at a place of h was taken out, where a leaf has at most so many; at the end nothing changed
+  pub record RemovesAt (most : ℕ) (f : Forest K X) (h : Option ℕ) (place : ℕ) (f' : Forest K X) (h' : Option ℕ) : Type 0 where
+    pub removed : Becomes f h f' h' (remove (list_of f h) place)
+    pub sizes : sizes_of f' h' ≡ (if nat_lt place (length (list_of f h)) then shrink most place (sizes_of f h) else sizes_of f h)
+    pub same_levels : SameLevels f h f' h'
+    pub account : Gives (sizes_of f h) (sizes_of f' h') f f'
+    pub end_forest : length (list_of f h) ≤ place → f' ≡ f
+    pub end_handle : length (list_of f h) ≤ place → h' ≡ h
 
   -- f was asked for n free slots. All trees stay; where fewer lay free, exactly n do now
   pub record Reserves (f : Forest K X) (n : ℕ) (result : Result (Unit {0}) OutOfMemory) (f' : Forest K X) : Type 0 where

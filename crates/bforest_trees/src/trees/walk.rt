@@ -53,6 +53,7 @@ impl<K: Copy, V: Copy, const N: usize> Trees<K, V, N> {
         requires stands { AtSpot self.now handle path.now }
         ensures value { (at : AtSpot self.now handle path.now)
             → result ≡ slice_get (list_of self.now handle) at.place }
+        ensures computed { IsComputed N self.now handle }
     {
         path.entry(&self.pool)
     }

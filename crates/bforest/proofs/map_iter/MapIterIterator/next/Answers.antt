@@ -8,7 +8,7 @@ step : (g : Over) (c : goal.After-pass g) → Stepped c.self.inside.pool.now c.s
 step g c = stepped c.self.inside.pool.now c.self.inside.path c.pass.new.self c.pass.result c.self.invariant (record { value = c.pass.ensures.value; points = c.pass.ensures.points; end = c.pass.ensures.end; stays = c.pass.ensures.stays })
 
 pub pass-requires : goal.pass-requires
-pass-requires g c = (search rules, (c.requires.0, (c.self.invariant.union, c.self.invariant.points)))
+pass-requires g c = (search rules, (search rules, (c.self.invariant.union, c.self.invariant.points)))
 
 pub invariant_of-self : goal.invariant_of-self
 invariant_of-self g c = (step g c).reading

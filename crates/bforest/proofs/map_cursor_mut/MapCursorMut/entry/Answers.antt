@@ -1,0 +1,4 @@
+use Rattle.bforest.proofs.map_cursor_mut.MapCursorMut.entry.Goals as goal
+
+pub returns : goal.returns
+returns g c = record { entry = rw (← c.forest.view_is, ← c.map.view_is) (c.entry.ensures.value (record { place = _; spot = rw (← c.forest.view_is, ← c.map.view_is) at c.requires.valid.stands })) }

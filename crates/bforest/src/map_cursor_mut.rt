@@ -1,0 +1,234 @@
+//! Cursors that read and write a map.
+ghost use Rattle.bforest.specs.Calls.{Inserts, RemovesAt};
+ghost use Rattle.bforest.specs.Cursor.{Goes, IsCursor, Moves, Writes, comparator, entries, forest_loan, forest_now, map_loan, map_now, spot, with_value_here};
+ghost use Rattle.bforest.specs.Forest.{IsLive, list_of};
+ghost use Rattle.bforest.specs.Lending.{lends_here, lends_value};
+ghost use Rattle.bforest.specs.Memory.{IsReadable};
+ghost use Rattle.bforest_core.specs.Paths.{IsAtEnd};
+ghost use Rattle.bforest_core.specs.Place.{entry_before};
+ghost use Rattle.bforest_nodes.specs.Entries.{IsIncreasing, place, value_at_place, value_for};
+ghost use Rattle.std.specs.Borrow.{sem};
+ghost use Rattle.std.specs.Option.{option_copied_mut};
+ghost use Rattle.std.specs.Prelude.{IsTrue, Some, [], length, min, option_map, slice_get, ◌+◌, ◌-◌, ◌≡◌, ◌↔◌};
+
+use crate::forest::MapForest;
+use crate::map::Map;
+use bforest_core::{Comparator, OutOfMemory, Path};
+
+/// A place in a map, to read and to write: an entry or the end. Made by [`Map::cursor_mut`], at the end.
+///
+/// It writes through its two references in each call, and nothing when it ends. So the map and the forest hold then what it last meant. The
+/// map's list increases under its comparator throughout.
+#[derive(Drop)]
+pub struct MapCursorMut<'a, K: Copy, V: Copy, C: Comparator<K>> {
+    map: &'a mut Map<K, V>,
+    forest: &'a mut MapForest<K, V>,
+    comp: &'a C,
+    path: Path<K, V, 7>,
+}
+
+impl<'a, K: Copy, V: Copy, C: Comparator<K>> MapCursorMut<'a, K, V, C> {
+    /// At the end of a map.
+    pub(crate) fn new(
+        map: &'a mut Map<K, V>,
+        forest: &'a mut MapForest<K, V>,
+        comp: &'a C,
+    ) -> MapCursorMut<'a, K, V, C>
+        requires live { IsLive forest.old map.old }
+        requires increasing { IsIncreasing (C.order comp.now) (list_of forest.old map.old) }
+        ensures map_loan { map_loan result ≡ map.entry.ghost_name }
+        ensures forest_loan { forest_loan result ≡ forest.entry.ghost_name }
+        ensures comparator { comparator result ≡ comp.now }
+        ensures forest { forest_now result ≡ forest.old }
+        ensures map { map_now result ≡ map.old }
+        ensures spot { spot result ≡ length (list_of forest.old map.old) }
+        ensures valid { IsCursor C.order result }
+        ensures ready { IsReadable K.row V.row }
+    {
+        MapCursorMut {
+            map,
+            forest,
+            comp,
+            path: Path::default(),
+        }
+    }
+
+    /// Whether the map is empty. No comparison.
+    pub fn is_empty(&self) -> bool
+        requires valid { IsCursor C.order self.now }
+        requires ready { IsReadable K.row V.row }
+        ensures empty { IsTrue result ↔ (entries self.now ≡ []) }
+    {
+        self.map.is_empty()
+    }
+
+    /// Goes to the next entry and answers it. From the last entry it goes to the end, where it answers `None` from then on. No comparison.
+    pub fn next(&mut self) -> Option<(K, V)>
+        requires valid { IsCursor C.order self.old }
+        requires ready { IsReadable K.row V.row }
+        ensures value { result ≡ slice_get (entries self.old) (spot self.old + 1) }
+        ensures moves { Moves C.order self.old self.new (min (spot self.old + 1) (length (entries self.old))) }
+    {
+        let map = &*self.map;
+        let forest = &*self.forest;
+        forest.trees.next(map.root, &mut self.path)
+    }
+
+    /// Goes to the entry before and answers it; from the end it goes to the last. At the first entry it stays, and answers `None`. No
+    /// comparison.
+    pub fn prev(&mut self) -> Option<(K, V)>
+        requires valid { IsCursor C.order self.old }
+        requires ready { IsReadable K.row V.row }
+        ensures value { result ≡ entry_before (entries self.old) (spot self.old) }
+        ensures moves { Moves C.order self.old self.new (spot self.old - 1) }
+    {
+        let map = &*self.map;
+        let forest = &*self.forest;
+        forest.trees.prev(map.root, &mut self.path)
+    }
+
+    /// The entry where it stands, or `None` at the end. No comparison.
+    pub fn entry(&self) -> Option<(K, V)>
+        requires valid { IsCursor C.order self.now }
+        requires ready { IsReadable K.row V.row }
+        ensures entry { result ≡ slice_get (entries self.now) (spot self.now) }
+    {
+        let map = &*self.map;
+        let forest = &*self.forest;
+        forest.trees.entry(map.root, &self.path)
+    }
+
+    /// The key of the entry where it stands, or `None` at the end. No comparison.
+    pub fn key(&self) -> Option<K>
+        requires valid { IsCursor C.order self.now }
+        requires ready { IsReadable K.row V.row }
+        ensures key { result ≡ option_map (λ e. e.0) (slice_get (entries self.now) (spot self.now)) }
+    {
+        match self.entry() {
+            Some(entry) => Some(entry.0),
+            None => None,
+        }
+    }
+
+    /// The value of the entry where it stands, or `None` at the end. No comparison.
+    pub fn value(&self) -> Option<V>
+        requires valid { IsCursor C.order self.now }
+        requires ready { IsReadable K.row V.row }
+        ensures value { result ≡ value_at_place (entries self.now) (spot self.now) }
+    {
+        match self.entry() {
+            Some(entry) => Some(entry.1),
+            None => None,
+        }
+    }
+
+    /// The value of the entry where it stands, for writing, or `None` at the end. What is left in it is the entry's value then; all other
+    /// entries, all keys and the place stay. No comparison.
+    pub fn value_mut(&mut self) -> Option<&mut V>
+        requires valid { IsCursor C.order self.old }
+        requires ready { IsReadable K.row V.row }
+        ensures* writes_back { sem 𝓛 (lends_value K.row V.row C.row self.entry result) }
+        ensures value { option_copied_mut result ≡ value_at_place (entries self.old) (spot self.old) }
+        ensures written { (w : V) → Writes C.order self.old (with_value_here self.old w) w }
+    {
+        if self.path.leaf_pos().is_some() {
+            Some(self.value_here())
+        } else {
+            None
+        }
+    }
+
+    // The same on an entry.
+    fn value_here(&mut self) -> &mut V
+        requires on_entry { ¬ IsAtEnd self.old.path }
+        requires valid { IsCursor C.order self.old }
+        requires ready { IsReadable K.row V.row }
+        ensures* writes_back { sem 𝓛 (lends_here K.row V.row C.row self.entry result) }
+        ensures value { value_at_place (entries self.old) (spot self.old) ≡ Some result.now }
+        ensures written { (w : V) → Writes C.order self.old (with_value_here self.old w) w }
+    {
+        let (leaf, index) = self.path.leaf_pos().unwrap();
+        self.forest.value_at(leaf, index)
+    }
+
+    /// Goes to the entry whose key compares equal and answers its value, or else to the first entry with a greater key, or to the end. One
+    /// search, as in [`Map::get`].
+    pub fn goto(&mut self, elem: K) -> Option<V>
+        requires valid { IsCursor C.order self.old }
+        requires ready { IsReadable K.row V.row }
+        ensures value { result ≡ value_for (C.order (comparator self.old)) (entries self.old) elem }
+        ensures moves { Moves C.order self.old self.new
+            (place (C.order (comparator self.old)) (entries self.old) elem) }
+    {
+        let map = &*self.map;
+        let forest = &*self.forest;
+        forest
+            .trees
+            .goto(map.root, &mut self.path, elem, self.comp)
+    }
+
+    /// Goes to the first entry and answers its value. In an empty map that is the end. No comparison.
+    pub fn goto_first(&mut self) -> Option<V>
+        requires valid { IsCursor C.order self.old }
+        requires ready { IsReadable K.row V.row }
+        ensures value { result ≡ value_at_place (entries self.old) 0 }
+        ensures moves { Moves C.order self.old self.new 0 }
+    {
+        let map = &*self.map;
+        let forest = &*self.forest;
+        match forest.trees.first(map.root, &mut self.path) {
+            Some(entry) => Some(entry.1),
+            None => None,
+        }
+    }
+
+    /// Puts a value in at a key, and answers the value that was there. The same as [`MapCursorMut::try_insert`].
+    pub fn insert(&mut self, key: K, value: V) -> Result<Option<V>, OutOfMemory>
+        requires valid { IsCursor C.order self.old }
+        requires ready { IsReadable K.row V.row }
+        ensures inserted { Inserts 7 (C.order (comparator self.old)) (forest_now self.old) (map_now self.old)
+            key value result (forest_now self.new) (map_now self.new) }
+        ensures goes { Goes C.order self.old self.new
+            (place (C.order (comparator self.old)) (entries self.old) key) }
+    {
+        self.try_insert(key, value)
+    }
+
+    /// Puts a value in at a key as [`Map::try_insert`] does, and goes to the key's entry. One search.
+    ///
+    /// # Errors
+    ///
+    /// Those of [`Map::try_insert`]. Nothing has changed then, but that it stands where [`MapCursorMut::goto`] of the key goes.
+    pub fn try_insert(&mut self, key: K, value: V) -> Result<Option<V>, OutOfMemory>
+        requires valid { IsCursor C.order self.old }
+        requires ready { IsReadable K.row V.row }
+        ensures inserted { Inserts 7 (C.order (comparator self.old)) (forest_now self.old) (map_now self.old)
+            key value result (forest_now self.new) (map_now self.new) }
+        ensures goes { Goes C.order self.old self.new
+            (place (C.order (comparator self.old)) (entries self.old) key) }
+    {
+        let map = &mut *self.map;
+        let forest = &mut *self.forest;
+        forest
+            .trees
+            .insert(&mut map.root, &mut self.path, key, value, self.comp)
+    }
+
+    /// Takes the entry out where it stands, and answers its value. It stands at the one that followed then, or at the end. At the end it
+    /// answers `None`, and nothing changes. No comparison; nodes are joined and freed as in [`Map::remove`].
+    pub fn remove(&mut self) -> Option<V>
+        requires valid { IsCursor C.order self.old }
+        requires ready { IsReadable K.row V.row }
+        ensures value { result ≡ value_at_place (entries self.old) (spot self.old) }
+        ensures removed { RemovesAt 7 (forest_now self.old) (map_now self.old) (spot self.old)
+            (forest_now self.new) (map_now self.new) }
+        ensures goes { Goes C.order self.old self.new (spot self.old) }
+    {
+        let map = &mut *self.map;
+        let forest = &mut *self.forest;
+        match forest.trees.take(&mut map.root, &mut self.path) {
+            Some(entry) => Some(entry.1),
+            None => None,
+        }
+    }
+}
