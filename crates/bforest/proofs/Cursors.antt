@@ -147,3 +147,8 @@ module _ {K X C : Type 0} (order : C → K → K → Ordering) (c : MapCursorMut
           free = refl;
         } in
         subst (λ d. Writes order c d w) same stays
+
+-- a path at another place of the same list
+pub stands-at : {K X : Type 0} (cmp : K → K → Ordering) (f : Forest K X) (h : Option ℕ) (path path' : Path K X 7) (p : ℕ) → StandsIn cmp f h path → IsSpot f h path' p → IsComputed 7 f h → StandsIn cmp f h path'
+stands-at cmp f h path path' p v at computed =
+    record { live = v.live; increasing = v.increasing; stands = subst (λ (z : ℕ). IsSpot f h path' z) (sym (computed path' p at)) at }

@@ -7,11 +7,13 @@
 
 mod forest;
 mod map;
+mod map_cursor;
 mod map_cursor_mut;
 mod map_iter;
 
 pub use bforest_core::{Comparator, OutOfMemory};
 pub use forest::MapForest;
 pub use map::Map;
+pub use map_cursor::MapCursor;
 pub use map_cursor_mut::MapCursorMut;
 pub use map_iter::MapIter;

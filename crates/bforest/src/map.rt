@@ -11,6 +11,7 @@ ghost use Rattle.std.specs.Ordering.{is_lt};
 ghost use Rattle.std.specs.Prelude.{IsTrue, None, [], true, ◌↔◌, length, ◌+◌, ◌-◌, ◌/◌, ◌<◌, ◌^◌, ◌≡◌, ◌≤◌};
 
 use crate::forest::MapForest;
+use crate::map_cursor::MapCursor;
 use crate::map_cursor_mut::MapCursorMut;
 use crate::map_iter::MapIter;
 use bforest_core::{Comparator, OutOfMemory, PackedNode, Path};
@@ -194,6 +195,22 @@ impl<K: Copy, V: Copy> Map<K, V> {
         ensures ready { IsReadable K.row V.row }
     {
         MapIter::new(self, forest)
+    }
+
+    /// A cursor that reads, at the end.
+    pub fn cursor<'a, C: Comparator<K>>(
+        &self,
+        forest: &'a MapForest<K, V>,
+        comp: &'a C,
+    ) -> MapCursor<'a, K, V, C>
+        requires live { IsLive forest.now self.now }
+        requires increasing { IsIncreasing (C.order comp.now) (list_of forest.now self.now) }
+        ensures entries { result.entries ≡ list_of forest.now self.now }
+        ensures spot { result.spot ≡ length (list_of forest.now self.now) }
+        ensures comparator { result.comparator ≡ comp.now }
+        ensures ready { IsReadable K.row V.row }
+    {
+        MapCursor::new(self, forest, comp)
     }
 
     /// A cursor that reads and writes, at the end.

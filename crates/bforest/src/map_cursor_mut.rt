@@ -13,6 +13,7 @@ ghost use Rattle.std.specs.Prelude.{IsTrue, Some, [], length, min, option_map, s
 
 use crate::forest::MapForest;
 use crate::map::Map;
+use crate::map_cursor::{key_of, value_of};
 use bforest_core::{Comparator, OutOfMemory, Path};
 
 /// A place in a map, to read and to write: an entry or the end. Made by [`Map::cursor_mut`], at the end.
@@ -104,10 +105,7 @@ impl<'a, K: Copy, V: Copy, C: Comparator<K>> MapCursorMut<'a, K, V, C> {
         requires ready { IsReadable K.row V.row }
         ensures key { result ≡ option_map (λ e. e.0) (slice_get (entries self.now) (spot self.now)) }
     {
-        match self.entry() {
-            Some(entry) => Some(entry.0),
-            None => None,
-        }
+        key_of(self.entry())
     }
 
     /// The value of the entry where it stands, or `None` at the end. No comparison.
@@ -116,10 +114,7 @@ impl<'a, K: Copy, V: Copy, C: Comparator<K>> MapCursorMut<'a, K, V, C> {
         requires ready { IsReadable K.row V.row }
         ensures value { result ≡ value_at_place (entries self.now) (spot self.now) }
     {
-        match self.entry() {
-            Some(entry) => Some(entry.1),
-            None => None,
-        }
+        value_of(self.entry())
     }
 
     /// The value of the entry where it stands, for writing, or `None` at the end. What is left in it is the entry's value then; all other
@@ -176,10 +171,7 @@ impl<'a, K: Copy, V: Copy, C: Comparator<K>> MapCursorMut<'a, K, V, C> {
     {
         let map = &*self.map;
         let forest = &*self.forest;
-        match forest.trees.first(map.root, &mut self.path) {
-            Some(entry) => Some(entry.1),
-            None => None,
-        }
+        value_of(forest.trees.first(map.root, &mut self.path))
     }
 
     /// Puts a value in at a key, and answers the value that was there. The same as [`MapCursorMut::try_insert`].
@@ -226,9 +218,6 @@ impl<'a, K: Copy, V: Copy, C: Comparator<K>> MapCursorMut<'a, K, V, C> {
     {
         let map = &mut *self.map;
         let forest = &mut *self.forest;
-        match forest.trees.take(&mut map.root, &mut self.path) {
-            Some(entry) => Some(entry.1),
-            None => None,
-        }
+        value_of(forest.trees.take(&mut map.root, &mut self.path))
     }
 }

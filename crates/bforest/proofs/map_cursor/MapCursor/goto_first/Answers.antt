@@ -1,0 +1,11 @@
+use Rattle.bforest.proofs.map_cursor.MapCursor.goto_first.Goals as goal
+use Rattle.bforest_trees.specs.Forest.{list_of}
+use Rattle.std.proofs.Common.{ap, option_map, ◌∙◌}
+
+pub returns-clause-value : goal.returns-clause-value
+returns-clause-value g c = c.value_of.ensures ∙ ap (option_map (λ e. e.1)) (rw (← c.self.view_is) c.first.ensures.value)
+
+pub returns-clause-moves : goal.returns-clause-moves
+returns-clause-moves g c =
+    let i = c.self.inside in
+    rw (← c.self.view_is) (ap (λ z. record { entries = list_of i.trees.now i.root; spot = z; comparator = i.comp.now }) (c.first.ensures.computed c.first.new.path 0 c.first.ensures.spot))

@@ -1,0 +1,160 @@
+//! Cursors that read a map.
+ghost use Rattle.bforest.specs.Cursor.{at_place};
+ghost use Rattle.bforest.specs.Forest.{IsLive, list_of};
+ghost use Rattle.bforest.specs.Memory.{IsReadable};
+ghost use Rattle.bforest_core.specs.Place.{entry_before};
+ghost use Rattle.bforest_nodes.specs.Entries.{IsIncreasing, place, value_at_place, value_for};
+ghost use Rattle.std.specs.Prelude.{IsTrue, [], length, min, option_map, slice_get, ◌+◌, ◌-◌, ◌≡◌, ◌≤◌, ◌↔◌};
+
+use crate::forest::MapForest;
+use crate::map::Map;
+use bforest_core::{Comparator, PackedNode, Path};
+use bforest_trees::Trees;
+use std::marker::Model;
+
+/// A place in a map, to read: an entry or the end. Made by [`Map::cursor`], at the end.
+#[derive(Drop)]
+pub struct MapCursor<'a, K: Copy, V: Copy, C: Comparator<K>> {
+    trees: &'a Trees<K, V, 7>,
+    root: PackedNode,
+    comp: &'a C,
+    path: Path<K, V, 7>,
+}
+
+impl<'a, K: Copy, V: Copy, C: Comparator<K>> Model for MapCursor<'a, K, V, C> {
+    ghost use Rattle.bforest.specs.Cursor.{Cursor, StandsIn};
+    ghost use Rattle.bforest_trees.specs.Forest.{list_of};
+    ghost use Rattle.bforest_trees.specs.Place.{spot_of};
+
+    ghost Value = { Cursor K V C };
+
+    ghost view = { λ c. record {
+        entries = list_of c.trees.now c.root;
+        spot = spot_of c.trees.now c.root c.path;
+        comparator = c.comp.now;
+    } };
+
+    ghost invariant = { λ c. StandsIn (C.order c.comp.now) c.trees.now c.root c.path };
+}
+
+impl<'a, K: Copy, V: Copy, C: Comparator<K>> MapCursor<'a, K, V, C> {
+    /// At the end of a map.
+    pub(crate) fn new(
+        map: &Map<K, V>,
+        forest: &'a MapForest<K, V>,
+        comp: &'a C,
+    ) -> MapCursor<'a, K, V, C>
+        requires live { IsLive forest.now map.now }
+        requires increasing { IsIncreasing (C.order comp.now) (list_of forest.now map.now) }
+        ensures entries { result.entries ≡ list_of forest.now map.now }
+        ensures spot { result.spot ≡ length (list_of forest.now map.now) }
+        ensures comparator { result.comparator ≡ comp.now }
+        ensures ready { IsReadable K.row V.row }
+    {
+        MapCursor {
+            trees: &forest.trees,
+            root: map.root,
+            comp,
+            path: Path::default(),
+        }
+    }
+
+    /// Whether the map is empty. No comparison.
+    pub fn is_empty(&self) -> bool
+        requires ready { IsReadable K.row V.row }
+        ensures empty { IsTrue result ↔ (self.now.entries ≡ []) }
+    {
+        self.root.is_none()
+    }
+
+    /// Goes to the next entry and answers it. From the last entry it goes to the end, where it answers `None` from then on. No comparison.
+    pub fn next(&mut self) -> Option<(K, V)>
+        requires ready { IsReadable K.row V.row }
+        ensures value { result ≡ slice_get self.old.entries (self.old.spot + 1) }
+        ensures moves { self.new ≡ at_place self.old (min (self.old.spot + 1) (length self.old.entries)) }
+    {
+        self.trees.next(self.root, &mut self.path)
+    }
+
+    /// Goes to the entry before and answers it; from the end it goes to the last. At the first entry it stays, and answers `None`. No
+    /// comparison.
+    pub fn prev(&mut self) -> Option<(K, V)>
+        requires ready { IsReadable K.row V.row }
+        ensures value { result ≡ entry_before self.old.entries self.old.spot }
+        ensures moves { self.new ≡ at_place self.old (self.old.spot - 1) }
+    {
+        self.trees.prev(self.root, &mut self.path)
+    }
+
+    /// The entry where it stands, or `None` at the end. No comparison.
+    pub fn entry(&self) -> Option<(K, V)>
+        requires ready { IsReadable K.row V.row }
+        ensures entry { result ≡ slice_get self.now.entries self.now.spot }
+    {
+        self.trees.entry(self.root, &self.path)
+    }
+
+    /// The key of the entry where it stands, or `None` at the end. No comparison.
+    pub fn key(&self) -> Option<K>
+        requires ready { IsReadable K.row V.row }
+        ensures key { result ≡ option_map (λ e. e.0) (slice_get self.now.entries self.now.spot) }
+    {
+        key_of(self.entry())
+    }
+
+    /// The value of the entry where it stands, or `None` at the end. No comparison.
+    pub fn value(&self) -> Option<V>
+        requires ready { IsReadable K.row V.row }
+        ensures value { result ≡ value_at_place self.now.entries self.now.spot }
+    {
+        value_of(self.entry())
+    }
+
+    /// Goes to the entry whose key compares equal and answers its value, or else to the first entry with a greater key, or to the end. One
+    /// search, as in [`Map::get`].
+    pub fn goto(&mut self, elem: K) -> Option<V>
+        requires ready { IsReadable K.row V.row }
+        ensures value { result ≡ value_for (C.order self.old.comparator) self.old.entries elem }
+        ensures moves { self.new
+            ≡ at_place self.old (place (C.order self.old.comparator) self.old.entries elem) }
+    {
+        self.trees
+            .goto(self.root, &mut self.path, elem, self.comp)
+    }
+
+    /// Goes to the first entry and answers its value. In an empty map that is the end. No comparison.
+    pub fn goto_first(&mut self) -> Option<V>
+        requires ready { IsReadable K.row V.row }
+        ensures value { result ≡ value_at_place self.old.entries 0 }
+        ensures moves { self.new ≡ at_place self.old 0 }
+    {
+        value_of(self.trees.first(self.root, &mut self.path))
+    }
+
+    /// Goes to the end. No comparison.
+    pub fn goto_end(&mut self)
+        ensures moves { self.new ≡ at_place self.old (length self.old.entries) }
+    {
+        self.path = Path::default();
+    }
+}
+
+// The key of an entry, if there is one.
+pub(crate) fn key_of<K: Copy, V: Copy>(entry: Option<(K, V)>) -> Option<K>
+    ensures { result ≡ option_map (λ e. e.0) entry }
+{
+    match entry {
+        Some(entry) => Some(entry.0),
+        None => None,
+    }
+}
+
+// Its value.
+pub(crate) fn value_of<K: Copy, V: Copy>(entry: Option<(K, V)>) -> Option<V>
+    ensures { result ≡ option_map (λ e. e.1) entry }
+{
+    match entry {
+        Some(entry) => Some(entry.1),
+        None => None,
+    }
+}
