@@ -14,3 +14,4 @@ pub mod Turns
 pub mod Trailing
 pub mod LastDown
 pub mod Standing
+pub mod Nearby
