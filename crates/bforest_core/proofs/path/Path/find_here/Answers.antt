@@ -1,5 +1,6 @@
 use Rattle.std.proofs.Common.{rules, sym, ◌∙◌, arith}
-use Rattle.bforest_core.proofs.walks.Nearby.{before-equal, before-greater, before-none, behind-low, here-equal, here-greater, here-leaf, none-left, some-on}
+use Rattle.bforest_core.specs.Paths.{list_under}
+use Rattle.bforest_core.proofs.walks.Nearby.{before-equal, before-greater, before-none, behind-low, here-equal, here-greater, here-leaf, no-value, none-left, some-on}
 use Rattle.bforest_core.proofs.path.Path.find_here.Goals.{then-self-gt0+in-Less, else-self-gt0}
 use Rattle.bforest_core.proofs.path.Path.find_here.Goals as goal
 
@@ -49,4 +50,4 @@ returns-in-Greater-cmp g c =
       | then-self-gt0+in-Less w ↦ here-greater c.args.pool.now c.args.root c.args.self.now at.place c.requires.union (some-on c.args.pool.now c.args.root c.args.self.now at.place at.at w.if-self-gt0.true) w.entry_here-here.result w.entry_here-here.ensures order o c.args.key (sym w.cmp.ensures ∙ w.in-Less.is)
       | else-self-gt0 w ↦ none-left c.args.pool.now c.args.root c.args.self.now at.place at.at order c.args.key (omega (arith, w.if-self-gt0.false))
     ]) (sym c.cmp-2.ensures ∙ c.in-Greater-cmp.is) in
-    record { value = e.value; present = e.present; absent = e.absent }
+    record { value = e.value; present = λ here. absurd (no-value order c.args.key (list_under c.args.pool.now c.args.root) e.value here); absent = e.absent }
