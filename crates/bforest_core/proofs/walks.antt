@@ -15,3 +15,4 @@ pub mod Trailing
 pub mod LastDown
 pub mod Standing
 pub mod Passing
+pub mod Nearby

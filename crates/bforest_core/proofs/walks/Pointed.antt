@@ -12,7 +12,7 @@ use Rattle.bforest_core.proofs.rows.Zipper.{stands-same}
 
 module _ {K V : Type 0} (path indices : List ℕ) (size : ℕ) (tree : Tree K V) (place : ℕ) where
   -- an entry is such a place
-  pub points-stands : Stands path indices size tree place → PointsAt path indices size tree place
+  unfoldable pub points-stands : Stands path indices size tree place → PointsAt path indices size tree place
   points-stands s = record {
     before = s.leaf.before;
     entries = s.leaf.entries;

@@ -63,7 +63,7 @@ impl<K: Copy, V: Copy, const N: usize> Path<K, V, N> {
         ensures size { self.new.size ≡ self.old.size }
     {
         if level == 0 {
-            return self.find_here(key, node, pool, comp);
+            return self.search_leaf(key, node, pool, comp);
         }
         let (index, child) = follow(pool, node, key, comp);
         self.set_level(level, node, index);
@@ -71,7 +71,7 @@ impl<K: Copy, V: Copy, const N: usize> Path<K, V, N> {
     }
 
     // Goes to the place of `key` in the leaf `node`. Answers the key's value.
-    fn find_here<C: Comparator<K>>(
+    fn search_leaf<C: Comparator<K>>(
         &mut self,
         key: K,
         node: Node,

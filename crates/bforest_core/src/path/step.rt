@@ -171,7 +171,7 @@ impl<K: Copy, V: Copy, const N: usize> Path<K, V, N> {
     }
 
     // The path's entry.
-    fn entry_here(&self, pool: &NodePool<K, V, N>) -> (K, V)
+    pub(super) fn entry_here(&self, pool: &NodePool<K, V, N>) -> (K, V)
         requires { (entries : List (K × V)) × (slice_get pool.now.nodes (get_or self.now.node 0 0)
             ≡ Some (leaf_content entries)) × (get_or self.now.entry 0 0 < length entries) }
         ensures { (entries : List (K × V)) → slice_get pool.now.nodes (get_or self.now.node 0 0)

@@ -7,8 +7,8 @@ use Rattle.bforest_core.proofs.walks.Rising.{increasing_rest}
 use Rattle.bforest_core.proofs.walks.Descent.{some_leaf, leaf_at, inner_at, inner_count, onward, leaf_value, landed, passed}
 use Rattle.bforest_core.proofs.path.Path.+descend.Goals as goal
 
-pub find_here-requires : goal.find_here-requires
-find_here-requires g t c =
+pub search_leaf-requires : goal.search_leaf-requires
+search_leaf-requires g t c =
     let w = c.requires.under in
     let order = g.C.Comparator.order c.args.comp.now in
     let o = g.met.C.Comparator.total c.args.comp.now in
@@ -29,10 +29,10 @@ returns-then-level-eq0-clause-descended g t c = λ leaves lower a first b u inc 
     let ms = c.args.self.now.node in
     let js = c.args.self.now.entry in
     let p = place order (s.e ∷ s.es) key in
-    let node_is = c.find_here.ensures.node in
-    let entry_is = c.find_here.ensures.entry (s.e ∷ s.es) s.slot_is in (
-      c.find_here.ensures.value (s.e ∷ s.es) s.slot_is ∙ sym (leaf_value order o g.row.N one slots leaves lower a c.args.node key s),
-      landed order o g.row.N one slots leaves lower a c.args.node key s ms js c.find_here.new.self.node c.find_here.new.self.entry
+    let node_is = c.search_leaf.ensures.node in
+    let entry_is = c.search_leaf.ensures.entry (s.e ∷ s.es) s.slot_is in (
+      c.search_leaf.ensures.value (s.e ∷ s.es) s.slot_is ∙ sym (leaf_value order o g.row.N one slots leaves lower a c.args.node key s),
+      landed order o g.row.N one slots leaves lower a c.args.node key s ms js c.search_leaf.new.self.node c.search_leaf.new.self.entry
           (ap (λ z. get_or z 0 0) node_is ∙ get_or-set_same ms 0 c.args.node 0 (omega arith))
           (ap (λ z. get_or z 0 0) entry_is ∙ get_or-set_same js 0 p 0 (omega arith))
           (λ i other. ap (λ z. get_or z i 0) node_is ∙ get_or-set_other ms 0 i c.args.node 0 other)
