@@ -1,11 +1,11 @@
 -- What the calls of a path say of the rows above a level, and of a whole tree, when an entry goes.
-use Rattle.std.specs.Prelude.{remove, ◌≡◌, ◌≢◌, ℕ, suc, ◌+◌, ◌≤◌, ◌<◌, true, false, List, [], ◌∷◌, ◌++◌, map, length, get_or, slice_get}
+use Rattle.std.specs.Prelude.{Some, remove, ◌≡◌, ◌≢◌, ℕ, suc, ◌+◌, ◌≤◌, ◌<◌, true, false, List, [], ◌∷◌, ◌++◌, map, length, get_or, slice_get}
 use Rattle.std.specs.List.{flat_map}
 use Rattle.bforest_nodes.specs.Content.{Content, IsFree}
 use Rattle.bforest_core.specs.Table.{Table}
 use Rattle.bforest_core.specs.Levels.{LevelNode, node, flat, heads, sizes, numbers, FitRow, Solid, Stacked, Topped, least, Tree, IsFit, half_of, sizes_of, top_level}
 use Rattle.bforest_core.specs.Sizes.{rebalanced, shrink}
-use Rattle.bforest_core.specs.Place.{RowIn, RowsIn, IsIn, leaf_content, inner_content, count, Distinct, root_above, root_of, numbers_of, Stands, IsPathAt}
+use Rattle.bforest_core.specs.Place.{RowIn, RowsIn, IsIn, leaf_content, inner_content, count, Distinct, root_above, root_of, numbers_of, Stands}
 use Rattle.bforest_core.specs.Climb.{Above, SameBelow, top_of}
 use Rattle.bforest_core.specs.Trees.{slot, Every}
 
@@ -178,14 +178,15 @@ module _ {K V : Type 0} where
     pub apart : Distinct ((numbers (before ++ node (get_or path 0 0) entries ∷ after) ++ flat_map numbers rest) ++ new.chain)
     pub flat_is : flat (before ++ node (get_or path 0 0) entries ∷ after) ≡ remove (flat tree.leaves) place
     pub place_is : place ≡ length (flat before) + get_or indices 0 0
+    pub leaf_was : (es : List (K × V)) → slice_get old.nodes (get_or path 0 0) ≡ Some (leaf_content es) → length es ≡ suc (length entries)
     pub sizes_were : sizes tree.leaves ≡ sizes before ++ suc (length entries) ∷ sizes after
     pub rest_sizes : map sizes rest ≡ map sizes tree.above
     pub numbers_are : (number : ℕ) → count number (numbers (before ++ node (get_or path 0 0) entries ∷ after) ++ flat_map numbers rest) ≡ count number (numbers_of tree)
     pub frees : Frees old new (numbers_of tree) []
 
-  -- the entry at the place went out of the tree, which is under this root now and not empty, and the path is where it was:
+  -- the entry at the place went out of the tree, which is under this root now and not empty, and of which this holds now:
   -- the nodes have the sizes of `shrink`, and those freed lie in front of the chain
-  pub record Removed (most : ℕ) (old new : Table K V) (path' indices' : List ℕ) (size' : ℕ) (tree : Tree K V) (place root' : ℕ) : Type 0 where
+  pub record Removed (most : ℕ) (old new : Table K V) (Now : Tree K V → Type 0) (tree : Tree K V) (place root' : ℕ) : Type 0 where
     pub tree' : Tree K V
     pub freed : List ℕ
     pub flat_is : flat tree'.leaves ≡ remove (flat tree.leaves) place
@@ -193,7 +194,7 @@ module _ {K V : Type 0} where
     pub fit : IsFit most tree'
     pub inside : IsIn new.nodes tree'
     pub some : 1 ≤ length (flat tree'.leaves)
-    pub at : IsPathAt path' indices' size' tree' place
+    pub at : Now tree'
     pub numbers_are : (number : ℕ) → count number (numbers_of tree') + count number freed ≡ count number (numbers_of tree)
     pub root_is : root_of tree' ≡ root'
     pub same_root : length tree'.above ≡ length tree.above → root' ≡ root_of tree

@@ -4,6 +4,7 @@ pub mod Ordered
 pub mod Lookups
 pub mod Seams
 pub mod Rows
+pub mod Shifted
 pub mod Cuts
 mod ArrayMemory
 mod Prefixes

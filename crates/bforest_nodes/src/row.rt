@@ -1,8 +1,12 @@
 //! Elements that lie inline in a node, of which the node says how many count.
-ghost use Rattle.std.specs.Prelude.{◌≡◌, ◌+◌, ◌-◌, ◌<◌, ◌≤◌, ◌∷◌, ◌++◌, [], take, drop, insert, remove, length, slice_get, slice_set, Some};
+ghost use Rattle.std.specs.Prelude.{◌≡◌, ◌+◌, ◌-◌, ◌<◌, ◌≤◌, ◌∷◌, ◌++◌, [], ℕ, if◌then◌else◌, nat_le, nat_lt, take, drop, insert, remove, length, get_or, slice_get, slice_set, Some};
 ghost use Rattle.std.specs.Borrow.{sem};
 
 use crate::lent;
+
+/// How long a row is at most that moves its elements by a choice for each place. The places are the same at each call, so that the compiler
+/// needs neither a loop nor a branch.
+const SHORT: usize = 8;
 
 /// Room for `N` elements. What lies behind those that count has no meaning.
 #[derive(Clone, Copy)]
@@ -79,13 +83,16 @@ impl<T: Copy, const N: usize> Row<T, N> {
     }
 
     /// Puts an element in at an index of the first `len`.
-    #[tactic(auto, using(crate::proofs::Rows::inserted))]
     pub(crate) fn insert(&mut self, len: usize, index: usize, x: T)
         requires room { len < N }
         requires within { index ≤ len }
         ensures { take (len + 1) self.new.items ≡ insert (take len self.old.items) index x }
     {
-        self.items.copy_within(index..len, index + 1);
+        if N > SHORT {
+            self.items.copy_within(index..len, index + 1);
+        } else if index < len {
+            shift_up(&mut self.items, index);
+        }
         self.items[index] = x;
     }
 
@@ -96,7 +103,13 @@ impl<T: Copy, const N: usize> Row<T, N> {
         requires within { index < len }
         ensures { take (len - 1) self.new.items ≡ remove (take len self.old.items) index }
     {
-        self.items.copy_within(index + 1..len, index);
+        if N > SHORT {
+            self.items.copy_within(index + 1..len, index);
+        } else if index == 0 {
+            self.items.copy_within(1..N, 0);
+        } else {
+            shift_down(&mut self.items, index);
+        }
     }
 
     /// The elements of the first `len` behind the first `at`.
@@ -140,5 +153,30 @@ impl<T: Copy, const N: usize> Row<T, N> {
         ensures { take (len - count) self.new.items ≡ drop count (take len self.old.items) }
     {
         self.items.copy_within(count..len, 0);
+    }
+}
+
+// Moves the elements from an index on up by one place, where the last falls off. The one at the index stays there too.
+fn shift_up<T: Copy, const N: usize>(items: &mut [T; N], index: usize)
+    ensures len { length items.new ≡ length items.old }
+    ensures moved { (j : ℕ) (d : T) → j < N
+        → get_or items.new j d ≡ get_or items.old (if nat_le j index then j else j - 1) d }
+{
+    let old = *items;
+    for at in 1..N {
+        items[at] = if at <= index { old[at] } else { old[at - 1] };
+    }
+}
+
+// Moves the elements behind an index down by one place. The last stays in its place too.
+fn shift_down<T: Copy, const N: usize>(items: &mut [T; N], index: usize)
+    requires { index < N }
+    ensures len { length items.new ≡ length items.old }
+    ensures moved { (j : ℕ) (d : T) → j + 1 < N
+        → get_or items.new j d ≡ get_or items.old (if nat_lt j index then j else j + 1) d }
+{
+    let old = *items;
+    for at in 0..N - 1 {
+        items[at] = if at < index { old[at] } else { old[at + 1] };
     }
 }

@@ -188,6 +188,7 @@ module _ {K V : Type 0} where
         apart = λ m. omega (arith, d.apart m, c1 m, c2 m, c3 m, c4 m, c5 m, c6 m, c7 m, c9 m);
         flat_is = sym (ap (λ z. remove (flat z) place) d.leaves_are ∙ ap (λ z. remove (flat row) z) d.place_is ∙ remove_flat d.before n d.l d.x d.r d.after);
         place_is = omega (arith, d.place_is, d.index_is);
+        leaf_was = λ fs slot. leaf_count fs old (slice_get t.nodes n) slot d.slot_is ∙ len;
         sizes_were = ap sizes d.leaves_are ∙ sizes-append d.before (node n old ∷ d.after) ∙ ap (λ z. sizes d.before ++ z ∷ sizes d.after) len;
         rest_sizes = b.sizes_are;
         numbers_are = λ m. omega (arith, c0 m, c1 m, c2 m, c4 m, c5 m, c8 m, c9 m);

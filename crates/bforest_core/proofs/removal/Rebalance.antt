@@ -45,6 +45,18 @@ rebalanced_spread : (q m r : ℕ) (after : List ℕ) → 1 ≤ m → 2 * m < q �
 rebalanced_spread q zero r after one h more = absurd (omega arith)
 rebalanced_spread q (suc m) r after one h more = let e = yes_lt (2 * suc m) q h in let f = no_le (suc m + r) q more in rw (e, f) refl
 
+-- a node that is half full or the last is large enough
+pub enough : {K X : Type 0} (half : ℕ) (es : List (K × X)) (after : List (LevelNode K X)) → 1 ≤ length es → (half ≤ length es) ⊎ (after ≡ []) → least half after ≤ length es
+enough half es [] some w = some
+enough half es (x ∷ xs) some (inl h) = h
+enough half es (x ∷ xs) some (inr e) = absurd cc
+
+-- and stays as it is
+pub judged : {K X : Type 0} (half most : ℕ) (es : List (K × X)) (after : List (LevelNode K X)) → most ≤ half + half → 1 ≤ length es → (half ≤ length es) ⊎ (after ≡ []) → rebalanced most (length es) (sizes after) ≡ (false, length es ∷ sizes after)
+judged half most es [] lo some w = rebalanced_last most (length es) some
+judged half most es (node k fs ∷ xs) lo some (inl h) = rebalanced_healthy most (length es) (length fs) (sizes xs) some (omega (arith, lo, h))
+judged half most es (x ∷ xs) lo some (inr e) = absurd cc
+
 -- a path is as it was
 pub same-refl : (up : ℕ) (path : List ℕ) → SameBelow up path path
 same-refl up path = λ i low. refl
@@ -55,9 +67,8 @@ module _ {K V X : Type 0} (content : List (K × X) → Content K V) (half most :
       (half ≤ length es) ⊎ (after ≡ []) → get_or indices up 0 < length es → Healed content half most t t path indices path indices up size before n es after rest
   settle_stay t path indices up size before n es after rest p why within =
       let row : List (LevelNode K X) = before ++ node n es ∷ after in
-      let one = p.some in
-      let fit : FitRow half most row = FitRow-join half most before (node n es) after p.solid (enough after why, p.most_is, p.fits) in
-      let outcome : rebalanced most (length es) (sizes after) ≡ (false, length es ∷ sizes after) = judged after why in
+      let fit : FitRow half most row = FitRow-join half most before (node n es) after p.solid (enough half es after p.some why, p.most_is, p.fits) in
+      let outcome : rebalanced most (length es) (sizes after) ≡ (false, length es ∷ sizes after) = judged half most es after hm.lo p.some why in
       record {
         before' = before;
         number' = n;
@@ -81,16 +92,6 @@ module _ {K V X : Type 0} (content : List (K × X) → Content K V) (half most :
         entries_below = same-refl up indices;
         same_top = refl;
       }
-    where
-      enough : (xs : List (LevelNode K X)) → (half ≤ length es) ⊎ (xs ≡ []) → least half xs ≤ length es
-      enough [] w = p.some
-      enough (x ∷ xs) (inl h) = h
-      enough (x ∷ xs) (inr e) = absurd cc
-
-      judged : (xs : List (LevelNode K X)) → (half ≤ length es) ⊎ (xs ≡ []) → rebalanced most (length es) (sizes xs) ≡ (false, length es ∷ sizes xs)
-      judged [] w = rebalanced_last most (length es) p.some
-      judged (node k fs ∷ xs) (inl h) = rebalanced_healthy most (length es) (length fs) (sizes xs) p.some (omega (arith, hm.lo, h))
-      judged (x ∷ xs) (inr e) = absurd cc
 
   -- the path went past its end, and stands in the next node
   pub settle_move : (t : Table K V) (path indices path' indices' : List ℕ) (up size : ℕ) (before : List (LevelNode K X)) (n : ℕ) (es : List (K × X)) (q : ℕ) (f : K × X) (fs : List (K × X)) (after : List (LevelNode K X)) (rest : List (List (LevelNode K ℕ))) (h : K) → OnLevel content half most t path indices up size before n es (node q (f ∷ fs) ∷ after) rest →

@@ -7,7 +7,7 @@ use Rattle.bforest_nodes.specs.Content.{Content}
 use Rattle.bforest_core.specs.Table.{Table}
 use Rattle.bforest_core.specs.Levels.{node, flat, sizes, Tree, sizes_of}
 use Rattle.bforest_core.specs.Sizes.{shrink}
-use Rattle.bforest_core.specs.Place.{leaf_content, count, root_of, numbers_of, Stands, IsPathAt}
+use Rattle.bforest_core.specs.Place.{leaf_content, count, root_of, numbers_of, Stands}
 use Rattle.bforest_core.specs.Trees.{tree_of, IsUnion}
 use Rattle.bforest_core.specs.Change.{Changes, Ends, GivesNodes, StandsUnder, node_count}
 use Rattle.bforest_core.specs.Removal.{StandsIn, Removed, Emptied}
@@ -64,16 +64,16 @@ module _ {K V : Type 0} where
   }
 
   -- all that a removal says of the table and of the path
-  pub record Removal (most : ℕ) (old new : Table K V) (root root' place : ℕ) (path' indices' : List ℕ) (size' : ℕ) : Type 0 where
+  pub record Removal (most : ℕ) (old new : Table K V) (root root' place : ℕ) (Now : Tree K V → Type 0) : Type 0 where
     pub changes : Changes most old new root root' (remove (flat (tree_of old.nodes root).leaves) place) (shrink most place (sizes_of (tree_of old.nodes root)))
     pub gives : GivesNodes (sizes_of (tree_of old.nodes root)) (shrink most place (sizes_of (tree_of old.nodes root))) old new
-    pub at : IsPathAt path' indices' size' (tree_of new.nodes root') place
+    pub at : Now (tree_of new.nodes root')
     pub same_root : (root' ≡ root) ↔ (length (shrink most place (sizes_of (tree_of old.nodes root))) ≡ length (sizes_of (tree_of old.nodes root)))
     pub others : length (flat (tree_of old.nodes root).leaves) ≢ 1
     pub freed_root : root' ≢ root → 0 < count root new.chain
 
-  removed_root : (most : ℕ) (old new : Table K V) (root place : ℕ) (path indices : List ℕ) (size : ℕ) (path' indices' : List ℕ) (size' root' : ℕ) → IsUnion most old → StandsUnder old.nodes root path indices size place → (i : Removed most old new path' indices' size' (tree_of old.nodes root) place root') → Removal most old new root (root_of i.tree') place path' indices' size'
-  removed_root most old new root place path indices size path' indices' size' root' union s i =
+  removed_root : (most : ℕ) (old new : Table K V) (root place : ℕ) (path indices : List ℕ) (size : ℕ) (Now : Tree K V → Type 0) (root' : ℕ) → IsUnion most old → StandsUnder old.nodes root path indices size place → (i : Removed most old new Now (tree_of old.nodes root) place root') → Removal most old new root (root_of i.tree') place Now
+  removed_root most old new root place path indices size Now root' union s i =
       let tree = tree_of old.nodes root in
       let r = rooted most old root union s.root_is in
       let planted : IsPlanted most new.nodes i.tree' = record { fit = i.fit; inside = i.inside; some = i.some; low = omega (arith, i.low, r.low) } in
@@ -95,7 +95,7 @@ module _ {K V : Type 0} where
           limit_is = i.frees.limit_is;
         };
         gives = gives old new tree i.tree' (shrink most place (sizes_of tree)) i.freed i.sizes_are i.numbers_are i.frees.chain_is i.frees.slots_are;
-        at = subst (λ (z : Tree K V). IsPathAt path' indices' size' z place) (sym e.tree_is) i.at;
+        at = subst Now (sym e.tree_is) i.at;
         same_root = (
           λ same. elim (eqb_tells (length i.tree'.above) (length tree.above)) [
             | inl w ↦ omega (arith, levels, levels_were, w.1)
@@ -111,9 +111,9 @@ module _ {K V : Type 0} where
       }
 
   -- an entry went out of the tree under a root, which has others
-  pub removal : (most : ℕ) (old new : Table K V) (root place : ℕ) (path indices : List ℕ) (size : ℕ) (path' indices' : List ℕ) (size' root' : ℕ) → IsUnion most old → StandsUnder old.nodes root path indices size place → Removed most old new path' indices' size' (tree_of old.nodes root) place root' → Removal most old new root root' place path' indices' size'
-  removal most old new root place path indices size path' indices' size' root' union s i =
-      subst (λ (z : ℕ). Removal most old new root z place path' indices' size') i.root_is (removed_root most old new root place path indices size path' indices' size' root' union s i)
+  pub removal : (most : ℕ) (old new : Table K V) (root place : ℕ) (path indices : List ℕ) (size : ℕ) (Now : Tree K V → Type 0) (root' : ℕ) → IsUnion most old → StandsUnder old.nodes root path indices size place → Removed most old new Now (tree_of old.nodes root) place root' → Removal most old new root root' place Now
+  removal most old new root place path indices size Now root' union s i =
+      subst (λ (z : ℕ). Removal most old new root z place Now) i.root_is (removed_root most old new root place path indices size Now root' union s i)
 
   -- the last entry went, and the tree with it
   pub record Ending (most : ℕ) (old new : Table K V) (root place : ℕ) : Type 0 where
@@ -144,19 +144,19 @@ module _ {K V : Type 0} where
       }
 
   -- either of the two, as the answer says
-  abbrev pub Outcome : ℕ → Table K V → Table K V → ℕ → ℕ → List ℕ → List ℕ → ℕ → Option ℕ → Type 0
-  Outcome most old new root place path' indices' size' None = Ending most old new root place
-  Outcome most old new root place path' indices' size' (Some root') = Removal most old new root root' place path' indices' size'
+  abbrev pub Outcome : ℕ → Table K V → Table K V → ℕ → ℕ → (Tree K V → Type 0) → Option ℕ → Type 0
+  Outcome most old new root place Now None = Ending most old new root place
+  Outcome most old new root place Now (Some root') = Removal most old new root root' place Now
 
   -- as the call for a leaf of one entry says
-  pub outcome : (most : ℕ) (old new : Table K V) (root place : ℕ) (path indices : List ℕ) (size : ℕ) (path' indices' : List ℕ) (size' : ℕ) (found : Option ℕ) → IsUnion most old → StandsUnder old.nodes root path indices size place →
-      IfSome found (λ root'. Removed most old new path' indices' size' (tree_of old.nodes root) place root') → (found ≡ None → Emptied most old new (tree_of old.nodes root) place) → Outcome most old new root place path' indices' size' found
-  outcome most old new root place path indices size path' indices' size' None union s removed emptied = ending most old new root place path indices size union s (emptied refl)
-  outcome most old new root place path indices size path' indices' size' (Some root') union s removed emptied = removal most old new root place path indices size path' indices' size' root' union s removed
+  pub outcome : (most : ℕ) (old new : Table K V) (root place : ℕ) (path indices : List ℕ) (size : ℕ) (Now : Tree K V → Type 0) (found : Option ℕ) → IsUnion most old → StandsUnder old.nodes root path indices size place →
+      IfSome found (λ root'. Removed most old new Now (tree_of old.nodes root) place root') → (found ≡ None → Emptied most old new (tree_of old.nodes root) place) → Outcome most old new root place Now found
+  outcome most old new root place path indices size Now None union s removed emptied = ending most old new root place path indices size union s (emptied refl)
+  outcome most old new root place path indices size Now (Some root') union s removed emptied = removal most old new root place path indices size Now root' union s removed
 
   -- what both say
-  pub record Said (most : ℕ) (old new : Table K V) (root place : ℕ) (path' indices' : List ℕ) (size' : ℕ) (found : Option ℕ) : Type 0 where
-    pub some : IfSome found (λ root'. Removal most old new root root' place path' indices' size')
+  pub record Said (most : ℕ) (old new : Table K V) (root place : ℕ) (Now : Tree K V → Type 0) (found : Option ℕ) : Type 0 where
+    pub some : IfSome found (λ root'. Removal most old new root root' place Now)
     pub gives : GivesNodes (sizes_of (tree_of old.nodes root)) (shrink most place (sizes_of (tree_of old.nodes root))) old new
     pub last : (found ≡ None) ↔ (length (flat (tree_of old.nodes root).leaves) ≡ 1)
     pub ended : found ≡ None → Ends most old new root
@@ -164,8 +164,8 @@ module _ {K V : Type 0} where
     pub freed_root : found ≢ Some root → 0 < count root new.chain
 
   -- each of the two says so
-  pub said : (most : ℕ) (old new : Table K V) (root place : ℕ) (path' indices' : List ℕ) (size' : ℕ) (found : Option ℕ) → Outcome most old new root place path' indices' size' found → Said most old new root place path' indices' size' found
-  said most old new root place path' indices' size' None e = record {
+  pub said : (most : ℕ) (old new : Table K V) (root place : ℕ) (Now : Tree K V → Type 0) (found : Option ℕ) → Outcome most old new root place Now found → Said most old new root place Now found
+  said most old new root place Now None e = record {
     some = tt;
     gives = e.gives;
     last = (λ is. e.single, λ is. refl);
@@ -173,7 +173,7 @@ module _ {K V : Type 0} where
     none_left = λ is. e.none_left;
     freed_root = λ ne. e.freed_root;
   }
-  said most old new root place path' indices' size' (Some root') r = record {
+  said most old new root place Now (Some root') r = record {
     some = r;
     gives = r.gives;
     last = (λ is. absurd cc, λ one. absurd (r.others one));

@@ -1,5 +1,5 @@
 -- A tree after an entry went, before roots with a single child go, and after.
-use Rattle.std.proofs.Common.{◌≡◌, ℕ, zero, suc, ◌+◌, ◌≤◌, ◌<◌, false, Some, List, [], ◌∷◌, ◌++◌, map, length, get_or, refl, sym, ap, ◌∙◌, subst, append_assoc, append-nil, length-append, arith}
+use Rattle.std.proofs.Common.{◌≡◌, ℕ, zero, suc, ◌+◌, ◌≤◌, ◌<◌, Some, List, [], ◌∷◌, ◌++◌, ◌⊎◌, map, length, get_or, refl, sym, ap, ◌∙◌, subst, append_assoc, append-nil, length-append, arith}
 use Rattle.std.specs.List.{flat_map, remove}
 use Rattle.std.proofs.lemmas.List.Concat.{flat_map-append}
 use Rattle.bforest_core.specs.Table.{Table}
@@ -13,6 +13,7 @@ use Rattle.bforest_core.proofs.table.Tables.{count-append, count-row, row-same, 
 use Rattle.bforest_core.proofs.rows.Tops.{root-stands, top_tree}
 use Rattle.bforest_core.proofs.removal.Losses.{loss_at, placed}
 use Rattle.bforest_core.proofs.removal.Frees.{frees-refl, frees-then, freed-then}
+use Rattle.bforest_core.proofs.removal.Rebalance.{enough, judged}
 use Rattle.bforest_core.proofs.removal.Collapse.{length-sizes, trimmed-is, topped-sizes, stands-below, rows-parts}
 
 module _ {K V : Type 0} where
@@ -48,10 +49,10 @@ module _ {K V : Type 0} where
   }
 
   -- and after roots went
-  pub trimmed_removed : (most : ℕ) (old mid new : Table K V) (path indices : List ℕ) (size : ℕ) (tree : Tree K V) (place root : ℕ) (leaves : List (LevelNode K V)) (rows : List (List (LevelNode K ℕ))) (freed : List ℕ) (size1 size2 root' : ℕ) (gone : List ℕ) (path' indices' : List ℕ) (size' : ℕ) →
+  pub trimmed_removed : (most : ℕ) (old mid new : Table K V) (path indices : List ℕ) (size : ℕ) (tree : Tree K V) (place root : ℕ) (leaves : List (LevelNode K V)) (rows : List (List (LevelNode K ℕ))) (freed : List ℕ) (size1 size2 root' : ℕ) (gone : List ℕ) (Now : Tree K V → Type 0) →
       StandsIn most old path indices size tree place → Untrimmed most old mid tree place leaves rows freed → root_of tree ≡ root → (t : Trimmed mid new size1 size2 rows (heads leaves) root root' gone) → size1 ≡ size →
-      IsPathAt path' indices' size' (record { leaves = leaves; above = t.rows' }) place → Removed most old new path' indices' size' tree place root'
-  trimmed_removed most old mid new path indices size tree place root leaves rows freed size1 size2 root' gone path' indices' size' s u root_is t size_is at =
+      Now (record { leaves = leaves; above = t.rows' }) → Removed most old new Now tree place root'
+  trimmed_removed most old mid new path indices size tree place root leaves rows freed size1 size2 root' gone Now s u root_is t size_is at =
       let parts = λ (m : ℕ). ap (λ z. count m z) (ap (flat_map numbers) t.rows_are ∙ flat_map-append numbers t.rows' t.discarded) ∙ count-append m (flat_map numbers t.rows') (flat_map numbers t.discarded) in
       let c0 = λ (m : ℕ). count-append m (numbers leaves) (flat_map numbers rows) in
       let c1 = λ (m : ℕ). count-append m (numbers leaves) (flat_map numbers t.rows') in
@@ -81,10 +82,10 @@ module _ {K V : Type 0} where
       }
 
   -- no root goes where each level keeps its nodes
-  pub whole_removed : (most : ℕ) (old new : Table K V) (path indices : List ℕ) (size : ℕ) (tree : Tree K V) (place root : ℕ) (leaves : List (LevelNode K V)) (rows : List (List (LevelNode K ℕ))) (freed : List ℕ) (path' indices' : List ℕ) (size' : ℕ) →
+  pub whole_removed : (most : ℕ) (old new : Table K V) (path indices : List ℕ) (size : ℕ) (tree : Tree K V) (place root : ℕ) (leaves : List (LevelNode K V)) (rows : List (List (LevelNode K ℕ))) (freed : List ℕ) (Now : Tree K V → Type 0) →
       StandsIn most old path indices size tree place → Untrimmed most old new tree place leaves rows freed → root_of tree ≡ root → length (heads leaves) ≡ length (heads tree.leaves) → map sizes rows ≡ map sizes tree.above →
-      IsPathAt path' indices' size' (record { leaves = leaves; above = rows }) place → Removed most old new path' indices' size' tree place root
-  whole_removed most old new path indices size tree place root leaves rows freed path' indices' size' s u root_is len same at =
+      Now (record { leaves = leaves; above = rows }) → Removed most old new Now tree place root
+  whole_removed most old new path indices size tree place root leaves rows freed Now s u root_is len same at =
       let topped = topped-sizes (heads tree.leaves) (heads leaves) tree.above rows s.fit.stacked u.stacked len same s.fit.topped in
       let none : Trimmed new new size size rows (heads leaves) root root [] = record {
         rows' = rows;
@@ -99,41 +100,34 @@ module _ {K V : Type 0} where
         old_root = λ ne. absurd (ne refl);
         frees = frees-refl new [];
       } in
-      trimmed_removed most old new new path indices size tree place root leaves rows freed size size root [] path' indices' size' s u root_is none refl at
+      trimmed_removed most old new new path indices size tree place root leaves rows freed size size root [] Now s u root_is none refl at
 
-  -- the path is behind all entries: the leaf is the last and stays
-  pub past_untrimmed : (most : ℕ) (old new : Table K V) (path indices : List ℕ) (size : ℕ) (tree : Tree K V) (place : ℕ) → StandsIn most old path indices size tree place → (l : LeafLoss most old new path indices size tree place) → l.after ≡ [] →
-      Untrimmed most old new tree place (l.before ++ node (get_or path 0 0) l.entries ∷ []) l.rest []
-  past_untrimmed most old new path indices size tree place s l none =
+  -- the leaf is half full yet or the last, and stays as it is
+  pub kept_untrimmed : (most : ℕ) (old new : Table K V) (path indices : List ℕ) (size : ℕ) (tree : Tree K V) (place : ℕ) → StandsIn most old path indices size tree place → (l : LeafLoss most old new path indices size tree place) → (half_of most ≤ length l.entries) ⊎ (l.after ≡ []) →
+      Untrimmed most old new tree place (l.before ++ node (get_or path 0 0) l.entries ∷ l.after) l.rest []
+  kept_untrimmed most old new path indices size tree place s l why =
       let n = get_or path 0 0 in
-      let row : List (LevelNode K V) = l.before ++ node n l.entries ∷ [] in
-      let row_is : l.before ++ node n l.entries ∷ l.after ≡ row = ap (λ z. l.before ++ node n l.entries ∷ z) none in
+      let row : List (LevelNode K V) = l.before ++ node n l.entries ∷ l.after in
       let least_one : 1 ≤ most = omega (arith, l.some, l.most_is) in
       let half : 1 ≤ half_of most = omega (arith, least_one) in
-      let l1 = ap (λ z. loss most place z) (l.sizes_were ∙ ap (λ z. sizes l.before ++ suc (length l.entries) ∷ sizes z) none) ∙ ap (λ z. loss most z (sizes l.before ++ suc (length l.entries) ∷ [])) l.place_is ∙ loss_at most l.before (length l.entries) (get_or indices 0 0) [] (omega (arith, l.entry_was)) in
-      let alone = rebalanced_alone most (length l.entries) l.some in
-      let l2 = l1 ∙ ap (λ z. (placed (length l.before) z.0, sizes l.before ++ z.1)) alone in
+      let l1 = ap (λ z. loss most place z) l.sizes_were ∙ ap (λ z. loss most z (sizes l.before ++ suc (length l.entries) ∷ sizes l.after)) l.place_is ∙ loss_at most l.before (length l.entries) (get_or indices 0 0) (sizes l.after) (omega (arith, l.entry_was)) in
+      let l2 = l1 ∙ ap (λ z. (placed (length l.before) z.0, sizes l.before ++ z.1)) (judged (half_of most) most l.entries l.after (omega arith) l.some why) in
       let full = Solid-full (half_of most) most half l.before l.solid in
-      let fit : FitRow (half_of most) most row = FitRow-join (half_of most) most l.before (node n l.entries) [] l.solid (l.some, l.most_is, tt) in
       let st = l.above.stands in
       record {
-        flat_is = ap flat (sym row_is) ∙ l.flat_is;
-        sizes_are = ap (λ z. z ∷ map sizes l.rest) (sizes-append l.before (node n l.entries ∷ [])) ∙ ap (λ z. (sizes l.before ++ length l.entries ∷ []) ∷ z) l.rest_sizes ∙ sym (ap (λ z. z.1 ∷ loss_above z.0 (map sizes tree.above)) l2);
+        flat_is = l.flat_is;
+        sizes_are = ap (λ z. z ∷ map sizes l.rest) (sizes-append l.before (node n l.entries ∷ l.after)) ∙ ap (λ z. (sizes l.before ++ length l.entries ∷ sizes l.after) ∷ z) l.rest_sizes ∙ sym (ap (λ z. z.1 ∷ loss_above z.0 (map sizes tree.above)) l2);
         half = half;
-        leaves_fit = fit;
-        leaves_in = subst (λ (z : List (LevelNode K V)). RowIn leaf_content new.nodes z) row_is l.inside;
-        some = omega (arith, ap length (flat-append l.before (node n l.entries ∷ [])), length-append (flat l.before) (l.entries ++ []), length-append l.entries [], l.some);
-        stacked = subst (λ (z : List (LevelNode K V)). Stacked (heads z) l.rest) row_is l.above.stacked;
+        leaves_fit = FitRow-join (half_of most) most l.before (node n l.entries) l.after l.solid (enough (half_of most) l.entries l.after l.some why, l.most_is, l.fits);
+        leaves_in = l.inside;
+        some = omega (arith, ap length (flat-append l.before (node n l.entries ∷ l.after)), length-append (flat l.before) (l.entries ++ flat l.after), length-append l.entries (flat l.after), l.some);
+        stacked = l.above.stacked;
         rows_in = l.above.inside;
         height = omega (arith, l.above.height, s.stands.size_is);
-        numbers_are = λ m. omega (arith, l.numbers_are m, ap (λ z. count m (numbers z ++ flat_map numbers l.rest)) row_is);
-        root_is = top_tree row l.rest path indices size (length l.before) l.before l.entries [] refl l.some (subst (λ (z : List (LevelNode K V)). Stacked (heads z) l.rest) row_is l.above.stacked) (rw full at st) (omega (arith, l.above.height)) ∙ sym (root-stands most tree path indices size place s.fit s.stands);
+        numbers_are = λ m. omega (arith, l.numbers_are m);
+        root_is = top_tree row l.rest path indices size (length l.before) l.before l.entries l.after refl l.some l.above.stacked (rw full at st) (omega (arith, l.above.height)) ∙ sym (root-stands most tree path indices size place s.fit s.stands);
         frees = l.frees;
       }
-    where
-      rebalanced_alone : (most m : ℕ) → 1 ≤ m → rebalanced most m [] ≡ (false, m ∷ [])
-      rebalanced_alone most zero some = absurd (omega (arith, some))
-      rebalanced_alone most (suc m) some = refl
 
   -- the leaf stays, healed by its neighbour or not at all
   pub healed_untrimmed : (most : ℕ) (old mid new : Table K V) (path indices path' indices' : List ℕ) (size : ℕ) (tree : Tree K V) (place : ℕ) → StandsIn most old path indices size tree place → (l : LeafLoss most old mid path indices size tree place) →

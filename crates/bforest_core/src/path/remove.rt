@@ -4,7 +4,7 @@ ghost use Rattle.bforest_nodes.specs.Content.{IsLeafCapacity};
 ghost use Rattle.bforest_core.specs.Levels.{LevelNode, flat, Tree, most_levels};
 ghost use Rattle.bforest_core.specs.Sizes.{shrink};
 ghost use Rattle.bforest_core.specs.Table.{Table};
-ghost use Rattle.bforest_core.specs.Place.{leaf_content, root_of, count};
+ghost use Rattle.bforest_core.specs.Place.{IsPathAt, leaf_content, root_of, count};
 ghost use Rattle.bforest_core.specs.Removal.{UpTo, Trimmed, StandsIn, LeafLoss, Removed, Emptied};
 ghost use Rattle.bforest_core.specs.Change.{Changes, Ends, GivesNodes};
 ghost use Rattle.bforest_core.specs.Trees.{IsUnion};
@@ -57,6 +57,40 @@ impl<K: Copy, V: Copy, const N: usize> Path<K, V, N> {
         }
     }
 
+    /// Takes the entry here out as `remove` does, where the path is of no use any more: nothing is said of where it goes. Where the leaf stays
+    /// half full, no neighbour is read.
+    pub fn remove_only(&mut self, pool: &mut NodePool<K, V, N>) -> Option<Node>
+        requires union { IsUnion N pool.old }
+        requires stands { OnEntry pool.old self.old }
+
+        // What a removal leaves.
+        ensures removed { (at : OnEntry pool.old self.old)
+            → IfSome result (λ root'. Changes N pool.old pool.new at.root root'
+            (remove (list_under pool.old at.root) at.place)
+            (shrink N at.place (sizes_under pool.old at.root))) }
+        ensures account { (at : OnEntry pool.old self.old) → GivesNodes (sizes_under pool.old at.root)
+            (shrink N at.place (sizes_under pool.old at.root)) pool.old pool.new }
+        ensures same_root { (at : OnEntry pool.old self.old) → IfSome result (λ root'. (root' ≡ at.root)
+            ↔ (length (shrink N at.place (sizes_under pool.old at.root))
+            ≡ length (sizes_under pool.old at.root))) }
+
+        // When it was the last entry, and what is left then.
+        ensures last { (at : OnEntry pool.old self.old)
+            → (result ≡ None) ↔ (length (list_under pool.old at.root) ≡ 1) }
+        ensures ended { result ≡ None → (at : OnEntry pool.old self.old) → Ends N pool.old pool.new at.root }
+        ensures none_left { result ≡ None → (at : OnEntry pool.old self.old)
+            → shrink N at.place (sizes_under pool.old at.root) ≡ [] }
+        ensures freed_root { (at : OnEntry pool.old self.old)
+            → result ≢ Some at.root → 0 < count at.root pool.new.chain }
+    {
+        if entries(pool, self.node[0]) > N / 2 + 1 {
+            self.take_entry(pool);
+            Some(self.root())
+        } else {
+            self.remove(pool)
+        }
+    }
+
     // Takes out the only entry of the path's leaf, with the leaf, and goes to the end: only the right-most leaf has so few. Answers the
     // tree's root, or nothing where there is no tree any more.
     fn remove_leaf(&mut self, root: Node, pool: &mut NodePool<K, V, N>) -> Option<Node>
@@ -66,8 +100,8 @@ impl<K: Copy, V: Copy, const N: usize> Path<K, V, N> {
         requires single { (x : K × V) × (slice_get pool.old.nodes (get_or self.old.node 0 0)
             ≡ Some (leaf_content (x ∷ []))) }
         ensures removed { (tree : Tree K V) (place : ℕ) → StandsIn N pool.old self.old.node self.old.entry
-            self.old.size tree place → IfSome result (λ root'. Removed N pool.old pool.new self.new.node
-            self.new.entry self.new.size tree place root') }
+            self.old.size tree place → IfSome result (λ root'. Removed N pool.old pool.new
+            (λ now. IsPathAt self.new.node self.new.entry self.new.size now place) tree place root') }
         ensures emptied { result ≡ None → (tree : Tree K V) (place : ℕ) → StandsIn N pool.old self.old.node
             self.old.entry self.old.size tree place → Emptied N pool.old pool.new tree place }
         ensures end { self.new.size ≡ 0 }
@@ -91,8 +125,8 @@ impl<K: Copy, V: Copy, const N: usize> Path<K, V, N> {
         requires others { (x y : K × V) × (es : List (K × V))
             × (slice_get pool.old.nodes (get_or self.old.node 0 0) ≡ Some (leaf_content (x ∷ y ∷ es))) }
         ensures { (tree : Tree K V) (place : ℕ) → StandsIn N pool.old self.old.node self.old.entry
-            self.old.size tree place → Removed N pool.old pool.new self.new.node self.new.entry self.new.size
-            tree place result }
+            self.old.size tree place → Removed N pool.old pool.new
+            (λ now. IsPathAt self.new.node self.new.entry self.new.size now place) tree place result }
     {
         self.take_entry(pool);
         if self.is_past_end(pool) {

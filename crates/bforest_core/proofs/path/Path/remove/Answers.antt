@@ -1,6 +1,6 @@
 use Rattle.std.proofs.Common.{rules, ◌≡◌, ◌≢◌, ℕ, Some, ◌∷◌, ◌++◌, get_or, length, sym, ◌∙◌, length-append, arith}
 use Rattle.std.proofs.lemmas.List.{get_or_default}
-use Rattle.bforest_core.specs.Place.{leaf_content}
+use Rattle.bforest_core.specs.Place.{IsPathAt, leaf_content}
 use Rattle.bforest_core.specs.Trees.{tree_of}
 use Rattle.bforest_core.specs.Change.{StandsUnder}
 use Rattle.bforest_core.proofs.rows.Tops.{root-stands}
@@ -52,21 +52,21 @@ remove_entry-requires g c =
 
 -- what the removal of a leaf says
 leaf_said : (g : Over) (c : goal.After-remove_leaf g) (root place : ℕ) → StandsUnder c.args.pool.now.nodes root c.args.self.now.node c.args.self.now.entry c.args.self.now.size place →
-    Said g.row.N c.args.pool.now c.remove_leaf.new.pool root place c.remove_leaf.new.self.node c.remove_leaf.new.self.entry c.remove_leaf.new.self.size c.remove_leaf.result
+    Said g.row.N c.args.pool.now c.remove_leaf.new.pool root place (λ z. IsPathAt c.remove_leaf.new.self.node c.remove_leaf.new.self.entry c.remove_leaf.new.self.size z place) c.remove_leaf.result
 leaf_said g c root place u =
     let s = stands_in g.row.N c.args.pool.now root place _ _ _ c.requires.union u in
     let tree = tree_of c.args.pool.now.nodes root in
-    said g.row.N c.args.pool.now c.remove_leaf.new.pool root place c.remove_leaf.new.self.node c.remove_leaf.new.self.entry c.remove_leaf.new.self.size c.remove_leaf.result
-    (outcome g.row.N c.args.pool.now c.remove_leaf.new.pool root place _ _ _ c.remove_leaf.new.self.node c.remove_leaf.new.self.entry c.remove_leaf.new.self.size c.remove_leaf.result c.requires.union u (c.remove_leaf.ensures.removed tree place s) (λ none. c.remove_leaf.ensures.emptied none tree place s))
+    said _ _ _ root place _ c.remove_leaf.result
+    (outcome _ _ _ root place _ _ _ _ c.remove_leaf.result c.requires.union u (c.remove_leaf.ensures.removed tree place s) (λ none. c.remove_leaf.ensures.emptied none tree place s))
 
 -- and that of an entry from a leaf that has others
 entry_said : (g : Over) (c : goal.After-remove_entry g) (root place : ℕ) → StandsUnder c.args.pool.now.nodes root c.args.self.now.node c.args.self.now.entry c.args.self.now.size place →
-    Said g.row.N c.args.pool.now c.remove_entry.new.pool root place c.remove_entry.new.self.node c.remove_entry.new.self.entry c.remove_entry.new.self.size (Some c.remove_entry.result)
+    Said g.row.N c.args.pool.now c.remove_entry.new.pool root place (λ z. IsPathAt c.remove_entry.new.self.node c.remove_entry.new.self.entry c.remove_entry.new.self.size z place) (Some c.remove_entry.result)
 entry_said g c root place u =
     let s = stands_in g.row.N c.args.pool.now root place _ _ _ c.requires.union u in
     let tree = tree_of c.args.pool.now.nodes root in
-    said g.row.N c.args.pool.now c.remove_entry.new.pool root place c.remove_entry.new.self.node c.remove_entry.new.self.entry c.remove_entry.new.self.size (Some c.remove_entry.result)
-    (removal g.row.N c.args.pool.now c.remove_entry.new.pool root place _ _ _ c.remove_entry.new.self.node c.remove_entry.new.self.entry c.remove_entry.new.self.size c.remove_entry.result c.requires.union u (c.remove_entry.ensures tree place s))
+    said _ _ _ root place _ (Some c.remove_entry.result)
+    (removal _ _ _ root place _ _ _ _ c.remove_entry.result c.requires.union u (c.remove_entry.ensures tree place s))
 
 pub returns-then-entries-eq1-clause-removed : goal.returns-then-entries-eq1-clause-removed
 returns-then-entries-eq1-clause-removed g c = λ at. if_some _ _ c.remove_leaf.result (λ root' r. r.changes) (leaf_said g c at.root at.place at.on).some
