@@ -15,3 +15,4 @@ pub mod Spots
 pub mod Fits
 pub mod Answered
 pub mod Stepping
+pub mod Between
