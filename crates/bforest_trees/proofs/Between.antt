@@ -1,17 +1,19 @@
 -- The entries within bounds are a slice of a list that increases.
-use Rattle.bforest_nodes.proofs.Found.{search_of-keys_of}
+use Rattle.bforest_nodes.proofs.Found.{place-present, search_of-keys_of}
 use Rattle.bforest_nodes.proofs.Searched.{up_to-absent as keys-up_to-absent, up_to-found}
-use Rattle.bforest_nodes.specs.Entries.{IsIncreasing, is_present, place, search_for}
+use Rattle.bforest_nodes.specs.Entries.{IsIncreasing, is_present, place, search_for, value_for}
 use Rattle.bforest_nodes.specs.Search.{count_up_to}
+use Rattle.bforest_trees.proofs.Putting.{absent-none, absent-told, present-some, present-told}
 use Rattle.bforest_trees.specs.Bounds.{end_place, entries_between, entry_at_most, is_from_start, is_past_end, start_place}
 use Rattle.bforest_core.specs.Place.{entry_before}
-use Rattle.std.proofs.Common.{Bool, Err, List, None, Ok, Option, Some, [], ap, arith, cond, count_by, drop, false, filter, if◌then◌else◌, length, not, refl, slice_get, slice_range, suc, sym, take, true, zero, ◌&&◌, ◌+◌, ◌-◌, ◌<◌, ◌∙◌, ◌∷◌, ◌≡◌, ◌≤◌, ℕ}
+use Rattle.std.proofs.Common.{Bool, Err, List, None, Ok, Option, Some, [], ap, arith, cond, count_by, drop, false, filter, if◌then◌else◌, length, min, not, refl, slice_get, slice_range, suc, sym, take, true, zero, ◌&&◌, ◌+◌, ◌-◌, ◌<◌, ◌∙◌, ◌∷◌, ◌≡◌, ◌≤◌, ℕ}
 use Rattle.std.proofs.lemmas.List.Elements.{filter_agree}
 use Rattle.std.proofs.lemmas.List.Sums.{count_by-le-length, sum_by-cons}
 use Rattle.std.specs.Cmp.{IsTotalOrder}
 use Rattle.std.specs.List.Sorted.{IsStrictlySortedBy}
 use Rattle.std.specs.List.{AllByRecursion, last_or}
 use Rattle.std.specs.Map.{keys_of}
+use Rattle.std.specs.Option.{is_some}
 use Rattle.std.specs.Ordering.{is_gt, is_le, is_lt, ordering_reverse}
 use Rattle.std.specs.declared.cmp.Ordering.TheVariants.{Equal, Greater, Less}
 use Rattle.std.specs.declared.cmp.Ordering.{Ordering}
@@ -32,7 +34,7 @@ module _ {A : Type 0} where
   count-cons : (t : A → Bool) (e : A) (es : List A) (b : Bool) → t e ≡ b → count_by t (e ∷ es) ≡ cond b 1 0 + count_by t es
   count-cons t e es b h = sum_by-cons (λ y. cond (t y) 1 0) e es ∙ ap (λ c. cond c 1 0 + count_by t es) h
 
-  pub count-same : (s t : A → Bool) → ((e : A) → s e ≡ t e) → (es : List A) → count_by s es ≡ count_by t es
+  count-same : (s t : A → Bool) → ((e : A) → s e ≡ t e) → (es : List A) → count_by s es ≡ count_by t es
   count-same s t h [] = refl
   count-same s t h (e ∷ es) = count-cons s e es (t e) (h e) ∙ ap (λ n. cond (t e) 1 0 + n) (count-same s t h es) ∙ sym (count-cons t e es (t e) refl)
 
@@ -189,12 +191,20 @@ module _ {K : Type 0} (cmp : K → K → Ordering) (o : IsTotalOrder cmp) where
       searched b e = ap (λ z. if z then Ok (place cmp es a) else Err (place cmp es a)) e
 
       -- behind the key where it is there
-      pub up-to-present : is_present cmp es a ≡ true → end_place cmp (Included a) es ≡ suc (place cmp es a)
+      up-to-present : is_present cmp es a ≡ true → end_place cmp (Included a) es ≡ suc (place cmp es a)
       up-to-present here = end-counted a es ∙ up_to-found cmp a o (keys_of es) (place cmp es a) h (search_of-keys_of cmp es a ∙ searched true here)
 
       -- at its place where it is not
-      pub up-to-absent : is_present cmp es a ≡ false → end_place cmp (Included a) es ≡ place cmp es a
+      up-to-absent : is_present cmp es a ≡ false → end_place cmp (Included a) es ≡ place cmp es a
       up-to-absent gone = end-counted a es ∙ keys-up_to-absent cmp a o (keys_of es) (place cmp es a) h (search_of-keys_of cmp es a ∙ searched false gone)
+
+      -- so one step from where a search for the key ended leads there if it found the key
+      pub behind-found : (v : Option X) → v ≡ value_for cmp es a → is_some v ≡ true → min (place cmp es a + 1) (length es) ≡ end_place cmp (Included a) es
+      behind-found v is some = let here = present-told cmp es a (sym (ap is_some is) ∙ some) in omega (arith, place-present cmp es a here, up-to-present here)
+
+      -- and none if it did not
+      pub behind-missed : (v : Option X) → v ≡ value_for cmp es a → is_some v ≡ false → place cmp es a ≡ end_place cmp (Included a) es
+      behind-missed v is none = sym (up-to-absent (absent-told cmp es a (sym (ap is_some is) ∙ none)))
 
       -- the last entry up to a key stands in front of that end
       at-most-before : entry_at_most cmp es a ≡ entry_before es (end_place cmp (Included a) es)
@@ -205,10 +215,10 @@ module _ {K : Type 0} (cmp : K → K → Ordering) (o : IsTotalOrder cmp) where
           ∙ ap (λ i. slice_range es i last) (start-unbounded es) ∙ ap (λ n. take n es) whole)
           ∙ last-taken es last (end-most (Included a) es)
 
-      -- so it is the key's where it is there
-      pub at-most-present : is_present cmp es a ≡ true → entry_at_most cmp es a ≡ slice_get es (place cmp es a)
-      at-most-present here = at-most-before ∙ ap (entry_before es) (up-to-present here)
+      -- so it is the key's where a search found one
+      pub at-most-found : (v : Option X) (x : X) (r : Option (K × X)) → v ≡ value_for cmp es a → v ≡ Some x → r ≡ slice_get es (place cmp es a) → r ≡ entry_at_most cmp es a
+      at-most-found v x r is some read = read ∙ sym (at-most-before ∙ ap (entry_before es) (up-to-present (present-some cmp es a x (sym is ∙ some))))
 
-      -- and the one in front of its place where it is not
-      pub at-most-absent : is_present cmp es a ≡ false → entry_at_most cmp es a ≡ entry_before es (place cmp es a)
-      at-most-absent gone = at-most-before ∙ ap (entry_before es) (up-to-absent gone)
+      -- and the one in front of its place where it found none
+      pub at-most-missed : (v : Option X) (r : Option (K × X)) → v ≡ value_for cmp es a → v ≡ None → r ≡ entry_before es (place cmp es a) → r ≡ entry_at_most cmp es a
+      at-most-missed v r is none read = read ∙ sym (at-most-before ∙ ap (entry_before es) (up-to-absent (absent-none cmp es a (sym is ∙ none))))

@@ -16,3 +16,6 @@ pub mod Fits
 pub mod Answered
 pub mod Stepping
 pub mod Between
+pub mod Meeting
+pub mod KeyOrder
+pub mod Ranging

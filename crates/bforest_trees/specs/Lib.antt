@@ -3,4 +3,5 @@ pub mod Calls
 pub mod Forest
 pub mod Layout
 pub mod Place
+pub mod Range
 pub mod Retain

@@ -13,11 +13,13 @@ ghost use Rattle.bforest_nodes.specs.Entries.{IsIncreasing, place, value_for};
 ghost use Rattle.std.specs.declared.cmp.Ordering.{Ordering};
 ghost use Rattle.std.specs.Prelude.{Err, IsTrue, None, Option, Some, [], length, remove, ◌*◌, ◌+◌, ◌-◌, ◌/◌, ◌<◌, ◌^◌, ◌≡◌, ◌≢◌, ◌≤◌, ◌↔◌, ℕ};
 
+mod range;
 mod walk;
 
 use crate::predicate::Predicate;
 use crate::retain;
 use bforest_core::{Comparator, Node, NodePool, OutOfMemory, PackedNode, Path};
+pub use range::Ends;
 use std::alloc::Global;
 use std::marker::Model;
 

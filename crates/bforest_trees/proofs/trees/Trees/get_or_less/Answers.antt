@@ -1,12 +1,10 @@
-use Rattle.bforest_trees.proofs.Between.{at-most-absent, at-most-present}
-use Rattle.bforest_trees.proofs.Putting.{absent-none, present-told}
+use Rattle.bforest_trees.proofs.Between.{at-most-found, at-most-missed}
 use Rattle.bforest_trees.proofs.Spots.{spot-end}
 use Rattle.bforest_trees.proofs.trees.Trees.get_or_less.Goals as goal
 use Rattle.bforest_trees.specs.Forest.{list_of}
 use Rattle.bforest_trees.specs.Place.{AtSpot}
 use Rattle.bforest_nodes.specs.Entries.{place}
-use Rattle.std.proofs.Common.{ap, rules, sym, ◌∙◌}
-use Rattle.std.specs.Option.{is_some}
+use Rattle.std.proofs.Common.{rules}
 
 pub goto-requires : goal.goto-requires
 goto-requires g c =
@@ -19,15 +17,13 @@ returns-in-Some g c =
     let cmp = g.C.Comparator.order c.args.comp.now in
     let es = list_of c.args.self.now c.args.handle in
     let k = c.args.key in
-    let here = present-told cmp es k (sym (ap is_some c.goto.ensures.value) ∙ ap is_some c.in-Some.is) in
     let at : AtSpot c.args.self.now c.args.handle c.goto.new.path = record { place = place cmp es k; spot = c.goto.ensures.spot } in
-    record { value = c.entry.ensures.value at ∙ sym (at-most-present cmp (g.met.C.Comparator.total c.args.comp.now) k es c.requires.increasing here) }
+    record { value = at-most-found cmp (g.met.C.Comparator.total c.args.comp.now) k es c.requires.increasing c.goto.result c.in-Some.field-0 c.entry.result c.goto.ensures.value c.in-Some.is (c.entry.ensures.value at) }
 
 pub returns-in-None : goal.returns-in-None
 returns-in-None g c =
     let cmp = g.C.Comparator.order c.args.comp.now in
     let es = list_of c.args.self.now c.args.handle in
     let k = c.args.key in
-    let gone = absent-none cmp es k (sym c.goto.ensures.value ∙ c.in-None.is) in
     let at : AtSpot c.args.self.now c.args.handle c.goto.new.path = record { place = place cmp es k; spot = c.goto.ensures.spot } in
-    record { value = c.prev.ensures.value at ∙ sym (at-most-absent cmp (g.met.C.Comparator.total c.args.comp.now) k es c.requires.increasing gone) }
+    record { value = at-most-missed cmp (g.met.C.Comparator.total c.args.comp.now) k es c.requires.increasing c.goto.result c.prev.result c.goto.ensures.value c.in-None.is (c.prev.ensures.value at) }
