@@ -17,3 +17,7 @@ pub mod Answered
 pub mod Stepping
 pub mod Writing
 pub mod Taking
+pub mod Between
+pub mod Meeting
+pub mod KeyOrder
+pub mod Ranging

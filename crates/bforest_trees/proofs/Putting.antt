@@ -37,6 +37,14 @@ module _ {K X : Type 0} (cmp : K → K → Ordering) (es : List (K × X)) (k : K
       go None h = absurd (cc)
       go (Some e) h = refl
 
+  -- and one whose value is not is absent
+  pub absent-told : is_some (value_for cmp es k) ≡ false → is_present cmp es k ≡ false
+  absent-told h = go (entry_for cmp es k) h
+    where
+      go : (o : Option (K × X)) → is_some (option_map (λ e. e.1) o) ≡ false → is_some o ≡ false
+      go None h = refl
+      go (Some e) h = absurd (cc)
+
 -- an answer the other way round
 pub swap-not : (a b : Bool) → not a ≡ b → a ≡ not b
 swap-not true true e = absurd (cc)

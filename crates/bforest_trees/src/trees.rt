@@ -1,5 +1,6 @@
 //! The table of all trees of a forest: each call on one tree, once for maps and sets.
 ghost use Rattle.bforest_trees.specs.Forest.{Becomes, Gives, IsAccounted, IsLive, Takes, empty, first_level, free_of, limit_of, list_at, list_of, sizes_at, sizes_of, slots_of};
+ghost use Rattle.bforest_trees.specs.Bounds.{entry_at_most};
 ghost use Rattle.bforest_trees.specs.Calls.{Clears, Filters, Inserts, Removes, Reserves, SameLevels};
 ghost use Rattle.bforest_trees.specs.Place.{AtSpot, IsComputed, IsSpot, OnSpot};
 ghost use Rattle.bforest_core.specs.Paths.{IsAtEnd};
@@ -12,6 +13,7 @@ ghost use Rattle.bforest_nodes.specs.Entries.{IsIncreasing, place, value_for};
 ghost use Rattle.std.specs.declared.cmp.Ordering.{Ordering};
 ghost use Rattle.std.specs.Prelude.{Err, IsTrue, None, Option, Some, [], length, remove, ◌*◌, ◌+◌, ◌-◌, ◌/◌, ◌<◌, ◌^◌, ◌≡◌, ◌≢◌, ◌≤◌, ◌↔◌, ℕ};
 
+mod range;
 mod take;
 mod value;
 mod walk;
@@ -19,6 +21,7 @@ mod walk;
 use crate::predicate::Predicate;
 use crate::retain;
 use bforest_core::{Comparator, Node, NodePool, OutOfMemory, PackedNode, Path};
+pub use range::Ends;
 use std::alloc::Global;
 use std::marker::Model;
 
@@ -139,6 +142,24 @@ impl<K: Copy, V: Copy, const N: usize> Trees<K, V, N> {
         match handle.expand() {
             Some(root) => self.pool.value_of(key, root, comp),
             None => None,
+        }
+    }
+
+    /// The last entry whose key is not greater than `key`: one search, and at most one step back.
+    pub fn get_or_less<C: Comparator<K>>(
+        &self,
+        handle: PackedNode,
+        key: K,
+        comp: &C,
+    ) -> Option<(K, V)>
+        requires live { IsLive self.now handle }
+        requires increasing { IsIncreasing (C.order comp.now) (list_of self.now handle) }
+        ensures value { result ≡ entry_at_most (C.order comp.now) (list_of self.now handle) key }
+    {
+        let mut path = Path::default();
+        match self.goto(handle, &mut path, key, comp) {
+            Some(_) => self.entry(handle, &path),
+            None => self.prev(handle, &mut path),
         }
     }
 

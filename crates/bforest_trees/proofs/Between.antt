@@ -1,0 +1,224 @@
+-- The entries within bounds are a slice of a list that increases.
+use Rattle.bforest_nodes.proofs.Found.{place-present, search_of-keys_of}
+use Rattle.bforest_nodes.proofs.Searched.{up_to-absent as keys-up_to-absent, up_to-found}
+use Rattle.bforest_nodes.specs.Entries.{IsIncreasing, is_present, place, search_for, value_for}
+use Rattle.bforest_nodes.specs.Search.{count_up_to}
+use Rattle.bforest_trees.proofs.Putting.{absent-none, absent-told, present-some, present-told}
+use Rattle.bforest_trees.specs.Bounds.{end_place, entries_between, entry_at_most, is_from_start, is_past_end, start_place}
+use Rattle.bforest_core.specs.Place.{entry_before}
+use Rattle.std.proofs.Common.{Bool, Err, List, None, Ok, Option, Some, [], ap, arith, cond, count_by, drop, false, filter, if◌then◌else◌, length, min, not, refl, slice_get, slice_range, suc, sym, take, true, zero, ◌&&◌, ◌+◌, ◌-◌, ◌<◌, ◌∙◌, ◌∷◌, ◌≡◌, ◌≤◌, ℕ}
+use Rattle.std.proofs.lemmas.List.Elements.{filter_agree}
+use Rattle.std.proofs.lemmas.List.Sums.{count_by-le-length, sum_by-cons}
+use Rattle.std.specs.Cmp.{IsTotalOrder}
+use Rattle.std.specs.List.Sorted.{IsStrictlySortedBy}
+use Rattle.std.specs.List.{AllByRecursion, last_or}
+use Rattle.std.specs.Map.{keys_of}
+use Rattle.std.specs.Option.{is_some}
+use Rattle.std.specs.Ordering.{is_gt, is_le, is_lt, ordering_reverse}
+use Rattle.std.specs.declared.cmp.Ordering.TheVariants.{Equal, Greater, Less}
+use Rattle.std.specs.declared.cmp.Ordering.{Ordering}
+use Rattle.std.specs.declared.ops.Bound.TheVariants.{Excluded, Included, Unbounded}
+use Rattle.std.specs.declared.ops.Bound.{Bound}
+
+and_false : (b : Bool) → (b && false) ≡ false
+and_false true = refl
+and_false false = refl
+
+module _ {A : Type 0} where
+  -- where s holds of an element it holds of all behind it
+  abbrev Rises : (A → Bool) → List A → Type 0
+  Rises s [] = Unit {0}
+  Rises s (e ∷ es) = (s e ≡ true → AllByRecursion (λ y. s y ≡ true) es) × Rises s es
+
+  -- a test counts as it answers for the first element
+  count-cons : (t : A → Bool) (e : A) (es : List A) (b : Bool) → t e ≡ b → count_by t (e ∷ es) ≡ cond b 1 0 + count_by t es
+  count-cons t e es b h = sum_by-cons (λ y. cond (t y) 1 0) e es ∙ ap (λ c. cond c 1 0 + count_by t es) h
+
+  count-same : (s t : A → Bool) → ((e : A) → s e ≡ t e) → (es : List A) → count_by s es ≡ count_by t es
+  count-same s t h [] = refl
+  count-same s t h (e ∷ es) = count-cons s e es (t e) (h e) ∙ ap (λ n. cond (t e) 1 0 + n) (count-same s t h es) ∙ sym (count-cons t e es (t e) refl)
+
+  count-none : (s : A → Bool) (es : List A) → AllByRecursion (λ y. s y ≡ true) es → count_by (λ y. not (s y)) es ≡ 0
+  count-none s [] h = refl
+  count-none s (e ∷ es) h = count-cons (λ y. not (s y)) e es false (ap not h.0) ∙ (let n = count-none s es h.1 in omega arith)
+
+  filter-none : (s t : A → Bool) (es : List A) → AllByRecursion (λ y. t y ≡ true) es → filter (λ y. s y && not (t y)) es ≡ []
+  filter-none s t [] h = refl
+  filter-none s t (e ∷ es) h = ap (λ b. cond b (e ∷ rest) rest) (ap (λ c. s e && not c) h.0 ∙ and_false (s e)) ∙ filter-none s t es h.1
+    where
+      rest : List A
+      rest = filter (λ y. s y && not (t y)) es
+
+  -- what s has reached and t has not is a slice
+  slice-filter : (s t : A → Bool) (es : List A) → Rises s es → Rises t es → filter (λ y. s y && not (t y)) es ≡ slice_range es (count_by (λ y. not (s y)) es) (count_by (λ y. not (t y)) es)
+  slice-filter s t [] hs ht = refl
+  slice-filter s t (e ∷ es) hs ht = go (slice-filter s t es hs.1 ht.1) (s e) refl (t e) refl
+    where
+      rest : List A
+      rest = filter (λ y. s y && not (t y)) es
+
+      i : ℕ
+      i = count_by (λ y. not (s y)) es
+
+      j : ℕ
+      j = count_by (λ y. not (t y)) es
+
+      -- the goal, by how both answer for the first
+      by : (b c : Bool) → s e ≡ b → t e ≡ c → cond (b && not c) (e ∷ rest) rest ≡ slice_range (e ∷ es) (cond (not b) 1 0 + i) (cond (not c) 1 0 + j)
+          → cond (s e && not (t e)) (e ∷ rest) rest ≡ slice_range (e ∷ es) (count_by (λ y. not (s y)) (e ∷ es)) (count_by (λ y. not (t y)) (e ∷ es))
+      by b c h k is = (λ n. cond (h n && not (k n)) (e ∷ rest) rest) ∙ is ∙ sym (λ n. slice_range (e ∷ es) (count-cons (λ y. not (s y)) e es (not b) (ap not h) n) (count-cons (λ y. not (t y)) e es (not c) (ap not k) n))
+
+      go : rest ≡ slice_range es i j → (b : Bool) → s e ≡ b → (c : Bool) → t e ≡ c → cond (s e && not (t e)) (e ∷ rest) rest ≡ slice_range (e ∷ es) (count_by (λ y. not (s y)) (e ∷ es)) (count_by (λ y. not (t y)) (e ∷ es))
+      go ih b h true k =
+          let zero_is : j ≡ 0 = count-none t es (ht.0 k) in
+          let d : (0 + j) - (cond (not b) 1 0 + i) ≡ 0 = omega (arith, zero_is) in
+          by b true h k (ap (λ c. cond c (e ∷ rest) rest) (and_false b) ∙ filter-none s t es (ht.0 k) ∙ sym (ap (λ m. take m (drop (cond (not b) 1 0 + i) (e ∷ es))) d))
+      go ih true h false k =
+          let z : i ≡ 0 = count-none s es (hs.0 h) in
+          let n : 0 + i ≡ 0 = omega (arith, z) in
+          let m : j - i ≡ j = omega (arith, z) in
+          let l : (1 + j) - (0 + i) ≡ suc j = omega (arith, z) in
+          by true false h k (ap (λ q. e ∷ q) (ih ∙ (λ x. take (m x) (drop (z x) es))) ∙ sym (λ x. take (l x) (drop (n x) (e ∷ es))))
+      go ih false h false k =
+          let n : 1 + i ≡ suc i = omega arith in
+          let d : (1 + j) - (1 + i) ≡ j - i = omega arith in
+          by false false h k (ih ∙ sym (λ x. take (d x) (drop (n x) (e ∷ es))))
+
+  -- the last of the first n elements
+  last-taken : (xs : List A) (n : ℕ) → n ≤ length xs → last_or None (take n xs) ≡ entry_before xs n
+  last-taken xs zero low = refl
+  last-taken xs (suc n) low = go None xs n (omega (arith, low))
+    where
+      go : (o : Option A) (xs : List A) (n : ℕ) → n < length xs → last_or o (take (suc n) xs) ≡ slice_get xs n
+      go o [] n low = absurd (omega (arith, low))
+      go o (x ∷ xs) zero low = refl
+      go o (x ∷ xs) (suc n) low = go (Some x) xs n (omega (arith, low))
+
+-- a test of how a bound compares, which holds of keys behind the bound alone
+record IsBehind (t : Ordering → Bool) : Type 0 where
+  behind : t Less ≡ true
+  only : t Greater ≡ false
+
+lt-behind : IsBehind is_lt
+lt-behind = record { behind = refl; only = refl }
+
+le-behind : IsBehind is_le
+le-behind = record { behind = refl; only = refl }
+
+module _ {K : Type 0} (cmp : K → K → Ordering) (o : IsTotalOrder cmp) where
+  -- how two keys compare, from the other
+  reversed-le : (a k : K) → is_lt (cmp k a) ≡ not (is_le (cmp a k))
+  reversed-le a k = ap is_lt (o.antisymm k a) ∙ go (cmp a k)
+    where
+      go : (r : Ordering) → is_lt (ordering_reverse r) ≡ not (is_le r)
+      go Less = refl
+      go Equal = refl
+      go Greater = refl
+
+  reversed-lt : (a k : K) → is_gt (cmp k a) ≡ is_lt (cmp a k)
+  reversed-lt a k = ap is_gt (o.antisymm k a) ∙ go (cmp a k)
+    where
+      go : (r : Ordering) → is_gt (ordering_reverse r) ≡ is_lt r
+      go Less = refl
+      go Equal = refl
+      go Greater = refl
+
+  module _ {X : Type 0} (t : Ordering → Bool) (b : IsBehind t) (a : K) where
+    -- a bound that a key has passed is less than all behind the key
+    passed : (e : K × X) (es : List (K × X)) → t (cmp a e.0) ≡ true → AllByRecursion (λ y. cmp e.0 y ≡ Less) (keys_of es) → AllByRecursion (λ (y : K × X). t (cmp a y.0) ≡ true) es
+    passed e [] h l = tt
+    passed e (x ∷ es) h l = (ap t (go (cmp a e.0) refl h) ∙ b.behind, passed e es h l.1)
+      where
+        go : (r : Ordering) → cmp a e.0 ≡ r → t (cmp a e.0) ≡ true → cmp a x.0 ≡ Less
+        go Less r h = o.trans a e.0 x.0 r l.0
+        go Equal r h = o.congr a e.0 x.0 r ∙ l.0
+        go Greater r h = let bad : t (cmp a e.0) ≡ false = ap t r ∙ b.only in absurd (cc)
+
+    bound-rises : (es : List (K × X)) → IsIncreasing cmp es → Rises (λ e. t (cmp a e.0)) es
+    unfolding IsStrictlySortedBy
+    bound-rises [] h = tt
+    bound-rises (e ∷ es) h = (λ on. passed e es on h.0, bound-rises es h.1)
+
+  module _ {X : Type 0} where
+    always-rises : (b : Bool) (es : List (K × X)) → Rises (λ e. b) es
+    always-rises b [] = tt
+    always-rises b (e ∷ es) = (λ on. all es on, always-rises b es)
+      where
+        all : (es : List (K × X)) → b ≡ true → AllByRecursion (λ y. b ≡ true) es
+        all [] on = tt
+        all (e ∷ es) on = (on, all es on)
+
+    start-rises : (lo : Bound K) (es : List (K × X)) → IsIncreasing cmp es → Rises (λ e. is_from_start cmp lo e.0) es
+    start-rises (Included a) es h = bound-rises is_le le-behind a es h
+    start-rises (Excluded a) es h = bound-rises is_lt lt-behind a es h
+    start-rises Unbounded es h = always-rises true es
+
+    end-rises : (hi : Bound K) (es : List (K × X)) → IsIncreasing cmp es → Rises (λ e. is_past_end cmp hi e.0) es
+    end-rises (Included a) es h = bound-rises is_lt lt-behind a es h
+    end-rises (Excluded a) es h = bound-rises is_le le-behind a es h
+    end-rises Unbounded es h = always-rises false es
+
+    -- the entries within bounds are those between two places
+    pub slice-between : (lo hi : Bound K) (es : List (K × X)) → IsIncreasing cmp es → entries_between cmp lo hi es ≡ slice_range es (start_place cmp lo es) (end_place cmp hi es)
+    slice-between lo hi es h = slice-filter (λ e. is_from_start cmp lo e.0) (λ e. is_past_end cmp hi e.0) es (start-rises lo es h) (end-rises hi es h)
+
+    -- a range from a key on begins at its place
+    pub start-included : (a : K) (es : List (K × X)) → place cmp es a ≡ start_place cmp (Included a) es
+    start-included a es = count-same (λ e. is_lt (cmp e.0 a)) (λ e. not (is_le (cmp a e.0))) (λ e. reversed-le a e.0) es
+
+    -- and one with no bound at the first entry
+    pub start-unbounded : (es : List (K × X)) → start_place cmp Unbounded es ≡ 0
+    start-unbounded [] = refl
+    start-unbounded (e ∷ es) = count-cons (λ _. false) e es false refl ∙ (let n = start-unbounded es in omega (arith, n))
+
+    -- or ends behind the last
+    pub end-unbounded : (es : List (K × X)) → end_place cmp Unbounded es ≡ length es
+    end-unbounded [] = refl
+    end-unbounded (e ∷ es) = count-cons (λ _. true) e es true refl ∙ (let n = end-unbounded es in omega (arith, n))
+
+    -- a range ends within the list
+    pub end-most : (hi : Bound K) (es : List (K × X)) → end_place cmp hi es ≤ length es
+    end-most hi es = count_by-le-length (λ e. not (is_past_end cmp hi e.0)) es
+
+    -- one up to a key ends behind as many keys as are not greater
+    end-counted : (a : K) (es : List (K × X)) → end_place cmp (Included a) es ≡ count_up_to cmp (keys_of es) a
+    end-counted a [] = refl
+    end-counted a (e ∷ es) =
+        count-cons (λ y. not (is_lt (cmp a y.0))) e es (not (is_gt (cmp e.0 a))) (ap not (sym (reversed-lt a e.0))) ∙ ap (λ n. cond (not (is_gt (cmp e.0 a))) 1 0 + n) (end-counted a es) ∙ sym (count-cons (λ y. not (is_gt (cmp y a))) e.0 (keys_of es) (not (is_gt (cmp e.0 a))) refl)
+
+    module _ (a : K) (es : List (K × X)) (h : IsIncreasing cmp es) where
+      searched : (b : Bool) → is_present cmp es a ≡ b → search_for cmp es a ≡ (if b then Ok (place cmp es a) else Err (place cmp es a))
+      searched b e = ap (λ z. if z then Ok (place cmp es a) else Err (place cmp es a)) e
+
+      -- behind the key where it is there
+      up-to-present : is_present cmp es a ≡ true → end_place cmp (Included a) es ≡ suc (place cmp es a)
+      up-to-present here = end-counted a es ∙ up_to-found cmp a o (keys_of es) (place cmp es a) h (search_of-keys_of cmp es a ∙ searched true here)
+
+      -- at its place where it is not
+      up-to-absent : is_present cmp es a ≡ false → end_place cmp (Included a) es ≡ place cmp es a
+      up-to-absent gone = end-counted a es ∙ keys-up_to-absent cmp a o (keys_of es) (place cmp es a) h (search_of-keys_of cmp es a ∙ searched false gone)
+
+      -- so one step from where a search for the key ended leads there if it found the key
+      pub behind-found : (v : Option X) → v ≡ value_for cmp es a → is_some v ≡ true → min (place cmp es a + 1) (length es) ≡ end_place cmp (Included a) es
+      behind-found v is some = let here = present-told cmp es a (sym (ap is_some is) ∙ some) in omega (arith, place-present cmp es a here, up-to-present here)
+
+      -- and none if it did not
+      pub behind-missed : (v : Option X) → v ≡ value_for cmp es a → is_some v ≡ false → place cmp es a ≡ end_place cmp (Included a) es
+      behind-missed v is none = sym (up-to-absent (absent-told cmp es a (sym (ap is_some is) ∙ none)))
+
+      -- the last entry up to a key stands in front of that end
+      at-most-before : entry_at_most cmp es a ≡ entry_before es (end_place cmp (Included a) es)
+      at-most-before =
+          let last = end_place cmp (Included a) es in
+          let whole : last - 0 ≡ last = omega arith in
+          ap (last_or None) (filter_agree (λ e. not (is_gt (cmp e.0 a))) (λ e. true && not (is_lt (cmp a e.0))) (λ e. ap not (reversed-lt a e.0)) es ∙ slice-between Unbounded (Included a) es h
+          ∙ ap (λ i. slice_range es i last) (start-unbounded es) ∙ ap (λ n. take n es) whole)
+          ∙ last-taken es last (end-most (Included a) es)
+
+      -- so it is the key's where a search found one
+      pub at-most-found : (v : Option X) (x : X) (r : Option (K × X)) → v ≡ value_for cmp es a → v ≡ Some x → r ≡ slice_get es (place cmp es a) → r ≡ entry_at_most cmp es a
+      at-most-found v x r is some read = read ∙ sym (at-most-before ∙ ap (entry_before es) (up-to-present (present-some cmp es a x (sym is ∙ some))))
+
+      -- and the one in front of its place where it found none
+      pub at-most-missed : (v : Option X) (r : Option (K × X)) → v ≡ value_for cmp es a → v ≡ None → r ≡ entry_before es (place cmp es a) → r ≡ entry_at_most cmp es a
+      at-most-missed v r is none read = read ∙ sym (at-most-before ∙ ap (entry_before es) (up-to-absent (absent-none cmp es a (sym is ∙ none))))

@@ -1,0 +1,37 @@
+-- The part of a list of entries within bounds of its keys.
+use Rattle.std.specs.List.{filter, last_or}
+use Rattle.std.specs.Ordering.{is_gt, is_le, is_lt}
+use Rattle.std.specs.Prelude.{Bool, List, None, Option, count_by, false, not, true, ◌&&◌, ℕ}
+use Rattle.std.specs.declared.cmp.Ordering.{Ordering}
+use Rattle.std.specs.declared.ops.Bound.TheVariants.{Excluded, Included, Unbounded}
+use Rattle.std.specs.declared.ops.Bound.{Bound}
+
+module _ {K : Type 0} (cmp : K → K → Ordering) where
+  -- whether a key is inside a start bound
+  abbrev pub is_from_start : Bound K → K → Bool
+  is_from_start (Included a) k = is_le (cmp a k)
+  is_from_start (Excluded a) k = is_lt (cmp a k)
+  is_from_start Unbounded k = true
+
+  -- whether a key is outside an end bound
+  abbrev pub is_past_end : Bound K → K → Bool
+  is_past_end (Included b) k = is_lt (cmp b k)
+  is_past_end (Excluded b) k = is_le (cmp b k)
+  is_past_end Unbounded k = false
+
+module _ {K X : Type 0} (cmp : K → K → Ordering) where
+  -- the entries whose keys are within both bounds
+  abbrev pub entries_between : Bound K → Bound K → List (K × X) → List (K × X)
+  entries_between lo hi es = filter (λ e. is_from_start cmp lo e.0 && not (is_past_end cmp hi e.0)) es
+
+  -- the last of the entries whose keys are not greater than k
+  abbrev pub entry_at_most : List (K × X) → K → Option (K × X)
+  entry_at_most es k = last_or None (filter (λ e. not (is_gt (cmp e.0 k))) es)
+
+  -- how many keys are before the start
+  abbrev pub start_place : Bound K → List (K × X) → ℕ
+  start_place lo es = count_by (λ e. not (is_from_start cmp lo e.0)) es
+
+  -- how many keys are not past the end
+  abbrev pub end_place : Bound K → List (K × X) → ℕ
+  end_place hi es = count_by (λ e. not (is_past_end cmp hi e.0)) es
