@@ -9,11 +9,15 @@ mod forest;
 mod map;
 mod map_cursor;
 mod map_cursor_mut;
+mod map_into_iter;
 mod map_iter;
+mod map_range;
 
 pub use bforest_core::{Comparator, OutOfMemory};
 pub use forest::MapForest;
 pub use map::Map;
 pub use map_cursor::MapCursor;
 pub use map_cursor_mut::MapCursorMut;
+pub use map_into_iter::MapIntoIter;
 pub use map_iter::MapIter;
+pub use map_range::MapRange;

@@ -1,5 +1,6 @@
 //! The handle of one map.
 ghost use Rattle.bforest_nodes.specs.Entries.{IsIncreasing, value_for};
+ghost use Rattle.bforest.specs.Bounds.{entries_between, entry_at_most};
 ghost use Rattle.bforest.specs.Calls.{Clears, Filters, Inserts, Removes};
 ghost use Rattle.bforest.specs.Cursor.{IsCursor, comparator, forest_loan, forest_now, map_loan, map_now, spot};
 ghost use Rattle.bforest.specs.Forest.{Forest, IsLive, first_level, list_of, sizes_of};
@@ -13,12 +14,15 @@ ghost use Rattle.std.specs.Prelude.{IsTrue, None, [], true, ◌↔◌, length, �
 use crate::forest::MapForest;
 use crate::map_cursor::MapCursor;
 use crate::map_cursor_mut::MapCursorMut;
+use crate::map_into_iter::MapIntoIter;
 use crate::map_iter::MapIter;
+use crate::map_range::MapRange;
 use bforest_core::{Comparator, OutOfMemory, PackedNode, Path};
 use bforest_trees::Asked;
 use std::cmp::Ordering;
 use std::default::Default;
 use std::marker::{Model, PhantomData};
+use std::ops::Bound;
 
 /// The number of a map's tree, or nothing, which is the empty map.
 ///
@@ -90,6 +94,21 @@ impl<K: Copy, V: Copy> Map<K, V> {
         ensures value { result ≡ value_for (C.order comp.now) (list_of forest.now self.now) key }
     {
         forest.trees.get(self.root, key, comp)
+    }
+
+    /// The last entry whose key is not greater than `key`, as it is stored, or `None` where each key is greater. One search, as in
+    /// [`Map::get`], and at most one step back.
+    pub fn get_or_less<C: Comparator<K>>(
+        &self,
+        key: K,
+        forest: &MapForest<K, V>,
+        comp: &C,
+    ) -> Option<(K, V)>
+        requires live { IsLive forest.now self.now }
+        requires increasing { IsIncreasing (C.order comp.now) (list_of forest.now self.now) }
+        ensures entry { result ≡ entry_at_most (C.order comp.now) (list_of forest.now self.now) key }
+    {
+        forest.trees.get_or_less(self.root, key, comp)
     }
 
     /// Puts a value in at a key, and answers the value that was there. The same as [`Map::try_insert`].
@@ -195,6 +214,31 @@ impl<K: Copy, V: Copy> Map<K, V> {
         ensures ready { IsReadable K.row V.row }
     {
         MapIter::new(self, forest)
+    }
+
+    /// The entries in order, and then `None` for ever. The forest, with all its maps, is consumed.
+    pub fn into_iter(self, forest: MapForest<K, V>) -> MapIntoIter<K, V>
+        requires live { IsLive forest self }
+        ensures entries { result ≡ list_of forest self }
+    {
+        MapIntoIter::new(self, forest)
+    }
+
+    /// The entries within both bounds, in order, from both ends, and then `None` for ever. Two searches, as in [`Map::get`], and one
+    /// comparison; the steps compare nothing. Bounds the wrong way round, and two excluded bounds that compare equal, give nothing.
+    pub fn range<'a, C: Comparator<K>>(
+        &self,
+        bounds: (Bound<K>, Bound<K>),
+        forest: &'a MapForest<K, V>,
+        comp: &C,
+    ) -> MapRange<'a, K, V, C>
+        requires live { IsLive forest.now self.now }
+        requires increasing { IsIncreasing (C.order comp.now) (list_of forest.now self.now) }
+        ensures entries { result
+            ≡ entries_between (C.order comp.now) bounds.0 bounds.1 (list_of forest.now self.now) }
+        ensures ready { IsReadable K.row V.row }
+    {
+        MapRange::new(self, bounds, forest, comp)
     }
 
     /// A cursor that reads, at the end.

@@ -10,7 +10,8 @@ use Rattle.bforest_trees.proofs.Spots.{spot-end}
 use Rattle.bforest_trees.proofs.Stepping.{entry-at, spot-within}
 use Rattle.bforest_trees.specs.Forest.{Forest, IsLive, list_of}
 use Rattle.bforest_trees.specs.Place.{AtSpot, IsSpot}
-use Rattle.bforest_trees.specs.Range.{IsRange, left_in, spot_of}
+use Rattle.bforest_trees.specs.Range.{IsRange, left_in}
+use Rattle.bforest_trees.specs.Place.{spot_of}
 use Rattle.bforest_trees.specs.declared.trees.range.Ends.{Ends}
 use Rattle.bforest_core.proofs.table.Lists.{drop-read}
 use Rattle.bforest_core.proofs.walks.Backward.{at_end}

@@ -1,18 +1,11 @@
 -- What is left of a range: the entries between two paths in the list of a handle.
 use Rattle.bforest_trees.specs.Forest.{Forest, IsLive, list_of}
-use Rattle.bforest_trees.specs.Place.{IsSpot}
+use Rattle.bforest_trees.specs.Place.{IsSpot, spot_of}
 use Rattle.bforest_trees.specs.declared.trees.range.Ends.{Ends}
-use Rattle.bforest_core.specs.Paths.{spot}
 use Rattle.bforest_core.specs.Trees.{IsUnion}
-use Rattle.bforest_core.specs.declared.path.Path.{Path}
-use Rattle.std.specs.Prelude.{List, None, Option, Some, slice_range, ◌≤◌, ℕ}
+use Rattle.std.specs.Prelude.{List, Option, slice_range, ◌≤◌, ℕ}
 
 module _ {K X : Type 0} {n : ℕ} where
-  -- the place where a path stands in the list of a handle
-  abbrev pub spot_of : Forest K X → Option ℕ → Path K X n → ℕ
-  spot_of f None path = 0
-  spot_of f (Some root) path = spot f root path
-
   -- the entries that are left in the list of a handle: those from where the front stands up to where the back stands
   unfoldable pub left_in : Forest K X → Option ℕ → Ends K X n → List (K × X)
   left_in f h ends = slice_range (list_of f h) (spot_of f h ends.front) (spot_of f h ends.back)

@@ -1,7 +1,7 @@
 use Rattle.bforest_trees.proofs.Meeting.{spot-same}
 use Rattle.bforest_trees.proofs.Ranging.{range-empty}
 use Rattle.bforest_trees.proofs.trees.range.Ends.is_empty.Goals as goal
-use Rattle.bforest_trees.specs.Range.{spot_of}
+use Rattle.bforest_trees.specs.Place.{spot_of}
 
 pub returns : goal.returns
 returns g c = record {

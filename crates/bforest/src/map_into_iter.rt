@@ -1,0 +1,56 @@
+//! The entries of a map, with the forest that owns them.
+ghost use Rattle.bforest.specs.Forest.{IsLive, list_of};
+ghost use Rattle.bforest.specs.Memory.{IsReadable};
+ghost use Rattle.std.specs.Iterator.{YieldsFirst, item_count};
+ghost use Rattle.std.specs.Prelude.{◌≡◌};
+
+use crate::forest::MapForest;
+use crate::map::Map;
+use bforest_core::Path;
+use std::marker::Model;
+
+/// The entries of a map, in order, and then `None` for ever. It owns the forest, which ends with it. Made by [`Map::into_iter`]. A step
+/// compares nothing.
+#[derive(Drop)]
+pub struct MapIntoIter<K: Copy, V: Copy> {
+    forest: MapForest<K, V>,
+    // In front of the entry that comes next.
+    path: Path<K, V, 7>,
+}
+
+impl<K: Copy, V: Copy> Model for MapIntoIter<K, V> {
+    ghost use Rattle.bforest_trees.specs.Layout.{IsReading, entries_from};
+    ghost use Rattle.std.specs.Prelude.{List};
+
+    ghost Value = { List (K × V) };
+
+    ghost view = { λ i. entries_from i.forest i.path };
+
+    ghost invariant = { λ i. IsReading i.forest i.path };
+}
+
+impl<K: Copy, V: Copy> MapIntoIter<K, V> {
+    /// Over the entries of a map.
+    pub(crate) fn new(map: Map<K, V>, forest: MapForest<K, V>) -> MapIntoIter<K, V>
+        requires live { IsLive forest map }
+        ensures entries { result ≡ list_of forest map }
+    {
+        let mut path = Path::default();
+        if let Some(root) = map.root.expand() {
+            path.first(root, forest.trees.pool());
+        }
+        MapIntoIter { forest, path }
+    }
+}
+
+impl<K: Copy, V: Copy> Iterator for MapIntoIter<K, V> {
+    type Item = (K, V);
+
+    ghost next_gives = { YieldsFirst (λ entries. entries) };
+
+    ghost remaining = { item_count (λ entries. entries) };
+
+    fn next(&mut self) -> Option<(K, V)> {
+        self.path.pass(self.forest.trees.pool())
+    }
+}

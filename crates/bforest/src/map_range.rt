@@ -1,0 +1,82 @@
+//! The entries of a map within bounds.
+ghost use Rattle.bforest.specs.Bounds.{entries_between};
+ghost use Rattle.bforest.specs.Forest.{IsLive, list_of};
+ghost use Rattle.bforest.specs.Memory.{IsReadable};
+ghost use Rattle.bforest_nodes.specs.Entries.{IsIncreasing};
+ghost use Rattle.std.specs.Iterator.{YieldsFirst, YieldsLast, item_count};
+ghost use Rattle.std.specs.Prelude.{◌≡◌};
+
+use crate::forest::MapForest;
+use crate::map::Map;
+use bforest_core::{Comparator, PackedNode};
+use bforest_trees::{Ends, Trees};
+use std::marker::{Model, PhantomData};
+use std::ops::Bound;
+
+/// The entries of a map within bounds, in order, from both ends, and then `None` for ever. Made by [`Map::range`]. A step compares nothing.
+#[derive(Drop)]
+pub struct MapRange<'a, K: Copy, V: Copy, C: Comparator<K>> {
+    trees: &'a Trees<K, V, 7>,
+    root: PackedNode,
+    ends: Ends<K, V, 7>,
+    mark: PhantomData<C>,
+}
+
+impl<'a, K: Copy, V: Copy, C: Comparator<K>> Model for MapRange<'a, K, V, C> {
+    ghost use Rattle.bforest_trees.specs.Range.{IsRange, left_in};
+    ghost use Rattle.std.specs.Prelude.{List};
+
+    ghost Value = { List (K × V) };
+
+    ghost view = { λ r. left_in r.trees.now r.root r.ends };
+
+    ghost invariant = { λ r. IsRange r.trees.now r.root r.ends };
+}
+
+impl<'a, K: Copy, V: Copy, C: Comparator<K>> MapRange<'a, K, V, C> {
+    /// Over the entries within bounds.
+    pub(crate) fn new(
+        map: &Map<K, V>,
+        bounds: (Bound<K>, Bound<K>),
+        forest: &'a MapForest<K, V>,
+        comp: &C,
+    ) -> MapRange<'a, K, V, C>
+        requires live { IsLive forest.now map.now }
+        requires increasing { IsIncreasing (C.order comp.now) (list_of forest.now map.now) }
+        ensures entries { result
+            ≡ entries_between (C.order comp.now) bounds.0 bounds.1 (list_of forest.now map.now) }
+        ensures ready { IsReadable K.row V.row }
+    {
+        let trees = &forest.trees;
+        MapRange {
+            trees,
+            root: map.root,
+            ends: trees.range(map.root, bounds, comp),
+            mark: PhantomData,
+        }
+    }
+}
+
+impl<'a, K: Copy, V: Copy, C: Comparator<K>> Iterator for MapRange<'a, K, V, C> {
+    type Item = (K, V);
+
+    ghost can_next = { λ _. IsReadable K.row V.row };
+
+    ghost next_gives = { YieldsFirst (λ entries. entries) };
+
+    ghost remaining = { item_count (λ entries. entries) };
+
+    fn next(&mut self) -> Option<(K, V)> {
+        self.trees.range_next(self.root, &mut self.ends)
+    }
+}
+
+impl<'a, K: Copy, V: Copy, C: Comparator<K>> DoubleEndedIterator for MapRange<'a, K, V, C> {
+    ghost can_next_back = { λ _. IsReadable K.row V.row };
+
+    ghost next_back_gives = { YieldsLast (λ entries. entries) };
+
+    fn next_back(&mut self) -> Option<(K, V)> {
+        self.trees.range_next_back(self.root, &mut self.ends)
+    }
+}
