@@ -1,5 +1,5 @@
 -- What a removal leaves, where its key is present and where it is absent, and what the end of a tree leaves.
-use Rattle.bforest_trees.proofs.Changed.{becomes, list-none, list-root, same_list, same_sizes, sizes-new, sizes-none, sizes-root}
+use Rattle.bforest_trees.proofs.Changed.{becomes, list-none, list-root, same_list, same_sizes, seen-as, sizes-new, sizes-none, sizes-root}
 use Rattle.bforest_trees.proofs.Spots.{spot-on}
 use Rattle.bforest_trees.specs.Place.{IsSpot, OnSpot}
 use Rattle.bforest_core.proofs.walks.Standing.{on-within}
@@ -11,7 +11,11 @@ use Rattle.bforest_core.specs.Levels.{flat, sizes_of}
 use Rattle.bforest_core.specs.Sizes.{shrink}
 use Rattle.bforest_core.specs.Table.{Table}
 use Rattle.bforest_core.specs.Trees.{IsUnion, is_root, tree_of}
-use Rattle.bforest_nodes.specs.Entries.{is_present, place}
+use Rattle.bforest_nodes.proofs.Found.{cut-absent, cut-present}
+use Rattle.bforest_nodes.proofs.Ordered.{IsIncreasing-cut}
+use Rattle.bforest_nodes.specs.Entries.{IsIncreasing, is_present, place, value_for}
+use Rattle.bforest_trees.proofs.Putting.{absent-none, present-some}
+use Rattle.bforest_trees.specs.Calls.{Removes}
 use Rattle.std.proofs.Common.{IsTrue, List, None, Option, Some, [], IfSome, ap, arith, false, if◌then◌else◌, length, length-append, refl, remove, subst, suc, sym, true, zero, ◌<◌, ◌∙◌, ◌∷◌, ◌≡◌, ◌≤◌, ◌↔◌, ℕ}
 use Rattle.std.specs.declared.cmp.Ordering.{Ordering}
 
@@ -105,24 +109,23 @@ module _ {K X : Type 0} where
     sizes-cut (Some r') c none = sizes-new most f f' r r' es ss c
 
   -- what it leaves that the entry at a place of the list of a handle went
-  pub record IsTaken (most : ℕ) (f f' : Forest K X) (h : Option ℕ) (p : ℕ) (o : Option ℕ) (path' : Path K X most) : Type 0 where
+  pub record IsTaken (most : ℕ) (f f' : Forest K X) (h : Option ℕ) (p : ℕ) (o : Option ℕ) : Type 0 where
     pub union : IsUnion most f'
     pub removed : Becomes f h f' o (remove (list_of f h) p)
     pub sizes : forest_sizes f' o ≡ shrink most p (forest_sizes f h)
     pub same_levels : (o ≡ h) ↔ (length (forest_sizes f' o) ≡ length (forest_sizes f h))
     pub account : Gives (forest_sizes f h) (forest_sizes f' o) f f'
-    pub spot : IsSpot f' o path' p
 
-  module _ (most : ℕ) (f f' : Forest K X) (n p : ℕ) (path path' : Path K X most) (on : StandsOn f n path p) where
+  module _ (most : ℕ) (f f' : Forest K X) (n p : ℕ) (path : Path K X most) (on : StandsOn f n path p) where
     abbrev es : List (K × X)
     es = list_under f n
 
     abbrev ss : List (List ℕ)
     ss = sizes_under f n
 
-    taken : (o : Option ℕ) → IfSome o (λ r'. Changes most f f' n r' (remove es p) (shrink most p ss)) → GivesNodes ss (shrink most p ss) f f' → IfSome o (λ r'. StandsAt f' r' path' p) → IfSome o (λ r'. (r' ≡ n) ↔ (length (shrink most p ss) ≡ length ss)) →
-        ((o ≡ None) ↔ (length es ≡ 1)) → (o ≡ None → Ends most f f' n) → (o ≡ None → IsAtEnd path') → (o ≡ None → shrink most p ss ≡ []) → IsTaken most f f' (Some n) p o path'
-    taken o changes gv at same last ended end none =
+    pub taken : (o : Option ℕ) → IfSome o (λ r'. Changes most f f' n r' (remove es p) (shrink most p ss)) → GivesNodes ss (shrink most p ss) f f' → IfSome o (λ r'. (r' ≡ n) ↔ (length (shrink most p ss) ≡ length ss)) →
+        ((o ≡ None) ↔ (length es ≡ 1)) → (o ≡ None → Ends most f f' n) → (o ≡ None → shrink most p ss ≡ []) → IsTaken most f f' (Some n) p o
+    taken o changes gv same last ended none =
         let list : es ≡ list_at f n = sym (list-root f n on.root_is) in
         let sizes : ss ≡ sizes_at f n = sym (sizes-root f n on.root_is) in
         let low = on-within f n path p on in
@@ -135,22 +138,70 @@ module _ {K X : Type 0} where
           same_levels = subst (λ (z : List (List ℕ)). (o ≡ Some n) ↔ (length (forest_sizes f' o) ≡ length z)) sizes
               (subst (λ (z : List (List ℕ)). (o ≡ Some n) ↔ (length z ≡ length ss)) (sym now) (same-cut n ss (shrink most p ss) o same none (omega arith)));
           account = subst (λ (z : List (List ℕ)). Gives z (forest_sizes f' o) f f') sizes (subst (λ (z : List (List ℕ)). Gives ss z f f') (sym now) (gives f f' ss (shrink most p ss) gv));
-          spot = go o at last end low;
         }
-      where
-        go : (o : Option ℕ) → IfSome o (λ r'. StandsAt f' r' path' p) → ((o ≡ None) ↔ (length es ≡ 1)) → (o ≡ None → IsAtEnd path') → p < length es → IsSpot f' o path' p
-        go None at last end low = (end refl, (let one = last.0 refl in omega (arith, one, low)))
-        go (Some r') at last end low = at
+
+    -- where a path stands at what followed
+    spot-left : (path' : Path K X most) (o : Option ℕ) → IfSome o (λ r'. StandsAt f' r' path' p) → ((o ≡ None) ↔ (length es ≡ 1)) → (o ≡ None → IsAtEnd path') → IsSpot f' o path' p
+    spot-left path' None at last end = (end refl, (let one = last.0 refl in let low = on-within f n path p on in omega (arith, one, low)))
+    spot-left path' (Some r') at last end = at
 
   -- a removal at a path of a handle
-  pub taken-at : (most : ℕ) (f f' : Forest K X) (h : Option ℕ) (path path' : Path K X most) (o : Option ℕ) (at : OnSpot f h path) →
+  pub taken-at : (most : ℕ) (f f' : Forest K X) (h : Option ℕ) (path : Path K X most) (o : Option ℕ) (at : OnSpot f h path) →
       ((e : OnEntry f path) → IfSome o (λ r'. Changes most f f' e.root r' (remove (list_under f e.root) e.place) (shrink most e.place (sizes_under f e.root)))) →
-      ((e : OnEntry f path) → GivesNodes (sizes_under f e.root) (shrink most e.place (sizes_under f e.root)) f f') → ((e : OnEntry f path) → IfSome o (λ r'. StandsAt f' r' path' e.place)) →
+      ((e : OnEntry f path) → GivesNodes (sizes_under f e.root) (shrink most e.place (sizes_under f e.root)) f f') →
       ((e : OnEntry f path) → IfSome o (λ r'. (r' ≡ e.root) ↔ (length (shrink most e.place (sizes_under f e.root)) ≡ length (sizes_under f e.root)))) →
-      ((e : OnEntry f path) → (o ≡ None) ↔ (length (list_under f e.root) ≡ 1)) → (o ≡ None → (e : OnEntry f path) → Ends most f f' e.root) → (o ≡ None → IsAtEnd path') → (o ≡ None → (e : OnEntry f path) → shrink most e.place (sizes_under f e.root) ≡ []) →
-      IsTaken most f f' h at.place o path'
-  taken-at most f f' h path path' o at removed account stands same last ended end none =
+      ((e : OnEntry f path) → (o ≡ None) ↔ (length (list_under f e.root) ≡ 1)) → (o ≡ None → (e : OnEntry f path) → Ends most f f' e.root) → (o ≡ None → (e : OnEntry f path) → shrink most e.place (sizes_under f e.root) ≡ []) →
+      IsTaken most f f' h at.place o
+  taken-at most f f' h path o at removed account same last ended none =
       let t = spot-on f path h at.place at.spot at.within in
       let e : OnEntry f path = record { root = t.0; place = at.place; on = t.2 } in
-      subst (λ (z : Option ℕ). IsTaken most f f' z at.place o path') (sym t.1)
-      (taken most f f' t.0 at.place path path' t.2 o (removed e) (account e) (stands e) (same e) (last e) (λ z. ended z e) end (λ z. none z e))
+      subst (λ (z : Option ℕ). IsTaken most f f' z at.place o) (sym t.1)
+      (taken most f f' t.0 at.place path t.2 o (removed e) (account e) (same e) (last e) (λ z. ended z e) (λ z. none z e))
+
+  -- and the path
+  pub spot-at : (most : ℕ) (f f' : Forest K X) (h : Option ℕ) (path path' : Path K X most) (o : Option ℕ) (at : OnSpot f h path) → ((e : OnEntry f path) → IfSome o (λ r'. StandsAt f' r' path' e.place)) → ((e : OnEntry f path) → (o ≡ None) ↔ (length (list_under f e.root) ≡ 1)) → (o ≡ None → IsAtEnd path') → IsSpot f' o path' at.place
+  spot-at most f f' h path path' o at stands last end =
+      let t = spot-on f path h at.place at.spot at.within in
+      let e : OnEntry f path = record { root = t.0; place = at.place; on = t.2 } in
+      spot-left most f f' t.0 at.place path t.2 path' o (stands e) (last e) end
+
+module _ {K X : Type 0} (most : ℕ) (cmp : K → K → Ordering) (f : Forest K X) (h : Option ℕ) (k : K) (live : IsLive f h) (increasing : IsIncreasing cmp (list_of f h)) where
+  abbrev entries : List (K × X)
+  entries = list_of f h
+
+  removes : (f' : Forest K X) (o : Option ℕ) (v : X) → value_for cmp entries k ≡ Some v → IsTaken most f f' h (place cmp entries k) o → Removes most cmp f h k (Some v) f' o
+  removes f' o v found t =
+      let here = present-some cmp entries k v found in
+      let list = cut-present cmp entries k here in
+      record {
+        value = sym found;
+        cut = subst (λ (l : List (K × X)). Becomes f h f' o l) (sym list) t.removed;
+        sizes = t.sizes ∙ sym (without-present most cmp f h k here);
+        same_levels = t.same_levels;
+        account = t.account;
+        increasing = subst (IsIncreasing cmp) (sym (t.removed.list ∙ sym list)) (IsIncreasing-cut cmp entries k increasing);
+        absent_forest = λ none. absurd (cc);
+        absent_handle = λ none. absurd (cc);
+      }
+
+  -- the key was in the tree of the handle, and its entry went
+  pub removes-under : (t : Forest K X) (n : ℕ) (f' : Forest K X) (o : Option ℕ) (v : X) → t ≡ f → h ≡ Some n → value_for cmp (list_under t n) k ≡ Some v → IsTaken most t f' (Some n) (place cmp (list_under t n) k) o → Removes most cmp f h k (Some v) f' o
+  removes-under t n f' o v is handle found left =
+      let list = (seen-as t f h n is handle live).list in
+      removes f' o v (subst (λ (l : List (K × X)). value_for cmp l k ≡ Some v) list found)
+      (subst (λ (z : Forest K X). IsTaken most z f' h (place cmp entries k) o) is (subst (λ (z : Option ℕ). IsTaken most t f' z (place cmp entries k) o) (sym handle) (subst (λ (l : List (K × X)). IsTaken most t f' (Some n) (place cmp l k) o) list left)))
+
+  -- the key was not there, and nothing changed
+  pub removes-none : value_for cmp entries k ≡ None → Removes most cmp f h k None f h
+  removes-none none =
+      let gone = absent-none cmp entries k none in
+      record {
+        value = sym none;
+        cut = subst (λ (l : List (K × X)). Becomes f h f h l) (sym (cut-absent cmp entries k gone)) (becomes-same f h live);
+        sizes = sym (without-absent most cmp f h k gone);
+        same_levels = (λ same. refl, λ same. refl);
+        account = record { slots = refl; free = refl };
+        increasing = increasing;
+        absent_forest = λ is. refl;
+        absent_handle = λ is. refl;
+      }

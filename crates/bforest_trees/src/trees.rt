@@ -290,9 +290,10 @@ impl<K: Copy, V: Copy, const N: usize> Trees<K, V, N> {
         requires increasing { IsIncreasing (C.order comp.now) (list_of self.old handle.old) }
         ensures { Removes N (C.order comp.now) self.old handle.old key result self.new handle.new }
     {
+        let root = handle.expand()?;
         let mut path = Path::default();
-        let value = self.goto(*handle, &mut path, key, comp)?;
-        self.remove_at(handle, &mut path);
+        let value = path.find(key, root, &self.pool, comp)?;
+        *handle = packed(path.remove_only(&mut self.pool));
         Some(value)
     }
 

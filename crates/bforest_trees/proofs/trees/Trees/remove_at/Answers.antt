@@ -1,5 +1,5 @@
+use Rattle.bforest_trees.proofs.Cutting.{IsTaken, spot-at, taken-at}
 use Rattle.bforest_trees.proofs.Spots.{computed}
-use Rattle.bforest_trees.proofs.Cutting.{IsTaken, taken-at}
 use Rattle.bforest_trees.proofs.Spots.{spot-on}
 use Rattle.bforest_trees.proofs.trees.Trees.remove_at.Given.{Over}
 use Rattle.bforest_trees.proofs.trees.Trees.remove_at.Goals.{After-packed}
@@ -14,10 +14,10 @@ remove-requires g c =
     (search rules, (search rules, (c.self.invariant, record { root = t.0; place = at.place; on = t.2 })))
 
 -- what the removal leaves
-taken : (g : Over) (c : After-packed g) (at : OnSpot c.self.inside.pool c.args.handle.now c.args.path.now) → IsTaken g.row.N c.self.inside.pool c.remove.new.pool c.args.handle.now at.place c.remove.result c.remove.new.self
+taken : (g : Over) (c : After-packed g) (at : OnSpot c.self.inside.pool c.args.handle.now c.args.path.now) → IsTaken g.row.N c.self.inside.pool c.remove.new.pool c.args.handle.now at.place c.remove.result
 taken g c at =
     let told = c.remove.ensures in
-    taken-at g.row.N c.self.inside.pool c.remove.new.pool c.args.handle.now c.args.path.now c.remove.new.self c.remove.result at told.removed told.account told.stands told.same_root told.last told.ended told.end told.none_left
+    taken-at g.row.N c.self.inside.pool c.remove.new.pool c.args.handle.now c.args.path.now c.remove.result at told.removed told.account told.same_root told.last told.ended told.none_left
 
 pub invariant_of-self : goal.invariant_of-self
 invariant_of-self g c = (taken g c (rw (← c.self.view_is) at c.requires.stands)).union
@@ -34,8 +34,8 @@ returns-clause-sizes g c = λ at.
 
 pub returns-clause-spot : goal.returns-clause-spot
 returns-clause-spot g c = λ at.
-    let t = taken g c (rw (← c.self.view_is) at at) in
-    rw c.packed.ensures t.spot
+    let told = c.remove.ensures in
+    rw c.packed.ensures (spot-at g.row.N c.self.inside.pool c.remove.new.pool c.args.handle.now c.args.path.now c.remove.new.self c.remove.result (rw (← c.self.view_is) at at) told.stands told.last told.end)
 
 pub returns-clause-same_levels : goal.returns-clause-same_levels
 returns-clause-same_levels g c =
