@@ -1,5 +1,5 @@
 -- A tree whose list is what an insertion makes of it has its keys in order.
-use Rattle.std.proofs.Common.{ap, ◌≡◌, ℕ, ◌∙◌, Result, Ok, Err, IfOk, IfSome, List, [], ◌∷◌, Option, None, Some, refl, remove, subst, sym, true, false}
+use Rattle.std.proofs.Common.{ap, ◌≡◌, ℕ, ◌∙◌, Result, Ok, Err, IfOk, IfSome, List, [], ◌∷◌, Option, None, Some, refl, remove, subst, sym, true}
 use Rattle.std.specs.Option.{is_some, option_map}
 use Rattle.std.specs.Ordering.{nat_cmp}
 use Rattle.std.specs.List.Sorted.{IsStrictlySortedBy}
@@ -71,7 +71,3 @@ left-union n old new root list sizes (Some root') changes ends = changes.union
 -- a key that is found is present
 pub found-present : (es : List (ℕ × ℕ)) (key value : ℕ) (r : Option ℕ) → r ≡ value_for nat_cmp es key → r ≡ Some value → is_present nat_cmp es key ≡ true
 found-present es key value r value_is some = sym (has-value es key) ∙ ap is_some (sym value_is ∙ some)
-
--- one that is not found is absent
-pub found-absent : (es : List (ℕ × ℕ)) (key : ℕ) (r : Option ℕ) → r ≡ value_for nat_cmp es key → r ≡ None → is_present nat_cmp es key ≡ false
-found-absent es key r value_is none = sym (has-value es key) ∙ ap is_some (sym value_is ∙ none)

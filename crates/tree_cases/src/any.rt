@@ -68,6 +68,11 @@ impl AnyTree {
         each!(self, tree => tree.position(key))
     }
 
+    /// Whether a search for a key, from the first entry on whose key is not less than another, ends where one from the root does.
+    pub(crate) fn finds_from(&self, from: u32, key: u32) -> bool {
+        each!(self, tree => tree.finds_from(from, key))
+    }
+
     /// Whether a root has this number.
     pub(crate) fn is_root(&self, number: u32) -> bool {
         each!(self, tree => tree.is_root(number))

@@ -90,8 +90,18 @@ impl<const N: usize> Tree<N> {
     pub(crate) fn position(&self, key: u32) -> Option<(u32, usize)> {
         let mut path = Path::default();
         path.find(key, self.root?, &self.pool, &());
-        let (leaf, index) = path.leaf_pos()?;
-        Some((leaf.number(), index))
+        place(&path)
+    }
+
+    /// Whether a search for a key, from the first entry on whose key is not less than another, ends where one from the root does.
+    pub(crate) fn finds_from(&self, from: u32, key: u32) -> bool {
+        let Some(root) = self.root else {
+            return true;
+        };
+        let mut path = Path::default();
+        seek(&mut path, root, &self.pool, from);
+        let value = path.find_here(key, root, &self.pool, &());
+        value == self.get(key) && place(&path) == self.position(key)
     }
 
     /// The root's number.
@@ -397,6 +407,23 @@ fn prev<const N: usize>(
     path.prev(root, pool)
 }
 
+// The number of a path's leaf, and the place there.
+fn place<const N: usize>(path: &Path<u32, u32, N>) -> Option<(u32, usize)> {
+    let (leaf, index) = path.leaf_pos()?;
+    Some((leaf.number(), index))
+}
+
+// Goes to the first entry whose key is not less, or to the end.
+fn seek<const N: usize>(path: &mut Path<u32, u32, N>, root: Node, pool: &Pool<N>, key: u32)
+    requires union { IsUnion N pool.now }
+    requires ordered { IsOrderedAt pool.now root }
+    ensures { StandingUnder pool.now root path.new }
+{
+    if path.find(key, root, pool, &()).is_none() {
+        path.normalize(pool);
+    }
+}
+
 // How many nodes a key takes that is absent.
 fn need<const N: usize>(pool: &Pool<N>, root: Node, key: u32) -> Option<u32>
     requires union { IsUnion N pool.now }
@@ -415,13 +442,8 @@ fn entry_from<const N: usize>(pool: &Pool<N>, root: Node, key: u32) -> Option<(u
     requires ordered { IsOrderedAt pool.now root }
 {
     let mut path = Path::default();
-    match path.find(key, root, pool, &()) {
-        Some(value) => Some((key, value)),
-        None => {
-            path.normalize(pool);
-            path.entry(pool)
-        }
-    }
+    seek(&mut path, root, pool, key);
+    path.entry(pool)
 }
 
 // The entry behind that of a key, if the key is present.

@@ -50,6 +50,7 @@ impl Trial {
             ["stat"] => self.tell_sizes(out),
             ["keys"] => Ok(self.tree.show(alloc, out)?),
             ["root"] => tell_number(self.tree.root(), out),
+            ["here", keys @ ..] => self.tell_searches(alloc, keys, out),
             [asked, key] => self.tell_of(asked, number(key)?, out),
             _ => Err(Stop::Bad),
         }
@@ -67,6 +68,19 @@ impl Trial {
             "is_root" => tell_truth(self.tree.is_root(key), out),
             _ => Err(Stop::Bad),
         }
+    }
+
+    // Writes whether searches for each of these keys, from where a path stands at each of them, end where those from the root do.
+    fn tell_searches(&self, alloc: Global, words: &[&str], out: &mut String) -> Result<(), Stop> {
+        let keys = keys(alloc, words)?;
+        for from in &keys {
+            for key in &keys {
+                if !self.tree.finds_from(*from, *key) {
+                    return Ok(write!(out, "from {from} to {key}: another place")?);
+                }
+            }
+        }
+        Ok(out.push_str("ok")?)
     }
 
     // Writes the counts of levels and slots.
