@@ -7,10 +7,10 @@ use Rattle.bforest_core.specs.Paths.{IsAtEnd, Pointing, PointsTo, StandsAt, Stan
 use Rattle.bforest_core.specs.Table.{Table}
 use Rattle.bforest_core.specs.Trees.{IsUnion, tree_of}
 use Rattle.bforest_core.specs.declared.path.Path.{Path}
-use Rattle.std.proofs.Common.{arith, IfSome, List, None, Option, Some, [], ap, drop, if◌then◌else◌, inl, inr, length, refl, slice_get, suc, sym, true, zero, ◌==◌, ◌∙◌, ◌∷◌, ◌≡◌, ℕ}
+use Rattle.std.proofs.Common.{length-append, arith, IfSome, List, None, Option, Some, [], ap, drop, if◌then◌else◌, inl, inr, length, refl, slice_get, suc, sym, true, zero, ◌==◌, ◌∙◌, ◌∷◌, ◌≡◌, ℕ}
 use Rattle.std.proofs.Math.Seq.{drop-length}
 use Rattle.std.proofs.lemmas.Bool.Decides.{eqb_tells}
-use Rattle.std.specs.Iterator.{MakesProgress, YieldsFirst, item_count}
+use Rattle.std.specs.Iterator.{MakesProgress, YieldsFirst, YieldsLast, item_count}
 
 -- nothing is left behind the last
 past_all : {A : Type 0} (es : List A) (i : ℕ) → slice_get es i ≡ None → drop i es ≡ []
@@ -85,3 +85,8 @@ module _ {K V : Type 0} {n : ℕ} where
 pub progress : {A P : Type 0} (ready : P) (old new : List A) (o : Option A) → YieldsFirst (λ (entries : List A). entries) old o new → MakesProgress (λ (entries : List A). P) (item_count (λ (entries : List A). entries)) old o new
 progress ready old new (Some entry) steps = record { on = λ fin. (ready, tt, omega (arith, ap length steps)); keeps = ready; rests = λ fin. tt }
 progress ready old new None steps = record { on = λ fin. tt; keeps = tt; rests = λ fin. tt }
+
+-- so does one whose entries are given from the end
+pub progress-back : {A P : Type 0} (ready : P) (old new : List A) (o : Option A) → YieldsLast (λ (entries : List A). entries) old o new → MakesProgress (λ (entries : List A). P) (item_count (λ (entries : List A). entries)) old o new
+progress-back ready old new (Some entry) steps = record { on = λ fin. (ready, tt, omega (arith, ap length steps, length-append new (entry ∷ []))); keeps = ready; rests = λ fin. tt }
+progress-back ready old new None steps = record { on = λ fin. tt; keeps = tt; rests = λ fin. tt }

@@ -1,0 +1,5 @@
+use Rattle.bforest_trees.proofs.Reading.{progress-back}
+use Rattle.bforest.proofs.map_range.MapRangeDoubleEndedIterator.next_back.Goals as goal
+
+pub returns-clause-goes : goal.returns-clause-goes
+returns-clause-goes g c = progress-back c.requires c.args.self.now _ c.range_next_back.result (rw (← c.self.view_is) c.range_next_back.ensures.steps)

@@ -1,0 +1,5 @@
+use Rattle.bforest_trees.proofs.Reading.{progress}
+use Rattle.bforest.proofs.map_range.MapRangeIterator.next.Goals as goal
+
+pub returns-clause-goes : goal.returns-clause-goes
+returns-clause-goes g c = progress c.requires c.args.self.now _ c.range_next.result (rw (← c.self.view_is) c.range_next.ensures.steps)
