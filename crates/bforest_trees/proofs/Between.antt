@@ -177,7 +177,7 @@ module _ {K : Type 0} (cmp : K → K → Ordering) (o : IsTotalOrder cmp) where
     end-unbounded (e ∷ es) = count-cons (λ _. true) e es true refl ∙ (let n = end-unbounded es in omega (arith, n))
 
     -- a range ends within the list
-    pub end-most : (hi : Bound K) (es : List (K × X)) → end_place cmp hi es ≤ length es
+    end-most : (hi : Bound K) (es : List (K × X)) → end_place cmp hi es ≤ length es
     end-most hi es = count_by-le-length (λ e. not (is_past_end cmp hi e.0)) es
 
     -- one up to a key ends behind as many keys as are not greater

@@ -42,7 +42,7 @@ module _ {A : Type 0} where
       let m : i + (j - i) ≡ j = omega (arith, low) in
       ap (λ k. take k (drop i xs)) n ∙ last_taken (drop i xs) (j - i) x (get-drop xs i (j - i) ∙ ap (λ k. slice_get xs k) m ∙ e)
 
-  pub range-none : (xs : List A) (i j : ℕ) → j ≤ i → slice_range xs i j ≡ []
+  range-none : (xs : List A) (i j : ℕ) → j ≤ i → slice_range xs i j ≡ []
   range-none xs i j low = let n : j - i ≡ 0 = omega (arith, low) in ap (λ k. take k (drop i xs)) n
 
   -- an element is there
@@ -67,7 +67,7 @@ module _ {K X : Type 0} {n : ℕ} (f : Forest K X) where
 
 module _ {K X : Type 0} {n : ℕ} (f : Forest K X) (h : Option ℕ) where
   -- what is left between two places
-  pub range-made : IsUnion n f → IsLive f h → (ends : Ends K X n) (s e : ℕ) → IsSpot f h ends.front s → IsSpot f h ends.back e → s ≤ e → IsRange f h ends × (left_in f h ends ≡ slice_range (list_of f h) s e)
+  range-made : IsUnion n f → IsLive f h → (ends : Ends K X n) (s e : ℕ) → IsSpot f h ends.front s → IsSpot f h ends.back e → s ≤ e → IsRange f h ends × (left_in f h ends ≡ slice_range (list_of f h) s e)
   unfolding left_in
   range-made union live ends s e front back low =
       let from = spot-place f union h ends.front s front in
@@ -83,7 +83,7 @@ module _ {K X : Type 0} {n : ℕ} (f : Forest K X) (h : Option ℕ) where
       )
 
   -- nothing between two paths with no node
-  pub range-ended : IsUnion n f → IsLive f h → (ends : Ends K X n) → IsAtEnd ends.front → IsAtEnd ends.back → IsRange f h ends × (left_in f h ends ≡ [])
+  range-ended : IsUnion n f → IsLive f h → (ends : Ends K X n) → IsAtEnd ends.front → IsAtEnd ends.back → IsRange f h ends × (left_in f h ends ≡ [])
   range-ended union live ends front back =
       let last = length (list_of f h) in
       let made = range-made union live ends last last (spot-last f h ends.front live front) (spot-last f h ends.back live back) (omega arith) in

@@ -76,16 +76,6 @@ module _ {K X : Type 0} {n : ℕ} (f : Forest K X) (path : Path K X n) where
         let at : StandingUnder f root path = record { place = p; at = there } in
         subst (λ (o : Option ℕ). IsPrev o p) (sym e) (record { value = value at ∙ ap (λ l. entry_before l p) (sym (list-root f root there.root_is)); spot = on-at f root path' (p - 1) (stands at) })
 
-  -- with no tree it stays
-  pub prev-none : (h : Option ℕ) (p : ℕ) → h ≡ None → IsSpot f h path p → IsPrev path None h p
-  prev-none None p e s = record { value = ap (λ z. entry_before (list_of f None) z) (sym s.1); spot = (s.0, omega (arith, s.1)) }
-  prev-none (Some m) p e s = absurd (cc)
-
-  -- under a root
-  pub spot-under : (h : Option ℕ) (root p : ℕ) → h ≡ Some root → IsSpot f h path p → StandingUnder f root path
-  spot-under None root p e s = absurd (cc)
-  spot-under (Some m) root p e s = let same : m ≡ root = cc in record { place = p; at = subst (λ (z : ℕ). StandsAt f z path p) same s }
-
   -- the entry where it stands
   pub entry-at : (o : Option (K × X)) (h : Option ℕ) (p : ℕ) → IsSpot f h path p → ((at : Standing f path) → o ≡ slice_get (list_under f at.root) at.place) → (IsAtEnd path → o ≡ None) → o ≡ slice_get (list_of f h) p
   entry-at o None p s value end = end s.0 ∙ sym (slice_get_past (list_of f None) p (omega arith))
