@@ -70,8 +70,7 @@ module _ {K X : Type 0} {n : ℕ} (f : Forest K X) (path : Path K X n) where
       let is = live-root f root live in
       let list = list-root f root is in
       let none : (path.size == 0) ≡ true = elim (eqb_tells path.size 0) [ inl w ↦ w.0 | inr w ↦ absurd (w.1 end) ] in
-      let last : spot_of f (Some root) path ≡ length (list_under f root) = λ j. if none j then length (list_under f root) else place_in (tree_of f.nodes root).leaves (leaf_of path) (index_of path) in
-      (
+      let last : spot_of f (Some root) path ≡ length (list_under f root) = λ j. if none j then length (list_under f root) else place_in (tree_of f.nodes root).leaves (leaf_of path) (index_of path) in (
         record { root_is = is; at = path-ended path.node path.entry (tree_of f.nodes root) (spot_of f (Some root) path) path.size end last },
         last ∙ sym (ap length list),
       )

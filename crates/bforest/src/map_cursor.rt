@@ -29,9 +29,9 @@ impl<'a, K: Copy, V: Copy, C: Comparator<K>> Model for MapCursor<'a, K, V, C> {
     ghost Value = { Cursor K V C };
 
     ghost view = { λ c. record {
-        entries = list_of c.trees.now c.root;
-        spot = spot_of c.trees.now c.root c.path;
-        comparator = c.comp.now;
+      entries = list_of c.trees.now c.root;
+      spot = spot_of c.trees.now c.root c.path;
+      comparator = c.comp.now;
     } };
 
     ghost invariant = { λ c. StandsIn (C.order c.comp.now) c.trees.now c.root c.path };
@@ -118,8 +118,7 @@ impl<'a, K: Copy, V: Copy, C: Comparator<K>> MapCursor<'a, K, V, C> {
         ensures moves { self.new
             ≡ at_place self.old (place (C.order self.old.comparator) self.old.entries elem) }
     {
-        self.trees
-            .goto(self.root, &mut self.path, elem, self.comp)
+        self.trees.goto(self.root, &mut self.path, elem, self.comp)
     }
 
     /// Goes to the first entry and answers its value. In an empty map that is the end. No comparison.

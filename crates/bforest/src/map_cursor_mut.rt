@@ -157,9 +157,7 @@ impl<'a, K: Copy, V: Copy, C: Comparator<K>> MapCursorMut<'a, K, V, C> {
     {
         let map = &*self.map;
         let forest = &*self.forest;
-        forest
-            .trees
-            .goto(map.root, &mut self.path, elem, self.comp)
+        forest.trees.goto(map.root, &mut self.path, elem, self.comp)
     }
 
     /// Goes to the first entry and answers its value. In an empty map that is the end. No comparison.

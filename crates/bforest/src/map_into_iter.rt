@@ -1,12 +1,13 @@
 //! The entries of a map, with the forest that owns them.
 ghost use Rattle.bforest.specs.Forest.{IsLive, list_of};
-ghost use Rattle.bforest.specs.Memory.{IsReadable};
+ghost use Rattle.bforest_core.specs.Trees.{IsUnion};
+ghost use Rattle.bforest_trees.specs.Layout.{IsReading, entries_from};
 ghost use Rattle.std.specs.Iterator.{YieldsFirst, item_count};
 ghost use Rattle.std.specs.Prelude.{◌≡◌};
 
 use crate::forest::MapForest;
 use crate::map::Map;
-use bforest_core::Path;
+use bforest_core::{NodePool, PackedNode, Path};
 use std::marker::Model;
 
 /// The entries of a map, in order, and then `None` for ever. It owns the forest, which ends with it. Made by [`Map::into_iter`]. A step
@@ -35,12 +36,23 @@ impl<K: Copy, V: Copy> MapIntoIter<K, V> {
         requires live { IsLive forest map }
         ensures entries { result ≡ list_of forest map }
     {
-        let mut path = Path::default();
-        if let Some(root) = map.root.expand() {
-            path.first(root, forest.trees.pool());
-        }
+        let path = first_path(map.root, forest.trees.pool());
         MapIntoIter { forest, path }
     }
+}
+
+// A path to the first entry of a tree, or to the end where there is none.
+fn first_path<K: Copy, V: Copy>(root: PackedNode, pool: &NodePool<K, V, 7>) -> Path<K, V, 7>
+    requires union { IsUnion 7 pool.now }
+    requires live { IsLive pool.now root }
+    ensures reading { IsReading pool.now result }
+    ensures entries { entries_from pool.now result ≡ list_of pool.now root }
+{
+    let mut path = Path::default();
+    if let Some(root) = root.expand() {
+        path.first(root, pool);
+    }
+    path
 }
 
 impl<K: Copy, V: Copy> Iterator for MapIntoIter<K, V> {

@@ -11,8 +11,7 @@ returns-then-is_some g c =
 pub returns-else-is_some : goal.returns-else-is_some
 returns-else-is_some g c =
     let s = c.args.self.now in
-    let size : s.path.size ≡ 0 = elim (eqb_tells s.path.size 0) [ inl w ↦ w.1 | inr w ↦ absurd (let bad : false ≡ true = sym c.if-is_some.false ∙ c.is_some.ensures ∙ ap is_some (c.leaf_pos.ensures.place w.1) in cc) ] in
-    (
+    let size : s.path.size ≡ 0 = elim (eqb_tells s.path.size 0) [ inl w ↦ w.1 | inr w ↦ absurd (let bad : false ≡ true = sym c.if-is_some.false ∙ c.is_some.ensures ∙ ap is_some (c.leaf_pos.ensures.place w.1) in cc) ] in (
       refl,
       record {
         writes_back = tt;
