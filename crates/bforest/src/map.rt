@@ -18,7 +18,7 @@ use crate::map_into_iter::MapIntoIter;
 use crate::map_iter::MapIter;
 use crate::map_range::MapRange;
 use bforest_core::{Comparator, OutOfMemory, PackedNode, Path};
-use bforest_trees::Asked;
+use bforest_trees::{Asked, Start};
 use std::cmp::Ordering;
 use std::default::Default;
 use std::marker::{Model, PhantomData};
@@ -149,7 +149,7 @@ impl<K: Copy, V: Copy> Map<K, V> {
         let mut path = Path::default();
         forest
             .trees
-            .insert(&mut self.root, &mut path, key, value, comp)
+            .insert(&mut self.root, &mut path, Start::Root, key, value, comp)
     }
 
     /// Takes the entry whose key compares equal to `key` out, and answers its value, or `None` where there is none and nothing changes.

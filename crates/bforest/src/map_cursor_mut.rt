@@ -15,6 +15,7 @@ use crate::forest::MapForest;
 use crate::map::Map;
 use crate::map_cursor::{key_of, value_of};
 use bforest_core::{Comparator, OutOfMemory, Path};
+use bforest_trees::Start;
 
 /// A place in a map, to read and to write: an entry or the end. Made by [`Map::cursor_mut`], at the end.
 ///
@@ -184,7 +185,8 @@ impl<'a, K: Copy, V: Copy, C: Comparator<K>> MapCursorMut<'a, K, V, C> {
         self.try_insert(key, value)
     }
 
-    /// Puts a value in at a key as [`Map::try_insert`] does, and goes to the key's entry. One search.
+    /// Puts a value in at a key as [`Map::try_insert`] does, and goes to the key's entry. Where the key is that of the entry here or of the
+    /// one before, or belongs between them, or behind the last at the end, two comparisons tell it; else it makes one search.
     ///
     /// # Errors
     ///
@@ -199,9 +201,14 @@ impl<'a, K: Copy, V: Copy, C: Comparator<K>> MapCursorMut<'a, K, V, C> {
     {
         let map = &mut *self.map;
         let forest = &mut *self.forest;
-        forest
-            .trees
-            .insert(&mut map.root, &mut self.path, key, value, self.comp)
+        forest.trees.insert(
+            &mut map.root,
+            &mut self.path,
+            Start::Path,
+            key,
+            value,
+            self.comp,
+        )
     }
 
     /// Takes the entry out where it stands, and answers its value. It stands at the one that followed then, or at the end. At the end it

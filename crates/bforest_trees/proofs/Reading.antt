@@ -75,10 +75,13 @@ module _ {K V : Type 0} {n : ℕ} where
       let end = s.end refl in
       record {
         reading = record { union = r.union; points = λ some. absurd (some end) };
-        yields = (elim (eqb_tells path.size 0) [
-          | inl w ↦ ended table path w.1
-          | inr w ↦ (let at = r.points w.1 in pointing table at.root path at.place r.union at.to ∙ past_all (list_under table at.root) at.place (sym (s.value at)))
-        ], ended table path' end);
+        yields = (
+          elim (eqb_tells path.size 0) [
+            | inl w ↦ ended table path w.1
+            | inr w ↦ (let at = r.points w.1 in pointing table at.root path at.place r.union at.to ∙ past_all (list_under table at.root) at.place (sym (s.value at)))
+          ],
+          ended table path' end,
+        );
       }
 
 -- an iterator whose entries are given one by one comes to its end

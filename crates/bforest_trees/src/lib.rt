@@ -10,4 +10,4 @@ mod trees;
 
 pub use bforest_core::{Comparator, Node, NodePool, OutOfMemory, PackedNode, Path};
 pub use predicate::{Asked, Predicate};
-pub use trees::{Ends, Trees};
+pub use trees::{Ends, Start, Trees};

@@ -3,15 +3,15 @@ ghost use Rattle.bforest_trees.specs.Forest.{Becomes, Gives, IsAccounted, IsLive
 ghost use Rattle.bforest_trees.specs.Bounds.{entry_at_most};
 ghost use Rattle.bforest_trees.specs.Calls.{Clears, Filters, Inserts, Removes, Reserves, SameLevels};
 ghost use Rattle.bforest_trees.specs.Place.{AtSpot, IsComputed, IsSpot, OnSpot};
-ghost use Rattle.bforest_core.specs.Paths.{IsAtEnd};
+ghost use Rattle.bforest_core.specs.Paths.{IsAtEnd, IsPlaced, StandingUnder, StandsOn, list_under};
 ghost use Rattle.bforest_trees.specs.Retain.{MayAskEach};
 ghost use Rattle.bforest_core.specs.Levels.{half_of};
 ghost use Rattle.bforest_core.specs.Sizes.{IsFitFor, shrink};
-ghost use Rattle.bforest_core.specs.Trees.{IsUnion};
+ghost use Rattle.bforest_core.specs.Trees.{IsUnion, is_root};
 ghost use Rattle.bforest_nodes.specs.Content.{IsLeafCapacity};
-ghost use Rattle.bforest_nodes.specs.Entries.{IsIncreasing, place, value_for};
+ghost use Rattle.bforest_nodes.specs.Entries.{IsIncreasing, is_present, place, value_for};
 ghost use Rattle.std.specs.declared.cmp.Ordering.{Ordering};
-ghost use Rattle.std.specs.Prelude.{Err, IsTrue, None, Option, Some, [], length, remove, ◌*◌, ◌+◌, ◌-◌, ◌/◌, ◌<◌, ◌^◌, ◌≡◌, ◌≢◌, ◌≤◌, ◌↔◌, ℕ};
+ghost use Rattle.std.specs.Prelude.{Err, IsTrue, None, Option, Some, [], false, true, length, remove, ◌*◌, ◌+◌, ◌-◌, ◌/◌, ◌<◌, ◌^◌, ◌≡◌, ◌≢◌, ◌≤◌, ◌↔◌, ℕ};
 
 mod range;
 mod take;
@@ -24,6 +24,15 @@ use bforest_core::{Comparator, Node, NodePool, OutOfMemory, PackedNode, Path};
 pub use range::Ends;
 use std::alloc::Global;
 use std::marker::Model;
+
+/// Where a search begins.
+#[derive(Clone, Copy, Drop)]
+pub enum Start {
+    /// At the root.
+    Root,
+    /// Where the path stands: two comparisons tell where the key is, if that is near.
+    Path,
+}
 
 /// Many trees in one table of nodes, of which a leaf has at most `N` entries. Each is named by its root's number.
 #[derive(Drop)]
@@ -183,6 +192,7 @@ impl<K: Copy, V: Copy, const N: usize> Trees<K, V, N> {
         &mut self,
         handle: &mut PackedNode,
         path: &mut Path<K, V, N>,
+        start: Start,
         key: K,
         value: V,
         comp: &C,
@@ -197,7 +207,7 @@ impl<K: Copy, V: Copy, const N: usize> Trees<K, V, N> {
         ensures computed { IsComputed N self.new handle.new }
     {
         match handle.expand() {
-            Some(root) => self.insert_under(root, handle, path, key, value, comp),
+            Some(root) => self.insert_under(root, handle, path, start, key, value, comp),
             None => self.insert_first(handle, path, key, value),
         }
     }
@@ -208,6 +218,7 @@ impl<K: Copy, V: Copy, const N: usize> Trees<K, V, N> {
         root: Node,
         handle: &mut PackedNode,
         path: &mut Path<K, V, N>,
+        start: Start,
         key: K,
         value: V,
         comp: &C,
@@ -215,13 +226,14 @@ impl<K: Copy, V: Copy, const N: usize> Trees<K, V, N> {
         requires root { handle.old ≡ Some root }
         requires live { list_at self.old root ≢ [] }
         requires increasing { IsIncreasing (C.order comp.now) (list_at self.old root) }
+        requires stands { AtSpot self.old (Some root) path.old }
         ensures inserted { Inserts N (C.order comp.now) self.old (Some root) key value result
             self.new handle.new }
         ensures spot { IsSpot self.new handle.new path.new
             (place (C.order comp.now) (list_at self.old root) key) }
         ensures union { IsUnion N self.new }
     {
-        if let Some(old) = path.find(key, root, &self.pool, comp) {
+        if let Some(old) = search(start, key, root, path, &self.pool, comp) {
             path.set_value(value, &mut self.pool);
             return Ok(Some(old));
         }
@@ -312,6 +324,31 @@ impl<K: Copy, V: Copy, const N: usize> Trees<K, V, N> {
         ensures computed { IsComputed N self.new handle.new }
     {
         *handle = packed(path.remove(&mut self.pool));
+    }
+}
+
+// Goes to where a search for a key ends, and answers its value.
+fn search<K: Copy, V: Copy, const N: usize, C: Comparator<K>>(
+    start: Start,
+    key: K,
+    root: Node,
+    path: &mut Path<K, V, N>,
+    pool: &NodePool<K, V, N>,
+    comp: &C,
+) -> Option<V>
+    requires union { IsUnion N pool.now }
+    requires root { IsTrue (is_root pool.now.nodes root) }
+    requires increasing { IsIncreasing (C.order comp.now) (list_under pool.now root) }
+    requires stands { StandingUnder pool.now root path.old }
+    ensures value { result ≡ value_for (C.order comp.now) (list_under pool.now root) key }
+    ensures present { is_present (C.order comp.now) (list_under pool.now root) key ≡ true
+        → StandsOn pool.now root path.new (place (C.order comp.now) (list_under pool.now root) key) }
+    ensures absent { is_present (C.order comp.now) (list_under pool.now root) key ≡ false
+        → IsPlaced pool.now root path.new (place (C.order comp.now) (list_under pool.now root) key) }
+{
+    match start {
+        Start::Root => path.find(key, root, pool, comp),
+        Start::Path => path.find_here(key, root, pool, comp),
     }
 }
 

@@ -39,17 +39,17 @@ module _ {K V : Type 0} {n : ℕ} (table : Table K V) (path new : Path K V n) (o
   -- so the answer is the entry at the path's place, if there is one
   pub passes-at : (root place : ℕ) → StandsAt table root path place → Passes → (o ≡ slice_get (list_under table root) place) × IfSome o (λ entry. PointsTo table root new (suc place))
   passes-at root place s p = elim (eqb_tells path.size 0) [
-      | inl w ↦ (
-          let none = p.end w.1 in
-          let past = slice_get_past (list_under table root) place (omega (arith, at_end path.node path.entry (tree_of table.nodes root) place path.size w.1 s.at)) in
-          (none ∙ sym past, subst (λ z. IfSome z (λ entry. PointsTo table root new (suc place))) (sym none) tt)
-          )
-      | inr w ↦ (
-          let on : StandsOn table root path place = record { root_is = s.root_is; stands = at_entry path.node path.entry (tree_of table.nodes root) place path.size w.1 s.at } in
-          answered o (p.some (record { root = root; place = place; on = on })) (p.passed (record { root = root; place = place; to = on-points table root path place on }))
-          )
-    ]
-      where
-        answered : (r : Option (K × V)) → IsSome r → IfSome r (λ entry. (slice_get (list_under table root) place ≡ Some entry) × PointsTo table root new (suc place)) → (r ≡ slice_get (list_under table root) place) × IfSome r (λ entry. PointsTo table root new (suc place))
-        answered (Some e) is h = (sym h.0, h.1)
-        answered None is h = absurd cc
+    | inl w ↦ (
+        let none = p.end w.1 in
+        let past = slice_get_past (list_under table root) place (omega (arith, at_end path.node path.entry (tree_of table.nodes root) place path.size w.1 s.at)) in
+        (none ∙ sym past, subst (λ z. IfSome z (λ entry. PointsTo table root new (suc place))) (sym none) tt)
+        )
+    | inr w ↦ (
+        let on : StandsOn table root path place = record { root_is = s.root_is; stands = at_entry path.node path.entry (tree_of table.nodes root) place path.size w.1 s.at } in
+        answered o (p.some (record { root = root; place = place; on = on })) (p.passed (record { root = root; place = place; to = on-points table root path place on }))
+        )
+  ]
+    where
+      answered : (r : Option (K × V)) → IsSome r → IfSome r (λ entry. (slice_get (list_under table root) place ≡ Some entry) × PointsTo table root new (suc place)) → (r ≡ slice_get (list_under table root) place) × IfSome r (λ entry. PointsTo table root new (suc place))
+      answered (Some e) is h = (sym h.0, h.1)
+      answered None is h = absurd cc

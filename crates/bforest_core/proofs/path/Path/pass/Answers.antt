@@ -10,11 +10,19 @@ normalize-requires g c = (search rules, (search rules, (c.requires.union, rw (c.
 pub pass_here-requires-in-None : goal.pass_here-requires-in-None
 pass_here-requires-in-None g c =
     let start = c.pass_here.new.self in
-    let points : (¬ IsAtEnd start) → Pointing c.args.pool.now start = rw (c.in-None.ensures.stays refl) c.requires.points in
-    (search rules, (search rules, (c.requires.union, λ some. elim (normalized c.args.pool.now start c.normalize.new.self c.normalize.ensures.stands c.normalize.ensures.end points) [
-      | inl end ↦ absurd (some end)
-      | inr on ↦ on-pointing c.args.pool.now c.normalize.new.self on
-    ])))
+    let points : (¬ IsAtEnd start) → Pointing c.args.pool.now start = rw (c.in-None.ensures.stays refl) c.requires.points in (
+      search rules,
+      (
+        search rules,
+        (
+          c.requires.union,
+          λ some. elim (normalized c.args.pool.now start c.normalize.new.self c.normalize.ensures.stands c.normalize.ensures.end points) [
+            | inl end ↦ absurd (some end)
+            | inr on ↦ on-pointing c.args.pool.now c.normalize.new.self on
+          ],
+        ),
+      ),
+    )
 
 pub returns-in-Some-clause-value : goal.returns-in-Some-clause-value
 returns-in-Some-clause-value g c = λ at. sym (c.in-Some.ensures.passed at).0

@@ -29,11 +29,13 @@ returns-in-Some-clause-passed g c = λ at.
     let slot = pointed_slot g.row.N one slots path.node path.entry path.size tree at.place w.fit w.inside p in
     let read = sym (c.get_entry.ensures.value p.entries (rw here slot)) ∙ c.in-Some.is in
     let low = slice_get_within p.entries (get_or path.entry 0 0) c.in-Some.entry read in
-    let new = c.set_entry.new.self in
-    (pointed_entry g.row.N one slots path.node path.entry path.size tree at.place w.fit w.inside p c.in-Some.entry read, record {
-      root_is = at.to.root_is;
-      points = pointed_behind g.row.N one slots path.node path.entry path.size tree at.place w.fit w.inside p new.node new.entry new.size c.set_entry.ensures.nodes c.set_entry.ensures.here c.set_entry.ensures.above c.set_entry.ensures.size low;
-    })
+    let new = c.set_entry.new.self in (
+      pointed_entry g.row.N one slots path.node path.entry path.size tree at.place w.fit w.inside p c.in-Some.entry read,
+      record {
+        root_is = at.to.root_is;
+        points = pointed_behind g.row.N one slots path.node path.entry path.size tree at.place w.fit w.inside p new.node new.entry new.size c.set_entry.ensures.nodes c.set_entry.ensures.here c.set_entry.ensures.above c.set_entry.ensures.size low;
+      },
+    )
 
 pub returns-in-None-clause-some : goal.returns-in-None-clause-some
 returns-in-None-clause-some g c = λ at.

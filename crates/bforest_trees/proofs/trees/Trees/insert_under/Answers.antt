@@ -11,13 +11,13 @@ use Rattle.bforest_nodes.proofs.Ordered.{IsIncreasing-put}
 use Rattle.bforest_nodes.specs.Entries.{place, value_for}
 use Rattle.std.proofs.Common.{Err, List, None, Some, ap, arith, rules, subst, sym, ◌∙◌, ◌≡◌, ℕ}
 
-pub find-requires : goal.find-requires
-find-requires g c =
+pub search-requires : goal.search-requires
+search-requires g c =
     let cmp = g.C.Comparator.order c.args.comp.now in
     let p = c.self.inside.pool in
     let n : ℕ = c.args.root in
     let root = live-root p n (rw (← c.self.view_is) at c.requires.live) in
-    (search rules, (search rules, (c.self.invariant, (root, rw (← c.self.view_is, list-root p n root) at c.requires.increasing))))
+    (search rules, (search rules, (c.self.invariant, (root, (rw (← c.self.view_is, list-root p n root) at c.requires.increasing, record { place = c.requires.stands.place; at = rw (← c.self.view_is) at c.requires.stands.spot })))))
 
 pub set_value-requires : goal.set_value-requires
 set_value-requires g c =
@@ -25,8 +25,8 @@ set_value-requires g c =
     let p = c.self.inside.pool in
     let n : ℕ = c.args.root in
     let k = c.args.key in
-    let here = present-some cmp (flat (tree_of p.nodes n).leaves) k c.in-Some.old (sym c.find.ensures.value ∙ c.in-Some.is) in
-    (search rules, (search rules, (c.self.invariant, record { root = n; place = place cmp (flat (tree_of p.nodes n).leaves) k; on = c.find.ensures.present here })))
+    let here = present-some cmp (flat (tree_of p.nodes n).leaves) k c.in-Some.old (sym c.search.ensures.value ∙ c.in-Some.is) in
+    (search rules, (search rules, (c.self.invariant, record { root = n; place = place cmp (flat (tree_of p.nodes n).leaves) k; on = c.search.ensures.present here })))
 
 pub invariant_of-self : goal.invariant_of-self
 invariant_of-self g c =
@@ -34,8 +34,8 @@ invariant_of-self g c =
     let p = c.self.inside.pool in
     let n : ℕ = c.args.root in
     let k = c.args.key in
-    let here = present-some cmp (flat (tree_of p.nodes n).leaves) k c.in-Some.old (sym c.find.ensures.value ∙ c.in-Some.is) in
-    (c.set_value.ensures.written (record { root = n; place = place cmp (flat (tree_of p.nodes n).leaves) k; on = c.find.ensures.present here })).union
+    let here = present-some cmp (flat (tree_of p.nodes n).leaves) k c.in-Some.old (sym c.search.ensures.value ∙ c.in-Some.is) in
+    (c.set_value.ensures.written (record { root = n; place = place cmp (flat (tree_of p.nodes n).leaves) k; on = c.search.ensures.present here })).union
 
 pub returns-in-Some-clause-inserted : goal.returns-in-Some-clause-inserted
 returns-in-Some-clause-inserted g c =
@@ -44,9 +44,9 @@ returns-in-Some-clause-inserted g c =
     let n : ℕ = c.args.root in
     let k = c.args.key in
     let root = live-root p n (rw (← c.self.view_is) at c.requires.live) in
-    let here = present-some cmp (flat (tree_of p.nodes n).leaves) k c.in-Some.old (sym c.find.ensures.value ∙ c.in-Some.is) in
-    let told = put-here g.row.N cmp p n k root here c.set_value.new.pool c.args.value (c.set_value.ensures.written (record { root = n; place = place cmp (flat (tree_of p.nodes n).leaves) k; on = c.find.ensures.present here })) c.set_value.ensures.slots c.set_value.ensures.chain in
-    let found : value_for cmp (flat (tree_of p.nodes n).leaves) k ≡ Some c.in-Some.old = sym c.find.ensures.value ∙ c.in-Some.is in
+    let here = present-some cmp (flat (tree_of p.nodes n).leaves) k c.in-Some.old (sym c.search.ensures.value ∙ c.in-Some.is) in
+    let told = put-here g.row.N cmp p n k root here c.set_value.new.pool c.args.value (c.set_value.ensures.written (record { root = n; place = place cmp (flat (tree_of p.nodes n).leaves) k; on = c.search.ensures.present here })) c.set_value.ensures.slots c.set_value.ensures.chain in
+    let found : value_for cmp (flat (tree_of p.nodes n).leaves) k ≡ Some c.in-Some.old = sym c.search.ensures.value ∙ c.in-Some.is in
     rw (c.requires.root, ← c.self.view_is)
     (inserts-ok g.row.N cmp p k c.args.value n c.set_value.new.pool n (Some c.in-Some.old)
     (subst (λ (l : List (g.row.K.Denot × g.row.V.Denot)). value_for cmp l k ≡ Some c.in-Some.old) (sym (list-root p n root)) found)
@@ -61,10 +61,10 @@ returns-in-Some-clause-spot g c =
     let n : ℕ = c.args.root in
     let k = c.args.key in
     let root = live-root p n (rw (← c.self.view_is) at c.requires.live) in
-    let here = present-some cmp (flat (tree_of p.nodes n).leaves) k c.in-Some.old (sym c.find.ensures.value ∙ c.in-Some.is) in
+    let here = present-some cmp (flat (tree_of p.nodes n).leaves) k c.in-Some.old (sym c.search.ensures.value ∙ c.in-Some.is) in
     let at = place cmp (flat (tree_of p.nodes n).leaves) k in
-    let e : OnEntry p c.find.new.self = record { root = n; place = at; on = c.find.ensures.present here } in
-    rw (c.requires.root, ← c.self.view_is, list-root p n root) (on-at c.set_value.new.pool n c.find.new.self at (c.set_value.ensures.stands e))
+    let e : OnEntry p c.search.new.path = record { root = n; place = at; on = c.search.ensures.present here } in
+    rw (c.requires.root, ← c.self.view_is, list-root p n root) (on-at c.set_value.new.pool n c.search.new.path at (c.set_value.ensures.stands e))
 
 pub insert-requires : goal.insert-requires
 insert-requires g c =
@@ -72,8 +72,8 @@ insert-requires g c =
     let p = c.self.inside.pool in
     let n : ℕ = c.args.root in
     let k = c.args.key in
-    let gone = absent-none cmp (flat (tree_of p.nodes n).leaves) k (sym c.find.ensures.value ∙ c.in_default.is) in
-    (search rules, (search rules, (c.self.invariant, record { root = n; place = place cmp (flat (tree_of p.nodes n).leaves) k; placed = c.find.ensures.absent gone })))
+    let gone = absent-none cmp (flat (tree_of p.nodes n).leaves) k (sym c.search.ensures.value ∙ c.in_default.is) in
+    (search rules, (search rules, (c.self.invariant, record { root = n; place = place cmp (flat (tree_of p.nodes n).leaves) k; placed = c.search.ensures.absent gone })))
 
 pub normalize-requires : goal.normalize-requires
 normalize-requires g c =
@@ -81,9 +81,9 @@ normalize-requires g c =
     let p = c.self.inside.pool in
     let n : ℕ = c.args.root in
     let k = c.args.key in
-    let gone = absent-none cmp (flat (tree_of p.nodes n).leaves) k (sym c.find.ensures.value ∙ c.in_default.is) in
+    let gone = absent-none cmp (flat (tree_of p.nodes n).leaves) k (sym c.search.ensures.value ∙ c.in_default.is) in
     let at = place cmp (flat (tree_of p.nodes n).leaves) k in
-    let points = placed-points p n c.find.new.self at (c.find.ensures.absent gone) in
+    let points = placed-points p n c.search.new.path at (c.search.ensures.absent gone) in
     (search rules, (search rules, (rw c.in-Err.ensures.refused_pool c.self.invariant, (λ some. record { root = n; place = at; to = rw (c.in-Err.ensures.refused_pool, c.in-Err.ensures.refused_path) points }))))
 
 pub returns-in-Err-clause-inserted : goal.returns-in-Err-clause-inserted
@@ -93,12 +93,12 @@ returns-in-Err-clause-inserted g c =
     let n : ℕ = c.args.root in
     let k = c.args.key in
     let root = live-root p n (rw (← c.self.view_is) at c.requires.live) in
-    let gone = absent-none cmp (flat (tree_of p.nodes n).leaves) k (sym c.find.ensures.value ∙ c.in_default.is) in
-    let placing : Placing p c.find.new.self = record { root = n; place = place cmp (flat (tree_of p.nodes n).leaves) k; placed = c.find.ensures.absent gone } in
+    let gone = absent-none cmp (flat (tree_of p.nodes n).leaves) k (sym c.search.ensures.value ∙ c.in_default.is) in
+    let placing : Placing p c.search.new.path = record { root = n; place = place cmp (flat (tree_of p.nodes n).leaves) k; placed = c.search.ensures.absent gone } in
     let told = c.insert.ensures in
     let needs = need-absent g.row.N cmp p n k root gone in
     let full = told.full placing in
-    let none : value_for cmp (flat (tree_of p.nodes n).leaves) k ≡ None = sym c.find.ensures.value ∙ c.in_default.is in
+    let none : value_for cmp (flat (tree_of p.nodes n).leaves) k ≡ None = sym c.search.ensures.value ∙ c.in_default.is in
     rw (c.requires.root, c.in-Err.ensures.refused_pool, ← c.self.view_is)
     (inserts-err g.row.N cmp p k c.args.value (Some n) c.in-Err.refused
     (rw (← c.self.view_is) at c.requires.increasing)
@@ -114,9 +114,9 @@ returns-in-Err-clause-spot g c =
     let n : ℕ = c.args.root in
     let k = c.args.key in
     let root = live-root p n (rw (← c.self.view_is) at c.requires.live) in
-    let gone = absent-none cmp (flat (tree_of p.nodes n).leaves) k (sym c.find.ensures.value ∙ c.in_default.is) in
+    let gone = absent-none cmp (flat (tree_of p.nodes n).leaves) k (sym c.search.ensures.value ∙ c.in_default.is) in
     let at = place cmp (flat (tree_of p.nodes n).leaves) k in
-    let points = placed-points p n c.find.new.self at (c.find.ensures.absent gone) in
+    let points = placed-points p n c.search.new.path at (c.search.ensures.absent gone) in
     let spot = c.normalize.ensures.stands (record { root = n; place = at; to = rw (c.in-Err.ensures.refused_pool, c.in-Err.ensures.refused_path) points }) in
     rw (c.requires.root, c.in-Err.ensures.refused_pool, ← c.self.view_is, list-root p n root) (rw c.in-Err.ensures.refused_pool at spot)
 
@@ -126,8 +126,8 @@ invariant_of-self-2 g c =
     let p = c.self.inside.pool in
     let n : ℕ = c.args.root in
     let k = c.args.key in
-    let gone = absent-none cmp (flat (tree_of p.nodes n).leaves) k (sym c.find.ensures.value ∙ c.in_default.is) in
-    (c.in-Ok.ensures.inserted (record { root = n; place = place cmp (flat (tree_of p.nodes n).leaves) k; placed = c.find.ensures.absent gone })).union
+    let gone = absent-none cmp (flat (tree_of p.nodes n).leaves) k (sym c.search.ensures.value ∙ c.in_default.is) in
+    (c.in-Ok.ensures.inserted (record { root = n; place = place cmp (flat (tree_of p.nodes n).leaves) k; placed = c.search.ensures.absent gone })).union
 
 pub returns-clause-inserted : goal.returns-clause-inserted
 returns-clause-inserted g c =
@@ -136,10 +136,10 @@ returns-clause-inserted g c =
     let n : ℕ = c.args.root in
     let k = c.args.key in
     let root = live-root p n (rw (← c.self.view_is) at c.requires.live) in
-    let gone = absent-none cmp (flat (tree_of p.nodes n).leaves) k (sym c.find.ensures.value ∙ c.in_default.is) in
-    let placing : Placing p c.find.new.self = record { root = n; place = place cmp (flat (tree_of p.nodes n).leaves) k; placed = c.find.ensures.absent gone } in
+    let gone = absent-none cmp (flat (tree_of p.nodes n).leaves) k (sym c.search.ensures.value ∙ c.in_default.is) in
+    let placing : Placing p c.search.new.path = record { root = n; place = place cmp (flat (tree_of p.nodes n).leaves) k; placed = c.search.ensures.absent gone } in
     let needs = need-absent g.row.N cmp p n k root gone in
-    let none : value_for cmp (flat (tree_of p.nodes n).leaves) k ≡ None = sym c.find.ensures.value ∙ c.in_default.is in
+    let none : value_for cmp (flat (tree_of p.nodes n).leaves) k ≡ None = sym c.search.ensures.value ∙ c.in_default.is in
     let told = put-new g.row.N cmp p n k root gone c.insert.new.pool c.in-Ok.root c.args.value (c.in-Ok.ensures.inserted placing) (c.in-Ok.ensures.account placing) (c.in-Ok.ensures.same_root placing) in
     rw (c.some.ensures.node, ← c.self.view_is)
     (inserts-ok g.row.N cmp p k c.args.value n c.insert.new.pool c.in-Ok.root None
@@ -155,9 +155,9 @@ returns-clause-spot g c =
     let n : ℕ = c.args.root in
     let k = c.args.key in
     let root = live-root p n (rw (← c.self.view_is) at c.requires.live) in
-    let gone = absent-none cmp (flat (tree_of p.nodes n).leaves) k (sym c.find.ensures.value ∙ c.in_default.is) in
+    let gone = absent-none cmp (flat (tree_of p.nodes n).leaves) k (sym c.search.ensures.value ∙ c.in_default.is) in
     let at = place cmp (flat (tree_of p.nodes n).leaves) k in
-    let placing : Placing p c.find.new.self = record { root = n; place = at; placed = c.find.ensures.absent gone } in
+    let placing : Placing p c.search.new.path = record { root = n; place = at; placed = c.search.ensures.absent gone } in
     rw (c.some.ensures.node, ← c.self.view_is, list-root p n root) (on-at c.insert.new.pool c.in-Ok.root c.insert.new.self at (c.in-Ok.ensures.stands placing))
 
 pub returns-in-Some-clause-union : goal.returns-in-Some-clause-union
