@@ -69,7 +69,8 @@ impl<'a, K: Copy, V: Copy, C: Comparator<K>> MapCursorMut<'a, K, V, C> {
         requires valid { IsCursor C.order self.old }
         requires ready { IsReadable K.row V.row }
         ensures value { result ≡ slice_get (entries self.old) (spot self.old + 1) }
-        ensures moves { Moves C.order self.old self.new (min (spot self.old + 1) (length (entries self.old))) }
+        ensures moves { Moves C.order self.old self.new
+            (min (spot self.old + 1) (length (entries self.old))) }
     {
         let map = &*self.map;
         let forest = &*self.forest;
