@@ -1,2 +1,3 @@
 pub mod Becoming
 pub mod Cursors
+pub mod Sets

@@ -5,3 +5,4 @@ pub mod Forest
 pub mod Lending
 pub mod Memory
 pub mod Retain
+pub mod Set

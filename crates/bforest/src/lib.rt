@@ -12,6 +12,8 @@ mod map_cursor_mut;
 mod map_into_iter;
 mod map_iter;
 mod map_range;
+mod set;
+mod set_forest;
 
 pub use bforest_core::{Comparator, OutOfMemory};
 pub use forest::MapForest;
@@ -21,3 +23,5 @@ pub use map_cursor_mut::MapCursorMut;
 pub use map_into_iter::MapIntoIter;
 pub use map_iter::MapIter;
 pub use map_range::MapRange;
+pub use set::Set;
+pub use set_forest::SetForest;

@@ -1,0 +1,32 @@
+-- The answers of a set against those of a map whose values say nothing.
+use Rattle.bforest.specs.Set.{as_removed}
+use Rattle.bforest_nodes.specs.Entries.{is_present, value_for}
+use Rattle.std.proofs.Math.Nat.{pow-succ'}
+use Rattle.bforest_nodes.specs.declared.number.SetValue.{SetValue}
+use Rattle.std.proofs.Common.{List, None, Option, Some, arith, refl, subst, suc, sym, zero, ◌*◌, ◌-◌, ◌<◌, ◌^◌, ◌≡◌, ◌≤◌, ℕ}
+use Rattle.std.specs.Option.{is_some, option_map}
+use Rattle.std.specs.declared.cmp.Ordering.{Ordering}
+
+-- what a removal answers
+pub removed-as : (o : Option SetValue) → as_removed (is_some o) ≡ o
+removed-as None = refl
+removed-as (Some v) = refl
+
+some-map : {A B : Type 0} (f : A → B) (o : Option A) → is_some (option_map f o) ≡ is_some o
+some-map f None = refl
+some-map f (Some a) = refl
+
+-- a key with a value is present
+pub present-is : {K X : Type 0} (cmp : K → K → Ordering) (es : List (K × X)) (k : K) → is_some (value_for cmp es k) ≡ is_present cmp es k
+present-is cmp es k = some-map (λ e. e.1) _
+
+-- so many levels need more keys than so many
+pub depth-eight : (levels n : ℕ) → 2 ≤ levels → 8 * 4 ^ (levels - 2) < n → 2 * 4 ^ (levels - 1) < n
+depth-eight zero n two h = absurd (omega (arith, two))
+depth-eight (suc zero) n two h = absurd (omega (arith, two))
+depth-eight (suc (suc q)) n two h =
+    let two_less : suc (suc q) - 2 ≡ q = omega arith in
+    let one_less : suc (suc q) - 1 ≡ suc q = omega arith in
+    let low : 8 * 4 ^ q < n = subst (λ (z : ℕ). 8 * 4 ^ z < n) two_less h in
+    let power : 4 ^ suc q ≡ 4 * 4 ^ q = pow-succ' 4 q in
+    subst (λ (z : ℕ). 2 * 4 ^ z < n) (sym one_less) (omega (arith, low, power))
