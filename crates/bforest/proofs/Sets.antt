@@ -1,9 +1,11 @@
 -- The answers of a set against those of a map whose values say nothing.
-use Rattle.bforest.specs.Set.{as_removed}
+use Rattle.bforest.specs.Set.{as_removed, the_value}
 use Rattle.bforest_nodes.specs.Entries.{is_present, value_for}
 use Rattle.std.proofs.Math.Nat.{pow-succ'}
 use Rattle.bforest_nodes.specs.declared.number.SetValue.{SetValue}
-use Rattle.std.proofs.Common.{List, None, Option, Some, arith, refl, subst, suc, sym, zero, ◌*◌, ◌-◌, ◌<◌, ◌^◌, ◌≡◌, ◌≤◌, ℕ}
+use Rattle.std.proofs.Common.{List, [], ◌∷◌, ◌++◌, ◌∙◌, None, Option, Some, ap, arith, refl, subst, suc, sym, zero, ◌*◌, ◌-◌, ◌<◌, ◌^◌, ◌≡◌, ◌≤◌, ℕ}
+use Rattle.std.specs.Iterator.{YieldsFirst, YieldsLast}
+use Rattle.std.specs.Map.{keys_of}
 use Rattle.std.specs.Option.{is_some, option_map}
 use Rattle.std.specs.declared.cmp.Ordering.{Ordering}
 
@@ -30,3 +32,26 @@ depth-eight (suc (suc q)) n two h =
     let low : 8 * 4 ^ q < n = subst (λ (z : ℕ). 8 * 4 ^ z < n) two_less h in
     let power : 4 ^ suc q ≡ 4 * 4 ^ q = pow-succ' 4 q in
     subst (λ (z : ℕ). 2 * 4 ^ z < n) (sym one_less) (omega (arith, low, power))
+
+keys-append : {K X : Type 0} (es fs : List (K × X)) → keys_of (es ++ fs) ≡ keys_of es ++ keys_of fs
+keys-append [] fs = refl
+keys-append (e ∷ es) fs = ap (λ z. e.0 ∷ z) (keys-append es fs)
+
+-- one key for each entry
+pub yields-key : {K X : Type 0} (old new : List (K × X)) (o : Option (K × X)) → YieldsFirst (λ (entries : List (K × X)). entries) old o new → YieldsFirst (λ (keys : List K). keys) (keys_of old) (option_map (λ e. e.0) o) (keys_of new)
+yields-key old new (Some entry) steps = ap keys_of steps
+yields-key old new None steps = (ap keys_of steps.0, ap keys_of steps.1)
+
+-- from the end
+pub yields-last-key : {K X : Type 0} (old new : List (K × X)) (o : Option (K × X)) → YieldsLast (λ (entries : List (K × X)). entries) old o new → YieldsLast (λ (keys : List K). keys) (keys_of old) (option_map (λ e. e.0) o) (keys_of new)
+yields-last-key old new (Some entry) steps = ap keys_of steps ∙ keys-append new (entry ∷ [])
+yields-last-key old new None steps = (ap keys_of steps.0, ap keys_of steps.1)
+
+-- each key beside the one value
+abbrev pub with_each : {K : Type 0} → List K → List (K × SetValue)
+with_each [] = []
+with_each (k ∷ ks) = (k, the_value) ∷ with_each ks
+
+pub whole-each : {K : Type 0} (es : List (K × SetValue)) → with_each (keys_of es) ≡ es
+whole-each [] = refl
+whole-each (e ∷ es) = ap (λ z. e ∷ z) (whole-each es)

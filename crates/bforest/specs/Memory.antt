@@ -2,6 +2,8 @@
 use Rattle.std.specs.Borrow.{RattleType}
 use Rattle.std.specs.Mem.{FitsInMemory}
 use denote.Param.{number}
+use Rattle.bforest.specs.contracts.set_forest.SetForest.{the_row as set_forest_row}
+use Rattle.bforest_nodes.specs.contracts.number.SetValue.{the_row as set_value_row}
 use Rattle.bforest.specs.contracts.forest.MapForest.{the_row as forest_row}
 use Rattle.bforest_trees.specs.contracts.trees.Trees.{the_row as trees_row}
 use Rattle.bforest_nodes.specs.contracts.node.NodeData.{the_row as node_row}
@@ -11,3 +13,8 @@ use Rattle.bforest_core.specs.contracts.pool.NodePool.{the_row as pool_row}
 abbrev pub IsReadable : RattleType → RattleType → Type 0
 IsReadable K V =
     FitsInMemory (forest_row K V) × FitsInMemory (trees_row K V (number 7)) × FitsInMemory (pool_row K V (number 7)) × FitsInMemory (node_row K V (number 7))
+
+-- the same of a forest of sets of these keys
+abbrev pub IsSetReadable : RattleType → Type 0
+IsSetReadable K =
+    FitsInMemory (set_forest_row K) × FitsInMemory (trees_row K set_value_row (number 15)) × FitsInMemory (pool_row K set_value_row (number 15)) × FitsInMemory (node_row K set_value_row (number 15))

@@ -14,6 +14,8 @@ mod map_iter;
 mod map_range;
 mod set;
 mod set_forest;
+mod set_iter;
+mod set_range;
 
 pub use bforest_core::{Comparator, OutOfMemory};
 pub use forest::MapForest;
@@ -25,3 +27,5 @@ pub use map_iter::MapIter;
 pub use map_range::MapRange;
 pub use set::Set;
 pub use set_forest::SetForest;
+pub use set_iter::SetIter;
+pub use set_range::SetRange;

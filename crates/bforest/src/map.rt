@@ -296,7 +296,7 @@ impl<K: Copy, V: Copy> Map<K, V> {
 }
 
 /// Whether the key before, if there is one, is less.
-fn follows<K: Copy, C: Comparator<K>>(before: Option<K>, key: K, comp: &C) -> bool
+pub(crate) fn follows<K: Copy, C: Comparator<K>>(before: Option<K>, key: K, comp: &C) -> bool
     ensures { result ≡ option_map_or (λ k. is_lt (C.order comp.now k key)) before true }
 {
     match before {

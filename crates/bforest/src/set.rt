@@ -1,18 +1,24 @@
 //! The handle of one set.
 ghost use Rattle.bforest_nodes.specs.Entries.{IsIncreasing, is_present};
-ghost use Rattle.bforest.specs.Bounds.{entry_at_most};
+ghost use Rattle.bforest.specs.Bounds.{entries_between, entry_at_most};
 ghost use Rattle.bforest.specs.Calls.{Clears, Inserts, Removes};
 ghost use Rattle.bforest.specs.Forest.{Forest, IsLive, first_level, list_of, sizes_of};
+ghost use Rattle.bforest.specs.Memory.{IsSetReadable};
 ghost use Rattle.bforest.specs.Set.{as_put, as_removed, elements, the_value};
 ghost use Rattle.bforest_nodes.specs.declared.number.SetValue.{SetValue};
+ghost use Rattle.std.specs.Map.{keys_of};
 ghost use Rattle.std.specs.declared.cmp.Ordering.{Ordering};
 ghost use Rattle.std.specs.Prelude.{IsTrue, None, [], length, option_map, ◌*◌, ◌+◌, ◌-◌, ◌/◌, ◌<◌, ◌^◌, ◌≡◌, ◌≤◌, ◌↔◌};
 
+use crate::map::follows;
 use crate::set_forest::SetForest;
+use crate::set_iter::SetIter;
+use crate::set_range::SetRange;
 use bforest_core::{Comparator, OutOfMemory, PackedNode, Path, SetValue};
 use bforest_trees::Start;
 use std::default::Default;
 use std::marker::{Model, PhantomData};
+use std::ops::Bound;
 
 /// The number of a set's tree, or nothing, which is the empty set.
 ///
@@ -184,6 +190,49 @@ impl<K: Copy> Set<K> {
             ≤ (length (list_of forest.now self.now) + 7) / 8 }
     {
         forest.trees.levels(self.root)
+    }
+
+    /// The keys in order, and then `None` for ever.
+    pub fn iter<'a>(&self, forest: &'a SetForest<K>) -> SetIter<'a, K>
+        requires live { IsLive forest.now self.now }
+        ensures keys { result ≡ elements forest.now self.now }
+        ensures ready { IsSetReadable K.row }
+    {
+        SetIter::new(self, forest)
+    }
+
+    /// The keys within both bounds, in order, from both ends, and then `None` for ever. Two searches and one comparison; the steps compare
+    /// nothing. Bounds the wrong way round, and two excluded bounds that compare equal, give nothing.
+    pub fn range<'a, C: Comparator<K>>(
+        &self,
+        bounds: (Bound<K>, Bound<K>),
+        forest: &'a SetForest<K>,
+        comp: &C,
+    ) -> SetRange<'a, K, C>
+        requires live { IsLive forest.now self.now }
+        requires increasing { IsIncreasing (C.order comp.now) (list_of forest.now self.now) }
+        ensures keys { result
+            ≡ keys_of (entries_between (C.order comp.now) bounds.0 bounds.1 (list_of forest.now self.now)) }
+        ensures ready { IsSetReadable K.row }
+    {
+        SetRange::new(self, bounds, forest, comp)
+    }
+
+    /// Whether each key is less than the next under the comparator: the test for what each call that compares asks. One comparison
+    /// fewer than there are keys; the empty set and a set of one key increase under every order.
+    pub fn increases<C: Comparator<K>>(&self, forest: &SetForest<K>, comp: &C) -> bool
+        requires live { IsLive forest.now self.now }
+        ensures increasing { IsTrue result
+            ↔ IsIncreasing (C.order comp.now) (list_of forest.now self.now) }
+    {
+        let mut last = None;
+        'keys: for key in self.iter(forest) {
+            if !follows(last, key, comp) {
+                return false;
+            }
+            last = Some(key);
+        }
+        true
     }
 }
 

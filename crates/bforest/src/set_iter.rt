@@ -1,0 +1,68 @@
+//! Iterators over a set.
+ghost use Rattle.bforest.specs.Forest.{IsLive};
+ghost use Rattle.bforest.specs.Memory.{IsSetReadable};
+ghost use Rattle.bforest.specs.Set.{elements};
+ghost use Rattle.std.specs.Iterator.{YieldsFirst, item_count};
+ghost use Rattle.std.specs.Prelude.{◌≡◌};
+
+use crate::map_cursor::key_of;
+use crate::set::Set;
+use crate::set_forest::SetForest;
+use bforest_core::{NodePool, Path, SetValue};
+use std::marker::Model;
+
+/// The keys of a set, in order, and then `None` for ever. Made by [`Set::iter`]. A step compares nothing.
+#[derive(Drop)]
+pub struct SetIter<'a, K: Copy> {
+    pool: &'a NodePool<K, SetValue, 15>,
+    // In front of the key that comes next.
+    path: Path<K, SetValue, 15>,
+}
+
+impl<'a, K: Copy> Model for SetIter<'a, K> {
+    ghost use Rattle.bforest_trees.specs.Layout.{IsReading, entries_from};
+    ghost use Rattle.std.specs.Map.{keys_of};
+    ghost use Rattle.std.specs.Prelude.{List};
+
+    ghost Value = { List K };
+
+    ghost view = { λ i. keys_of (entries_from i.pool.now i.path) };
+
+    ghost invariant = { λ i. IsReading i.pool.now i.path };
+}
+
+impl<'a, K: Copy> SetIter<'a, K> {
+    /// Over the keys of a set.
+    pub(crate) fn new(set: &Set<K>, forest: &'a SetForest<K>) -> SetIter<'a, K>
+        requires { IsLive forest.now set.now }
+        ensures keys { result ≡ elements forest.now set.now }
+        ensures ready { IsSetReadable K.row }
+    {
+        let pool = forest.trees.pool();
+        // The path is written where it stays, since it is too long to be moved for nothing.
+        let mut iter = SetIter {
+            pool,
+            path: Path::default(),
+        };
+        if let Some(root) = set.root.expand() {
+            iter.path.first(root, pool);
+        }
+        iter
+    }
+}
+
+impl<'a, K: Copy> Iterator for SetIter<'a, K> {
+    ghost use Rattle.bforest.specs.Memory.{IsSetReadable};
+
+    type Item = K;
+
+    ghost can_next = { λ _. IsSetReadable K.row };
+
+    ghost next_gives = { YieldsFirst (λ keys. keys) };
+
+    ghost remaining = { item_count (λ keys. keys) };
+
+    fn next(&mut self) -> Option<K> {
+        key_of(self.path.pass(self.pool))
+    }
+}
