@@ -1,3 +1,4 @@
 pub mod Becoming
 pub mod Cursors
 pub mod Sets
+pub mod SetCursors

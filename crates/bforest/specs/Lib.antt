@@ -6,3 +6,4 @@ pub mod Lending
 pub mod Memory
 pub mod Retain
 pub mod Set
+pub mod SetCursor

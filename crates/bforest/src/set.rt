@@ -5,12 +5,14 @@ ghost use Rattle.bforest.specs.Calls.{Clears, Inserts, Removes};
 ghost use Rattle.bforest.specs.Forest.{Forest, IsLive, first_level, list_of, sizes_of};
 ghost use Rattle.bforest.specs.Memory.{IsSetReadable};
 ghost use Rattle.bforest.specs.Set.{as_put, as_removed, elements, the_value};
+ghost use Rattle.bforest.specs.SetCursor.{IsCursor, comparator, forest_loan, forest_now, set_loan, set_now, spot};
 ghost use Rattle.bforest_nodes.specs.declared.number.SetValue.{SetValue};
 ghost use Rattle.std.specs.Map.{keys_of};
 ghost use Rattle.std.specs.declared.cmp.Ordering.{Ordering};
 ghost use Rattle.std.specs.Prelude.{IsTrue, None, [], length, option_map, ◌*◌, ◌+◌, ◌-◌, ◌/◌, ◌<◌, ◌^◌, ◌≡◌, ◌≤◌, ◌↔◌};
 
 use crate::map::follows;
+use crate::set_cursor::SetCursor;
 use crate::set_forest::SetForest;
 use crate::set_iter::SetIter;
 use crate::set_range::SetRange;
@@ -216,6 +218,26 @@ impl<K: Copy> Set<K> {
         ensures ready { IsSetReadable K.row }
     {
         SetRange::new(self, bounds, forest, comp)
+    }
+
+    /// A cursor that reads and writes, at the end.
+    pub fn cursor<'a, C: Comparator<K>>(
+        &'a mut self,
+        forest: &'a mut SetForest<K>,
+        comp: &'a C,
+    ) -> SetCursor<'a, K, C>
+        requires live { IsLive forest.old self.old }
+        requires increasing { IsIncreasing (C.order comp.now) (list_of forest.old self.old) }
+        ensures set_loan { set_loan result ≡ self.entry.ghost_name }
+        ensures forest_loan { forest_loan result ≡ forest.entry.ghost_name }
+        ensures comparator { comparator result ≡ comp.now }
+        ensures forest { forest_now result ≡ forest.old }
+        ensures set { set_now result ≡ self.old }
+        ensures spot { spot result ≡ length (list_of forest.old self.old) }
+        ensures valid { IsCursor C.order result }
+        ensures ready { IsSetReadable K.row }
+    {
+        SetCursor::new(self, forest, comp)
     }
 
     /// Whether each key is less than the next under the comparator: the test for what each call that compares asks. One comparison

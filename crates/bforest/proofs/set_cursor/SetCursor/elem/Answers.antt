@@ -1,0 +1,11 @@
+use Rattle.bforest.proofs.SetCursors.{key-at}
+use Rattle.bforest.proofs.set_cursor.SetCursor.elem.Goals as goal
+use Rattle.bforest.specs.SetCursor.{spot}
+use Rattle.bforest_trees.specs.Forest.{list_of}
+use Rattle.std.proofs.Common.{ap, option_map, ◌∙◌}
+
+pub returns : goal.returns
+returns g c =
+    let s = c.args.self.now in
+    let es = list_of s.forest.now s.set.now in
+    record { key = c.key_of.ensures ∙ ap (option_map (λ e. e.0)) (rw (← c.forest.view_is, ← c.set.view_is) (c.entry.ensures.value (record { place = _; spot = rw (← c.forest.view_is, ← c.set.view_is) at c.requires.valid.stands }))) ∙ key-at es (spot s) }

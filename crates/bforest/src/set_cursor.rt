@@ -1,0 +1,181 @@
+//! Cursors that read and write a set.
+ghost use Rattle.bforest.specs.Calls.{Inserts, RemovesAt};
+ghost use Rattle.bforest.specs.Forest.{IsLive, list_of};
+ghost use Rattle.bforest.specs.Memory.{IsSetReadable};
+ghost use Rattle.bforest.specs.Set.{as_put, the_value};
+ghost use Rattle.bforest.specs.SetCursor.{Goes, IsCursor, Moves, comparator, forest_loan, forest_now, keys, set_loan, set_now, spot};
+ghost use Rattle.bforest_core.specs.Place.{entry_before};
+ghost use Rattle.bforest_nodes.specs.Entries.{IsIncreasing, is_present, place};
+ghost use Rattle.std.specs.Prelude.{IsTrue, [], length, min, slice_get, ◌+◌, ◌-◌, ◌≡◌, ◌↔◌};
+
+use crate::map_cursor::key_of;
+use crate::set::{Set, is_new};
+use crate::set_forest::SetForest;
+use bforest_core::{Comparator, OutOfMemory, Path, SetValue};
+use bforest_trees::Start;
+
+/// A place in a set, to read and to write: a key or the end. Made by [`Set::cursor`], at the end.
+///
+/// It writes through its two references in each call, and nothing when it ends. So the set and the forest hold then what it last meant. The
+/// set's keys increase under its comparator throughout.
+#[derive(Drop)]
+pub struct SetCursor<'a, K: Copy, C: Comparator<K>> {
+    set: &'a mut Set<K>,
+    forest: &'a mut SetForest<K>,
+    comp: &'a C,
+    path: Path<K, SetValue, 15>,
+}
+
+impl<'a, K: Copy, C: Comparator<K>> SetCursor<'a, K, C> {
+    /// At the end of a set.
+    pub(crate) fn new(
+        set: &'a mut Set<K>,
+        forest: &'a mut SetForest<K>,
+        comp: &'a C,
+    ) -> SetCursor<'a, K, C>
+        requires live { IsLive forest.old set.old }
+        requires increasing { IsIncreasing (C.order comp.now) (list_of forest.old set.old) }
+        ensures set_loan { set_loan result ≡ set.entry.ghost_name }
+        ensures forest_loan { forest_loan result ≡ forest.entry.ghost_name }
+        ensures comparator { comparator result ≡ comp.now }
+        ensures forest { forest_now result ≡ forest.old }
+        ensures set { set_now result ≡ set.old }
+        ensures spot { spot result ≡ length (list_of forest.old set.old) }
+        ensures valid { IsCursor C.order result }
+        ensures ready { IsSetReadable K.row }
+    {
+        SetCursor {
+            set,
+            forest,
+            comp,
+            path: Path::default(),
+        }
+    }
+
+    /// Whether the set is empty. No comparison.
+    pub fn is_empty(&self) -> bool
+        requires valid { IsCursor C.order self.now }
+        requires ready { IsSetReadable K.row }
+        ensures empty { IsTrue result ↔ (list_of (forest_now self.now) (set_now self.now) ≡ []) }
+    {
+        self.set.is_empty()
+    }
+
+    /// Goes to the next key and answers it. From the last key it goes to the end, where it answers `None` from then on. No comparison.
+    pub fn next(&mut self) -> Option<K>
+        requires valid { IsCursor C.order self.old }
+        requires ready { IsSetReadable K.row }
+        ensures key { result ≡ slice_get (keys self.old) (spot self.old + 1) }
+        ensures moves { Moves C.order self.old self.new (min (spot self.old + 1) (length (keys self.old))) }
+    {
+        let set = &*self.set;
+        let forest = &*self.forest;
+        key_of(forest.trees.next(set.root, &mut self.path))
+    }
+
+    /// Goes to the key before and answers it; from the end it goes to the last. At the first key it stays, and answers `None`. No comparison.
+    pub fn prev(&mut self) -> Option<K>
+        requires valid { IsCursor C.order self.old }
+        requires ready { IsSetReadable K.row }
+        ensures key { result ≡ entry_before (keys self.old) (spot self.old) }
+        ensures moves { Moves C.order self.old self.new (spot self.old - 1) }
+    {
+        let set = &*self.set;
+        let forest = &*self.forest;
+        key_of(forest.trees.prev(set.root, &mut self.path))
+    }
+
+    /// The key where it stands, or `None` at the end. No comparison.
+    pub fn elem(&self) -> Option<K>
+        requires valid { IsCursor C.order self.now }
+        requires ready { IsSetReadable K.row }
+        ensures key { result ≡ slice_get (keys self.now) (spot self.now) }
+    {
+        let set = &*self.set;
+        let forest = &*self.forest;
+        key_of(forest.trees.entry(set.root, &self.path))
+    }
+
+    /// Goes to the key that compares equal and answers true, or else to the first greater key, or to the end, and answers false. One search.
+    pub fn goto(&mut self, elem: K) -> bool
+        requires valid { IsCursor C.order self.old }
+        requires ready { IsSetReadable K.row }
+        ensures present { result ≡ is_present (C.order (comparator self.old))
+            (list_of (forest_now self.old) (set_now self.old)) elem }
+        ensures moves { Moves C.order self.old self.new (place (C.order (comparator self.old))
+            (list_of (forest_now self.old) (set_now self.old)) elem) }
+    {
+        let set = &*self.set;
+        let forest = &*self.forest;
+        forest
+            .trees
+            .goto(set.root, &mut self.path, elem, self.comp)
+            .is_some()
+    }
+
+    /// Goes to the first key and answers it. In an empty set that is the end. No comparison.
+    pub fn goto_first(&mut self) -> Option<K>
+        requires valid { IsCursor C.order self.old }
+        requires ready { IsSetReadable K.row }
+        ensures key { result ≡ slice_get (keys self.old) 0 }
+        ensures moves { Moves C.order self.old self.new 0 }
+    {
+        let set = &*self.set;
+        let forest = &*self.forest;
+        key_of(forest.trees.first(set.root, &mut self.path))
+    }
+
+    /// Puts a key in, and answers whether it was absent. The same as [`SetCursor::try_insert`].
+    pub fn insert(&mut self, elem: K) -> Result<bool, OutOfMemory>
+        requires valid { IsCursor C.order self.old }
+        requires ready { IsSetReadable K.row }
+        ensures inserted { Inserts 15 (C.order (comparator self.old)) (forest_now self.old) (set_now self.old)
+            elem the_value (as_put result) (forest_now self.new) (set_now self.new) }
+        ensures goes { Goes C.order self.old self.new (place (C.order (comparator self.old))
+            (list_of (forest_now self.old) (set_now self.old)) elem) }
+    {
+        self.try_insert(elem)
+    }
+
+    /// Puts a key in as [`Set::try_insert`] does, and goes to it. Where the key is that here or the one before, or belongs between them, or
+    /// behind the last at the end, two comparisons tell it; else it makes one search.
+    ///
+    /// # Errors
+    ///
+    /// Those of [`Set::try_insert`]. Nothing has changed then, but that it stands where [`SetCursor::goto`] of the key goes.
+    pub fn try_insert(&mut self, elem: K) -> Result<bool, OutOfMemory>
+        requires valid { IsCursor C.order self.old }
+        requires ready { IsSetReadable K.row }
+        ensures inserted { Inserts 15 (C.order (comparator self.old)) (forest_now self.old) (set_now self.old)
+            elem the_value (as_put result) (forest_now self.new) (set_now self.new) }
+        ensures goes { Goes C.order self.old self.new (place (C.order (comparator self.old))
+            (list_of (forest_now self.old) (set_now self.old)) elem) }
+    {
+        let set = &mut *self.set;
+        let forest = &mut *self.forest;
+        let put = forest.trees.insert(
+            &mut set.root,
+            &mut self.path,
+            Start::Path,
+            elem,
+            SetValue,
+            self.comp,
+        );
+        is_new(put)
+    }
+
+    /// Takes the key out where it stands, and answers it. It stands at the one that followed then, or at the end. At the end it answers
+    /// `None`, and nothing changes. No comparison; nodes are joined and freed as in [`Set::remove`].
+    pub fn remove(&mut self) -> Option<K>
+        requires valid { IsCursor C.order self.old }
+        requires ready { IsSetReadable K.row }
+        ensures key { result ≡ slice_get (keys self.old) (spot self.old) }
+        ensures removed { RemovesAt 15 (forest_now self.old) (set_now self.old) (spot self.old)
+            (forest_now self.new) (set_now self.new) }
+        ensures goes { Goes C.order self.old self.new (spot self.old) }
+    {
+        let set = &mut *self.set;
+        let forest = &mut *self.forest;
+        key_of(forest.trees.take(&mut set.root, &mut self.path))
+    }
+}
