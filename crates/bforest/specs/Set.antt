@@ -2,6 +2,7 @@
 use Rattle.bforest_core.specs.declared.pool.OutOfMemory.{OutOfMemory}
 use Rattle.bforest_nodes.specs.declared.number.SetValue.{SetValue}
 use Rattle.bforest_trees.specs.Forest.{Forest, list_of}
+use Rattle.std.specs.Fn.{Called, Mut, Takes}
 use Rattle.std.specs.Map.{keys_of}
 use Rattle.std.specs.Prelude.{Bool, Err, List, None, Ok, Option, Result, Some, false, true, ℕ}
 
@@ -23,3 +24,12 @@ as_put (Err refused) = Err refused
 abbrev pub as_removed : Bool → Option SetValue
 as_removed true = Some the_value
 as_removed false = None
+
+module _ {F K : Type 0} (g : Mut F (K × Unit {0}) Bool) where
+  -- a call of f at the key k may answer b, and leave f as f'; the value says nothing
+  pub record AnswersKey (f : F) (k : K) (v : SetValue) (b : Bool) (w : SetValue) (f' : F) : Type 0 where
+    pub called : Called g f (k, tt) b f'
+
+  -- f may be called at k
+  abbrev pub MayAskKey : F → K → SetValue → Type 0
+  MayAskKey f k v = Takes g f (k, tt)

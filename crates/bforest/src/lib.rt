@@ -5,6 +5,7 @@
 //! (`specs/Forest.antt`); docs/MODEL.md reads these definitions aloud.
 #![tactic(auto)]
 
+mod asked_key;
 mod forest;
 mod map;
 mod map_cursor;

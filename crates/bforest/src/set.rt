@@ -1,16 +1,18 @@
 //! The handle of one set.
 ghost use Rattle.bforest_nodes.specs.Entries.{IsIncreasing, is_present};
 ghost use Rattle.bforest.specs.Bounds.{entries_between, entry_at_most};
-ghost use Rattle.bforest.specs.Calls.{Clears, Inserts, Removes};
+ghost use Rattle.bforest.specs.Calls.{Clears, Filters, Inserts, Removes};
 ghost use Rattle.bforest.specs.Forest.{Forest, IsLive, first_level, list_of, sizes_of};
 ghost use Rattle.bforest.specs.Memory.{IsSetReadable};
-ghost use Rattle.bforest.specs.Set.{as_put, as_removed, elements, the_value};
+ghost use Rattle.bforest.specs.Retain.{MayAskEach};
+ghost use Rattle.bforest.specs.Set.{AnswersKey, MayAskKey, as_put, as_removed, elements, the_value};
 ghost use Rattle.bforest.specs.SetCursor.{IsCursor, comparator, forest_loan, forest_now, set_loan, set_now, spot};
 ghost use Rattle.bforest_nodes.specs.declared.number.SetValue.{SetValue};
 ghost use Rattle.std.specs.Map.{keys_of};
 ghost use Rattle.std.specs.declared.cmp.Ordering.{Ordering};
 ghost use Rattle.std.specs.Prelude.{IsTrue, None, [], length, option_map, ◌*◌, ◌+◌, ◌-◌, ◌/◌, ◌<◌, ◌^◌, ◌≡◌, ◌≤◌, ◌↔◌};
 
+use crate::asked_key::AskedKey;
 use crate::map::follows;
 use crate::set_cursor::SetCursor;
 use crate::set_forest::SetForest;
@@ -178,6 +180,19 @@ impl<K: Copy> Set<K> {
         ensures { Clears forest.old self.old forest.new self.new }
     {
         forest.trees.free_tree(&mut self.root);
+    }
+
+    /// Asks once for each key, in order, and keeps those answered `true`. It compares no keys and takes no memory. Each key answered `false`
+    /// is a removal, so nodes are joined and freed as in [`Set::remove`].
+    pub fn retain<F: FnMut(K) -> bool>(&mut self, forest: &mut SetForest<K>, predicate: F)
+        requires live { IsLive forest.old self.old }
+        requires callable { MayAskEach (AnswersKey F.FnMut) (MayAskKey F.FnMut) predicate
+            (list_of forest.old self.old) }
+        ensures { Filters 15 (AnswersKey F.FnMut) forest.old self.old predicate forest.new self.new }
+    {
+        forest
+            .trees
+            .retain(&mut self.root, AskedKey { predicate });
     }
 
     /// How many levels of nodes the set's tree has: none where it is empty, and never more than 17. It reads one node of each level.
