@@ -146,25 +146,13 @@ impl<K: Copy> Set<K> {
             forest.new self.new }
     {
         let mut path = Path::default();
-        let put = forest.trees.insert(
-            &mut self.root,
-            &mut path,
-            Start::Root,
-            key,
-            SetValue,
-            comp,
-        );
+        let put = forest.trees.insert(&mut self.root, &mut path, Start::Root, key, SetValue, comp);
         is_new(put)
     }
 
     /// Takes the key that compares equal to `key` out, and answers whether there was one. One search; it takes no memory, and nodes that are
     /// left over lie free.
-    pub fn remove<C: Comparator<K>>(
-        &mut self,
-        key: K,
-        forest: &mut SetForest<K>,
-        comp: &C,
-    ) -> bool
+    pub fn remove<C: Comparator<K>>(&mut self, key: K, forest: &mut SetForest<K>, comp: &C) -> bool
         requires live { IsLive forest.old self.old }
         requires increasing { IsIncreasing (C.order comp.now) (list_of forest.old self.old) }
         ensures { Removes 15 (C.order comp.now) forest.old self.old key (as_removed result)
@@ -190,9 +178,7 @@ impl<K: Copy> Set<K> {
             (list_of forest.old self.old) }
         ensures { Filters 15 (AnswersKey F.FnMut) forest.old self.old predicate forest.new self.new }
     {
-        forest
-            .trees
-            .retain(&mut self.root, AskedKey { predicate });
+        forest.trees.retain(&mut self.root, AskedKey { predicate });
     }
 
     /// How many levels of nodes the set's tree has: none where it is empty, and never more than 17. It reads one node of each level.
