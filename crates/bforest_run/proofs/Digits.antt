@@ -1,7 +1,8 @@
 -- What `parse` gives of a word of digits.
-use Rattle.bforest_run.specs.Numbers.{IsNumber}
-use Rattle.std.proofs.Common.{Err, List, Ok, Result, length, rules, true, ◌<◌, ◌^◌, ◌≡◌, ◌≤◌, ℕ}
+use Rattle.bforest_run.specs.Numbers.{IsNumber, is_number, number_of}
+use Rattle.std.proofs.Common.{Bool, ◌&&◌, ◌∙◌, sym, Err, List, None, Ok, Option, Some, ap, false, if◌then◌else◌, refl, Result, length, rules, true, ◌<◌, ◌^◌, ◌≡◌, ◌≤◌, ℕ}
 use Rattle.std.proofs.lemmas.Str.Parse.{IsNumeralModel, numerals_by_value, parse_digits}
+use Rattle.std.proofs.lemmas.Bool.{false≢true}
 use Rattle.std.specs.Char.{is_ascii_digit}
 use Rattle.std.specs.List.{list_all}
 use Rattle.std.specs.Option.{SomeIff}
@@ -19,3 +20,29 @@ parsed word r h digits most = go r (parse_digits own 32 word r h digits)
     go : {E : Type 0} (r : Result ℕ E) → OkIff r ((0 < length word) × (digits_value 10 word < 2 ^ 32)) (digits_value 10 word) → SomeIff (result_ok r) (IsNumber word) (digits_value 10 word)
     go (Ok x) h = (record { digits = digits; some = h.0.0; most = most; fits = h.0.1 }, h.1)
     go (Err e) h = λ n. h (n.some, n.fits)
+
+-- both hold where their conjunction does
+both : (a b : Bool) → (a && b) ≡ true → (a ≡ true) × (b ≡ true)
+both true true e = (refl, refl)
+both true false e = absurd (cc)
+both false b e = absurd (cc)
+
+-- a word is a number where its test says so, and only there
+is_so : (word : List ℕ) → IsNumber word → is_number word ≡ true
+is_so word n = let d = n.digits in let s = n.some in let m = n.most in let f = n.fits in search rules
+
+so_is : (word : List ℕ) → is_number word ≡ true → IsNumber word
+so_is word e =
+    let parts = both _ _ e in
+    let more = both _ _ parts.0 in
+    let most = both _ _ more.0 in
+    record { digits = most.0; some = search (rules, most.1); most = search (rules, more.1); fits = search (rules, parts.1) }
+
+tested : (word : List ℕ) (b : Bool) → is_number word ≡ b → (o : Option ℕ) → SomeIff o (IsNumber word) (digits_value 10 word) → o ≡ (if b then Some (digits_value 10 word) else None)
+tested word true e None h = absurd (h (so_is word e))
+tested word true e (Some x) h = ap Some h.1
+tested word false e None h = refl
+tested word false e (Some x) h = absurd (false≢true (sym e ∙ is_so word h.0))
+
+pub as_number_of : (word : List ℕ) (o : Option ℕ) → SomeIff o (IsNumber word) (digits_value 10 word) → o ≡ number_of word
+as_number_of word o some = tested word (is_number word) refl o some

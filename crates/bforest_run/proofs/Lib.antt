@@ -1,6 +1,8 @@
+pub mod AllOf
 pub mod Digits
-pub mod Handling
-pub mod Kept
+pub mod Marks
 pub mod Parts
+pub mod Spelled
 pub mod Texts
+pub mod Turns
 pub mod Written

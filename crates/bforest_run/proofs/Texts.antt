@@ -1,13 +1,14 @@
--- The text of entries, one more at a time.
-use Rattle.bforest_run.specs.Shown.{entry_text, more_entries_text}
+-- Texts with a space before each, one more at a time.
+use Rattle.bforest_run.specs.Shown.{more_texts}
 use Rattle.std.proofs.Common.{List, [], ap, append_assoc, codes, get_or, length, sym, take, ◌+◌, ◌++◌, ◌<◌, ◌∙◌, ◌∷◌, ◌≡◌, ℕ}
 use Rattle.std.proofs.lemmas.List.{append-nil, take_more}
 
--- one entry more at the end
-more_entries_text-push : (es : List (ℕ × ℕ)) (e : ℕ × ℕ) → more_entries_text (es ++ e ∷ []) ≡ more_entries_text es ++ (codes " " ++ entry_text e)
-more_entries_text-push [] e = append-nil (codes " " ++ entry_text e)
-more_entries_text-push (x ∷ es) e = ap (λ t. (codes " " ++ entry_text x) ++ t) (more_entries_text-push es e) ∙ sym (append_assoc (codes " " ++ entry_text x) (more_entries_text es) (codes " " ++ entry_text e))
+module _ {X : Type 0} (text : X → List ℕ) where
+  -- one text more at the end
+  more_texts-push : (xs : List X) (x : X) → more_texts text (xs ++ x ∷ []) ≡ more_texts text xs ++ (codes " " ++ text x)
+  more_texts-push [] x = append-nil (codes " " ++ text x)
+  more_texts-push (y ∷ xs) x = ap (λ t. (codes " " ++ text y) ++ t) (more_texts-push xs x) ∙ sym (append_assoc (codes " " ++ text y) (more_texts text xs) (codes " " ++ text x))
 
--- one entry more of those that a loop goes over
-pub more_entries_text-take : (es : List (ℕ × ℕ)) (i : ℕ) (d : ℕ × ℕ) → i < length es → more_entries_text (take i es) ++ (codes " " ++ entry_text (get_or es i d)) ≡ more_entries_text (take (i + 1) es)
-more_entries_text-take es i d within = sym (more_entries_text-push (take i es) (get_or es i d)) ∙ ap more_entries_text (sym (take_more es i d within))
+  -- one text more of those that a loop goes over
+  pub more_texts-take : (xs : List X) (i : ℕ) (d : X) → i < length xs → more_texts text (take i xs) ++ (codes " " ++ text (get_or xs i d)) ≡ more_texts text (take (i + 1) xs)
+  more_texts-take xs i d within = sym (more_texts-push (take i xs) (get_or xs i d)) ∙ ap (more_texts text) (sym (take_more xs i d within))

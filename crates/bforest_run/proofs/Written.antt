@@ -24,12 +24,12 @@ pub taken_more : (line taken rest : List ℕ) (n : ℕ) (left : List ℕ) → li
 taken_more line taken rest n left h e = h ∙ ap (λ r. taken ++ r) (sym (take-append-drop n rest)) ∙ sym (append_assoc taken (take n rest) (drop n rest)) ∙ ap (λ r. (taken ++ take n rest) ++ r) (sym e)
 
 -- nothing is written
+pub Appends-none : (o : Option (List ℕ)) → Appends o o []
+Appends-none None = tt
+Appends-none (Some xs) = sym (append-nil xs)
+
 pub Grows-same : (o : Option (List ℕ)) → Grows o o
-Grows-same o = record { text = []; appended = nothing o }
-  where
-    nothing : (o : Option (List ℕ)) → Appends o o []
-    nothing None = tt
-    nothing (Some xs) = sym (append-nil xs)
+Grows-same o = record { text = []; appended = Appends-none o }
 
 -- one growth after another
 pub Grows-more : (old mid new : Option (List ℕ)) → Grows old mid → Grows mid new → Grows old new

@@ -1,6 +1,10 @@
-pub mod Orders
+pub mod Answers
+pub mod Grammar
 pub mod Lines
-pub mod Machine
 pub mod Numbers
+pub mod Orders
 pub mod Output
+pub mod Session
 pub mod Shown
+pub mod Statuses
+pub mod Words

@@ -1,14 +1,25 @@
 //! Calls on a forest as lines of text, and their answers as lines of text.
 //!
-//! [`run_text`] is the engine of the program `forest_run`. docs/RULES.md has the lines.
+//! [`run_text`] is the engine of the program `forest_run`. docs/RULES.md has the lines. Each line that is a call is made by one call of
+//! [`run_map`] or [`run_set`], which serve callers that have lists of calls as values too.
 #![tactic(auto)]
 
+mod engine;
 mod line;
 mod lines;
+mod maps;
+mod named;
 mod order;
+mod parse;
+mod reply;
+mod sets;
 mod shown;
-mod store;
+mod shown_map;
+mod shown_set;
+mod stop;
 mod text;
+mod word;
 
-pub use line::number;
+pub use bforest_calls::{Act, Answer, Call, Look, Seen, Side, run_map, run_set};
 pub use text::{Kind, run_text};
+pub use word::number;

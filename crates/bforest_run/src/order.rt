@@ -15,6 +15,9 @@ pub(crate) enum Order {
     Tens,
 }
 
+/// The orders, by the index that calls name them with.
+pub(crate) const ORDERS: [Order; 3] = [Order::Up, Order::Down, Order::Tens];
+
 impl Comparator<u32> for Order {
     ghost order = { order_of };
 

@@ -1,80 +1,71 @@
-//! Answers, as their lines show them.
-ghost use Rattle.bforest_run.specs.Shown.{entries_text, entry_text, more_entries_text, text_of};
+//! Words of answers that maps and sets share.
+ghost use Rattle.bforest_run.specs.Shown.{counts_text, number_text, refusal_text, truth_text};
 ghost use Rattle.std.specs.Prelude.{Some};
 
-use crate::store::Answer;
 use bforest::OutOfMemory;
 use std::fmt;
 
-/// An answer, as its line shows it.
+/// Whether it is so.
 #[derive(Clone, Copy)]
-pub(crate) struct Shown<'a>(pub(crate) &'a Answer);
+pub(crate) struct Truth(pub(crate) bool);
 
-impl fmt::Display for Shown<'_> {
-    ghost output = { λ shown. Some (text_of shown.0.now) };
+impl fmt::Display for Truth {
+    ghost output = { λ truth. Some (truth_text truth.0) };
 
     fn fmt<W: fmt::Write>(&self, f: &mut fmt::Formatter<W>) -> fmt::Result {
         match self.0 {
-            Answer::Value(Some(value)) => write!(f, "{value}"),
-            Answer::Value(None) => write!(f, "none"),
-            Answer::Put(Ok(None)) => write!(f, "new"),
-            Answer::Put(Ok(Some(old))) => write!(f, "old:{old}"),
-            Answer::Put(Err(OutOfMemory::Memory)) => write!(f, "memory"),
-            Answer::Put(Err(OutOfMemory::Full)) => write!(f, "full"),
-            Answer::Pairs(entries) => write!(f, "[{}]", Entries(entries)),
-            Answer::Done => write!(f, "ok"),
-            Answer::Truth(true) => write!(f, "true"),
-            Answer::Truth(false) => write!(f, "false"),
-            Answer::Counts {
-                levels,
-                slots,
-                free,
-            } => write!(f, "levels {levels} slots {slots} free {free}"),
-            Answer::Dead => write!(f, "dead"),
-            Answer::Unordered => write!(f, "unordered"),
+            true => write!(f, "true"),
+            false => write!(f, "false"),
         }
     }
 }
 
-/// Entries, with one space between them.
+/// A number, if there is one.
 #[derive(Clone, Copy)]
-struct Entries<'a>(&'a [(u32, u32)]);
+pub(crate) struct Maybe(pub(crate) Option<u32>);
 
-impl fmt::Display for Entries<'_> {
-    ghost output = { λ entries. Some (entries_text entries.0.now) };
+impl fmt::Display for Maybe {
+    ghost output = { λ maybe. Some (number_text maybe.0) };
 
     fn fmt<W: fmt::Write>(&self, f: &mut fmt::Formatter<W>) -> fmt::Result {
         match self.0 {
-            [] => Ok(()),
-            [first, rest @ ..] => write!(f, "{}{}", Entry(first), More(rest)),
+            Some(number) => write!(f, "{number}"),
+            None => write!(f, "none"),
         }
     }
 }
 
-/// Entries, with one space before each.
+/// Why an insertion has no node.
 #[derive(Clone, Copy)]
-struct More<'a>(&'a [(u32, u32)]);
+pub(crate) struct Refusal(pub(crate) OutOfMemory);
 
-impl fmt::Display for More<'_> {
-    ghost output = { λ entries. Some (more_entries_text entries.0.now) };
+impl fmt::Display for Refusal {
+    ghost output = { λ refusal. Some (refusal_text refusal.0) };
 
     fn fmt<W: fmt::Write>(&self, f: &mut fmt::Formatter<W>) -> fmt::Result {
-        'entries: for entry in self.0 {
-            write!(f, " {}", Entry(entry))?;
+        match self.0 {
+            OutOfMemory::Memory => write!(f, "memory"),
+            OutOfMemory::Full => write!(f, "full"),
         }
-        Ok(())
     }
 }
 
-/// A key and its value.
+/// The levels of a tree, and the slots of the table, with those that lie free.
 #[derive(Clone, Copy)]
-struct Entry<'a>(&'a (u32, u32));
+pub(crate) struct Counts {
+    pub(crate) levels: usize,
+    pub(crate) slots: u32,
+    pub(crate) free: u32,
+}
 
-impl fmt::Display for Entry<'_> {
-    ghost output = { λ entry. Some (entry_text entry.0.now) };
+impl fmt::Display for Counts {
+    ghost output = { λ counts. Some (counts_text counts.levels counts.slots counts.free) };
 
     fn fmt<W: fmt::Write>(&self, f: &mut fmt::Formatter<W>) -> fmt::Result {
-        let (key, value) = self.0;
-        write!(f, "{key}:{value}")
+        write!(
+            f,
+            "levels {} slots {} free {}",
+            self.levels, self.slots, self.free,
+        )
     }
 }

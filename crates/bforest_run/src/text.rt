@@ -1,12 +1,18 @@
 //! Lines in, lines out.
+ghost use Rattle.bforest_run.specs.Answers.{IsBadForMaps, IsBadForSets, MapTells, SetTells, at_start};
 ghost use Rattle.bforest_run.specs.Output.{AppendsBeginning, Grows};
+ghost use Rattle.bforest_run.specs.Session.{Answered, IsBad, Outcome, Replies, bad_text};
+ghost use Rattle.bforest_run.specs.Statuses.{status_of};
 ghost use Rattle.std.specs.Io.KnownBytes.{Appends, IsAtEnd};
-ghost use Rattle.std.specs.Prelude.{IfOk, IfSome, OnOk, ◌≡◌, ◌≢◌, ◌≤◌};
+ghost use Rattle.std.specs.Prelude.{Err, IfErr, IfOk, IfSome, List, OnOk, [], ◌≡◌, ◌≢◌, ◌≤◌, ℕ};
 
-use crate::line::parse;
+use crate::engine::Engine;
 use crate::lines::Lines;
-use crate::shown::Shown;
-use crate::store::Maps;
+use crate::maps::Maps;
+use crate::reply::Reply;
+use crate::sets::Sets;
+use crate::stop::Stop;
+use crate::word::words_in;
 use std::alloc::{AllocError, Global};
 use std::io::{ErrorKind, Read, Write};
 
@@ -15,6 +21,8 @@ use std::io::{ErrorKind, Read, Write};
 pub enum Kind {
     /// Maps of numbers to numbers.
     Map,
+    /// Sets of numbers.
+    Set,
 }
 
 /// How many calls a read of the whole input, and a write of one line, may take.
@@ -22,25 +30,6 @@ const CALLS: u32 = 1048576;
 
 /// How many bytes a call of `read` asks for.
 const PIECE: usize = 4096;
-
-/// Why a run ends before the last line.
-#[derive(Clone, Copy, Debug, PartialEq, Eq)]
-enum Stop {
-    BadLine,
-    Memory,
-    InputOutput,
-}
-
-impl From<AllocError> for Stop {
-    ghost use Rattle.bforest_run.specs.declared.text.Stop.TheVariants.{Memory};
-    ghost use Rattle.std.specs.Prelude.{◌≡◌};
-
-    ghost from_gives = { λ _ stop. stop ≡ Memory };
-
-    fn from(_error: AllocError) -> Stop {
-        Stop::Memory
-    }
-}
 
 /// Reads lines, answers each in turn, and returns the status.
 ///
@@ -72,11 +61,38 @@ pub fn run_text<R: Read, W: Write>(
 
     // What the output held stays at its front.
     ensures grows { Grows (W.contents output.old) (W.contents output.new) }
+
+    // The lines are answered in turn up to the first bad one, each call as one step of the machine.
+    ensures maps { kind ≡ Kind.Map → IfSome (R.remaining input.old) (λ bytes.
+        Outcome MapTells IsBadForMaps (at_start limit) bytes
+        (W.contents output.old) (W.contents output.new) result) }
+    ensures sets { kind ≡ Kind.Set → IfSome (R.remaining input.old) (λ bytes.
+        Outcome SetTells IsBadForSets (at_start limit) bytes
+        (W.contents output.old) (W.contents output.new) result) }
 {
-    let mut maps = match kind {
-        Kind::Map => Maps::new(alloc, limit),
-    };
-    match answer_all(alloc, &mut maps, input, output) {
+    match kind {
+        Kind::Map => run(alloc, &mut Maps::new(alloc, limit), input, output),
+        Kind::Set => run(alloc, &mut Sets::new(alloc, limit), input, output),
+    }
+}
+
+/// Has each line of the input answered, and returns the status.
+fn run<E: Engine, R: Read, W: Write>(
+    alloc: Global,
+    engine: &mut E,
+    input: &mut R,
+    output: &mut W,
+) -> u8
+    ensures status { (result ≤ 4) × (result ≢ 1) }
+    ensures whole { result ≤ 2 → IsAtEnd (R.remaining input.new) }
+    ensures read_first { (IsAtEnd (R.remaining input.new) → ⊥)
+        → W.contents output.new ≡ W.contents output.old }
+    ensures grows { Grows (W.contents output.old) (W.contents output.new) }
+    ensures outcome { IfSome (R.remaining input.old) (λ bytes.
+        Outcome E.tells E.is_bad engine.old bytes
+        (W.contents output.old) (W.contents output.new) result) }
+{
+    match answer_all(alloc, engine, input, output) {
         Ok(()) => 0,
         Err(Stop::BadLine) => 2,
         Err(Stop::Memory) => 3,
@@ -85,9 +101,9 @@ pub fn run_text<R: Read, W: Write>(
 }
 
 /// Answers each line of the input.
-fn answer_all<R: Read, W: Write>(
+fn answer_all<E: Engine, R: Read, W: Write>(
     alloc: Global,
-    maps: &mut Maps,
+    engine: &mut E,
     input: &mut R,
     output: &mut W,
 ) -> Result<(), Stop>
@@ -96,30 +112,56 @@ fn answer_all<R: Read, W: Write>(
     ensures read_first { (IsAtEnd (R.remaining input.new) → ⊥)
         → W.contents output.new ≡ W.contents output.old }
     ensures grows { Grows (W.contents output.old) (W.contents output.new) }
+    ensures outcome { IfSome (R.remaining input.old) (λ bytes.
+        Outcome E.tells E.is_bad engine.old bytes
+        (W.contents output.old) (W.contents output.new) (status_of result)) }
 {
     let bytes = read_all(alloc, input)?;
-    'lines: for (index, line) in Lines::of(&bytes).enumerate() {
-        answer_line(alloc, maps, index.saturating_add(1), line, output)?;
+    answer_lines(alloc, engine, &bytes, output)
+}
+
+/// Answers each line of these bytes.
+fn answer_lines<E: Engine, W: Write>(
+    alloc: Global,
+    engine: &mut E,
+    bytes: &[u8],
+    output: &mut W,
+) -> Result<(), Stop>
+    ensures grows { Grows (W.contents output.old) (W.contents output.new) }
+    ensures outcome { Outcome E.tells E.is_bad engine.old bytes.now
+        (W.contents output.old) (W.contents output.new) (status_of result) }
+{
+    let mut number = 0usize;
+    let mut lines = Lines::of(bytes);
+    'lines: while let Some(line) = lines.next() {
+        number = number.saturating_add(1);
+        answer_line(alloc, engine, number, line, output)?;
     }
     Ok(())
 }
 
 /// Answers a line. One without words has no answer.
-fn answer_line<W: Write>(
+fn answer_line<E: Engine, W: Write>(
     alloc: Global,
-    maps: &mut Maps,
+    engine: &mut E,
     number: usize,
     line: &[u8],
     output: &mut W,
 ) -> Result<(), Stop>
-    ensures { Grows (W.contents output.old) (W.contents output.new) }
+    ensures grows { Grows (W.contents output.old) (W.contents output.new) }
+    ensures ok { OnOk result ((text : List ℕ) × Answered E.tells E.is_bad engine.old line.now text engine.new
+        × Appends (W.contents output.old) (W.contents output.new) text) }
+    ensures bad { result ≡ Err Stop.BadLine → IsBad E.tells E.is_bad line.now
+        × Appends (W.contents output.old) (W.contents output.new) (bad_text number) }
+    ensures memory { result ≡ Err Stop.Memory → Appends (W.contents output.old) (W.contents output.new) [] }
 {
-    if line.iter().all(|byte| *byte == b' ') {
-        return Ok(());
-    }
-    match answer_to(alloc, maps, line)? {
-        Some(text) => write_line(output, text.as_bytes()),
-        None => {
+    match reply_to(alloc, engine, line)? {
+        Reply::Skipped => Ok(()),
+        Reply::Told(text) => {
+            let text = format!(in alloc; "{text}\n")?;
+            write_line(output, text.as_bytes())
+        }
+        Reply::Bad => {
             let text = format!(in alloc; "line {number}: bad\n")?;
             write_line(output, text.as_bytes())?;
             Err(Stop::BadLine)
@@ -127,20 +169,21 @@ fn answer_line<W: Write>(
     }
 }
 
-/// The answer to a line that has words, or nothing where it is bad.
-fn answer_to(alloc: Global, maps: &mut Maps, line: &[u8]) -> Result<Option<String>, AllocError> {
+/// The reply to a line.
+fn reply_to<E: Engine>(alloc: Global, engine: &mut E, line: &[u8]) -> Result<Reply, AllocError>
+    ensures { IfOk result (λ reply. Replies E.tells E.is_bad engine.old line.now reply engine.new) }
+{
     let Ok(text) = std::str::from_utf8(line) else {
-        return Ok(None);
+        return Ok(Reply::Bad);
     };
-    let words: Vec<&str> = text
-        .split(' ')
-        .filter(|word| !word.is_empty())
-        .collect(alloc)?;
-    let Some(line) = parse(alloc, &words)? else {
-        return Ok(None);
-    };
-    let answer = maps.answer(alloc, line)?;
-    Ok(Some(format!(in alloc; "{}\n", Shown(&answer))?))
+    let words = words_in(alloc, text)?;
+    if words.is_empty() {
+        return Ok(Reply::Skipped);
+    }
+    match engine.answer(alloc, &words)? {
+        Some(text) => Ok(Reply::Told(text)),
+        None => Ok(Reply::Bad),
+    }
 }
 
 /// The whole input.
@@ -169,6 +212,7 @@ fn read_all<R: Read>(alloc: Global, input: &mut R) -> Result<Vec<u8>, Stop>
 fn write_line<W: Write>(output: &mut W, line: &[u8]) -> Result<(), Stop>
     ensures ok { OnOk result (Appends (W.contents output.old) (W.contents output.new) line.now) }
     ensures begins { AppendsBeginning (W.contents output.old) (W.contents output.new) line.now }
+    ensures fails { IfErr result (λ why. why ≡ Stop.InputOutput) }
 {
     let mut rest = line;
     'writes: for _ in 0..CALLS {

@@ -1,4 +1,4 @@
-//! Answers lines: calls on maps of numbers in one forest.
+//! Answers lines: calls on maps or sets of numbers in one forest.
 #![tactic(auto)]
 
 use bforest_run::{Kind, number, run_text};
@@ -20,6 +20,7 @@ fn asked(words: &[String]) -> Option<(Kind, u32)> {
 fn kind_named(word: &str) -> Option<Kind> {
     match word {
         "map" => Some(Kind::Map),
+        "set" => Some(Kind::Set),
         _ => None,
     }
 }

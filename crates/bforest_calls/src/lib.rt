@@ -1,0 +1,8 @@
+//! Lists of calls on a forest of maps or of sets, as values: what each answers, and what all of them leave.
+#![tactic(auto)]
+
+mod call;
+mod run;
+
+pub use call::{Act, Answer, Call, Look, Seen, Side};
+pub use run::{run_map, run_set};

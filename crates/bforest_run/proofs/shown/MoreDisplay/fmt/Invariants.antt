@@ -1,8 +1,0 @@
-use Rattle.bforest_run.proofs.shown.MoreDisplay.fmt.Given as goal
-use Rattle.bforest_run.specs.Shown.{more_entries_text}
-use Rattle.std.proofs.Common.{take}
-use Rattle.std.specs.Fmt.{HasWritten, IsPlainFormatter}
-
--- the entries so far are written
-abbrev pub invariant-entries : goal.invariant-entries
-invariant-entries g l = IsPlainFormatter l.initial.f → HasWritten g.W.Write.write_str_gives l.initial.f (more_entries_text (take l.entry-index l.entry-items)) l.f

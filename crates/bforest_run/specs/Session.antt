@@ -1,0 +1,70 @@
+-- Whole inputs: lines that are answered in turn.
+use Rattle.bforest_run.specs.Lines.{lines_of}
+use Rattle.bforest_run.specs.Words.{Word, words_of}
+use Rattle.bforest_run.specs.declared.reply.Reply.TheVariants.{Bad, Skipped, Told}
+use Rattle.bforest_run.specs.declared.reply.Reply.{Reply}
+use Rattle.std.proofs.Math.Logic.{◌⊎◌}
+use Rattle.std.specs.Fmt.{decimal}
+use Rattle.std.specs.Io.KnownBytes.{Appends}
+use Rattle.std.specs.Prelude.{IsUtf8, List, Option, [], codes, string_bytes, length, take, ◌+◌, ◌++◌, ◌∷◌, ◌≡◌, ℕ}
+
+-- the answer to a bad line, by its number
+abbrev pub bad_text : ℕ → List ℕ
+bad_text number = codes "line " ++ decimal number ++ codes ": bad\n"
+
+module _ {S : Type 0} (tells : S → List Word → List ℕ → S → Type 0) (is_bad : List Word → Type 0) where
+  -- a line that is no text, or whose words spell nothing
+  abbrev pub IsBad : List ℕ → Type 0
+  IsBad line = (IsUtf8 line → ⊥) ⊎ is_bad (words_of line)
+
+  -- the reply to a line, and what it leaves
+  abbrev pub Replies : S → List ℕ → Reply → S → Type 0
+  Replies old line Skipped new = (words_of line ≡ []) × (new ≡ old)
+  Replies old line (Told text) new = tells old (words_of line) (string_bytes text) new
+  Replies old line Bad new = IsBad line × (new ≡ old)
+
+  -- A line without words has no answer; another has its text and a line feed.
+  abbrev pub Answered : S → List ℕ → List ℕ → S → Type 0
+  Answered old line text new =
+      ((words_of line ≡ []) × (text ≡ []) × (new ≡ old))
+      ⊎ ((said : List ℕ) × (text ≡ said ++ codes "\n") × tells old (words_of line) said new)
+
+  -- lines in turn, each from what the one before left
+  abbrev pub AllAnswered : S → List (List ℕ) → List ℕ → S → Type 0
+  AllAnswered old [] text new = (text ≡ []) × (new ≡ old)
+  AllAnswered old (line ∷ lines) text new =
+      (first rest : List ℕ) × (mid : S) × Answered old line first mid × AllAnswered mid lines rest new × (text ≡ first ++ rest)
+
+  module _ (start : S) (bytes : List ℕ) (old new : Option (List ℕ)) where
+    -- each line was answered
+    pub record AllTold : Type 0 where
+      pub text : List ℕ
+      pub end : S
+      pub told : AllAnswered start (lines_of bytes) text end
+      pub appended : Appends old new text
+
+    -- each line before the first bad one was answered, and then the number of that one was written
+    pub record ToldUpToBad : Type 0 where
+      pub before : List (List ℕ)
+      pub line : List ℕ
+      pub after : List (List ℕ)
+      pub lines : lines_of bytes ≡ before ++ line ∷ after
+      pub text : List ℕ
+      pub end : S
+      pub told : AllAnswered start before text end
+      pub bad : IsBad line
+      pub appended : Appends old new (text ++ bad_text (length before + 1))
+
+    -- the first lines were answered
+    pub record FirstTold : Type 0 where
+      pub count : ℕ
+      pub text : List ℕ
+      pub end : S
+      pub told : AllAnswered start (take count (lines_of bytes)) text end
+      pub appended : Appends old new text
+
+    -- what a status says
+    pub record Outcome (status : ℕ) : Type 0 where
+      pub all : status ≡ 0 → AllTold
+      pub bad : status ≡ 2 → ToldUpToBad
+      pub memory : status ≡ 3 → FirstTold
