@@ -2,7 +2,6 @@
 use Rattle.bforest.specs.Set.{as_removed, the_value}
 use Rattle.bforest_nodes.specs.Entries.{is_present, value_for}
 use Rattle.std.proofs.Math.Nat.{pow-succ'}
-use Rattle.bforest_nodes.specs.declared.number.SetValue.{SetValue}
 use Rattle.std.proofs.Common.{List, [], ◌∷◌, ◌++◌, ◌∙◌, None, Option, Some, ap, arith, refl, subst, suc, sym, zero, ◌*◌, ◌-◌, ◌<◌, ◌^◌, ◌≡◌, ◌≤◌, ℕ}
 use Rattle.std.specs.Iterator.{YieldsFirst, YieldsLast}
 use Rattle.std.specs.Map.{keys_of}
@@ -10,7 +9,7 @@ use Rattle.std.specs.Option.{is_some, option_map}
 use Rattle.std.specs.declared.cmp.Ordering.{Ordering}
 
 -- what a removal answers
-pub removed-as : (o : Option SetValue) → as_removed (is_some o) ≡ o
+pub removed-as : (o : Option (Unit {0})) → as_removed (is_some o) ≡ o
 removed-as None = refl
 removed-as (Some v) = refl
 
@@ -48,10 +47,10 @@ yields-last-key old new (Some entry) steps = ap keys_of steps ∙ keys-append ne
 yields-last-key old new None steps = (ap keys_of steps.0, ap keys_of steps.1)
 
 -- each key beside the one value
-abbrev pub with_each : {K : Type 0} → List K → List (K × SetValue)
+abbrev pub with_each : {K : Type 0} → List K → List (K × Unit {0})
 with_each [] = []
 with_each (k ∷ ks) = (k, the_value) ∷ with_each ks
 
-pub whole-each : {K : Type 0} (es : List (K × SetValue)) → with_each (keys_of es) ≡ es
+pub whole-each : {K : Type 0} (es : List (K × Unit {0})) → with_each (keys_of es) ≡ es
 whole-each [] = refl
 whole-each (e ∷ es) = ap (λ z. e ∷ z) (whole-each es)

@@ -3,7 +3,7 @@ use Rattle.std.specs.Borrow.{RattleType}
 use Rattle.std.specs.Mem.{FitsInMemory}
 use denote.Param.{number}
 use Rattle.bforest.specs.contracts.set_forest.SetForest.{the_row as set_forest_row}
-use Rattle.bforest_nodes.specs.contracts.number.SetValue.{the_row as set_value_row}
+use denote.Plain.{Nothing}
 use Rattle.bforest.specs.contracts.forest.MapForest.{the_row as forest_row}
 use Rattle.bforest_trees.specs.contracts.trees.Trees.{the_row as trees_row}
 use Rattle.bforest_nodes.specs.contracts.node.NodeData.{the_row as node_row}
@@ -17,4 +17,4 @@ IsReadable K V =
 -- the same of a forest of sets of these keys
 abbrev pub IsSetReadable : RattleType → Type 0
 IsSetReadable K =
-    FitsInMemory (set_forest_row K) × FitsInMemory (trees_row K set_value_row (number 15)) × FitsInMemory (pool_row K set_value_row (number 15)) × FitsInMemory (node_row K set_value_row (number 15))
+    FitsInMemory (set_forest_row K) × FitsInMemory (trees_row K Nothing (number 15)) × FitsInMemory (pool_row K Nothing (number 15)) × FitsInMemory (node_row K Nothing (number 15))

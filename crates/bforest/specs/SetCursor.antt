@@ -2,7 +2,6 @@
 use Rattle.bforest.specs.Cursor.{StandsIn}
 use Rattle.bforest.specs.Set.{elements}
 use Rattle.bforest.specs.declared.set_cursor.SetCursor.{SetCursor}
-use Rattle.bforest_nodes.specs.declared.number.SetValue.{SetValue}
 use Rattle.bforest_trees.specs.Forest.{Forest}
 use Rattle.bforest_trees.specs.Place.{spot_of}
 use Rattle.std.specs.Borrow.{GName}
@@ -11,7 +10,7 @@ use Rattle.std.specs.declared.cmp.Ordering.{Ordering}
 
 module _ {K C : Type 0} where
   -- the forest and the handle as they are now
-  abbrev pub forest_now : SetCursor K C → Forest K SetValue
+  abbrev pub forest_now : SetCursor K C → Forest K (Unit {0})
   forest_now c = c.forest.now
 
   abbrev pub set_now : SetCursor K C → Option ℕ

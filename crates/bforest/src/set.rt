@@ -7,7 +7,6 @@ ghost use Rattle.bforest.specs.Memory.{IsSetReadable};
 ghost use Rattle.bforest.specs.Retain.{MayAskEach};
 ghost use Rattle.bforest.specs.Set.{AnswersKey, MayAskKey, as_put, as_removed, elements, the_value};
 ghost use Rattle.bforest.specs.SetCursor.{IsCursor, comparator, forest_loan, forest_now, set_loan, set_now, spot};
-ghost use Rattle.bforest_nodes.specs.declared.number.SetValue.{SetValue};
 ghost use Rattle.std.specs.Map.{keys_of};
 ghost use Rattle.std.specs.declared.cmp.Ordering.{Ordering};
 ghost use Rattle.std.specs.Prelude.{IsTrue, None, [], length, option_map, ◌*◌, ◌+◌, ◌-◌, ◌/◌, ◌<◌, ◌^◌, ◌≡◌, ◌≤◌, ◌↔◌};
@@ -58,7 +57,7 @@ impl<K: Copy> Set<K> {
     /// An empty set. It takes no memory and no node, is live in every forest, and increases under every order.
     pub fn new() -> Self
         ensures empty { result ≡ None }
-        ensures increasing { (forest : Forest K SetValue) (order : K → K → Ordering)
+        ensures increasing { (forest : Forest K (Unit {0})) (order : K → K → Ordering)
             → IsIncreasing order (list_of forest result) }
     {
         Set {
@@ -80,7 +79,7 @@ impl<K: Copy> Set<K> {
     /// Whether the set is empty: whether the handle names no tree.
     pub fn is_empty(&self) -> bool
         ensures handle { IsTrue result ↔ (self.now ≡ None) }
-        ensures list { (forest : Forest K SetValue) → IsLive forest self.now
+        ensures list { (forest : Forest K (Unit {0})) → IsLive forest self.now
             → (IsTrue result ↔ (list_of forest self.now ≡ [])) }
     {
         self.root.is_none()
@@ -146,7 +145,7 @@ impl<K: Copy> Set<K> {
             forest.new self.new }
     {
         let mut path = Path::default();
-        let put = forest.trees.insert(&mut self.root, &mut path, Start::Root, key, SetValue, comp);
+        let put = forest.trees.insert(&mut self.root, &mut path, Start::Root, key, (), comp);
         is_new(put)
     }
 

@@ -158,7 +158,7 @@ impl<'a, K: Copy, C: Comparator<K>> SetCursor<'a, K, C> {
             &mut self.path,
             Start::Path,
             elem,
-            SetValue,
+            (),
             self.comp,
         );
         is_new(put)

@@ -17,9 +17,8 @@ pub struct SetForest<K: Copy> {
 
 impl<K: Copy> Model for SetForest<K> {
     ghost use Rattle.bforest.specs.Forest.{Forest};
-    ghost use Rattle.bforest_nodes.specs.declared.number.SetValue.{SetValue};
 
-    ghost Value = { Forest K SetValue };
+    ghost Value = { Forest K (Unit {0}) };
 
     ghost view = { λ f. f.trees };
 }

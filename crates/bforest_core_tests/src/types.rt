@@ -101,13 +101,13 @@ fn the_greatest_leaves_are_balanced(rt: HostRuntime) {
 fn a_leaf_of_a_set_is_halved(rt: HostRuntime) {
     let alloc = rt.alloc();
     let keys = [1u16, 2, 3, 4, 5, 6, 7, 8, 9, 10, 11, 12, 13, 14, 15];
-    let mut left: NodeData<u16, SetValue, 15> = leaf_with(alloc, &keys, &[SetValue; 15]);
+    let mut left: NodeData<u16, SetValue, 15> = leaf_with(alloc, &keys, &[(); 15]);
     let mut right = NodeData::new(alloc).unwrap();
-    assert!(rt; !left.try_leaf_insert(15, 16, SetValue));
+    assert!(rt; !left.try_leaf_insert(15, 16, ()));
     let halves = left.split(15, &mut right);
     assert_eq!(rt; halves.lhs_entries, 8);
     assert_eq!(rt; halves.crit_key, 9);
-    assert!(rt; right.try_leaf_insert(7, 16, SetValue));
+    assert!(rt; right.try_leaf_insert(7, 16, ()));
     assert_eq!(rt;
         left.unwrap_leaf().0,
         [1u16, 2, 3, 4, 5, 6, 7, 8].as_slice()

@@ -106,5 +106,4 @@ impl PackedNode {
 }
 
 /// What the entry of a set has for a value: nothing.
-#[derive(Clone, Copy)]
-pub struct SetValue;
+pub type SetValue = ();
