@@ -1,0 +1,128 @@
+-- The machine that a list of calls runs: what each call may answer, and what it leaves.
+use Rattle.bforest.specs.Bounds.{entries_between, entry_at_most}
+use Rattle.bforest.specs.Calls.{Clears, Inserts, Removes}
+use Rattle.bforest.specs.Forest.{Forest, IsLive, empty, limit_of, list_of}
+use Rattle.bforest_calls.specs.Looks.{all_taken, sights_of}
+use Rattle.bforest_calls.specs.State.{Edits, Held, Retained}
+use Rattle.bforest_calls.specs.declared.call.Answer.TheVariants as answer
+use Rattle.bforest_calls.specs.declared.call.Answer.{Answer}
+use Rattle.bforest_calls.specs.declared.call.Call.TheVariants as call
+use Rattle.bforest_calls.specs.declared.call.Call.{Call}
+use Rattle.bforest_calls.specs.declared.call.Seen.{Seen}
+use Rattle.bforest_core.specs.declared.pool.OutOfMemory.{OutOfMemory}
+use Rattle.bforest_nodes.specs.Entries.{IsIncreasing, value_for}
+use Rattle.std.proofs.Math.Logic.{◌⊎◌}
+use Rattle.std.specs.Global.{Global}
+use Rattle.std.specs.Prelude.{Bool, List, None, Option, Result, Vec, [], false, get_or, length, slice_set, true, ◌<◌, ◌≡◌, ◌∷◌, ℕ}
+use Rattle.std.specs.declared.cmp.Ordering.TheVariants.{Equal}
+use Rattle.std.specs.declared.cmp.Ordering.{Ordering}
+
+-- what a run is about: the forest, and the number of each handle
+pub record State (K V : Type 0) : Type 0 where
+  pub forest : Forest K V
+  pub handles : List (Option ℕ)
+
+abbrev pub Orders : Type 0 → Type 0
+Orders K = List (K → K → Ordering)
+
+-- the comparator with this index
+abbrev pub order_at : {K : Type 0} → Orders K → ℕ → K → K → Ordering
+order_at orders c = get_or orders c (λ _ _. Equal)
+
+-- what holds of a call that is offered or not
+abbrev pub Offered : Bool → (Made Lacking : Type 0) → Type 0
+Offered true Made Lacking = Made
+Offered false Made Lacking = Lacking
+
+module _ {K V : Type 0} where
+  -- the number of a handle, what it holds, and its list
+  abbrev pub number_at : State K V → ℕ → Option ℕ
+  number_at state h = get_or state.handles h None
+
+  abbrev pub held_at : State K V → ℕ → Held K V
+  held_at state h = record { forest = state.forest; number = number_at state h }
+
+  abbrev pub list_in : State K V → ℕ → List (K × V)
+  list_in state h = list_of state.forest (number_at state h)
+
+  -- what a call on handle h asks first, what it asks then, and what it asks last if it compares keys
+  abbrev pub Live : State K V → ℕ → Type 0
+  Live state h = IsLive state.forest (number_at state h)
+
+  abbrev pub Ordered : Orders K → State K V → ℕ → ℕ → Type 0
+  Ordered orders state h c = IsIncreasing (order_at orders c) (list_in state h)
+
+  -- The answer in place of a call is that of the first test that fails: whether all indices are there, whether the handle is live, and
+  -- whether its list increases.
+  abbrev pub Refuses : (there live ordered : Type 0) → Answer K V → Type 0
+  Refuses there live ordered answer.NoIndex = there → ⊥
+  Refuses there live ordered answer.Dead = there × (live → ⊥)
+  Refuses there live ordered answer.Unordered = there × live × (ordered → ⊥)
+  Refuses there live ordered given = ⊥
+
+  -- A call is refused and nothing changes, or it passes all tests and is made.
+  abbrev pub Tests : (there live ordered : Type 0) → State K V → Answer K V → State K V → Type 0 → Type 0
+  Tests there live ordered old given new Made = (Refuses there live ordered given × (new ≡ old)) ⊎ (there × live × ordered × Made)
+
+  -- what a call on handle h asks before it is made; what one asks that names comparator c too; and what one asks that compares keys by it
+  abbrev pub Names : ℕ → State K V → Answer K V → State K V → Type 0 → Type 0
+  Names h old = Tests (h < length old.handles) (Live old h) (Unit {0}) old
+
+  abbrev pub NamesBoth : Orders K → ℕ → ℕ → State K V → Answer K V → State K V → Type 0 → Type 0
+  NamesBoth orders h c old = Tests ((h < length old.handles) × (c < length orders)) (Live old h) (Unit {0}) old
+
+  abbrev pub Compares : Orders K → ℕ → ℕ → State K V → Answer K V → State K V → Type 0 → Type 0
+  Compares orders h c old = Tests ((h < length old.handles) × (c < length orders)) (Live old h) (Ordered orders old h c) old
+
+  -- a call that is not offered: whether the indices are there is tested before
+  abbrev pub Lacks : (there : Type 0) → State K V → Answer K V → State K V → Type 0
+  Lacks there old answer.NoIndex new = (there → ⊥) × (new ≡ old)
+  Lacks there old answer.NotOffered new = there × (new ≡ old)
+  Lacks there old given new = ⊥
+
+  -- A change of handle h and of its tree: each other handle keeps its number.
+  abbrev pub On : ℕ → State K V → State K V → (Held K V → Held K V → Type 0) → Type 0
+  On h old new R =
+      (number : Option ℕ) × (new.handles ≡ slice_set old.handles h number) × R (held_at old h) (record { forest = new.forest; number = number })
+
+  -- an answer that lists what steps saw
+  abbrev pub Shows : List (Seen K V) → Answer K V → Type 0
+  Shows list given = (sights : Vec (Seen K V) Global) × (given ≡ answer.Script sights) × (sights.items ≡ list)
+
+  -- where a leaf has at most so many entries, and where reading cursors are offered or not
+  module _ (most : ℕ) (reads : Bool) where
+    -- from old, the machine may give this answer to the call and go on to new
+    abbrev pub Step : Orders K → State K V → Call K V → Answer K V → State K V → Type 0
+    Step orders old (call.Get h c k) given new =
+        Compares orders h c old given new ((given ≡ answer.Value (value_for (order_at orders c) (list_in old h) k)) × (new ≡ old))
+    Step orders old (call.GetOrLess h c k) given new =
+        Compares orders h c old given new ((given ≡ answer.Pair (entry_at_most (order_at orders c) (list_in old h) k)) × (new ≡ old))
+    Step orders old (call.Insert h c k v) given new = Compares orders h c old given new
+        ((result : Result (Option V) OutOfMemory) × (given ≡ answer.Put result)
+        × On h old new (λ held after. Inserts most (order_at orders c) held.forest held.number k v result after.forest after.number))
+    Step orders old (call.Remove h c k) given new = Compares orders h c old given new
+        ((value : Option V) × (given ≡ answer.Value value)
+        × On h old new (λ held after. Removes most (order_at orders c) held.forest held.number k value after.forest after.number))
+    Step orders old (call.Clear h) given new = Names h old given new
+        ((given ≡ answer.Done) × On h old new (λ held after. Clears held.forest held.number after.forest after.number))
+    Step orders old (call.Iter h) given new = Names h old given new
+        ((pairs : Vec (K × V) Global) × (given ≡ answer.Pairs pairs) × (pairs.items ≡ list_in old h) × (new ≡ old))
+    Step orders old (call.Read h c steps) given new = Offered reads
+        (Compares orders h c old given new (Shows (sights_of (order_at orders c) (list_in old h) (length (list_in old h)) steps.items) given × (new ≡ old)))
+        (Lacks ((h < length old.handles) × (c < length orders)) old given new)
+    Step orders old (call.Edit h c steps) given new = Compares orders h c old given new
+        ((sights : Vec (Seen K V) Global) × (given ≡ answer.Script sights) × On h old new (Edits most (order_at orders c) steps.items sights.items))
+    Step orders old (call.Range h c lo hi ends) given new = Compares orders h c old given new
+        (Shows (all_taken (entries_between (order_at orders c) lo hi (list_in old h)) ends.items) given × (new ≡ old))
+    Step orders old (call.Retain h c keys put) given new =
+        NamesBoth orders h c old given new ((given ≡ answer.Done) × On h old new (Retained most (order_at orders c) keys.items put))
+    Step orders old (call.Alias from to) given new = Tests ((from < length old.handles) × (to < length old.handles)) (Unit {0}) (Unit {0}) old given new
+        ((given ≡ answer.Done) × (new ≡ record old { handles = slice_set old.handles to (number_at old from) }))
+    Step orders old call.ForestClear given new = (given ≡ answer.Done) × (new ≡ record old { forest = empty (limit_of old.forest) })
+
+    -- the steps of a list of calls, each from the state that the one before left
+    abbrev pub Run : Orders K → State K V → List (Call K V) → List (Answer K V) → State K V → Type 0
+    Run orders old [] [] new = new ≡ old
+    Run orders old (call ∷ calls) (given ∷ answers) new = (mid : State K V) × Step orders old call given mid × Run orders mid calls answers new
+    Run orders old [] (given ∷ answers) new = ⊥
+    Run orders old (call ∷ calls) [] new = ⊥

@@ -1,0 +1,143 @@
+//! Calls and answers, as values. Handles and comparators are named by their index in the slices that a run is handed.
+use bforest::OutOfMemory;
+use std::ops::Bound;
+
+/// A call on a forest, or on a handle of it: `h` is a handle's index, `c` a comparator's.
+#[derive(Drop)]
+pub enum Call<K: Copy, V: Copy> {
+    /// `get`, for sets `contains`. Answers [`Answer::Value`].
+    Get {
+        h: usize,
+        c: usize,
+        k: K,
+    },
+    /// `get_or_less`. Answers [`Answer::Pair`].
+    GetOrLess {
+        h: usize,
+        c: usize,
+        k: K,
+    },
+    /// `try_insert`. Answers [`Answer::Put`].
+    Insert {
+        h: usize,
+        c: usize,
+        k: K,
+        v: V,
+    },
+    /// `remove`. Answers [`Answer::Value`].
+    Remove {
+        h: usize,
+        c: usize,
+        k: K,
+    },
+    /// `clear` of the map or set. Answers [`Answer::Done`].
+    Clear {
+        h: usize,
+    },
+    /// `iter` to its end. Answers [`Answer::Pairs`].
+    Iter {
+        h: usize,
+    },
+    /// A reading cursor and each step in turn. Answers [`Answer::Script`], for sets [`Answer::NotOffered`].
+    Read {
+        h: usize,
+        c: usize,
+        steps: Vec<Look<K>>,
+    },
+    /// A writing cursor and each step in turn. Answers [`Answer::Script`].
+    Edit {
+        h: usize,
+        c: usize,
+        steps: Vec<Act<K, V>>,
+    },
+    /// `range`, and a step from one of its ends for each side. Answers [`Answer::Script`] of [`Seen::Pair`]s.
+    Range {
+        h: usize,
+        c: usize,
+        lo: Bound<K>,
+        hi: Bound<K>,
+        ends: Vec<Side>,
+    },
+    /// `retain`: each entry first gets the value of `put`, where there is one, and is kept where some listed key compares equal to its
+    /// key. The comparator serves the predicate alone. Answers [`Answer::Done`].
+    Retain {
+        h: usize,
+        c: usize,
+        keys: Vec<K>,
+        put: Option<V>,
+    },
+    /// Handle `to` becomes a `clone` of handle `from`, live or not; the tree that it named before stays. Answers [`Answer::Done`].
+    Alias {
+        from: usize,
+        to: usize,
+    },
+    /// `clear` of the forest; the handles keep their numbers. Answers [`Answer::Done`].
+    ForestClear,
+}
+
+/// What a call answers.
+#[derive(Drop, Debug, PartialEq, Eq)]
+pub enum Answer<K: Copy, V: Copy> {
+    Value(Option<V>),
+    Pair(Option<(K, V)>),
+    Put(Result<Option<V>, OutOfMemory>),
+    Pairs(Vec<(K, V)>),
+    Script(Vec<Seen<K, V>>),
+    Done,
+    /// An index is past the end of its slice.
+    NoIndex,
+    /// The handle is not live.
+    Dead,
+    /// The list does not increase under the comparator.
+    Unordered,
+    /// Sets lack this call.
+    NotOffered,
+}
+
+/// A step of a reading cursor.
+#[derive(Drop)]
+pub enum Look<K: Copy> {
+    Empty,
+    Next,
+    Prev,
+    Key,
+    Value,
+    Goto(K),
+    First,
+    End,
+}
+
+/// A step of a writing cursor.
+#[derive(Drop)]
+pub enum Act<K: Copy, V: Copy> {
+    Empty,
+    Next,
+    Prev,
+    Key,
+    Value,
+    Goto(K),
+    First,
+    /// `try_insert`.
+    Put(K, V),
+    /// Writes the value at the place, through `value_mut`.
+    Write(V),
+    Remove,
+}
+
+/// What a step saw.
+#[derive(Drop, Debug, PartialEq, Eq)]
+pub enum Seen<K: Copy, V: Copy> {
+    Pair(Option<(K, V)>),
+    Key(Option<K>),
+    Value(Option<V>),
+    Put(Result<Option<V>, OutOfMemory>),
+    Flag(bool),
+    Done,
+}
+
+/// An end of a range.
+#[derive(Clone, Copy, Debug, PartialEq, Eq)]
+pub enum Side {
+    Front,
+    Back,
+}
