@@ -1,12 +1,13 @@
 //! Prints what calls of `bforest` cost beside `std`'s `BTreeMap`, and beside the Rust original where it is there.
 //!
-//! `driver` prints the table, `driver --compare` reads runs that were made elsewhere and compares their checksums, and `driver --growth MOST`
+//! `driver` prints the table, `driver --count` its instructions and memory alone, `driver --compare` reads runs that were made elsewhere and compares their checksums, and `driver --growth MOST`
 //! prints how the cost of a call grows with a map's size. `driver --one SIDE KIND NUMBERS` makes one run in a process of its own, whose instructions and memory
 //! can be counted.
 //!
 //! A run builds its maps anew. So the cost of a phase is the difference of two runs, of which one makes the phase, or makes it more often.
 
 mod runs;
+mod sets;
 
 use runs::{run, Kind, Side, Work, KINDS, SIDES};
 use std::process::{exit, Command};
@@ -28,18 +29,33 @@ fn fill(kind: Kind, size: u32) -> Work {
     Work { kind, size, looks: 0, walks: 0, turns: 0 }
 }
 
-fn rows_of_mixture(maps: u32, is_counted: bool) -> Vec<Row> {
-    let (nothing, filled) = (fill(Kind::Mixture, 0), fill(Kind::Mixture, maps));
+fn rows_of_mixture(kind: Kind, maps: u32, is_counted: bool) -> Vec<Row> {
+    let names = match kind {
+        Kind::Mixture => [
+            "small maps: all calls, then emptied",
+            "small maps: look-up",
+            "small maps: iteration, a map",
+            "small maps: emptied, a map",
+        ],
+        _ => [
+            "small sets: all calls, then emptied",
+            "small sets: test for a key",
+            "small sets: iteration, a set",
+            "small sets: emptied, a set",
+        ],
+    };
+    let (nothing, filled) = (fill(kind, 0), fill(kind, maps));
     let calls = filled.calls();
     let cleared = Work { turns: 1, ..filled };
-    let row = |name, without, with, rounds, calls| Row { name, size: maps, without, with, rounds, calls };
+    let row =
+        |at: usize, without, with, rounds, calls| Row { name: names[at], size: maps, without, with, rounds, calls };
     let mut rows = vec![
-        row("small maps: all calls, then emptied", nothing, cleared, 1, calls),
-        row("small maps: look-up", filled, Work { looks: 2, ..filled }, 2, calls),
-        row("small maps: iteration, a map", filled, Work { walks: 20, ..filled }, 20, maps),
+        row(0, nothing, cleared, 1, calls),
+        row(1, filled, Work { looks: 2, ..filled }, 2, calls),
+        row(2, filled, Work { walks: 20, ..filled }, 20, maps),
     ];
     if is_counted {
-        rows.push(row("small maps: emptied, a map", filled, cleared, 1, maps));
+        rows.push(row(3, filled, cleared, 1, maps));
     }
     rows
 }
@@ -82,12 +98,52 @@ fn rows_of_edges(blocks: u32) -> Vec<Row> {
     ]
 }
 
+fn rows_of_large_set(kind: Kind, size: u32) -> Vec<Row> {
+    let names = match kind {
+        Kind::RandomSet => [
+            "random set: insertion",
+            "random set: test for a key",
+            "random set: iteration, a key",
+            "random set: edit of 10 by a cursor",
+        ],
+        _ => [
+            "ascending set: insertion",
+            "ascending set: test for a key",
+            "ascending set: iteration, a key",
+            "ascending set: edit of 10 by a cursor",
+        ],
+    };
+    let (nothing, filled) = (fill(kind, 0), fill(kind, size));
+    let row = |at: usize, without, with, rounds, calls| Row { name: names[at], size, without, with, rounds, calls };
+    vec![
+        row(0, nothing, filled, 1, size),
+        row(1, filled, Work { looks: 1, ..filled }, 1, size),
+        row(2, filled, Work { walks: 10, ..filled }, 10, size),
+        row(3, filled, Work { turns: 2, ..filled }, 2, size / 10),
+    ]
+}
+
+fn rows_of_ranges(size: u32) -> Vec<Row> {
+    let (nothing, filled) = (fill(Kind::Ranges, 0), fill(Kind::Ranges, size));
+    let row = |name, without, with, rounds| Row { name, size, without, with, rounds, calls: size };
+    vec![
+        row("live ranges: put in, in order", nothing, filled, 1),
+        row("live ranges: what is live at a point", filled, Work { looks: 1, ..filled }, 1),
+        row("live ranges: first, last of a span", filled, Work { walks: 1, ..filled }, 1),
+        row("live ranges: put in between", filled, Work { turns: 1, ..filled }, 1),
+    ]
+}
+
 // The rows of the table at a part of their full size. What is too short to be timed is only counted.
 fn rows(part: u32, is_counted: bool) -> Vec<Row> {
-    let mut rows = rows_of_mixture(100_000 / part, is_counted);
+    let mut rows = rows_of_mixture(Kind::Mixture, 100_000 / part, is_counted);
     rows.extend(rows_of_large(Kind::Random, 1_000_000 / part, 1));
     rows.extend(rows_of_large(Kind::Ascending, 1_000_000 / part, 1));
     rows.extend(rows_of_edges(100_000 / part));
+    rows.extend(rows_of_mixture(Kind::SetMixture, 100_000 / part, is_counted));
+    rows.extend(rows_of_large_set(Kind::RandomSet, 1_000_000 / part));
+    rows.extend(rows_of_large_set(Kind::AscendingSet, 1_000_000 / part));
+    rows.extend(rows_of_ranges(1_000_000 / part));
     rows
 }
 
@@ -338,12 +394,12 @@ fn means(table: &[Vec<Option<f64>>]) -> String {
 }
 
 fn print_costs(rows: &[Row], costs: &Costs, digits: usize) {
-    println!("{:35} {:>9}{}", "", "size", heads());
+    println!("{:37} {:>9}{}", "", "size", heads());
     let table: Vec<_> = rows.iter().map(|row| of_sides(|side| costs.of_row(side, row))).collect();
     for (row, costs) in rows.iter().zip(&table) {
-        println!("{:35} {:>9}{}", row.name, row.size, columns(costs, digits));
+        println!("{:37} {:>9}{}", row.name, row.size, columns(costs, digits));
     }
-    println!("{:35} {:>9}{}", "geometric mean", "", means(&table));
+    println!("{:37} {:>9}{}", "geometric mean", "", means(&table));
 }
 
 fn print_memory(program: &str) {
@@ -351,34 +407,43 @@ fn print_memory(program: &str) {
         ("a small map", fill(Kind::Mixture, 100_000), 0),
         ("an entry, random keys", fill(Kind::Random, 1_000_000), 1),
         ("an entry, ascending keys", fill(Kind::Ascending, 1_000_000), 1),
+        ("a small set", fill(Kind::SetMixture, 100_000), 0),
+        ("a key, random set", fill(Kind::RandomSet, 1_000_000), 1),
+        ("a key, ascending set", fill(Kind::AscendingSet, 1_000_000), 1),
     ];
-    println!("{:35} {:>9}{}", "", "size", heads());
+    println!("{:37} {:>9}{}", "", "size", heads());
     for (name, work, digits) in rows {
         let costs = of_sides(|side| Some(memory(program, side, work)? / work.size as f64));
-        println!("{name:35} {:>9}{}", work.size, columns(&costs, digits));
+        println!("{name:37} {:>9}{}", work.size, columns(&costs, digits));
     }
+}
+
+// The instructions of all phases, and the memory.
+fn print_counts(program: &str) {
+    match counter(program) {
+        Some(counter) => {
+            println!("Instructions of a call, counted by {}, at a twentieth of the size:", counter.name());
+            let counted = rows(20, true);
+            print_costs(&counted, &instructions(program, counter, &counted), 1);
+        }
+        None => println!("Instructions: neither perf nor callgrind counts here."),
+    }
+    println!("\nMost memory held, in bytes, with the handles:");
+    print_memory(program);
 }
 
 fn print_all(program: &str) {
     println!("Wall time of a call in nanoseconds, best of 5:");
     let timed = rows(1, false);
     print_costs(&timed, &times(program, &timed, 5, 1), 1);
-    match counter(program) {
-        Some(counter) => {
-            println!("\nInstructions of a call, counted by {}, at a twentieth of the size:", counter.name());
-            let counted = rows(20, true);
-            print_costs(&counted, &instructions(program, counter, &counted), 1);
-        }
-        None => println!("\nInstructions: neither perf nor callgrind counts here."),
-    }
-    println!("\nMost memory held, in bytes, with the handles:");
-    print_memory(program);
+    println!();
+    print_counts(program);
 }
 
 // How the cost of a call grows with the size of a map.
 fn print_growth(program: &str, most: u32) {
     println!("Wall time of a call in nanoseconds, best of 3, of one above 1000000:");
-    println!("{:35} {:>9}{}", "", "size", heads());
+    println!("{:37} {:>9}{}", "", "size", heads());
     let mut size = 10;
     while size <= most {
         let repeats = 1_000_000u32.div_ceil(size);
@@ -387,7 +452,7 @@ fn print_growth(program: &str, most: u32) {
             let rows = rows_of_large(kind, size, 3.min(repeats));
             let costs = times(program, &rows, tries, repeats);
             for row in &rows {
-                println!("{:35} {:>9}{}", row.name, row.size, columns(&of_sides(|side| costs.of_row(side, row)), 1));
+                println!("{:37} {:>9}{}", row.name, row.size, columns(&of_sides(|side| costs.of_row(side, row)), 1));
             }
         }
         size = size.saturating_mul(10);
@@ -420,12 +485,13 @@ fn main() {
     let program = words[0].as_str();
     match words.get(1).map(String::as_str) {
         None => print_all(program),
+        Some("--count") => print_counts(program),
         Some("--compare") => compare(),
         Some("--growth") => print_growth(program, words.get(2).and_then(|word| word.parse().ok()).unwrap_or(1_000_000)),
         Some("--one") => make_one(&words[2..]),
         Some("--timed") => time_one(&words[2..]),
         Some(_) => {
-            eprintln!("usage: driver [--compare | --growth MOST]");
+            eprintln!("usage: driver [--count | --compare | --growth MOST]");
             exit(2);
         }
     }

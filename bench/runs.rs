@@ -1,5 +1,6 @@
-//! The same work on maps of `bforest`, where its static library is there, on `std`'s `BTreeMap`, and on the Rust original where it is there.
+//! The same work on maps and sets of `bforest`, where its static library is there, on `std`'s `BTreeMap`, and on the Rust original where it is there.
 
+use crate::sets;
 use std::collections::BTreeMap;
 use std::hint::black_box;
 use std::time::{Duration, Instant};
@@ -10,6 +11,9 @@ unsafe extern "C" {
     fn bench_mixture(maps: u32, calls: u32, looks: u32, walks: u32, is_cleared: bool) -> u64;
     fn bench_large(size: u32, is_mixed: bool, looks: u32, walks: u32, is_emptied: bool) -> u64;
     fn bench_edges(blocks: u32, walks: u32, turns: u32) -> u64;
+    fn bench_set_mixture(sets: u32, calls: u32, looks: u32, walks: u32, is_cleared: bool) -> u64;
+    fn bench_large_set(size: u32, is_mixed: bool, looks: u32, walks: u32, edits: u32) -> u64;
+    fn bench_ranges(size: u32, looks: u32, spans: u32, is_split: bool) -> u64;
 }
 
 /// What a run works on.
@@ -23,13 +27,31 @@ pub enum Kind {
     Ascending,
     /// A map of predecessors for each block of a control flow graph.
     Edges,
+    /// Many small sets.
+    SetMixture,
+    /// One set, whose keys come in no order.
+    RandomSet,
+    /// One set, whose keys come in ascending order.
+    AscendingSet,
+    /// Live ranges in one map.
+    Ranges,
 }
 
 /// All kinds.
-pub const KINDS: [Kind; 4] = [Kind::Mixture, Kind::Random, Kind::Ascending, Kind::Edges];
+pub const KINDS: [Kind; 8] = [
+    Kind::Mixture,
+    Kind::Random,
+    Kind::Ascending,
+    Kind::Edges,
+    Kind::SetMixture,
+    Kind::RandomSet,
+    Kind::AscendingSet,
+    Kind::Ranges,
+];
 
-/// A whole run, on so many maps, entries or blocks. Behind the phase that fills them come rounds of look-ups, rounds that read all, and
-/// rounds that take entries out: the maps of a mixture are cleared, a large map is emptied, edges are led elsewhere.
+/// A whole run, on so many maps, sets, entries, blocks or ranges. Behind the phase that fills them come rounds of look-ups, rounds that read all,
+/// or spans of ranges, and rounds that change much: the maps or sets of a mixture are cleared, a large map is emptied, edges are led elsewhere, a
+/// large set is edited by cursors, and ranges come between ranges.
 #[derive(Clone, Copy, PartialEq, Debug)]
 pub struct Work {
     pub kind: Kind,
@@ -79,8 +101,8 @@ impl Side {
 }
 
 // The numbers of both sides.
-struct Random {
-    state: u64,
+pub struct Random {
+    pub state: u64,
 }
 
 impl Random {
@@ -93,7 +115,7 @@ impl Random {
         (x >> 32) as u32
     }
 
-    fn below(&mut self, bound: u32) -> u32 {
+    pub fn below(&mut self, bound: u32) -> u32 {
         let x = self.next();
         if bound == 0 {
             0
@@ -103,7 +125,7 @@ impl Random {
     }
 }
 
-fn mixed(index: u32) -> u32 {
+pub fn mixed(index: u32) -> u32 {
     let mut x = index;
     x ^= x >> 16;
     x = x.wrapping_mul(0x85eb_ca6b);
@@ -112,7 +134,7 @@ fn mixed(index: u32) -> u32 {
     x ^ (x >> 16)
 }
 
-fn added(sum: u64, x: u32) -> u64 {
+pub fn added(sum: u64, x: u32) -> u64 {
     sum.wrapping_mul(31).wrapping_add(x as u64)
 }
 
@@ -306,22 +328,30 @@ fn edges<M: Maps>(maps: &mut M, work: Work) -> u64 {
     sum
 }
 
-// Makes a run on maps that are dropped behind its end, so that their drop is not timed. Where `is_kept` they are not dropped at all.
-fn run_on<M: Maps>(work: Work, is_kept: bool) -> (u64, Duration) {
+// Makes a run on what `new` makes, which is dropped behind its end, so that its drop is not timed. Where `is_kept` it is not dropped at all.
+fn timed<M>(new: impl FnOnce() -> M, run: impl FnOnce(&mut M) -> u64, is_kept: bool) -> (u64, Duration) {
     let start = Instant::now();
-    let is_one = matches!(work.kind, Kind::Random | Kind::Ascending);
-    let mut maps = M::new(if is_one { 1 } else { work.size });
-    let sum = match work.kind {
-        Kind::Mixture => mixture(&mut maps, work),
-        Kind::Random => large(&mut maps, work, true),
-        Kind::Ascending => large(&mut maps, work, false),
-        Kind::Edges => edges(&mut maps, work),
-    };
+    let mut made = new();
+    let sum = run(&mut made);
     let time = start.elapsed();
     if is_kept {
-        std::mem::forget(black_box(maps));
+        std::mem::forget(black_box(made));
     }
     (sum, time)
+}
+
+// Makes a run on maps and sets of one side.
+fn run_on<M: Maps, S: sets::Sets, R: sets::Ranges>(work: Work, is_kept: bool) -> (u64, Duration) {
+    let size = work.size;
+    match work.kind {
+        Kind::Mixture => timed(|| M::new(size), |maps| mixture(maps, work), is_kept),
+        Kind::Random => timed(|| M::new(1), |maps| large(maps, work, true), is_kept),
+        Kind::Ascending => timed(|| M::new(1), |maps| large(maps, work, false), is_kept),
+        Kind::Edges => timed(|| M::new(size), |maps| edges(maps, work), is_kept),
+        Kind::SetMixture => timed(|| S::new(size), |sets| sets::mixture(sets, work), is_kept),
+        Kind::RandomSet | Kind::AscendingSet => timed(|| S::new(1), |sets| sets::large(sets, work), is_kept),
+        Kind::Ranges => timed(R::new, |ranges| sets::ranges(ranges, work), is_kept),
+    }
 }
 
 // The same of bforest. Here the drop is timed, which frees one table.
@@ -336,6 +366,10 @@ fn run_bforest(work: Work) -> (u64, Duration) {
             Kind::Random => bench_large(size, true, looks, walks, turns > 0),
             Kind::Ascending => bench_large(size, false, looks, walks, turns > 0),
             Kind::Edges => bench_edges(size, walks, turns),
+            Kind::SetMixture => bench_set_mixture(size, work.calls(), looks, walks, turns > 0),
+            Kind::RandomSet => bench_large_set(size, true, looks, walks, turns),
+            Kind::AscendingSet => bench_large_set(size, false, looks, walks, turns),
+            Kind::Ranges => bench_ranges(size, looks, walks, turns > 0),
         }
     };
     (sum, start.elapsed())
@@ -346,8 +380,8 @@ pub fn run(side: Side, work: Work, is_kept: bool) -> (u64, Duration) {
     match side {
         #[cfg(library)]
         Side::Bforest => run_bforest(black_box(work)),
-        Side::Std => run_on::<StdMaps>(black_box(work), is_kept),
+        Side::Std => run_on::<StdMaps, sets::StdSets, sets::StdRanges>(black_box(work), is_kept),
         #[cfg(original)]
-        Side::Original => run_on::<OriginalMaps>(black_box(work), is_kept),
+        Side::Original => run_on::<OriginalMaps, sets::OriginalSets, sets::OriginalRanges>(black_box(work), is_kept),
     }
 }

@@ -34,3 +34,41 @@ pub extern "C" fn bench_large(
 pub extern "C" fn bench_edges(alloc: Global, blocks: u32, walks: u32, turns: u32) -> u64 {
     bforest_workloads_bench::run_edges(alloc, blocks, walks, turns)
 }
+
+/// Calls of all kinds on many small sets, as `bforest_workloads_bench::run_set_mixture` says.
+#[unsafe(no_mangle)]
+pub extern "C" fn bench_set_mixture(
+    alloc: Global,
+    sets: u32,
+    calls: u32,
+    looks: u32,
+    walks: u32,
+    is_cleared: bool,
+) -> u64 {
+    bforest_workloads_bench::run_set_mixture(alloc, sets, calls, looks, walks, is_cleared)
+}
+
+/// One set of many keys, as `bforest_workloads_bench::run_large_set` says.
+#[unsafe(no_mangle)]
+pub extern "C" fn bench_large_set(
+    alloc: Global,
+    size: u32,
+    is_mixed: bool,
+    looks: u32,
+    walks: u32,
+    edits: u32,
+) -> u64 {
+    bforest_workloads_bench::run_large_set(alloc, size, is_mixed, looks, walks, edits)
+}
+
+/// Live ranges, as `bforest_workloads_bench::run_ranges` says.
+#[unsafe(no_mangle)]
+pub extern "C" fn bench_ranges(
+    alloc: Global,
+    size: u32,
+    looks: u32,
+    spans: u32,
+    is_split: bool,
+) -> u64 {
+    bforest_workloads_bench::run_ranges(alloc, size, looks, spans, is_split)
+}

@@ -2,7 +2,9 @@
 //! and of removals, and the checksum. `bench/run --quick` compares the checksums with those of Rust's own maps.
 #![tactic(auto)]
 
-use bforest_workloads_bench::{run_edges, run_large, run_mixture};
+use bforest_workloads_bench::{
+    run_edges, run_large, run_large_set, run_mixture, run_ranges, run_set_mixture,
+};
 use std::io;
 
 /// What a run works on.
@@ -12,6 +14,10 @@ enum Kind {
     Random,
     Ascending,
     Edges,
+    SetMixture,
+    RandomSet,
+    AscendingSet,
+    Ranges,
 }
 
 impl Kind {
@@ -22,6 +28,10 @@ impl Kind {
             Kind::Random => "Random",
             Kind::Ascending => "Ascending",
             Kind::Edges => "Edges",
+            Kind::SetMixture => "SetMixture",
+            Kind::RandomSet => "RandomSet",
+            Kind::AscendingSet => "AscendingSet",
+            Kind::Ranges => "Ranges",
         }
     }
 }
@@ -52,7 +62,7 @@ const READ: Rounds = Rounds {
     walks: 20,
     turns: 0,
 };
-/// Or one that takes entries out.
+/// Or one that takes entries out, edits, or puts ranges between ranges.
 const TAKEN: Rounds = Rounds {
     looks: 0,
     walks: 0,
@@ -73,6 +83,12 @@ fn show(rt: HostRuntime, kind: Kind, size: u32, rounds: Rounds) -> io::Result<()
         Kind::Random => run_large(alloc, size, true, looks, walks, is_taken),
         Kind::Ascending => run_large(alloc, size, false, looks, walks, is_taken),
         Kind::Edges => run_edges(alloc, size, walks, turns),
+        Kind::SetMixture => {
+            run_set_mixture(alloc, size, size.saturating_mul(30), looks, walks, is_taken)
+        }
+        Kind::RandomSet => run_large_set(alloc, size, true, looks, walks, turns),
+        Kind::AscendingSet => run_large_set(alloc, size, false, looks, walks, turns),
+        Kind::Ranges => run_ranges(alloc, size, looks, walks, is_taken),
     };
     println!(rt;
         "{} {} {} {} {} {}",
@@ -93,6 +109,18 @@ fn show_all(rt: HostRuntime, kind: Kind, size: u32) -> io::Result<()> {
     show(rt, kind, size, TAKEN)
 }
 
+/// The same of sets and of live ranges.
+fn show_sets(rt: HostRuntime) -> io::Result<()> {
+    show_all(rt, Kind::SetMixture, 1000)?;
+    show(rt, Kind::SetMixture, 1000, LOOKED_UP)?;
+    show_all(rt, Kind::RandomSet, 10_000)?;
+    show(rt, Kind::RandomSet, 10_000, LOOKED_UP)?;
+    show_all(rt, Kind::AscendingSet, 10_000)?;
+    show(rt, Kind::AscendingSet, 10_000, LOOKED_UP)?;
+    show_all(rt, Kind::Ranges, 10_000)?;
+    show(rt, Kind::Ranges, 10_000, LOOKED_UP)
+}
+
 fn main(rt: HostRuntime) -> io::Result<()> {
     show_all(rt, Kind::Mixture, 1000)?;
     show(rt, Kind::Mixture, 1000, LOOKED_UP)?;
@@ -100,5 +128,6 @@ fn main(rt: HostRuntime) -> io::Result<()> {
     show(rt, Kind::Random, 10_000, LOOKED_UP)?;
     show_all(rt, Kind::Ascending, 10_000)?;
     show(rt, Kind::Ascending, 10_000, LOOKED_UP)?;
-    show_all(rt, Kind::Edges, 1000)
+    show_all(rt, Kind::Edges, 1000)?;
+    show_sets(rt)
 }

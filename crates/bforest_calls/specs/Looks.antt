@@ -7,7 +7,7 @@ use Rattle.bforest_calls.specs.declared.call.Side.TheVariants.{Back, Front}
 use Rattle.bforest_calls.specs.declared.call.Side.{Side}
 use Rattle.bforest_core.specs.Place.{entry_before}
 use Rattle.bforest_nodes.specs.Entries.{place, value_at_place, value_for}
-use Rattle.std.specs.Prelude.{List, [], drop, is_none, length, min, option_map, slice_get, take, ◌+◌, ◌-◌, ◌∷◌, ℕ}
+use Rattle.std.specs.Prelude.{List, [], drop, is_none, length, map, min, option_map, slice_get, take, ◌+◌, ◌-◌, ◌∷◌, ℕ}
 use Rattle.std.specs.declared.cmp.Ordering.{Ordering}
 
 module _ {K V : Type 0} (order : K → K → Ordering) (es : List (K × V)) where
@@ -35,6 +35,10 @@ module _ {K V : Type 0} (order : K → K → Ordering) (es : List (K × V)) wher
   abbrev pub sights_of : ℕ → List (Look K) → List (Seen K V)
   sights_of p [] = []
   sights_of p (step ∷ steps) = sight_of p step ∷ sights_of (place_after p step) steps
+
+-- the entries of a set with these keys
+abbrev pub with_each : {K : Type 0} → List K → List (K × Unit {0})
+with_each keys = map (λ k. (k, tt)) keys
 
 module _ {K V : Type 0} where
   -- what a step from one end takes of the entries that are left

@@ -2,7 +2,9 @@
 #![tactic(auto)]
 
 mod call;
+mod maps;
 mod run;
+mod sets;
 
 pub use call::{Act, Answer, Call, Look, Seen, Side};
 pub use run::{run_map, run_set};

@@ -3,10 +3,17 @@ ghost use Rattle.bforest_calls.specs.Machine.{Run};
 ghost use Rattle.std.specs.Prelude.{IfOk, OnErr, false, map, take, true, ◌≡◌, ℕ};
 
 use crate::call::{Answer, Call};
+use crate::{maps, sets};
 use bforest::{Comparator, Map, MapForest, Set, SetForest};
 use std::alloc::{AllocError, Global};
 
-/// A stub: the real one is being proved.
+/// Makes the calls in order, on maps, and answers one answer each. Nothing is asked of handles and orders: each call tests them.
+///
+/// Room for all answers is taken first, and room for what a call answers before that call changes anything.
+///
+/// # Errors
+///
+/// `AllocError` where memory for the answers was refused: then some first calls were made, each whole.
 pub fn run_map<K: Copy, V: Copy, C: Comparator<K>>(
     alloc: Global,
     calls: &[Call<K, V>],
@@ -14,17 +21,31 @@ pub fn run_map<K: Copy, V: Copy, C: Comparator<K>>(
     handles: &mut [Map<K, V>],
     forest: &mut MapForest<K, V>,
 ) -> Result<Vec<Answer<K, V>>, AllocError>
+    // The answers are those of a run of the machine, from the old state to the new one.
     ensures run { IfOk result (λ answers. Run 7 true (map C.order comps.now)
         (record { forest = forest.old; handles = handles.old }) calls.now answers.items
         (record { forest = forest.new; handles = handles.new })) }
+    // Where memory was refused, the first n calls were made, each whole.
     ensures err { OnErr result ((n : ℕ) × (answers : _) × Run 7 true (map C.order comps.now)
         (record { forest = forest.old; handles = handles.old }) (take n calls.now) answers
         (record { forest = forest.new; handles = handles.new })) }
 {
-    Err(AllocError)
+    let mut answers = Vec::with_capacity(alloc, calls.len())?;
+    for call in calls {
+        let given = maps::make(alloc, call, comps, handles, forest)?;
+        answers.push(given).unwrap();
+    }
+    Ok(answers)
 }
 
-/// A stub: the real one is being proved.
+/// Makes the calls in order, on sets, and answers one answer each. As values there is the unit alone: [`Call::Get`] is
+/// `contains`, and an insertion answers the unit where the key was there. [`Call::Read`] is not offered.
+///
+/// Room for all answers is taken first, and room for what a call answers before that call changes anything.
+///
+/// # Errors
+///
+/// `AllocError` where memory for the answers was refused: then some first calls were made, each whole.
 pub fn run_set<K: Copy, C: Comparator<K>>(
     alloc: Global,
     calls: &[Call<K, ()>],
@@ -32,12 +53,19 @@ pub fn run_set<K: Copy, C: Comparator<K>>(
     handles: &mut [Set<K>],
     forest: &mut SetForest<K>,
 ) -> Result<Vec<Answer<K, ()>>, AllocError>
+    // The answers are those of a run of the machine, from the old state to the new one.
     ensures run { IfOk result (λ answers. Run 15 false (map C.order comps.now)
         (record { forest = forest.old; handles = handles.old }) calls.now answers.items
         (record { forest = forest.new; handles = handles.new })) }
+    // Where memory was refused, the first n calls were made, each whole.
     ensures err { OnErr result ((n : ℕ) × (answers : _) × Run 15 false (map C.order comps.now)
         (record { forest = forest.old; handles = handles.old }) (take n calls.now) answers
         (record { forest = forest.new; handles = handles.new })) }
 {
-    Err(AllocError)
+    let mut answers = Vec::with_capacity(alloc, calls.len())?;
+    for call in calls {
+        let given = sets::make(alloc, call, comps, handles, forest)?;
+        answers.push(given).unwrap();
+    }
+    Ok(answers)
 }

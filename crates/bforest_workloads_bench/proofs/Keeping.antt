@@ -1,4 +1,4 @@
--- What a call on one map leaves of all maps.
+-- What a call on one map or set leaves of all.
 use Rattle.bforest.specs.Forest.{Becomes, Forest, IsLive, list_at, list_of}
 use Rattle.bforest_workloads_bench.specs.Kept.{AreOrdered, IsOrdered}
 use Rattle.bforest_nodes.specs.Entries.{IsIncreasing}
@@ -9,20 +9,20 @@ use Rattle.std.proofs.lemmas.Bool.Decides.{eqb_tells}
 use Rattle.std.proofs.lemmas.List.{get_or-set_other, get_or-set_same, get_or_default, get_or_read, replicate-append-replicate, set-get_or}
 
 -- the number of another tree is not the one that a changed tree has now
-not_new : (f f' : Forest ℕ ℕ) (h h' : Option ℕ) (es : List (ℕ × ℕ)) → Becomes f h f' h' es → (n : ℕ) → list_at f n ≢ [] → Some n ≢ h → Some n ≢ h'
+not_new : {X : Type 0} (f f' : Forest ℕ X) (h h' : Option ℕ) (es : List (ℕ × X)) → Becomes f h f' h' es → (n : ℕ) → list_at f n ≢ [] → Some n ≢ h → Some n ≢ h'
 not_new f f' h h' es b n live ne = λ e. live (subst (λ (q : Option ℕ). list_of f q ≡ []) (sym e) (b.fresh (λ d. ne (e ∙ d))))
 
 -- the map of another number is ordered as it was
-ordered_beside : (f f' : Forest ℕ ℕ) (h h' : Option ℕ) (es : List (ℕ × ℕ)) → Becomes f h f' h' es → (q : Option ℕ) → ((n : ℕ) → q ≡ Some n → Some n ≢ h) → IsOrdered f q → IsOrdered f' q
-ordered_beside f f' h h' es b None ne o = record { live = tt; increasing = o.increasing }
-ordered_beside f f' h h' es b (Some n) ne o =
+ordered_beside : {X : Type 0} (f f' : Forest ℕ X) (h h' : Option ℕ) (es : List (ℕ × X)) → Becomes f h f' h' es → (q : Option ℕ) → ((n : ℕ) → q ≡ Some n → Some n ≢ h) → IsOrdered f q → IsOrdered f' q
+ordered_beside {X = X} f f' h h' es b None ne o = record { live = tt; increasing = o.increasing }
+ordered_beside {X = X} f f' h h' es b (Some n) ne o =
     let same : list_at f' n ≡ list_at f n = b.others n (ne n refl) (not_new f f' h h' es b n o.live (ne n refl)) in
     record {
-      live = subst (λ (es : List (ℕ × ℕ)). es ≢ []) (sym same) o.live;
-      increasing = subst (λ (es : List (ℕ × ℕ)). IsIncreasing nat_cmp es) (sym same) o.increasing;
+      live = subst (λ (es : List (ℕ × X)). es ≢ []) (sym same) o.live;
+      increasing = subst (λ (es : List (ℕ × X)). IsIncreasing nat_cmp es) (sym same) o.increasing;
     }
 
-module _ (f f' : Forest ℕ ℕ) (hs : List (Option ℕ)) (i : ℕ) (h' : Option ℕ) (es : List (ℕ × ℕ)) (a : AreOrdered f hs) (b : Becomes f (get_or hs i None) f' h' es) where
+module _ {X : Type 0} (f f' : Forest ℕ X) (hs : List (Option ℕ)) (i : ℕ) (h' : Option ℕ) (es : List (ℕ × X)) (a : AreOrdered f hs) (b : Becomes f (get_or hs i None) f' h' es) where
   -- another handle's number is not that of the changed one
   apart_at : (j n : ℕ) → j ≢ i → get_or hs j None ≡ Some n → Some n ≢ get_or hs i None
   apart_at j n ne e = λ d. ne (a.apart j i n e (sym d))
@@ -51,28 +51,28 @@ module _ (f f' : Forest ℕ ℕ) (hs : List (Option ℕ)) (i : ℕ) (h' : Option
   }
 
 -- the same, of the map that was read at the index
-pub ordered-call : (f f' : Forest ℕ ℕ) (hs : List (Option ℕ)) (i : ℕ) (h h' : Option ℕ) (es : List (ℕ × ℕ)) → AreOrdered f hs → i < length hs → h ≡ get_or hs i h → Becomes f h f' h' es → IsIncreasing nat_cmp (list_of f' h') → AreOrdered f' (slice_set hs i h')
+pub ordered-call : {X : Type 0} (f f' : Forest ℕ X) (hs : List (Option ℕ)) (i : ℕ) (h h' : Option ℕ) (es : List (ℕ × X)) → AreOrdered f hs → i < length hs → h ≡ get_or hs i h → Becomes f h f' h' es → IsIncreasing nat_cmp (list_of f' h') → AreOrdered f' (slice_set hs i h')
 ordered-call f f' hs i h h' es a within is b increasing =
     ordered-set f f' hs i h' es a (subst (λ (q : Option ℕ). Becomes f q f' h' es) (get_or_read hs i h within is None) b) within increasing
 
 -- and of a call that may be refused
-pub ordered-tried : {A E : Type 0} (f f' : Forest ℕ ℕ) (hs : List (Option ℕ)) (i : ℕ) (h h' : Option ℕ) (es : List (ℕ × ℕ)) (r : Result A E) → AreOrdered f hs → i < length hs → h ≡ get_or hs i h → OnOk r (Becomes f h f' h' es) → OnErr r (f' ≡ f) → OnErr r (h' ≡ h) → IsIncreasing nat_cmp (list_of f' h') → AreOrdered f' (slice_set hs i h')
+pub ordered-tried : {X A E : Type 0} (f f' : Forest ℕ X) (hs : List (Option ℕ)) (i : ℕ) (h h' : Option ℕ) (es : List (ℕ × X)) (r : Result A E) → AreOrdered f hs → i < length hs → h ≡ get_or hs i h → OnOk r (Becomes f h f' h' es) → OnErr r (f' ≡ f) → OnErr r (h' ≡ h) → IsIncreasing nat_cmp (list_of f' h') → AreOrdered f' (slice_set hs i h')
 ordered-tried f f' hs i h h' es (Ok x) a within is ok same_forest same_handle increasing =
     ordered-call f f' hs i h h' es a within is ok increasing
-ordered-tried f f' hs i h h' es (Err x) a within is ok same_forest same_handle increasing =
-    subst (λ (g : Forest ℕ ℕ). AreOrdered g (slice_set hs i h')) (sym same_forest) (subst (λ (qs : List (Option ℕ)). AreOrdered f qs) (sym (ap (λ q. slice_set hs i q) (same_handle ∙ is) ∙ ap (λ q. slice_set hs i q) (get_or_default hs i h None within) ∙ set-get_or hs i None)) a)
+ordered-tried {X = X} f f' hs i h h' es (Err x) a within is ok same_forest same_handle increasing =
+    subst (λ (g : Forest ℕ X). AreOrdered g (slice_set hs i h')) (sym same_forest) (subst (λ (qs : List (Option ℕ)). AreOrdered f qs) (sym (ap (λ q. slice_set hs i q) (same_handle ∙ is) ∙ ap (λ q. slice_set hs i q) (get_or_default hs i h None within) ∙ set-get_or hs i None)) a)
 
 -- a map that was read at an index is ordered
-pub ordered-read : (f : Forest ℕ ℕ) (hs : List (Option ℕ)) (i : ℕ) (h : Option ℕ) → AreOrdered f hs → i < length hs → h ≡ get_or hs i h → IsOrdered f h
+pub ordered-read : {X : Type 0} (f : Forest ℕ X) (hs : List (Option ℕ)) (i : ℕ) (h : Option ℕ) → AreOrdered f hs → i < length hs → h ≡ get_or hs i h → IsOrdered f h
 ordered-read f hs i h a within is = subst (λ (q : Option ℕ). IsOrdered f q) (sym (get_or_read hs i h within is None)) (a.each i)
 
 -- the empty map is ordered
-pub ordered-none : (f : Forest ℕ ℕ) → IsOrdered f None
+pub ordered-none : {X : Type 0} (f : Forest ℕ X) → IsOrdered f None
 unfolding IsStrictlySortedBy
 ordered-none f = search rules
 
 -- all maps are ordered after one was cleared
-pub ordered-cleared : (f f' : Forest ℕ ℕ) (hs : List (Option ℕ)) (i : ℕ) (h h' : Option ℕ) → AreOrdered f hs → i < length hs → h ≡ get_or hs i h → Becomes f h f' h' [] → h' ≡ None → AreOrdered f' (slice_set hs i h')
+pub ordered-cleared : {X : Type 0} (f f' : Forest ℕ X) (hs : List (Option ℕ)) (i : ℕ) (h h' : Option ℕ) → AreOrdered f hs → i < length hs → h ≡ get_or hs i h → Becomes f h f' h' [] → h' ≡ None → AreOrdered f' (slice_set hs i h')
 ordered-cleared f f' hs i h h' a within is b empty =
     ordered-call f f' hs i h h' [] a within is b (subst (λ (q : Option ℕ). IsIncreasing nat_cmp (list_of f' q)) (sym empty) (ordered-none f').increasing)
 
@@ -87,7 +87,7 @@ none_some : (n : ℕ) → None ≢ Some n
 none_some n = λ e. cc
 
 -- new handles are ordered
-pub ordered-new : (f : Forest ℕ ℕ) (count : ℕ) (hs : List (Option ℕ)) → hs ≡ replicate count None → AreOrdered f hs
+pub ordered-new : {X : Type 0} (f : Forest ℕ X) (count : ℕ) (hs : List (Option ℕ)) → hs ≡ replicate count None → AreOrdered f hs
 ordered-new f count hs is = subst (λ (qs : List (Option ℕ)). AreOrdered f qs) (sym is) (record {
   each = λ i. subst (λ (q : Option ℕ). IsOrdered f q) (sym (all_none count i)) (ordered-none f);
   apart = λ i j n d e. absurd (none_some n (sym (all_none count i) ∙ d));

@@ -1,12 +1,17 @@
-//! What a benchmark calls: whole runs on numbers, so that no state crosses. Each builds its maps, works on them, drops them, and answers a
+//! What a benchmark calls: whole runs on numbers, so that no state crosses. Each builds its maps or sets, works on them, drops them, and answers a
 //! checksum of what it was told, or 0 where memory was refused. Rounds that change nothing can be asked for any number of times, so
 //! that the time of one is told by the difference of two runs.
 #![tactic(auto)]
 
 mod edges;
+mod edits;
 mod large;
+mod large_set;
 mod mixture;
 mod random;
+mod ranges;
+mod set_mixture;
+mod small_sets;
 mod smalls;
 
 use std::alloc::Global;
@@ -41,4 +46,36 @@ pub fn run_large(
 /// that read each map, and rounds that lead each edge to the block behind its target, which are a removal and an insertion.
 pub fn run_edges(alloc: Global, blocks: u32, walks: u32, turns: u32) -> u64 {
     edges::run(alloc, blocks, walks, turns).unwrap_or(0)
+}
+
+/// So many small sets, all empty. Calls as those of `run_mixture`: half insert, a quarter tests and a quarter removes.
+pub fn run_set_mixture(
+    alloc: Global,
+    sets: u32,
+    calls: u32,
+    looks: u32,
+    walks: u32,
+    is_cleared: bool,
+) -> u64 {
+    set_mixture::run(alloc, sets, calls, looks, walks, is_cleared).unwrap_or(0)
+}
+
+/// One set. So many insertions, in ascending order or without one; then rounds of as many tests, rounds that read each key, and rounds of a tenth
+/// as many edits: a cursor puts five keys in beside one another, and takes five out from the first of them on.
+pub fn run_large_set(
+    alloc: Global,
+    size: u32,
+    is_mixed: bool,
+    looks: u32,
+    walks: u32,
+    edits: u32,
+) -> u64 {
+    large_set::run(alloc, size, is_mixed, looks, walks, edits).unwrap_or(0)
+}
+
+/// Live ranges in one map, from the point where each begins to its end. So many are put in, in order, by a cursor for each eight. Then rounds of
+/// as many look-ups of the last that begins at a point or before, rounds that read the first and the last of as many spans, and, where asked for,
+/// as many ranges more between those, each behind the one that its cursor put in before.
+pub fn run_ranges(alloc: Global, size: u32, looks: u32, spans: u32, is_split: bool) -> u64 {
+    ranges::run(alloc, size, looks, spans, is_split).unwrap_or(0)
 }

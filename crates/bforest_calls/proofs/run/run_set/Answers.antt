@@ -1,5 +1,29 @@
+use Rattle.bforest_calls.proofs.Runs.{on_err_from, run_next, run_same, run_whole}
 use Rattle.bforest_calls.proofs.run.run_set.Goals as goal
-use Rattle.std.proofs.Common.{[], refl}
+use Rattle.std.proofs.Common.{[], arith, map, refl, rules, false}
 
-pub returns-clause-err : goal.returns-clause-err
-returns-clause-err g c = (0, [], refl)
+pub returns-in_err-answers-clause-err : goal.returns-in_err-answers-clause-err
+returns-in_err-answers-clause-err g c = on_err_from c.from_residual.result (0, [], refl)
+
+pub returns-in_err-given-clause-err : goal.returns-in_err-given-clause-err
+returns-in_err-given-clause-err g c = on_err_from c.from_residual-in_err-given.result (
+  c.loop-call.call-index,
+  c.loop-call.answers.items,
+  run_same 15 false (map g.C.Comparator.order c.args.comps.now) (record { forest = c.args.forest.now; handles = c.args.handles.now }) _ c.loop-call.answers.items
+      (record { forest = c.loop-call.forest; handles = c.loop-call.handles }) (record { forest = c.make.new.forest; handles = c.make.new.handles })
+      c.loop-call.invariant.run c.in_err-given.ensures.err_forest c.in_err-given.ensures.err_handles,
+)
+
+pub loop-call-preserved : goal.loop-call-preserved
+loop-call-preserved g c = record {
+  run = run_next 15 false (map g.C.Comparator.order c.args.comps.now) (record { forest = c.args.forest.now; handles = c.args.handles.now }) c.args.calls.now c.loop-call.call-index c.loop-call.answers.items
+      (record { forest = c.loop-call.forest; handles = c.loop-call.handles }) c.call-item.result c.in_ok-given.given (record { forest = c.make.new.forest; handles = c.make.new.handles }) c.push.new.self.items
+      c.loop-call.invariant.run c.in_ok-given.ensures.step (omega arith) c.call-item.is (search rules);
+  told = search rules;
+  room = search rules;
+}
+
+pub returns-clause-run : goal.returns-clause-run
+returns-clause-run g c =
+    run_whole 15 false (map g.C.Comparator.order c.args.comps.now) (record { forest = c.args.forest.now; handles = c.args.handles.now }) c.args.calls.now c.loop-call.call-index c.loop-call.answers.items
+    (record { forest = c.loop-call.forest; handles = c.loop-call.handles }) c.loop-call.invariant.run (omega arith)

@@ -1,0 +1,5 @@
+pub mod Indexed
+pub mod Kept
+pub mod Runs
+pub mod Sights
+pub mod Units

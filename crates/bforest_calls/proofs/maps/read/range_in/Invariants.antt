@@ -1,0 +1,17 @@
+use Rattle.bforest.specs.Bounds.{entries_between}
+use Rattle.bforest.specs.Forest.{list_of}
+use Rattle.bforest.specs.Memory.{IsReadable}
+use Rattle.bforest_calls.proofs.maps.read.range_in.Given as goal
+use Rattle.bforest_calls.specs.Looks.{all_taken}
+use Rattle.std.proofs.Common.{drop, length, vec_capacity, vec_len, ◌++◌, ◌≡◌, ◌≤◌}
+
+-- what was taken, and what the steps that are left take, are what all take; there is room for it
+abbrev pub invariant-loop-side : goal.invariant-loop-side
+invariant-loop-side g l =
+    let es = entries_between (g.C.Comparator.order l.comp) l.fn.bounds.0 l.fn.bounds.1 (list_of l.forest l.handle) in
+    record {
+      left : l.sights.items ++ all_taken l.range (drop l.side-index l.ends) ≡ all_taken es l.ends;
+      ready : IsReadable g.row.K g.row.V;
+      told : vec_len l.sights ≡ l.side-index;
+      room : length l.ends ≤ vec_capacity l.sights;
+    }

@@ -1,0 +1,26 @@
+use Rattle.bforest_calls.proofs.Indexed.{at_all, is_order}
+use Rattle.bforest_calls.proofs.sets.change.retain.Goals as goal
+use Rattle.bforest_calls.specs.State.{Held, Retained}
+use Rattle.std.proofs.Common.{None, inr, refl, rules, ◌≡◌}
+use Rattle.std.proofs.lemmas.List.{get_or_default}
+
+pub returns : goal.returns
+returns g c = λ put.
+    let none : c.unnamed_by.result ≡ None = search rules in
+    let passed = c.unnamed_by.ensures.made none in
+    let number = get_or_default c.args.handles.now c.args.h c.index-handles-h.result None passed.0.0 in
+    let order = is_order g.C.Comparator.order c.args.comps.now c.args.c c.index-comps-c.result c.index-comps-c.is passed.0.1 in
+    let new : Held g.row.K.Denot (Unit {0}) = record { forest = c.keep_listed.new.forest; number = c.keep_listed.new.handle } in
+    inr (
+      passed.0,
+      passed.1,
+      tt,
+      (
+        refl,
+        (
+          c.keep_listed.new.handle,
+          refl,
+          at_all (λ o n keys. Retained 15 o keys put (record { forest = c.args.forest.now; number = n }) new) order number c.deref.ensures.value (c.keep_listed.ensures put),
+        ),
+      ),
+    )

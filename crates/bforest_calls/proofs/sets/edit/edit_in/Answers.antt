@@ -1,0 +1,52 @@
+use Rattle.bforest.specs.SetCursor.{comparator, forest_now, set_now, spot}
+use Rattle.bforest.specs.Forest.{list_of}
+use Rattle.bforest_calls.proofs.Runs.{script_next, script_none, script_whole}
+use Rattle.bforest_calls.proofs.sets.edit.edit_in.Goals as goal
+use Rattle.std.proofs.Common.{ap, arith, length, refl, rules, sym, ◌∙◌}
+
+pub loop-step-init : goal.loop-step-init
+loop-step-init g c =
+    let made = c.cursor-cursor.ensures in
+    let cursor = c.cursor-cursor.result in
+    record {
+      steps = script_none 15 (g.C.Comparator.order c.args.comp.now) (record { forest = c.args.forest.now; number = c.args.handle.now }) (length (list_of c.args.forest.now c.args.handle.now)) _
+          (record { forest = forest_now cursor; number = set_now cursor }) (spot cursor) c.in_ok-sights.ensures.items made.forest made.set made.spot;
+      valid = made.valid;
+      ready = made.ready;
+      set_loan = refl;
+      forest_loan = refl;
+      order = ap g.C.Comparator.order made.comparator;
+      told = search rules;
+      room = search rules;
+    }
+
+pub loop-step-preserved : goal.loop-step-preserved
+loop-step-preserved g c =
+    let l = c.loop-step in
+    let a = c.act-sight in
+    record {
+      steps = script_next 15 (g.C.Comparator.order c.args.comp.now) (record { forest = c.args.forest.now; number = c.args.handle.now }) (length (list_of c.args.forest.now c.args.handle.now))
+          c.args.steps.now l.step-index l.sights.items (record { forest = forest_now l.cursor; number = set_now l.cursor }) (spot l.cursor)
+          (g.C.Comparator.order (comparator l.cursor)) c.step-item.result a.result
+          (record { forest = forest_now a.new.cursor; number = set_now a.new.cursor }) (spot a.new.cursor) c.push.new.self.items
+          l.invariant.steps l.invariant.order a.ensures.acts (omega arith) c.step-item.is (search rules);
+      valid = a.ensures.goes.valid;
+      ready = l.invariant.ready;
+      set_loan = a.ensures.goes.set_loan ∙ l.invariant.set_loan;
+      forest_loan = a.ensures.goes.forest_loan ∙ l.invariant.forest_loan;
+      order = ap g.C.Comparator.order a.ensures.goes.comparator ∙ l.invariant.order;
+      told = search rules;
+      room = search rules;
+    }
+
+pub returns-clause-script : goal.returns-clause-script
+returns-clause-script g c =
+    let made = c.cursor-cursor.ensures in
+    let l = c.loop-step in
+    let forest = c.forest-1.given.1 (sym (l.invariant.forest_loan ∙ made.forest_loan)) in
+    let map = c.handle-1.given.1 (sym (l.invariant.set_loan ∙ made.set_loan)) in (
+      spot l.cursor,
+      script_whole 15 (g.C.Comparator.order c.args.comp.now) (record { forest = c.args.forest.now; number = c.args.handle.now }) (length (list_of c.args.forest.now c.args.handle.now))
+          c.args.steps.now l.step-index l.sights.items (record { forest = forest_now l.cursor; number = set_now l.cursor }) (spot l.cursor) _
+          l.invariant.steps (omega arith) forest map,
+    )

@@ -1,0 +1,11 @@
+use Rattle.bforest.specs.Forest.{list_of}
+use Rattle.bforest_calls.proofs.Indexed.{is_handle}
+use Rattle.bforest_calls.proofs.sets.look.iter.Goals as goal
+use Rattle.std.proofs.Common.{None, ap, inr, refl, rules, ◌∙◌, ◌≡◌}
+
+pub returns : goal.returns
+returns g c = λ orders.
+    let none : c.unnamed.result ≡ None = search rules in
+    let passed = c.unnamed.ensures.made none in
+    let number = is_handle c.args.handles.now c.args.h c.index-handles-h.result c.index-handles-h.is passed.0 in
+    inr (passed.0, passed.1, tt, (c.in_ok-pairs.pairs, refl, c.in_ok-pairs.ensures ∙ ap (list_of c.args.forest.now) number, refl))

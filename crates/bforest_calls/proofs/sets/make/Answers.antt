@@ -1,0 +1,35 @@
+use Rattle.bforest_calls.proofs.sets.make.Goals as goal
+use Rattle.std.proofs.Common.{map}
+
+pub returns-in-Get-clause-step : goal.returns-in-Get-clause-step
+returns-in-Get-clause-step g c = rw c.in-Get.is c.get.ensures
+
+pub returns-in-GetOrLess-clause-step : goal.returns-in-GetOrLess-clause-step
+returns-in-GetOrLess-clause-step g c = rw c.in-GetOrLess.is c.get_or_less.ensures
+
+pub returns-in-Insert-clause-step : goal.returns-in-Insert-clause-step
+returns-in-Insert-clause-step g c = rw c.in-Insert.is c.insert.ensures
+
+pub returns-in-Remove-clause-step : goal.returns-in-Remove-clause-step
+returns-in-Remove-clause-step g c = rw c.in-Remove.is c.remove.ensures
+
+pub returns-in-Clear-clause-step : goal.returns-in-Clear-clause-step
+returns-in-Clear-clause-step g c = rw c.in-Clear.is (c.clear.ensures (map g.C.Comparator.order c.args.comps.now))
+
+pub returns-in-Iter-clause-step : goal.returns-in-Iter-clause-step
+returns-in-Iter-clause-step g c = rw c.in-Iter.is (c.iter.ensures (map g.C.Comparator.order c.args.comps.now))
+
+pub returns-in-Read-clause-step : goal.returns-in-Read-clause-step
+returns-in-Read-clause-step g c = rw c.in-Read.is (c.lacks.ensures c.args.forest.now c.in-Read.steps)
+
+pub returns-in-Edit-clause-step : goal.returns-in-Edit-clause-step
+returns-in-Edit-clause-step g c = rw c.in-Edit.is c.edit.ensures.step
+
+pub returns-in-Range-clause-step : goal.returns-in-Range-clause-step
+returns-in-Range-clause-step g c = rw c.in-Range.is c.range.ensures
+
+pub returns-in-Retain-clause-step : goal.returns-in-Retain-clause-step
+returns-in-Retain-clause-step g c = rw c.in-Retain.is (c.retain.ensures c.in-Retain.put)
+
+pub returns-in-Alias-clause-step : goal.returns-in-Alias-clause-step
+returns-in-Alias-clause-step g c = rw c.in-Alias.is (c.alias.ensures (map g.C.Comparator.order c.args.comps.now) c.args.forest.now)

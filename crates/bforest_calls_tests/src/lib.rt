@@ -1,0 +1,6 @@
+//! Callers of lists of calls: what follows from the contracts of `bforest_calls` alone.
+#![tactic(auto)]
+
+mod callers;
+
+pub use callers::{run_both, run_both_sets};

@@ -1,0 +1,98 @@
+//! Work by one cursor on a map or on a set.
+ghost use Rattle.bforest.specs.Cursor.{IsCursor};
+ghost use Rattle.bforest.specs.SetCursor.{IsCursor as IsSetCursor};
+ghost use Rattle.bforest.specs.Forest.{IsLive, list_of};
+ghost use Rattle.bforest.specs.Memory.{IsReadable, IsSetReadable};
+ghost use Rattle.bforest_nodes.specs.Entries.{IsIncreasing};
+ghost use Rattle.bforest_workloads_bench.specs.Cursors.{MapContinues, SetContinues};
+
+use bforest::{Comparator, Map, MapCursorMut, MapForest, OutOfMemory, Set, SetCursor, SetForest};
+
+/// Puts entries into a map, each where the one before has left a cursor, and counts the new keys. The cursor begins where a search for the first
+/// ends.
+pub(crate) fn put_entries<K: Copy, V: Copy, C: Comparator<K>>(
+    map: &mut Map<K, V>,
+    entries: &[(K, V)],
+    forest: &mut MapForest<K, V>,
+    comp: &C,
+) -> Result<u32, OutOfMemory>
+    requires live { IsLive forest.old map.old }
+    requires increasing { IsIncreasing (C.order comp.now) (list_of forest.old map.old) }
+    ensures live { IsLive forest.new map.new }
+    ensures increasing { IsIncreasing (C.order comp.now) (list_of forest.new map.new) }
+{
+    let mut cursor = map.cursor_mut(forest, comp);
+    put_here(&mut cursor, entries)
+}
+
+// Puts entries in, each where the one before has left the cursor. Counts the new keys.
+fn put_here<K: Copy, V: Copy, C: Comparator<K>>(
+    cursor: &mut MapCursorMut<K, V, C>,
+    entries: &[(K, V)],
+) -> Result<u32, OutOfMemory>
+    requires valid { IsCursor C.order cursor.old }
+    requires ready { IsReadable K.row V.row }
+    ensures continues { MapContinues C.order cursor.old cursor.new }
+{
+    let mut count = 0u32;
+    for entry in entries {
+        if cursor.insert(entry.0, entry.1)?.is_none() {
+            count = count.wrapping_add(1);
+        }
+        cursor.next();
+    }
+    Ok(count)
+}
+
+/// Puts keys into a set by one cursor, and takes as many out from `first` on. Counts the new keys and those that went.
+pub(crate) fn edit_keys<K: Copy, C: Comparator<K>>(
+    set: &mut Set<K>,
+    keys: &[K],
+    first: K,
+    forest: &mut SetForest<K>,
+    comp: &C,
+) -> Result<u32, OutOfMemory>
+    requires live { IsLive forest.old set.old }
+    requires increasing { IsIncreasing (C.order comp.now) (list_of forest.old set.old) }
+    ensures live { IsLive forest.new set.new }
+    ensures increasing { IsIncreasing (C.order comp.now) (list_of forest.new set.new) }
+{
+    let mut cursor = set.cursor(forest, comp);
+    let count = put_keys(&mut cursor, keys)?;
+    Ok(count.wrapping_add(take_keys(&mut cursor, first, keys.len())))
+}
+
+// Puts keys in, each where the one before has left the cursor. Counts the new ones.
+fn put_keys<K: Copy, C: Comparator<K>>(
+    cursor: &mut SetCursor<K, C>,
+    keys: &[K],
+) -> Result<u32, OutOfMemory>
+    requires valid { IsSetCursor C.order cursor.old }
+    requires ready { IsSetReadable K.row }
+    ensures continues { SetContinues C.order cursor.old cursor.new }
+{
+    let mut count = 0u32;
+    for key in keys {
+        if cursor.insert(*key)? {
+            count = count.wrapping_add(1);
+        }
+        cursor.next();
+    }
+    Ok(count)
+}
+
+// Takes so many keys out, from `first` on. Counts those that went.
+fn take_keys<K: Copy, C: Comparator<K>>(cursor: &mut SetCursor<K, C>, first: K, most: usize) -> u32
+    requires valid { IsSetCursor C.order cursor.old }
+    requires ready { IsSetReadable K.row }
+    ensures continues { SetContinues C.order cursor.old cursor.new }
+{
+    cursor.goto(first);
+    let mut count = 0u32;
+    for _ in 0..most {
+        if cursor.remove().is_some() {
+            count = count.wrapping_add(1);
+        }
+    }
+    count
+}

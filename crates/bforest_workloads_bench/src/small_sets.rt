@@ -1,0 +1,105 @@
+//! Many small sets.
+ghost use Rattle.std.specs.Prelude.{IfOk, None, replicate, ◌≡◌};
+
+use crate::random::added;
+use bforest::{OutOfMemory, Set, SetForest};
+use std::alloc::{AllocError, Global};
+use std::marker::Model;
+
+/// Many sets in one forest. That the keys of each increase, and that no two are one tree, is part of its type, as it is for maps.
+#[derive(Drop)]
+pub(crate) struct SmallSets {
+    forest: SetForest<u32>,
+    sets: Vec<Set<u32>>,
+}
+
+impl Model for SmallSets {
+    ghost use Rattle.bforest.specs.Forest.{Forest};
+    ghost use Rattle.bforest_workloads_bench.specs.Kept.{AreOrdered};
+    ghost use Rattle.std.specs.Prelude.{List, Option, ℕ};
+
+    ghost Value = { Forest ℕ (Unit {0}) × List (Option ℕ) };
+
+    ghost view = { λ s. (s.forest, s.sets.items) };
+
+    ghost invariant = { λ s. AreOrdered s.forest s.sets.items };
+}
+
+impl SmallSets {
+    /// So many empty sets.
+    pub(crate) fn new(alloc: Global, count: u32) -> Result<SmallSets, AllocError> {
+        Ok(SmallSets {
+            forest: SetForest::new(alloc),
+            sets: handles(alloc, count)?,
+        })
+    }
+
+    /// Puts a key into a set, and answers whether it was absent.
+    pub(crate) fn insert(&mut self, index: u32, key: u32) -> Result<bool, OutOfMemory> {
+        match self.sets.get_mut(index as usize) {
+            Some(set) => set.insert(key, &mut self.forest, &()),
+            None => Ok(false),
+        }
+    }
+
+    /// Whether a key is in a set.
+    pub(crate) fn contains(&self, index: u32, key: u32) -> bool {
+        match self.sets.get(index as usize) {
+            Some(set) => set.contains(key, &self.forest, &()),
+            None => false,
+        }
+    }
+
+    /// Takes a key out of a set, and answers whether it was there.
+    pub(crate) fn remove(&mut self, index: u32, key: u32) -> bool {
+        match self.sets.get_mut(index as usize) {
+            Some(set) => set.remove(key, &mut self.forest, &()),
+            None => false,
+        }
+    }
+
+    // Ends a set's tree.
+    fn clear(&mut self, index: u32) {
+        if let Some(set) = self.sets.get_mut(index as usize) {
+            set.clear(&mut self.forest);
+        }
+    }
+
+    // Adds each key of a set to a checksum.
+    fn walk(&self, index: u32, sum: u64) -> u64 {
+        let mut sum = sum;
+        if let Some(set) = self.sets.get(index as usize) {
+            for key in set.iter(&self.forest) {
+                sum = added(sum, key);
+            }
+        }
+        sum
+    }
+
+    /// A checksum of each key of the first sets.
+    pub(crate) fn walk_all(&self, count: u32) -> u64 {
+        let mut sum = 0u64;
+        for index in 0..count {
+            sum = self.walk(index, sum);
+        }
+        sum
+    }
+
+    /// Ends the trees of the first sets.
+    pub(crate) fn clear_all(&mut self, count: u32) {
+        for index in 0..count {
+            self.clear(index);
+        }
+    }
+}
+
+// So many empty handles.
+fn handles(alloc: Global, count: u32) -> Result<Vec<Set<u32>>, AllocError>
+    ensures { IfOk result (λ sets. sets.items ≡ replicate count None) }
+{
+    let mut sets = Vec::new(alloc);
+    for _ in 0..count {
+        sets.push(Set::new())?;
+    }
+    Ok(sets)
+}

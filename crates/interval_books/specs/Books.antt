@@ -1,0 +1,98 @@
+-- What contracts see of books: a forest, and in it the map of each resource.
+use Rattle.bforest.specs.Forest.{Forest, Gives, IsLive, IsTooMany, NeedsGrowth, Takes, limit_of, list_of, need_of, room_of, sizes_of, sizes_with, sizes_without}
+use Rattle.bforest_core.specs.declared.pool.OutOfMemory.TheVariants.{Full, Memory}
+use Rattle.interval_books.specs.Bookings.{AreApart, end_of, first_met, holding, with_booking, without_booking}
+use Rattle.interval_books.specs.declared.book_error.BookError.TheVariants as why
+use Rattle.interval_books.specs.declared.book_error.BookError.{BookError}
+use Rattle.std.specs.Ordering.{nat_cmp}
+use Rattle.std.specs.Prelude.{Err, List, None, Ok, OnErr, OnOk, Option, Result, Some, get_or, if◌then◌else◌, length, nat_lt, ok_or, option_map, ◌≡◌, ◌≢◌, ◌≤◌, ℕ}
+
+-- Contracts read books by the words below alone.
+pub record Books : Type 0 where
+  pub forest : Forest ℕ ℕ
+  pub maps : List (Option ℕ)
+
+-- the table of all bookings
+abbrev pub table : Books → Forest ℕ ℕ
+table b = b.forest
+
+-- how many resources there are
+abbrev pub resource_count : Books → ℕ
+resource_count b = length b.maps
+
+-- the map of a resource, which is empty where there is no such resource
+abbrev pub map_of : Books → ℕ → Option ℕ
+map_of b r = get_or b.maps r None
+
+-- the bookings of a resource, in the order of their starts
+abbrev pub bookings : Books → ℕ → List (ℕ × ℕ)
+bookings b r = list_of (table b) (map_of b r)
+
+-- the sizes of the nodes of its tree
+abbrev pub node_sizes : Books → ℕ → List (List ℕ)
+node_sizes b r = sizes_of (table b) (map_of b r)
+
+-- each resource has a map in the table, no two have one tree, and bookings of one resource are apart
+pub record AreKept (b : Books) : Type 0 where
+  pub live : (r : ℕ) → IsLive (table b) (map_of b r)
+  pub different : (q r n : ℕ) → map_of b q ≡ Some n → map_of b r ≡ Some n → q ≡ r
+  pub apart : (r : ℕ) → AreApart (bookings b r)
+
+-- Why a booking may not be made, if anything is in its way: there is no such resource, the interval has no moment, or it meets a booked one.
+abbrev pub objection : Books → ℕ → ℕ → ℕ → Option BookError
+objection b r start end =
+    if nat_lt r (resource_count b)
+    then if nat_lt start end then option_map (λ x. why.Overlaps x.0 x.1) (first_met (bookings b r) start end) else Some why.EmptyInterval
+    else Some why.UnknownResource
+
+-- how many slots a booking takes
+abbrev pub need : Books → ℕ → ℕ → ℕ
+need b r start = need_of 7 nat_cmp (table b) (map_of b r) start
+
+-- What may be answered where it takes d slots of f: what is in its way, if anything is. Else that it is done, only where so many can be had; that
+-- they can't; or that the table had to grow and the memory was refused.
+abbrev pub MayAnswer : Forest ℕ ℕ → ℕ → Option BookError → Result (Unit {0}) BookError → Type 0
+MayAnswer f d (Some reason) result = result ≡ Err reason
+MayAnswer f d None (Ok done) = d ≤ room_of f
+MayAnswer f d None (Err why.UnknownResource) = ⊥
+MayAnswer f d None (Err why.EmptyInterval) = ⊥
+MayAnswer f d None (Err (why.Overlaps s e)) = ⊥
+MayAnswer f d None (Err why.NotBooked) = ⊥
+MayAnswer f d None (Err (why.Forest Full)) = IsTooMany d f
+MayAnswer f d None (Err (why.Forest Memory)) = NeedsGrowth d f
+
+-- the resource r was to be booked from start up to end
+pub record Recorded (b : Books) (r start end : ℕ) (result : Result (Unit {0}) BookError) (b' : Books) : Type 0 where
+  pub answer : MayAnswer (table b) (need b r start) (objection b r start end) result
+  pub booked : OnOk result (bookings b' r ≡ with_booking (bookings b r) start end)
+  pub others : (q : ℕ) → q ≢ r → bookings b' q ≡ bookings b q
+  pub sizes : OnOk result (node_sizes b' r ≡ sizes_with 7 nat_cmp (table b) (map_of b r) start)
+  pub other_sizes : (q : ℕ) → q ≢ r → node_sizes b' q ≡ node_sizes b q
+  pub account : OnOk result (Takes (need b r start) (table b) (table b'))
+  pub refused : OnErr result (b' ≡ b)
+  pub same_resources : resource_count b' ≡ resource_count b
+  pub same_limit : limit_of (table b') ≡ limit_of (table b)
+  pub was_apart : (q : ℕ) → AreApart (bookings b q)
+  pub apart : (q : ℕ) → AreApart (bookings b' q)
+
+-- the end of the booking of r that begins at start, or why there is none
+abbrev pub end_at : Books → ℕ → ℕ → Result ℕ BookError
+end_at b r start = if nat_lt r (resource_count b) then ok_or (end_of (bookings b r) start) why.NotBooked else Err why.UnknownResource
+
+-- the booking of r that begins at start was to be cancelled
+pub record Cancelled (b : Books) (r start : ℕ) (result : Result ℕ BookError) (b' : Books) : Type 0 where
+  pub answer : result ≡ end_at b r start
+  pub cancelled : OnOk result (bookings b' r ≡ without_booking (bookings b r) start)
+  pub others : (q : ℕ) → q ≢ r → bookings b' q ≡ bookings b q
+  pub sizes : node_sizes b' r ≡ sizes_without 7 nat_cmp (table b) (map_of b r) start
+  pub other_sizes : (q : ℕ) → q ≢ r → node_sizes b' q ≡ node_sizes b q
+  pub account : Gives (node_sizes b r) (node_sizes b' r) (table b) (table b')
+  pub refused : OnErr result (b' ≡ b)
+  pub same_resources : resource_count b' ≡ resource_count b
+  pub same_limit : limit_of (table b') ≡ limit_of (table b)
+  pub was_apart : (q : ℕ) → AreApart (bookings b q)
+  pub apart : (q : ℕ) → AreApart (bookings b' q)
+
+-- the booking of r that contains a moment, or that there is no such resource
+abbrev pub at_moment : Books → ℕ → ℕ → Result (Option (ℕ × ℕ)) BookError
+at_moment b r moment = if nat_lt r (resource_count b) then Ok (holding (bookings b r) moment) else Err why.UnknownResource

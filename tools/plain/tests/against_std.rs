@@ -1,0 +1,778 @@
+//! Random calls on maps and sets, cursors, ranges and iterators beside `BTreeMap`, under four orders and some limits; and the counts of slots and
+//! of levels beside what their definitions say. `BFOREST_CALLS` is how many calls are made.
+
+use bforest::{Comparator, Map, MapForest, OutOfMemory, Set, SetCursor, SetForest};
+use std::cmp::{Ordering, Reverse};
+use std::collections::BTreeMap;
+use std::ops::Bound;
+
+/// How many maps or sets a forest has.
+pub const HANDLES: usize = 6;
+
+/// An order of keys by a number for each.
+pub trait Order: Comparator<u32> {
+    /// Equal keys have one rank, and the less a key the less its rank.
+    fn rank(&self, key: u32) -> i64;
+}
+
+/// The keys from the greatest down.
+pub struct Down;
+
+/// Keys that agree but for their last digit are equal.
+pub struct Tens;
+
+/// The order of the keys, with the searches that a comparator has if it names none.
+pub struct Plain;
+
+impl Comparator<u32> for Down {
+    fn cmp(&self, a: u32, b: u32) -> Ordering {
+        Reverse(a).cmp(&Reverse(b))
+    }
+}
+
+impl Comparator<u32> for Tens {
+    fn cmp(&self, a: u32, b: u32) -> Ordering {
+        (a / 10).cmp(&(b / 10))
+    }
+}
+
+impl Comparator<u32> for Plain {
+    fn cmp(&self, a: u32, b: u32) -> Ordering {
+        a.cmp(&b)
+    }
+}
+
+impl Order for () {
+    fn rank(&self, key: u32) -> i64 {
+        key.into()
+    }
+}
+
+impl Order for Down {
+    fn rank(&self, key: u32) -> i64 {
+        -i64::from(key)
+    }
+}
+
+impl Order for Tens {
+    fn rank(&self, key: u32) -> i64 {
+        i64::from(key / 10)
+    }
+}
+
+impl Order for Plain {
+    fn rank(&self, key: u32) -> i64 {
+        key.into()
+    }
+}
+
+/// A key and its value, which in a set is always 0.
+pub type Entry = (u32, u32);
+
+/// What is done with a cursor.
+#[derive(Clone, Copy, Debug)]
+pub enum Step {
+    Next,
+    Prev,
+    First,
+    Goto(u32),
+    Here,
+    Insert(Entry),
+    Write(u32),
+    Remove,
+}
+
+/// A call on one map or set.
+#[derive(Clone, Debug)]
+pub enum Call {
+    Insert(Entry),
+    Remove(u32),
+    Get(u32),
+    GetOrLess(u32),
+    /// All entries.
+    Iter,
+    /// Entries within bounds; of each step whether it is one from behind.
+    Range(Bound<u32>, Bound<u32>, Vec<bool>),
+    /// A cursor that reads.
+    Read(Vec<Step>),
+    /// A cursor that writes.
+    Edit(Vec<Step>),
+    /// Keeps the entries whose key has none of these bits; the value that they get, if they get one.
+    Retain(u32, Option<u32>),
+    Clear,
+    /// The forest's own `clear`, after which all handles are empty.
+    Wipe,
+    Reserve(u32),
+}
+
+/// What a call or a step answers.
+#[derive(Clone, Debug, PartialEq, Eq)]
+pub enum Answer {
+    Done,
+    Flag(bool),
+    Value(Option<u32>),
+    Entry(Option<Entry>),
+    Put(Result<Option<u32>, OutOfMemory>),
+    Reserved(Result<(), OutOfMemory>),
+}
+
+/// Handles in one forest, of which each call names one.
+pub trait Subject {
+    /// What a call answers, step by step.
+    fn call(&mut self, at: usize, call: &Call) -> Vec<Answer>;
+
+    /// How many slots there are, how many of them lie free, and how many levels the tree of a handle has.
+    fn counts(&self, at: usize) -> [usize; 3];
+}
+
+/// Numbers without an order, by a shift register.
+pub struct Random(pub u64);
+
+impl Random {
+    pub fn below(&mut self, most: u32) -> u32 {
+        self.0 ^= self.0 << 13;
+        self.0 ^= self.0 >> 7;
+        self.0 ^= self.0 << 17;
+        ((self.0 >> 32) % u64::from(most)) as u32
+    }
+}
+
+// The definitions.
+
+/// The sizes of a tree's nodes, level by level, the leaves first: of each leaf its entries, of each other node its children.
+#[derive(Default)]
+struct Sizes(Vec<Vec<usize>>);
+
+impl Sizes {
+    fn nodes(&self) -> usize {
+        self.0.iter().map(Vec::len).sum()
+    }
+
+    /// Of each level the node above a place, from the leaf up. A place between two leaves belongs to the left one where `left`.
+    fn path(&self, place: usize, left: bool) -> Vec<usize> {
+        let mut place = place;
+        let mut path = Vec::new();
+        for (height, level) in self.0.iter().enumerate() {
+            let mut node = 0;
+            while place > level[node] || place == level[node] && !(left && height == 0) {
+                place -= level[node];
+                node += 1;
+            }
+            path.push(node);
+            place = node;
+        }
+        path
+    }
+
+    /// How many nodes a new entry at a place takes: one for each full node from its leaf up without a gap, and one for a new root.
+    fn need(&self, place: usize, leaf: usize) -> usize {
+        let path = self.path(place, true);
+        let full = (0..path.len()).take_while(|&height| self.0[height][path[height]] == most(height, leaf)).count();
+        full + usize::from(full == path.len())
+    }
+
+    /// An entry comes in: a node that has one too many becomes two.
+    fn grow(&mut self, place: usize, leaf: usize) {
+        let mut gaining = self.path(place, true);
+        gaining.push(0);
+        let mut child = 0;
+        for (height, node) in gaining.into_iter().enumerate() {
+            let Some(level) = self.0.get_mut(height) else {
+                self.0.push(vec![if height == 0 { 1 } else { 2 }]);
+                return;
+            };
+            let index = if height == 0 { 0 } else { child - level[..node].iter().sum::<usize>() };
+            level[node] += 1;
+            if level[node] <= most(height, leaf) {
+                return;
+            }
+            let front = if height == 0 { leaf.div_ceil(2) } else { 4 + usize::from(index <= 3) };
+            let behind = level[node] - front;
+            level[node] = front;
+            level.insert(node + 1, behind);
+            child = node;
+        }
+    }
+
+    /// The entry at a place goes: a node that is left with less than half shares with its right neighbour, or goes into it.
+    fn shrink(&mut self, place: usize, leaf: usize) {
+        let path = self.path(place, false);
+        for (height, node) in path.into_iter().enumerate() {
+            if !self.loses(height, node, most(height, leaf)) {
+                break;
+            }
+        }
+        while self.0.last().is_some_and(|top| top.is_empty() || self.0.len() > 1 && top[..] == [1]) {
+            self.0.pop();
+        }
+    }
+
+    /// A node loses one. Whether it goes.
+    fn loses(&mut self, height: usize, node: usize, most: usize) -> bool {
+        let level = &mut self.0[height];
+        level[node] -= 1;
+        let left = level[node];
+        match level.get(node + 1) {
+            _ if left == 0 => {}
+            Some(right) if 2 * left < most && left + right <= most => level[node + 1] += left,
+            Some(right) if 2 * left < most => {
+                let all = left + right;
+                level[node] = all - all / 2;
+                level[node + 1] = all / 2;
+                return false;
+            }
+            _ => return false,
+        }
+        level.remove(node);
+        true
+    }
+}
+
+fn most(height: usize, leaf: usize) -> usize {
+    if height == 0 { leaf } else { 8 }
+}
+
+/// A map of the definitions: its entries by the rank of their keys, all ranks in order, and the sizes.
+#[derive(Default)]
+struct Listed {
+    entries: BTreeMap<i64, Entry>,
+    ranks: Vec<i64>,
+    sizes: Sizes,
+}
+
+/// The definitions' forest.
+pub struct Model<'a, C> {
+    order: &'a C,
+    /// How many entries a leaf can hold, and whether entries have values.
+    leaf: usize,
+    is_map: bool,
+    limit: usize,
+    slots: usize,
+    free: usize,
+    lists: Vec<Listed>,
+}
+
+impl<'a, C: Order> Model<'a, C> {
+    pub fn new(order: &'a C, is_map: bool, limit: u32) -> Self {
+        Model {
+            order,
+            leaf: if is_map { 7 } else { 15 },
+            is_map,
+            limit: limit as usize,
+            slots: 0,
+            free: 0,
+            lists: (0..HANDLES).map(|_| Listed::default()).collect(),
+        }
+    }
+
+    fn reserve(&mut self, n: usize) -> Result<(), OutOfMemory> {
+        let added = n.saturating_sub(self.free);
+        if added > self.limit - self.slots {
+            return Err(OutOfMemory::Full);
+        }
+        self.slots += added;
+        self.free += added;
+        Ok(())
+    }
+
+    fn insert(&mut self, at: usize, (key, value): Entry) -> Result<Option<u32>, OutOfMemory> {
+        let rank = self.order.rank(key);
+        if let Some(entry) = self.lists[at].entries.get_mut(&rank) {
+            return Ok(Some(std::mem::replace(&mut entry.1, value)));
+        }
+        let place = self.lists[at].ranks.partition_point(|it| *it < rank);
+        let need = self.lists[at].sizes.need(place, self.leaf);
+        self.reserve(need)?;
+        self.free -= need;
+        let list = &mut self.lists[at];
+        list.sizes.grow(place, self.leaf);
+        list.ranks.insert(place, rank);
+        list.entries.insert(rank, (key, value));
+        Ok(None)
+    }
+
+    fn remove(&mut self, at: usize, rank: i64) -> Option<Entry> {
+        let list = &mut self.lists[at];
+        let entry = list.entries.remove(&rank)?;
+        let place = list.ranks.partition_point(|it| *it < rank);
+        let before = list.sizes.nodes();
+        list.ranks.remove(place);
+        list.sizes.shrink(place, self.leaf);
+        self.free += before - list.sizes.nodes();
+        Some(entry)
+    }
+
+    fn clear(&mut self, at: usize) {
+        let list = std::mem::take(&mut self.lists[at]);
+        self.free += list.sizes.nodes();
+    }
+
+    fn retain(&mut self, at: usize, bits: u32, put: Option<u32>) {
+        for rank in self.lists[at].ranks.clone() {
+            let entry = self.lists[at].entries.get_mut(&rank).unwrap();
+            if entry.0 & bits != 0 {
+                self.remove(at, rank);
+            } else if let Some(value) = put {
+                entry.1 = value;
+            }
+        }
+    }
+
+    fn range(&self, at: usize, low: Bound<u32>, high: Bound<u32>, ends: &[bool]) -> Vec<Answer> {
+        let ranked = |bound: Bound<u32>| bound.map(|it| self.order.rank(it));
+        let is_within = |rank: i64| {
+            (match ranked(low) {
+                Bound::Included(it) => it <= rank,
+                Bound::Excluded(it) => it < rank,
+                Bound::Unbounded => true,
+            }) && match ranked(high) {
+                Bound::Included(it) => rank <= it,
+                Bound::Excluded(it) => rank < it,
+                Bound::Unbounded => true,
+            }
+        };
+        let within = self.lists[at].entries.iter().filter(|it| is_within(*it.0)).map(|it| *it.1);
+        let within: Vec<Entry> = within.collect();
+        let mut left = within.iter().copied();
+        ends.iter().map(|&back| Answer::Entry(if back { left.next_back() } else { left.next() })).collect()
+    }
+
+    fn entry(&self, at: usize, place: usize) -> Option<Entry> {
+        let list = &self.lists[at];
+        list.ranks.get(place).map(|rank| list.entries[rank])
+    }
+
+    /// A step of a cursor, which is a place.
+    fn step(&mut self, at: usize, place: &mut usize, step: Step) -> Answer {
+        let count = self.lists[at].ranks.len();
+        let place_of = |it: &Self, key| it.lists[at].ranks.partition_point(|rank| *rank < it.order.rank(key));
+        match step {
+            Step::Next => {
+                *place = count.min(*place + 1);
+                Answer::Entry(self.entry(at, *place))
+            }
+            Step::Prev if *place == 0 => Answer::Entry(None),
+            Step::Prev => {
+                *place -= 1;
+                Answer::Entry(self.entry(at, *place))
+            }
+            Step::First => {
+                *place = 0;
+                Answer::Value(self.entry(at, 0).map(|it| it.1))
+            }
+            Step::Goto(key) => {
+                *place = place_of(self, key);
+                Answer::Value(self.lists[at].entries.get(&self.order.rank(key)).map(|it| it.1))
+            }
+            Step::Here => Answer::Entry(self.entry(at, *place)),
+            Step::Insert(entry) => {
+                let answer = self.insert(at, entry);
+                *place = place_of(self, entry.0);
+                Answer::Put(answer)
+            }
+            Step::Write(value) => Answer::Flag(match self.lists[at].ranks.get(*place).copied() {
+                Some(rank) if self.is_map => {
+                    self.lists[at].entries.get_mut(&rank).unwrap().1 = value;
+                    true
+                }
+                _ => false,
+            }),
+            Step::Remove => Answer::Entry(match self.lists[at].ranks.get(*place).copied() {
+                // The cursor of a map answers the value alone.
+                Some(rank) => self.remove(at, rank).map(|it| if self.is_map { (0, it.1) } else { it }),
+                None => None,
+            }),
+        }
+    }
+}
+
+impl<C: Order> Subject for Model<'_, C> {
+    fn call(&mut self, at: usize, call: &Call) -> Vec<Answer> {
+        match call {
+            Call::Insert(entry) => vec![Answer::Put(self.insert(at, *entry))],
+            Call::Remove(key) => vec![Answer::Value(self.remove(at, self.order.rank(*key)).map(|it| it.1))],
+            Call::Get(key) => vec![Answer::Value(self.lists[at].entries.get(&self.order.rank(*key)).map(|it| it.1))],
+            Call::GetOrLess(key) => {
+                let below = self.lists[at].entries.range(..=self.order.rank(*key)).next_back();
+                vec![Answer::Entry(below.map(|it| *it.1))]
+            }
+            Call::Iter => self.lists[at].entries.values().map(|it| Answer::Entry(Some(*it))).collect(),
+            Call::Range(low, high, ends) => self.range(at, *low, *high, ends),
+            Call::Read(steps) | Call::Edit(steps) => {
+                let mut place = self.lists[at].ranks.len();
+                steps.iter().map(|step| self.step(at, &mut place, *step)).collect()
+            }
+            Call::Retain(bits, put) => {
+                self.retain(at, *bits, put.filter(|_| self.is_map));
+                vec![Answer::Done]
+            }
+            Call::Clear => {
+                self.clear(at);
+                vec![Answer::Done]
+            }
+            Call::Wipe => {
+                self.lists.fill_with(Listed::default);
+                (self.slots, self.free) = (0, 0);
+                vec![Answer::Done]
+            }
+            Call::Reserve(n) => vec![Answer::Reserved(self.reserve(*n as usize))],
+        }
+    }
+
+    fn counts(&self, at: usize) -> [usize; 3] {
+        let nodes: usize = self.lists.iter().map(|it| it.sizes.nodes()).sum();
+        assert_eq!(self.slots - self.free, nodes);
+        [self.slots, self.free, self.lists[at].sizes.0.len()]
+    }
+}
+
+// The library.
+
+/// Maps of the library.
+pub struct Maps<'a, C> {
+    pub order: &'a C,
+    pub forest: MapForest<u32, u32>,
+    pub maps: Vec<Map<u32, u32>>,
+}
+
+impl<'a, C: Order> Maps<'a, C> {
+    pub fn new(order: &'a C, limit: u32) -> Self {
+        Maps { order, forest: MapForest::with_node_limit(limit), maps: (0..HANDLES).map(|_| Map::new()).collect() }
+    }
+
+    fn read(&self, at: usize, steps: &[Step]) -> Vec<Answer> {
+        let mut cursor = self.maps[at].cursor(&self.forest, self.order);
+        let step = |step: &Step| match *step {
+            Step::Next => Answer::Entry(cursor.next()),
+            Step::Prev => Answer::Entry(cursor.prev()),
+            Step::First => Answer::Value(cursor.goto_first()),
+            Step::Goto(key) => Answer::Value(cursor.goto(key)),
+            _ => {
+                assert_eq!(cursor.key().zip(cursor.value()), cursor.entry());
+                Answer::Entry(cursor.entry())
+            }
+        };
+        steps.iter().map(step).collect()
+    }
+
+    fn edit(&mut self, at: usize, steps: &[Step]) -> Vec<Answer> {
+        let mut cursor = self.maps[at].cursor_mut(&mut self.forest, self.order);
+        let step = |step: &Step| match *step {
+            Step::Next => Answer::Entry(cursor.next()),
+            Step::Prev => Answer::Entry(cursor.prev()),
+            Step::First => Answer::Value(cursor.goto_first()),
+            Step::Goto(key) => Answer::Value(cursor.goto(key)),
+            Step::Here => {
+                assert_eq!(cursor.key().zip(cursor.value()), cursor.entry());
+                Answer::Entry(cursor.entry())
+            }
+            Step::Insert((key, value)) => Answer::Put(cursor.insert(key, value)),
+            Step::Write(value) => Answer::Flag(cursor.value_mut().map(|it| *it = value).is_some()),
+            Step::Remove => Answer::Entry(cursor.remove().map(|it| (0, it))),
+        };
+        steps.iter().map(step).collect()
+    }
+}
+
+impl<C: Order> Subject for Maps<'_, C> {
+    fn call(&mut self, at: usize, call: &Call) -> Vec<Answer> {
+        let (order, forest, map) = (self.order, &mut self.forest, &mut self.maps[at]);
+        match call {
+            Call::Insert((key, value)) => vec![Answer::Put(map.insert(*key, *value, forest, order))],
+            Call::Remove(key) => vec![Answer::Value(map.remove(*key, forest, order))],
+            Call::Get(key) => vec![Answer::Value(map.get(*key, forest, order))],
+            Call::GetOrLess(key) => vec![Answer::Entry(map.get_or_less(*key, forest, order))],
+            Call::Iter => {
+                assert!(map.increases(forest, order) && map.is_empty() == map.iter(forest).next().is_none());
+                map.iter(forest).map(|it| Answer::Entry(Some(it))).collect()
+            }
+            Call::Range(low, high, ends) => {
+                let mut range = map.range((*low, *high), forest, order);
+                ends.iter().map(|&back| Answer::Entry(if back { range.next_back() } else { range.next() })).collect()
+            }
+            Call::Read(steps) => self.read(at, steps),
+            Call::Edit(steps) => self.edit(at, steps),
+            Call::Retain(bits, put) => {
+                map.retain(forest, |key, value| {
+                    *value = put.unwrap_or(*value);
+                    key & bits == 0
+                });
+                vec![Answer::Done]
+            }
+            Call::Clear => {
+                map.clear(forest);
+                vec![Answer::Done]
+            }
+            Call::Wipe => {
+                forest.clear();
+                assert_eq!(forest.holds(map), map.is_empty());
+                self.maps.fill_with(Map::new);
+                vec![Answer::Done]
+            }
+            Call::Reserve(n) => vec![Answer::Reserved(forest.reserve_nodes(*n))],
+        }
+    }
+
+    fn counts(&self, at: usize) -> [usize; 3] {
+        let (slots, free) = (self.forest.slots() as usize, self.forest.free_slots() as usize);
+        [slots, free, self.maps[at].levels(&self.forest)]
+    }
+}
+
+/// Sets of the library.
+pub struct Sets<'a, C> {
+    pub order: &'a C,
+    pub forest: SetForest<u32>,
+    pub sets: Vec<Set<u32>>,
+}
+
+/// What a map of the key would answer.
+fn as_entry(key: Option<u32>) -> Answer {
+    Answer::Entry(key.map(|it| (it, 0)))
+}
+
+fn as_value(is_there: bool) -> Answer {
+    Answer::Value(is_there.then_some(0))
+}
+
+fn as_put(put: Result<bool, OutOfMemory>) -> Answer {
+    Answer::Put(put.map(|is_new| if is_new { None } else { Some(0) }))
+}
+
+fn set_step<C: Comparator<u32>>(cursor: &mut SetCursor<'_, u32, C>, step: Step) -> Answer {
+    match step {
+        Step::Next => as_entry(cursor.next()),
+        Step::Prev => as_entry(cursor.prev()),
+        Step::First => as_value(cursor.goto_first().is_some()),
+        Step::Goto(key) => as_value(cursor.goto(key)),
+        Step::Here => as_entry(cursor.elem()),
+        Step::Insert((key, _)) => as_put(cursor.insert(key)),
+        Step::Write(_) => Answer::Flag(false),
+        Step::Remove => as_entry(cursor.remove()),
+    }
+}
+
+impl<'a, C: Order> Sets<'a, C> {
+    pub fn new(order: &'a C, limit: u32) -> Self {
+        Sets { order, forest: SetForest::with_node_limit(limit), sets: (0..HANDLES).map(|_| Set::new()).collect() }
+    }
+}
+
+impl<C: Order> Subject for Sets<'_, C> {
+    fn call(&mut self, at: usize, call: &Call) -> Vec<Answer> {
+        let (order, forest, set) = (self.order, &mut self.forest, &mut self.sets[at]);
+        match call {
+            Call::Insert((key, _)) => vec![as_put(set.insert(*key, forest, order))],
+            Call::Remove(key) => vec![as_value(set.remove(*key, forest, order))],
+            Call::Get(key) => vec![as_value(set.contains(*key, forest, order))],
+            Call::GetOrLess(key) => vec![as_entry(set.get_or_less(*key, forest, order))],
+            Call::Iter => {
+                assert!(set.increases(forest, order) && set.is_empty() == set.iter(forest).next().is_none());
+                set.iter(forest).map(|it| as_entry(Some(it))).collect()
+            }
+            Call::Range(low, high, ends) => {
+                let mut range = set.range((*low, *high), forest, order);
+                ends.iter().map(|&back| as_entry(if back { range.next_back() } else { range.next() })).collect()
+            }
+            Call::Read(steps) | Call::Edit(steps) => {
+                let mut cursor = set.cursor(forest, order);
+                steps.iter().map(|step| set_step(&mut cursor, *step)).collect()
+            }
+            Call::Retain(bits, _) => {
+                set.retain(forest, |key| key & bits == 0);
+                vec![Answer::Done]
+            }
+            Call::Clear => {
+                set.clear(forest);
+                vec![Answer::Done]
+            }
+            Call::Wipe => {
+                forest.clear();
+                assert_eq!(forest.holds(set), set.is_empty());
+                self.sets.fill_with(Set::new);
+                vec![Answer::Done]
+            }
+            Call::Reserve(n) => vec![Answer::Reserved(forest.reserve_nodes(*n))],
+        }
+    }
+
+    fn counts(&self, at: usize) -> [usize; 3] {
+        let (slots, free) = (self.forest.slots() as usize, self.forest.free_slots() as usize);
+        [slots, free, self.sets[at].levels(&self.forest)]
+    }
+}
+
+// The runs.
+
+/// What is drawn in a run.
+#[derive(Clone, Copy)]
+pub struct Draw {
+    pub limit: u32,
+    /// How many keys there are.
+    pub keys: u32,
+    /// How many of 64 calls are removals.
+    pub losses: u32,
+    /// Whether the entries of a set have a value, which is 0.
+    pub is_map: bool,
+}
+
+impl Draw {
+    fn value(&self, random: &mut Random) -> u32 {
+        if self.is_map { random.below(1000) } else { 0 }
+    }
+
+    fn bound(&self, random: &mut Random) -> Bound<u32> {
+        match random.below(5) {
+            0 => Bound::Unbounded,
+            1 | 2 => Bound::Included(random.below(self.keys)),
+            _ => Bound::Excluded(random.below(self.keys)),
+        }
+    }
+
+    fn steps(&self, random: &mut Random, kinds: u32) -> Vec<Step> {
+        let mut key = random.below(self.keys);
+        let count = 1 + random.below(12);
+        let mut step = |_| {
+            key = if random.below(4) == 0 { random.below(self.keys) } else { key.saturating_add(random.below(3)) };
+            match random.below(kinds) {
+                0 | 1 => Step::Next,
+                2 => Step::Prev,
+                3 => Step::Here,
+                4 => Step::Goto(key),
+                5 => Step::First,
+                6..=8 => Step::Insert((key, if self.is_map { key } else { 0 })),
+                9 => Step::Write(key),
+                _ => Step::Remove,
+            }
+        };
+        (0..count).map(&mut step).collect()
+    }
+
+    /// A call without an order.
+    fn call(&self, random: &mut Random) -> Call {
+        let key = random.below(self.keys);
+        let kind = random.below(64);
+        if kind < self.losses {
+            return Call::Remove(key);
+        }
+        match random.below(64) {
+            0..=31 => Call::Insert((key, self.value(random))),
+            32..=37 => Call::Get(key),
+            38..=43 => Call::GetOrLess(key),
+            44..=49 => {
+                let (low, high) = (self.bound(random), self.bound(random));
+                let count = random.below(12);
+                Call::Range(low, high, (0..count).map(|_| random.below(2) == 1).collect())
+            }
+            50..=53 => Call::Read(self.steps(random, 6)),
+            54..=60 => Call::Edit(self.steps(random, 12)),
+            61 => Call::Iter,
+            _ => self.rare(random),
+        }
+    }
+
+    /// A call that ends much, or takes slots.
+    fn rare(&self, random: &mut Random) -> Call {
+        match random.below(64) {
+            0 => Call::Wipe,
+            1..=7 => Call::Clear,
+            8..=15 => Call::Retain(1 << random.below(8), Some(self.value(random))),
+            16..=31 => Call::Retain(1 << random.below(8) | 1 << random.below(8), None),
+            32 => Call::Reserve(self.limit),
+            33..=40 => Call::Reserve(random.below(200)),
+            _ => Call::Iter,
+        }
+    }
+}
+
+/// Makes so many calls on both, and compares each answer by `is_same` and the counts after each where they are told.
+pub fn compare(
+    tried: &mut impl Subject,
+    model: &mut impl Subject,
+    draw: Draw,
+    calls: u32,
+    is_same: impl Fn(&Call, &[Answer], &[Answer]) -> bool,
+) {
+    let mut random = Random(0x9e37_79b9_7f4a_7c15 ^ u64::from(draw.keys * 64 + draw.losses));
+    for number in 0..calls {
+        let at = random.below(HANDLES as u32) as usize;
+        // Where the limit is that of the names, no one reserves them all.
+        let call = match draw.call(&mut random) {
+            Call::Reserve(u32::MAX) => Call::Iter,
+            call => call,
+        };
+        let (answer, wanted) = (tried.call(at, &call), model.call(at, &call));
+        assert!(is_same(&call, &answer, &wanted), "call {number}, {call:?} of {at}: {answer:?}, and not {wanted:?}");
+        assert_eq!(tried.counts(at), model.counts(at), "call {number}, {call:?} of {at}");
+    }
+}
+
+/// The runs of one order: its share of all calls.
+fn run<C: Order>(order: &C) {
+    let all: u32 = std::env::var("BFOREST_CALLS").map_or(100_000, |it| it.parse().expect("BFOREST_CALLS is a number"));
+    let limited = [
+        (u32::MAX, 2000, 8),
+        (u32::MAX, 300, 24),
+        (u32::MAX, 5000, 0),
+        (80, 300, 8),
+        (12, 120, 16),
+        (1, 60, 16),
+        (0, 9, 4),
+    ];
+    for is_map in [true, false] {
+        for (limit, keys, losses) in limited {
+            let draw = Draw { limit, keys, losses, is_map };
+            let calls = all.div_ceil(4 * 2 * limited.len() as u32);
+            let mut model = Model::new(order, is_map, limit);
+            let is_same = |_: &Call, answer: &[Answer], wanted: &[Answer]| answer == wanted;
+            if is_map {
+                let mut maps = Maps::new(order, limit);
+                compare(&mut maps, &mut model, draw, calls, is_same);
+                let wanted = model.call(0, &Call::Iter);
+                let last = maps.maps.swap_remove(0).into_iter(maps.forest);
+                assert!(last.map(|it| Answer::Entry(Some(it))).eq(wanted));
+            } else {
+                compare(&mut Sets::new(order, limit), &mut model, draw, calls, is_same);
+            }
+        }
+    }
+}
+
+#[test]
+fn of_the_keys() {
+    run(&());
+}
+
+#[test]
+fn of_a_comparator() {
+    run(&Plain);
+}
+
+#[test]
+fn reversed() {
+    run(&Down);
+}
+
+#[test]
+fn of_equal_keys() {
+    run(&Tens);
+}
+
+/// A copy of a handle is live as long as the levels stay.
+#[test]
+fn copies_of_handles() {
+    let mut forest: MapForest<u32, u32> = MapForest::new();
+    let mut map = Map::new();
+    let mut random = Random(1);
+    for step in 0..4000 {
+        let (copy, levels) = (map.clone(), map.levels(&forest));
+        let key = random.below(400);
+        if random.below(10) < if step < 2000 { 7 } else { 3 } {
+            map.insert(key, step, &mut forest, &()).unwrap();
+        } else {
+            map.remove(key, &mut forest, &());
+        }
+        assert_eq!(forest.holds(&copy), levels == 0 || levels == map.levels(&forest));
+        assert!(forest.holds(&map) && map.increases(&forest, &()));
+    }
+}
