@@ -1,5 +1,5 @@
 -- What `parse` gives of a word of digits.
-use Rattle.bforest_run.specs.Numbers.{IsNumber, is_number, number_of}
+use Rattle.bforest_run.specs.Numbers.{IsNumeral, is_numeral, numeral}
 use Rattle.std.proofs.Common.{Bool, ◌&&◌, ◌∙◌, sym, Err, List, None, Ok, Option, Some, ap, false, if◌then◌else◌, refl, Result, length, rules, true, ◌<◌, ◌^◌, ◌≡◌, ◌≤◌, ℕ}
 use Rattle.std.proofs.lemmas.Str.Parse.{IsNumeralModel, numerals_by_value, parse_digits}
 use Rattle.std.proofs.lemmas.Bool.{false≢true}
@@ -13,11 +13,11 @@ use Rattle.std.specs.Str.Parse.{ParsesUnsigned, digits_value}
 own : IsNumeralModel (λ ds. list_all is_ascii_digit ds ≡ true) (digits_value 10)
 own = numerals_by_value _ (search rules)
 
--- a word of at most ten digits is a number exactly where `parse` reads one
-pub parsed : {E : Type 0} (word : List ℕ) (r : Result ℕ E) → ParsesUnsigned 32 10 word r → list_all is_ascii_digit word ≡ true → length word ≤ 10 → SomeIff (result_ok r) (IsNumber word) (digits_value 10 word)
-parsed word r h digits most = go r (parse_digits own 32 word r h digits)
+-- a word of few digits is a number exactly where `parse` reads one
+pub parsed : {E : Type 0} (width bits : ℕ) (word : List ℕ) (r : Result ℕ E) → ParsesUnsigned bits 10 word r → list_all is_ascii_digit word ≡ true → length word ≤ width → SomeIff (result_ok r) (IsNumeral width bits word) (digits_value 10 word)
+parsed width bits word r h digits most = go r (parse_digits own bits word r h digits)
   where
-    go : {E : Type 0} (r : Result ℕ E) → OkIff r ((0 < length word) × (digits_value 10 word < 2 ^ 32)) (digits_value 10 word) → SomeIff (result_ok r) (IsNumber word) (digits_value 10 word)
+    go : {E : Type 0} (r : Result ℕ E) → OkIff r ((0 < length word) × (digits_value 10 word < 2 ^ bits)) (digits_value 10 word) → SomeIff (result_ok r) (IsNumeral width bits word) (digits_value 10 word)
     go (Ok x) h = (record { digits = digits; some = h.0.0; most = most; fits = h.0.1 }, h.1)
     go (Err e) h = λ n. h (n.some, n.fits)
 
@@ -27,22 +27,23 @@ both true true e = (refl, refl)
 both true false e = absurd (cc)
 both false b e = absurd (cc)
 
--- a word is a number where its test says so, and only there
-is_so : (word : List ℕ) → IsNumber word → is_number word ≡ true
-is_so word n = let d = n.digits in let s = n.some in let m = n.most in let f = n.fits in search rules
+module _ (width bits : ℕ) (word : List ℕ) where
+  -- a word is a number where its test says so, and only there
+  is_so : IsNumeral width bits word → is_numeral width bits word ≡ true
+  is_so n = let d = n.digits in let s = n.some in let m = n.most in let f = n.fits in search rules
 
-so_is : (word : List ℕ) → is_number word ≡ true → IsNumber word
-so_is word e =
-    let parts = both _ _ e in
-    let more = both _ _ parts.0 in
-    let most = both _ _ more.0 in
-    record { digits = most.0; some = search (rules, most.1); most = search (rules, more.1); fits = search (rules, parts.1) }
+  so_is : is_numeral width bits word ≡ true → IsNumeral width bits word
+  so_is e =
+      let parts = both _ _ e in
+      let more = both _ _ parts.0 in
+      let most = both _ _ more.0 in
+      record { digits = most.0; some = search (rules, most.1); most = search (rules, more.1); fits = search (rules, parts.1) }
 
-tested : (word : List ℕ) (b : Bool) → is_number word ≡ b → (o : Option ℕ) → SomeIff o (IsNumber word) (digits_value 10 word) → o ≡ (if b then Some (digits_value 10 word) else None)
-tested word true e None h = absurd (h (so_is word e))
-tested word true e (Some x) h = ap Some h.1
-tested word false e None h = refl
-tested word false e (Some x) h = absurd (false≢true (sym e ∙ is_so word h.0))
+  tested : (b : Bool) → is_numeral width bits word ≡ b → (o : Option ℕ) → SomeIff o (IsNumeral width bits word) (digits_value 10 word) → o ≡ (if b then Some (digits_value 10 word) else None)
+  tested true e None h = absurd (h (so_is e))
+  tested true e (Some x) h = ap Some h.1
+  tested false e None h = refl
+  tested false e (Some x) h = absurd (false≢true (sym e ∙ is_so h.0))
 
-pub as_number_of : (word : List ℕ) (o : Option ℕ) → SomeIff o (IsNumber word) (digits_value 10 word) → o ≡ number_of word
-as_number_of word o some = tested word (is_number word) refl o some
+  pub as_numeral : (o : Option ℕ) → SomeIff o (IsNumeral width bits word) (digits_value 10 word) → o ≡ numeral width bits word
+  as_numeral o some = tested (is_numeral width bits word) refl o some

@@ -1,4 +1,5 @@
 pub mod Answers
+pub mod Bookings
 pub mod Grammar
 pub mod Lines
 pub mod Numbers

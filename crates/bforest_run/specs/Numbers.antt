@@ -4,17 +4,32 @@ use Rattle.std.specs.List.{list_all}
 use Rattle.std.specs.Prelude.{Bool, List, None, Option, Some, if◌then◌else◌, length, nat_le, nat_lt, true, ◌&&◌, ◌<◌, ◌^◌, ◌≡◌, ◌≤◌, ℕ}
 use Rattle.std.specs.Str.Parse.{digits_value}
 
--- the word is 1 to 10 digits, and the number that they write fits 32 bits
-pub record IsNumber (word : List ℕ) : Type 0 where
-  pub digits : list_all is_ascii_digit word ≡ true
-  pub some : 0 < length word
-  pub most : length word ≤ 10
-  pub fits : digits_value 10 word < 2 ^ 32
+module _ (width bits : ℕ) (word : List ℕ) where
+  -- the word is digits, some and so many at most, and the number that they write fits so many bits
+  pub record IsNumeral : Type 0 where
+    pub digits : list_all is_ascii_digit word ≡ true
+    pub some : 0 < length word
+    pub most : length word ≤ width
+    pub fits : digits_value 10 word < 2 ^ bits
 
--- whether it is so
-abbrev pub is_number : List ℕ → Bool
-is_number word = list_all is_ascii_digit word && nat_lt 0 (length word) && nat_le (length word) 10 && nat_lt (digits_value 10 word) (2 ^ 32)
+  -- whether it is so
+  abbrev pub is_numeral : Bool
+  is_numeral = list_all is_ascii_digit word && nat_lt 0 (length word) && nat_le (length word) width && nat_lt (digits_value 10 word) (2 ^ bits)
 
--- the number, where there is one
+  -- the number, where there is one
+  abbrev pub numeral : Option ℕ
+  numeral = if is_numeral then Some (digits_value 10 word) else None
+
+-- 1 to 10 digits, of 32 bits
+abbrev pub IsNumber : List ℕ → Type 0
+IsNumber word = IsNumeral 10 32 word
+
 abbrev pub number_of : List ℕ → Option ℕ
-number_of word = if is_number word then Some (digits_value 10 word) else None
+number_of word = numeral 10 32 word
+
+-- 1 to 20 digits, of 64 bits
+abbrev pub IsTime : List ℕ → Type 0
+IsTime word = IsNumeral 20 64 word
+
+abbrev pub time_of : List ℕ → Option ℕ
+time_of word = numeral 20 64 word

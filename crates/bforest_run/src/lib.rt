@@ -4,6 +4,8 @@
 //! [`run_map`] or [`run_set`], which serve callers that have lists of calls as values too.
 #![tactic(auto)]
 
+mod book_line;
+mod books;
 mod engine;
 mod line;
 mod lines;
@@ -14,6 +16,7 @@ mod parse;
 mod reply;
 mod sets;
 mod shown;
+mod shown_books;
 mod shown_map;
 mod shown_set;
 mod stop;

@@ -1,5 +1,6 @@
 //! Lines in, lines out.
 ghost use Rattle.bforest_run.specs.Answers.{IsBadForMaps, IsBadForSets, MapTells, SetTells, at_start};
+ghost use Rattle.bforest_run.specs.Bookings.{AreNew, BookTells, IsBadForBooks};
 ghost use Rattle.bforest_run.specs.Output.{AppendsBeginning, Grows};
 ghost use Rattle.bforest_run.specs.Session.{Answered, IsBad, Outcome, Replies, bad_text};
 ghost use Rattle.bforest_run.specs.Statuses.{status_of};
@@ -13,6 +14,7 @@ use crate::reply::Reply;
 use crate::sets::Sets;
 use crate::stop::Stop;
 use crate::word::words_in;
+use interval_books::Books;
 use std::alloc::{AllocError, Global};
 use std::io::{ErrorKind, Read, Write};
 
@@ -23,6 +25,8 @@ pub enum Kind {
     Map,
     /// Sets of numbers.
     Set,
+    /// Bookings of so many resources by intervals of time. The limit on nodes does not hold for them.
+    Books(u32),
 }
 
 /// How many calls a read of the whole input, and a write of one line, may take.
@@ -41,7 +45,7 @@ const PIECE: usize = 4096;
 /// - 0: every line was answered.
 /// - 2: a line was bad. Its answer is `line N: bad`, and no later line is answered.
 /// - 3: memory ran out for the input or for an answer. What was written is whole lines, the first ones. (An insertion that finds no
-///   memory for a node is no status: it is answered `memory`.)
+///   memory for a node is no status: it is answered `memory`.) Or it ran out for the handles of books: then nothing was read or written.
 /// - 4: a read failed, and then nothing was written; or a write failed, and then what was written is a beginning of the output. A read
 ///   has failed too where 1048576 calls have not met the end of the input, and a write where it takes no byte or where 1048576 calls
 ///   have not taken a whole line.
@@ -69,10 +73,31 @@ pub fn run_text<R: Read, W: Write>(
     ensures sets { kind ≡ Kind.Set → IfSome (R.remaining input.old) (λ bytes.
         Outcome SetTells IsBadForSets (at_start limit) bytes
         (W.contents output.old) (W.contents output.new) result) }
+    ensures books { (count : _) → kind ≡ Kind.Books count → IfSome (R.remaining input.old) (λ bytes.
+        (start : Books) × AreNew count start × Outcome BookTells IsBadForBooks start bytes
+            (W.contents output.old) (W.contents output.new) result) }
 {
     match kind {
         Kind::Map => run(alloc, &mut Maps::new(alloc, limit), input, output),
         Kind::Set => run(alloc, &mut Sets::new(alloc, limit), input, output),
+        Kind::Books(count) => run_books(alloc, count, input, output),
+    }
+}
+
+/// Has each line of the input answered by books of so many resources, and returns the status.
+fn run_books<R: Read, W: Write>(alloc: Global, count: u32, input: &mut R, output: &mut W) -> u8
+    ensures status { (result ≤ 4) × (result ≢ 1) }
+    ensures whole { result ≤ 2 → IsAtEnd (R.remaining input.new) }
+    ensures read_first { (IsAtEnd (R.remaining input.new) → ⊥)
+        → W.contents output.new ≡ W.contents output.old }
+    ensures grows { Grows (W.contents output.old) (W.contents output.new) }
+    ensures outcome { IfSome (R.remaining input.old) (λ bytes.
+        (start : Books) × AreNew count start × Outcome BookTells IsBadForBooks start bytes
+            (W.contents output.old) (W.contents output.new) result) }
+{
+    match Books::new(alloc, count) {
+        Ok(mut books) => run(alloc, &mut books, input, output),
+        Err(_) => 3,
     }
 }
 

@@ -1,5 +1,5 @@
 //! Words, and what they name.
-ghost use Rattle.bforest_run.specs.Numbers.{IsNumber, number_of};
+ghost use Rattle.bforest_run.specs.Numbers.{IsNumber, IsTime, number_of, time_of};
 ghost use Rattle.bforest_run.specs.Words.{bound_of, handle_of, order_of, put_of, words_of};
 ghost use Rattle.std.specs.Char.{is_ascii_digit};
 ghost use Rattle.std.specs.List.{list_all};
@@ -81,6 +81,17 @@ pub fn number(word: &str) -> Option<u32>
     ensures value { result ≡ number_of word.now }
 {
     if word.len() > 10 || !is_digits(word) {
+        return None;
+    }
+    word.parse().ok()
+}
+
+/// A time of 1 to 20 digits, at most 18446744073709551615. Leading zeros are allowed; a sign is not.
+pub(crate) fn time(word: &str) -> Option<u64>
+    ensures time { SomeIff result (IsTime word.now) (digits_value 10 word.now) }
+    ensures value { result ≡ time_of word.now }
+{
+    if word.len() > 20 || !is_digits(word) {
         return None;
     }
     word.parse().ok()

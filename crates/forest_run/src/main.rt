@@ -1,4 +1,4 @@
-//! Answers lines: calls on maps or sets of numbers in one forest.
+//! Answers lines: calls on maps or sets of numbers in one forest, or bookings of resources.
 #![tactic(auto)]
 
 use bforest_run::{Kind, number, run_text};
@@ -12,7 +12,7 @@ fn asked(words: &[String]) -> Option<(Kind, u32)> {
     match words {
         [] => Some((Kind::Map, u32::MAX)),
         [kind] => Some((kind_named(kind)?, u32::MAX)),
-        [kind, limit] => Some((kind_named(kind)?, number(limit)?)),
+        [kind, given] => numbered(kind, number(given)?),
         _ => None,
     }
 }
@@ -22,6 +22,14 @@ fn kind_named(word: &str) -> Option<Kind> {
         "map" => Some(Kind::Map),
         "set" => Some(Kind::Set),
         _ => None,
+    }
+}
+
+/// What lines speak of, with the number behind it: of resources, or the limit on nodes.
+fn numbered(kind: &str, number: u32) -> Option<(Kind, u32)> {
+    match kind {
+        "books" => Some((Kind::Books(number), u32::MAX)),
+        _ => Some((kind_named(kind)?, number)),
     }
 }
 
@@ -37,7 +45,7 @@ fn main(rt: HostRuntime) -> ExitCode {
         Err(_) => None,
     };
     let Some((kind, limit)) = asked else {
-        let _ = eprintln!(rt; "usage: forest_run [map|set [limit]]");
+        let _ = eprintln!(rt; "usage: forest_run [map|set [limit]|books count]");
         return ExitCode::from(2);
     };
     let status = run_text(rt.alloc(), kind, limit, &mut rt.stdin(), &mut rt.stdout());

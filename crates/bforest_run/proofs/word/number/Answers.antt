@@ -1,4 +1,4 @@
-use Rattle.bforest_run.proofs.Digits.{as_number_of, parsed}
+use Rattle.bforest_run.proofs.Digits.{as_numeral, parsed}
 use Rattle.bforest_run.proofs.word.number.Goals as goal
 use Rattle.bforest_run.specs.Numbers.{IsNumber}
 use Rattle.std.proofs.Common.{arith, subst, sym, ◌∙◌}
@@ -8,5 +8,5 @@ use Rattle.std.specs.Str.Parse.{digits_value}
 pub returns : goal.returns
 returns c =
     let some = subst (λ o. SomeIff o (IsNumber c.args.word.now) (digits_value 10 c.args.word.now)) (sym c.ok.ensures.value)
-    (parsed c.args.word.now c.parse.result c.parse.ensures.value.0 (sym c.is_digits.ensures ∙ c.if-not-is_digits.false) (omega arith)) in
-    record { number = some; value = as_number_of c.args.word.now c.ok.result some }
+    (parsed 10 32 c.args.word.now c.parse.result c.parse.ensures.value.0 (sym c.is_digits.ensures ∙ c.if-not-is_digits.false) (omega arith)) in
+    record { number = some; value = as_numeral 10 32 c.args.word.now c.ok.result some }
