@@ -37,11 +37,7 @@ fn booking(words: &[&str]) -> Option<BookLine>
     let [resource, start, end] = words else {
         return None;
     };
-    Some(BookLine::Book(
-        number(resource)?,
-        time(start)?,
-        time(end)?,
-    ))
+    Some(BookLine::Book(number(resource)?, time(start)?, time(end)?))
 }
 
 /// `R S`

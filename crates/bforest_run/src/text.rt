@@ -75,7 +75,7 @@ pub fn run_text<R: Read, W: Write>(
         (W.contents output.old) (W.contents output.new) result) }
     ensures books { (count : _) → kind ≡ Kind.Books count → IfSome (R.remaining input.old) (λ bytes.
         (start : Books) × AreNew count start × Outcome BookTells IsBadForBooks start bytes
-            (W.contents output.old) (W.contents output.new) result) }
+        (W.contents output.old) (W.contents output.new) result) }
 {
     match kind {
         Kind::Map => run(alloc, &mut Maps::new(alloc, limit), input, output),
@@ -93,7 +93,7 @@ fn run_books<R: Read, W: Write>(alloc: Global, count: u32, input: &mut R, output
     ensures grows { Grows (W.contents output.old) (W.contents output.new) }
     ensures outcome { IfSome (R.remaining input.old) (λ bytes.
         (start : Books) × AreNew count start × Outcome BookTells IsBadForBooks start bytes
-            (W.contents output.old) (W.contents output.new) result) }
+        (W.contents output.old) (W.contents output.new) result) }
 {
     match Books::new(alloc, count) {
         Ok(mut books) => run(alloc, &mut books, input, output),
