@@ -21,6 +21,13 @@ LINTS = '''#![doc = include_str!("../README.md")]
 
 '''
 
+# How it ends: the snippets of the tutorial run with the doc examples.
+TUTORIAL = '''
+#[cfg(doctest)]
+#[doc = include_str!("../TUTORIAL.md")]
+struct Tutorial;
+'''
+
 # A clause that asks something of a caller, by a pattern, and the words for it in a public function's docs.
 ASKED = [
     (r"requires (?:live )?\{ IsLive ", "the handle is live in the forest"),
