@@ -1,6 +1,6 @@
 //! A tree of one of the capacities that lines can name, so that who asks it has no capacity as a parameter.
 
-use crate::tree::Tree;
+use crate::tree::{Detail, Tree};
 use bforest_core::OutOfMemory;
 use bforest_plain_tests::Plain;
 use std::alloc::{AllocError, Global};
@@ -110,7 +110,13 @@ impl AnyTree {
 
     /// Writes the keys of the nodes, level by level, the root's first: `40 / 10 20 30 | 40 50 60 70`.
     pub(crate) fn show(&self, alloc: Global, out: &mut String) -> Result<(), AllocError> {
-        each!(self, tree => tree.show(alloc, out))
+        each!(self, tree => tree.show(alloc, Detail::Keys, out))
+    }
+
+    /// The same with each node's number in front of it, and then the free nodes: `#2 40 / #0 10 20 30 | #1 40 50 60 70 / free #3`.
+    pub(crate) fn draw(&self, alloc: Global, out: &mut String) -> Result<(), AllocError> {
+        each!(self, tree => tree.show(alloc, Detail::Nodes, out)?);
+        each!(self, tree => tree.show_free(out))
     }
 
     /// Whether the tree has these entries: from both ends, and by key.

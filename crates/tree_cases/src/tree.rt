@@ -14,6 +14,15 @@ use std::process::Abort;
 /// A pool of numbers under numbers.
 type Pool<const N: usize> = NodePool<u32, u32, N>;
 
+/// What is shown of a node.
+#[derive(Clone, Copy, Debug, PartialEq, Eq)]
+pub(crate) enum Detail {
+    /// Its keys.
+    Keys,
+    /// Its number and its keys.
+    Nodes,
+}
+
 /// A tree of numbers under numbers, or none, and nothing else in its pool.
 #[derive(Drop)]
 pub(crate) struct Tree<const N: usize> {
@@ -153,7 +162,12 @@ impl<const N: usize> Tree<N> {
     }
 
     /// Writes the keys of the nodes, level by level, the root's first: `40 / 10 20 30 | 40 50 60 70`.
-    pub(crate) fn show(&self, alloc: Global, out: &mut String) -> Result<(), AllocError> {
+    pub(crate) fn show(
+        &self,
+        alloc: Global,
+        detail: Detail,
+        out: &mut String,
+    ) -> Result<(), AllocError> {
         let mut row = Vec::new(alloc);
         if let Some(root) = self.root {
             row.push(root)?;
@@ -163,7 +177,18 @@ impl<const N: usize> Tree<N> {
                 out.push_str(" /")?;
                 row = row_below(&self.pool, alloc, &row)?;
             }
-            push_row(out, &self.pool, &row)?;
+            push_row(out, &self.pool, detail, &row)?;
+        }
+        Ok(())
+    }
+
+    /// Writes the numbers of the free nodes: `/ free #3`.
+    pub(crate) fn show_free(&self, out: &mut String) -> Result<(), AllocError> {
+        out.push_str(" / free")?;
+        for number in 0..self.slots() {
+            if self.pool.node(Node::new(number)).is_free() {
+                write!(out, " #{number}")?;
+            }
         }
         Ok(())
     }
@@ -309,15 +334,19 @@ fn keys<const N: usize>(pool: &Pool<N>, node: Node) -> &[u32] {
     }
 }
 
-// Writes the keys of the nodes of a row.
+// Writes the nodes of a row.
 fn push_row<const N: usize>(
     out: &mut String,
     pool: &Pool<N>,
+    detail: Detail,
     row: &[Node],
 ) -> Result<(), AllocError> {
     for (index, node) in row.iter().enumerate() {
         if index > 0 {
             out.push_str(" |")?;
+        }
+        if detail == Detail::Nodes {
+            write!(out, " #{}", node.number())?;
         }
         for key in keys(pool, *node) {
             write!(out, " {key}")?;

@@ -49,6 +49,7 @@ impl Trial {
         match words {
             ["stat"] => self.tell_sizes(out),
             ["keys"] => Ok(self.tree.show(alloc, out)?),
+            ["draw"] => Ok(self.tree.draw(alloc, out)?),
             ["root"] => tell_number(self.tree.root(), out),
             ["here", keys @ ..] => self.tell_searches(alloc, keys, out),
             [asked, key] => self.tell_of(asked, number(key)?, out),
