@@ -87,15 +87,18 @@ fn main(rt: HostRuntime) -> io::Result<()> {
     let other = (5, 8);
     book(&mut books, 1, other, (0, None), &mut seen);
     for index in 0..COUNT {
-        book(&mut books, 0, interval(index), (index, Some(other)), &mut seen);
+        book(
+            &mut books,
+            0,
+            interval(index),
+            (index, Some(other)),
+            &mut seen,
+        );
     }
     let is_all = is_booked(&books, COUNT, Some(other));
     let is_none = cancels_all(&mut books) && is_booked(&books, 0, Some(other));
     println!(rt;
         "refused {} right {} booked {} cancelled {}",
-        seen.refused,
-        seen.is_right,
-        is_all,
-        is_none
+        seen.refused, seen.is_right, is_all, is_none
     )
 }
