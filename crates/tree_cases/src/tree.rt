@@ -186,7 +186,7 @@ impl<const N: usize> Tree<N> {
     pub(crate) fn show_free(&self, out: &mut String) -> Result<(), AllocError> {
         out.push_str(" / free")?;
         for number in 0..self.slots() {
-            if self.pool.node(Node::new(number)).is_free() {
+            if is_free(&self.pool, number) {
                 write!(out, " #{number}")?;
             }
         }
@@ -332,6 +332,11 @@ fn keys<const N: usize>(pool: &Pool<N>, node: Node) -> &[u32] {
     } else {
         content.unwrap_leaf().0
     }
+}
+
+// Whether the slot of a number is free.
+fn is_free<const N: usize>(pool: &Pool<N>, number: u32) -> bool {
+    number < pool.slots() && pool.node(Node::new(number)).is_free()
 }
 
 // Writes the nodes of a row.
