@@ -1,4 +1,5 @@
 pub mod AllOf
+pub mod Bookings
 pub mod Digits
 pub mod Marks
 pub mod Parts
