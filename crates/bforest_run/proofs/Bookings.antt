@@ -9,7 +9,7 @@ use Rattle.std.proofs.Common.{IfSome, List, None, Option, Some, [], ap, get_or, 
 use Rattle.std.proofs.lemmas.List.{length-replicate}
 
 -- each handle is empty
-all_none : (count r : ℕ) → get_or (replicate count None) r None ≡ None {A = ℕ}
+all_none : (count r : ℕ) → get_or {A = Option ℕ} (replicate count None) r None ≡ None
 all_none zero r = refl
 all_none (suc count) zero = refl
 all_none (suc count) (suc r) = all_none count r
@@ -34,10 +34,7 @@ none_told tells is_bad start bytes o = record {
   memory = λ _. record { count = 0; text = []; end = start; told = (refl, refl); appended = Appends-none o };
 }
 
--- what holds of each thing holds of the one that is there
+-- what holds of each holds of the one that is there
 pub of_each : {A : Type 0} {P : A → Type 0} (o : Option A) → ((x : A) → P x) → IfSome o P
 of_each None all = tt
 of_each (Some x) all = all x
-pub also : {A : Type 0} {P Q : A → Type 0} (o : Option A) → ((x : A) → P x → Q x) → IfSome o P → IfSome o Q
-also None more some = tt
-also (Some x) more some = more x some
