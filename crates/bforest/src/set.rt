@@ -145,7 +145,9 @@ impl<K: Copy> Set<K> {
             forest.new self.new }
     {
         let mut path = Path::default();
-        let put = forest.trees.insert(&mut self.root, &mut path, Start::Root, key, (), comp);
+        let put = forest
+            .trees
+            .insert(&mut self.root, &mut path, Start::Root, key, (), comp);
         is_new(put)
     }
 
