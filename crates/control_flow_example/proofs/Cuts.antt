@@ -12,6 +12,11 @@ use Rattle.std.specs.Prelude.{ℕ}
 use Rattle.std.specs.declared.cmp.Ordering.TheVariants.{Equal, Greater, Less}
 use Rattle.std.specs.declared.cmp.Ordering.{Ordering}
 
+-- a key that compares like another is less than all that this is less than
+like-first : {K : Type 0} (cmp : K → K → Ordering) (o : IsTotalOrder cmp) (k q : K) (ks : List K) → cmp k q ≡ Equal → AllByRecursion (λ y. cmp k y ≡ Less) ks → AllByRecursion (λ y. cmp q y ≡ Less) ks
+like-first cmp o k q [] t h = tt
+like-first cmp o k q (y ∷ ys) t h = (sym (o.congr k q y t) ∙ h.0, like-first cmp o k q ys t h.1)
+
 module _ {K X : Type 0} (cmp : K → K → Ordering) (o : IsTotalOrder cmp) where
   -- what a look-up finds at a place, and what a removal leaves there
   value_in : List (K × X) → K → ℕ → Option X
@@ -56,11 +61,6 @@ module _ {K X : Type 0} (cmp : K → K → Ordering) (o : IsTotalOrder cmp) wher
   value-before [] k h l = refl
   value-before (e ∷ es) k h l = value-here e es k h Greater (o.antisymm e.0 k ∙ ap ordering_reverse l.0) refl
 
-  -- a key that compares like the first is less than all behind it
-  like-first : (k q : K) (ks : List K) → cmp k q ≡ Equal → AllByRecursion (λ y. cmp k y ≡ Less) ks → AllByRecursion (λ y. cmp q y ≡ Less) ks
-  like-first k q [] t h = tt
-  like-first k q (y ∷ ys) t h = (sym (o.congr k q y t) ∙ h.0, like-first k q ys t h.1)
-
   -- a removal leaves no value
   pub value_for-cut : (es : List (K × X)) (k : K) → IsIncreasing cmp es → value_for cmp (cut cmp es k) k ≡ None
   unfolding IsStrictlySortedBy
@@ -69,7 +69,7 @@ module _ {K X : Type 0} (cmp : K → K → Ordering) (o : IsTotalOrder cmp) wher
     where
       go : value_for cmp (cut cmp es k) k ≡ None → (r : Ordering) → cmp e.0 k ≡ r → value_for cmp (cut cmp (e ∷ es) k) k ≡ None
       go further Less t = ap (λ l. value_for cmp l k) (cut-less e es k t) ∙ value-less e (cut cmp es k) k t ∙ further
-      go further Equal t = ap (λ l. value_for cmp l k) (cut-here e es k h Equal t refl) ∙ value-before es k h.1 (like-first e.0 k (keys_of es) t h.0)
+      go further Equal t = ap (λ l. value_for cmp l k) (cut-here e es k h Equal t refl) ∙ value-before es k h.1 (like-first cmp o e.0 k (keys_of es) t h.0)
       go further Greater t = ap (λ l. value_for cmp l k) (cut-here e es k h Greater t refl) ∙ value-here e es k h Greater t refl
 
   module _ (k q : K) (apart : is_eq (cmp k q) ≡ false) where
