@@ -5,10 +5,12 @@ use Rattle.bforest.specs.Set.{as_put, as_removed, the_value}
 use Rattle.bforest_core.specs.Sizes.{inner_gain, leaf_gain, need, need_above}
 use Rattle.bforest_core.specs.declared.pool.OutOfMemory.{OutOfMemory}
 use Rattle.bforest_nodes.specs.Entries.{IsIncreasing, cut, is_present, place, put}
-use Rattle.control_flow_example.proofs.Keeping.{list_at_handle, lists-changed, lists-kept, mirrored-set, ordered-changed, ordered-kept, present-cut, present-cut_other, present-put, present-put_other}
-use Rattle.control_flow_example.specs.Graphs.{AreKept, AreOrdered, Graph, blocks, graph_of, list_in, lists_of, with_edge, without_edge}
-use Rattle.std.proofs.Common.{Bool, Err, IsOk, List, None, Ok, OnErr, OnOk, Option, Result, Some, [], ap, arith, false, get_or, if◌then◌else◌, length, map, refl, slice_set, subst, suc, sym, true, zero, ◌+◌, ◌<◌, ◌∙◌, ◌≡◌, ◌≢◌, ◌≤◌, ◌∷◌, ℕ}
-use Rattle.std.proofs.lemmas.List.{get_or_read, length-set, set-get_or}
+use Rattle.control_flow_example.proofs.Keeping.{list_at_handle, lists-changed, lists-kept, mirrored-set, ordered-changed, ordered-kept, present-cut, present-cut_other, present-put, present-put_other, present-value}
+use Rattle.control_flow_example.specs.Graphs.{AreKept, AreOrdered, Graph, blocks, branch_of, graph_of, list_in, lists_of, with_edge, without_edge}
+use Rattle.std.proofs.Common.{Bool, Err, IsOk, List, None, Ok, OnErr, OnOk, Option, Result, Some, [], ap, arith, false, get_or, if◌then◌else◌, length, map, refl, replicate, slice_set, subst, suc, sym, true, zero, ◌+◌, ◌++◌, ◌<◌, ◌∙◌, ◌≡◌, ◌≢◌, ◌≤◌, ◌∷◌, ℕ}
+use Rattle.std.proofs.lemmas.List.{get_or_read, length-set, replicate-append-replicate, set-get_or}
+use Rattle.std.specs.List.Sorted.{IsStrictlySortedBy}
+use Rattle.std.specs.Option.{is_some}
 use Rattle.std.specs.Ordering.{nat_cmp}
 
 -- an insertion needs at most one node more than there are levels
@@ -122,10 +124,10 @@ module _ (ts t1 : Forest ℕ (Unit {0})) (ss : List (Option ℕ)) (so : Forest �
 
     added-kept : AreKept t' (slice_set ss from h') s' (slice_set ps to k')
     added-kept = changed-kept t' h' (put nat_cmp (list_of t1 (get_or ss from None)) to the_value) s' k' (put nat_cmp (list_of so (get_or ps to None)) from branch) forward-put backward-put true b.increasing d.increasing
-      (present-put (list_of t1 (get_or ss from None)) to (ordered.increasing from) the_value)
-      (present-put (list_of so (get_or ps to None)) from (a.backward.increasing to) branch)
-      (λ q ne. present-put_other (list_of t1 (get_or ss from None)) to (ordered.increasing from) the_value q ne ∙ ap (λ l. is_present nat_cmp l q) forward-list)
-      (λ p ne. present-put_other (list_of so (get_or ps to None)) from (a.backward.increasing to) branch p ne ∙ ap (λ l. is_present nat_cmp l p) backward-list)
+        (present-put (list_of t1 (get_or ss from None)) to (ordered.increasing from) the_value)
+        (present-put (list_of so (get_or ps to None)) from (a.backward.increasing to) branch)
+        (λ q ne. present-put_other (list_of t1 (get_or ss from None)) to (ordered.increasing from) the_value q ne ∙ ap (λ l. is_present nat_cmp l q) forward-list)
+        (λ p ne. present-put_other (list_of so (get_or ps to None)) from (a.backward.increasing to) branch p ne ∙ ap (λ l. is_present nat_cmp l p) backward-list)
 
   -- an edge was removed
   module _ (t' : Forest ℕ (Unit {0})) (h' : Option ℕ) (s' : Forest ℕ ℕ) (k' : Option ℕ) (told : Option (Unit {0})) (said : Option ℕ) (b : Removes 15 nat_cmp t1 (get_or ss from None) to told t' h') (d : Removes 7 nat_cmp so (get_or ps to None) from said s' k') where
@@ -137,10 +139,10 @@ module _ (ts t1 : Forest ℕ (Unit {0})) (ss : List (Option ℕ)) (so : Forest �
 
     removed-kept : AreKept t' (slice_set ss from h') s' (slice_set ps to k')
     removed-kept = changed-kept t' h' (cut nat_cmp (list_of t1 (get_or ss from None)) to) s' k' (cut nat_cmp (list_of so (get_or ps to None)) from) b.cut d.cut false b.increasing d.increasing
-      (present-cut (list_of t1 (get_or ss from None)) to (ordered.increasing from))
-      (present-cut (list_of so (get_or ps to None)) from (a.backward.increasing to))
-      (λ q ne. present-cut_other (list_of t1 (get_or ss from None)) to (ordered.increasing from) q ne ∙ ap (λ l. is_present nat_cmp l q) forward-list)
-      (λ p ne. present-cut_other (list_of so (get_or ps to None)) from (a.backward.increasing to) p ne ∙ ap (λ l. is_present nat_cmp l p) backward-list)
+        (present-cut (list_of t1 (get_or ss from None)) to (ordered.increasing from))
+        (present-cut (list_of so (get_or ps to None)) from (a.backward.increasing to))
+        (λ q ne. present-cut_other (list_of t1 (get_or ss from None)) to (ordered.increasing from) q ne ∙ ap (λ l. is_present nat_cmp l q) forward-list)
+        (λ p ne. present-cut_other (list_of so (get_or ps to None)) from (a.backward.increasing to) p ne ∙ ap (λ l. is_present nat_cmp l p) backward-list)
 
   -- a refused one leaves all
   module _ (s' : Forest ℕ ℕ) (k' : Option ℕ) (same_forest : s' ≡ so) (same_handle : k' ≡ get_or ps to None) where
@@ -224,3 +226,50 @@ module _ (ts : Forest ℕ (Unit {0})) (ss : List (Option ℕ)) (so : Forest ℕ 
 
     pub removed-kept-at : AreKept t' (slice_set ss from h') s' (slice_set ps to k')
     removed-kept-at = removed-kept ts ts ss so ps a refl a.forward from to at_from at_to t' h' s' k' told said forward-gone backward-gone
+
+-- a block leads to another where its successors hold it
+module _ (ts : Forest ℕ (Unit {0})) (ss : List (Option ℕ)) (so : Forest ℕ ℕ) (ps : List (Option ℕ)) (g : Graph) (a : AreKept ts ss so ps) (view : graph_of ts ss so ps ≡ g) (from to : ℕ) (low : from < blocks g) (h : Option ℕ) (h_is : h ≡ get_or ss from h) where
+  pub led-at : is_present nat_cmp (list_of ts h) to ≡ is_some (branch_of g from to)
+  led-at =
+    ap (λ q. is_present nat_cmp (list_of ts q) to) (read ts ts ss from h (in-forward ts ss so ps g a view from low) h_is) ∙ ap (λ l. is_present nat_cmp l to) (sym (list_at_handle ts ss from)) ∙ a.mirrored from to ∙ present-value (list_in (lists_of so ps) to) from ∙ ap (λ (g : Graph). is_some (branch_of g from to)) view
+
+-- so many empty handles
+module _ {X : Type 0} (f : Forest ℕ X) where
+  none-at : (count p : ℕ) → get_or {A = Option ℕ} (replicate count None) p None ≡ None
+  none-at zero p = refl
+  none-at (suc count) zero = refl
+  none-at (suc count) (suc p) = none-at count p
+
+  ordered-new : (count : ℕ) → AreOrdered f (replicate count None)
+  unfolding IsStrictlySortedBy
+  ordered-new count = record {
+    live = λ p. subst (λ (q : Option ℕ). IsLive f q) (sym (none-at count p)) tt;
+    increasing = λ p. subst (λ (q : Option ℕ). IsIncreasing nat_cmp (list_of f q)) (sym (none-at count p)) tt;
+    apart = λ p q n d e. absurd (none-some n (sym (none-at count p) ∙ d));
+  }
+    where
+      none-some : (n : ℕ) → None ≢ Some n
+      none-some n = λ e. cc
+
+  lists-new : (count : ℕ) → lists_of f (replicate count None) ≡ replicate count []
+  lists-new zero = refl
+  lists-new (suc count) = ap (λ ls. [] ∷ ls) (lists-new count)
+
+  pub lists-new-of : (count : ℕ) (hs : List (Option ℕ)) → hs ≡ replicate count None → lists_of f hs ≡ replicate count []
+  lists-new-of count hs is = ap (lists_of f) is ∙ lists-new count
+
+  list-none : (count p : ℕ) → list_in (lists_of f (replicate count None)) p ≡ []
+  list-none count p = list_at_handle f (replicate count None) p ∙ ap (list_of f) (none-at count p)
+
+-- a new graph is kept
+pub kept-new : (ts : Forest ℕ (Unit {0})) (so : Forest ℕ ℕ) (count : ℕ) (ss ps : List (Option ℕ)) → ss ≡ replicate count None → ps ≡ replicate count None → AreKept ts ss so ps
+kept-new ts so count ss ps s p = subst (λ (hs : List (Option ℕ)). AreKept ts hs so ps) (sym s) (subst (λ (hs : List (Option ℕ)). AreKept ts (replicate count None) so hs) (sym p) (record {
+  forward = ordered-new ts count;
+  backward = ordered-new so count;
+  same_blocks = refl;
+  mirrored = λ p q. ap (λ l. is_present nat_cmp l q) (list-none ts count p) ∙ sym (ap (λ l. is_present nat_cmp l p) (list-none so count q));
+}))
+
+-- one empty handle more
+pub none-more : (count : ℕ) (hs : List (Option ℕ)) (h : Option ℕ) → hs ≡ replicate count None → h ≡ None → hs ++ h ∷ [] ≡ replicate (count + 1) None
+none-more count hs h is empty = ap (λ (qs : List (Option ℕ)). qs ++ h ∷ []) is ∙ ap (λ (q : Option ℕ). replicate count None ++ q ∷ []) empty ∙ replicate-append-replicate count 1 None
