@@ -1,7 +1,7 @@
 -- What a look-up finds after a removal, seen from a list's front.
 use Rattle.bforest_nodes.proofs.Ordered.{IsIncreasing-cut, above, place-here, place-later}
 use Rattle.bforest_nodes.specs.Entries.{IsIncreasing, cut, is_present, place, value_for}
-use Rattle.std.proofs.Common.{Bool, List, None, Option, Some, [], ap, false, if◌then◌else◌, refl, remove, slice_get, subst, suc, sym, true, ◌∙◌, ◌∷◌, ◌≡◌}
+use Rattle.std.proofs.Common.{Bool, List, None, Option, Some, [], ap, false, if◌then◌else◌, refl, remove, slice_get, subst, sym, true, ◌∙◌, ◌∷◌, ◌≡◌}
 use Rattle.std.specs.Cmp.{IsTotalOrder}
 use Rattle.std.specs.List.Sorted.{IsStrictlySortedBy}
 use Rattle.std.specs.List.{AllByRecursion}

@@ -1,14 +1,14 @@
 -- What a graph keeps where an edge is added and removed.
 use Rattle.bforest.specs.Calls.{Inserts, Removes, Reserves}
 use Rattle.bforest.specs.Forest.{Becomes, Forest, IsLive, Keeps, free_of, list_of, need_of, sizes_of}
-use Rattle.bforest.specs.Set.{as_put, as_removed, the_value}
+use Rattle.bforest.specs.Set.{as_put, the_value}
 use Rattle.bforest_core.specs.Sizes.{inner_gain, leaf_gain, need, need_above}
 use Rattle.bforest_core.specs.declared.pool.OutOfMemory.{OutOfMemory}
 use Rattle.bforest_nodes.specs.Entries.{IsIncreasing, cut, is_present, place, put}
 use Rattle.control_flow_example.proofs.Keeping.{list_at_handle, lists-changed, lists-kept, mirrored-set, ordered-changed, ordered-kept, present-cut, present-cut_other, present-put, present-put_other, present-value}
 use Rattle.control_flow_example.specs.Graphs.{AreKept, AreOrdered, Graph, blocks, branch_of, graph_of, list_in, lists_of, with_edge, without_edge}
-use Rattle.std.proofs.Common.{Bool, Err, IsOk, List, None, Ok, OnErr, OnOk, Option, Result, Some, [], ap, arith, false, get_or, if◌then◌else◌, length, map, refl, replicate, slice_set, subst, suc, sym, true, zero, ◌+◌, ◌++◌, ◌<◌, ◌∙◌, ◌≡◌, ◌≢◌, ◌≤◌, ◌∷◌, ℕ}
-use Rattle.std.proofs.lemmas.List.{get_or_read, length-set, replicate-append-replicate, set-get_or}
+use Rattle.std.proofs.Common.{Bool, Err, IsOk, List, None, Ok, OnErr, OnOk, Option, Result, Some, [], ap, arith, false, get_or, if◌then◌else◌, length, refl, replicate, slice_set, subst, suc, sym, true, zero, ◌+◌, ◌<◌, ◌∙◌, ◌≡◌, ◌≢◌, ◌≤◌, ◌∷◌, ℕ}
+use Rattle.std.proofs.lemmas.List.{get_or_read, length-set, set-get_or}
 use Rattle.std.specs.List.Sorted.{IsStrictlySortedBy}
 use Rattle.std.specs.Option.{is_some}
 use Rattle.std.specs.Ordering.{nat_cmp}
@@ -231,7 +231,7 @@ module _ (ts : Forest ℕ (Unit {0})) (ss : List (Option ℕ)) (so : Forest ℕ 
 module _ (ts : Forest ℕ (Unit {0})) (ss : List (Option ℕ)) (so : Forest ℕ ℕ) (ps : List (Option ℕ)) (g : Graph) (a : AreKept ts ss so ps) (view : graph_of ts ss so ps ≡ g) (from to : ℕ) (low : from < blocks g) (h : Option ℕ) (h_is : h ≡ get_or ss from h) where
   pub led-at : is_present nat_cmp (list_of ts h) to ≡ is_some (branch_of g from to)
   led-at =
-    ap (λ q. is_present nat_cmp (list_of ts q) to) (read ts ts ss from h (in-forward ts ss so ps g a view from low) h_is) ∙ ap (λ l. is_present nat_cmp l to) (sym (list_at_handle ts ss from)) ∙ a.mirrored from to ∙ present-value (list_in (lists_of so ps) to) from ∙ ap (λ (g : Graph). is_some (branch_of g from to)) view
+      ap (λ q. is_present nat_cmp (list_of ts q) to) (read ts ts ss from h (in-forward ts ss so ps g a view from low) h_is) ∙ ap (λ l. is_present nat_cmp l to) (sym (list_at_handle ts ss from)) ∙ a.mirrored from to ∙ present-value (list_in (lists_of so ps) to) from ∙ ap (λ (g : Graph). is_some (branch_of g from to)) view
 
 -- so many empty handles
 module _ {X : Type 0} (f : Forest ℕ X) where
@@ -255,8 +255,11 @@ module _ {X : Type 0} (f : Forest ℕ X) where
   lists-new zero = refl
   lists-new (suc count) = ap (λ ls. [] ∷ ls) (lists-new count)
 
-  pub lists-new-of : (count : ℕ) (hs : List (Option ℕ)) → hs ≡ replicate count None → lists_of f hs ≡ replicate count []
-  lists-new-of count hs is = ap (lists_of f) is ∙ lists-new count
+  -- once the loop has made all of them
+  pub lists-new-at : (count made : ℕ) (hs : List (Option ℕ)) → made ≤ count → count ≤ made → hs ≡ replicate made None → lists_of f hs ≡ replicate count []
+  lists-new-at count made hs up down is =
+      let all : made ≡ count = omega (arith, up, down) in
+      ap (lists_of f) is ∙ lists-new made ∙ ap (λ n. replicate n []) all
 
   list-none : (count p : ℕ) → list_in (lists_of f (replicate count None)) p ≡ []
   list-none count p = list_at_handle f (replicate count None) p ∙ ap (list_of f) (none-at count p)
@@ -269,7 +272,3 @@ kept-new ts so count ss ps s p = subst (λ (hs : List (Option ℕ)). AreKept ts 
   same_blocks = refl;
   mirrored = λ p q. ap (λ l. is_present nat_cmp l q) (list-none ts count p) ∙ sym (ap (λ l. is_present nat_cmp l p) (list-none so count q));
 }))
-
--- one empty handle more
-pub none-more : (count : ℕ) (hs : List (Option ℕ)) (h : Option ℕ) → hs ≡ replicate count None → h ≡ None → hs ++ h ∷ [] ≡ replicate (count + 1) None
-none-more count hs h is empty = ap (λ (qs : List (Option ℕ)). qs ++ h ∷ []) is ∙ ap (λ (q : Option ℕ). replicate count None ++ q ∷ []) empty ∙ replicate-append-replicate count 1 None

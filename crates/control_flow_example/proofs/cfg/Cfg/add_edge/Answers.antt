@@ -1,7 +1,6 @@
 use Rattle.control_flow_example.proofs.cfg.Cfg.add_edge.Goals as goal
 use Rattle.control_flow_example.proofs.Edges.{added-graph-at, added-kept-at, done-at, increasing-at, live-at, refused-graph-at, refused-kept-at}
-use Rattle.std.proofs.Common.{OnErr, refl, rules, sym}
-use Rattle.std.proofs.lemmas.Result.{err_from_is_err_and}
+use Rattle.std.proofs.Common.{rules}
 
 pub invariant_of-self-in_err-insert : goal.invariant_of-self-in_err-insert
 invariant_of-self-in_err-insert c =
