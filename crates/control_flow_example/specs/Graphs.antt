@@ -3,7 +3,7 @@ use Rattle.bforest.specs.Forest.{Forest, IsLive, list_of}
 use Rattle.bforest.specs.Set.{the_value}
 use Rattle.bforest_nodes.specs.Entries.{IsIncreasing, cut, is_present, put, value_for}
 use Rattle.std.specs.Ordering.{nat_cmp}
-use Rattle.std.specs.Prelude.{List, None, Option, Some, [], get_or, length, map, slice_set, ◌≡◌, ℕ}
+use Rattle.std.specs.Prelude.{List, None, Option, Some, [], get_or, length, map, slice_set, suc, zero, ◌≡◌, ℕ}
 
 -- for each block those that it leads to, and those that lead to it, beside the branches by which they do
 pub record Graph : Type 0 where
@@ -45,6 +45,16 @@ without_edge g from to = record {
 abbrev pub redirected : Graph → ℕ × ℕ → ℕ × ℕ → Option ℕ → Graph
 redirected g old new None = g
 redirected g old new (Some branch) = without_edge (with_edge g new.0 branch new.1) old.0 old.1
+
+-- with the edges from a block to each of the first n led over to another block
+abbrev pub led_over : Graph → ℕ → ℕ → ℕ → Graph
+led_over g block tail zero = g
+led_over g block tail (suc n) =
+    redirected (led_over g block tail n) (block, n) (tail, n) (branch_of (led_over g block tail n) block n)
+
+-- with a block split: all its edges are those of its tail, and a branch leads there
+abbrev pub split_in : Graph → ℕ → ℕ → ℕ → Graph
+split_in g block branch tail = with_edge (led_over g block tail (blocks g)) block branch tail
 
 -- what handles mean
 abbrev pub lists_of : {X : Type 0} → Forest ℕ X → List (Option ℕ) → List (List (ℕ × X))

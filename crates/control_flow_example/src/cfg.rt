@@ -1,5 +1,5 @@
 //! The control flow graph: for each block a set of those that it leads to, and a map of those that lead to it.
-ghost use Rattle.control_flow_example.specs.Graphs.{IsMirrored, blocks, branch_of, redirected, with_edge, without_edge};
+ghost use Rattle.control_flow_example.specs.Graphs.{IsMirrored, blocks, branch_of, redirected, split_in, with_edge, without_edge};
 ghost use Rattle.std.specs.Option.{is_some};
 ghost use Rattle.std.specs.Prelude.{IfOk, OnErr, OnOk, [], replicate, ◌<◌, ◌^◌, ◌≡◌};
 
@@ -117,11 +117,12 @@ impl Cfg {
         Ok(())
     }
 
-    /// Splits a block: its edges are led over to its tail, and a branch leads there.
+    /// Splits a block: its edges are led over to its tail, and a branch leads there. Refused, some edges may be led over already.
     pub(crate) fn split(&mut self, block: u32, branch: u32, tail: u32) -> Result<(), OutOfMemory>
         requires block { block < blocks self.old }
         requires tail { tail < blocks self.old }
         requires few { blocks self.old < 2 ^ 32 }
+        ensures split { OnOk result (self.new ≡ split_in self.old block branch tail) }
         ensures same_blocks { blocks self.new ≡ blocks self.old }
     {
         for to in 0..self.blocks() as u32 {
