@@ -1,0 +1,3 @@
+pub mod Cuts
+pub mod Edges
+pub mod Keeping
