@@ -99,7 +99,7 @@ impl Cfg {
         self.predecessors[to as usize].remove(from, &mut self.sources, &());
     }
 
-    /// Leads the branch of an edge elsewhere: the new edge has it then, and the old one is gone.
+    /// Leads the branch of an edge elsewhere: the new edge, which is another one, has it then, and the old one is gone.
     pub(crate) fn redirect(&mut self, old: (u32, u32), new: (u32, u32)) -> Result<(), OutOfMemory>
         requires old_from { old.0 < blocks self.old }
         requires old_to { old.1 < blocks self.old }
@@ -117,7 +117,7 @@ impl Cfg {
         Ok(())
     }
 
-    /// Splits a block: its edges are led over to its tail, and a branch leads there. Refused, some edges may be led over already.
+    /// Splits a block: its edges are led over to its tail, another block, and a branch leads there. Refused, some edges may be led over already.
     pub(crate) fn split(&mut self, block: u32, branch: u32, tail: u32) -> Result<(), OutOfMemory>
         requires block { block < blocks self.old }
         requires tail { tail < blocks self.old }
