@@ -74,7 +74,8 @@ impl Sets {
 
     /// The levels of a handle's tree, and the counts of the table.
     fn stat(&self, alloc: Global, h: usize) -> Result<String, AllocError>
-        ensures { IfOk result (λ text. Tells 15 false set_text self.now (Stat h) (string_bytes text) self.now) }
+        ensures { IfOk result
+            (λ text. Tells 15 false set_text self.now (Stat h) (string_bytes text) self.now) }
     {
         let set = self.handle(h);
         if !self.forest.holds(&set) {
