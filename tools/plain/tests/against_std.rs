@@ -1,4 +1,4 @@
-//! Random calls on maps and sets, cursors, ranges and iterators beside `BTreeMap`, under four orders and some limits; and the counts of slots and
+//! Random calls on maps and sets, cursors, ranges and iterators beside `BTreeMap`, under five orders and some limits; and the counts of slots and
 //! of levels beside what their definitions say. `BFOREST_CALLS` is how many calls are made.
 
 use bforest::{Comparator, Map, MapForest, OutOfMemory, Set, SetCursor, SetForest};
@@ -24,6 +24,12 @@ pub struct Tens;
 /// The order of the keys, with the searches that a comparator has if it names none.
 pub struct Plain;
 
+/// The order of the keys, which searches a node from its front.
+pub struct FromFront;
+
+/// How many orders there are, with that of the keys themselves.
+const ORDERS: u32 = 5;
+
 impl Comparator<u32> for Down {
     fn cmp(&self, a: u32, b: u32) -> Ordering {
         Reverse(a).cmp(&Reverse(b))
@@ -39,6 +45,23 @@ impl Comparator<u32> for Tens {
 impl Comparator<u32> for Plain {
     fn cmp(&self, a: u32, b: u32) -> Ordering {
         a.cmp(&b)
+    }
+}
+
+impl Comparator<u32> for FromFront {
+    fn cmp(&self, a: u32, b: u32) -> Ordering {
+        a.cmp(&b)
+    }
+
+    fn search(&self, k: u32, s: &[u32]) -> Result<usize, usize> {
+        for (at, key) in s.iter().enumerate() {
+            match self.cmp(*key, k) {
+                Ordering::Less => {}
+                Ordering::Equal => return Ok(at),
+                Ordering::Greater => return Err(at),
+            }
+        }
+        Err(s.len())
     }
 }
 
@@ -61,6 +84,12 @@ impl Order for Tens {
 }
 
 impl Order for Plain {
+    fn rank(&self, key: u32) -> i64 {
+        key.into()
+    }
+}
+
+impl Order for FromFront {
     fn rank(&self, key: u32) -> i64 {
         key.into()
     }
@@ -722,7 +751,7 @@ fn run<C: Order>(order: &C) {
     for is_map in [true, false] {
         for (limit, keys, losses) in limited {
             let draw = Draw { limit, keys, losses, is_map };
-            let calls = all.div_ceil(4 * 2 * limited.len() as u32);
+            let calls = all.div_ceil(ORDERS * 2 * limited.len() as u32);
             let mut model = Model::new(order, is_map, limit);
             let is_same = |_: &Call, answer: &[Answer], wanted: &[Answer]| answer == wanted;
             if is_map {
@@ -746,6 +775,11 @@ fn of_the_keys() {
 #[test]
 fn of_a_comparator() {
     run(&Plain);
+}
+
+#[test]
+fn searched_from_the_front() {
+    run(&FromFront);
 }
 
 #[test]
