@@ -1,0 +1,54 @@
+//! Insertions by a writing cursor into a map and into a set that grow to three levels, beside another tree of the forest; and nodes that are
+//! taken ahead. A request for memory may be refused: nothing changes then, but that the cursor stands where `goto` of the key goes, and the
+//! same call succeeds when it is made again. `tools/refuse_each` runs it with each request for memory refused in turn.
+#![tactic(auto)]
+
+mod maps;
+mod sets;
+
+use bforest::{MapForest, OutOfMemory, SetForest};
+use std::io;
+
+/// What the run saw so far.
+#[derive(Clone, Copy)]
+struct Seen {
+    refused: u32,
+    is_right: bool,
+}
+
+impl Seen {
+    /// Notes whether something was as it has to be.
+    fn note(&mut self, is_right: bool) {
+        self.is_right = self.is_right && is_right;
+    }
+
+    /// Notes a refusal, which has to be for want of memory and to change nothing.
+    fn refuse(&mut self, error: OutOfMemory, is_same: bool) {
+        self.refused = self.refused.saturating_add(1);
+        self.note(error == OutOfMemory::Memory && is_same);
+    }
+}
+
+fn main(rt: HostRuntime) -> io::Result<()> {
+    let mut seen = Seen {
+        refused: 0,
+        is_right: true,
+    };
+    let mut forest = MapForest::new(rt.alloc());
+    let mut ahead = MapForest::new(rt.alloc());
+    maps::grow(&mut forest, &mut seen);
+    maps::grow_ahead(&mut ahead, &mut seen);
+    let mut set_forest = SetForest::new(rt.alloc());
+    let mut set_ahead = SetForest::new(rt.alloc());
+    sets::grow(&mut set_forest, &mut seen);
+    sets::grow_ahead(&mut set_ahead, &mut seen);
+    println!(rt;
+        "refused {} right {} slots {} and {} of maps, {} and {} of sets",
+        seen.refused,
+        seen.is_right,
+        forest.slots(),
+        ahead.slots(),
+        set_forest.slots(),
+        set_ahead.slots()
+    )
+}

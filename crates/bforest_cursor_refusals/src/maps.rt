@@ -1,0 +1,110 @@
+//! Maps.
+
+use crate::Seen;
+use bforest::{Map, MapForest, OutOfMemory};
+
+/// How many entries a map gets: one more than two levels hold, put in in order.
+const ENTRIES: u32 = 36;
+
+/// How many nodes they take.
+const NODES: u32 = 12;
+
+/// Grows a map by a cursor, beside another one.
+pub(crate) fn grow(forest: &mut MapForest<u32, u32>, seen: &mut Seen) {
+    let nothing = Map::new();
+    let mut other = Map::new();
+    put(&mut other, 7, forest, &nothing, seen);
+    let mut map = Map::new();
+    for key in 1..=ENTRIES {
+        put(&mut map, key, forest, &other, seen);
+    }
+    seen.note(forest.free_slots() == 0);
+}
+
+/// Takes the nodes ahead: then no insertion is refused.
+pub(crate) fn grow_ahead(forest: &mut MapForest<u32, u32>, seen: &mut Seen) {
+    if let Err(error) = forest.reserve_nodes(NODES) {
+        seen.refuse(error, forest.slots() == 0 && forest.free_slots() == 0);
+        seen.note(forest.reserve_nodes(NODES).is_ok());
+    }
+    let mut map = Map::new();
+    for key in 1..=ENTRIES {
+        let put = put_once(&mut map, key, forest);
+        seen.note(put == Some((Ok(None), Some(key))));
+    }
+}
+
+// Puts an absent key in, once more where it was refused.
+fn put(
+    map: &mut Map<u32, u32>,
+    key: u32,
+    forest: &mut MapForest<u32, u32>,
+    other: &Map<u32, u32>,
+    seen: &mut Seen,
+) {
+    let before = state(map, other, forest);
+    let place = key_from(map, key, forest);
+    match put_once(map, key, forest) {
+        Some((Err(error), at)) => {
+            seen.refuse(error, at == place && state(map, other, forest) == before);
+            let again = put_once(map, key, forest);
+            seen.note(again == Some((Ok(None), Some(key))));
+        }
+        put => seen.note(put == Some((Ok(None), Some(key)))),
+    }
+    seen.note(digest(other, forest) == before.1);
+}
+
+// An insertion by a cursor where its conditions hold, and the key where the cursor stands then.
+fn put_once(
+    map: &mut Map<u32, u32>,
+    key: u32,
+    forest: &mut MapForest<u32, u32>,
+) -> Option<(Result<Option<u32>, OutOfMemory>, Option<u32>)> {
+    if !forest.holds(map) || !map.increases(forest, &()) {
+        return None;
+    }
+    let mut cursor = map.cursor_mut(forest, &());
+    let put = cursor.try_insert(key, key);
+    Some((put, cursor.key()))
+}
+
+// The first key that is not less.
+fn key_from(map: &Map<u32, u32>, key: u32, forest: &MapForest<u32, u32>) -> Option<u32> {
+    if !forest.holds(map) || !map.increases(forest, &()) {
+        return None;
+    }
+    let mut cursor = map.cursor(forest, &());
+    cursor.goto(key);
+    cursor.key()
+}
+
+// What has to stay where an insertion is refused.
+fn state(
+    map: &Map<u32, u32>,
+    other: &Map<u32, u32>,
+    forest: &MapForest<u32, u32>,
+) -> (u32, u32, u32, u32) {
+    (
+        digest(map, forest),
+        digest(other, forest),
+        forest.slots(),
+        forest.free_slots(),
+    )
+}
+
+// A number that stands for the entries of a map.
+fn digest(map: &Map<u32, u32>, forest: &MapForest<u32, u32>) -> u32 {
+    if !forest.holds(map) {
+        return 0;
+    }
+    let mut digest = 1u32;
+    for (key, value) in map.iter(forest) {
+        digest = digest
+            .wrapping_mul(31)
+            .wrapping_add(key)
+            .wrapping_mul(31)
+            .wrapping_add(value);
+    }
+    digest
+}

@@ -1,0 +1,102 @@
+//! Sets.
+
+use crate::Seen;
+use bforest::{OutOfMemory, Set, SetForest};
+use std::ops::Bound;
+
+/// How many keys a set gets: one leaf more than an inner node has children, put in in order.
+const KEYS: u32 = 72;
+
+/// How many nodes they take.
+const NODES: u32 = 12;
+
+/// Grows a set by a cursor, beside another one.
+pub(crate) fn grow(forest: &mut SetForest<u32>, seen: &mut Seen) {
+    let nothing = Set::new();
+    let mut other = Set::new();
+    put(&mut other, 7, forest, &nothing, seen);
+    let mut set = Set::new();
+    for key in 1..=KEYS {
+        put(&mut set, key, forest, &other, seen);
+    }
+    seen.note(forest.free_slots() == 0);
+}
+
+/// Takes the nodes ahead: then no insertion is refused.
+pub(crate) fn grow_ahead(forest: &mut SetForest<u32>, seen: &mut Seen) {
+    if let Err(error) = forest.reserve_nodes(NODES) {
+        seen.refuse(error, forest.slots() == 0 && forest.free_slots() == 0);
+        seen.note(forest.reserve_nodes(NODES).is_ok());
+    }
+    let mut set = Set::new();
+    for key in 1..=KEYS {
+        let put = put_once(&mut set, key, forest);
+        seen.note(put == Some((Ok(true), Some(key))));
+    }
+}
+
+// Puts an absent key in, once more where it was refused.
+fn put(
+    set: &mut Set<u32>,
+    key: u32,
+    forest: &mut SetForest<u32>,
+    other: &Set<u32>,
+    seen: &mut Seen,
+) {
+    let before = state(set, other, forest);
+    let place = key_from(set, key, forest);
+    match put_once(set, key, forest) {
+        Some((Err(error), at)) => {
+            seen.refuse(error, at == place && state(set, other, forest) == before);
+            let again = put_once(set, key, forest);
+            seen.note(again == Some((Ok(true), Some(key))));
+        }
+        put => seen.note(put == Some((Ok(true), Some(key)))),
+    }
+    seen.note(digest(other, forest) == before.1);
+}
+
+// An insertion by a cursor where its conditions hold, and the key where the cursor stands then.
+fn put_once(
+    set: &mut Set<u32>,
+    key: u32,
+    forest: &mut SetForest<u32>,
+) -> Option<(Result<bool, OutOfMemory>, Option<u32>)> {
+    if !forest.holds(set) || !set.increases(forest, &()) {
+        return None;
+    }
+    let mut cursor = set.cursor(forest, &());
+    let put = cursor.try_insert(key);
+    Some((put, cursor.elem()))
+}
+
+// The first key that is not less.
+fn key_from(set: &Set<u32>, key: u32, forest: &SetForest<u32>) -> Option<u32> {
+    if !forest.holds(set) || !set.increases(forest, &()) {
+        return None;
+    }
+    set.range((Bound::Included(key), Bound::Unbounded), forest, &())
+        .next()
+}
+
+// What has to stay where an insertion is refused.
+fn state(set: &Set<u32>, other: &Set<u32>, forest: &SetForest<u32>) -> (u32, u32, u32, u32) {
+    (
+        digest(set, forest),
+        digest(other, forest),
+        forest.slots(),
+        forest.free_slots(),
+    )
+}
+
+// A number that stands for the keys of a set.
+fn digest(set: &Set<u32>, forest: &SetForest<u32>) -> u32 {
+    if !forest.holds(set) {
+        return 0;
+    }
+    let mut digest = 1u32;
+    for key in set.iter(forest) {
+        digest = digest.wrapping_mul(31).wrapping_add(key);
+    }
+    digest
+}
