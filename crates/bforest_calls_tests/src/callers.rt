@@ -7,6 +7,7 @@ use bforest_calls::{Answer, Call, run_map, run_set};
 use std::alloc::{AllocError, Global};
 
 pub mod beside;
+pub mod exchanged;
 
 /// Makes the first calls, then the second ones, on maps.
 pub fn run_both<K: Copy, V: Copy, C: Comparator<K>>(
