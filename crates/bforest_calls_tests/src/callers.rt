@@ -8,6 +8,7 @@ use std::alloc::{AllocError, Global};
 
 pub mod beside;
 pub mod exchanged;
+pub mod twice;
 
 /// Makes the first calls, then the second ones, on maps.
 pub fn run_both<K: Copy, V: Copy, C: Comparator<K>>(
