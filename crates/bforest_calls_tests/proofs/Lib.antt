@@ -1,1 +1,7 @@
+pub mod Aliases
+pub mod Changes
+pub mod Determined
+pub mod Exchange
 pub mod Joined
+pub mod Resembling
+pub mod Sparing

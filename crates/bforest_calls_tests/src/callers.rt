@@ -6,6 +6,10 @@ use bforest::{Comparator, Map, MapForest, Set, SetForest};
 use bforest_calls::{Answer, Call, run_map, run_set};
 use std::alloc::{AllocError, Global};
 
+pub mod beside;
+pub mod exchanged;
+pub mod twice;
+
 /// Makes the first calls, then the second ones, on maps.
 pub fn run_both<K: Copy, V: Copy, C: Comparator<K>>(
     alloc: Global,

@@ -3,4 +3,7 @@
 
 mod callers;
 
+pub use callers::beside::{run_beside, run_beside_sets};
+pub use callers::exchanged::{run_either, run_either_sets};
+pub use callers::twice::{run_twice, run_twice_sets};
 pub use callers::{run_both, run_both_sets};

@@ -1,0 +1,168 @@
+-- A run with two handles exchanged.
+use Rattle.bforest.specs.Calls.{Clears, Inserts, Removes}
+use Rattle.bforest.specs.Forest.{IsLive, list_of}
+use Rattle.bforest.specs.Bounds.{entries_between, entry_at_most}
+use Rattle.bforest_calls.specs.Looks.{all_taken, sights_of}
+use Rattle.bforest_calls.specs.Machine.{Compares, Lacks, Names, NamesBoth, Offered, On, Orders, Refuses, Run, State, Step, Tests, list_in, number_at, order_at}
+use Rattle.bforest_calls.specs.State.{Edits, Held, Retained}
+use Rattle.bforest_calls.specs.declared.call.Answer.TheVariants as answer
+use Rattle.bforest_calls.specs.declared.call.Answer.{Answer}
+use Rattle.bforest_calls.specs.declared.call.Call.TheVariants as call
+use Rattle.bforest_calls.specs.declared.call.Call.{Call}
+use Rattle.bforest_calls_tests.proofs.Exchange.{at-exchange, exchange-within, swap-aliases, swap-set, within-exchange}
+use Rattle.bforest_calls_tests.proofs.Sparing.{lacking, offered}
+use Rattle.bforest_calls_tests.specs.Exchange.{AreAliases, exchange, exchanged}
+use Rattle.bforest_nodes.specs.Entries.{IsIncreasing, value_for}
+use Rattle.std.proofs.Common.{Bool, List, None, Option, [], ap, false, inl, inr, length, map, refl, subst, sym, true, ◌<◌, ◌∙◌, ◌∷◌, ◌≡◌, ℕ}
+use Rattle.std.proofs.lemmas.List.{length-set}
+use Rattle.std.specs.Prelude.{slice_set, swap}
+
+-- a call that is offered or not
+offered-too : (reads : Bool) (Made Lacking Made' Lacking' : Type 0) → (Made → Made') → (Lacking → Lacking') → Offered reads Made Lacking → Offered reads Made' Lacking'
+offered-too true Made Lacking Made' Lacking' made lacks o = made o
+offered-too false Made Lacking Made' Lacking' made lacks o = lacks o
+
+module _ {K V : Type 0} where
+  -- a refusal, where the same is there
+  refused-too : (there there' : Type 0) (L O : Option ℕ → Type 0) (n n' : Option ℕ) (given : Answer K V) → n' ≡ n → (there → there') → (there' → there)
+      → Refuses there (L n) (O n) given → Refuses there' (L n') (O n') given
+  refused-too there there' L O n n' answer.NoIndex e to back r = λ t. r (back t)
+  refused-too there there' L O n n' answer.Dead e to back r = (to r.0, λ l. r.1 (subst L e l))
+  refused-too there there' L O n n' answer.Unordered e to back r = (to r.0, subst L (sym e) r.1, λ o. r.2 (subst O e o))
+  refused-too there there' L O n n' given e to back r = absurd r
+
+  -- tests of one number, where the same is there
+  tested-too : (there there' : Type 0) (L O : Option ℕ → Type 0) (n n' : Option ℕ) (old new old' new' : State K V) (given : Answer K V) (Made Made' : Type 0)
+      → n' ≡ n → (there → there') → (there' → there) → (new ≡ old → new' ≡ old') → (there → Made → Made')
+      → Tests there (L n) (O n) old given new Made → Tests there' (L n') (O n') old' given new' Made'
+  tested-too there there' L O n n' old new old' new' given Made Made' e to back stays made (inl r) = inl (refused-too there there' L O n n' given e to back r.0, stays r.1)
+  tested-too there there' L O n n' old new old' new' given Made Made' e to back stays made (inr r) = inr (to r.0, subst L (sym e) r.1, subst O (sym e) r.2, made r.0 r.3)
+
+  lacks-too : (there there' : Type 0) (old new old' new' : State K V) (given : Answer K V) → (there → there') → (there' → there) → (new ≡ old → new' ≡ old')
+      → Lacks there old given new → Lacks there' old' given new'
+  lacks-too there there' old new old' new' answer.NoIndex to back stays l = (λ t. l.0 (back t), stays l.1)
+  lacks-too there there' old new old' new' answer.NotOffered to back stays l = (to l.0, stays l.1)
+  lacks-too there there' old new old' new' given to back stays l = absurd l
+
+  -- a state with two handles exchanged
+  abbrev turned : ℕ → ℕ → State K V → State K V
+  turned i j state = record state { handles = swap state.handles i j }
+
+  module _ (i j : ℕ) (old new : State K V) (within : i < length old.handles) (within' : j < length old.handles) where
+    number : (h : ℕ) → number_at (turned i j old) (exchange i j h) ≡ number_at old h
+    number h = at-exchange old.handles i j within within' h
+
+    stays : new ≡ old → turned i j new ≡ turned i j old
+    stays e = ap (turned i j) e
+
+    -- a change of one handle is one of the exchanged handle
+    on-exchanged : (h : ℕ) (R : Held K V → Held K V → Type 0) → h < length old.handles → On h old new R → On (exchange i j h) (turned i j old) (turned i j new) R
+    on-exchanged h R w on = (
+      on.0,
+      ap (λ hs. swap hs i j) on.1 ∙ swap-set old.handles i j within within' h on.0 w,
+      subst (λ (n : Option ℕ). R (record { forest = old.forest; number = n }) (record { forest = new.forest; number = on.0 })) (sym (number h)) on.2,
+    )
+
+    -- what is there
+    here : (h : ℕ) → h < length old.handles → exchange i j h < length (swap old.handles i j)
+    here h = exchange-within old.handles i j within within' h
+
+    back : (h : ℕ) → exchange i j h < length (swap old.handles i j) → h < length old.handles
+    back h = within-exchange old.handles i j within within' h
+
+    -- an answer that is told by the list
+    told : {A : Type 0} (given : A) (h : ℕ) (F : List (K × V) → A) → given ≡ F (list_in old h) → given ≡ F (list_in (turned i j old) (exchange i j h))
+    told given h F e = e ∙ ap (λ (n : Option ℕ). F (list_of old.forest n)) (sym (number h))
+
+    module _ (orders : Orders K) (given : Answer K V) where
+      names-too : (h : ℕ) (Made Made' : Type 0) → (h < length old.handles → Made → Made') → Names h old given new Made → Names (exchange i j h) (turned i j old) given (turned i j new) Made'
+      names-too h Made Made' made s =
+          tested-too (h < length old.handles) (exchange i j h < length (swap old.handles i j)) (λ n. IsLive old.forest n) (λ n. Unit {0}) (number_at old h) (number_at (turned i j old) (exchange i j h))
+          old new (turned i j old) (turned i j new) given Made Made' (number h) (here h) (back h) stays made s
+
+      names-both-too : (h c : ℕ) (Made Made' : Type 0) → (h < length old.handles → Made → Made') → NamesBoth orders h c old given new Made
+          → NamesBoth orders (exchange i j h) c (turned i j old) given (turned i j new) Made'
+      names-both-too h c Made Made' made s =
+          tested-too ((h < length old.handles) × (c < length orders)) ((exchange i j h < length (swap old.handles i j)) × (c < length orders)) (λ n. IsLive old.forest n) (λ n. Unit {0})
+          (number_at old h) (number_at (turned i j old) (exchange i j h)) old new (turned i j old) (turned i j new) given Made Made' (number h)
+          (λ t. (here h t.0, t.1)) (λ t. (back h t.0, t.1)) stays (λ t m. made t.0 m) s
+
+      compares-too : (h c : ℕ) (Made Made' : Type 0) → (h < length old.handles → Made → Made') → Compares orders h c old given new Made
+          → Compares orders (exchange i j h) c (turned i j old) given (turned i j new) Made'
+      compares-too h c Made Made' made s =
+          tested-too ((h < length old.handles) × (c < length orders)) ((exchange i j h < length (swap old.handles i j)) × (c < length orders)) (λ n. IsLive old.forest n)
+          (λ n. IsIncreasing (order_at orders c) (list_of old.forest n))
+          (number_at old h) (number_at (turned i j old) (exchange i j h)) old new (turned i j old) (turned i j new) given Made Made' (number h)
+          (λ t. (here h t.0, t.1)) (λ t. (back h t.0, t.1)) stays (λ t m. made t.0 m) s
+
+    module _ (most : ℕ) (reads : Bool) (orders : Orders K) where
+      step-exchanged : (call : Call K V) (given : Answer K V) → Step most reads orders old call given new → Step most reads orders (turned i j old) (exchanged i j call) given (turned i j new)
+      step-exchanged (call.Get h c k) given s = compares-too orders given h c _ _ (λ t m. (told given h (λ es. answer.Value (value_for (order_at orders c) es k)) m.0, stays m.1)) s
+      step-exchanged (call.GetOrLess h c k) given s = compares-too orders given h c _ _ (λ t m. (told given h (λ es. answer.Pair (entry_at_most (order_at orders c) es k)) m.0, stays m.1)) s
+      step-exchanged (call.Insert h c k v) given s = compares-too orders given h c _ _ (λ t m. (m.0, m.1, on-exchanged h (λ held after. Inserts most (order_at orders c) held.forest held.number k v m.0 after.forest after.number) t m.2)) s
+      step-exchanged (call.Remove h c k) given s = compares-too orders given h c _ _ (λ t m. (m.0, m.1, on-exchanged h (λ held after. Removes most (order_at orders c) held.forest held.number k m.0 after.forest after.number) t m.2)) s
+      step-exchanged (call.Clear h) given s = names-too orders given h _ _ (λ t m. (m.0, on-exchanged h (λ held after. Clears held.forest held.number after.forest after.number) t m.1)) s
+      step-exchanged (call.Iter h) given s = names-too orders given h _ _ (λ t m. (m.0, m.1, told m.0.items h (λ es. es) m.2, stays m.3)) s
+      step-exchanged (call.Read h c steps) given s = offered-too reads _ _ _ _
+          (compares-too orders given h c _ _ (λ t m. ((m.0.0, m.0.1, told m.0.0.items h (λ es. sights_of (order_at orders c) es (length es) steps.items) m.0.2), stays m.1)))
+          (lacks-too ((h < length old.handles) × (c < length orders)) ((exchange i j h < length (swap old.handles i j)) × (c < length orders)) old new (turned i j old) (turned i j new) given
+          (λ t. (here h t.0, t.1)) (λ t. (back h t.0, t.1)) stays) s
+      step-exchanged (call.Edit h c steps) given s = compares-too orders given h c _ _ (λ t m. (m.0, m.1, on-exchanged h (Edits most (order_at orders c) steps.items m.0.items) t m.2)) s
+      step-exchanged (call.Range h c lo hi ends) given s = compares-too orders given h c _ _
+          (λ t m. ((m.0.0, m.0.1, told m.0.0.items h (λ es. all_taken (entries_between (order_at orders c) lo hi es) ends.items) m.0.2), stays m.1)) s
+      step-exchanged (call.Retain h c keys put) given s = names-both-too orders given h c _ _ (λ t m. (m.0, on-exchanged h (Retained most (order_at orders c) keys.items put) t m.1)) s
+      step-exchanged (call.Alias from to) given s =
+          tested-too ((from < length old.handles) × (to < length old.handles)) ((exchange i j from < length (swap old.handles i j)) × (exchange i j to < length (swap old.handles i j)))
+          (λ n. Unit {0}) (λ n. Unit {0}) None None old new (turned i j old) (turned i j new) given _ _ refl (λ t. (here from t.0, here to t.1)) (λ t. (back from t.0, back to t.1)) stays
+          (λ t m. (
+            m.0,
+            ap (turned i j) m.1 ∙ (λ z. record old {
+              handles = (swap-set old.handles i j within within' to (number_at old from) t.1 ∙ ap (slice_set (swap old.handles i j) (exchange i j to)) (sym (number from))) z;
+            }),
+          )) s
+      step-exchanged call.ForestClear given s = (s.0, ap (turned i j) s.1)
+
+  module _ (most : ℕ) (reads : Bool) (orders : Orders K) where
+    kept : (old new : State K V) → new ≡ old → length new.handles ≡ length old.handles
+    kept old new e = ap (λ (s : State K V). length s.handles) e
+
+    wrote : (old new : State K V) (h : ℕ) (n : Option ℕ) → new.handles ≡ slice_set old.handles h n → length new.handles ≡ length old.handles
+    wrote old new h n e = ap (λ (hs : List (Option ℕ)). length hs) e ∙ length-set old.handles h n
+
+    -- a step leaves as many handles
+    as-many : (old : State K V) (call : Call K V) (given : Answer K V) (new : State K V) → Step most reads orders old call given new → length new.handles ≡ length old.handles
+    as-many old (call.Get h c k) given new s = elim s [ inl r ↦ kept old new r.1 | inr r ↦ kept old new r.3.1 ]
+    as-many old (call.GetOrLess h c k) given new s = elim s [ inl r ↦ kept old new r.1 | inr r ↦ kept old new r.3.1 ]
+    as-many old (call.Insert h c k v) given new s = elim s [ inl r ↦ kept old new r.1 | inr r ↦ wrote old new h r.3.2.0 r.3.2.1 ]
+    as-many old (call.Remove h c k) given new s = elim s [ inl r ↦ kept old new r.1 | inr r ↦ wrote old new h r.3.2.0 r.3.2.1 ]
+    as-many old (call.Clear h) given new s = elim s [ inl r ↦ kept old new r.1 | inr r ↦ wrote old new h r.3.1.0 r.3.1.1 ]
+    as-many old (call.Iter h) given new s = elim s [ inl r ↦ kept old new r.1 | inr r ↦ kept old new r.3.3 ]
+    as-many old (call.Read h c steps) given new s =
+        offered reads (λ t. elim t [ inl r ↦ kept old new r.1 | inr r ↦ kept old new r.3.1 ]) (λ l. kept old new (lacking _ old given new l)) s
+    as-many old (call.Edit h c steps) given new s = elim s [ inl r ↦ kept old new r.1 | inr r ↦ wrote old new h r.3.2.0 r.3.2.1 ]
+    as-many old (call.Range h c lo hi ends) given new s = elim s [ inl r ↦ kept old new r.1 | inr r ↦ kept old new r.3.1 ]
+    as-many old (call.Retain h c keys put) given new s = elim s [ inl r ↦ kept old new r.1 | inr r ↦ wrote old new h r.3.1.0 r.3.1.1 ]
+    as-many old (call.Alias from to) given new s = elim s [
+      | inl r ↦ kept old new r.1
+      | inr r ↦ wrote old new to (number_at old from) (ap (λ (t : State K V). t.handles) r.3.1)
+    ]
+    as-many old call.ForestClear given new s = ap (λ (t : State K V). length t.handles) s.1
+
+    run-exchanged : (i j : ℕ) (old : State K V) (calls : List (Call K V)) (answers : List (Answer K V)) (new : State K V) → i < length old.handles → j < length old.handles
+        → Run most reads orders old calls answers new → Run most reads orders (turned i j old) (map (exchanged i j) calls) answers (turned i j new)
+    run-exchanged i j old [] [] new within within' r = ap (turned i j) r
+    run-exchanged i j old (call ∷ calls) (given ∷ answers) new within within' r =
+        let many = as-many old call given r.0 r.1 in (
+          turned i j r.0,
+          step-exchanged i j old r.0 within within' most reads orders call given r.1,
+          run-exchanged i j r.0 calls answers new (subst (λ n. i < n) (sym many) within) (subst (λ n. j < n) (sym many) within') r.2,
+        )
+    run-exchanged i j old [] (given ∷ answers) new within within' r = absurd r
+    run-exchanged i j old (call ∷ calls) [] new within within' r = absurd r
+
+    -- a run in which two aliases are exchanged
+    pub run-aliases : (old : State K V) (calls : List (Call K V)) (answers : List (Answer K V)) (new : State K V) → Run most reads orders old calls answers new
+        → (i j : ℕ) → AreAliases old.handles i j → Run most reads orders old (map (exchanged i j) calls) answers (turned i j new)
+    run-aliases old calls answers new r i j a =
+        subst (λ (hs : List (Option ℕ)). Run most reads orders (record old { handles = hs }) (map (exchanged i j) calls) answers (turned i j new)) (swap-aliases old.handles i j a.0 a.1 a.2)
+        (run-exchanged i j old calls answers new a.0 a.1 r)

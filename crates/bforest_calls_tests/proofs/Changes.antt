@@ -1,0 +1,55 @@
+-- Each call that changes a tree is one change of it, so that every other number keeps its list.
+use Rattle.bforest.proofs.Becoming.{becomes-both}
+use Rattle.bforest.specs.Calls.{Inserts}
+use Rattle.bforest.specs.Forest.{Becomes, Forest, IsLive, list_of}
+use Rattle.bforest_calls.proofs.Indexed.{becomes_same}
+use Rattle.bforest_calls.specs.State.{Acts, Held, Script, entries}
+use Rattle.bforest_calls.specs.declared.call.Act.TheVariants as act
+use Rattle.bforest_calls.specs.declared.call.Act.{Act}
+use Rattle.bforest_calls.specs.declared.call.Seen.{Seen}
+use Rattle.bforest_core.specs.declared.pool.OutOfMemory.{OutOfMemory}
+use Rattle.std.proofs.Common.{Err, List, Ok, Option, Result, [], ap, refl, subst, sym, ◌∷◌, ◌≡◌, ℕ}
+use Rattle.std.specs.declared.cmp.Ordering.{Ordering}
+
+module _ {K V : Type 0} where
+  -- what a change makes of the handle's tree
+  retold : (f f' : Forest K V) (h h' : Option ℕ) (es : List (K × V)) → Becomes f h f' h' es → Becomes f h f' h' (list_of f' h')
+  retold f f' h h' es b = subst (λ (xs : List (K × V)). Becomes f h f' h' xs) (sym b.list) b
+
+  -- no change is one
+  stayed : (f f' : Forest K V) (h h' : Option ℕ) → IsLive f h → f' ≡ f → h' ≡ h → Becomes f h f' h' (list_of f' h')
+  stayed f f' h h' live same still =
+      subst (λ (g : Forest K V). Becomes f h g h' (list_of g h')) (sym same)
+      (subst (λ (q : Option ℕ). Becomes f h f q (list_of f q)) (sym still) (becomes_same f h (list_of f h) live refl))
+
+  module _ (most : ℕ) (order : K → K → Ordering) where
+    pub inserted : (f : Forest K V) (h : Option ℕ) (k : K) (x : V) (result : Result (Option V) OutOfMemory) (f' : Forest K V) (h' : Option ℕ)
+        → IsLive f h → Inserts most order f h k x result f' h' → Becomes f h f' h' (list_of f' h')
+    inserted f h k x (Ok a) f' h' live i = retold f f' h h' _ i.put
+    inserted f h k x (Err e) f' h' live i = stayed f f' h h' live i.refused_forest i.refused_handle
+
+    looked : (old new : Held K V) → IsLive old.forest old.number → new ≡ old → Becomes old.forest old.number new.forest new.number (entries new)
+    looked old new live same = stayed old.forest new.forest old.number new.number live (ap (λ (held : Held K V). held.forest) same) (ap (λ (held : Held K V). held.number) same)
+
+    acted : (old : Held K V) (p : ℕ) (step : Act K V) (sight : Seen K V) (new : Held K V) (q : ℕ)
+        → IsLive old.forest old.number → Acts most order old p step sight new q → Becomes old.forest old.number new.forest new.number (entries new)
+    acted old p act.Empty sight new q live a = looked old new live a.1
+    acted old p act.Next sight new q live a = looked old new live a.1
+    acted old p act.Prev sight new q live a = looked old new live a.1
+    acted old p act.Key sight new q live a = looked old new live a.1
+    acted old p act.Value sight new q live a = looked old new live a.1
+    acted old p (act.Goto k) sight new q live a = looked old new live a.1
+    acted old p act.First sight new q live a = looked old new live a.1
+    acted old p (act.Put k v) sight new q live a = inserted old.forest old.number k v a.0 new.forest new.number live a.2
+    acted old p (act.Write v) sight new q live a = retold old.forest new.forest old.number new.number _ a.1.becomes
+    acted old p act.Remove sight new q live a = retold old.forest new.forest old.number new.number _ a.1.removed
+
+    -- all steps of a writing cursor are one change
+    pub scripted : (old : Held K V) (p : ℕ) (steps : List (Act K V)) (sights : List (Seen K V)) (new : Held K V) (q : ℕ)
+        → IsLive old.forest old.number → Script most order old p steps sights new q → Becomes old.forest old.number new.forest new.number (entries new)
+    scripted old p [] [] new q live s = looked old new live s.0
+    scripted old p (step ∷ steps) (sight ∷ sights) new q live s =
+        let first = acted old p step sight s.0 s.1 live s.2 in
+        becomes-both old.forest s.0.forest new.forest old.number s.0.number new.number _ _ first (scripted s.0 s.1 steps sights new q first.live s.3)
+    scripted old p [] (sight ∷ sights) new q live s = absurd s
+    scripted old p (step ∷ steps) [] new q live s = absurd s

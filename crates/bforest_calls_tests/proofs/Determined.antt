@@ -1,0 +1,317 @@
+-- Two runs of one list of calls that go in step.
+use Rattle.bforest.specs.Bounds.{entries_between, entry_at_most}
+use Rattle.bforest.specs.Forest.{Becomes, Forest, IsLive, empty, limit_of, list_at, list_of, sizes_at, sizes_of}
+use Rattle.bforest_calls.specs.Looks.{all_taken, sights_of}
+use Rattle.bforest_calls.specs.Machine.{Compares, Lacks, Offered, Orders, Refuses, Run, State, Step, Tests, order_at}
+use Rattle.bforest_calls.specs.State.{Held}
+use Rattle.bforest_calls.specs.declared.call.Answer.TheVariants as answer
+use Rattle.bforest_calls.specs.declared.call.Answer.{Answer}
+use Rattle.bforest_calls.specs.declared.call.Call.TheVariants as call
+use Rattle.bforest_calls.specs.declared.call.Call.{Call}
+use Rattle.bforest_calls_tests.proofs.Changes.{inserted, scripted}
+use Rattle.bforest_calls_tests.proofs.Resembling.{Resembles, clears-alike, inserts-alike, removes-alike, retains-alike, scripts-alike}
+use Rattle.bforest_calls_tests.specs.Determined.{AreAlike, AreDetermined, GoInStep, HadMemory, IsSameAnswer, RunsThrough}
+use Rattle.bforest_nodes.specs.Entries.{IsIncreasing, value_for}
+use Rattle.std.proofs.Common.{Bool, List, None, Option, Some, [], ap, false, get_or, inl, inr, length, refl, subst, sym, true, ◌<◌, ◌∙◌, ◌∷◌, ◌≡◌, ◌≢◌, ◌⊎◌, ℕ}
+use Rattle.std.proofs.lemmas.Bool.Decides.{eqb_tells}
+use Rattle.std.proofs.lemmas.List.Elements.{recursion_from_All}
+use Rattle.std.proofs.lemmas.List.{get_or-set_same}
+use Rattle.std.specs.List.{AllByRecursion, AllZip}
+use Rattle.std.specs.Prelude.{slice_set}
+use Rattle.std.specs.declared.cmp.Ordering.{Ordering}
+
+some-same : (n q : ℕ) → Some n ≡ Some q → n ≡ q
+some-same n q e = cc
+
+same-or-not : (n : ℕ) (h : Option ℕ) → (Some n ≡ h) ⊎ (Some n ≢ h)
+same-or-not n None = inr (λ e. cc)
+same-or-not n (Some q) = elim (eqb_tells n q) [ inl w ↦ inl (ap Some w.1) | inr w ↦ inr (λ e. w.1 (some-same n q e)) ]
+
+-- what each number has, where one handle h got number k in both: what k has is the same, h had no more where it is another, and the others stay
+at-alike : {L : Type 0} (one other one' other' : ℕ → L) (none : L) (h k : Option ℕ)
+    → ((n : ℕ) → other n ≡ one n)
+    → ((n : ℕ) → Some n ≢ h → Some n ≢ k → one' n ≡ one n) → ((n : ℕ) → Some n ≢ h → Some n ≢ k → other' n ≡ other n)
+    → ((n : ℕ) → Some n ≡ h → k ≢ h → one' n ≡ none) → ((n : ℕ) → Some n ≡ h → k ≢ h → other' n ≡ none)
+    → ((n : ℕ) → Some n ≡ k → other' n ≡ one' n) → (n : ℕ) → other' n ≡ one' n
+at-alike one other one' other' none h k alike stays stays' leaves leaves' is n = elim (same-or-not n k) [
+  | inl e ↦ is n e
+  | inr d ↦ elim (same-or-not n h) [
+    | inl e ↦ leaves' n e (λ x. d (e ∙ sym x)) ∙ sym (leaves n e (λ x. d (e ∙ sym x)))
+    | inr d' ↦ stays' n d' d ∙ alike n ∙ sym (stays n d' d)
+  ]
+]
+
+-- a call that is offered or not
+offered-alike : {P : Type 0} (reads : Bool) (Made Lacking Made' Lacking' : Type 0) → (Made → Made' → P) → (Lacking → Lacking' → P) → Offered reads Made Lacking → Offered reads Made' Lacking' → P
+offered-alike true Made Lacking Made' Lacking' made lacks o o' = made o o'
+offered-alike false Made Lacking Made' Lacking' made lacks o o' = lacks o o'
+
+-- the numbers that a handle got
+numbers-alike : (handles after after' : List (Option ℕ)) (h : ℕ) (number number' : Option ℕ) → h < length handles → after ≡ slice_set handles h number → after' ≡ slice_set handles h number' → after' ≡ after → number' ≡ number
+numbers-alike handles after after' h number number' within e e' same =
+    sym (get_or-set_same handles h number' None within) ∙ ap (λ xs. get_or xs h None) (sym e' ∙ same ∙ e) ∙ get_or-set_same handles h number None within
+
+module _ {K V : Type 0} where
+  list-alike : (f g : Forest K V) → ((n : ℕ) → list_at g n ≡ list_at f n) → (h : Option ℕ) → list_of g h ≡ list_of f h
+  list-alike f g lists None = refl
+  list-alike f g lists (Some n) = lists n
+
+  sizes-alike : (f g : Forest K V) → ((n : ℕ) → sizes_at g n ≡ sizes_at f n) → (h : Option ℕ) → sizes_of g h ≡ sizes_of f h
+  sizes-alike f g sizes None = refl
+  sizes-alike f g sizes (Some n) = sizes n
+
+  live-alike : (f g : Forest K V) → ((n : ℕ) → list_at g n ≡ list_at f n) → (h : Option ℕ) → IsLive f h → IsLive g h
+  live-alike f g lists None live = tt
+  live-alike f g lists (Some n) live = λ e. live (sym (lists n) ∙ e)
+
+  abbrev at : Forest K V → List (Option ℕ) → State K V
+  at f handles = record { forest = f; handles = handles }
+
+  abbrev held : Forest K V → Option ℕ → Held K V
+  held f number = record { forest = f; number = number }
+
+  held-alike : (f g : Forest K V) (handles : List (Option ℕ)) → AreAlike (at f handles) (at g handles) → (h : Option ℕ) → Resembles (held f h) (held g h)
+  held-alike f g handles a h = record {
+    list = list-alike f g a.lists h;
+    sizes = sizes-alike f g a.sizes h;
+    slots = a.slots;
+    free = a.free;
+    limit = a.limit;
+  }
+
+  alike-same : (one other one' other' : State K V) → AreAlike one other → one' ≡ one → other' ≡ other → AreAlike one' other'
+  alike-same one other one' other' a e e' = subst (λ (s : State K V). AreAlike s other') (sym e) (subst (λ (s : State K V). AreAlike one s) (sym e') a)
+
+  -- a change of one handle's tree in two states
+  changed-alike : (f g : Forest K V) (handles : List (Option ℕ)) → AreAlike (at f handles) (at g handles) → (one' other' : State K V) (h k : Option ℕ) (es es' : List (K × V))
+      → other'.handles ≡ one'.handles → Becomes f h one'.forest k es → Becomes g h other'.forest k es' → Resembles (held one'.forest k) (held other'.forest k) → AreAlike one' other'
+  changed-alike f g handles a one' other' h k es es' same b b' r = record {
+    handles = same;
+    lists = at-alike (list_at f) (list_at g) (list_at one'.forest) (list_at other'.forest) [] h k a.lists b.others b'.others
+        (λ n e ne. subst (λ (q : Option ℕ). list_of one'.forest q ≡ []) (sym e) (b.leaves ne)) (λ n e ne. subst (λ (q : Option ℕ). list_of other'.forest q ≡ []) (sym e) (b'.leaves ne))
+        (λ n e. subst (λ (q : Option ℕ). list_of other'.forest q ≡ list_of one'.forest q) (sym e) r.list);
+    sizes = at-alike (sizes_at f) (sizes_at g) (sizes_at one'.forest) (sizes_at other'.forest) [] h k a.sizes b.others_sizes b'.others_sizes
+        (λ n e ne. subst (λ (q : Option ℕ). sizes_of one'.forest q ≡ []) (sym e) (b.leaves_sizes ne)) (λ n e ne. subst (λ (q : Option ℕ). sizes_of other'.forest q ≡ []) (sym e) (b'.leaves_sizes ne))
+        (λ n e. subst (λ (q : Option ℕ). sizes_of other'.forest q ≡ sizes_of one'.forest q) (sym e) r.sizes);
+    slots = r.slots;
+    free = r.free;
+    limit = r.limit;
+  }
+
+  -- two refusals for one reason
+  refusals-alike : (there live live' ordered ordered' : Type 0) (one other : Answer K V) → (live → live') → (live' → live) → (ordered → ordered') → (ordered' → ordered)
+      → Refuses there live ordered one → Refuses there live' ordered' other → other ≡ one
+  refusals-alike there live live' ordered ordered' answer.NoIndex answer.NoIndex l l' o o' r r' = refl
+  refusals-alike there live live' ordered ordered' answer.NoIndex answer.Dead l l' o o' r r' = absurd (r r'.0)
+  refusals-alike there live live' ordered ordered' answer.NoIndex answer.Unordered l l' o o' r r' = absurd (r r'.0)
+  refusals-alike there live live' ordered ordered' answer.NoIndex other l l' o o' r r' = absurd r'
+  refusals-alike there live live' ordered ordered' answer.Dead answer.NoIndex l l' o o' r r' = absurd (r' r.0)
+  refusals-alike there live live' ordered ordered' answer.Dead answer.Dead l l' o o' r r' = refl
+  refusals-alike there live live' ordered ordered' answer.Dead answer.Unordered l l' o o' r r' = absurd (r.1 (l' r'.1))
+  refusals-alike there live live' ordered ordered' answer.Dead other l l' o o' r r' = absurd r'
+  refusals-alike there live live' ordered ordered' answer.Unordered answer.NoIndex l l' o o' r r' = absurd (r' r.0)
+  refusals-alike there live live' ordered ordered' answer.Unordered answer.Dead l l' o o' r r' = absurd (r'.1 (l r.1))
+  refusals-alike there live live' ordered ordered' answer.Unordered answer.Unordered l l' o o' r r' = refl
+  refusals-alike there live live' ordered ordered' answer.Unordered other l l' o o' r r' = absurd r'
+  refusals-alike there live live' ordered ordered' one other l l' o o' r r' = absurd r
+
+  -- a call that is refused does not pass
+  refused-fails : (there live ordered : Type 0) (given : Answer K V) → Refuses there live ordered given → there → live → ordered → ⊥
+  refused-fails there live ordered answer.NoIndex r t l o = r t
+  refused-fails there live ordered answer.Dead r t l o = r.1 l
+  refused-fails there live ordered answer.Unordered r t l o = r.2 o
+  refused-fails there live ordered given r t l o = absurd r
+
+  -- two calls with the same tests: both are refused for one reason, or both are made
+  tests-alike : {P : Type 0} (there live live' ordered ordered' : Type 0) (old new old' new' : State K V) (given given' : Answer K V) (Made Made' : Type 0)
+      → (live → live') → (live' → live) → (ordered → ordered') → (ordered' → ordered)
+      → (given' ≡ given → new ≡ old → new' ≡ old' → P) → (there → live → live' → Made → Made' → P)
+      → Tests there live ordered old given new Made → Tests there live' ordered' old' given' new' Made' → P
+  tests-alike there live live' ordered ordered' old new old' new' given given' Made Made' l l' o o' stays made (inl r) (inl r') = stays (refusals-alike there live live' ordered ordered' given given' l l' o o' r.0 r'.0) r.1 r'.1
+  tests-alike there live live' ordered ordered' old new old' new' given given' Made Made' l l' o o' stays made (inl r) (inr m) = absurd (refused-fails there live ordered given r.0 m.0 (l' m.1) (o' m.2))
+  tests-alike there live live' ordered ordered' old new old' new' given given' Made Made' l l' o o' stays made (inr m) (inl r) = absurd (refused-fails there live' ordered' given' r.0 m.0 (l m.1) (o m.2))
+  tests-alike there live live' ordered ordered' old new old' new' given given' Made Made' l l' o o' stays made (inr m) (inr m') = made m.0 m.1 m'.1 m.3 m'.3
+
+  lacks-alike : (there : Type 0) (old new old' new' : State K V) (given given' : Answer K V) → Lacks there old given new → Lacks there old' given' new' → (given' ≡ given) × (new ≡ old) × (new' ≡ old')
+  lacks-alike there old new old' new' answer.NoIndex answer.NoIndex l l' = (refl, l.1, l'.1)
+  lacks-alike there old new old' new' answer.NotOffered answer.NotOffered l l' = (refl, l.1, l'.1)
+  lacks-alike there old new old' new' answer.NoIndex answer.NotOffered l l' = absurd (l.0 l'.0)
+  lacks-alike there old new old' new' answer.NotOffered answer.NoIndex l l' = absurd (l'.0 l.0)
+  lacks-alike there old new old' new' answer.NoIndex given' l l' = absurd l'
+  lacks-alike there old new old' new' answer.NotOffered given' l l' = absurd l'
+  lacks-alike there old new old' new' given given' l l' = absurd l
+
+  -- an answer is its own
+  own-answer : (given : Answer K V) → IsSameAnswer given given
+  own-answer (answer.Pairs pairs) = refl
+  own-answer (answer.Script sights) = refl
+  own-answer given = refl
+
+  answers-alike : (given given' told told' : Answer K V) → given ≡ told → given' ≡ told' → IsSameAnswer told told' → IsSameAnswer given given'
+  answers-alike given given' told told' e e' s = subst (λ (x : Answer K V). IsSameAnswer x given') (sym e) (subst (λ (x : Answer K V). IsSameAnswer told x) (sym e') s)
+
+  answers-same : (given given' : Answer K V) → given' ≡ given → IsSameAnswer given given'
+  answers-same given given' e = answers-alike given given' given given refl e (own-answer given)
+
+  memory-had : (given told : Answer K V) → given ≡ told → HadMemory given → HadMemory told
+  memory-had given told e had = subst (λ (x : Answer K V). HadMemory x) e had
+
+  module _ (most : ℕ) (reads : Bool) (orders : Orders K) where
+    module _ (f g : Forest K V) (handles : List (Option ℕ)) (a : AreAlike (at f handles) (at g handles)) where
+      abbrev number : ℕ → Option ℕ
+      number h = get_or handles h None
+
+      abbrev order : ℕ → K → K → Ordering
+      order c = order_at orders c
+
+      lists : (h : ℕ) → list_of g (number h) ≡ list_of f (number h)
+      lists h = list-alike f g a.lists (number h)
+
+      module _ (given given' : Answer K V) (new new' : State K V) where
+        -- the answers are the same, and so is what is left
+        abbrev Agree : Type 0
+        Agree = IsSameAnswer given given' × AreAlike new new'
+
+        stays : given' ≡ given → new ≡ at f handles → new' ≡ at g handles → Agree
+        stays e x y = (answers-same given given' e, alike-same (at f handles) (at g handles) new new' a x y)
+
+        looked : (told told' : Answer K V) → given ≡ told → given' ≡ told' → IsSameAnswer told told' → new ≡ at f handles → new' ≡ at g handles → Agree
+        looked told told' e e' same x y = (answers-alike given given' told told' e e' same, alike-same (at f handles) (at g handles) new new' a x y)
+
+        compares : (h c : ℕ) (Made Made' : Type 0) → (h < length handles → IsLive f (number h) → IsLive g (number h) → Made → Made' → Agree)
+            → Compares orders h c (at f handles) given new Made → Compares orders h c (at g handles) given' new' Made' → Agree
+        compares h c Made Made' made s s' =
+            tests-alike ((h < length handles) × (c < length orders)) _ _ _ _ (at f handles) new (at g handles) new' given given' Made Made'
+            (live-alike f g a.lists (number h)) (live-alike g f (λ n. sym (a.lists n)) (number h))
+            (subst (λ es. IsIncreasing (order c) es) (sym (lists h))) (subst (λ es. IsIncreasing (order c) es) (lists h))
+            stays (λ t l l' m m'. made t.0 l l' m m') s s'
+
+        names : (there : Type 0) (h : ℕ) (Made Made' : Type 0) → (there → IsLive f (number h) → IsLive g (number h) → Made → Made' → Agree)
+            → Tests there (IsLive f (number h)) (Unit {0}) (at f handles) given new Made → Tests there (IsLive g (number h)) (Unit {0}) (at g handles) given' new' Made' → Agree
+        names there h Made Made' made s s' =
+            tests-alike there _ _ _ _ (at f handles) new (at g handles) new' given given' Made Made'
+            (live-alike f g a.lists (number h)) (live-alike g f (λ n. sym (a.lists n)) (number h)) (λ o. o) (λ o. o)
+            stays made s s'
+
+        -- handle h got a number in both
+        changed : (h : ℕ) (k k' : Option ℕ) (es es' : List (K × V)) → h < length handles → new.handles ≡ slice_set handles h k → new'.handles ≡ slice_set handles h k' → new'.handles ≡ new.handles
+            → Becomes f (number h) new.forest k es → Becomes g (number h) new'.forest k' es' → Resembles (held new.forest k) (held new'.forest k') → AreAlike new new'
+        changed h k k' es es' within e e' same b b' r =
+            let one : k' ≡ k = numbers-alike handles new.handles new'.handles h k k' within e e' same in
+            changed-alike f g handles a new new' (number h) k es es' same b
+            (subst (λ (q : Option ℕ). Becomes g (number h) new'.forest q es') one b') (subst (λ (q : Option ℕ). Resembles (held new.forest k) (held new'.forest q)) one r)
+
+      step-alike : (call : Call K V) (given given' : Answer K V) (new new' : State K V) → Step most reads orders (at f handles) call given new → Step most reads orders (at g handles) call given' new'
+          → new'.handles ≡ new.handles → HadMemory given → HadMemory given' → Agree given given' new new'
+      step-alike (call.Get h c k) given given' new new' s s' same had had' = compares given given' new new' h c _ _
+          (λ t l l' m m'. looked given given' new new' _ _ m.0 m'.0 (λ z. answer.Value (value_for (order c) (lists h z) k)) m.1 m'.1) s s'
+      step-alike (call.GetOrLess h c k) given given' new new' s s' same had had' = compares given given' new new' h c _ _
+          (λ t l l' m m'. looked given given' new new' _ _ m.0 m'.0 (λ z. answer.Pair (entry_at_most (order c) (lists h z) k)) m.1 m'.1) s s'
+      step-alike (call.Insert h c k v) given given' new new' s s' same had had' = compares given given' new new' h c _ _
+          (λ t l l' m m'.
+          let r = inserts-alike most (order c) (held f (number h)) (held g (number h)) (held-alike f g handles a (number h)) k v m.0 m'.0 (held new.forest m.2.0) (held new'.forest m'.2.0) m.2.2 m'.2.2
+          (memory-had given (answer.Put m.0) m.1 had) (memory-had given' (answer.Put m'.0) m'.1 had') in (
+            answers-alike given given' (answer.Put m.0) (answer.Put m'.0) m.1 m'.1 (ap (λ x. answer.Put x) r.0),
+            changed given given' new new' h m.2.0 m'.2.0 _ _ t m.2.1 m'.2.1 same
+                (inserted most (order c) f (number h) k v m.0 new.forest m.2.0 l m.2.2) (inserted most (order c) g (number h) k v m'.0 new'.forest m'.2.0 l' m'.2.2) r.1,
+          )) s s'
+      step-alike (call.Remove h c k) given given' new new' s s' same had had' = compares given given' new new' h c _ _
+          (λ t l l' m m'.
+          let r = removes-alike most (order c) (held f (number h)) (held g (number h)) (held-alike f g handles a (number h)) k m.0 m'.0 (held new.forest m.2.0) (held new'.forest m'.2.0) m.2.2 m'.2.2 in (
+            answers-alike given given' (answer.Value m.0) (answer.Value m'.0) m.1 m'.1 (ap (λ x. answer.Value x) r.0),
+            changed given given' new new' h m.2.0 m'.2.0 _ _ t m.2.1 m'.2.1 same m.2.2.cut m'.2.2.cut r.1,
+          )) s s'
+      step-alike (call.Clear h) given given' new new' s s' same had had' = names given given' new new' (h < length handles) h _ _
+          (λ t l l' m m'. (
+            answers-alike given given' answer.Done answer.Done m.0 m'.0 refl,
+            changed given given' new new' h m.1.0 m'.1.0 _ _ t m.1.1 m'.1.1 same m.1.2.cleared m'.1.2.cleared
+                (clears-alike most (order 0) (held f (number h)) (held g (number h)) (held-alike f g handles a (number h)) (held new.forest m.1.0) (held new'.forest m'.1.0) m.1.2 m'.1.2),
+          )) s s'
+      step-alike (call.Iter h) given given' new new' s s' same had had' = names given given' new new' (h < length handles) h _ _
+          (λ t l l' m m'. looked given given' new new' (answer.Pairs m.0) (answer.Pairs m'.0) m.1 m'.1 (m'.2 ∙ lists h ∙ sym m.2) m.3 m'.3) s s'
+      step-alike (call.Read h c steps) given given' new new' s s' same had had' = offered-alike reads _ _ _ _
+          (compares given given' new new' h c _ _
+          (λ t l l' m m'. looked given given' new new' (answer.Script m.0.0) (answer.Script m'.0.0) m.0.1 m'.0.1
+          (m'.0.2 ∙ (λ z. sights_of (order c) (lists h z) (length (lists h z)) steps.items) ∙ sym m.0.2) m.1 m'.1))
+          (λ l l'. let r = lacks-alike _ (at f handles) new (at g handles) new' given given' l l' in stays given given' new new' r.0 r.1 r.2) s s'
+      step-alike (call.Edit h c steps) given given' new new' s s' same had had' = compares given given' new new' h c _ _
+          (λ t l l' m m'.
+          let r = scripts-alike most (order c) (held f (number h)) (held g (number h)) (held-alike f g handles a (number h)) _ _ steps.items m.0.items m'.0.items
+          (held new.forest m.2.0) (held new'.forest m'.2.0) m.2.2.0 m'.2.2.0 (ap (λ es. length es) (lists h)) m.2.2.1 m'.2.2.1
+          (recursion_from_All _ m.0.items (memory-had given (answer.Script m.0) m.1 had)) (recursion_from_All _ m'.0.items (memory-had given' (answer.Script m'.0) m'.1 had')) in (
+            answers-alike given given' (answer.Script m.0) (answer.Script m'.0) m.1 m'.1 r.0,
+            changed given given' new new' h m.2.0 m'.2.0 _ _ t m.2.1 m'.2.1 same
+                (scripted most (order c) (held f (number h)) _ steps.items m.0.items (held new.forest m.2.0) m.2.2.0 l m.2.2.1)
+                (scripted most (order c) (held g (number h)) _ steps.items m'.0.items (held new'.forest m'.2.0) m'.2.2.0 l' m'.2.2.1) r.1,
+          )) s s'
+      step-alike (call.Range h c lo hi ends) given given' new new' s s' same had had' = compares given given' new new' h c _ _
+          (λ t l l' m m'. looked given given' new new' (answer.Script m.0.0) (answer.Script m'.0.0) m.0.1 m'.0.1
+          (m'.0.2 ∙ (λ z. all_taken (entries_between (order c) lo hi (lists h z)) ends.items) ∙ sym m.0.2) m.1 m'.1) s s'
+      step-alike (call.Retain h c keys put) given given' new new' s s' same had had' = names given given' new new' ((h < length handles) × (c < length orders)) h _ _
+          (λ t l l' m m'. (
+            answers-alike given given' answer.Done answer.Done m.0 m'.0 refl,
+            changed given given' new new' h m.1.0 m'.1.0 _ _ t.0 m.1.1 m'.1.1 same m.1.2.changed m'.1.2.changed
+                (retains-alike most (order c) (held f (number h)) (held g (number h)) (held-alike f g handles a (number h)) keys.items put (held new.forest m.1.0) (held new'.forest m'.1.0) m.1.2 m'.1.2),
+          )) s s'
+      step-alike (call.Alias from to) given given' new new' s s' same had had' =
+          tests-alike ((from < length handles) × (to < length handles)) (Unit {0}) (Unit {0}) (Unit {0}) (Unit {0}) (at f handles) new (at g handles) new' given given' _ _ (λ x. x) (λ x. x) (λ x. x) (λ x. x) (stays given given' new new')
+          (λ t l l' m m'. (
+            answers-alike given given' answer.Done answer.Done m.0 m'.0 refl,
+            alike-same (at f (slice_set handles to (number from))) (at g (slice_set handles to (number from))) new new'
+                (record { handles = refl; lists = a.lists; sizes = a.sizes; slots = a.slots; free = a.free; limit = a.limit }) m.1 m'.1,
+          )) s s'
+      step-alike call.ForestClear given given' new new' s s' same had had' = (
+        answers-alike given given' answer.Done answer.Done s.0 s'.0 refl,
+        alike-same (at (empty (limit_of f)) handles) (at (empty (limit_of g)) handles) new new' (emptied (limit_of f) (limit_of g) a.limit) s.1 s'.1,
+      )
+        where
+          emptied : (n m : ℕ) → m ≡ n → AreAlike (at (empty n) handles) (at (empty m) handles)
+          emptied n m e = subst (λ (q : ℕ). AreAlike (at (empty n) handles) (at (empty q) handles)) (sym e)
+              (record { handles = refl; lists = λ n. refl; sizes = λ n. refl; slots = refl; free = refl; limit = refl })
+
+    -- a state with the same handles is alike as one with these handles
+    step-both : (old old' : State K V) → AreAlike old old' → (call : Call K V) (given given' : Answer K V) (new new' : State K V) → Step most reads orders old call given new → Step most reads orders old' call given' new'
+        → new'.handles ≡ new.handles → HadMemory given → HadMemory given' → IsSameAnswer given given' × AreAlike new new'
+    step-both old old' a call given given' new new' s s' same had had' =
+        let as-one : old' ≡ at old'.forest old.handles = λ z. record { forest = old'.forest; handles = a.handles z } in
+        step-alike old.forest old'.forest old.handles (subst (λ (t : State K V). AreAlike old t) as-one a) call given given' new new' s
+        (subst (λ (t : State K V). Step most reads orders t call given' new') as-one s') same had had'
+
+    runs-alike : (old old' : State K V) (calls : List (Call K V)) (answers answers' : List (Answer K V)) (states states' : List (State K V)) (new new' : State K V)
+        → AreAlike old old' → RunsThrough most reads orders old calls answers states new → RunsThrough most reads orders old' calls answers' states' new'
+        → AllByRecursion HadMemory answers → AllByRecursion HadMemory answers' → GoInStep states states' → AllZip IsSameAnswer answers answers' × AreAlike new new'
+    runs-alike old old' [] [] [] [] [] new new' a r r' had had' step = (tt, alike-same old old' new new' a r r')
+    runs-alike old old' (call ∷ calls) (given ∷ answers) (given' ∷ answers') (state ∷ states) (state' ∷ states') new new' a r r' had had' step =
+        let first = step-both old old' a call given given' state state' r.0 r'.0 step.0 had.0 had'.0 in
+        let rest = runs-alike state state' calls answers answers' states states' new new' first.1 r.1 r'.1 had.1 had'.1 step.1 in
+        ((first.0, rest.0), rest.1)
+    runs-alike old old' [] (given ∷ answers) answers' states states' new new' a r r' had had' step = absurd r
+    runs-alike old old' [] [] answers' (state ∷ states) states' new new' a r r' had had' step = absurd r
+    runs-alike old old' [] [] (given' ∷ answers') [] states' new new' a r r' had had' step = absurd r'
+    runs-alike old old' [] [] [] [] (state' ∷ states') new new' a r r' had had' step = absurd r'
+    runs-alike old old' (call ∷ calls) [] answers' states states' new new' a r r' had had' step = absurd r
+    runs-alike old old' (call ∷ calls) (given ∷ answers) answers' [] states' new new' a r r' had had' step = absurd r
+    runs-alike old old' (call ∷ calls) (given ∷ answers) [] (state ∷ states) states' new new' a r r' had had' step = absurd r'
+    runs-alike old old' (call ∷ calls) (given ∷ answers) (given' ∷ answers') (state ∷ states) [] new new' a r r' had had' step = absurd r'
+
+    -- the states that a run comes through
+    through : (old : State K V) (calls : List (Call K V)) (answers : List (Answer K V)) (new : State K V) → Run most reads orders old calls answers new
+        → (states : List (State K V)) × RunsThrough most reads orders old calls answers states new
+    through old [] [] new r = ([], r)
+    through old (call ∷ calls) (given ∷ answers) new r = let rest = through r.0 calls answers new r.2 in (r.0 ∷ rest.0, (r.1, rest.1))
+    through old [] (given ∷ answers) new r = absurd r
+    through old (call ∷ calls) [] new r = absurd r
+
+    pub runs-determined : (calls : List (Call K V)) (old : State K V) (answers : List (Answer K V)) (new old' : State K V) (answers' : List (Answer K V)) (new' : State K V)
+        → Run most reads orders old calls answers new → Run most reads orders old' calls answers' new' → AreDetermined most reads orders calls old answers new old' answers' new'
+    runs-determined calls old answers new old' answers' new' r r' =
+        let one = through old calls answers new r in
+        let other = through old' calls answers' new' r' in
+        record {
+          states = one.0;
+          states' = other.0;
+          run = one.1;
+          run' = other.1;
+          same = λ a had had' step. runs-alike old old' calls answers answers' one.0 other.0 new new' a one.1 other.1
+              (recursion_from_All HadMemory answers had) (recursion_from_All HadMemory answers' had') step;
+        }

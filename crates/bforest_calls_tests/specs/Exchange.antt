@@ -1,0 +1,27 @@
+-- Two handles, each in the other's place.
+use Rattle.bforest_calls.specs.declared.call.Call.TheVariants as call
+use Rattle.bforest_calls.specs.declared.call.Call.{Call}
+use Rattle.std.specs.Prelude.{List, None, Option, get_or, if◌then◌else◌, length, nat_eq, ◌<◌, ◌≡◌, ℕ}
+
+-- i for j and j for i; each other index stays
+abbrev pub exchange : ℕ → ℕ → ℕ → ℕ
+exchange i j h = if nat_eq h i then j else if nat_eq h j then i else h
+
+-- the call with handles i and j exchanged
+abbrev pub exchanged : {K V : Type 0} → ℕ → ℕ → Call K V → Call K V
+exchanged i j (call.Get h c k) = call.Get (exchange i j h) c k
+exchanged i j (call.GetOrLess h c k) = call.GetOrLess (exchange i j h) c k
+exchanged i j (call.Insert h c k v) = call.Insert (exchange i j h) c k v
+exchanged i j (call.Remove h c k) = call.Remove (exchange i j h) c k
+exchanged i j (call.Clear h) = call.Clear (exchange i j h)
+exchanged i j (call.Iter h) = call.Iter (exchange i j h)
+exchanged i j (call.Read h c steps) = call.Read (exchange i j h) c steps
+exchanged i j (call.Edit h c steps) = call.Edit (exchange i j h) c steps
+exchanged i j (call.Range h c lo hi ends) = call.Range (exchange i j h) c lo hi ends
+exchanged i j (call.Retain h c keys put) = call.Retain (exchange i j h) c keys put
+exchanged i j (call.Alias from to) = call.Alias (exchange i j from) (exchange i j to)
+exchanged i j call.ForestClear = call.ForestClear
+
+-- both indices are there, and the handles have one number
+abbrev pub AreAliases : List (Option ℕ) → ℕ → ℕ → Type 0
+AreAliases handles i j = (i < length handles) × (j < length handles) × (get_or handles i None ≡ get_or handles j None)

@@ -1,0 +1,3 @@
+pub mod Determined
+pub mod Exchange
+pub mod Sparing

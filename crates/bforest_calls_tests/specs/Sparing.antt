@@ -1,0 +1,25 @@
+-- Calls that leave a tree alone, and what is left of it then.
+use Rattle.bforest.specs.Forest.{list_at, sizes_at}
+use Rattle.bforest_calls.specs.Machine.{State, number_at}
+use Rattle.bforest_calls.specs.declared.call.Call.TheVariants as call
+use Rattle.bforest_calls.specs.declared.call.Call.{Call}
+use Rattle.std.specs.Prelude.{Some, ◌≡◌, ◌≢◌, ℕ}
+
+module _ {K V : Type 0} where
+  -- Where the handles have the numbers of this state, the call neither changes the tree of number m nor copies a handle of it. It may read
+  -- the tree, and overwrite its handles.
+  abbrev pub Spares : ℕ → State K V → Call K V → Type 0
+  Spares m state (call.Insert h c k v) = number_at state h ≢ Some m
+  Spares m state (call.Remove h c k) = number_at state h ≢ Some m
+  Spares m state (call.Clear h) = number_at state h ≢ Some m
+  Spares m state (call.Edit h c steps) = number_at state h ≢ Some m
+  Spares m state (call.Retain h c keys put) = number_at state h ≢ Some m
+  Spares m state (call.Alias from to) = number_at state from ≢ Some m
+  Spares m state call.ForestClear = ⊥
+  Spares m state reading = Unit {0}
+
+  -- number m has the list that it had, in nodes of the same sizes, and no handle got this number
+  pub record IsSpared (m : ℕ) (old new : State K V) : Type 0 where
+    pub list : list_at new.forest m ≡ list_at old.forest m
+    pub sizes : sizes_at new.forest m ≡ sizes_at old.forest m
+    pub handles : (h : ℕ) → number_at new h ≡ Some m → number_at old h ≡ Some m
