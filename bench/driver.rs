@@ -86,6 +86,17 @@ fn rows_of_large(kind: Kind, size: u32, looks: u32) -> Vec<Row> {
     ]
 }
 
+// The same map, read by a cursor.
+fn rows_of_large_cursor(kind: Kind, size: u32) -> Vec<Row> {
+    let names = match kind {
+        Kind::RandomCursor => ["random keys: cursor on, an entry", "random keys: cursor back, an entry"],
+        _ => ["ascending keys: cursor on, an entry", "ascending keys: cursor back, an entry"],
+    };
+    let filled = fill(kind, size);
+    let row = |at: usize, with| Row { name: names[at], size, without: filled, with, rounds: 10, calls: size };
+    vec![row(0, Work { walks: 10, ..filled }), row(1, Work { turns: 10, ..filled })]
+}
+
 fn rows_of_edges(blocks: u32) -> Vec<Row> {
     let (nothing, filled) = (fill(Kind::Edges, 0), fill(Kind::Edges, blocks));
     // Two and a half edges on average lead out of a block.
@@ -96,6 +107,13 @@ fn rows_of_edges(blocks: u32) -> Vec<Row> {
         row("predecessors: read, a block", filled, Work { walks: 20, ..filled }, 20, blocks),
         row("predecessors: edge led elsewhere", filled, Work { turns: 4, ..filled }, 4, edges),
     ]
+}
+
+fn rows_of_edges_cursor(blocks: u32) -> Vec<Row> {
+    let filled = fill(Kind::EdgesCursor, blocks);
+    let with = Work { walks: 20, ..filled };
+    let name = "predecessors: cursor on, a block";
+    vec![Row { name, size: blocks, without: filled, with, rounds: 20, calls: blocks }]
 }
 
 fn rows_of_large_set(kind: Kind, size: u32) -> Vec<Row> {
@@ -139,7 +157,10 @@ fn rows(part: u32, is_counted: bool) -> Vec<Row> {
     let mut rows = rows_of_mixture(Kind::Mixture, 100_000 / part, is_counted);
     rows.extend(rows_of_large(Kind::Random, 1_000_000 / part, 1));
     rows.extend(rows_of_large(Kind::Ascending, 1_000_000 / part, 1));
+    rows.extend(rows_of_large_cursor(Kind::RandomCursor, 1_000_000 / part));
+    rows.extend(rows_of_large_cursor(Kind::AscendingCursor, 1_000_000 / part));
     rows.extend(rows_of_edges(100_000 / part));
+    rows.extend(rows_of_edges_cursor(100_000 / part));
     rows.extend(rows_of_mixture(Kind::SetMixture, 100_000 / part, is_counted));
     rows.extend(rows_of_large_set(Kind::RandomSet, 1_000_000 / part));
     rows.extend(rows_of_large_set(Kind::AscendingSet, 1_000_000 / part));

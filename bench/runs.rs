@@ -10,7 +10,9 @@ use std::time::{Duration, Instant};
 unsafe extern "C" {
     fn bench_mixture(maps: u32, calls: u32, looks: u32, walks: u32, is_cleared: bool) -> u64;
     fn bench_large(size: u32, is_mixed: bool, looks: u32, walks: u32, is_emptied: bool) -> u64;
+    fn bench_large_cursor(size: u32, is_mixed: bool, walks: u32, turns: u32) -> u64;
     fn bench_edges(blocks: u32, walks: u32, turns: u32) -> u64;
+    fn bench_edges_cursor(blocks: u32, walks: u32) -> u64;
     fn bench_set_mixture(sets: u32, calls: u32, looks: u32, walks: u32, is_cleared: bool) -> u64;
     fn bench_large_set(size: u32, is_mixed: bool, looks: u32, walks: u32, edits: u32) -> u64;
     fn bench_ranges(size: u32, looks: u32, spans: u32, is_split: bool) -> u64;
@@ -25,8 +27,14 @@ pub enum Kind {
     Random,
     /// One map, whose keys come in ascending order.
     Ascending,
+    /// The map of `Random`, read by cursors.
+    RandomCursor,
+    /// The map of `Ascending`, read by cursors.
+    AscendingCursor,
     /// A map of predecessors for each block of a control flow graph.
     Edges,
+    /// The maps of `Edges`, read by cursors.
+    EdgesCursor,
     /// Many small sets.
     SetMixture,
     /// One set, whose keys come in no order.
@@ -38,11 +46,14 @@ pub enum Kind {
 }
 
 /// All kinds.
-pub const KINDS: [Kind; 8] = [
+pub const KINDS: [Kind; 11] = [
     Kind::Mixture,
     Kind::Random,
     Kind::Ascending,
+    Kind::RandomCursor,
+    Kind::AscendingCursor,
     Kind::Edges,
+    Kind::EdgesCursor,
     Kind::SetMixture,
     Kind::RandomSet,
     Kind::AscendingSet,
@@ -51,7 +62,7 @@ pub const KINDS: [Kind; 8] = [
 
 /// A whole run, on so many maps, sets, entries, blocks or ranges. Behind the phase that fills them come rounds of look-ups, rounds that read all,
 /// or spans of ranges, and rounds that change much: the maps or sets of a mixture are cleared, a large map is emptied, edges are led elsewhere, a
-/// large set is edited by cursors, and ranges come between ranges.
+/// large set is edited by cursors, and ranges come between ranges. A map that is read by cursors is read from its last entry back there.
 #[derive(Clone, Copy, PartialEq, Debug)]
 pub struct Work {
     pub kind: Kind,
@@ -145,6 +156,10 @@ trait Maps {
     fn get(&self, map: u32, key: u32) -> Option<u32>;
     fn remove(&mut self, map: u32, key: u32) -> Option<u32>;
     fn walk(&self, map: u32, sum: u64) -> u64;
+    /// Adds each entry to a checksum, from the first on, by a cursor.
+    fn read_on(&self, map: u32, sum: u64) -> u64;
+    /// The same from the last entry back.
+    fn read_back(&self, map: u32, sum: u64) -> u64;
     fn clear(&mut self, map: u32);
 }
 
@@ -174,6 +189,26 @@ impl Maps for StdMaps {
         if let Some(map) = self.maps.get(map as usize) {
             for (key, value) in map {
                 sum = added(sum, key ^ value);
+            }
+        }
+        sum
+    }
+
+    fn read_on(&self, map: u32, sum: u64) -> u64 {
+        let mut sum = sum;
+        if let Some(map) = self.maps.get(map as usize) {
+            for (key, value) in map.range(..) {
+                sum = added(sum, key.wrapping_add(*value));
+            }
+        }
+        sum
+    }
+
+    fn read_back(&self, map: u32, sum: u64) -> u64 {
+        let mut sum = sum;
+        if let Some(map) = self.maps.get(map as usize) {
+            for (key, value) in map.range(..).rev() {
+                sum = added(sum, key.wrapping_add(*value));
             }
         }
         sum
@@ -219,6 +254,27 @@ impl Maps for OriginalMaps {
             for (key, value) in map.iter(&self.forest) {
                 sum = added(sum, key ^ value);
             }
+        }
+        sum
+    }
+
+    fn read_on(&self, map: u32, sum: u64) -> u64 {
+        let Some(map) = self.maps.get(map as usize) else { return sum };
+        let mut cursor = map.cursor(&self.forest, &());
+        let (Some(value), Some(key)) = (cursor.goto_first(), cursor.key()) else { return sum };
+        let mut sum = added(sum, key.wrapping_add(value));
+        while let Some((key, value)) = cursor.next() {
+            sum = added(sum, key.wrapping_add(value));
+        }
+        sum
+    }
+
+    fn read_back(&self, map: u32, sum: u64) -> u64 {
+        let Some(map) = self.maps.get(map as usize) else { return sum };
+        let mut cursor = map.cursor(&self.forest, &());
+        let mut sum = sum;
+        while let Some((key, value)) = cursor.prev() {
+            sum = added(sum, key.wrapping_add(value));
         }
         sum
     }
@@ -297,6 +353,19 @@ fn large<M: Maps>(maps: &mut M, work: Work, is_mixed: bool) -> u64 {
     sum
 }
 
+// The same map, read by a cursor from the first entry on and from the last one back. Where a checksum begins at 1, an entry of nothing but 0 in
+// front counts, too.
+fn large_cursor<M: Maps>(maps: &mut M, work: Work, is_mixed: bool) -> u64 {
+    let mut sum = large(maps, Work { walks: 0, turns: 0, ..work }, is_mixed);
+    for _ in 0..work.walks {
+        sum = sum.wrapping_add(maps.read_on(0, 1));
+    }
+    for _ in 0..work.turns {
+        sum = sum.wrapping_add(maps.read_back(0, 1));
+    }
+    sum
+}
+
 fn edges<M: Maps>(maps: &mut M, work: Work) -> u64 {
     let blocks = work.size;
     let start = || Random { state: 2718281828 };
@@ -328,6 +397,15 @@ fn edges<M: Maps>(maps: &mut M, work: Work) -> u64 {
     sum
 }
 
+// The same maps, read by cursors.
+fn edges_cursor<M: Maps>(maps: &mut M, work: Work) -> u64 {
+    let mut sum = edges(maps, Work { walks: 0, turns: 0, ..work });
+    for _ in 0..work.walks {
+        sum = sum.wrapping_add((0..work.size).fold(1, |sum, map| maps.read_on(map, sum)));
+    }
+    sum
+}
+
 // Makes a run on what `new` makes, which is dropped behind its end, so that its drop is not timed. Where `is_kept` it is not dropped at all.
 fn timed<M>(new: impl FnOnce() -> M, run: impl FnOnce(&mut M) -> u64, is_kept: bool) -> (u64, Duration) {
     let start = Instant::now();
@@ -347,7 +425,10 @@ fn run_on<M: Maps, S: sets::Sets, R: sets::Ranges>(work: Work, is_kept: bool) ->
         Kind::Mixture => timed(|| M::new(size), |maps| mixture(maps, work), is_kept),
         Kind::Random => timed(|| M::new(1), |maps| large(maps, work, true), is_kept),
         Kind::Ascending => timed(|| M::new(1), |maps| large(maps, work, false), is_kept),
+        Kind::RandomCursor => timed(|| M::new(1), |maps| large_cursor(maps, work, true), is_kept),
+        Kind::AscendingCursor => timed(|| M::new(1), |maps| large_cursor(maps, work, false), is_kept),
         Kind::Edges => timed(|| M::new(size), |maps| edges(maps, work), is_kept),
+        Kind::EdgesCursor => timed(|| M::new(size), |maps| edges_cursor(maps, work), is_kept),
         Kind::SetMixture => timed(|| S::new(size), |sets| sets::mixture(sets, work), is_kept),
         Kind::RandomSet | Kind::AscendingSet => timed(|| S::new(1), |sets| sets::large(sets, work), is_kept),
         Kind::Ranges => timed(R::new, |ranges| sets::ranges(ranges, work), is_kept),
@@ -365,7 +446,10 @@ fn run_bforest(work: Work) -> (u64, Duration) {
             Kind::Mixture => bench_mixture(size, work.calls(), looks, walks, turns > 0),
             Kind::Random => bench_large(size, true, looks, walks, turns > 0),
             Kind::Ascending => bench_large(size, false, looks, walks, turns > 0),
+            Kind::RandomCursor => bench_large_cursor(size, true, walks, turns),
+            Kind::AscendingCursor => bench_large_cursor(size, false, walks, turns),
             Kind::Edges => bench_edges(size, walks, turns),
+            Kind::EdgesCursor => bench_edges_cursor(size, walks),
             Kind::SetMixture => bench_set_mixture(size, work.calls(), looks, walks, turns > 0),
             Kind::RandomSet => bench_large_set(size, true, looks, walks, turns),
             Kind::AscendingSet => bench_large_set(size, false, looks, walks, turns),

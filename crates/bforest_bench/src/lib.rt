@@ -29,10 +29,28 @@ pub extern "C" fn bench_large(
     bforest_workloads_bench::run_large(alloc, size, is_mixed, looks, walks, is_emptied)
 }
 
+/// The same map read by cursors, as `bforest_workloads_bench::run_large_cursor` says.
+#[unsafe(no_mangle)]
+pub extern "C" fn bench_large_cursor(
+    alloc: Global,
+    size: u32,
+    is_mixed: bool,
+    walks: u32,
+    turns: u32,
+) -> u64 {
+    bforest_workloads_bench::run_large_cursor(alloc, size, is_mixed, walks, turns)
+}
+
 /// The predecessors of blocks, as `bforest_workloads_bench::run_edges` says.
 #[unsafe(no_mangle)]
 pub extern "C" fn bench_edges(alloc: Global, blocks: u32, walks: u32, turns: u32) -> u64 {
     bforest_workloads_bench::run_edges(alloc, blocks, walks, turns)
+}
+
+/// The same maps read by cursors, as `bforest_workloads_bench::run_edges_cursor` says.
+#[unsafe(no_mangle)]
+pub extern "C" fn bench_edges_cursor(alloc: Global, blocks: u32, walks: u32) -> u64 {
+    bforest_workloads_bench::run_edges_cursor(alloc, blocks, walks)
 }
 
 /// Calls of all kinds on many small sets, as `bforest_workloads_bench::run_set_mixture` says.

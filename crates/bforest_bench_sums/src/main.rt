@@ -3,7 +3,8 @@
 #![tactic(auto)]
 
 use bforest_workloads_bench::{
-    run_edges, run_large, run_large_set, run_mixture, run_ranges, run_set_mixture,
+    run_edges, run_edges_cursor, run_large, run_large_cursor, run_large_set, run_mixture,
+    run_ranges, run_set_mixture,
 };
 use std::io;
 
@@ -13,7 +14,10 @@ enum Kind {
     Mixture,
     Random,
     Ascending,
+    RandomCursor,
+    AscendingCursor,
     Edges,
+    EdgesCursor,
     SetMixture,
     RandomSet,
     AscendingSet,
@@ -27,7 +31,10 @@ impl Kind {
             Kind::Mixture => "Mixture",
             Kind::Random => "Random",
             Kind::Ascending => "Ascending",
+            Kind::RandomCursor => "RandomCursor",
+            Kind::AscendingCursor => "AscendingCursor",
             Kind::Edges => "Edges",
+            Kind::EdgesCursor => "EdgesCursor",
             Kind::SetMixture => "SetMixture",
             Kind::RandomSet => "RandomSet",
             Kind::AscendingSet => "AscendingSet",
@@ -62,7 +69,7 @@ const READ: Rounds = Rounds {
     walks: 20,
     turns: 0,
 };
-/// Or one that takes entries out, edits, or puts ranges between ranges.
+/// Or one that takes entries out, edits, puts ranges between ranges, or reads by a cursor from the last entry back.
 const TAKEN: Rounds = Rounds {
     looks: 0,
     walks: 0,
@@ -82,7 +89,10 @@ fn show(rt: HostRuntime, kind: Kind, size: u32, rounds: Rounds) -> io::Result<()
         Kind::Mixture => run_mixture(alloc, size, size.saturating_mul(30), looks, walks, is_taken),
         Kind::Random => run_large(alloc, size, true, looks, walks, is_taken),
         Kind::Ascending => run_large(alloc, size, false, looks, walks, is_taken),
+        Kind::RandomCursor => run_large_cursor(alloc, size, true, walks, turns),
+        Kind::AscendingCursor => run_large_cursor(alloc, size, false, walks, turns),
         Kind::Edges => run_edges(alloc, size, walks, turns),
+        Kind::EdgesCursor => run_edges_cursor(alloc, size, walks),
         Kind::SetMixture => {
             run_set_mixture(alloc, size, size.saturating_mul(30), looks, walks, is_taken)
         }
@@ -121,6 +131,14 @@ fn show_sets(rt: HostRuntime) -> io::Result<()> {
     show(rt, Kind::Ranges, 10_000, LOOKED_UP)
 }
 
+/// The maps, read by cursors.
+fn show_cursors(rt: HostRuntime) -> io::Result<()> {
+    show_all(rt, Kind::RandomCursor, 10_000)?;
+    show_all(rt, Kind::AscendingCursor, 10_000)?;
+    show(rt, Kind::EdgesCursor, 0, READ)?;
+    show(rt, Kind::EdgesCursor, 1000, READ)
+}
+
 fn main(rt: HostRuntime) -> io::Result<()> {
     show_all(rt, Kind::Mixture, 1000)?;
     show(rt, Kind::Mixture, 1000, LOOKED_UP)?;
@@ -129,5 +147,6 @@ fn main(rt: HostRuntime) -> io::Result<()> {
     show_all(rt, Kind::Ascending, 10_000)?;
     show(rt, Kind::Ascending, 10_000, LOOKED_UP)?;
     show_all(rt, Kind::Edges, 1000)?;
-    show_sets(rt)
+    show_sets(rt)?;
+    show_cursors(rt)
 }

@@ -1,2 +1,3 @@
 pub mod Continuing
 pub mod Keeping
+pub mod Reading

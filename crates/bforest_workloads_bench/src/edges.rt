@@ -18,6 +18,17 @@ pub(crate) fn run(alloc: Global, blocks: u32, walks: u32, turns: u32) -> Option<
     Some(sum)
 }
 
+/// A whole run, as `run_edges_cursor` says.
+pub(crate) fn run_by_cursor(alloc: Global, blocks: u32, walks: u32) -> Option<u64> {
+    let mut smalls = Smalls::new(alloc, blocks).ok()?;
+    add_all(&mut smalls, blocks)?;
+    let mut sum = 0u64;
+    for _ in 0..walks {
+        sum = sum.wrapping_add(smalls.read_all(blocks));
+    }
+    Some(sum)
+}
+
 // Adds the edges out of each block.
 fn add_all(smalls: &mut Smalls, blocks: u32) -> Option<()> {
     let mut random = edges();

@@ -1,5 +1,6 @@
 //! One map of many entries.
 use crate::random::{Random, added, mixed};
+use crate::walks::{read_back, read_on};
 use bforest::{Map, MapForest, OutOfMemory};
 use std::alloc::Global;
 use std::marker::Model;
@@ -23,6 +24,25 @@ pub(crate) fn run(
     }
     if is_emptied {
         sum = sum.wrapping_add(large.removes(size));
+    }
+    Some(sum)
+}
+
+/// A whole run, as `run_large_cursor` says.
+pub(crate) fn run_by_cursor(
+    alloc: Global,
+    size: u32,
+    is_mixed: bool,
+    walks: u32,
+    turns: u32,
+) -> Option<u64> {
+    let mut large = Large::new(alloc, is_mixed);
+    let mut sum = large.inserts(size).ok()?;
+    for _ in 0..walks {
+        sum = sum.wrapping_add(large.read_on());
+    }
+    for _ in 0..turns {
+        sum = sum.wrapping_add(large.read_back());
     }
     Some(sum)
 }
@@ -111,6 +131,16 @@ impl Large {
             sum = added(sum, key ^ value);
         }
         sum
+    }
+
+    // Reads each entry by a cursor, from the first on. The checksum begins at 1, so that it counts a first entry of nothing but 0, too.
+    fn read_on(&self) -> u64 {
+        read_on(&self.map, &self.forest, 1)
+    }
+
+    // The same from the last back.
+    fn read_back(&self) -> u64 {
+        read_back(&self.map, &self.forest, 1)
     }
 
     // Takes so many keys out, in the order in which they came in.

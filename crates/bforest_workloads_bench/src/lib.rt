@@ -13,6 +13,7 @@ mod ranges;
 mod set_mixture;
 mod small_sets;
 mod smalls;
+mod walks;
 
 use std::alloc::Global;
 
@@ -42,10 +43,21 @@ pub fn run_large(
     large::run(alloc, size, is_mixed, looks, walks, is_emptied).unwrap_or(0)
 }
 
+/// The map of `run_large`, filled as there. Then rounds that read each entry by a cursor: so many from the first on, and so many from the last
+/// back.
+pub fn run_large_cursor(alloc: Global, size: u32, is_mixed: bool, walks: u32, turns: u32) -> u64 {
+    large::run_by_cursor(alloc, size, is_mixed, walks, turns).unwrap_or(0)
+}
+
 /// The predecessors of so many blocks of a control flow graph, a map for each: one to four edges out of each block are added. Then rounds
 /// that read each map, and rounds that lead each edge to the block behind its target, which are a removal and an insertion.
 pub fn run_edges(alloc: Global, blocks: u32, walks: u32, turns: u32) -> u64 {
     edges::run(alloc, blocks, walks, turns).unwrap_or(0)
+}
+
+/// The maps of `run_edges`, filled as there. Then rounds that read each map by a cursor, from the first entry on.
+pub fn run_edges_cursor(alloc: Global, blocks: u32, walks: u32) -> u64 {
+    edges::run_by_cursor(alloc, blocks, walks).unwrap_or(0)
 }
 
 /// So many small sets, all empty. Calls as those of `run_mixture`: half insert, a quarter tests and a quarter removes.

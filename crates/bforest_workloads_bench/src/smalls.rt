@@ -2,6 +2,7 @@
 ghost use Rattle.std.specs.Prelude.{IfOk, None, replicate, ◌≡◌};
 
 use crate::random::added;
+use crate::walks::read_on;
 use bforest::{Map, MapForest, OutOfMemory};
 use std::alloc::{AllocError, Global};
 use std::marker::Model;
@@ -83,6 +84,23 @@ impl Smalls {
         let mut sum = 0u64;
         for index in 0..count {
             sum = self.walk(index, sum);
+        }
+        sum
+    }
+
+    // Adds each entry of a map to a checksum, by a cursor.
+    fn read(&self, index: u32, sum: u64) -> u64 {
+        match self.maps.get(index as usize) {
+            Some(map) => read_on(map, &self.forest, sum),
+            None => sum,
+        }
+    }
+
+    /// A checksum of each entry of the first maps, read by cursors.
+    pub(crate) fn read_all(&self, count: u32) -> u64 {
+        let mut sum = 1u64;
+        for index in 0..count {
+            sum = self.read(index, sum);
         }
         sum
     }
