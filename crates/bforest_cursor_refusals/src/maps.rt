@@ -1,7 +1,9 @@
 //! Maps.
+ghost use Rattle.bforest.specs.Cursor.{IsCursor};
+ghost use Rattle.bforest.specs.Memory.{IsReadable};
 
 use crate::Seen;
-use bforest::{Map, MapForest, OutOfMemory};
+use bforest::{Comparator, Map, MapCursorMut, MapForest, OutOfMemory};
 
 /// How many entries a map gets: one more than two levels hold, put in in order.
 const ENTRIES: u32 = 36;
@@ -64,9 +66,20 @@ fn put_once(
     if !forest.holds(map) || !map.increases(forest, &()) {
         return None;
     }
-    let mut cursor = map.cursor_mut(forest, &());
-    let put = cursor.try_insert(key, key);
-    Some((put, cursor.key()))
+    Some(put_by(&mut map.cursor_mut(forest, &()), key, key))
+}
+
+// An insertion where a cursor stands, and the key where it stands then.
+fn put_by<K: Copy, V: Copy, C: Comparator<K>>(
+    cursor: &mut MapCursorMut<K, V, C>,
+    key: K,
+    value: V,
+) -> (Result<Option<V>, OutOfMemory>, Option<K>)
+    requires valid { IsCursor C.order cursor.old }
+    requires ready { IsReadable K.row V.row }
+{
+    let put = cursor.try_insert(key, value);
+    (put, cursor.key())
 }
 
 // The first key that is not less.

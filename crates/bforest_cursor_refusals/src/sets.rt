@@ -1,7 +1,9 @@
 //! Sets.
+ghost use Rattle.bforest.specs.Memory.{IsSetReadable};
+ghost use Rattle.bforest.specs.SetCursor.{IsCursor};
 
 use crate::Seen;
-use bforest::{OutOfMemory, Set, SetForest};
+use bforest::{Comparator, OutOfMemory, Set, SetCursor, SetForest};
 use std::ops::Bound;
 
 /// How many keys a set gets: one leaf more than an inner node has children, put in in order.
@@ -65,9 +67,19 @@ fn put_once(
     if !forest.holds(set) || !set.increases(forest, &()) {
         return None;
     }
-    let mut cursor = set.cursor(forest, &());
+    Some(put_by(&mut set.cursor(forest, &()), key))
+}
+
+// An insertion where a cursor stands, and the key where it stands then.
+fn put_by<K: Copy, C: Comparator<K>>(
+    cursor: &mut SetCursor<K, C>,
+    key: K,
+) -> (Result<bool, OutOfMemory>, Option<K>)
+    requires valid { IsCursor C.order cursor.old }
+    requires ready { IsSetReadable K.row }
+{
     let put = cursor.try_insert(key);
-    Some((put, cursor.elem()))
+    (put, cursor.elem())
 }
 
 // The first key that is not less.
