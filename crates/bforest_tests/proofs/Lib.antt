@@ -1,1 +1,5 @@
+pub mod BothEnds
+pub mod Changing
+pub mod Ranges
 pub mod Stepping
+pub mod Thinned

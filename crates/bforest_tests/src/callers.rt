@@ -7,6 +7,7 @@ ghost use Rattle.std.specs.Prelude.{IfOk, IsOk, OnOk, Some, false, true, ◌≡�
 use bforest::{Comparator, Map, MapForest, OutOfMemory};
 
 pub mod cursors;
+pub mod loops;
 
 /// Puts a value in and looks it up again: it is there.
 pub fn insert_and_get<K: Copy, V: Copy, C: Comparator<K>>(

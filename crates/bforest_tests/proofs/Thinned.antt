@@ -1,0 +1,69 @@
+-- A loop that takes every second entry out, at a cursor's place.
+use Rattle.bforest.specs.Calls.{RemovesAt}
+use Rattle.bforest.specs.Cursor.{Goes, IsCursor, Moves, entries, forest_now, map_now, spot}
+use Rattle.bforest.specs.Forest.{Becomes}
+use Rattle.bforest.specs.declared.map_cursor_mut.MapCursorMut.{MapCursorMut}
+use Rattle.bforest_tests.proofs.Changing.{Changed, becomes-list, changed-again, goes-next, moved, same-entries, unchanged}
+use Rattle.bforest_tests.specs.Walks.{every_other}
+use Rattle.std.proofs.Common.{List, [], ap, arith, drop, length, min, refl, remove, subst, suc, sym, take, zero, ◌+◌, ◌++◌, ◌-◌, ◌<◌, ◌≤◌, ◌∙◌, ◌≡◌, ◌∷◌, ℕ}
+use Rattle.std.proofs.lemmas.List.Edits.{length-remove}
+use Rattle.std.specs.declared.cmp.Ordering.{Ordering}
+
+module _ {X : Type 0} where
+  -- a list of which every second entry goes from a place on
+  abbrev pub thinned_from : ℕ → List X → List X
+  thinned_from p es = take p es ++ every_other (drop p es)
+
+  pub thinned-first : (es : List X) → thinned_from 0 es ≡ every_other es
+  thinned-first [] = refl
+  thinned-first (x ∷ es) = refl
+
+  -- with one entry or none from there on, all stays
+  pub thinned-last : (p : ℕ) (es : List X) → length es ≤ p + 1 → thinned_from p es ≡ es
+  thinned-last zero [] few = refl
+  thinned-last zero (x ∷ []) few = refl
+  thinned-last zero (x ∷ y ∷ es) few = absurd (omega (arith, few))
+  thinned-last (suc p) [] few = refl
+  thinned-last (suc p) (x ∷ es) few = ap (λ z. x ∷ z) (thinned-last p es (omega (arith, few)))
+
+  -- with the next entry out, the rest is thinned from the one that follows
+  pub thinned-step : (p : ℕ) (es : List X) → suc p < length es → thinned_from (suc p) (remove es (suc p)) ≡ thinned_from p es
+  thinned-step zero [] more = absurd (omega (arith, more))
+  thinned-step zero (x ∷ []) more = absurd (omega (arith, more))
+  thinned-step zero (x ∷ y ∷ es) more = refl
+  thinned-step (suc p) [] more = absurd (omega (arith, more))
+  thinned-step (suc p) (x ∷ es) more = ap (λ z. x ∷ z) (thinned-step p es (omega (arith, more)))
+
+module _ {K X C : Type 0} (order : C → K → K → Ordering) where
+  -- from c the loop has come to d
+  pub record Thins (c d : MapCursorMut K X C) : Type 0 where
+    pub changed : Changed order c d
+    pub rest : thinned_from (spot d) (entries d) ≡ every_other (entries c)
+
+  pub thins-first : (c : MapCursorMut K X C) → IsCursor order c → spot c ≡ 0 → Thins c c
+  thins-first c valid first = record { changed = unchanged order c valid; rest = ap (λ p. thinned_from p (entries c)) first ∙ thinned-first (entries c) }
+
+  -- one turn: on to the next entry, which goes
+  module _ (c d e f : MapCursorMut K X C) (next : Moves order d e (min (spot d + 1) (length (entries d)))) (more : spot d + 1 < length (entries d)) (gone : RemovesAt 7 (forest_now e) (map_now e) (spot e) (forest_now f) (map_now f)) (goes : Goes order e f (spot e)) where
+    within : suc (spot d) < length (entries d)
+    within = omega (arith, more)
+
+    there : spot f ≡ suc (spot d)
+    there = goes.spot ∙ goes-next order d e next more
+
+    left : entries f ≡ remove (entries d) (suc (spot d))
+    left = gone.removed.list ∙ (λ j. remove (same-entries order d e _ next j) (goes-next order d e next more j))
+
+    pub thins-next : Thins c d → Thins c f
+    thins-next t = record {
+      changed = changed-again order c e f (spot e) (remove (entries e) (spot e)) (moved order c d e _ t.changed next) goes gone.removed;
+      rest = (λ j. thinned_from (there j) (left j)) ∙ thinned-step (spot d) (entries d) within ∙ t.rest;
+    }
+
+    pub thins-fewer : length (entries f) - spot f < length (entries d) - spot d
+    thins-fewer = omega (arith, there, within, ap length left, length-remove (entries d) (suc (spot d)) within)
+
+  -- after the last turn
+  pub thins-last : (c d e : MapCursorMut K X C) → Thins c d → Moves order d e (min (spot d + 1) (length (entries d))) → length (entries d) ≤ spot d + 1 → Becomes (forest_now c) (map_now c) (forest_now e) (map_now e) (every_other (entries c))
+  thins-last c d e t next past = becomes-list order c e (every_other (entries c)) (moved order c d e _ t.changed next)
+      (same-entries order d e _ next ∙ sym (thinned-last (spot d) (entries d) past) ∙ t.rest)

@@ -1,0 +1,131 @@
+//! Loops over cursors and ranges: what they leave follows from the contracts alone.
+ghost use Rattle.bforest.specs.Cursor.{Goes, IsCursor, entries, forest_now, map_now, spot};
+ghost use Rattle.bforest.specs.Forest.{Becomes, IsLive, list_of};
+ghost use Rattle.bforest.specs.Memory.{IsReadable};
+ghost use Rattle.bforest_nodes.specs.Entries.{IsIncreasing, value_at_place, with_value};
+ghost use Rattle.bforest_tests.specs.Walks.{every_other, joined};
+ghost use Rattle.std.specs.Prelude.{IfOk, Some, length, remove, reverse, ◌++◌, ◌-◌, ◌<◌, ◌≡◌};
+
+use bforest::{Comparator, Map, MapCursorMut, MapForest, MapRange};
+use std::alloc::{AllocError, Global};
+
+/// Takes every second entry of a map out by one cursor: the first, the third and so on stay, and each other map.
+pub fn remove_every_second<K: Copy, V: Copy, C: Comparator<K>>(
+    map: &mut Map<K, V>,
+    forest: &mut MapForest<K, V>,
+    comp: &C,
+)
+    requires live { IsLive forest.old map.old }
+    requires increasing { IsIncreasing (C.order comp.now) (list_of forest.old map.old) }
+    ensures becomes { Becomes forest.old map.old forest.new map.new (every_other (list_of forest.old map.old)) }
+{
+    let mut cursor = map.cursor_mut(forest, comp);
+    cursor.goto_first();
+    thin_out(&mut cursor);
+}
+
+// Takes every second entry out, from the second on. The cursor stands on the first.
+fn thin_out<K: Copy, V: Copy, C: Comparator<K>>(cursor: &mut MapCursorMut<K, V, C>)
+    requires valid { IsCursor C.order cursor.old }
+    requires ready { IsReadable K.row V.row }
+    requires first { spot cursor.old ≡ 0 }
+    ensures becomes { Becomes (forest_now cursor.old) (map_now cursor.old) (forest_now cursor.new)
+        (map_now cursor.new) (every_other (entries cursor.old)) }
+    ensures goes { Goes C.order cursor.old cursor.new (spot cursor.new) }
+{
+    while cursor.next().is_some() {
+        cursor.remove();
+    }
+}
+
+/// Joins the ranges of a map, each from its start to its end, where one begins at the end of the one before. Each other map stays.
+pub fn join_ranges<K: Copy, C: Comparator<K>>(
+    map: &mut Map<K, K>,
+    forest: &mut MapForest<K, K>,
+    comp: &C,
+)
+    requires live { IsLive forest.old map.old }
+    requires increasing { IsIncreasing (C.order comp.now) (list_of forest.old map.old) }
+    ensures becomes { Becomes forest.old map.old forest.new map.new
+        (joined (C.order comp.now) (list_of forest.old map.old)) }
+{
+    let mut cursor = map.cursor_mut(forest, comp);
+    cursor.goto_first();
+    join_all(&mut cursor, comp);
+}
+
+// Joins all ranges. The cursor stands on the first, or at the end where there is none.
+fn join_all<K: Copy, C: Comparator<K>>(cursor: &mut MapCursorMut<K, K, C>, comp: &C)
+    requires valid { IsCursor C.order cursor.old }
+    requires ready { IsReadable K.row K.row }
+    requires first { spot cursor.old ≡ 0 }
+    ensures becomes { Becomes (forest_now cursor.old) (map_now cursor.old) (forest_now cursor.new)
+        (map_now cursor.new) (joined (C.order comp.now) (entries cursor.old)) }
+    ensures goes { Goes C.order cursor.old cursor.new (spot cursor.new) }
+{
+    if let Some(end) = cursor.value() {
+        join_from(cursor, end, comp);
+    }
+}
+
+// Joins the ranges from the first on, where the cursor stands, and which ends at `end`.
+fn join_from<K: Copy, C: Comparator<K>>(cursor: &mut MapCursorMut<K, K, C>, end: K, comp: &C)
+    requires valid { IsCursor C.order cursor.old }
+    requires ready { IsReadable K.row K.row }
+    requires first { spot cursor.old ≡ 0 }
+    requires ends { value_at_place (entries cursor.old) 0 ≡ Some end }
+    ensures becomes { Becomes (forest_now cursor.old) (map_now cursor.old) (forest_now cursor.new)
+        (map_now cursor.new) (joined (C.order comp.now) (entries cursor.old)) }
+    ensures goes { Goes C.order cursor.old cursor.new (spot cursor.new) }
+{
+    let mut end = end;
+    while let Some(range) = cursor.next() {
+        let last = range.1;
+        if comp.cmp(end, range.0).is_eq() {
+            extend(cursor, last);
+        }
+        end = last;
+    }
+}
+
+// Takes the range out where the cursor stands, and makes the one before end where that did. The cursor stands on the one before then.
+fn extend<K: Copy, C: Comparator<K>>(cursor: &mut MapCursorMut<K, K, C>, end: K)
+    requires valid { IsCursor C.order cursor.old }
+    requires ready { IsReadable K.row K.row }
+    requires second { 0 < spot cursor.old }
+    requires within { spot cursor.old < length (entries cursor.old) }
+    ensures becomes { Becomes (forest_now cursor.old) (map_now cursor.old) (forest_now cursor.new) (map_now cursor.new)
+        (with_value (remove (entries cursor.old) (spot cursor.old)) (spot cursor.old - 1) end) }
+    ensures goes { Goes C.order cursor.old cursor.new (spot cursor.old - 1) }
+{
+    cursor.remove();
+    cursor.prev();
+    if let Some(value) = cursor.value_mut() {
+        *value = end;
+    }
+}
+
+/// Takes entries off a range, from its front or from its back as each step says. What came from the front, what is left and what came from
+/// the back, the last first, make up the range: so each entry comes once, whichever ends are asked.
+pub fn take_from_ends<K: Copy, V: Copy, C: Comparator<K>>(
+    alloc: Global,
+    range: &mut MapRange<'_, K, V, C>,
+    from_front: &[bool],
+) -> Result<(Vec<(K, V)>, Vec<(K, V)>), AllocError>
+    requires ready { IsReadable K.row V.row }
+    ensures parted { IfOk result
+        (λ parts. range.old ≡ parts.0.items ++ range.new ++ reverse parts.1.items) }
+{
+    let mut front = Vec::new(alloc);
+    let mut back = Vec::new(alloc);
+    for is_front in from_front {
+        if *is_front {
+            if let Some(entry) = range.next() {
+                front.push(entry)?;
+            }
+        } else if let Some(entry) = range.next_back() {
+            back.push(entry)?;
+        }
+    }
+    Ok((front, back))
+}
