@@ -1,9 +1,9 @@
 //! Maps.
-ghost use Rattle.bforest.specs.Cursor.{IsCursor};
-ghost use Rattle.bforest.specs.Memory.{IsReadable};
+ghost use Rattle.bforest.specs.Forest.{IsLive, list_of};
+ghost use Rattle.bforest_nodes.specs.Entries.{IsIncreasing};
 
 use crate::Seen;
-use bforest::{Comparator, Map, MapCursorMut, MapForest, OutOfMemory};
+use bforest::{Comparator, Map, MapForest, OutOfMemory};
 
 /// How many entries a map gets: one more than two levels hold, put in in order.
 const ENTRIES: u32 = 36;
@@ -66,18 +66,21 @@ fn put_once(
     if !forest.holds(map) || !map.increases(forest, &()) {
         return None;
     }
-    Some(put_by(&mut map.cursor_mut(forest, &()), key, key))
+    Some(put_by(map, key, key, forest, &()))
 }
 
-// An insertion where a cursor stands, and the key where it stands then.
+// An insertion by a cursor, and the key where it stands then.
 fn put_by<K: Copy, V: Copy, C: Comparator<K>>(
-    cursor: &mut MapCursorMut<K, V, C>,
+    map: &mut Map<K, V>,
     key: K,
     value: V,
+    forest: &mut MapForest<K, V>,
+    comp: &C,
 ) -> (Result<Option<V>, OutOfMemory>, Option<K>)
-    requires valid { IsCursor C.order cursor.old }
-    requires ready { IsReadable K.row V.row }
+    requires live { IsLive forest.old map.old }
+    requires increasing { IsIncreasing (C.order comp.now) (list_of forest.old map.old) }
 {
+    let mut cursor = map.cursor_mut(forest, comp);
     let put = cursor.try_insert(key, value);
     (put, cursor.key())
 }

@@ -1,9 +1,9 @@
 //! Sets.
-ghost use Rattle.bforest.specs.Memory.{IsSetReadable};
-ghost use Rattle.bforest.specs.SetCursor.{IsCursor};
+ghost use Rattle.bforest.specs.Forest.{IsLive, list_of};
+ghost use Rattle.bforest_nodes.specs.Entries.{IsIncreasing};
 
 use crate::Seen;
-use bforest::{Comparator, OutOfMemory, Set, SetCursor, SetForest};
+use bforest::{Comparator, OutOfMemory, Set, SetForest};
 use std::ops::Bound;
 
 /// How many keys a set gets: one leaf more than an inner node has children, put in in order.
@@ -67,17 +67,20 @@ fn put_once(
     if !forest.holds(set) || !set.increases(forest, &()) {
         return None;
     }
-    Some(put_by(&mut set.cursor(forest, &()), key))
+    Some(put_by(set, key, forest, &()))
 }
 
-// An insertion where a cursor stands, and the key where it stands then.
+// An insertion by a cursor, and the key where it stands then.
 fn put_by<K: Copy, C: Comparator<K>>(
-    cursor: &mut SetCursor<K, C>,
+    set: &mut Set<K>,
     key: K,
+    forest: &mut SetForest<K>,
+    comp: &C,
 ) -> (Result<bool, OutOfMemory>, Option<K>)
-    requires valid { IsCursor C.order cursor.old }
-    requires ready { IsSetReadable K.row }
+    requires live { IsLive forest.old set.old }
+    requires increasing { IsIncreasing (C.order comp.now) (list_of forest.old set.old) }
 {
+    let mut cursor = set.cursor(forest, comp);
     let put = cursor.try_insert(key);
     (put, cursor.elem())
 }
