@@ -21,18 +21,39 @@ impl<K: Copy, V: Copy, const N: usize> NodePool<K, V, N> {
         node.number() < self.slots() && !self.node(node).is_free() && !self.is_child(node)
     }
 
-    /// Ends the tree under a root: all its nodes are freed, and lie in front of the chain. It reads each inner node twice for each of its
-    /// children, and takes no memory.
+    /// Ends the tree under a root: all its nodes are freed, and lie in front of the chain. It reads each node, and each inner node twice for
+    /// each of its children, and takes no memory.
     pub fn free_tree(&mut self, root: Node)
         requires union { IsUnion N self.old }
         requires root { IsTrue (is_root self.old.nodes root) }
         ensures ended { Ends N self.old self.new root }
         ensures account { GivesNodes (sizes_of (tree_of self.old.nodes root)) [] self.old self.new }
     {
-        self.free_under(root, 0);
+        self.free_below(root, 0);
     }
 
-    // Frees a node and all that are below it. So many levels lie above.
+    // Frees a node and all that are below it. So many levels lie above. Most nodes are leaves, which are freed with no call of their own.
+    #[cycle(freeing)]
+    #[inline(always)]
+    fn free_below(&mut self, node: Node, depth: usize)
+        requires capacity { IsLeafCapacity N }
+        requires under { (leaves : List (LevelNode K V)) × (lower : List (List (LevelNode K ℕ))) × (first : K)
+            × Under N self.old.nodes leaves lower ((first, node) ∷ [])
+            × Distinct (numbers_under leaves lower ++ self.old.chain) × (depth + length lower ≤ top_level) }
+        ensures { (leaves : List (LevelNode K V)) (lower : List (List (LevelNode K ℕ))) (first : K)
+            → Under N self.old.nodes leaves lower ((first, node) ∷ [])
+            → Distinct (numbers_under leaves lower ++ self.old.chain)
+            → GivesAll self.old self.new (numbers_under leaves lower) }
+    {
+        if self.node(node).is_inner() {
+            self.free_under(node, depth);
+        } else {
+            self.free_node(node);
+        }
+    }
+
+    // The same, with a call of its own.
+    #[cycle(freeing)]
     fn free_under(&mut self, node: Node, depth: usize)
         requires capacity { IsLeafCapacity N }
         requires under { (leaves : List (LevelNode K V)) × (lower : List (List (LevelNode K ℕ))) × (first : K)
@@ -45,7 +66,7 @@ impl<K: Copy, V: Copy, const N: usize> NodePool<K, V, N> {
     {
         for index in 0..self.child_count(node) {
             let child = self.node(node).child(index);
-            self.free_under(child, depth + 1);
+            self.free_below(child, depth + 1);
         }
         self.free_node(node);
     }

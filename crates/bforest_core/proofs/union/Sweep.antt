@@ -13,6 +13,7 @@ use Rattle.bforest_core.proofs.removal.Frees.{frees-refl, frees-then, frees-wide
 use Rattle.bforest_core.proofs.walks.Downward.{stacked_last}
 use Rattle.bforest_core.proofs.walks.Leading.{Front, LeafFront, InnerFront, front_step, front_count}
 use Rattle.bforest_core.proofs.rows.LevelRows.{least-pos}
+use Rattle.std.proofs.lemmas.List.{length-map}
 use Rattle.std.proofs.lemmas.Option.{slice_get_within}
 use Rattle.bforest_core.proofs.table.Lists.{drop-read}
 use Rattle.bforest_core.proofs.union.Sections.{UnderCut, under-cut, tail_same}
@@ -266,6 +267,21 @@ module _ {K V : Type 0} where
         slot_is = s.frees.others number (omega (arith, a, one, o.counted number, s.split number, count-append number (numbers_under leaves lower) old.chain)) ∙ o.slot_is;
         off_chain = omega (arith, a, one, o.counted number, s.split number, s.counted number, ap (λ z. count number z) s.frees.chain_is, count-append number s.given old.chain, count-append number (numbers_under leaves lower) old.chain);
       }
+
+  -- what is no inner node has no children
+  leaf_childless : (content : Content K V) → (IsInner content → ⊥) → length (children_of content) ≡ 0
+  leaf_childless (Inner keys children) other = absurd (other tt)
+  leaf_childless (Leaf keys vals) other = refl
+  leaf_childless (Free next) other = refl
+
+  -- below a leaf lies nothing, so that it is freed alone
+  pub gives-leaf : (most : ℕ) (one : 1 ≤ half_of most) (old : Table K V) (leaves : List (LevelNode K V)) (lower : List (List (LevelNode K ℕ))) (number : ℕ) → Distinct (numbers_under leaves lower ++ old.chain) → (o : Opened most old.nodes leaves lower number) → (IsInner o.content → ⊥) → GivesAll old (with_freed old number) (numbers_under leaves lower)
+  unfolding sweeping
+  gives-leaf most one old leaves lower number apart o other =
+      let first = sweep-first most one old o.low o.rows o.top o.under in
+      let s = sweeping most old old leaves lower number 0 apart o first in
+      let all = sweep-last most one old o.low o.rows o.top old 0 (omega (arith, leaf_childless o.content other, ap length o.children_are, length-map o.top (λ (e : K × ℕ). e.1))) first in
+      gives-top old old (numbers_under o.low o.rows) (numbers_under leaves lower) number (slice_get_within old.nodes number o.content o.slot_is) s.alone o.counted all
 
   -- the child at the index, and what lies below it
   pub child_turn : (most : ℕ) (one : 1 ≤ half_of most) (old now : Table K V) (leaves : List (LevelNode K V)) (lower : List (List (LevelNode K ℕ))) (number index child : ℕ) → (s : Sweeping most old now leaves lower number index) → slice_get (children_of s.opened.content) index ≡ Some child → (x : K × ℕ) × (x.1 ≡ child) × (index < length s.opened.top) × Turn most one old s.opened.low s.opened.rows s.opened.top now index x
