@@ -3,7 +3,10 @@ use Rattle.bforest_calls.proofs.Indexed.{is_handle, is_order}
 use Rattle.bforest_calls.proofs.maps.look.get.Goals as goal
 use Rattle.bforest_calls.specs.declared.call.Answer.TheVariants as answer
 use Rattle.bforest_nodes.specs.Entries.{value_for}
-use Rattle.std.proofs.Common.{None, ap, inr, refl, rules, ◌∙◌, ◌≡◌}
+use Rattle.std.proofs.Common.{None, ap, inl, inr, refl, rules, ◌∙◌, ◌≡◌}
+
+pub returns-in-Some : goal.returns-in-Some
+returns-in-Some g c = inl (c.in-Some.ensures.refused, refl)
 
 pub returns : goal.returns
 returns g c =

@@ -1,8 +1,11 @@
 use Rattle.bforest.specs.Calls.{Inserts}
 use Rattle.bforest_calls.proofs.Indexed.{at_both, is_order}
 use Rattle.bforest_calls.proofs.sets.change.insert.Goals as goal
-use Rattle.std.proofs.Common.{None, get_or, inr, refl, rules, subst, sym, ◌≡◌}
+use Rattle.std.proofs.Common.{None, get_or, inl, inr, refl, rules, subst, sym, ◌≡◌}
 use Rattle.std.proofs.lemmas.List.{get_or_default}
+
+pub returns-in-Some : goal.returns-in-Some
+returns-in-Some g c = inl (c.in-Some.ensures.refused, refl)
 
 pub returns : goal.returns
 returns g c =

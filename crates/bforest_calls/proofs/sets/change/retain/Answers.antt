@@ -1,8 +1,11 @@
 use Rattle.bforest_calls.proofs.Indexed.{at_all, is_order}
 use Rattle.bforest_calls.proofs.sets.change.retain.Goals as goal
 use Rattle.bforest_calls.specs.State.{Held, Retained}
-use Rattle.std.proofs.Common.{None, inr, refl, rules, ◌≡◌}
+use Rattle.std.proofs.Common.{None, inl, inr, refl, rules, ◌≡◌}
 use Rattle.std.proofs.lemmas.List.{get_or_default}
+
+pub returns-in-Some : goal.returns-in-Some
+returns-in-Some g c = λ put. inl (c.in-Some.ensures.refused, refl)
 
 pub returns : goal.returns
 returns g c = λ put.

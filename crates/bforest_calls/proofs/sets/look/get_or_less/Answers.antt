@@ -4,8 +4,11 @@ use Rattle.bforest_calls.proofs.Indexed.{is_handle, is_order}
 use Rattle.bforest_calls.proofs.Units.{as-entry}
 use Rattle.bforest_calls.proofs.sets.look.get_or_less.Goals as goal
 use Rattle.bforest_calls.specs.declared.call.Answer.TheVariants as answer
-use Rattle.std.proofs.Common.{None, ap, inr, refl, rules, ◌∙◌, ◌≡◌}
+use Rattle.std.proofs.Common.{None, ap, inl, inr, refl, rules, ◌∙◌, ◌≡◌}
 use Rattle.std.specs.Prelude.{option_map}
+
+pub returns-in-Some : goal.returns-in-Some
+returns-in-Some g c = inl (c.in-Some.ensures.refused, refl)
 
 pub returns : goal.returns
 returns g c =

@@ -1,7 +1,10 @@
 use Rattle.bforest.specs.Forest.{list_of}
 use Rattle.bforest_calls.proofs.Indexed.{is_handle}
 use Rattle.bforest_calls.proofs.sets.look.iter.Goals as goal
-use Rattle.std.proofs.Common.{None, ap, inr, refl, rules, ◌∙◌, ◌≡◌}
+use Rattle.std.proofs.Common.{None, ap, inl, inr, refl, rules, ◌∙◌, ◌≡◌}
+
+pub returns-in-Some : goal.returns-in-Some
+returns-in-Some g c = λ orders. inl (c.in-Some.ensures.refused, refl)
 
 pub returns : goal.returns
 returns g c = λ orders.
