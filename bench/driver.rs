@@ -1,14 +1,16 @@
 //! Prints what calls of `bforest` cost beside `std`'s `BTreeMap`, and beside the Rust original where it is there.
 //!
-//! `driver` prints the table, `driver --count` its instructions and memory alone, `driver --compare` reads runs that were made elsewhere and compares their checksums, and `driver --growth MOST`
-//! prints how the cost of a call grows with a map's size. `driver --one SIDE KIND NUMBERS` makes one run in a process of its own, whose instructions and memory
+//! `driver` prints the table, `driver --count` its instructions and memory alone, `driver --compare` reads runs that were made elsewhere and compares their checksums, and `driver --growth MOST [FILE]`
+//! prints how the cost of a call grows with a map's size, and draws it into a file. `driver --one SIDE KIND NUMBERS` makes one run in a process of its own, whose instructions and memory
 //! can be counted.
 //!
 //! A run builds its maps anew. So the cost of a phase is the difference of two runs, of which one makes the phase, or makes it more often.
 
+mod picture;
 mod runs;
 mod sets;
 
+use picture::{picture, Growth};
 use runs::{run, Kind, Side, Work, KINDS, SIDES};
 use std::process::{exit, Command};
 use std::time::Duration;
@@ -461,10 +463,11 @@ fn print_all(program: &str) {
     print_counts(program);
 }
 
-// How the cost of a call grows with the size of a map.
-fn print_growth(program: &str, most: u32) {
+// How the cost of a call grows with the size of a map, and a picture of it in a file, if one is named.
+fn print_growth(program: &str, most: u32, file: Option<&String>) {
     println!("Wall time of a call in nanoseconds, best of 3, of one above 1000000:");
     println!("{:37} {:>9}{}", "", "size", heads());
+    let mut phases: Vec<Growth> = vec![];
     let mut size = 10;
     while size <= most {
         let repeats = 1_000_000u32.div_ceil(size);
@@ -473,10 +476,20 @@ fn print_growth(program: &str, most: u32) {
             let rows = rows_of_large(kind, size, 3.min(repeats));
             let costs = times(program, &rows, tries, repeats);
             for row in &rows {
-                println!("{:37} {:>9}{}", row.name, row.size, columns(&of_sides(|side| costs.of_row(side, row)), 1));
+                let of_row = of_sides(|side| costs.of_row(side, row));
+                println!("{:37} {:>9}{}", row.name, row.size, columns(&of_row, 1));
+                match phases.iter_mut().find(|phase| phase.name == row.name) {
+                    Some(phase) => phase.costs.push((size, of_row)),
+                    None => phases.push(Growth { name: row.name, costs: vec![(size, of_row)] }),
+                }
             }
         }
         size = size.saturating_mul(10);
+    }
+    let Some(file) = file else { return };
+    if let Err(error) = std::fs::write(file, picture(&phases)) {
+        eprintln!("{file}: {error}");
+        exit(1);
     }
 }
 
@@ -508,11 +521,14 @@ fn main() {
         None => print_all(program),
         Some("--count") => print_counts(program),
         Some("--compare") => compare(),
-        Some("--growth") => print_growth(program, words.get(2).and_then(|word| word.parse().ok()).unwrap_or(1_000_000)),
+        Some("--growth") => {
+            let most = words.get(2).and_then(|word| word.parse().ok()).unwrap_or(1_000_000);
+            print_growth(program, most, words.get(3));
+        }
         Some("--one") => make_one(&words[2..]),
         Some("--timed") => time_one(&words[2..]),
         Some(_) => {
-            eprintln!("usage: driver [--count | --compare | --growth MOST]");
+            eprintln!("usage: driver [--count | --compare | --growth MOST [FILE]]");
             exit(2);
         }
     }
