@@ -36,11 +36,10 @@ ASKED = [
 
 # Public functions of the crates below that the forest does not call.
 UNUSED = {
-    "bforest_nodes/node.rt": ["unwrap_leaf", "unwrap_leaf_mut"],
+    "bforest_nodes/node.rt": ["get_entry", "unwrap_leaf_mut"],
     "bforest_nodes/entries.rt": ["parts_mut"],
     "bforest_nodes/row.rt": ["front_mut"],
     "bforest_nodes/lent.rt": ["front_mut"],
-    "bforest_core/path.rt": ["set_root_node"],
     "bforest_core/path/insert.rt": ["needed"],
     "bforest_core/pool.rt": ["new"],
 }

@@ -1,7 +1,7 @@
 //! The entries of a map, with the forest that owns them.
 ghost use Rattle.bforest.specs.Forest.{IsLive, list_of};
 ghost use Rattle.bforest_core.specs.Trees.{IsUnion};
-ghost use Rattle.bforest_trees.specs.Layout.{IsReading, entries_from};
+ghost use Rattle.bforest_trees.specs.Layout.{IsOnOrEnds, entries_from};
 ghost use Rattle.std.specs.Iterator.{YieldsFirst, item_count};
 ghost use Rattle.std.specs.Prelude.{◌≡◌};
 
@@ -15,19 +15,19 @@ use std::marker::Model;
 #[derive(Drop)]
 pub struct MapIntoIter<K: Copy, V: Copy> {
     forest: MapForest<K, V>,
-    // In front of the entry that comes next.
+    // On the entry that comes next, or at the end.
     path: Path<K, V, 7>,
 }
 
 impl<K: Copy, V: Copy> Model for MapIntoIter<K, V> {
-    ghost use Rattle.bforest_trees.specs.Layout.{IsReading, entries_from};
+    ghost use Rattle.bforest_trees.specs.Layout.{IsOnOrEnds, entries_from};
     ghost use Rattle.std.specs.Prelude.{List};
 
     ghost Value = { List (K × V) };
 
     ghost view = { λ i. entries_from i.forest i.path };
 
-    ghost invariant = { λ i. IsReading i.forest i.path };
+    ghost invariant = { λ i. IsOnOrEnds i.forest i.path };
 }
 
 impl<K: Copy, V: Copy> MapIntoIter<K, V> {
@@ -45,7 +45,7 @@ impl<K: Copy, V: Copy> MapIntoIter<K, V> {
 fn first_path<K: Copy, V: Copy>(root: PackedNode, pool: &NodePool<K, V, 7>) -> Path<K, V, 7>
     requires union { IsUnion 7 pool.now }
     requires live { IsLive pool.now root }
-    ensures reading { IsReading pool.now result }
+    ensures on { IsOnOrEnds pool.now result }
     ensures entries { entries_from pool.now result ≡ list_of pool.now root }
 {
     let mut path = Path::default();
@@ -63,6 +63,9 @@ impl<K: Copy, V: Copy> Iterator for MapIntoIter<K, V> {
     ghost remaining = { item_count (λ entries. entries) };
 
     fn next(&mut self) -> Option<(K, V)> {
-        self.path.pass(self.forest.trees.pool())
+        let pool = self.forest.trees.pool();
+        let entry = self.path.entry(pool);
+        self.path.next(pool);
+        entry
     }
 }

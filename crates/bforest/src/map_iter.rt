@@ -6,26 +6,26 @@ ghost use Rattle.std.specs.Prelude.{◌≡◌};
 
 use crate::forest::MapForest;
 use crate::map::Map;
-use bforest_core::{NodePool, Path};
+use bforest_core::NodePool;
+use bforest_trees::Reader;
 use std::marker::Model;
 
 /// The entries of a map, in order, and then `None` for ever. Made by `Map::iter`. A step compares nothing.
 #[derive(Drop)]
 pub struct MapIter<'a, K: Copy, V: Copy> {
     pool: &'a NodePool<K, V, 7>,
-    // In front of the entry that comes next.
-    path: Path<K, V, 7>,
+    reader: Reader<'a, K, V, 7>,
 }
 
 impl<'a, K: Copy, V: Copy> Model for MapIter<'a, K, V> {
-    ghost use Rattle.bforest_trees.specs.Layout.{IsReading, entries_from};
+    ghost use Rattle.bforest_trees.specs.Layout.{IsReader, left_of};
     ghost use Rattle.std.specs.Prelude.{List};
 
     ghost Value = { List (K × V) };
 
-    ghost view = { λ i. entries_from i.pool.now i.path };
+    ghost view = { λ i. left_of i.pool.now i.reader };
 
-    ghost invariant = { λ i. IsReading i.pool.now i.path };
+    ghost invariant = { λ i. IsReader i.pool.now i.reader };
 }
 
 impl<'a, K: Copy, V: Copy> MapIter<'a, K, V> {
@@ -36,14 +36,12 @@ impl<'a, K: Copy, V: Copy> MapIter<'a, K, V> {
         ensures ready { IsReadable K.row V.row }
     {
         let pool = forest.trees.pool();
-        // The path is written where it stays, since it is too long to be moved for nothing.
+        // The reader is made where it stays, since it is too long to be moved for nothing.
         let mut iter = MapIter {
             pool,
-            path: Path::default(),
+            reader: Reader::new(),
         };
-        if let Some(root) = map.root.expand() {
-            iter.path.first(root, pool);
-        }
+        iter.reader.start(map.root, pool);
         iter
     }
 }
@@ -60,6 +58,6 @@ impl<'a, K: Copy, V: Copy> Iterator for MapIter<'a, K, V> {
     ghost remaining = { item_count (λ entries. entries) };
 
     fn next(&mut self) -> Option<(K, V)> {
-        self.path.pass(self.pool)
+        self.reader.next(self.pool)
     }
 }

@@ -8,27 +8,27 @@ ghost use Rattle.std.specs.Prelude.{◌≡◌};
 use crate::map_cursor::key_of;
 use crate::set::Set;
 use crate::set_forest::SetForest;
-use bforest_core::{NodePool, Path, SetValue};
+use bforest_core::{NodePool, SetValue};
+use bforest_trees::Reader;
 use std::marker::Model;
 
 /// The keys of a set, in order, and then `None` for ever. Made by [`Set::iter`]. A step compares nothing.
 #[derive(Drop)]
 pub struct SetIter<'a, K: Copy> {
     pool: &'a NodePool<K, SetValue, 15>,
-    // In front of the key that comes next.
-    path: Path<K, SetValue, 15>,
+    reader: Reader<'a, K, SetValue, 15>,
 }
 
 impl<'a, K: Copy> Model for SetIter<'a, K> {
-    ghost use Rattle.bforest_trees.specs.Layout.{IsReading, entries_from};
+    ghost use Rattle.bforest_trees.specs.Layout.{IsReader, left_of};
     ghost use Rattle.std.specs.Map.{keys_of};
     ghost use Rattle.std.specs.Prelude.{List};
 
     ghost Value = { List K };
 
-    ghost view = { λ i. keys_of (entries_from i.pool.now i.path) };
+    ghost view = { λ i. keys_of (left_of i.pool.now i.reader) };
 
-    ghost invariant = { λ i. IsReading i.pool.now i.path };
+    ghost invariant = { λ i. IsReader i.pool.now i.reader };
 }
 
 impl<'a, K: Copy> SetIter<'a, K> {
@@ -39,14 +39,12 @@ impl<'a, K: Copy> SetIter<'a, K> {
         ensures ready { IsSetReadable K.row }
     {
         let pool = forest.trees.pool();
-        // The path is written where it stays, since it is too long to be moved for nothing.
+        // The reader is made where it stays, since it is too long to be moved for nothing.
         let mut iter = SetIter {
             pool,
-            path: Path::default(),
+            reader: Reader::new(),
         };
-        if let Some(root) = set.root.expand() {
-            iter.path.first(root, pool);
-        }
+        iter.reader.start(set.root, pool);
         iter
     }
 }
@@ -63,6 +61,6 @@ impl<'a, K: Copy> Iterator for SetIter<'a, K> {
     ghost remaining = { item_count (λ keys. keys) };
 
     fn next(&mut self) -> Option<K> {
-        key_of(self.path.pass(self.pool))
+        key_of(self.reader.next(self.pool))
     }
 }

@@ -8,11 +8,11 @@ pub mod Whole
 pub mod Steps
 pub mod Entered
 pub mod Leading
+pub mod Leaves
 pub mod Pointed
 pub mod Backward
 pub mod Turns
 pub mod Trailing
 pub mod LastDown
 pub mod Standing
-pub mod Passing
 pub mod Nearby

@@ -1,8 +1,9 @@
 -- Where a path stands in a pool: the words of its public calls. The path is read by these words alone.
-use Rattle.std.specs.Prelude.{◌≡◌, ℕ, List, length, get_or, if◌then◌else◌, ◌==◌, ◌+◌, ◌∷◌, [], nat_eq}
+use Rattle.std.specs.Prelude.{◌≡◌, ℕ, List, Some, drop, length, get_or, slice_get, if◌then◌else◌, ◌==◌, ◌+◌, ◌++◌, ◌∷◌, [], nat_eq, ◌<◌}
 use Rattle.bforest_core.specs.Change.{AtUnder, PlacedUnder, PointsUnder, StandsUnder}
 use Rattle.bforest_core.specs.Climb.{top_of}
 use Rattle.bforest_core.specs.Levels.{LevelNode, flat, node, sizes_of}
+use Rattle.bforest_core.specs.Place.{leaf_content}
 use Rattle.bforest_core.specs.Table.{Table}
 use Rattle.bforest_core.specs.Trees.{tree_of}
 use Rattle.bforest_core.specs.declared.path.Path.{Path}
@@ -77,6 +78,13 @@ module _ {K V : Type 0} where
     pub root : ℕ
     pub place : ℕ
     pub to : PointsTo table root path place
+
+  -- the path stands in a leaf of these entries, on the one at its index. In the list under a root they stand from this place on
+  pub record OnLeaf {n : ℕ} (table : Table K V) (root : ℕ) (path : Path K V n) (place : ℕ) (entries : List (K × V)) : Type 0 where
+    pub on : StandsOn table root path (place + index_of path)
+    pub within : index_of path < length entries
+    pub leaf : slice_get table.nodes (leaf_of path) ≡ Some (leaf_content entries)
+    pub list : drop place (list_under table root) ≡ entries ++ drop (place + length entries) (list_under table root)
 
   -- the place in a row of the entry at an index of the node of this number
   abbrev pub place_in : List (LevelNode K V) → ℕ → ℕ → ℕ

@@ -1,5 +1,5 @@
 //! Reading and writing one node of a pool, by its number.
-ghost use Rattle.std.specs.Prelude.{◌≡◌, ℕ, ◌-◌, ◌<◌, ◌≤◌, ◌↔◌, IsSome, IsTrue, List, length, slice_get, Some, if◌then◌else◌};
+ghost use Rattle.std.specs.Prelude.{◌≡◌, ℕ, ◌-◌, ◌<◌, ◌≤◌, ◌↔◌, IsTrue, List, length, slice_get, Some, if◌then◌else◌};
 ghost use Rattle.std.specs.List.Sorted.{IsStrictlySortedBy};
 ghost use Rattle.bforest_nodes.specs.Content.{Content, Inner, IsLeafCapacity, IsFree, with_child, Leaf, with_entry, with_key, without_child, without_entry, removed_answer, entry_count};
 ghost use Rattle.bforest_core.specs.Descent.{child_index};
@@ -114,20 +114,6 @@ pub(crate) fn entries<K: Copy, V: Copy, const N: usize>(
     ensures most { result ≤ 255 }
 {
     pool.node(node).entries()
-}
-
-// An entry of a leaf, or nothing where it has no entry of this index.
-pub(crate) fn get_entry<K: Copy, V: Copy, const N: usize>(
-    pool: &NodePool<K, V, N>,
-    node: Node,
-    index: usize,
-) -> Option<(K, V)>
-    requires { (entries : List (K × V)) × (slice_get pool.now.nodes node ≡ Some (leaf_content entries)) }
-    ensures value { (entries : List (K × V)) → slice_get pool.now.nodes node ≡ Some (leaf_content entries)
-        → result ≡ slice_get entries index }
-    ensures most { IsSome result → index < 255 }
-{
-    pool.node(node).get_entry(index)
 }
 
 // A separator of an inner node.

@@ -5,9 +5,11 @@
 #![tactic(auto)]
 
 mod predicate;
+mod reader;
 mod retain;
 mod trees;
 
 pub use bforest_core::{Comparator, Node, NodePool, OutOfMemory, PackedNode, Path};
 pub use predicate::{Asked, Predicate};
+pub use reader::Reader;
 pub use trees::{Ends, Start, Trees};

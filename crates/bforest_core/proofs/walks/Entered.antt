@@ -1,5 +1,5 @@
 -- A step of a path from entry to entry of a tree.
-use Rattle.std.proofs.Common.{◌≡◌, ◌≢◌, ℕ, zero, suc, ◌+◌, ◌≤◌, ◌<◌, List, [], ◌∷◌, ◌++◌, length, get_or, slice_get, Option, None, Some, option_map, refl, sym, ap, subst, ◌∙◌, arith, length-append}
+use Rattle.std.proofs.Common.{◌≡◌, ◌≢◌, ℕ, zero, suc, ◌+◌, ◌≤◌, ◌<◌, List, [], ◌∷◌, ◌++◌, length, get_or, slice_get, Option, Some, sym, ap, subst, ◌∙◌, arith, length-append}
 use Rattle.bforest_nodes.specs.Content.{Content}
 use Rattle.bforest_core.specs.Levels.{LevelNode, node, flat, heads, FitRow, Tree, IsFit, half_of}
 use Rattle.bforest_core.specs.Place.{RowIn, leaf_content, entry_keys, entry_items, StandsAbove, Stands, IsIn}
@@ -18,13 +18,6 @@ pair_read (y ∷ es) zero k x e f =
     let b : y.1 ≡ x = some_same y.1 x f in
     ap (λ z. Some (z, y.1)) a ∙ ap (λ z. Some (k, z)) b
 pair_read (y ∷ es) (suc i) k x e f = pair_read es i k x e f
-
--- the same where there may be none
-pub pair_got : {K X : Type 0} (es : List (K × X)) (i : ℕ) (o : Option (K × X)) → option_map (λ e. e.0) o ≡ slice_get (entry_keys es) i → option_map (λ e. e.1) o ≡ slice_get (entry_items es) i → o ≡ slice_get es i
-pair_got es i (Some (k, x)) e f = sym (pair_read es i k x (sym e) (sym f))
-pair_got [] i None e f = refl
-pair_got (y ∷ es) zero None e f = absurd cc
-pair_got (y ∷ es) (suc i) None e f = pair_got es i None e f
 
 module _ {K V : Type 0} (most : ℕ) (one : 1 ≤ half_of most) (slots : List (Content K V)) (path indices : List ℕ) (size : ℕ) (tree : Tree K V) (place : ℕ) (fit : IsFit most tree) (inside : IsIn slots tree) (s : Stands path indices size tree place) where
   pub leaf_slot : slice_get slots (get_or path 0 0) ≡ Some (leaf_content s.leaf.entries)
@@ -60,8 +53,8 @@ module _ {K V : Type 0} (most : ℕ) (one : 1 ≤ half_of most) (slots : List (C
       }
 
   -- the first entry of the next leaf
-  pub entry_over : (path1 indices1 path' indices' : List ℕ) → Moved path indices path1 indices1 0 tree.above (heads tree.leaves) (suc (length s.leaf.before)) → path' ≡ path1 → get_or indices' 0 0 ≡ 0 → ((i : ℕ) → i ≢ 0 → get_or indices' i 0 ≡ get_or indices1 i 0) → (get_or indices 0 0 + 1 < length s.leaf.entries → ⊥) → Stands path' indices' size tree (suc place)
-  entry_over path1 indices1 path' indices' m path_is here above past =
+  pub leaf_next : (path1 indices1 path' indices' : List ℕ) → Moved path indices path1 indices1 0 tree.above (heads tree.leaves) (suc (length s.leaf.before)) → path' ≡ path1 → get_or indices' 0 0 ≡ 0 → ((i : ℕ) → i ≢ 0 → get_or indices' i 0 ≡ get_or indices1 i 0) → Stands path' indices' size tree (length (flat s.leaf.before) + length s.leaf.entries)
+  leaf_next path1 indices1 path' indices' m path_is here above =
       let n = nth (half_of most) most one tree.leaves fit.leaves_fit (suc (length s.leaf.before)) m.head m.head_is in
       let f = next_at s.leaf.before (get_or path 0 0) s.leaf.entries s.leaf.after n.before m.head.1 (n.e ∷ n.others) n.after (sym s.leaf.row_is ∙ n.row_is) n.place_is in
       let n_is : get_or path' 0 0 ≡ m.head.1 = ap (λ z. get_or z 0 0) path_is ∙ m.node_is in
@@ -72,14 +65,21 @@ module _ {K V : Type 0} (most : ℕ) (one : 1 ≤ half_of most) (slots : List (C
           after = n.after;
           row_is = n.row_is ∙ ap (λ z. n.before ++ node z (n.e ∷ n.others) ∷ n.after) (sym n_is);
           within = omega (arith, here);
-          place_is = omega (arith, here, s.leaf.place_is, s.leaf.within, not_less (get_or indices 0 0 + 1) (length s.leaf.entries) past, ap length f, length-append (flat s.leaf.before) s.leaf.entries);
+          place_is = omega (arith, here, ap length f, length-append (flat s.leaf.before) s.leaf.entries);
         };
         above = subst (λ (z : ℕ). StandsAbove path' indices' 1 tree.above z) (sym n.place_is) (stands-same path1 indices1 path' indices' 1 tree.above (suc (length s.leaf.before)) (λ i low. ap (λ z. get_or z i 0) path_is) (λ i low. above i (λ e. omega (arith, e, low))) m.stands);
         size_is = s.size_is;
       }
 
+  -- behind the last leaf is the end
+  pub leaf_last : suc (length s.leaf.before) ≡ length (heads tree.leaves) → length (flat s.leaf.before) + length s.leaf.entries ≡ length (flat tree.leaves)
+  leaf_last last = sym (none_behind tree.leaves s.leaf.before (get_or path 0 0) s.leaf.entries s.leaf.after s.leaf.row_is (last ∙ fit_full (half_of most) most one tree.leaves fit.leaves_fit))
+
+  -- where the path stands on the last entry of its leaf, the next leaf's first is the next entry
+  pub entry_over : (path1 indices1 path' indices' : List ℕ) → Moved path indices path1 indices1 0 tree.above (heads tree.leaves) (suc (length s.leaf.before)) → path' ≡ path1 → get_or indices' 0 0 ≡ 0 → ((i : ℕ) → i ≢ 0 → get_or indices' i 0 ≡ get_or indices1 i 0) → (get_or indices 0 0 + 1 < length s.leaf.entries → ⊥) → Stands path' indices' size tree (suc place)
+  entry_over path1 indices1 path' indices' m path_is here above past =
+      subst (λ (z : ℕ). Stands path' indices' size tree z) (omega (arith, s.leaf.place_is, s.leaf.within, not_less (get_or indices 0 0 + 1) (length s.leaf.entries) past)) (leaf_next path1 indices1 path' indices' m path_is here above)
+
   -- the last entry of all
   pub entry_last : (get_or indices 0 0 + 1 < length s.leaf.entries → ⊥) → suc (length s.leaf.before) ≡ length (heads tree.leaves) → suc place ≡ length (flat tree.leaves)
-  entry_last past last =
-      let b = none_behind tree.leaves s.leaf.before (get_or path 0 0) s.leaf.entries s.leaf.after s.leaf.row_is (last ∙ fit_full (half_of most) most one tree.leaves fit.leaves_fit) in
-      omega (arith, s.leaf.place_is, s.leaf.within, not_less (get_or indices 0 0 + 1) (length s.leaf.entries) past, b)
+  entry_last past last = omega (arith, s.leaf.place_is, s.leaf.within, not_less (get_or indices 0 0 + 1) (length s.leaf.entries) past, leaf_last last)

@@ -1,11 +1,9 @@
 -- A path at an entry of a leaf, or behind a leaf's last entry.
-use Rattle.std.proofs.Common.{◌≡◌, ◌≢◌, ℕ, suc, ◌+◌, ◌≤◌, ◌<◌, List, ◌∷◌, ◌++◌, length, get_or, slice_get, Some, sym, ap, subst, ◌∙◌, arith, length-append}
+use Rattle.std.proofs.Common.{◌≡◌, ◌≢◌, ℕ, suc, ◌≤◌, ◌<◌, List, ◌∷◌, ◌++◌, length, get_or, slice_get, Some, sym, ap, subst, ◌∙◌, arith, length-append}
 use Rattle.bforest_nodes.specs.Content.{Content}
 use Rattle.bforest_core.specs.Levels.{LevelNode, node, flat, heads, Tree, IsFit, half_of}
 use Rattle.bforest_core.specs.Place.{RowIn, leaf_content, StandsAbove, Stands, PointsAt, IsIn}
 use Rattle.bforest_core.specs.Steps.{Over, Moved}
-use Rattle.bforest_core.proofs.walks.Entered.{entry_is}
-use Rattle.std.proofs.lemmas.Option.{slice_get_within}
 use Rattle.bforest_core.proofs.walks.Steps.{fit_full, nth, next_at, none_behind, not_less}
 use Rattle.bforest_core.proofs.table.Tables.{row-split}
 use Rattle.bforest_core.proofs.rows.Zipper.{stands-same}
@@ -39,24 +37,6 @@ module _ {K V : Type 0} (most : ℕ) (one : 1 ≤ half_of most) (slots : List (C
     leaf = record { before = p.before; entries = p.entries; after = p.after; row_is = p.leaves_are; within = low; place_is = p.place_is };
     above = p.above;
     size_is = p.size_is;
-  }
-
-  -- the entry at the place
-  pub pointed_entry : (e : K × V) → slice_get p.entries (get_or indices 0 0) ≡ Some e → slice_get (flat tree.leaves) place ≡ Some e
-  unfolding pointed_here
-  pointed_entry e is = entry_is most one slots path indices size tree place fit inside (pointed_here (slice_get_within p.entries (get_or indices 0 0) e is)) (Some e) is
-
-  -- the place behind that entry
-  pub pointed_behind : (path' indices' : List ℕ) (size' : ℕ) → path' ≡ path → get_or indices' 0 0 ≡ get_or indices 0 0 + 1 → ((i : ℕ) → i ≢ 0 → get_or indices' i 0 ≡ get_or indices i 0) → size' ≡ size → get_or indices 0 0 < length p.entries → PointsAt path' indices' size' tree (suc place)
-  pointed_behind path' indices' size' path_is here above same low = record {
-    before = p.before;
-    entries = p.entries;
-    after = p.after;
-    leaves_are = p.leaves_are ∙ ap (λ z. p.before ++ node (get_or z 0 0) p.entries ∷ p.after) (sym path_is);
-    within = omega (arith, here, low);
-    place_is = omega (arith, here, p.place_is);
-    above = stands-same path indices path' indices' 1 tree.above (length p.before) (λ i low. ap (λ z. get_or z i 0) path_is) (λ i low. above i (λ e. omega (arith, e, low))) p.above;
-    size_is = same ∙ p.size_is;
   }
 
   -- behind the last entry, the first of the next leaf is at the same place

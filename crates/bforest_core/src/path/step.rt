@@ -1,5 +1,5 @@
 //! Steps from an entry to the next, and to the one before.
-ghost use Rattle.std.specs.Prelude.{◌≡◌, ℕ, suc, ◌+◌, ◌-◌, ◌<◌, ◌≤◌, ◌≢◌, ◌↔◌, IfSome, IsSome, IsTrue, false, true, List, [], ◌∷◌, ◌++◌, length, get_or, slice_get, Some, None, if◌then◌else◌};
+ghost use Rattle.std.specs.Prelude.{◌≡◌, ℕ, suc, ◌+◌, ◌-◌, ◌<◌, ◌≤◌, ◌≢◌, ◌↔◌, IfSome, IsTrue, false, true, List, [], ◌∷◌, ◌++◌, length, get_or, slice_get, Some, None, if◌then◌else◌};
 ghost use Rattle.bforest_nodes.specs.Content.{IsLeafCapacity};
 ghost use Rattle.bforest_core.specs.Levels.{LevelNode, flat, Tree, IsFit, most_levels, top_level};
 ghost use Rattle.bforest_core.specs.Descent.{Under, Led, LedLast};
@@ -8,13 +8,13 @@ ghost use Rattle.bforest_core.specs.Place.{inner_content, entry_items, leaf_cont
 ghost use Rattle.bforest_core.specs.Trees.{IsUnion, is_root};
 ghost use Rattle.bforest_core.specs.Steps.{Over, Moved};
 
-use crate::access::{child, entries, get_entry, last_index};
+use crate::access::{child, entries, last_index};
 use crate::path::Path;
 use crate::pool::NodePool;
 use bforest_nodes::Node;
 
 impl<K: Copy, V: Copy, const N: usize> Path<K, V, N> {
-    ghost use Rattle.bforest_core.specs.Paths.{IsAtEnd, OnEntry, Pointing, PointsTo, Standing, StandingUnder, StandsAt, StandsOn, list_under};
+    ghost use Rattle.bforest_core.specs.Paths.{IsAtEnd, OnEntry, OnLeaf, Pointing, Standing, StandingUnder, StandsAt, StandsOn, index_of, leaf_of, list_under};
 
     /// Goes to the first entry of the tree under `root`, and answers it.
     pub fn first(&mut self, root: Node, pool: &NodePool<K, V, N>) -> (K, V)
@@ -26,6 +26,49 @@ impl<K: Copy, V: Copy, const N: usize> Path<K, V, N> {
         let level = self.descend_first(root, 0, pool);
         self.size = level + 1;
         self.entry_here(pool)
+    }
+
+    /// Goes to the first entry of the tree under `root`, and answers its leaf.
+    pub fn first_leaf(&mut self, root: Node, pool: &NodePool<K, V, N>) -> Node
+        requires union { IsUnion N pool.now }
+        requires root { IsTrue (is_root pool.now.nodes root) }
+        ensures leaf { result ≡ leaf_of self.new }
+        ensures index { index_of self.new ≡ 0 }
+        ensures stands { (entries : List (K × V)) × OnLeaf pool.now root self.new 0 entries }
+    {
+        if pool.node(root).is_inner() {
+            self.first(root, pool);
+            self.node[0]
+        } else {
+            self.set_root_node(root);
+            root
+        }
+    }
+
+    /// Goes to the first entry of the next leaf, and answers that leaf. In the last leaf and at the end it answers `None`, and nothing
+    /// changes.
+    pub fn next_leaf(&mut self, pool: &NodePool<K, V, N>) -> Option<Node>
+        requires union { IsUnion N pool.now }
+        requires stands { (¬ IsAtEnd self.old) → OnEntry pool.now self.old }
+        ensures leaf { IfSome result (λ leaf. leaf ≡ leaf_of self.new) }
+        ensures index { IfSome result (λ leaf. index_of self.new ≡ 0) }
+        ensures stands { (root place : ℕ) (entries : List (K × V)) → OnLeaf pool.now root self.old place entries
+            → IfSome result (λ leaf. (more : List (K × V))
+            × OnLeaf pool.now root self.new (place + length entries) more) }
+        ensures last { result ≡ None → (root place : ℕ) (entries : List (K × V))
+            → OnLeaf pool.now root self.old place entries
+            → place + length entries ≡ length (list_under pool.now root) }
+        ensures same { result ≡ None → self.new ≡ self.old }
+        ensures end { IsAtEnd self.old → result ≡ None }
+    {
+        if self.size < 2 {
+            return None;
+        }
+        if !self.next_node(0, pool) {
+            return None;
+        }
+        self.set_entry(0);
+        Some(self.node[0])
     }
 
     // Goes from `node` down to the first entry below it. Answers the node's level. So many levels lie above.
@@ -69,51 +112,6 @@ impl<K: Copy, V: Copy, const N: usize> Path<K, V, N> {
         } else {
             self.size = 0;
             None
-        }
-    }
-
-    /// Goes behind the entry to which it points, and answers the entry. Behind a leaf's last entry it points to the first of the next leaf;
-    /// at the end it answers `None`. Inside a leaf it reads that leaf alone, once.
-    pub fn pass(&mut self, pool: &NodePool<K, V, N>) -> Option<(K, V)>
-        requires union { IsUnion N pool.now }
-        requires points { (¬ IsAtEnd self.old) → Pointing pool.now self.old }
-        ensures value { (at : Pointing pool.now self.old)
-            → result ≡ slice_get (list_under pool.now at.root) at.place }
-        ensures points { (at : Pointing pool.now self.old)
-            → IfSome result (λ entry. PointsTo pool.now at.root self.new (suc at.place)) }
-        ensures end { result ≡ None → IsAtEnd self.new }
-        ensures stays { IsAtEnd self.old → result ≡ None }
-    {
-        match self.pass_here(pool) {
-            Some(entry) => Some(entry),
-            None => {
-                self.normalize(pool);
-                self.pass_here(pool)
-            }
-        }
-    }
-
-    // Goes behind the entry here. Behind the leaf's last entry, and at the end, it answers `None`, and nothing changed.
-    fn pass_here(&mut self, pool: &NodePool<K, V, N>) -> Option<(K, V)>
-        requires union { IsUnion N pool.now }
-        requires points { (¬ IsAtEnd self.old) → Pointing pool.now self.old }
-        ensures passed { (at : Pointing pool.now self.old) → IfSome result
-            (λ entry. (slice_get (list_under pool.now at.root) at.place ≡ Some entry)
-            × PointsTo pool.now at.root self.new (suc at.place)) }
-        ensures some { OnEntry pool.now self.old → IsSome result }
-        ensures end { IsAtEnd self.old → result ≡ None }
-        ensures stays { result ≡ None → self.new ≡ self.old }
-    {
-        if self.size == 0 {
-            return None;
-        }
-        let index = self.entry[0] as usize;
-        match get_entry(pool, self.node[0], index) {
-            Some(entry) => {
-                self.set_entry(index + 1);
-                Some(entry)
-            }
-            None => None,
         }
     }
 

@@ -1,5 +1,5 @@
 use Rattle.bforest_trees.proofs.Changed.{list-root, live-root}
-use Rattle.bforest_trees.proofs.Reading.{reading, standing}
+use Rattle.bforest_trees.proofs.Reading.{standing}
 use Rattle.bforest.proofs.map_into_iter.first_path.Goals as goal
 use Rattle.bforest.specs.Forest.{IsLive, list_of}
 use Rattle.std.proofs.Common.{Option, Some, ap, rules, subst, sym, ◌∙◌, ◌≡◌, ℕ}
@@ -10,8 +10,8 @@ first-requires g c =
     let root = live-root c.args.pool.now c.in-Some.root (subst (λ (h : Option ℕ). IsLive c.args.pool.now h) handle c.requires.live) in
     (search rules, (search rules, (c.requires.union, root)))
 
-pub returns-in-Some-clause-reading : goal.returns-in-Some-clause-reading
-returns-in-Some-clause-reading g c = reading c.args.pool.now c.in-Some.root c.first.new.self 0 c.requires.union c.first.ensures.stands
+pub returns-in-Some-clause-on : goal.returns-in-Some-clause-on
+returns-in-Some-clause-on g c = record { union = c.requires.union; stands = λ some. record { root = c.in-Some.root; place = 0; on = c.first.ensures.stands } }
 
 pub returns-in-Some-clause-entries : goal.returns-in-Some-clause-entries
 returns-in-Some-clause-entries g c =

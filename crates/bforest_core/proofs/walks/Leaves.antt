@@ -1,0 +1,101 @@
+-- The leaf in which a path stands: its entries in the list, and the step to the next leaf.
+use Rattle.std.proofs.Common.{◌≡◌, ◌≢◌, ℕ, suc, ◌+◌, ◌<◌, IsTrue, List, [], ◌∷◌, ◌++◌, drop, length, get_or, slice_get, Some, refl, sym, ap, subst, ◌∙◌, arith, append_assoc, length-append}
+use Rattle.std.proofs.lemmas.List.{drop_at}
+use Rattle.bforest_nodes.specs.Content.{Content, IsInner, IsLeaf}
+use Rattle.bforest_core.specs.declared.path.Path.{Path}
+use Rattle.bforest_core.specs.Levels.{Tree, flat, heads, node}
+use Rattle.bforest_core.specs.Paths.{OnLeaf, StandsOn, index_of, leaf_of, list_under}
+use Rattle.bforest_core.specs.Place.{Stands, leaf_content}
+use Rattle.bforest_core.specs.Steps.{Moved, Over}
+use Rattle.bforest_core.specs.Table.{Table}
+use Rattle.bforest_core.specs.Trees.{IsUnion, entries_of, is_root, slot, tree_of}
+use Rattle.bforest_core.proofs.rows.LevelRows.{flat-append}
+use Rattle.bforest_core.proofs.table.Read.{slot-is, zip-back}
+use Rattle.bforest_core.proofs.table.Stored.{some_same}
+use Rattle.bforest_core.proofs.union.Unions.{is-rooted}
+use Rattle.bforest_core.proofs.walks.Descent.{some_leaf}
+use Rattle.bforest_core.proofs.walks.Entered.{leaf_last, leaf_next, leaf_slot, over_leaves}
+use Rattle.bforest_core.proofs.walks.Leading.{front_leaf}
+use Rattle.bforest_core.proofs.walks.Steps.{only}
+use Rattle.bforest_core.proofs.walks.Whole.{whole_top, whole_under}
+
+-- from its leaf's first entry on the list is the leaf's entries, and what follows
+leaf-rest : {K V : Type 0} (path indices : List ℕ) (size : ℕ) (tree : Tree K V) (place : ℕ) (s : Stands path indices size tree place) → drop (length (flat s.leaf.before)) (flat tree.leaves) ≡ s.leaf.entries ++ drop (length (flat s.leaf.before) + length s.leaf.entries) (flat tree.leaves)
+leaf-rest path indices size tree place s =
+    let front = flat s.leaf.before in
+    let entries = s.leaf.entries in
+    let rest = flat s.leaf.after in
+    let whole : flat tree.leaves ≡ front ++ (entries ++ rest) = ap flat s.leaf.row_is ∙ flat-append s.leaf.before (node (get_or path 0 0) entries ∷ s.leaf.after) in
+    let behind : drop (length front + length entries) (flat tree.leaves) ≡ rest = ap (λ z. drop (length front + length entries) z) (whole ∙ sym (append_assoc front entries rest)) ∙ drop_at (front ++ entries) rest (length front + length entries) (length-append front entries) in
+    ap (λ z. drop (length front) z) whole ∙ drop_at front (entries ++ rest) (length front) refl ∙ ap (λ z. entries ++ z) (sym behind)
+
+-- a leaf has these entries alone
+leaf-same : {K V : Type 0} (slots : List (Content K V)) (number : ℕ) (xs ys : List (K × V)) → slice_get slots number ≡ Some (leaf_content xs) → slice_get slots number ≡ Some (leaf_content ys) → xs ≡ ys
+leaf-same slots number xs ys first second =
+    let same : leaf_content xs ≡ leaf_content ys = some_same (leaf_content xs) (leaf_content ys) (sym first ∙ second) in
+    sym (zip-back xs) ∙ ap entries_of same ∙ zip-back ys
+
+-- a root that is no inner node is a leaf
+pub root-leaf : {K V : Type 0} (most : ℕ) (table : Table K V) (union : IsUnion most table) (root : ℕ) (content : Content K V) → IsTrue (is_root table.nodes root) → slice_get table.nodes root ≡ Some content → (IsInner content → ⊥) → IsLeaf (slot table.nodes root)
+root-leaf most table union root content is found other =
+    let tree = tree_of table.nodes root in
+    let w = is-rooted most table root union is in
+    let t = whole_top most table.nodes root tree w in
+    let f = front_leaf most (some_leaf most union.1.capacity) table.nodes tree.leaves tree.above t.first root [] (whole_under most table.nodes root tree w) content found other in
+    subst IsLeaf (sym (slot-is table.nodes root _ f.slot_is)) tt
+
+module _ {K V : Type 0} {n : ℕ} (most : ℕ) (table : Table K V) (union : IsUnion most table) where
+  -- a path on a leaf's first entry, with all that stand there
+  pub leaf-front : (root place : ℕ) (path : Path K V n) → StandsOn table root path place → index_of path ≡ 0 → (entries : List (K × V)) × OnLeaf table root path place entries
+  leaf-front root place path on first =
+      let tree = tree_of table.nodes root in
+      let w = is-rooted most table root union on.root_is in
+      let s = on.stands in
+      let here : length (flat s.leaf.before) ≡ place = omega (arith, s.leaf.place_is, first) in
+      let list : drop place (list_under table root) ≡ s.leaf.entries ++ drop (place + length s.leaf.entries) (list_under table root) = subst (λ (z : ℕ). drop z (list_under table root) ≡ s.leaf.entries ++ drop (z + length s.leaf.entries) (list_under table root)) here (leaf-rest path.node path.entry path.size tree place s) in (
+        s.leaf.entries,
+        record {
+          on = subst (λ (z : ℕ). StandsOn table root path z) (omega (arith, first)) on;
+          within = s.leaf.within;
+          leaf = leaf_slot most (some_leaf most union.1.capacity) table.nodes path.node path.entry path.size tree place w.fit w.inside s;
+          list = list;
+        },
+      )
+
+  module _ (root place : ℕ) (path : Path K V n) (entries : List (K × V)) (o : OnLeaf table root path place entries) where
+    -- the entries are those of the path's leaf, which begin at this place
+    leaf-entries : o.on.stands.leaf.entries ≡ entries
+    leaf-entries =
+        let w = is-rooted most table root union o.on.root_is in
+        leaf-same table.nodes (leaf_of path) o.on.stands.leaf.entries entries (leaf_slot most (some_leaf most union.1.capacity) table.nodes path.node path.entry path.size (tree_of table.nodes root) (place + index_of path) w.fit w.inside o.on.stands) o.leaf
+
+    behind-leaf : length (flat o.on.stands.leaf.before) + length o.on.stands.leaf.entries ≡ place + length entries
+    behind-leaf = omega (arith, o.on.stands.leaf.place_is, ap length leaf-entries)
+
+    -- the rows above it
+    pub leaf-over : Over table.nodes path.node path.entry 1 path.size (tree_of table.nodes root).above (heads (tree_of table.nodes root).leaves) (length o.on.stands.leaf.before)
+    leaf-over =
+        let w = is-rooted most table root union o.on.root_is in
+        over_leaves most (some_leaf most union.1.capacity) table.nodes path.node path.entry path.size (tree_of table.nodes root) (place + index_of path) w.fit w.inside o.on.stands
+
+    -- the last leaf's entries are the last of the list
+    pub leaf-end : suc (length o.on.stands.leaf.before) ≡ length (heads (tree_of table.nodes root).leaves) → place + length entries ≡ length (list_under table root)
+    leaf-end last =
+        let w = is-rooted most table root union o.on.root_is in
+        sym behind-leaf ∙ leaf_last most (some_leaf most union.1.capacity) table.nodes path.node path.entry path.size (tree_of table.nodes root) (place + index_of path) w.fit w.inside o.on.stands last
+
+    -- the leaf of a path of one level is the last
+    pub leaf-only : path.size < 2 → place + length entries ≡ length (list_under table root)
+    leaf-only low =
+        let tree = tree_of table.nodes root in
+        let alone = only table.nodes path.node path.entry 1 path.size tree.above (heads tree.leaves) (length o.on.stands.leaf.before) leaf-over (omega (arith, low, o.on.stands.size_is)) in
+        leaf-end (omega (arith, alone.0, alone.1))
+
+    -- the step to the next leaf
+    pub leaf-next : (moved new : Path K V n) → Moved path.node path.entry moved.node moved.entry 0 (tree_of table.nodes root).above (heads (tree_of table.nodes root).leaves) (suc (length o.on.stands.leaf.before)) → new.node ≡ moved.node → get_or new.entry 0 0 ≡ 0 → ((i : ℕ) → i ≢ 0 → get_or new.entry i 0 ≡ get_or moved.entry i 0) → new.size ≡ path.size → (more : List (K × V)) × OnLeaf table root new (place + length entries) more
+    leaf-next moved new m nodes first above size =
+        let tree = tree_of table.nodes root in
+        let w = is-rooted most table root union o.on.root_is in
+        let s = leaf_next most (some_leaf most union.1.capacity) table.nodes path.node path.entry path.size tree (place + index_of path) w.fit w.inside o.on.stands moved.node moved.entry new.node new.entry m nodes first above in
+        let on : StandsOn table root new (length (flat o.on.stands.leaf.before) + length o.on.stands.leaf.entries) = record { root_is = o.on.root_is; stands = record { leaf = s.leaf; above = s.above; size_is = size ∙ s.size_is } } in
+        leaf-front root (place + length entries) new (subst (λ (z : ℕ). StandsOn table root new z) behind-leaf on) first

@@ -1,0 +1,106 @@
+//! Reading the entries of a tree in order.
+ghost use Rattle.bforest_core.specs.Trees.{IsUnion};
+ghost use Rattle.bforest_trees.specs.Forest.{Forest, IsLive, list_of};
+ghost use Rattle.bforest_trees.specs.Layout.{Entered, IsReader, Opens, left_of};
+ghost use Rattle.std.specs.Iterator.{YieldsFirst};
+ghost use Rattle.std.specs.Prelude.{List, Some, [], false, length, slice_get, true, ◌+◌, ◌<◌, ◌≡◌};
+
+use bforest_core::{Node, NodePool, PackedNode, Path};
+
+/// What is left of the entries of a tree: those of one leaf, which it holds as two slices, and those behind them. A step inside a leaf
+/// reads the slices alone; the path is for the steps from leaf to leaf.
+#[derive(Drop)]
+pub struct Reader<'a, K: Copy, V: Copy, const N: usize> {
+    keys: &'a [K],
+    vals: &'a [V],
+    // Of the leaf's entry that comes next.
+    index: usize,
+    // On the first entry of the leaf.
+    path: Path<K, V, N>,
+}
+
+impl<'a, K: Copy, V: Copy, const N: usize> Reader<'a, K, V, N> {
+    /// With no entry left. It is long, so build it where it stays, and then `start` it.
+    pub fn new() -> Reader<'a, K, V, N>
+        ensures none { (f : Forest K V) → left_of f result ≡ [] }
+        ensures reader { (f : Forest K V) → IsUnion N f → IsReader f result }
+    {
+        Reader {
+            keys: &[],
+            vals: &[],
+            index: 0,
+            path: Path::default(),
+        }
+    }
+
+    /// Goes to the first entry of a handle's tree, if it has one. Before that no entry may be left.
+    pub fn start(&mut self, handle: PackedNode, pool: &'a NodePool<K, V, N>)
+        requires live { IsLive pool.now handle }
+        requires reader { IsReader pool.now self.old }
+        requires none { left_of pool.now self.old ≡ [] }
+        ensures left { left_of pool.now self.new ≡ list_of pool.now handle }
+        ensures reader { IsReader pool.now self.new }
+    {
+        if let Some(root) = handle.expand() {
+            let leaf = self.path.first_leaf(root, pool);
+            self.enter(leaf, pool);
+        }
+    }
+
+    /// Takes the first entry off what is left.
+    pub fn next(&mut self, pool: &'a NodePool<K, V, N>) -> Option<(K, V)>
+        requires reader { IsReader pool.now self.old }
+        ensures steps { YieldsFirst (left_of pool.now) self.old result self.new }
+        ensures reader { IsReader pool.now self.new }
+    {
+        if self.is_left(pool) {
+            Some(self.take_first())
+        } else {
+            None
+        }
+    }
+
+    // Whether an entry is left. Where those of its leaf are read, it goes to the next leaf.
+    fn is_left(&mut self, pool: &'a NodePool<K, V, N>) -> bool
+        requires reader { IsReader pool.now self.old }
+        ensures entered { result ≡ true → Entered pool.now (left_of pool.now self.old) self.new }
+        ensures none { result ≡ false → left_of pool.now self.old ≡ [] }
+        ensures same { result ≡ false → self.new ≡ self.old }
+    {
+        if self.index < self.keys.len() {
+            return true;
+        }
+        match self.path.next_leaf(pool) {
+            Some(leaf) => {
+                self.enter(leaf, pool);
+                true
+            }
+            None => false,
+        }
+    }
+
+    // Holds the leaf on whose first entry the path stands.
+    fn enter(&mut self, leaf: Node, pool: &'a NodePool<K, V, N>)
+        requires opens { (left : List (K × V)) × Opens pool.now left self.old.path leaf }
+        ensures entered { (left : List (K × V)) → Opens pool.now left self.old.path leaf
+            → Entered pool.now left self.new }
+    {
+        let (keys, vals) = pool.node(leaf).unwrap_leaf();
+        self.keys = keys;
+        self.vals = vals;
+        self.index = 0;
+    }
+
+    // Takes the first entry, which is of the leaf that it holds.
+    fn take_first(&mut self) -> (K, V)
+        requires within { self.old.index < length self.old.keys.now }
+        requires same { length self.old.keys.now ≡ length self.old.vals.now }
+        ensures key { slice_get self.old.keys.now self.old.index ≡ Some result.0 }
+        ensures value { slice_get self.old.vals.now self.old.index ≡ Some result.1 }
+        ensures rest { self.new ≡ record self.old { index = self.old.index + 1 } }
+    {
+        let entry = (self.keys[self.index], self.vals[self.index]);
+        self.index += 1;
+        entry
+    }
+}
