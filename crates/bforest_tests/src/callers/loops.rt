@@ -17,7 +17,8 @@ pub fn remove_every_second<K: Copy, V: Copy, C: Comparator<K>>(
 )
     requires live { IsLive forest.old map.old }
     requires increasing { IsIncreasing (C.order comp.now) (list_of forest.old map.old) }
-    ensures becomes { Becomes forest.old map.old forest.new map.new (every_other (list_of forest.old map.old)) }
+    ensures becomes { Becomes forest.old map.old forest.new map.new
+        (every_other (list_of forest.old map.old)) }
 {
     let mut cursor = map.cursor_mut(forest, comp);
     cursor.goto_first();
@@ -94,8 +95,8 @@ fn extend<K: Copy, C: Comparator<K>>(cursor: &mut MapCursorMut<K, K, C>, end: K)
     requires ready { IsReadable K.row K.row }
     requires second { 0 < spot cursor.old }
     requires within { spot cursor.old < length (entries cursor.old) }
-    ensures becomes { Becomes (forest_now cursor.old) (map_now cursor.old) (forest_now cursor.new) (map_now cursor.new)
-        (with_value (remove (entries cursor.old) (spot cursor.old)) (spot cursor.old - 1) end) }
+    ensures becomes { Becomes (forest_now cursor.old) (map_now cursor.old) (forest_now cursor.new)
+        (map_now cursor.new) (with_value (remove (entries cursor.old) (spot cursor.old)) (spot cursor.old - 1) end) }
     ensures goes { Goes C.order cursor.old cursor.new (spot cursor.old - 1) }
 {
     cursor.remove();
