@@ -52,8 +52,8 @@ impl<K: Copy, V: Copy, const N: usize> Path<K, V, N> {
         requires stands { (¬ IsAtEnd self.old) → OnEntry pool.now self.old }
         ensures leaf { IfSome result (λ leaf. leaf ≡ leaf_of self.new) }
         ensures index { IfSome result (λ leaf. index_of self.new ≡ 0) }
-        ensures stands { (root place : ℕ) (entries : List (K × V))
-            → OnLeaf pool.now root self.old place entries → IfSome result (λ leaf. (more : List (K × V))
+        ensures stands { (root place : ℕ) (entries : List (K × V)) → OnLeaf pool.now root self.old place entries
+            → IfSome result (λ leaf. (more : List (K × V))
             × OnLeaf pool.now root self.new (place + length entries) more) }
         ensures last { result ≡ None → (root place : ℕ) (entries : List (K × V))
             → OnLeaf pool.now root self.old place entries
