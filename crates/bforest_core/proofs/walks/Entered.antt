@@ -1,5 +1,5 @@
 -- A step of a path from entry to entry of a tree.
-use Rattle.std.proofs.Common.{◌≡◌, ◌≢◌, ℕ, zero, suc, ◌+◌, ◌≤◌, ◌<◌, List, [], ◌∷◌, ◌++◌, length, get_or, slice_get, Option, Some, sym, ap, subst, ◌∙◌, arith, length-append}
+use Rattle.std.proofs.Common.{◌≡◌, ◌≢◌, ℕ, zero, suc, ◌+◌, ◌≤◌, ◌<◌, List, [], ◌∷◌, ◌++◌, length, get_or, slice_get, Option, None, Some, refl, sym, ap, option_map, subst, ◌∙◌, arith, length-append}
 use Rattle.bforest_nodes.specs.Content.{Content}
 use Rattle.bforest_core.specs.Levels.{LevelNode, node, flat, heads, FitRow, Tree, IsFit, half_of}
 use Rattle.bforest_core.specs.Place.{RowIn, leaf_content, entry_keys, entry_items, StandsAbove, Stands, IsIn}
@@ -18,6 +18,19 @@ pair_read (y ∷ es) zero k x e f =
     let b : y.1 ≡ x = some_same y.1 x f in
     ap (λ z. Some (z, y.1)) a ∙ ap (λ z. Some (k, z)) b
 pair_read (y ∷ es) (suc i) k x e f = pair_read es i k x e f
+
+-- an entry, or none, from its key and its value
+pub pair_answer : {K X : Type 0} (es : List (K × X)) (i : ℕ) (o : Option (K × X)) → option_map (λ (e : K × X). e.0) o ≡ slice_get (entry_keys es) i → option_map (λ (e : K × X). e.1) o ≡ slice_get (entry_items es) i → o ≡ slice_get es i
+pair_answer es i (Some e) k x = sym (pair_read es i e.0 e.1 (sym k) (sym x))
+pair_answer [] i None k x = refl
+pair_answer (y ∷ es) zero None k x = absurd cc
+pair_answer (y ∷ es) (suc i) None k x = pair_answer es i None k x
+
+-- where no entry is read, none lies
+pub none_past : {X : Type 0} (xs : List X) (i : ℕ) → None ≡ slice_get xs i → i < length xs → ⊥
+none_past [] i none low = omega (arith, low)
+none_past (x ∷ xs) zero none low = absurd cc
+none_past (x ∷ xs) (suc i) none low = none_past xs i none (omega (arith, low))
 
 module _ {K V : Type 0} (most : ℕ) (one : 1 ≤ half_of most) (slots : List (Content K V)) (path indices : List ℕ) (size : ℕ) (tree : Tree K V) (place : ℕ) (fit : IsFit most tree) (inside : IsIn slots tree) (s : Stands path indices size tree place) where
   pub leaf_slot : slice_get slots (get_or path 0 0) ≡ Some (leaf_content s.leaf.entries)

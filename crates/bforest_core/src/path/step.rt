@@ -23,8 +23,7 @@ impl<K: Copy, V: Copy, const N: usize> Path<K, V, N> {
         ensures value { slice_get (list_under pool.now root) 0 ≡ Some result }
         ensures stands { StandsOn pool.now root self.new 0 }
     {
-        let level = self.descend_first(root, 0, pool);
-        self.size = level + 1;
+        self.first_leaf(root, pool);
         self.entry_here(pool)
     }
 
@@ -36,13 +35,13 @@ impl<K: Copy, V: Copy, const N: usize> Path<K, V, N> {
         ensures index { index_of self.new ≡ 0 }
         ensures stands { (entries : List (K × V)) × OnLeaf pool.now root self.new 0 entries }
     {
-        if pool.node(root).is_inner() {
-            self.first(root, pool);
-            self.node[0]
-        } else {
+        if !pool.node(root).is_inner() {
             self.set_root_node(root);
-            root
+            return root;
         }
+        let level = self.descend_first(root, 0, pool);
+        self.size = level + 1;
+        self.node[0]
     }
 
     /// Goes to the first entry of the next leaf, and answers that leaf. In the last leaf and at the end it answers `None`, and nothing
@@ -52,7 +51,8 @@ impl<K: Copy, V: Copy, const N: usize> Path<K, V, N> {
         requires stands { (¬ IsAtEnd self.old) → OnEntry pool.now self.old }
         ensures leaf { IfSome result (λ leaf. leaf ≡ leaf_of self.new) }
         ensures index { IfSome result (λ leaf. index_of self.new ≡ 0) }
-        ensures stands { (root place : ℕ) (entries : List (K × V)) → OnLeaf pool.now root self.old place entries
+        ensures stands { (root place : ℕ) (entries : List (K × V))
+            → OnLeaf pool.now root self.old place entries
             → IfSome result (λ leaf. (more : List (K × V))
             × OnLeaf pool.now root self.new (place + length entries) more) }
         ensures last { result ≡ None → (root place : ℕ) (entries : List (K × V))
@@ -107,39 +107,51 @@ impl<K: Copy, V: Copy, const N: usize> Path<K, V, N> {
         if self.size == 0 {
             return None;
         }
-        if self.next_entry(pool) {
-            Some(self.entry_here(pool))
-        } else {
+        let Some(entry) = self.next_entry(pool) else {
             self.size = 0;
-            None
-        }
+            return None;
+        };
+        Some(entry)
     }
 
-    // Goes to the next entry. At the last it answers false, and nothing changed.
-    fn next_entry(&mut self, pool: &NodePool<K, V, N>) -> bool
+    // Goes to the next entry and answers it. At the last it answers `None`, and nothing changed.
+    fn next_entry(&mut self, pool: &NodePool<K, V, N>) -> Option<(K, V)>
         requires capacity { IsLeafCapacity N }
         requires height { self.old.size ≤ most_levels }
         requires stands { (tree : Tree K V) × (place : ℕ) × IsFit N tree × IsIn pool.now.nodes tree
             × Stands self.old.node self.old.entry self.old.size tree place }
-        ensures moved { result ≡ true → (tree : Tree K V) (place : ℕ) → IsFit N tree
+        ensures value { (tree : Tree K V) (place : ℕ) → IsFit N tree
             → IsIn pool.now.nodes tree → Stands self.old.node self.old.entry self.old.size tree place
-            → Stands self.new.node self.new.entry self.old.size tree (suc place) }
-        ensures last { result ≡ false → (tree : Tree K V) (place : ℕ) → IsFit N tree
+            → result ≡ slice_get (flat tree.leaves) (suc place) }
+        ensures moved { IfSome result (λ entry. (tree : Tree K V) (place : ℕ) → IsFit N tree
+            → IsIn pool.now.nodes tree → Stands self.old.node self.old.entry self.old.size tree place
+            → Stands self.new.node self.new.entry self.old.size tree (suc place)) }
+        ensures last { result ≡ None → (tree : Tree K V) (place : ℕ) → IsFit N tree
             → IsIn pool.now.nodes tree → Stands self.old.node self.old.entry self.old.size tree place
             → suc place ≡ length (flat tree.leaves) }
-        ensures same { result ≡ false → self.new ≡ self.old }
         ensures size { self.new.size ≡ self.old.size }
     {
         let next = self.entry[0] as usize + 1;
-        if self.has_entry(next, pool) {
+        if let Some(entry) = self.leaf_entry(next, pool) {
             self.set_entry(next);
-            return true;
+            return Some(entry);
         }
-        let moved = self.next_node(0, pool);
-        if moved {
-            self.set_entry(0);
+        if !self.next_node(0, pool) {
+            return None;
         }
-        moved
+        self.set_entry(0);
+        Some(self.entry_here(pool))
+    }
+
+    // The entry of the path's leaf at this index, or `None` where the leaf has none there.
+    fn leaf_entry(&self, index: usize, pool: &NodePool<K, V, N>) -> Option<(K, V)>
+        requires { (entries : List (K × V)) × (slice_get pool.now.nodes (get_or self.now.node 0 0)
+            ≡ Some (leaf_content entries)) }
+        ensures value { (entries : List (K × V)) → slice_get pool.now.nodes (get_or self.now.node 0 0)
+            ≡ Some (leaf_content entries) → result ≡ slice_get entries index }
+        ensures most { IfSome result (λ entry. index ≤ 255) }
+    {
+        pool.node(self.node[0]).get_entry(index)
     }
 
     // Whether the path's leaf has an entry of this index.
@@ -274,6 +286,7 @@ impl<K: Copy, V: Copy, const N: usize> Path<K, V, N> {
     }
 
     /// Goes to the entry before and answers it; from the end it goes to the last. At the first entry it stays, and answers `None`.
+    #[inline(always)]
     pub fn prev(&mut self, root: Node, pool: &NodePool<K, V, N>) -> Option<(K, V)>
         requires union { IsUnion N pool.now }
         requires root { IsTrue (is_root pool.now.nodes root) }

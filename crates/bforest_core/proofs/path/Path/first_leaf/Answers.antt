@@ -1,4 +1,4 @@
-use Rattle.std.proofs.Common.{rules, [], sym, ◌∙◌, arith}
+use Rattle.std.proofs.Common.{rules, [], sym, ◌+◌, ◌∙◌, arith}
 use Rattle.std.proofs.lemmas.Bool.{false≢true}
 use Rattle.bforest_core.specs.Paths.{StandsOn}
 use Rattle.bforest_core.specs.Trees.{tree_of}
@@ -6,7 +6,7 @@ use Rattle.bforest_core.proofs.union.Unions.{is-rooted}
 use Rattle.bforest_core.proofs.walks.Descent.{some_leaf}
 use Rattle.bforest_core.proofs.walks.Leading.{front_within}
 use Rattle.bforest_core.proofs.walks.Leaves.{leaf-front, root-leaf}
-use Rattle.bforest_core.proofs.walks.Whole.{whole_top, whole_under}
+use Rattle.bforest_core.proofs.walks.Whole.{led_stands, whole_top, whole_under}
 use Rattle.bforest_core.proofs.path.Path.first_leaf.Given.{Over}
 use Rattle.bforest_core.proofs.path.Path.first_leaf.Goals as goal
 
@@ -17,22 +17,51 @@ node-requires g c =
     let w = is-rooted g.row.N c.args.pool.now c.args.root c.requires.union c.requires.root in
     (search rules, (search rules, front_within g.row.N (some_leaf _ c.requires.union.1.capacity) slots tree.leaves tree.above (whole_top g.row.N slots c.args.root tree w).first c.args.root [] (whole_under g.row.N slots c.args.root tree w)))
 
-pub returns-then-is_inner-clause-index : goal.returns-then-is_inner-clause-index
-returns-then-is_inner-clause-index g c = omega (arith, c.first.ensures.stands.stands.leaf.place_is)
-
-pub returns-then-is_inner-clause-stands : goal.returns-then-is_inner-clause-stands
-returns-then-is_inner-clause-stands g c = leaf-front g.row.N c.args.pool.now c.requires.union c.args.root 0 c.first.new.self c.first.ensures.stands (omega (arith, c.first.ensures.stands.stands.leaf.place_is))
-
 -- the path on the root, which is a leaf
 alone : (g : Over) (c : goal.After-set_root_node g) → StandsOn c.args.pool.now c.args.root c.set_root_node.new.self 0
 alone g c =
-    let leaf = root-leaf g.row.N c.args.pool.now c.requires.union c.args.root _ c.requires.root c.node.ensures.value (λ inner. false≢true (sym c.if-is_inner.false ∙ c.is_inner.ensures.inner.1 inner)) in
+    let leaf = root-leaf g.row.N c.args.pool.now c.requires.union c.args.root _ c.requires.root c.node.ensures.value (λ inner. false≢true (sym c.if-not-is_inner.true ∙ c.is_inner.ensures.inner.1 inner)) in
     c.set_root_node.ensures.stands c.args.pool.now c.requires.union c.requires.root leaf
 
-pub returns-else-is_inner-clause-index : goal.returns-else-is_inner-clause-index
-returns-else-is_inner-clause-index g c = let on = alone g c in omega (arith, on.stands.leaf.place_is)
+pub returns-then-not-is_inner-clause-index : goal.returns-then-not-is_inner-clause-index
+returns-then-not-is_inner-clause-index g c = let on = alone g c in omega (arith, on.stands.leaf.place_is)
 
-pub returns-else-is_inner-clause-stands : goal.returns-else-is_inner-clause-stands
-returns-else-is_inner-clause-stands g c =
+pub returns-then-not-is_inner-clause-stands : goal.returns-then-not-is_inner-clause-stands
+returns-then-not-is_inner-clause-stands g c =
     let on = alone g c in
     leaf-front g.row.N c.args.pool.now c.requires.union c.args.root 0 c.set_root_node.new.self on (omega (arith, on.stands.leaf.place_is))
+
+pub descend_first-level-requires : goal.descend_first-level-requires
+descend_first-level-requires g c =
+    let slots = c.args.pool.now.nodes in
+    let tree = tree_of slots c.args.root in
+    let w = is-rooted g.row.N c.args.pool.now c.args.root c.requires.union c.requires.root in
+    (search rules, (search rules, (c.requires.union.1.capacity, (tree.leaves, tree.above, (whole_top g.row.N slots c.args.root tree w).first, [], whole_under g.row.N slots c.args.root tree w, omega (arith, w.low)))))
+
+pub overflow_add-self : goal.overflow_add-self
+overflow_add-self g c =
+    let slots = c.args.pool.now.nodes in
+    let tree = tree_of slots c.args.root in
+    let w = is-rooted g.row.N c.args.pool.now c.args.root c.requires.union c.requires.root in
+    let r = c.descend_first-level.ensures.level tree.leaves tree.above (whole_top g.row.N slots c.args.root tree w).first [] (whole_under g.row.N slots c.args.root tree w) in
+    omega (arith, r.0, w.low)
+
+pub returns-clause-index : goal.returns-clause-index
+returns-clause-index g c =
+    let slots = c.args.pool.now.nodes in
+    let tree = tree_of slots c.args.root in
+    let w = is-rooted g.row.N c.args.pool.now c.args.root c.requires.union c.requires.root in
+    let path = c.descend_first-level.new.self in
+    let r = c.descend_first-level.ensures.level tree.leaves tree.above (whole_top g.row.N slots c.args.root tree w).first [] (whole_under g.row.N slots c.args.root tree w) in
+    let s = led_stands tree c.args.self.now.node c.args.self.now.entry path.node path.entry (c.descend_first-level.result + 1) r.1 (omega (arith, r.0)) in
+    omega (arith, s.leaf.place_is)
+
+pub returns-clause-stands : goal.returns-clause-stands
+returns-clause-stands g c =
+    let slots = c.args.pool.now.nodes in
+    let tree = tree_of slots c.args.root in
+    let w = is-rooted g.row.N c.args.pool.now c.args.root c.requires.union c.requires.root in
+    let path = c.descend_first-level.new.self in
+    let r = c.descend_first-level.ensures.level tree.leaves tree.above (whole_top g.row.N slots c.args.root tree w).first [] (whole_under g.row.N slots c.args.root tree w) in
+    let s = led_stands tree c.args.self.now.node c.args.self.now.entry path.node path.entry (c.descend_first-level.result + 1) r.1 (omega (arith, r.0)) in
+    leaf-front g.row.N c.args.pool.now c.requires.union c.args.root 0 (record path { size = c.descend_first-level.result + 1 }) (record { root_is = c.requires.root; stands = s }) (omega (arith, s.leaf.place_is))

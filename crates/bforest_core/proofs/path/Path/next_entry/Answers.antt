@@ -1,9 +1,11 @@
-use Rattle.std.proofs.Common.{rules, ◌+◌, ◌<◌, ◌≤◌, length, get_or, sym, ◌∙◌, arith}
-use Rattle.std.proofs.lemmas.Bool.{false≢true}
-use Rattle.bforest_core.specs.Levels.{heads}
+use Rattle.std.proofs.Common.{rules, List, Some, ◌+◌, ◌≤◌, ◌≡◌, ℕ, suc, length, get_or, slice_get, sym, ap, ◌∙◌, arith}
+use Rattle.bforest_core.specs.Levels.{IsFit, Tree, flat, heads}
+use Rattle.bforest_core.specs.Place.{IsIn, Stands}
 use Rattle.bforest_core.proofs.walks.Descent.{some_leaf}
-use Rattle.bforest_core.proofs.walks.Entered.{leaf_slot, over_leaves, entry_within, entry_over, entry_last, leaf_room}
+use Rattle.bforest_core.proofs.walks.Entered.{entry_is, entry_last, entry_over, entry_within, leaf_room, leaf_slot, none_past, over_leaves}
+use Rattle.bforest_core.proofs.path.Path.next_entry.Given.{Over}
 use Rattle.bforest_core.proofs.path.Path.next_entry.Goals as goal
+use Rattle.std.proofs.lemmas.Option.{slice_get_past, slice_get_within}
 
 pub overflow_add-next : goal.overflow_add-next
 overflow_add-next g c =
@@ -11,51 +13,87 @@ overflow_add-next g c =
     let room : length w.4.leaf.entries ≤ g.row.N = leaf_room g.row.N (some_leaf _ c.requires.capacity) c.args.pool.now.nodes c.args.self.now.node c.args.self.now.entry c.args.self.now.size w.0 w.1 w.2 w.3 w.4 in
     omega (arith, w.4.leaf.within, room, c.requires.capacity.most)
 
-pub has_entry-requires : goal.has_entry-requires
-has_entry-requires g c =
+pub leaf_entry-requires : goal.leaf_entry-requires
+leaf_entry-requires g c =
     let w = c.requires.stands in
     (search rules, (search rules, (w.4.leaf.entries, leaf_slot g.row.N (some_leaf _ c.requires.capacity) c.args.pool.now.nodes c.args.self.now.node c.args.self.now.entry c.args.self.now.size w.0 w.1 w.2 w.3 w.4)))
 
-pub returns-then-has_entry-clause-moved : goal.returns-then-has_entry-clause-moved
-returns-then-has_entry-clause-moved g c = λ yes tree place fit inside s.
-    let slot = leaf_slot g.row.N (some_leaf _ c.requires.capacity) c.args.pool.now.nodes c.args.self.now.node c.args.self.now.entry c.args.self.now.size tree place fit inside s in
-    entry_within g.row.N (some_leaf _ c.requires.capacity) c.args.pool.now.nodes c.args.self.now.node c.args.self.now.entry c.args.self.now.size tree place fit inside s c.set_entry.new.self.node c.set_entry.new.self.entry c.set_entry.ensures.nodes c.set_entry.ensures.here c.set_entry.ensures.above ((c.has_entry.ensures.within s.leaf.entries slot).0 c.if-has_entry.true)
+-- in the leaf the path went to the next index
+within : (g : Over) (c : goal.After-set_entry g) (tree : Tree g.row.K.Denot g.row.V.Denot) (place : ℕ) → IsFit g.row.N tree → IsIn c.args.pool.now.nodes tree → Stands c.args.self.now.node c.args.self.now.entry c.args.self.now.size tree place → Stands c.set_entry.new.self.node c.set_entry.new.self.entry c.args.self.now.size tree (suc place)
+within g c tree place fit inside s =
+    let one = some_leaf _ c.requires.capacity in
+    let slots = c.args.pool.now.nodes in
+    let path = c.args.self.now in
+    let slot = leaf_slot g.row.N one slots path.node path.entry path.size tree place fit inside s in
+    let low = slice_get_within s.leaf.entries _ _ (sym (c.in-Some.ensures.value s.leaf.entries slot)) in
+    entry_within g.row.N one slots path.node path.entry path.size tree place fit inside s c.set_entry.new.self.node c.set_entry.new.self.entry c.set_entry.ensures.nodes c.set_entry.ensures.here c.set_entry.ensures.above low
 
-pub returns-then-moved-clause-moved : goal.returns-then-moved-clause-moved
-returns-then-moved-clause-moved g c = λ yes tree place fit inside s.
-    let slot = leaf_slot g.row.N (some_leaf _ c.requires.capacity) c.args.pool.now.nodes c.args.self.now.node c.args.self.now.entry c.args.self.now.size tree place fit inside s in
-    let past = λ (low : get_or c.args.self.now.entry 0 0 + 1 < length s.leaf.entries). false≢true (sym c.if-has_entry.false ∙ (c.has_entry.ensures.within s.leaf.entries slot).1 low) in
-    let m = c.next_node-moved.ensures.moved c.if-moved.true tree.above (heads tree.leaves) (length s.leaf.before) (over_leaves g.row.N (some_leaf _ c.requires.capacity) c.args.pool.now.nodes c.args.self.now.node c.args.self.now.entry c.args.self.now.size tree place fit inside s) in
-    entry_over g.row.N (some_leaf _ c.requires.capacity) c.args.pool.now.nodes c.args.self.now.node c.args.self.now.entry c.args.self.now.size tree place fit inside s c.next_node-moved.new.self.node c.next_node-moved.new.self.entry c.set_entry-then-moved.new.self.node c.set_entry-then-moved.new.self.entry m c.set_entry-then-moved.ensures.nodes c.set_entry-then-moved.ensures.here c.set_entry-then-moved.ensures.above past
+pub returns-in-Some-clause-value : goal.returns-in-Some-clause-value
+returns-in-Some-clause-value g c = λ tree place fit inside s.
+    let one = some_leaf _ c.requires.capacity in
+    let slots = c.args.pool.now.nodes in
+    let new = c.set_entry.new.self in
+    let s' = within g c tree place fit inside s in
+    let slot = leaf_slot g.row.N one slots new.node new.entry c.args.self.now.size tree (suc place) fit inside s' in
+    let value = c.in-Some.ensures.value s'.leaf.entries (ap (λ (z : List ℕ). slice_get slots (get_or z 0 0)) (sym c.set_entry.ensures.nodes) ∙ slot) in
+    sym (entry_is g.row.N one slots new.node new.entry c.args.self.now.size tree (suc place) fit inside s' (Some c.in-Some.entry) (ap (λ (i : ℕ). slice_get s'.leaf.entries i) c.set_entry.ensures.here ∙ sym value))
 
-pub returns-else-moved-clause-last : goal.returns-else-moved-clause-last
-returns-else-moved-clause-last g c = λ none tree place fit inside s.
-    let slot = leaf_slot g.row.N (some_leaf _ c.requires.capacity) c.args.pool.now.nodes c.args.self.now.node c.args.self.now.entry c.args.self.now.size tree place fit inside s in
-    let past = λ (low : get_or c.args.self.now.entry 0 0 + 1 < length s.leaf.entries). false≢true (sym c.if-has_entry.false ∙ (c.has_entry.ensures.within s.leaf.entries slot).1 low) in
-    entry_last g.row.N (some_leaf _ c.requires.capacity) c.args.pool.now.nodes c.args.self.now.node c.args.self.now.entry c.args.self.now.size tree place fit inside s past (c.next_node-moved.ensures.last c.if-moved.false tree.above (heads tree.leaves) (length s.leaf.before) (over_leaves g.row.N (some_leaf _ c.requires.capacity) c.args.pool.now.nodes c.args.self.now.node c.args.self.now.entry c.args.self.now.size tree place fit inside s))
+pub returns-in-Some-clause-moved : goal.returns-in-Some-clause-moved
+returns-in-Some-clause-moved g c = λ tree place fit inside s. within g c tree place fit inside s
 
-pub returns-then-has_entry-clause-last : goal.returns-then-has_entry-clause-last
-returns-then-has_entry-clause-last g c = λ no. absurd (false≢true (sym no))
-
-pub returns-then-has_entry-clause-same : goal.returns-then-has_entry-clause-same
-returns-then-has_entry-clause-same g c = λ no. absurd (false≢true (sym no))
-
-pub returns-then-moved-clause-last : goal.returns-then-moved-clause-last
-returns-then-moved-clause-last g c = λ no. absurd (false≢true (sym no ∙ c.if-moved.true))
-
-pub returns-then-moved-clause-same : goal.returns-then-moved-clause-same
-returns-then-moved-clause-same g c = λ no. absurd (false≢true (sym no ∙ c.if-moved.true))
-
-pub returns-else-moved-clause-moved : goal.returns-else-moved-clause-moved
-returns-else-moved-clause-moved g c = λ yes. absurd (false≢true (sym c.if-moved.false ∙ yes))
-
-pub returns-else-moved-clause-same : goal.returns-else-moved-clause-same
-returns-else-moved-clause-same g c = λ no. c.next_node-moved.ensures.same c.if-moved.false
-
-pub next_node-moved-requires : goal.next_node-moved-requires
-next_node-moved-requires g c =
+pub next_node-requires : goal.next_node-requires
+next_node-requires g c =
     let w = c.requires.stands in
     (search rules, (search rules, (c.requires.height, (w.0.above, heads w.0.leaves, length w.4.leaf.before, over_leaves g.row.N (some_leaf _ c.requires.capacity) c.args.pool.now.nodes c.args.self.now.node c.args.self.now.entry c.args.self.now.size w.0 w.1 w.2 w.3 w.4))))
 
-pub set_entry-requires : goal.set_entry-requires
-set_entry-requires g c = (search rules, c.has_entry.ensures.most c.if-has_entry.true)
+-- the leaf was the last, and the entry its last
+last : (g : Over) (c : goal.Then-not-next_node g) (tree : Tree g.row.K.Denot g.row.V.Denot) (place : ℕ) → IsFit g.row.N tree → IsIn c.args.pool.now.nodes tree → Stands c.args.self.now.node c.args.self.now.entry c.args.self.now.size tree place → suc place ≡ length (flat tree.leaves)
+last g c tree place fit inside s =
+    let one = some_leaf _ c.requires.capacity in
+    let slots = c.args.pool.now.nodes in
+    let path = c.args.self.now in
+    let slot = leaf_slot g.row.N one slots path.node path.entry path.size tree place fit inside s in
+    let over = over_leaves g.row.N one slots path.node path.entry path.size tree place fit inside s in
+    entry_last g.row.N one slots path.node path.entry path.size tree place fit inside s (none_past s.leaf.entries (get_or path.entry 0 0 + 1) (c.in_default.ensures.value s.leaf.entries slot)) (c.next_node.ensures.last c.if-not-next_node.true tree.above (heads tree.leaves) (length s.leaf.before) over)
+
+pub returns-then-not-next_node-clause-value : goal.returns-then-not-next_node-clause-value
+returns-then-not-next_node-clause-value g c = λ tree place fit inside s. sym (slice_get_past (flat tree.leaves) (suc place) (omega (arith, last g c tree place fit inside s)))
+
+pub returns-then-not-next_node-clause-last : goal.returns-then-not-next_node-clause-last
+returns-then-not-next_node-clause-last g c = λ none tree place fit inside s. last g c tree place fit inside s
+
+pub entry_here-requires : goal.entry_here-requires
+entry_here-requires g c =
+    let one = some_leaf _ c.requires.capacity in
+    let slots = c.args.pool.now.nodes in
+    let path = c.args.self.now in
+    let new = c.set_entry-2 in
+    let w = c.requires.stands in
+    let s = w.4 in
+    let slot = leaf_slot g.row.N one slots path.node path.entry path.size w.0 w.1 w.2 w.3 s in
+    let m = c.next_node.ensures.moved (search rules) w.0.above (heads w.0.leaves) (length s.leaf.before) (over_leaves g.row.N one slots path.node path.entry path.size w.0 w.1 w.2 w.3 s) in
+    let s' = entry_over g.row.N one slots path.node path.entry path.size w.0 w.1 w.2 w.3 s c.next_node.new.self.node c.next_node.new.self.entry new.new.self.node new.new.self.entry m new.ensures.nodes new.ensures.here new.ensures.above (none_past s.leaf.entries (get_or path.entry 0 0 + 1) (c.in_default.ensures.value s.leaf.entries slot)) in
+    (search rules, (search rules, (s'.leaf.entries, leaf_slot g.row.N one slots new.new.self.node new.new.self.entry path.size w.0 (suc w.1) w.2 w.3 s', s'.leaf.within)))
+
+-- the path went to the first entry of the next leaf
+behind : (g : Over) (c : goal.After-entry_here g) (tree : Tree g.row.K.Denot g.row.V.Denot) (place : ℕ) → IsFit g.row.N tree → IsIn c.args.pool.now.nodes tree → Stands c.args.self.now.node c.args.self.now.entry c.args.self.now.size tree place → Stands c.set_entry-2.new.self.node c.set_entry-2.new.self.entry c.args.self.now.size tree (suc place)
+behind g c tree place fit inside s =
+    let one = some_leaf _ c.requires.capacity in
+    let slots = c.args.pool.now.nodes in
+    let path = c.args.self.now in
+    let slot = leaf_slot g.row.N one slots path.node path.entry path.size tree place fit inside s in
+    let over = over_leaves g.row.N one slots path.node path.entry path.size tree place fit inside s in
+    let m = c.next_node.ensures.moved (search rules) tree.above (heads tree.leaves) (length s.leaf.before) over in
+    entry_over g.row.N one slots path.node path.entry path.size tree place fit inside s c.next_node.new.self.node c.next_node.new.self.entry c.set_entry-2.new.self.node c.set_entry-2.new.self.entry m c.set_entry-2.ensures.nodes c.set_entry-2.ensures.here c.set_entry-2.ensures.above (none_past s.leaf.entries (get_or path.entry 0 0 + 1) (c.in_default.ensures.value s.leaf.entries slot))
+
+pub returns-clause-value : goal.returns-clause-value
+returns-clause-value g c = λ tree place fit inside s.
+    let one = some_leaf _ c.requires.capacity in
+    let slots = c.args.pool.now.nodes in
+    let new = c.set_entry-2.new.self in
+    let s' = behind g c tree place fit inside s in
+    let slot = leaf_slot g.row.N one slots new.node new.entry c.args.self.now.size tree (suc place) fit inside s' in
+    sym (entry_is g.row.N one slots new.node new.entry c.args.self.now.size tree (suc place) fit inside s' (Some c.entry_here.result) (c.entry_here.ensures s'.leaf.entries slot))
+
+pub returns-clause-moved : goal.returns-clause-moved
+returns-clause-moved g c = λ tree place fit inside s. behind g c tree place fit inside s
