@@ -1,13 +1,11 @@
 //! The entries of a map, with the forest that owns them.
 ghost use Rattle.bforest.specs.Forest.{IsLive, list_of};
-ghost use Rattle.bforest_core.specs.Trees.{IsUnion};
-ghost use Rattle.bforest_trees.specs.Layout.{IsOnOrEnds, entries_from};
 ghost use Rattle.std.specs.Iterator.{YieldsFirst, item_count};
 ghost use Rattle.std.specs.Prelude.{◌≡◌};
 
 use crate::forest::MapForest;
 use crate::map::Map;
-use bforest_core::{NodePool, PackedNode, Path};
+use bforest_core::Path;
 use std::marker::Model;
 
 /// The entries of a map, in order, and then `None` for ever. It owns the forest, which ends with it. Made by [`Map::into_iter`]. A step
@@ -36,23 +34,9 @@ impl<K: Copy, V: Copy> MapIntoIter<K, V> {
         requires live { IsLive forest map }
         ensures entries { result ≡ list_of forest map }
     {
-        let path = first_path(map.root, forest.trees.pool());
+        let path = forest.trees.path_to_first(map.root);
         MapIntoIter { forest, path }
     }
-}
-
-// A path to the first entry of a tree, or to the end where there is none.
-fn first_path<K: Copy, V: Copy>(root: PackedNode, pool: &NodePool<K, V, 7>) -> Path<K, V, 7>
-    requires union { IsUnion 7 pool.now }
-    requires live { IsLive pool.now root }
-    ensures on { IsOnOrEnds pool.now result }
-    ensures entries { entries_from pool.now result ≡ list_of pool.now root }
-{
-    let mut path = Path::default();
-    if let Some(root) = root.expand() {
-        path.first(root, pool);
-    }
-    path
 }
 
 impl<K: Copy, V: Copy> Iterator for MapIntoIter<K, V> {
@@ -63,9 +47,6 @@ impl<K: Copy, V: Copy> Iterator for MapIntoIter<K, V> {
     ghost remaining = { item_count (λ entries. entries) };
 
     fn next(&mut self) -> Option<(K, V)> {
-        let pool = self.forest.trees.pool();
-        let entry = self.path.entry(pool);
-        self.path.next(pool);
-        entry
+        self.forest.trees.take_next(&mut self.path)
     }
 }

@@ -6,14 +6,13 @@ ghost use Rattle.std.specs.Prelude.{◌≡◌};
 
 use crate::forest::MapForest;
 use crate::map::Map;
-use bforest_core::NodePool;
-use bforest_trees::Reader;
+use bforest_trees::{Reader, Trees};
 use std::marker::Model;
 
 /// The entries of a map, in order, and then `None` for ever. Made by `Map::iter`. A step compares nothing.
 #[derive(Drop)]
 pub struct MapIter<'a, K: Copy, V: Copy> {
-    pool: &'a NodePool<K, V, 7>,
+    trees: &'a Trees<K, V, 7>,
     reader: Reader<'a, K, V, 7>,
 }
 
@@ -23,9 +22,9 @@ impl<'a, K: Copy, V: Copy> Model for MapIter<'a, K, V> {
 
     ghost Value = { List (K × V) };
 
-    ghost view = { λ i. left_of i.pool.now i.reader };
+    ghost view = { λ i. left_of i.trees.now i.reader };
 
-    ghost invariant = { λ i. IsReader i.pool.now i.reader };
+    ghost invariant = { λ i. IsReader i.trees.now i.reader };
 }
 
 impl<'a, K: Copy, V: Copy> MapIter<'a, K, V> {
@@ -35,13 +34,13 @@ impl<'a, K: Copy, V: Copy> MapIter<'a, K, V> {
         ensures entries { result ≡ list_of forest.now map.now }
         ensures ready { IsReadable K.row V.row }
     {
-        let pool = forest.trees.pool();
+        let trees = &forest.trees;
         // The reader is made where it stays, since it is too long to be moved for nothing.
         let mut iter = MapIter {
-            pool,
+            trees,
             reader: Reader::new(),
         };
-        iter.reader.start(map.root, pool);
+        iter.reader.start(map.root, trees);
         iter
     }
 }
@@ -58,6 +57,6 @@ impl<'a, K: Copy, V: Copy> Iterator for MapIter<'a, K, V> {
     ghost remaining = { item_count (λ entries. entries) };
 
     fn next(&mut self) -> Option<(K, V)> {
-        self.reader.next(self.pool)
+        self.reader.next(self.trees)
     }
 }

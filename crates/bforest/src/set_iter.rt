@@ -8,14 +8,14 @@ ghost use Rattle.std.specs.Prelude.{◌≡◌};
 use crate::map_cursor::key_of;
 use crate::set::Set;
 use crate::set_forest::SetForest;
-use bforest_core::{NodePool, SetValue};
-use bforest_trees::Reader;
+use bforest_core::SetValue;
+use bforest_trees::{Reader, Trees};
 use std::marker::Model;
 
 /// The keys of a set, in order, and then `None` for ever. Made by [`Set::iter`]. A step compares nothing.
 #[derive(Drop)]
 pub struct SetIter<'a, K: Copy> {
-    pool: &'a NodePool<K, SetValue, 15>,
+    trees: &'a Trees<K, SetValue, 15>,
     reader: Reader<'a, K, SetValue, 15>,
 }
 
@@ -26,9 +26,9 @@ impl<'a, K: Copy> Model for SetIter<'a, K> {
 
     ghost Value = { List K };
 
-    ghost view = { λ i. keys_of (left_of i.pool.now i.reader) };
+    ghost view = { λ i. keys_of (left_of i.trees.now i.reader) };
 
-    ghost invariant = { λ i. IsReader i.pool.now i.reader };
+    ghost invariant = { λ i. IsReader i.trees.now i.reader };
 }
 
 impl<'a, K: Copy> SetIter<'a, K> {
@@ -38,13 +38,13 @@ impl<'a, K: Copy> SetIter<'a, K> {
         ensures keys { result ≡ elements forest.now set.now }
         ensures ready { IsSetReadable K.row }
     {
-        let pool = forest.trees.pool();
+        let trees = &forest.trees;
         // The reader is made where it stays, since it is too long to be moved for nothing.
         let mut iter = SetIter {
-            pool,
+            trees,
             reader: Reader::new(),
         };
-        iter.reader.start(set.root, pool);
+        iter.reader.start(set.root, trees);
         iter
     }
 }
@@ -61,6 +61,6 @@ impl<'a, K: Copy> Iterator for SetIter<'a, K> {
     ghost remaining = { item_count (λ keys. keys) };
 
     fn next(&mut self) -> Option<K> {
-        key_of(self.reader.next(self.pool))
+        key_of(self.reader.next(self.trees))
     }
 }

@@ -39,6 +39,13 @@ module _ {K X : Type 0} where
   abbrev pub left_of : {n : ℕ} → Table K X → Reader K X n → List (K × X)
   left_of table reader = left_from table reader.path reader.index
 
+  -- a reader that was not started: at the end, with no leaf
+  pub record IsNew {n : ℕ} (reader : Reader K X n) : Type 0 where
+    pub end : IsAtEnd reader.path
+    pub keys : reader.keys.now ≡ []
+    pub vals : reader.vals.now ≡ []
+    pub index : reader.index ≡ 0
+
   -- a reader holds the keys and the values of the leaf where its path stands
   pub record IsReader {n : ℕ} (table : Table K X) (reader : Reader K X n) : Type 0 where
     pub entries : List (K × X)

@@ -1,10 +1,10 @@
 //! Reading the entries of a tree in order.
-ghost use Rattle.bforest_core.specs.Trees.{IsUnion};
-ghost use Rattle.bforest_trees.specs.Forest.{Forest, IsLive, list_of};
-ghost use Rattle.bforest_trees.specs.Layout.{Entered, IsReader, Opens, left_of};
+ghost use Rattle.bforest_trees.specs.Forest.{IsLive, list_of};
+ghost use Rattle.bforest_trees.specs.Layout.{Entered, IsNew, IsReader, Opens, left_of};
 ghost use Rattle.std.specs.Iterator.{YieldsFirst};
 ghost use Rattle.std.specs.Prelude.{List, Some, [], false, length, slice_get, true, ◌+◌, ◌<◌, ◌≡◌};
 
+use crate::trees::Trees;
 use bforest_core::{Node, NodePool, PackedNode, Path};
 
 /// What is left of the entries of a tree: those of one leaf, which it holds as two slices, and those behind them. A step inside a leaf
@@ -22,8 +22,7 @@ pub struct Reader<'a, K: Copy, V: Copy, const N: usize> {
 impl<'a, K: Copy, V: Copy, const N: usize> Reader<'a, K, V, N> {
     /// With no entry left. It is long, so build it where it stays, and then `start` it.
     pub fn new() -> Reader<'a, K, V, N>
-        ensures none { (f : Forest K V) → left_of f result ≡ [] }
-        ensures reader { (f : Forest K V) → IsUnion N f → IsReader f result }
+        ensures new { IsNew result }
     {
         Reader {
             keys: &[],
@@ -33,27 +32,26 @@ impl<'a, K: Copy, V: Copy, const N: usize> Reader<'a, K, V, N> {
         }
     }
 
-    /// Goes to the first entry of a handle's tree, if it has one. Before that no entry may be left.
-    pub fn start(&mut self, handle: PackedNode, pool: &'a NodePool<K, V, N>)
-        requires live { IsLive pool.now handle }
-        requires reader { IsReader pool.now self.old }
-        requires none { left_of pool.now self.old ≡ [] }
-        ensures left { left_of pool.now self.new ≡ list_of pool.now handle }
-        ensures reader { IsReader pool.now self.new }
+    /// Goes to the first entry of a handle's tree, if it has one.
+    pub fn start(&mut self, handle: PackedNode, trees: &'a Trees<K, V, N>)
+        requires live { IsLive trees.now handle }
+        requires new { IsNew self.old }
+        ensures left { left_of trees.now self.new ≡ list_of trees.now handle }
+        ensures reader { IsReader trees.now self.new }
     {
         if let Some(root) = handle.expand() {
-            let leaf = self.path.first_leaf(root, pool);
-            self.enter(leaf, pool);
+            let leaf = self.path.first_leaf(root, &trees.pool);
+            self.enter(leaf, &trees.pool);
         }
     }
 
     /// Takes the first entry off what is left.
-    pub fn next(&mut self, pool: &'a NodePool<K, V, N>) -> Option<(K, V)>
-        requires reader { IsReader pool.now self.old }
-        ensures steps { YieldsFirst (left_of pool.now) self.old result self.new }
-        ensures reader { IsReader pool.now self.new }
+    pub fn next(&mut self, trees: &'a Trees<K, V, N>) -> Option<(K, V)>
+        requires reader { IsReader trees.now self.old }
+        ensures steps { YieldsFirst (left_of trees.now) self.old result self.new }
+        ensures reader { IsReader trees.now self.new }
     {
-        if self.is_left(pool) {
+        if self.is_left(&trees.pool) {
             Some(self.take_first())
         } else {
             None

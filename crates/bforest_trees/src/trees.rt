@@ -37,7 +37,7 @@ pub enum Start {
 /// Many trees in one table of nodes, of which a leaf has at most `N` entries. Each is named by its root's number.
 #[derive(Drop)]
 pub struct Trees<K: Copy, V: Copy, const N: usize> {
-    pool: NodePool<K, V, N>,
+    pub(crate) pool: NodePool<K, V, N>,
 }
 
 impl<K: Copy, V: Copy, const N: usize> Model for Trees<K, V, N> {
@@ -110,15 +110,6 @@ impl<K: Copy, V: Copy, const N: usize> Trees<K, V, N> {
         ensures { Reserves self.old n result self.new }
     {
         self.pool.reserve(n)
-    }
-
-    /// The table, for reading.
-    pub fn pool(&self) -> &NodePool<K, V, N>
-        ensures same { result.now ≡ self.now }
-        ensures union { IsUnion N result.now }
-        ensures capacity { IsLeafCapacity N }
-    {
-        &self.pool
     }
 
     /// Ends a tree.

@@ -1,7 +1,9 @@
 //! Steps of a path in the list of a handle.
 ghost use Rattle.bforest_trees.specs.Forest.{IsLive, list_of};
+ghost use Rattle.bforest_trees.specs.Layout.{IsOnOrEnds, entries_from};
 ghost use Rattle.bforest_trees.specs.Place.{AtSpot, IsComputed, IsSpot};
 ghost use Rattle.bforest_core.specs.Place.{entry_before};
+ghost use Rattle.std.specs.Iterator.{YieldsFirst};
 ghost use Rattle.std.specs.Prelude.{length, min, slice_get, ◌+◌, ◌-◌, ◌≡◌};
 
 use crate::trees::Trees;
@@ -56,5 +58,29 @@ impl<K: Copy, V: Copy, const N: usize> Trees<K, V, N> {
         ensures computed { IsComputed N self.now handle }
     {
         path.entry(&self.pool)
+    }
+
+    /// A path to the first entry, or to the end where there is none.
+    pub fn path_to_first(&self, handle: PackedNode) -> Path<K, V, N>
+        requires live { IsLive self.now handle }
+        ensures on { IsOnOrEnds self.now result }
+        ensures entries { entries_from self.now result ≡ list_of self.now handle }
+    {
+        let mut path = Path::default();
+        if let Some(root) = handle.expand() {
+            path.first(root, &self.pool);
+        }
+        path
+    }
+
+    /// Takes the first entry off those from a path on.
+    pub fn take_next(&self, path: &mut Path<K, V, N>) -> Option<(K, V)>
+        requires on { IsOnOrEnds self.now path.old }
+        ensures steps { YieldsFirst (entries_from self.now) path.old result path.new }
+        ensures on { IsOnOrEnds self.now path.new }
+    {
+        let entry = path.entry(&self.pool);
+        path.next(&self.pool);
+        entry
     }
 }
