@@ -36,7 +36,7 @@ ASKED = [
 
 # Public functions of the crates below that the forest does not call.
 UNUSED = {
-    "bforest_nodes/node.rt": ["get_entry", "unwrap_leaf_mut"],
+    "bforest_nodes/node.rt": ["unwrap_leaf_mut"],
     "bforest_nodes/entries.rt": ["parts_mut"],
     "bforest_nodes/row.rt": ["front_mut"],
     "bforest_nodes/lent.rt": ["front_mut"],
