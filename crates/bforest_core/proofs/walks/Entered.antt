@@ -26,6 +26,10 @@ pair_answer [] i None k x = refl
 pair_answer (y ∷ es) zero None k x = absurd cc
 pair_answer (y ∷ es) (suc i) None k x = pair_answer es i None k x
 
+-- what is read at a path's leaf is that leaf
+pub leaf_is : {K V : Type 0} (slots : List (Content K V)) (path : List ℕ) (number : ℕ) (content : Content K V) (es : List (K × V)) → slice_get slots number ≡ Some content → number ≡ get_or path 0 0 → slice_get slots (get_or path 0 0) ≡ Some (leaf_content es) → content ≡ leaf_content es
+leaf_is slots path number content es found here slot = some_same content (leaf_content es) (sym found ∙ ap (λ z. slice_get slots z) here ∙ slot)
+
 -- where no entry is read, none lies
 pub none_past : {X : Type 0} (xs : List X) (i : ℕ) → None ≡ slice_get xs i → i < length xs → ⊥
 none_past [] i none low = omega (arith, low)
@@ -96,3 +100,16 @@ module _ {K V : Type 0} (most : ℕ) (one : 1 ≤ half_of most) (slots : List (C
   -- the last entry of all
   pub entry_last : (get_or indices 0 0 + 1 < length s.leaf.entries → ⊥) → suc (length s.leaf.before) ≡ length (heads tree.leaves) → suc place ≡ length (flat tree.leaves)
   entry_last past last = omega (arith, s.leaf.place_is, s.leaf.within, not_less (get_or indices 0 0 + 1) (length s.leaf.entries) past, leaf_last last)
+
+  module _ (none : (es : List (K × V)) → slice_get slots (get_or path 0 0) ≡ Some (leaf_content es) → None ≡ slice_get es (get_or indices 0 0 + 1)) where
+    -- the leaf has no entry of the next index
+    past-leaf : get_or indices 0 0 + 1 < length s.leaf.entries → ⊥
+    past-leaf = none_past s.leaf.entries (get_or indices 0 0 + 1) (none s.leaf.entries leaf_slot)
+
+    -- then the next leaf's first entry is the next one
+    pub next_over : (path1 indices1 path' indices' : List ℕ) → ((rows : List (List (LevelNode K ℕ))) (list : List (K × ℕ)) (at : ℕ) → Over slots path indices 1 size rows list at → Moved path indices path1 indices1 0 rows list (suc at)) → path' ≡ path1 → get_or indices' 0 0 ≡ 0 → ((i : ℕ) → i ≢ 0 → get_or indices' i 0 ≡ get_or indices1 i 0) → Stands path' indices' size tree (suc place)
+    next_over path1 indices1 path' indices' moved path_is here above = entry_over path1 indices1 path' indices' (moved tree.above (heads tree.leaves) (length s.leaf.before) over_leaves) path_is here above past-leaf
+
+    -- or, where no leaf follows, the path stands on the last
+    pub next_last : ((rows : List (List (LevelNode K ℕ))) (list : List (K × ℕ)) (at : ℕ) → Over slots path indices 1 size rows list at → suc at ≡ length list) → suc place ≡ length (flat tree.leaves)
+    next_last last = entry_last past-leaf (last tree.above (heads tree.leaves) (length s.leaf.before) over_leaves)

@@ -1,5 +1,5 @@
 -- A whole tree as what lies under its root.
-use Rattle.std.proofs.Common.{◌≡◌, ℕ, suc, true, List, [], ◌∷◌, length, ap, arith}
+use Rattle.std.proofs.Common.{◌≡◌, ◌+◌, ℕ, suc, true, List, [], ◌∷◌, length, ap, arith}
 use Rattle.std.specs.declared.cmp.Ordering.{Ordering}
 use Rattle.bforest_nodes.specs.Content.{Content}
 use Rattle.bforest_nodes.specs.Entries.{place, is_present}
@@ -24,12 +24,21 @@ module _ {K : Type 0} where
   stands_above path indices level [] place s = s
   stands_above path indices level (row ∷ rows) place s = (s.0, stands_above path indices (suc level) rows (length s.0.before) s.1)
 
+pub led_stands : {K V : Type 0} (tree : Tree K V) (path indices path' indices' : List ℕ) (size : ℕ) → Led tree.leaves tree.above path indices path' indices' → size ≡ suc (length tree.above) → Stands path' indices' size tree 0
+led_stands tree path indices path' indices' size d e = record { leaf = d.leaf; above = stands_above path' indices' 1 tree.above (length d.leaf.before) d.stands; size_is = e }
+
 module _ {K V : Type 0} (most : ℕ) (slots : List (Content K V)) (root : ℕ) (tree : Tree K V) (r : IsRooted most slots root tree) where
   pub whole_top : Top (heads tree.leaves) tree.above root
   whole_top = top (heads tree.leaves) tree.above root r.fit.stacked r.root_is
 
   pub whole_under : Under most slots tree.leaves tree.above ((whole_top.first, root) ∷ [])
   whole_under = record { leaves_fit = r.fit.leaves_fit; leaves_in = r.inside.leaves_in; stacked = whole_top.stacked; rows_in = r.inside.rows_in }
+
+  -- a path that led from the root down to the first entry
+  pub whole_led : (path indices path' indices' : List ℕ) (level : ℕ) → ((leaves : List (LevelNode K V)) (lower : List (List (LevelNode K ℕ))) (first : K) (b : List (K × ℕ)) → Under most slots leaves lower ((first, root) ∷ b) → (level ≡ length lower) × Led leaves lower path indices path' indices') → (level ≡ length tree.above) × Stands path' indices' (level + 1) tree 0
+  whole_led path indices path' indices' level led =
+      let d = led tree.leaves tree.above whole_top.first [] whole_under in
+      (d.0, led_stands tree path indices path' indices' (level + 1) d.1 (omega (arith, d.0)))
 
 pub all_through : {K : Type 0} (cmp : K → K → Ordering) (first key : K) → GoesThrough cmp [] first [] key
 all_through cmp first key = record { from = tt; upto = tt }
@@ -54,6 +63,3 @@ module _ {K V : Type 0} (cmp : K → K → Ordering) (tree : Tree K V) (key : K)
         above = s.above;
         size_is = s.size_is;
       }
-
-pub led_stands : {K V : Type 0} (tree : Tree K V) (path indices path' indices' : List ℕ) (size : ℕ) → Led tree.leaves tree.above path indices path' indices' → size ≡ suc (length tree.above) → Stands path' indices' size tree 0
-led_stands tree path indices path' indices' size d e = record { leaf = d.leaf; above = stands_above path' indices' 1 tree.above (length d.leaf.before) d.stands; size_is = e }

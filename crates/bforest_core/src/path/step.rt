@@ -129,6 +129,7 @@ impl<K: Copy, V: Copy, const N: usize> Path<K, V, N> {
         ensures last { result ≡ None → (tree : Tree K V) (place : ℕ) → IsFit N tree
             → IsIn pool.now.nodes tree → Stands self.old.node self.old.entry self.old.size tree place
             → suc place ≡ length (flat tree.leaves) }
+        ensures same { result ≡ None → self.new ≡ self.old }
         ensures size { self.new.size ≡ self.old.size }
     {
         let next = self.entry[0] as usize + 1;

@@ -6,7 +6,7 @@ use Rattle.bforest_core.proofs.union.Unions.{is-rooted}
 use Rattle.bforest_core.proofs.walks.Descent.{some_leaf}
 use Rattle.bforest_core.proofs.walks.Leading.{front_within}
 use Rattle.bforest_core.proofs.walks.Leaves.{leaf-front, root-leaf}
-use Rattle.bforest_core.proofs.walks.Whole.{led_stands, whole_top, whole_under}
+use Rattle.bforest_core.proofs.walks.Whole.{whole_led, whole_top, whole_under}
 use Rattle.bforest_core.proofs.path.Path.first_leaf.Given.{Over}
 use Rattle.bforest_core.proofs.path.Path.first_leaf.Goals as goal
 
@@ -41,27 +41,21 @@ descend_first-level-requires g c =
 pub overflow_add-self : goal.overflow_add-self
 overflow_add-self g c =
     let slots = c.args.pool.now.nodes in
-    let tree = tree_of slots c.args.root in
     let w = is-rooted g.row.N c.args.pool.now c.args.root c.requires.union c.requires.root in
-    let r = c.descend_first-level.ensures.level tree.leaves tree.above (whole_top g.row.N slots c.args.root tree w).first [] (whole_under g.row.N slots c.args.root tree w) in
-    omega (arith, r.0, w.low)
+    let led = whole_led g.row.N slots c.args.root (tree_of slots c.args.root) w _ _ _ _ _ c.descend_first-level.ensures.level in
+    omega (arith, led.0, w.low)
 
 pub returns-clause-index : goal.returns-clause-index
 returns-clause-index g c =
     let slots = c.args.pool.now.nodes in
-    let tree = tree_of slots c.args.root in
     let w = is-rooted g.row.N c.args.pool.now c.args.root c.requires.union c.requires.root in
-    let path = c.descend_first-level.new.self in
-    let r = c.descend_first-level.ensures.level tree.leaves tree.above (whole_top g.row.N slots c.args.root tree w).first [] (whole_under g.row.N slots c.args.root tree w) in
-    let s = led_stands tree c.args.self.now.node c.args.self.now.entry path.node path.entry (c.descend_first-level.result + 1) r.1 (omega (arith, r.0)) in
-    omega (arith, s.leaf.place_is)
+    let led = whole_led g.row.N slots c.args.root (tree_of slots c.args.root) w _ _ _ _ _ c.descend_first-level.ensures.level in
+    omega (arith, led.1.leaf.place_is)
 
 pub returns-clause-stands : goal.returns-clause-stands
 returns-clause-stands g c =
     let slots = c.args.pool.now.nodes in
-    let tree = tree_of slots c.args.root in
     let w = is-rooted g.row.N c.args.pool.now c.args.root c.requires.union c.requires.root in
-    let path = c.descend_first-level.new.self in
-    let r = c.descend_first-level.ensures.level tree.leaves tree.above (whole_top g.row.N slots c.args.root tree w).first [] (whole_under g.row.N slots c.args.root tree w) in
-    let s = led_stands tree c.args.self.now.node c.args.self.now.entry path.node path.entry (c.descend_first-level.result + 1) r.1 (omega (arith, r.0)) in
-    leaf-front g.row.N c.args.pool.now c.requires.union c.args.root 0 (record path { size = c.descend_first-level.result + 1 }) (record { root_is = c.requires.root; stands = s }) (omega (arith, s.leaf.place_is))
+    let d = c.descend_first-level in
+    let led = whole_led g.row.N slots c.args.root (tree_of slots c.args.root) w _ _ _ _ _ d.ensures.level in
+    leaf-front g.row.N c.args.pool.now c.requires.union c.args.root 0 (record d.new.self { size = d.result + 1 }) (record { root_is = c.requires.root; stands = led.1 }) (omega (arith, led.1.leaf.place_is))

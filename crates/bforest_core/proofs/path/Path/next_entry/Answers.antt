@@ -1,8 +1,8 @@
-use Rattle.std.proofs.Common.{rules, List, Some, ◌+◌, ◌≤◌, ◌≡◌, ℕ, suc, length, get_or, slice_get, sym, ap, ◌∙◌, arith}
+use Rattle.std.proofs.Common.{rules, List, Some, ◌≤◌, ◌≡◌, ℕ, suc, length, get_or, slice_get, sym, ap, ◌∙◌, arith}
 use Rattle.bforest_core.specs.Levels.{IsFit, Tree, flat, heads}
 use Rattle.bforest_core.specs.Place.{IsIn, Stands}
 use Rattle.bforest_core.proofs.walks.Descent.{some_leaf}
-use Rattle.bforest_core.proofs.walks.Entered.{entry_is, entry_last, entry_over, entry_within, leaf_room, leaf_slot, none_past, over_leaves}
+use Rattle.bforest_core.proofs.walks.Entered.{entry_is, entry_within, leaf_room, leaf_slot, next_last, next_over, over_leaves}
 use Rattle.bforest_core.proofs.path.Path.next_entry.Given.{Over}
 use Rattle.bforest_core.proofs.path.Path.next_entry.Goals as goal
 use Rattle.std.proofs.lemmas.Option.{slice_get_past, slice_get_within}
@@ -49,12 +49,8 @@ next_node-requires g c =
 -- the leaf was the last, and the entry its last
 last : (g : Over) (c : goal.Then-not-next_node g) (tree : Tree g.row.K.Denot g.row.V.Denot) (place : ℕ) → IsFit g.row.N tree → IsIn c.args.pool.now.nodes tree → Stands c.args.self.now.node c.args.self.now.entry c.args.self.now.size tree place → suc place ≡ length (flat tree.leaves)
 last g c tree place fit inside s =
-    let one = some_leaf _ c.requires.capacity in
-    let slots = c.args.pool.now.nodes in
     let path = c.args.self.now in
-    let slot = leaf_slot g.row.N one slots path.node path.entry path.size tree place fit inside s in
-    let over = over_leaves g.row.N one slots path.node path.entry path.size tree place fit inside s in
-    entry_last g.row.N one slots path.node path.entry path.size tree place fit inside s (none_past s.leaf.entries (get_or path.entry 0 0 + 1) (c.in_default.ensures.value s.leaf.entries slot)) (c.next_node.ensures.last c.if-not-next_node.true tree.above (heads tree.leaves) (length s.leaf.before) over)
+    next_last g.row.N (some_leaf _ c.requires.capacity) c.args.pool.now.nodes path.node path.entry path.size tree place fit inside s c.in_default.ensures.value (c.next_node.ensures.last c.if-not-next_node.true)
 
 pub returns-then-not-next_node-clause-value : goal.returns-then-not-next_node-clause-value
 returns-then-not-next_node-clause-value g c = λ tree place fit inside s. sym (slice_get_past (flat tree.leaves) (suc place) (omega (arith, last g c tree place fit inside s)))
@@ -62,29 +58,27 @@ returns-then-not-next_node-clause-value g c = λ tree place fit inside s. sym (s
 pub returns-then-not-next_node-clause-last : goal.returns-then-not-next_node-clause-last
 returns-then-not-next_node-clause-last g c = λ none tree place fit inside s. last g c tree place fit inside s
 
+pub returns-then-not-next_node-clause-same : goal.returns-then-not-next_node-clause-same
+returns-then-not-next_node-clause-same g c = λ none. c.next_node.ensures.same c.if-not-next_node.true
+
 pub entry_here-requires : goal.entry_here-requires
 entry_here-requires g c =
     let one = some_leaf _ c.requires.capacity in
     let slots = c.args.pool.now.nodes in
     let path = c.args.self.now in
-    let new = c.set_entry-2 in
+    let new = c.set_entry-2.new.self in
+    let e = c.set_entry-2.ensures in
     let w = c.requires.stands in
-    let s = w.4 in
-    let slot = leaf_slot g.row.N one slots path.node path.entry path.size w.0 w.1 w.2 w.3 s in
-    let m = c.next_node.ensures.moved (search rules) w.0.above (heads w.0.leaves) (length s.leaf.before) (over_leaves g.row.N one slots path.node path.entry path.size w.0 w.1 w.2 w.3 s) in
-    let s' = entry_over g.row.N one slots path.node path.entry path.size w.0 w.1 w.2 w.3 s c.next_node.new.self.node c.next_node.new.self.entry new.new.self.node new.new.self.entry m new.ensures.nodes new.ensures.here new.ensures.above (none_past s.leaf.entries (get_or path.entry 0 0 + 1) (c.in_default.ensures.value s.leaf.entries slot)) in
-    (search rules, (search rules, (s'.leaf.entries, leaf_slot g.row.N one slots new.new.self.node new.new.self.entry path.size w.0 (suc w.1) w.2 w.3 s', s'.leaf.within)))
+    let s = next_over g.row.N one slots path.node path.entry path.size w.0 w.1 w.2 w.3 w.4 c.in_default.ensures.value _ _ new.node new.entry (c.next_node.ensures.moved (search rules)) e.nodes e.here e.above in
+    (search rules, (search rules, (s.leaf.entries, leaf_slot g.row.N one slots new.node new.entry path.size w.0 (suc w.1) w.2 w.3 s, s.leaf.within)))
 
 -- the path went to the first entry of the next leaf
 behind : (g : Over) (c : goal.After-entry_here g) (tree : Tree g.row.K.Denot g.row.V.Denot) (place : ℕ) → IsFit g.row.N tree → IsIn c.args.pool.now.nodes tree → Stands c.args.self.now.node c.args.self.now.entry c.args.self.now.size tree place → Stands c.set_entry-2.new.self.node c.set_entry-2.new.self.entry c.args.self.now.size tree (suc place)
 behind g c tree place fit inside s =
-    let one = some_leaf _ c.requires.capacity in
-    let slots = c.args.pool.now.nodes in
     let path = c.args.self.now in
-    let slot = leaf_slot g.row.N one slots path.node path.entry path.size tree place fit inside s in
-    let over = over_leaves g.row.N one slots path.node path.entry path.size tree place fit inside s in
-    let m = c.next_node.ensures.moved (search rules) tree.above (heads tree.leaves) (length s.leaf.before) over in
-    entry_over g.row.N one slots path.node path.entry path.size tree place fit inside s c.next_node.new.self.node c.next_node.new.self.entry c.set_entry-2.new.self.node c.set_entry-2.new.self.entry m c.set_entry-2.ensures.nodes c.set_entry-2.ensures.here c.set_entry-2.ensures.above (none_past s.leaf.entries (get_or path.entry 0 0 + 1) (c.in_default.ensures.value s.leaf.entries slot))
+    let new = c.set_entry-2.new.self in
+    let e = c.set_entry-2.ensures in
+    next_over g.row.N (some_leaf _ c.requires.capacity) c.args.pool.now.nodes path.node path.entry path.size tree place fit inside s c.in_default.ensures.value _ _ new.node new.entry (c.next_node.ensures.moved (search rules)) e.nodes e.here e.above
 
 pub returns-clause-value : goal.returns-clause-value
 returns-clause-value g c = λ tree place fit inside s.
