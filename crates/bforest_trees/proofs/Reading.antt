@@ -1,7 +1,7 @@
 -- What is left to be read where a path stands, and a step of a reader.
 use Rattle.bforest_trees.proofs.Changed.{list-root}
 use Rattle.bforest_trees.specs.Forest.{list_of}
-use Rattle.bforest_trees.specs.Layout.{Entered, IsNew, IsOnOrEnds, IsReader, IsReading, OnFirst, Opens, entries_from, left_from, left_of}
+use Rattle.bforest_trees.specs.Layout.{Entered, IsOnOrEnds, IsReader, IsReading, IsSpent, OnFirst, Opens, entries_from, left_from, left_of}
 use Rattle.bforest_trees.specs.declared.reader.Reader.{Reader}
 use Rattle.bforest_core.proofs.table.Lists.{drop-read, slice_get-append_left}
 use Rattle.bforest_core.proofs.table.Stored.{read_same}
@@ -187,14 +187,12 @@ module _ {K V : Type 0} {n : ℕ} (table : Table K V) where
   pub over : (old new : Reader K V n) → IsReader table old → left_of table old ≡ [] → new ≡ old → Over old new
   over old new r none is = subst (λ (z : Reader K V n). Over old z) (sym is) (record { left = (none, none); reader = r })
 
-  -- a reader that was not started
-  pub unstarted : (reader : Reader K V n) → IsUnion n table → IsNew reader → Over reader reader
-  unstarted reader union is =
-      let none : left_of table reader ≡ [] = ap (λ z. left_from table reader.path z) is.index ∙ ended table reader.path is.end in
-      record {
-        left = (none, none);
-        reader = record { entries = []; reading = record { union = union; within = omega (arith, is.index); leaf = λ some. absurd (some is.end); end = λ none. (λ i. []) }; keys = is.keys; vals = is.vals };
-      }
+  -- a reader at the end, with no leaf, has nothing left
+  pub unstarted : (reader : Reader K V n) → IsAtEnd reader.path → reader.keys.now ≡ [] → reader.vals.now ≡ [] → reader.index ≡ 0 → IsSpent table reader
+  unstarted reader end keys vals index = record {
+    left = ap (λ z. left_from table reader.path z) index ∙ ended table reader.path end;
+    is_reader = λ union. record { entries = []; reading = record { union = union; within = omega (arith, index); leaf = λ some. absurd (some end); end = λ none. (λ i. []) }; keys = keys; vals = vals };
+  }
 
   -- a reader that holds the leaf which a path opens
   pub entered : (left : List (K × V)) (path : Path K V n) (leaf : ℕ) (content : Content K V) (new : Reader K V n) → Opens table left path leaf → slice_get table.nodes leaf ≡ Some content → content ≡ Leaf new.keys.now new.vals.now → new.index ≡ 0 → new.path ≡ path → Entered table left new

@@ -39,19 +39,17 @@ module _ {K X : Type 0} where
   abbrev pub left_of : {n : ℕ} → Table K X → Reader K X n → List (K × X)
   left_of table reader = left_from table reader.path reader.index
 
-  -- a reader that was not started: at the end, with no leaf
-  pub record IsNew {n : ℕ} (reader : Reader K X n) : Type 0 where
-    pub end : IsAtEnd reader.path
-    pub keys : reader.keys.now ≡ []
-    pub vals : reader.vals.now ≡ []
-    pub index : reader.index ≡ 0
-
   -- a reader holds the keys and the values of the leaf where its path stands
   pub record IsReader {n : ℕ} (table : Table K X) (reader : Reader K X n) : Type 0 where
     pub entries : List (K × X)
     pub reading : IsReading table reader.path entries reader.index
     pub keys : reader.keys.now ≡ entry_keys entries
     pub vals : reader.vals.now ≡ entry_items entries
+
+  -- nothing is left to a reader, which was not started or has read all
+  pub record IsSpent {n : ℕ} (table : Table K X) (reader : Reader K X n) : Type 0 where
+    pub left : left_of table reader ≡ []
+    pub is_reader : IsUnion n table → IsReader table reader
 
 module _ {K X : Type 0} {n : ℕ} (table : Table K X) (left : List (K × X)) where
   -- the path stands on the first entry of this leaf, from which on so much is left

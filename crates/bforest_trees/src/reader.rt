@@ -1,6 +1,6 @@
 //! Reading the entries of a tree in order.
-ghost use Rattle.bforest_trees.specs.Forest.{IsLive, list_of};
-ghost use Rattle.bforest_trees.specs.Layout.{Entered, IsNew, IsReader, Opens, left_of};
+ghost use Rattle.bforest_trees.specs.Forest.{Forest, IsLive, list_of};
+ghost use Rattle.bforest_trees.specs.Layout.{Entered, IsReader, IsSpent, Opens, left_of};
 ghost use Rattle.std.specs.Iterator.{YieldsFirst};
 ghost use Rattle.std.specs.Prelude.{List, Some, [], false, length, slice_get, true, ◌+◌, ◌<◌, ◌≡◌};
 
@@ -22,7 +22,7 @@ pub struct Reader<'a, K: Copy, V: Copy, const N: usize> {
 impl<'a, K: Copy, V: Copy, const N: usize> Reader<'a, K, V, N> {
     /// With no entry left. It is long, so build it where it stays, and then `start` it.
     pub fn new() -> Reader<'a, K, V, N>
-        ensures new { IsNew result }
+        ensures spent { (forest : Forest K V) → IsSpent forest result }
     {
         Reader {
             keys: &[],
@@ -32,10 +32,10 @@ impl<'a, K: Copy, V: Copy, const N: usize> Reader<'a, K, V, N> {
         }
     }
 
-    /// Goes to the first entry of a handle's tree, if it has one.
+    /// Goes to the first entry of a handle's tree, if it has one. Before that no entry may be left.
     pub fn start(&mut self, handle: PackedNode, trees: &'a Trees<K, V, N>)
         requires live { IsLive trees.now handle }
-        requires new { IsNew self.old }
+        requires spent { IsSpent trees.now self.old }
         ensures left { left_of trees.now self.new ≡ list_of trees.now handle }
         ensures reader { IsReader trees.now self.new }
     {

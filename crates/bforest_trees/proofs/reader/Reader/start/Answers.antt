@@ -2,7 +2,7 @@ use Rattle.std.proofs.Common.{Option, Some, rules, subst, sym, ◌∙◌, ◌≡
 use Rattle.bforest_trees.specs.Forest.{IsLive, list_of}
 use Rattle.bforest_trees.specs.Layout.{Entered}
 use Rattle.bforest_trees.proofs.Changed.{live-root}
-use Rattle.bforest_trees.proofs.Reading.{opens-first, unstarted}
+use Rattle.bforest_trees.proofs.Reading.{opens-first}
 use Rattle.bforest_trees.proofs.reader.Reader.start.Given.{Over}
 use Rattle.bforest_trees.proofs.reader.Reader.start.Goals as goal
 
@@ -35,4 +35,4 @@ pub returns-in-Some-clause-reader : goal.returns-in-Some-clause-reader
 returns-in-Some-clause-reader g c = rw (← c.trees.view_is) (held g c).reader_is
 
 pub returns-in_default-clause-reader : goal.returns-in_default-clause-reader
-returns-in_default-clause-reader g c = rw (← c.trees.view_is) (unstarted c.trees.inside.pool c.args.self.now c.trees.invariant c.requires.new).reader
+returns-in_default-clause-reader g c = rw (← c.trees.view_is) ((rw (← c.trees.view_is) at c.requires.spent).is_reader c.trees.invariant)
