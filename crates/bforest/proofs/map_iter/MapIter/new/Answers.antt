@@ -3,4 +3,4 @@ use Rattle.bforest.proofs.map_iter.MapIter.new.Goals as goal
 
 pub start-requires : goal.start-requires
 start-requires g c =
-    (search rules, (search rules, (rw (← c.forest.view_is, ← c.map.view_is) at c.requires, c.new.ensures.spent c.trees.now)))
+    (search rules, (search rules, (rw (← c.forest.view_is, ← c.map.view_is) at c.requires, c.new.ensures.spent _)))
