@@ -1,8 +1,9 @@
 -- What an index of a handle or a comparator names, and changes that are no change.
 use Rattle.bforest.specs.Forest.{Becomes, Forest, IsLive, list_of}
 use Rattle.bforest_calls.specs.Machine.{order_at}
-use Rattle.bforest_nodes.specs.Entries.{value_at_place, with_value}
-use Rattle.std.proofs.Common.{List, None, Option, Some, [], ap, false, get_or, length, map, refl, subst, suc, sym, true, zero, ◌<◌, ◌∙◌, ◌≡◌, ◌∷◌, ℕ}
+use Rattle.bforest_nodes.specs.Entries.{IsIncreasing, value_at_place, with_value}
+use Rattle.std.proofs.Common.{List, arith, inl, inr, None, Option, Some, [], ap, false, get_or, length, map, refl, subst, suc, sym, true, zero, ◌<◌, ◌≤◌, ◌∙◌, ◌≡◌, ◌∷◌, ℕ}
+use Rattle.std.proofs.Math.Logic.{◌⊎◌}
 use Rattle.std.proofs.lemmas.List.{get_or-map, get_or_default, length-map}
 use Rattle.std.specs.Prelude.{is_some, option_map}
 use Rattle.std.specs.declared.cmp.Ordering.TheVariants.{Equal}
@@ -11,8 +12,22 @@ use Rattle.std.specs.declared.cmp.Ordering.{Ordering}
 pub is_handle : (handles : List (Option ℕ)) (h : ℕ) (x : Option ℕ) → x ≡ get_or handles h x → h < length handles → x ≡ get_or handles h None
 is_handle handles h x is within = is ∙ get_or_default handles h x None within
 
+-- as many orders as comparators
+pub order-within : {C K : Type 0} (order : C → K → K → Ordering) (comps : List C) (c : ℕ) → c < length (map order comps) → c < length comps
+order-within order comps c within = subst (λ n. c < n) (length-map comps order) within
+
+pub both-there : {C K : Type 0} (order : C → K → K → Ordering) (comps : List C) (h c handles : ℕ) → h < handles → c < length comps → (h < handles) × (c < length (map order comps))
+both-there order comps h c handles low within = (low, subst (λ n. c < n) (sym (length-map comps order)) within)
+
+-- where one of two indices is too great, not both are there
+pub not-there : {C K : Type 0} (order : C → K → K → Ordering) (comps : List C) (h c handles : ℕ) → (handles ≤ h) ⊎ ((h < handles) × (length comps ≤ c)) → (h < handles) × (c < length (map order comps)) → ⊥
+not-there order comps h c handles past there = elim past [
+  | inl w ↦ omega (arith, w, there.0)
+  | inr w ↦ omega (arith, w.1, order-within order comps c there.1)
+]
+
 pub is_order : {C K : Type 0} (order : C → K → K → Ordering) (comps : List C) (c : ℕ) (x : C) → x ≡ get_or comps c x → c < length (map order comps) → order x ≡ order_at (map order comps) c
-is_order order comps c x is within = ap order is ∙ sym (get_or-map order comps c x (λ _ _. Equal) (subst (λ n. c < n) (length-map comps order) within))
+is_order order comps c x is within = ap order is ∙ sym (get_or-map order comps c x (λ _ _. Equal) (order-within order comps c within))
 
 -- what holds of an order and of a number that are these
 pub at_both : {K : Type 0} {order own : K → K → Ordering} {n h : Option ℕ} (R : (K → K → Ordering) → Option ℕ → Type 0) → own ≡ order → h ≡ n → R own h → R order n
@@ -49,3 +64,22 @@ module _ {K V : Type 0} where
     others_sizes = λ n ne ne'. refl;
     limit = refl;
   }
+
+-- the handle and the comparator that a call names, where it is made
+pub record Named {C K V : Type 0} (order : C → K → K → Ordering) (forest : Forest K V) (handles : List (Option ℕ)) (comps : List C) (h c : ℕ) (number : Option ℕ) (comp : C) : Type 0 where
+  pub number_is : number ≡ get_or handles h None
+  pub order_is : order comp ≡ order_at (map order comps) c
+  pub live : IsLive forest number
+  pub ordered : IsIncreasing (order comp) (list_of forest number)
+
+pub named : {C K V : Type 0} (order : C → K → K → Ordering) (forest : Forest K V) (handles : List (Option ℕ)) (comps : List C) (h c : ℕ) (number : Option ℕ) (comp : C)
+    → ((h < length handles) × (c < length (map order comps))) × IsLive forest (get_or handles h None) × IsIncreasing (order_at (map order comps) c) (list_of forest (get_or handles h None))
+    → number ≡ get_or handles h None → comp ≡ get_or comps c comp → Named order forest handles comps h c number comp
+named order forest handles comps h c number comp passed number_is comp_is =
+    let order_is = is_order order comps c comp comp_is passed.0.1 in
+    record {
+      number_is = number_is;
+      order_is = order_is;
+      live = subst (λ n. IsLive forest n) (sym number_is) passed.1;
+      ordered = at_both (λ o n. IsIncreasing o (list_of forest n)) (sym order_is) (sym number_is) passed.2;
+    }

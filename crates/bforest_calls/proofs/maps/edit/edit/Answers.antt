@@ -1,10 +1,8 @@
-use Rattle.bforest.specs.Forest.{IsLive, list_of}
-use Rattle.bforest_calls.proofs.Indexed.{at_all, at_both, is_order}
+use Rattle.bforest_calls.proofs.Indexed.{at_all, is_order, order-within, named}
 use Rattle.bforest_calls.proofs.Runs.{on_err_from}
 use Rattle.bforest_calls.proofs.maps.edit.edit.Goals as goal
 use Rattle.bforest_calls.specs.State.{Edits, Held}
-use Rattle.bforest_nodes.specs.Entries.{IsIncreasing}
-use Rattle.std.proofs.Common.{None, ap, inr, refl, rules, sym, ◌∙◌, ◌≡◌}
+use Rattle.std.proofs.Common.{None, ap, inr, refl, rules, ◌∙◌, arith}
 use Rattle.std.proofs.Math.ListN.{set}
 use Rattle.std.proofs.lemmas.List.{get_or_default, set-get_or}
 
@@ -14,8 +12,7 @@ returns-in_err-sights-clause-err_handles g c =
 
 pub returns-clause-step : goal.returns-clause-step
 returns-clause-step g c =
-    let none : c.refused.result ≡ None = search rules in
-    let passed = c.refused.ensures.made none in
+    let passed = c.refused.ensures.made c.in_default.is in
     let number = get_or_default c.args.handles.now c.args.h c.index-handles-h.result None passed.0.0 in
     let order = is_order g.C.Comparator.order c.args.comps.now c.args.c c.index-comps-c.result c.index-comps-c.is passed.0.1 in
     let new : Held g.row.K.Denot g.row.V.Denot = record { forest = c.edit_in.new.forest; number = c.edit_in.new.handle } in
@@ -36,13 +33,18 @@ returns-clause-step g c =
 
 pub edit_in-requires : goal.edit_in-requires
 edit_in-requires g c =
-    let none : c.refused.result ≡ None = search rules in
-    let passed = c.refused.ensures.made none in
-    let number = get_or_default c.args.handles.now c.args.h c.index-handles-h.result None passed.0.0 in
-    let order = is_order g.C.Comparator.order c.args.comps.now c.args.c c.index-comps-c.result c.index-comps-c.is passed.0.1 in (
-      search rules,
-      (
-        at_both (λ o n. IsLive c.args.forest.now n) (sym order) (sym number) passed.1,
-        at_both (λ o n. IsIncreasing o (list_of c.args.forest.now n)) (sym order) (sym number) passed.2,
-      ),
-    )
+    let passed = c.refused.ensures.made c.in_default.is in
+    let n = named g.C.Comparator.order c.args.forest.now c.args.handles.now c.args.comps.now c.args.h c.args.c _ _ passed (get_or_default c.args.handles.now c.args.h c.index-handles-h.result None passed.0.0) c.index-comps-c.is in
+    (search rules, (n.live, n.ordered))
+
+pub offset_bounds-handles-h : goal.offset_bounds-handles-h
+offset_bounds-handles-h g c = omega (arith, (c.refused.ensures.made c.in_default.is).0.0)
+
+pub bounds-handles-h : goal.bounds-handles-h
+bounds-handles-h g c = (c.refused.ensures.made c.in_default.is).0.0
+
+pub offset_bounds-comps-c : goal.offset_bounds-comps-c
+offset_bounds-comps-c g c = omega (arith, order-within g.C.Comparator.order c.args.comps.now c.args.c (c.refused.ensures.made c.in_default.is).0.1)
+
+pub bounds-comps-c : goal.bounds-comps-c
+bounds-comps-c g c = order-within g.C.Comparator.order c.args.comps.now c.args.c (c.refused.ensures.made c.in_default.is).0.1

@@ -1,7 +1,7 @@
 use Rattle.bforest.specs.Calls.{Removes}
-use Rattle.bforest_calls.proofs.Indexed.{at_both, is_order}
+use Rattle.bforest_calls.proofs.Indexed.{at_both, is_order, order-within, named}
 use Rattle.bforest_calls.proofs.sets.change.remove.Goals as goal
-use Rattle.std.proofs.Common.{None, get_or, inl, inr, refl, rules, subst, sym, ◌≡◌}
+use Rattle.std.proofs.Common.{None, get_or, inl, inr, refl, rules, subst, sym, arith}
 use Rattle.std.proofs.lemmas.List.{get_or_default}
 
 pub returns-in-Some : goal.returns-in-Some
@@ -9,8 +9,7 @@ returns-in-Some g c = inl (c.in-Some.ensures.refused, refl)
 
 pub returns : goal.returns
 returns g c =
-    let none : c.refused.result ≡ None = search rules in
-    let passed = c.refused.ensures.made none in
+    let passed = c.refused.ensures.made c.in_default.is in
     let number = get_or_default c.args.handles.now c.args.h c.index-handles-h.result None passed.0.0 in
     let order = is_order g.C.Comparator.order c.args.comps.now c.args.c c.index-comps-c.result c.index-comps-c.is passed.0.1 in
     let forest = c.remove.new.forest in
@@ -30,3 +29,21 @@ returns g c =
         ),
       ),
     )
+
+pub remove-requires : goal.remove-requires
+remove-requires g c =
+    let passed = c.refused.ensures.made c.in_default.is in
+    let n = named g.C.Comparator.order c.args.forest.now c.args.handles.now c.args.comps.now c.args.h c.args.c _ _ passed (get_or_default c.args.handles.now c.args.h c.index-handles-h.result None passed.0.0) c.index-comps-c.is in
+    (search rules, (n.live, n.ordered))
+
+pub offset_bounds-handles-h : goal.offset_bounds-handles-h
+offset_bounds-handles-h g c = omega (arith, (c.refused.ensures.made c.in_default.is).0.0)
+
+pub bounds-handles-h : goal.bounds-handles-h
+bounds-handles-h g c = (c.refused.ensures.made c.in_default.is).0.0
+
+pub offset_bounds-comps-c : goal.offset_bounds-comps-c
+offset_bounds-comps-c g c = omega (arith, order-within g.C.Comparator.order c.args.comps.now c.args.c (c.refused.ensures.made c.in_default.is).0.1)
+
+pub bounds-comps-c : goal.bounds-comps-c
+bounds-comps-c g c = order-within g.C.Comparator.order c.args.comps.now c.args.c (c.refused.ensures.made c.in_default.is).0.1

@@ -1,28 +1,31 @@
 use Rattle.bforest.specs.Bounds.{entries_between}
-use Rattle.bforest.specs.Forest.{IsLive, list_of}
-use Rattle.bforest_calls.proofs.Indexed.{at_both, is_handle, is_order}
+use Rattle.bforest.specs.Forest.{list_of}
+use Rattle.bforest_calls.proofs.Indexed.{is_handle, is_order, order-within, named}
 use Rattle.bforest_calls.proofs.sets.read.range.Goals as goal
 use Rattle.bforest_calls.specs.Looks.{all_taken}
-use Rattle.bforest_nodes.specs.Entries.{IsIncreasing}
-use Rattle.std.proofs.Common.{None, inr, refl, rules, sym, ◌∙◌, ◌≡◌}
+use Rattle.std.proofs.Common.{inr, refl, rules, ◌∙◌, arith}
 
 pub range_in-requires : goal.range_in-requires
 range_in-requires g c =
-    let none : c.refused.result ≡ None = search rules in
-    let passed = c.refused.ensures.made none in
-    let number = is_handle c.args.handles.now c.args.h c.index-handles-h.result c.index-handles-h.is passed.0.0 in
-    let order = is_order g.C.Comparator.order c.args.comps.now c.args.c c.index-comps-c.result c.index-comps-c.is passed.0.1 in (
-      search rules,
-      (
-        at_both (λ o n. IsLive c.args.forest.now n) (sym order) (sym number) passed.1,
-        at_both (λ o n. IsIncreasing o (list_of c.args.forest.now n)) (sym order) (sym number) passed.2,
-      ),
-    )
+    let passed = c.refused.ensures.made c.in_default.is in
+    let n = named g.C.Comparator.order c.args.forest.now c.args.handles.now c.args.comps.now c.args.h c.args.c _ _ passed (is_handle c.args.handles.now c.args.h c.index-handles-h.result c.index-handles-h.is passed.0.0) c.index-comps-c.is in
+    (search rules, (n.live, n.ordered))
 
 pub returns : goal.returns
 returns g c =
-    let none : c.refused.result ≡ None = search rules in
-    let passed = c.refused.ensures.made none in
+    let passed = c.refused.ensures.made c.in_default.is in
     let number = is_handle c.args.handles.now c.args.h c.index-handles-h.result c.index-handles-h.is passed.0.0 in
     let order = is_order g.C.Comparator.order c.args.comps.now c.args.c c.index-comps-c.result c.index-comps-c.is passed.0.1 in
     inr (passed.0, passed.1, passed.2, ((c.in_ok-sights.sights, refl, c.in_ok-sights.ensures ∙ (λ j. all_taken (entries_between (order j) c.args.bounds.0 c.args.bounds.1 (list_of c.args.forest.now (number j))) (c.deref.ensures.value j))), refl))
+
+pub offset_bounds-handles-h : goal.offset_bounds-handles-h
+offset_bounds-handles-h g c = omega (arith, (c.refused.ensures.made c.in_default.is).0.0)
+
+pub bounds-handles-h : goal.bounds-handles-h
+bounds-handles-h g c = (c.refused.ensures.made c.in_default.is).0.0
+
+pub offset_bounds-comps-c : goal.offset_bounds-comps-c
+offset_bounds-comps-c g c = omega (arith, order-within g.C.Comparator.order c.args.comps.now c.args.c (c.refused.ensures.made c.in_default.is).0.1)
+
+pub bounds-comps-c : goal.bounds-comps-c
+bounds-comps-c g c = order-within g.C.Comparator.order c.args.comps.now c.args.c (c.refused.ensures.made c.in_default.is).0.1
