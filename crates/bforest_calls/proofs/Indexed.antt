@@ -2,10 +2,11 @@
 use Rattle.bforest.specs.Forest.{Becomes, Forest, IsLive, list_of}
 use Rattle.bforest_calls.specs.Machine.{order_at}
 use Rattle.bforest_nodes.specs.Entries.{IsIncreasing, value_at_place, with_value}
-use Rattle.std.proofs.Common.{List, arith, inl, inr, None, Option, Some, [], ap, false, get_or, length, map, refl, subst, suc, sym, true, zero, ◌<◌, ◌≤◌, ◌∙◌, ◌≡◌, ◌∷◌, ℕ}
+use Rattle.std.proofs.Common.{Bool, List, arith, inl, inr, None, Option, Some, [], ap, false, get_or, length, map, refl, subst, suc, sym, true, zero, ◌<◌, ◌≤◌, ◌∙◌, ◌≡◌, ◌∷◌, ℕ}
 use Rattle.std.proofs.Math.Logic.{◌⊎◌}
+use Rattle.std.proofs.lemmas.Bool.{false≢true}
 use Rattle.std.proofs.lemmas.List.{get_or-map, get_or_default, length-map}
-use Rattle.std.specs.Prelude.{is_some, option_map}
+use Rattle.std.specs.Prelude.{IsTrue, is_some, option_map, ◌↔◌}
 use Rattle.std.specs.declared.cmp.Ordering.TheVariants.{Equal}
 use Rattle.std.specs.declared.cmp.Ordering.{Ordering}
 
@@ -29,12 +30,29 @@ not-there order comps h c handles past there = elim past [
 pub is_order : {C K : Type 0} (order : C → K → K → Ordering) (comps : List C) (c : ℕ) (x : C) → x ≡ get_or comps c x → c < length (map order comps) → order x ≡ order_at (map order comps) c
 is_order order comps c x is within = ap order is ∙ sym (get_or-map order comps c x (λ _ _. Equal) (order-within order comps c within))
 
+-- what a test of a handle says of the number that its index names
+module _ {K V : Type 0} (forest : Forest K V) (handles : List (Option ℕ)) (h : ℕ) (x : Option ℕ) (holds : Bool) (at : x ≡ get_or handles h x) (within : h < length handles) (tells : IsTrue holds ↔ IsLive forest x) where
+  pub alive : holds ≡ true → IsLive forest (get_or handles h None)
+  alive is = subst (λ n. IsLive forest n) (is_handle handles h x at within) (tells.0 is)
+
+  pub dead : holds ≡ false → IsLive forest (get_or handles h None) → ⊥
+  dead is live = false≢true (sym is ∙ tells.1 (subst (λ n. IsLive forest n) (sym (is_handle handles h x at within)) live))
+
 -- what holds of an order and of a number that are these
 pub at_both : {K : Type 0} {order own : K → K → Ordering} {n h : Option ℕ} (R : (K → K → Ordering) → Option ℕ → Type 0) → own ≡ order → h ≡ n → R own h → R order n
 at_both {K} {order} {own} {n} {h} R e d r = subst (λ o. R o n) e (subst (R own) d r)
 
 pub at_all : {K L : Type 0} {order own : K → K → Ordering} {n h : Option ℕ} {list asked : L} (R : (K → K → Ordering) → Option ℕ → L → Type 0) → own ≡ order → h ≡ n → asked ≡ list → R own h asked → R order n list
 at_all {K} {L} {order} {own} {n} {h} {list} {asked} R e d a r = subst (R order n) a (subst (λ o. R o n asked) e (subst (λ m. R own m asked) d r))
+
+-- what a test of its list under a comparator says of the order that the comparator's index names
+module _ {C K V : Type 0} (order : C → K → K → Ordering) (forest : Forest K V) (handles : List (Option ℕ)) (comps : List C) (h c : ℕ) (x : Option ℕ) (y : C) (increases : Bool)
+    (at : x ≡ get_or handles h x) (comp_at : y ≡ get_or comps c y) (there : (h < length handles) × (c < length (map order comps))) (tells : IsTrue increases ↔ IsIncreasing (order y) (list_of forest x)) where
+  pub in-order : increases ≡ true → IsIncreasing (order_at (map order comps) c) (list_of forest (get_or handles h None))
+  in-order is = at_both (λ o n. IsIncreasing o (list_of forest n)) (is_order order comps c y comp_at there.1) (is_handle handles h x at there.0) (tells.0 is)
+
+  pub unordered : increases ≡ false → IsIncreasing (order_at (map order comps) c) (list_of forest (get_or handles h None)) → ⊥
+  unordered is ordered = false≢true (sym is ∙ tells.1 (at_both (λ o n. IsIncreasing o (list_of forest n)) (sym (is_order order comps c y comp_at there.1)) (sym (is_handle handles h x at there.0)) ordered))
 
 module _ {K V : Type 0} where
   -- where there is a value there is an entry, and else there is none
