@@ -1,4 +1,8 @@
 -- One step more of a reading cursor, and one more from the ends of a range.
+use Rattle.bforest.specs.Cursor as map
+use Rattle.bforest.specs.SetCursor as set
+use Rattle.bforest.specs.declared.map_cursor_mut.MapCursorMut.{MapCursorMut}
+use Rattle.bforest.specs.declared.set_cursor.SetCursor.{SetCursor}
 use Rattle.bforest_calls.specs.Looks.{all_taken, left_after, place_after, sight_of, sights_of, taken}
 use Rattle.bforest_calls.specs.declared.call.Look.{Look}
 use Rattle.bforest_calls.specs.declared.call.Seen.{Seen}
@@ -51,3 +55,10 @@ flag-empty true [] h = refl
 flag-empty true (e ∷ es) h = let no = h.0 refl in absurd (cc)
 flag-empty false [] h = let no = h.1 refl in absurd (cc)
 flag-empty false (e ∷ es) h = refl
+
+-- a cursor stands where it stands
+pub map-goes : {K X C : Type 0} (order : C → K → K → Ordering) (old new : MapCursorMut K X C) (p : ℕ) → map.Goes order old new p → map.Goes order old new (map.spot new)
+map-goes order old new p m = record { map_loan = m.map_loan; forest_loan = m.forest_loan; comparator = m.comparator; spot = refl; valid = m.valid }
+
+pub set-goes : {K C : Type 0} (order : C → K → K → Ordering) (old new : SetCursor K C) (p : ℕ) → set.Goes order old new p → set.Goes order old new (set.spot new)
+set-goes order old new p m = record { set_loan = m.set_loan; forest_loan = m.forest_loan; comparator = m.comparator; spot = refl; valid = m.valid }

@@ -32,6 +32,24 @@ module _ {X : Type 0} where
       let count : length (es ++ x ∷ []) - 1 ≡ length es = omega (arith, more) in
       ap (λ n. take n (es ++ x ∷ [])) count ∙ take-front es (x ∷ [])
 
+module _ {X : Type 0} where
+  -- what a step from either end takes and leaves
+  pub taken-first : (old new : List X) (r : Option X) → YieldsFirst (λ (es : List X). es) old r new → r ≡ slice_get old 0
+  taken-first old new None h = ap (λ es. slice_get es 0) (sym h.0)
+  taken-first old new (Some x) h = ap (λ es. slice_get es 0) (sym h)
+
+  pub left-first : (old new : List X) (r : Option X) → YieldsFirst (λ (es : List X). es) old r new → new ≡ drop 1 old
+  left-first old new None h = h.1 ∙ ap (drop 1) (sym h.0)
+  left-first old new (Some x) h = ap (drop 1) (sym h)
+
+  pub taken-last : (old new : List X) (r : Option X) → YieldsLast (λ (es : List X). es) old r new → r ≡ entry_before old (length old)
+  taken-last old new None h = ap (λ es. entry_before es (length es)) (sym h.0)
+  taken-last old new (Some x) h = sym (before-end new x) ∙ ap (λ es. entry_before es (length es)) (sym h)
+
+  pub left-last : (old new : List X) (r : Option X) → YieldsLast (λ (es : List X). es) old r new → new ≡ take (length old - 1) old
+  left-last old new None h = h.1 ∙ ap (λ es. take (length es - 1) es) (sym h.0)
+  left-last old new (Some x) h = sym (without-end new x) ∙ ap (λ es. take (length es - 1) es) (sym h)
+
 module _ {K : Type 0} where
   removed-some : (o : Option (K × Unit {0})) → as_removed (is_some o) ≡ option_map (λ e. e.1) o
   removed-some None = refl

@@ -1,5 +1,6 @@
+use Rattle.bforest_calls.proofs.Runs.{on_err_from}
 use Rattle.bforest_calls.proofs.sets.make.Goals as goal
-use Rattle.std.proofs.Common.{map}
+use Rattle.std.proofs.Common.{map, refl}
 
 pub returns-in-Get-clause-step : goal.returns-in-Get-clause-step
 returns-in-Get-clause-step g c = rw c.in-Get.is c.get.ensures
@@ -33,3 +34,75 @@ returns-in-Retain-clause-step g c = rw c.in-Retain.is (c.retain.ensures c.in-Ret
 
 pub returns-in-Alias-clause-step : goal.returns-in-Alias-clause-step
 returns-in-Alias-clause-step g c = rw c.in-Alias.is (c.alias.ensures (map g.C.Comparator.order c.args.comps.now) c.args.forest.now)
+
+pub returns-in-Get-clause-err_forest : goal.returns-in-Get-clause-err_forest
+returns-in-Get-clause-err_forest g c = tt
+
+pub returns-in-Get-clause-err_handles : goal.returns-in-Get-clause-err_handles
+returns-in-Get-clause-err_handles g c = tt
+
+pub returns-in-GetOrLess-clause-err_forest : goal.returns-in-GetOrLess-clause-err_forest
+returns-in-GetOrLess-clause-err_forest g c = tt
+
+pub returns-in-GetOrLess-clause-err_handles : goal.returns-in-GetOrLess-clause-err_handles
+returns-in-GetOrLess-clause-err_handles g c = tt
+
+pub returns-in-Insert-clause-err_forest : goal.returns-in-Insert-clause-err_forest
+returns-in-Insert-clause-err_forest g c = tt
+
+pub returns-in-Insert-clause-err_handles : goal.returns-in-Insert-clause-err_handles
+returns-in-Insert-clause-err_handles g c = tt
+
+pub returns-in-Remove-clause-err_forest : goal.returns-in-Remove-clause-err_forest
+returns-in-Remove-clause-err_forest g c = tt
+
+pub returns-in-Remove-clause-err_handles : goal.returns-in-Remove-clause-err_handles
+returns-in-Remove-clause-err_handles g c = tt
+
+pub returns-in-Clear-clause-err_forest : goal.returns-in-Clear-clause-err_forest
+returns-in-Clear-clause-err_forest g c = tt
+
+pub returns-in-Clear-clause-err_handles : goal.returns-in-Clear-clause-err_handles
+returns-in-Clear-clause-err_handles g c = tt
+
+pub returns-in-Retain-clause-err_forest : goal.returns-in-Retain-clause-err_forest
+returns-in-Retain-clause-err_forest g c = tt
+
+pub returns-in-Retain-clause-err_handles : goal.returns-in-Retain-clause-err_handles
+returns-in-Retain-clause-err_handles g c = tt
+
+pub returns-in-Alias-clause-err_forest : goal.returns-in-Alias-clause-err_forest
+returns-in-Alias-clause-err_forest g c = tt
+
+pub returns-in-Alias-clause-err_handles : goal.returns-in-Alias-clause-err_handles
+returns-in-Alias-clause-err_handles g c = tt
+
+pub returns-in-ForestClear-clause-err_forest : goal.returns-in-ForestClear-clause-err_forest
+returns-in-ForestClear-clause-err_forest g c = tt
+
+pub returns-in-ForestClear-clause-err_handles : goal.returns-in-ForestClear-clause-err_handles
+returns-in-ForestClear-clause-err_handles g c = tt
+
+pub returns-in-Read-clause-err_forest : goal.returns-in-Read-clause-err_forest
+returns-in-Read-clause-err_forest g c = tt
+
+pub returns-in-Read-clause-err_handles : goal.returns-in-Read-clause-err_handles
+returns-in-Read-clause-err_handles g c = tt
+
+pub returns-in-Iter-clause-err_forest : goal.returns-in-Iter-clause-err_forest
+returns-in-Iter-clause-err_forest g c = on_err_from c.iter.result refl
+
+pub returns-in-Iter-clause-err_handles : goal.returns-in-Iter-clause-err_handles
+returns-in-Iter-clause-err_handles g c = on_err_from c.iter.result refl
+
+pub returns-in-Range-clause-err_forest : goal.returns-in-Range-clause-err_forest
+returns-in-Range-clause-err_forest g c = on_err_from c.range.result refl
+
+pub returns-in-Range-clause-err_handles : goal.returns-in-Range-clause-err_handles
+returns-in-Range-clause-err_handles g c = on_err_from c.range.result refl
+
+pub returns-in-Edit-clause-err_forest : goal.returns-in-Edit-clause-err_forest
+returns-in-Edit-clause-err_forest g c = c.edit.ensures.err_forest
+
+pub returns-in-Edit-clause-err_handles : goal.returns-in-Edit-clause-err_handles
+returns-in-Edit-clause-err_handles g c = c.edit.ensures.err_handles

@@ -2,7 +2,7 @@ use Rattle.bforest.specs.Calls.{Inserts}
 use Rattle.bforest.specs.Set.{as_removed}
 use Rattle.bforest.specs.SetCursor.{comparator, forest_now, set_now, spot}
 use Rattle.bforest.specs.Forest.{list_of}
-use Rattle.bforest_calls.proofs.Sights.{flag-empty}
+use Rattle.bforest_calls.proofs.Sights.{flag-empty, set-goes}
 use Rattle.bforest_calls.proofs.Units.{becomes-written, count-keys, entry-at, entry-before, key-at, removed-value, some-at, value-at}
 use Rattle.bforest_calls.proofs.sets.edit.act.Goals as goal
 use Rattle.bforest_calls.specs.declared.call.Seen.TheVariants as seen
@@ -95,3 +95,21 @@ returns-in-Remove-clause-acts g c =
       c.remove.ensures.removed,
       c.remove.ensures.goes.spot,
     )
+
+pub returns-in-Next-clause-goes : goal.returns-in-Next-clause-goes
+returns-in-Next-clause-goes g c = set-goes g.C.Comparator.order c.args.cursor.now c.next.new.self _ c.next.ensures.moves.goes
+
+pub returns-in-Prev-clause-goes : goal.returns-in-Prev-clause-goes
+returns-in-Prev-clause-goes g c = set-goes g.C.Comparator.order c.args.cursor.now c.prev.new.self _ c.prev.ensures.moves.goes
+
+pub returns-in-Goto-clause-goes : goal.returns-in-Goto-clause-goes
+returns-in-Goto-clause-goes g c = set-goes g.C.Comparator.order c.args.cursor.now c.goto.new.self _ c.goto.ensures.moves.goes
+
+pub returns-in-First-clause-goes : goal.returns-in-First-clause-goes
+returns-in-First-clause-goes g c = set-goes g.C.Comparator.order c.args.cursor.now c.goto_first.new.self _ c.goto_first.ensures.moves.goes
+
+pub returns-in-Put-clause-goes : goal.returns-in-Put-clause-goes
+returns-in-Put-clause-goes g c = set-goes g.C.Comparator.order c.args.cursor.now c.try_insert.new.self _ c.try_insert.ensures.goes
+
+pub returns-in-Remove-clause-goes : goal.returns-in-Remove-clause-goes
+returns-in-Remove-clause-goes g c = set-goes g.C.Comparator.order c.args.cursor.now c.remove.new.self _ c.remove.ensures.goes
