@@ -7,7 +7,7 @@ use Rattle.bforest_calls.specs.Looks.{all_taken, left_after, place_after, sight_
 use Rattle.bforest_calls.specs.declared.call.Look.{Look}
 use Rattle.bforest_calls.specs.declared.call.Seen.{Seen}
 use Rattle.bforest_calls.specs.declared.call.Side.{Side}
-use Rattle.std.proofs.Common.{Bool, List, [], ap, drop, false, get_or, length, refl, sym, true, ◌+◌, ◌++◌, ◌<◌, ◌∙◌, ◌≡◌, ◌≤◌, ◌∷◌, ℕ}
+use Rattle.std.proofs.Common.{Bool, List, arith, if◌then◌else◌, [], ap, drop, false, get_or, length, refl, sym, true, ◌+◌, ◌++◌, ◌<◌, ◌∙◌, ◌≡◌, ◌≤◌, ◌∷◌, ℕ}
 use Rattle.std.proofs.lemmas.List.{append-nil, append_assoc, drop_all, drop_more}
 use Rattle.std.specs.Prelude.{IsTrue, is_none, slice_get, ◌↔◌}
 use Rattle.std.specs.declared.cmp.Ordering.{Ordering}
@@ -62,3 +62,10 @@ map-goes order old new p m = record { map_loan = m.map_loan; forest_loan = m.for
 
 pub set-goes : {K C : Type 0} (order : C → K → K → Ordering) (old new : SetCursor K C) (p : ℕ) → set.Goes order old new p → set.Goes order old new (set.spot new)
 set-goes order old new p m = record { set_loan = m.set_loan; forest_loan = m.forest_loan; comparator = m.comparator; spot = refl; valid = m.valid }
+
+-- a push for which there was room
+pub pushed : {X : Type 0} (ok : Bool) (with without new : X) → ok ≡ true → new ≡ (if ok then with else without) → new ≡ with
+pushed ok with without new is e = e ∙ (λ j. if is j then with else without)
+
+pub room-stays : (most before after : ℕ) → most ≤ before → before ≤ after → most ≤ after
+room-stays most before after low grows = omega (arith, low, grows)

@@ -1,8 +1,10 @@
-use Rattle.bforest.specs.SetCursor.{comparator, forest_now, set_now, spot}
 use Rattle.bforest.specs.Forest.{list_of}
+use Rattle.bforest.specs.SetCursor.{comparator, forest_now, set_now, spot}
 use Rattle.bforest_calls.proofs.Runs.{script_next, script_none, script_whole}
+use Rattle.bforest_calls.proofs.Sights.{pushed, room-stays}
 use Rattle.bforest_calls.proofs.sets.edit.edit_in.Goals as goal
-use Rattle.std.proofs.Common.{ap, arith, length, refl, rules, sym, ◌∙◌}
+use Rattle.std.proofs.Common.{ap, length, refl, sym, ◌∙◌, ◌+◌}
+use Rattle.std.specs.Prelude.{is_ok}
 
 pub loop-step-init : goal.loop-step-init
 loop-step-init g c =
@@ -16,8 +18,8 @@ loop-step-init g c =
       set_loan = refl;
       forest_loan = refl;
       order = ap g.C.Comparator.order made.comparator;
-      told = search rules;
-      room = search rules;
+      told = c.in_ok-sights.ensures.len;
+      room = c.in_ok-sights.ensures.capacity;
     }
 
 pub loop-step-preserved : goal.loop-step-preserved
@@ -29,14 +31,14 @@ loop-step-preserved g c =
           c.args.steps.now l.step-index l.sights.items (record { forest = forest_now l.cursor; number = set_now l.cursor }) (spot l.cursor)
           (g.C.Comparator.order (comparator l.cursor)) c.step-item.result a.result
           (record { forest = forest_now a.new.cursor; number = set_now a.new.cursor }) (spot a.new.cursor) c.push.new.self.items
-          l.invariant.steps l.invariant.order a.ensures.acts (omega arith) c.step-item.is (search rules);
+          l.invariant.steps l.invariant.order a.ensures.acts c.loop-step-test.true c.step-item.is (pushed (is_ok c.push.result) _ _ _ (ap is_ok c.unwrap.ensures) c.push.ensures.items);
       valid = a.ensures.goes.valid;
       ready = l.invariant.ready;
       set_loan = a.ensures.goes.set_loan ∙ l.invariant.set_loan;
       forest_loan = a.ensures.goes.forest_loan ∙ l.invariant.forest_loan;
       order = ap g.C.Comparator.order a.ensures.goes.comparator ∙ l.invariant.order;
-      told = search rules;
-      room = search rules;
+      told = pushed (is_ok c.push.result) _ _ _ (ap is_ok c.unwrap.ensures) c.push.ensures.len ∙ ap (λ n. n + 1) l.invariant.told;
+      room = room-stays (length c.args.steps.now) _ _ l.invariant.room c.push.ensures.capacity;
     }
 
 pub returns-clause-script : goal.returns-clause-script
@@ -48,5 +50,5 @@ returns-clause-script g c =
       spot l.cursor,
       script_whole 15 (g.C.Comparator.order c.args.comp.now) (record { forest = c.args.forest.now; number = c.args.handle.now }) (length (list_of c.args.forest.now c.args.handle.now))
           c.args.steps.now l.step-index l.sights.items (record { forest = forest_now l.cursor; number = set_now l.cursor }) (spot l.cursor) _
-          l.invariant.steps (omega arith) forest map,
+          l.invariant.steps c.loop-step-test.false forest map,
     )
