@@ -3,6 +3,7 @@ use Rattle.std.specs.Prelude.{◌≡◌, ◌≢◌, ℕ, ◌+◌, ◌-◌, ◌++
 use Rattle.std.specs.List.{sum_by}
 use Rattle.bforest_core.specs.Table.{Table, slot_count, free_count, reserved}
 use Rattle.bforest_nodes.specs.Content.{Content}
+use Rattle.bforest_core.specs.Climb.{nodes_up}
 use Rattle.bforest_core.specs.Levels.{flat, sizes_of}
 use Rattle.bforest_core.specs.Place.{IsPathAt, PlacedAt, PointsAt, Stands}
 use Rattle.bforest_core.specs.Trees.{tree_of, is_root, IsUnion, OthersKeep}
@@ -56,6 +57,14 @@ module _ {K V : Type 0} where
     pub chain_is : new.chain ≡ given ++ old.chain
     pub slots : slot_count new ≡ slot_count old
     pub count_is : length given + node_count after ≡ node_count before
+
+  -- and in this order: nodes of this path from the leaf up, then the roots that were discarded, one for each level that
+  -- went; each lies in front of those before it
+  pub record GivesInOrder (path : List ℕ) (before after : List (List ℕ)) (old new : Table K V) : Type 0 where
+    pub roots : List ℕ
+    pub up : ℕ
+    pub chain_is : new.chain ≡ roots ++ (nodes_up path 0 up ++ old.chain)
+    pub roots_are : length roots ≡ length before - length after
 
   -- the path stands in the tree under this root, at this entry
   pub record StandsUnder (slots : List (Content K V)) (root : ℕ) (path indices : List ℕ) (size place : ℕ) : Type 0 where

@@ -1,5 +1,5 @@
 -- What the calls of a path say of the rows above a level, and of a whole tree.
-use Rattle.std.specs.Prelude.{◌≡◌, ◌≢◌, ℕ, suc, ◌+◌, ◌-◌, ◌≤◌, ◌<◌, Bool, if◌then◌else◌, List, [], ◌∷◌, ◌++◌, map, length, insert, get_or, slice_get, Some, None, Option}
+use Rattle.std.specs.Prelude.{◌≡◌, ◌≢◌, ℕ, zero, suc, ◌+◌, ◌-◌, ◌≤◌, ◌<◌, Bool, if◌then◌else◌, List, [], ◌∷◌, ◌++◌, map, length, insert, get_or, slice_get, Some, None, Option}
 use Rattle.std.specs.List.{flat_map}
 use Rattle.bforest_core.specs.Table.{Table}
 use Rattle.bforest_core.specs.Levels.{LevelNode, node, flat, head_of, heads, sizes, numbers, FitRow, Stacked, Topped, Tree, IsFit, half_of, sizes_of}
@@ -14,6 +14,11 @@ SameBelow level old new = (below : ℕ) → below < level → get_or new below 0
 -- the number of the root, where so many levels lie on the path
 abbrev pub top_of : List ℕ → ℕ → ℕ
 top_of path size = get_or path (size - 1) 0
+
+-- the nodes of a path on so many levels from this one up, the highest first
+abbrev pub nodes_up : List ℕ → ℕ → ℕ → List ℕ
+nodes_up path level zero = []
+nodes_up path level (suc count) = nodes_up path (suc level) count ++ get_or path level 0 ∷ []
 
 -- the entry that comes next, if any
 abbrev pub NextIs : {K : Type 0} → Option (K × ℕ) → List (K × ℕ) → Type 0

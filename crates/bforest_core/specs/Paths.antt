@@ -29,6 +29,10 @@ module _ {K V : Type 0} where
   abbrev pub path_root : {n : ℕ} → Path K V n → ℕ
   path_root path = top_of path.node path.size
 
+  -- its nodes, the leaf first
+  abbrev pub nodes_of : {n : ℕ} → Path K V n → List ℕ
+  nodes_of path = path.node
+
   -- the path is at the end, with no node
   abbrev pub IsAtEnd : {n : ℕ} → Path K V n → Type 0
   IsAtEnd path = path.size ≡ 0

@@ -1,17 +1,25 @@
 -- What the calls of a path say of the rows above a level, and of a whole tree, when an entry goes.
-use Rattle.std.specs.Prelude.{Some, remove, ◌≡◌, ◌≢◌, ℕ, suc, ◌+◌, ◌≤◌, ◌<◌, true, false, List, [], ◌∷◌, ◌++◌, map, length, get_or, slice_get}
+use Rattle.std.specs.Prelude.{Some, remove, ◌≡◌, ◌≢◌, ℕ, suc, ◌+◌, ◌-◌, ◌≤◌, ◌<◌, true, false, List, [], ◌∷◌, ◌++◌, map, length, get_or, slice_get}
 use Rattle.std.specs.List.{flat_map}
 use Rattle.bforest_nodes.specs.Content.{Content, IsFree}
 use Rattle.bforest_core.specs.Table.{Table}
 use Rattle.bforest_core.specs.Levels.{LevelNode, node, flat, heads, sizes, numbers, FitRow, Solid, Stacked, Topped, least, Tree, IsFit, half_of, sizes_of, top_level}
 use Rattle.bforest_core.specs.Sizes.{rebalanced, shrink}
 use Rattle.bforest_core.specs.Place.{RowIn, RowsIn, IsIn, leaf_content, inner_content, count, Distinct, root_above, root_of, numbers_of, Stands}
-use Rattle.bforest_core.specs.Climb.{Above, SameBelow, top_of}
+use Rattle.bforest_core.specs.Descent.{SameAbove}
+use Rattle.bforest_core.specs.Climb.{Above, SameBelow, nodes_up, top_of}
 use Rattle.bforest_core.specs.Trees.{slot, Every}
 
 -- the numbers of some leaves, and of the inner nodes over them
 abbrev pub numbers_under : {K V : Type 0} → List (LevelNode K V) → List (List (LevelNode K ℕ)) → List ℕ
 numbers_under leaves lower = numbers leaves ++ flat_map numbers lower
+
+-- freed numbers, the last first: nodes of a path from the leaf up, and in front of them so many roots
+pub record InOrder (path : List ℕ) (levels : ℕ) (freed : List ℕ) : Type 0 where
+  pub roots : List ℕ
+  pub up : ℕ
+  pub freed_is : freed ≡ roots ++ nodes_up path 0 up
+  pub roots_are : length roots ≡ levels
 
 module _ {K V : Type 0} where
   -- but for the slots of these numbers nothing has changed; the freed ones lie free, in front of the chain
@@ -114,6 +122,7 @@ module _ {K V : Type 0} where
     pub entry_is : get_or indices' level 0 ≡ get_or indices level 0
     pub frees : Frees old new (numbers (before ++ node number entries ∷ after)) (number ∷ [])
     pub nodes_below : SameBelow level path path'
+    pub nodes_above : SameAbove level path path'
     pub entries_below : SameBelow level indices indices'
     pub same_top : top_of path' size ≡ top_of path size
 
@@ -146,6 +155,7 @@ module _ {K V : Type 0} where
     pub topped : Topped list rows'
     pub size_is : suc (length rows') ≡ size'
     pub freed_is : (number : ℕ) → count number freed ≡ count number (flat_map numbers discarded)
+    pub one_each : length freed ≡ length discarded
     pub root_is : root_above list rows' ≡ root'
     pub same_root : size' ≡ size → root' ≡ root
     pub old_root : size' ≢ size → 0 < count root freed
@@ -185,8 +195,8 @@ module _ {K V : Type 0} where
     pub frees : Frees old new (numbers_of tree) []
 
   -- the entry at the place went out of the tree, which is under this root now and not empty, and of which this holds now:
-  -- the nodes have the sizes of `shrink`, and those freed lie in front of the chain
-  pub record Removed (most : ℕ) (old new : Table K V) (Now : Tree K V → Type 0) (tree : Tree K V) (place root' : ℕ) : Type 0 where
+  -- the nodes have the sizes of `shrink`, and those freed lie in front of the chain, those of the path from the leaf up
+  pub record Removed (most : ℕ) (old new : Table K V) (path : List ℕ) (Now : Tree K V → Type 0) (tree : Tree K V) (place root' : ℕ) : Type 0 where
     pub tree' : Tree K V
     pub freed : List ℕ
     pub flat_is : flat tree'.leaves ≡ remove (flat tree.leaves) place
@@ -200,6 +210,7 @@ module _ {K V : Type 0} where
     pub same_root : length tree'.above ≡ length tree.above → root' ≡ root_of tree
     pub old_root : length tree'.above ≢ length tree.above → 0 < count (root_of tree) freed
     pub low : length tree'.above ≤ length tree.above
+    pub order : InOrder path (length tree.above - length tree'.above) freed
     pub frees : Frees old new (numbers_of tree) freed
 
   -- the only entry of the tree went, and its node
@@ -209,4 +220,5 @@ module _ {K V : Type 0} where
     pub levels_are : sizes_of tree ≡ (1 ∷ []) ∷ []
     pub freed : List ℕ
     pub freed_is : (number : ℕ) → count number freed ≡ count number (numbers_of tree)
+    pub one : length freed ≡ 1
     pub frees : Frees old new (numbers_of tree) freed

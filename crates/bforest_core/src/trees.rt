@@ -7,7 +7,7 @@ ghost use Rattle.bforest_core.specs.Levels.{LevelNode, flat, half_of, sizes_of, 
 ghost use Rattle.bforest_core.specs.Descent.{Under};
 ghost use Rattle.bforest_core.specs.Place.{count, Distinct};
 ghost use Rattle.bforest_core.specs.Removal.{GivesAll, numbers_under};
-ghost use Rattle.bforest_core.specs.Table.{slot_count};
+ghost use Rattle.bforest_core.specs.Table.{front_of, slot_count};
 ghost use Rattle.bforest_core.specs.Trees.{IsUnion, is_root, tree_of};
 
 use crate::pool::NodePool;
@@ -21,13 +21,14 @@ impl<K: Copy, V: Copy, const N: usize> NodePool<K, V, N> {
         node.number() < self.slots() && !self.node(node).is_free() && !self.is_child(node)
     }
 
-    /// Ends the tree under a root: all its nodes are freed, and lie in front of the chain. It reads each node, and each inner node twice for
+    /// Ends the tree under a root: all its nodes are freed, and lie in front of the chain, the root first. It reads each node, and each inner node twice for
     /// each of its children, and takes no memory.
     pub fn free_tree(&mut self, root: Node)
         requires union { IsUnion N self.old }
         requires root { IsTrue (is_root self.old.nodes root) }
         ensures ended { Ends N self.old self.new root }
         ensures account { GivesNodes (sizes_of (tree_of self.old.nodes root)) [] self.old self.new }
+        ensures front { front_of self.new.chain ≡ Some root }
     {
         self.free_below(root, 0);
     }
@@ -40,10 +41,11 @@ impl<K: Copy, V: Copy, const N: usize> NodePool<K, V, N> {
         requires under { (leaves : List (LevelNode K V)) × (lower : List (List (LevelNode K ℕ))) × (first : K)
             × Under N self.old.nodes leaves lower ((first, node) ∷ [])
             × Distinct (numbers_under leaves lower ++ self.old.chain) × (depth + length lower ≤ top_level) }
-        ensures { (leaves : List (LevelNode K V)) (lower : List (List (LevelNode K ℕ))) (first : K)
+        ensures freed { (leaves : List (LevelNode K V)) (lower : List (List (LevelNode K ℕ))) (first : K)
             → Under N self.old.nodes leaves lower ((first, node) ∷ [])
             → Distinct (numbers_under leaves lower ++ self.old.chain)
             → GivesAll self.old self.new (numbers_under leaves lower) }
+        ensures front { front_of self.new.chain ≡ Some node }
     {
         if self.node(node).is_inner() {
             self.free_under(node, depth);
@@ -59,10 +61,11 @@ impl<K: Copy, V: Copy, const N: usize> NodePool<K, V, N> {
         requires under { (leaves : List (LevelNode K V)) × (lower : List (List (LevelNode K ℕ))) × (first : K)
             × Under N self.old.nodes leaves lower ((first, node) ∷ [])
             × Distinct (numbers_under leaves lower ++ self.old.chain) × (depth + length lower ≤ top_level) }
-        ensures { (leaves : List (LevelNode K V)) (lower : List (List (LevelNode K ℕ))) (first : K)
+        ensures freed { (leaves : List (LevelNode K V)) (lower : List (List (LevelNode K ℕ))) (first : K)
             → Under N self.old.nodes leaves lower ((first, node) ∷ [])
             → Distinct (numbers_under leaves lower ++ self.old.chain)
             → GivesAll self.old self.new (numbers_under leaves lower) }
+        ensures front { front_of self.new.chain ≡ Some node }
     {
         for index in 0..self.child_count(node) {
             let child = self.node(node).child(index);

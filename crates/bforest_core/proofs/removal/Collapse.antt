@@ -109,7 +109,7 @@ module _ {K V : Type 0} where
   rows-parts slots (row ∷ rows) more i = let r = rows-parts slots rows more i.1 in ((i.0, r.0), r.1)
 
   -- no root goes
-  pub trim_none : (t : Table K V) (size : ℕ) (rows : List (List (LevelNode K ℕ))) (list : List (K × ℕ)) (root : ℕ) → UpTo t size rows list root → Topped list rows → Trimmed t t size size rows list root root []
+  unfoldable pub trim_none : (t : Table K V) (size : ℕ) (rows : List (List (LevelNode K ℕ))) (list : List (K × ℕ)) (root : ℕ) → UpTo t size rows list root → Topped list rows → Trimmed t t size size rows list root root []
   trim_none t size rows list root u topped = record {
     rows' = rows;
     discarded = [];
@@ -118,6 +118,7 @@ module _ {K V : Type 0} where
     topped = topped;
     size_is = u.height;
     freed_is = λ m. refl;
+    one_each = refl;
     root_is = u.root_is;
     same_root = λ e. refl;
     old_root = λ ne. absurd (ne refl);
@@ -203,6 +204,7 @@ module _ {K V : Type 0} where
         topped = r.topped;
         size_is = r.size_is;
         freed_is = λ m. omega (arith, c m, d m, r.freed_is m);
+        one_each = omega (arith, r.one_each, length-append freed (root ∷ []), length-append r.discarded (row ∷ []));
         root_is = r.root_is;
         same_root = λ same. absurd (omega (arith, same, less));
         old_root = λ ne. omega (arith, d root, count-same root []);

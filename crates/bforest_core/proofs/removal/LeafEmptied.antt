@@ -6,7 +6,7 @@ use Rattle.bforest_core.specs.Table.{Table, with_freed, front_of}
 use Rattle.bforest_core.specs.Levels.{LevelNode, node, flat, heads, sizes, numbers, FitRow, Solid, Stacked, Topped, Tree, half_of, sizes_of}
 use Rattle.bforest_core.specs.Sizes.{loss, loss_above, shrink}
 use Rattle.bforest_core.specs.Place.{RowIn, leaf_content, count, Distinct, root_above, root_of, numbers_of, IsPathAt}
-use Rattle.bforest_core.specs.Climb.{Above}
+use Rattle.bforest_core.specs.Climb.{nodes_up, Above}
 use Rattle.bforest_core.specs.Removal.{Dropped, UpTo, Trimmed, StandsIn, Removed, Emptied}
 use Rattle.bforest_core.proofs.rows.LevelRows.{flat-append, heads-append, sizes-append, Solid-full}
 use Rattle.bforest_core.proofs.table.Tables.{count-append, count-row, row-split, row-same, rows-same, ne_from_count, absent_ne, slice_get-set_apart}
@@ -117,6 +117,7 @@ module _ {K V : Type 0} where
         levels_are = levels;
         freed = n ∷ [];
         freed_is = nums;
+        one = refl;
         frees = record {
           others = λ m none. f.others m (omega (arith, none, nums m));
           freed_are = f.freed_are;
@@ -218,11 +219,11 @@ module _ {K V : Type 0} where
 
   -- and roots with a single child went: the path is at the end
   pub drop_removed : (most : ℕ) (t v u u2 : Table K V) (path indices path' indices' : List ℕ) (size size2 : ℕ) (tree : Tree K V) (place root root' : ℕ) → StandsIn most t path indices size tree place → root_of tree ≡ root → (c : LeafDrop most t v path indices size tree place) →
-      (freed : List ℕ) × Dropped v u path size tree.above (heads c.init ++ (c.w.0, c.number) ∷ []) (loss_above (Some (suc (length (heads c.init)))) (map sizes tree.above)) freed →
-      ((rows : List (List (LevelNode K ℕ))) (list : List (K × ℕ)) → UpTo u size rows list root → (gone : List ℕ) × Trimmed u u2 size size2 rows list root root' gone) → Removed most t u2 (λ z. IsPathAt path' indices' 0 z place) tree place root'
+      (levels : ℕ) × Dropped v u path size tree.above (heads c.init ++ (c.w.0, c.number) ∷ []) (loss_above (Some (suc (length (heads c.init)))) (map sizes tree.above)) (nodes_up path 1 levels) →
+      ((rows : List (List (LevelNode K ℕ))) (list : List (K × ℕ)) → UpTo u size rows list root → (gone : List ℕ) × Trimmed u u2 size size2 rows list root root' gone) → Removed most t u2 path (λ z. IsPathAt path' indices' 0 z place) tree place root'
   drop_removed most t v u u2 path indices path' indices' size size2 tree place root root' s root_is c dropped trims =
-      let d = drop_untrimmed most t v u path indices size tree place dropped.0 s c dropped.1 in
-      let freed : List ℕ = dropped.0 ++ get_or path 0 0 ∷ [] in
+      let d = drop_untrimmed most t v u path indices size tree place (nodes_up path 1 dropped.0) s c dropped.1 in
+      let freed : List ℕ = nodes_up path 0 (suc dropped.0) in
       let up = up_to most t u path indices size size tree place root c.d.before d.0 freed s d.1 refl root_is in
       let g = trims d.0 (heads c.d.before) up in
-      trimmed_removed most t u u2 path indices size tree place root c.d.before d.0 freed size size2 root' g.0 (λ z. IsPathAt path' indices' 0 z place) s d.1 root_is g.1 refl c.d.place_is
+      trimmed_removed most t u u2 path indices size tree place root c.d.before d.0 (suc dropped.0) size size2 root' g.0 (λ z. IsPathAt path' indices' 0 z place) s d.1 root_is g.1 refl c.d.place_is

@@ -1,10 +1,11 @@
 -- An entry out of the rows above a level: its row rebalanced, then those above.
-use Rattle.std.proofs.Common.{◌≡◌, ℕ, suc, ◌+◌, ◌≤◌, List, [], ◌∷◌, ◌++◌, map, length, get_or, Some, refl, sym, ap, ◌∙◌, subst, append_assoc, length-append, arith}
+use Rattle.std.proofs.Common.{◌≡◌, ℕ, zero, suc, ◌+◌, ◌≤◌, List, [], ◌∷◌, ◌++◌, map, length, get_or, Some, refl, sym, ap, ◌∙◌, subst, append_assoc, length-append, arith}
 use Rattle.std.specs.List.{flat_map}
 use Rattle.bforest_core.specs.Table.{Table}
 use Rattle.bforest_core.specs.Levels.{LevelNode, node, flat, heads, head_of, sizes, numbers, FitRow, Stacked}
 use Rattle.bforest_core.specs.Sizes.{rebalanced, loss_above}
 use Rattle.bforest_core.specs.Place.{RowIn, inner_content, count}
+use Rattle.bforest_core.specs.Climb.{nodes_up}
 use Rattle.bforest_core.specs.Removal.{Rebuilt, Loosened, Healed, Joined}
 use Rattle.bforest_core.proofs.rows.LevelRows.{flat-append, heads-append, sizes-append, FitRow-split, Solid-full, least-pos}
 use Rattle.bforest_core.proofs.table.Tables.{count-append, count-row, row-same}
@@ -18,6 +19,12 @@ pub loss_level : {K X : Type 0} (q : ℕ) (before : List (LevelNode K X)) (m e p
 loss_level q before m e p after levels all all_is low p_is q_is =
     let l = loss_at q before m e after (omega (arith, low)) in
     ap (λ z. loss_above (Some p) z) all_is ∙ rw (p_is, ← q_is) (ap (λ z. z.1 ∷ loss_above z.0 levels) l)
+
+-- the nodes from a level up, on a path that is the same there
+pub nodes_up-same : (path path' : List ℕ) (level count : ℕ) → ((i : ℕ) → level ≤ i → get_or path' i 0 ≡ get_or path i 0) → nodes_up path' level count ≡ nodes_up path level count
+nodes_up-same path path' level zero same = refl
+nodes_up-same path path' level (suc count) same =
+    ap (λ z. z ++ get_or path' level 0 ∷ []) (nodes_up-same path path' (suc level) count (λ i above. same i (omega (arith, above)))) ∙ ap (λ z. nodes_up path (suc level) count ++ z ∷ []) (same level (omega arith))
 
 module _ {K V : Type 0} where
   -- the level healed, and all above it stays
@@ -114,8 +121,11 @@ module _ {K V : Type 0} where
 
   -- the same, where the level and the size are given as the code has them
   pub merge_again : (t u w v : Table K V) (path indices path1 indices1 path' indices' : List ℕ) (up size up' size' : ℕ) (rows : List (List (LevelNode K ℕ))) (hs : List (K × ℕ)) (p : ℕ) → (l : Loosened t u path indices up size rows hs p) →
-      (j : Joined inner_content 4 8 u w path indices path1 indices1 up size l.before (get_or path up 0) l.entries l.after l.rest) → up' ≡ suc up → size' ≡ size → (freed : List ℕ) →
-      Rebuilt w v path1 indices1 path' indices' up' size' l.rest (heads l.before ++ (j.first.0, j.right) ∷ heads j.after') (length (heads l.before)) (loss_above (Some (length (heads l.before))) (map sizes l.rest)) freed →
-      Rebuilt t v path indices path' indices' up size rows hs p (loss_above (Some p) (map sizes rows)) (freed ++ get_or path up 0 ∷ [])
-  merge_again t u w v path indices path1 indices1 path' indices' up size up' size' rows hs p l j up_is size_is freed r =
-      merge_joined t u w v path indices path1 indices1 path' indices' up size rows hs p freed l j (rw (up_is, size_is) at r)
+      (j : Joined inner_content 4 8 u w path indices path1 indices1 up size l.before (get_or path up 0) l.entries l.after l.rest) → up' ≡ suc up → size' ≡ size → (levels : ℕ) →
+      Rebuilt w v path1 indices1 path' indices' up' size' l.rest (heads l.before ++ (j.first.0, j.right) ∷ heads j.after') (length (heads l.before)) (loss_above (Some (length (heads l.before))) (map sizes l.rest)) (nodes_up path1 up' levels) →
+      Rebuilt t v path indices path' indices' up size rows hs p (loss_above (Some p) (map sizes rows)) (nodes_up path up (suc levels))
+  merge_again t u w v path indices path1 indices1 path' indices' up size up' size' rows hs p l j up_is size_is levels r =
+      let same = nodes_up-same path path1 (suc up) levels (λ i above. j.nodes_above i (omega (arith, above))) in
+      let rest = rw (up_is, size_is) at r in
+      merge_joined t u w v path indices path1 indices1 path' indices' up size rows hs p (nodes_up path (suc up) levels) l j
+      (subst (λ (z : List ℕ). Rebuilt w v path1 indices1 path' indices' (suc up) size l.rest (heads l.before ++ (j.first.0, j.right) ∷ heads j.after') (length (heads l.before)) (loss_above (Some (length (heads l.before))) (map sizes l.rest)) z) same rest)

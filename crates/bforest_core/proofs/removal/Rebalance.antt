@@ -267,6 +267,7 @@ module _ {K V X : Type 0} (content : List (K × X) → Content K V) (half most :
           limit_is = ap (λ z. z.limit) v_is ∙ s.two.limit_is;
         };
         nodes_below = λ i below. get_or-set_other path up i q 0 (λ (w : i ≡ up). omega (arith, w, below));
+        nodes_above = λ i above. get_or-set_other path up i q 0 (λ (w : i ≡ up). omega (arith, w, above));
         entries_below = same-refl up indices;
         same_top = get_or-set_other path up (size - 1) q 0 (λ (w : size - 1 ≡ up). omega (arith, w, high));
       }

@@ -1,15 +1,16 @@
 -- What a removal from the tree under a root says of the table.
-use Rattle.std.proofs.Common.{◌≡◌, ◌≢◌, ℕ, zero, suc, ◌+◌, ◌≤◌, ◌<◌, ◌↔◌, Option, Some, None, IfSome, List, [], ◌∷◌, ◌++◌, length, get_or, refl, sym, ap, ◌∙◌, subst, inl, inr, length-append, arith}
+use Rattle.std.proofs.Common.{◌≡◌, ◌≢◌, ℕ, zero, suc, ◌+◌, ◌≤◌, ◌<◌, ◌↔◌, Option, Some, None, IfSome, List, [], ◌∷◌, ◌++◌, length, get_or, refl, sym, ap, ◌∙◌, subst, inl, inr, append_assoc, length-append, arith}
 use Rattle.std.specs.List.{remove}
 use Rattle.std.proofs.lemmas.Bool.Decides.{eqb_tells}
 use Rattle.std.proofs.lemmas.List.{length-map}
 use Rattle.bforest_nodes.specs.Content.{Content}
 use Rattle.bforest_core.specs.Table.{Table}
 use Rattle.bforest_core.specs.Levels.{node, flat, sizes, Tree, sizes_of}
+use Rattle.bforest_core.specs.Climb.{nodes_up}
 use Rattle.bforest_core.specs.Sizes.{shrink}
 use Rattle.bforest_core.specs.Place.{leaf_content, count, root_of, numbers_of, Stands}
 use Rattle.bforest_core.specs.Trees.{tree_of, IsUnion}
-use Rattle.bforest_core.specs.Change.{Changes, Ends, GivesNodes, StandsUnder, node_count}
+use Rattle.bforest_core.specs.Change.{Changes, Ends, GivesInOrder, GivesNodes, StandsUnder, node_count}
 use Rattle.bforest_core.specs.Removal.{StandsIn, Removed, Emptied}
 use Rattle.bforest_core.proofs.rows.LevelRows.{flat-append}
 use Rattle.bforest_core.proofs.table.Tables.{count-append}
@@ -64,15 +65,16 @@ module _ {K V : Type 0} where
   }
 
   -- all that a removal says of the table and of the path
-  pub record Removal (most : ℕ) (old new : Table K V) (root root' place : ℕ) (Now : Tree K V → Type 0) : Type 0 where
+  pub record Removal (most : ℕ) (old new : Table K V) (path : List ℕ) (root root' place : ℕ) (Now : Tree K V → Type 0) : Type 0 where
     pub changes : Changes most old new root root' (remove (flat (tree_of old.nodes root).leaves) place) (shrink most place (sizes_of (tree_of old.nodes root)))
     pub gives : GivesNodes (sizes_of (tree_of old.nodes root)) (shrink most place (sizes_of (tree_of old.nodes root))) old new
+    pub order : GivesInOrder path (sizes_of (tree_of old.nodes root)) (shrink most place (sizes_of (tree_of old.nodes root))) old new
     pub at : Now (tree_of new.nodes root')
     pub same_root : (root' ≡ root) ↔ (length (shrink most place (sizes_of (tree_of old.nodes root))) ≡ length (sizes_of (tree_of old.nodes root)))
     pub others : length (flat (tree_of old.nodes root).leaves) ≢ 1
     pub freed_root : root' ≢ root → 0 < count root new.chain
 
-  removed_root : (most : ℕ) (old new : Table K V) (root place : ℕ) (path indices : List ℕ) (size : ℕ) (Now : Tree K V → Type 0) (root' : ℕ) → IsUnion most old → StandsUnder old.nodes root path indices size place → (i : Removed most old new Now (tree_of old.nodes root) place root') → Removal most old new root (root_of i.tree') place Now
+  removed_root : (most : ℕ) (old new : Table K V) (root place : ℕ) (path indices : List ℕ) (size : ℕ) (Now : Tree K V → Type 0) (root' : ℕ) → IsUnion most old → StandsUnder old.nodes root path indices size place → (i : Removed most old new path Now (tree_of old.nodes root) place root') → Removal most old new path root (root_of i.tree') place Now
   removed_root most old new root place path indices size Now root' union s i =
       let tree = tree_of old.nodes root in
       let r = rooted most old root union s.root_is in
@@ -95,6 +97,12 @@ module _ {K V : Type 0} where
           limit_is = i.frees.limit_is;
         };
         gives = gives old new tree i.tree' (shrink most place (sizes_of tree)) i.freed i.sizes_are i.numbers_are i.frees.chain_is i.frees.slots_are;
+        order = record {
+          roots = i.order.roots;
+          up = i.order.up;
+          chain_is = i.frees.chain_is ∙ ap (λ z. z ++ old.chain) i.order.freed_is ∙ append_assoc i.order.roots (nodes_up path 0 i.order.up) old.chain;
+          roots_are = omega (arith, i.order.roots_are, levels, levels_were);
+        };
         at = subst Now (sym e.tree_is) i.at;
         same_root = (
           λ same. elim (eqb_tells (length i.tree'.above) (length tree.above)) [
@@ -111,20 +119,21 @@ module _ {K V : Type 0} where
       }
 
   -- an entry went out of the tree under a root, which has others
-  pub removal : (most : ℕ) (old new : Table K V) (root place : ℕ) (path indices : List ℕ) (size : ℕ) (Now : Tree K V → Type 0) (root' : ℕ) → IsUnion most old → StandsUnder old.nodes root path indices size place → Removed most old new Now (tree_of old.nodes root) place root' → Removal most old new root root' place Now
+  pub removal : (most : ℕ) (old new : Table K V) (root place : ℕ) (path indices : List ℕ) (size : ℕ) (Now : Tree K V → Type 0) (root' : ℕ) → IsUnion most old → StandsUnder old.nodes root path indices size place → Removed most old new path Now (tree_of old.nodes root) place root' → Removal most old new path root root' place Now
   removal most old new root place path indices size Now root' union s i =
-      subst (λ (z : ℕ). Removal most old new root z place Now) i.root_is (removed_root most old new root place path indices size Now root' union s i)
+      subst (λ (z : ℕ). Removal most old new path root z place Now) i.root_is (removed_root most old new root place path indices size Now root' union s i)
 
   -- the last entry went, and the tree with it
-  pub record Ending (most : ℕ) (old new : Table K V) (root place : ℕ) : Type 0 where
+  pub record Ending (most : ℕ) (old new : Table K V) (path : List ℕ) (root place : ℕ) : Type 0 where
     pub ends : Ends most old new root
     pub gives : GivesNodes (sizes_of (tree_of old.nodes root)) (shrink most place (sizes_of (tree_of old.nodes root))) old new
+    pub order : GivesInOrder path (sizes_of (tree_of old.nodes root)) (shrink most place (sizes_of (tree_of old.nodes root))) old new
     pub single : length (flat (tree_of old.nodes root).leaves) ≡ 1
     pub none_left : shrink most place (sizes_of (tree_of old.nodes root)) ≡ []
     pub freed_root : 0 < count root new.chain
 
   -- the last entry went out of the tree under a root
-  pub ending : (most : ℕ) (old new : Table K V) (root place : ℕ) (path indices : List ℕ) (size : ℕ) → IsUnion most old → StandsUnder old.nodes root path indices size place → Emptied most old new (tree_of old.nodes root) place → Ending most old new root place
+  pub ending : (most : ℕ) (old new : Table K V) (root place : ℕ) (path indices : List ℕ) (size : ℕ) → IsUnion most old → StandsUnder old.nodes root path indices size place → Emptied most old new (tree_of old.nodes root) place → Ending most old new path root place
   ending most old new root place path indices size union s i =
       let tree = tree_of old.nodes root in
       let r = rooted most old root union s.root_is in
@@ -138,44 +147,48 @@ module _ {K V : Type 0} where
           slots = i.frees.slots_are;
           count_is = omega (arith, length-same i.freed (numbers_of tree) i.freed_is, nodes-count tree, ap (λ z. node_count z) i.none_left);
         };
+        order = record { roots = i.freed; up = 0; chain_is = i.frees.chain_is; roots_are = omega (arith, i.one, ap length i.levels_are, ap length i.none_left) };
         single = i.single;
         none_left = i.none_left;
         freed_root = omega (arith, among, i.freed_is root, ap (λ z. count z (numbers_of tree)) r.root_is, ap (λ z. count root z) i.frees.chain_is, count-append root i.freed old.chain);
       }
 
   -- either of the two, as the answer says
-  abbrev pub Outcome : ℕ → Table K V → Table K V → ℕ → ℕ → (Tree K V → Type 0) → Option ℕ → Type 0
-  Outcome most old new root place Now None = Ending most old new root place
-  Outcome most old new root place Now (Some root') = Removal most old new root root' place Now
+  abbrev pub Outcome : ℕ → Table K V → Table K V → List ℕ → ℕ → ℕ → (Tree K V → Type 0) → Option ℕ → Type 0
+  Outcome most old new path root place Now None = Ending most old new path root place
+  Outcome most old new path root place Now (Some root') = Removal most old new path root root' place Now
 
   -- as the call for a leaf of one entry says
   pub outcome : (most : ℕ) (old new : Table K V) (root place : ℕ) (path indices : List ℕ) (size : ℕ) (Now : Tree K V → Type 0) (found : Option ℕ) → IsUnion most old → StandsUnder old.nodes root path indices size place →
-      IfSome found (λ root'. Removed most old new Now (tree_of old.nodes root) place root') → (found ≡ None → Emptied most old new (tree_of old.nodes root) place) → Outcome most old new root place Now found
+      IfSome found (λ root'. Removed most old new path Now (tree_of old.nodes root) place root') → (found ≡ None → Emptied most old new (tree_of old.nodes root) place) → Outcome most old new path root place Now found
   outcome most old new root place path indices size Now None union s removed emptied = ending most old new root place path indices size union s (emptied refl)
   outcome most old new root place path indices size Now (Some root') union s removed emptied = removal most old new root place path indices size Now root' union s removed
 
   -- what both say
-  pub record Said (most : ℕ) (old new : Table K V) (root place : ℕ) (Now : Tree K V → Type 0) (found : Option ℕ) : Type 0 where
-    pub some : IfSome found (λ root'. Removal most old new root root' place Now)
+  pub record Said (most : ℕ) (old new : Table K V) (path : List ℕ) (root place : ℕ) (Now : Tree K V → Type 0) (found : Option ℕ) : Type 0 where
+    pub some : IfSome found (λ root'. Removal most old new path root root' place Now)
     pub gives : GivesNodes (sizes_of (tree_of old.nodes root)) (shrink most place (sizes_of (tree_of old.nodes root))) old new
+    pub order : GivesInOrder path (sizes_of (tree_of old.nodes root)) (shrink most place (sizes_of (tree_of old.nodes root))) old new
     pub last : (found ≡ None) ↔ (length (flat (tree_of old.nodes root).leaves) ≡ 1)
     pub ended : found ≡ None → Ends most old new root
     pub none_left : found ≡ None → shrink most place (sizes_of (tree_of old.nodes root)) ≡ []
     pub freed_root : found ≢ Some root → 0 < count root new.chain
 
   -- each of the two says so
-  pub said : (most : ℕ) (old new : Table K V) (root place : ℕ) (Now : Tree K V → Type 0) (found : Option ℕ) → Outcome most old new root place Now found → Said most old new root place Now found
-  said most old new root place Now None e = record {
+  pub said : (most : ℕ) (old new : Table K V) (path : List ℕ) (root place : ℕ) (Now : Tree K V → Type 0) (found : Option ℕ) → Outcome most old new path root place Now found → Said most old new path root place Now found
+  said most old new path root place Now None e = record {
     some = tt;
     gives = e.gives;
+    order = e.order;
     last = (λ is. e.single, λ is. refl);
     ended = λ is. e.ends;
     none_left = λ is. e.none_left;
     freed_root = λ ne. e.freed_root;
   }
-  said most old new root place Now (Some root') r = record {
+  said most old new path root place Now (Some root') r = record {
     some = r;
     gives = r.gives;
+    order = r.order;
     last = (λ is. absurd cc, λ one. absurd (r.others one));
     ended = λ is. absurd cc;
     none_left = λ is. absurd cc;

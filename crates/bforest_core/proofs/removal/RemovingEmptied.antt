@@ -6,7 +6,7 @@ use Rattle.bforest_core.specs.Table.{Table, IsUsed, with_freed}
 use Rattle.bforest_core.specs.Levels.{LevelNode, heads, sizes}
 use Rattle.bforest_core.specs.Place.{inner_content, entry_keys, entry_items}
 use Rattle.bforest_core.specs.Sizes.{loss_above}
-use Rattle.bforest_core.specs.Climb.{Above}
+use Rattle.bforest_core.specs.Climb.{nodes_up, Above}
 use Rattle.bforest_core.specs.Removal.{Dropped}
 use Rattle.bforest_core.proofs.table.Tables.{is_used}
 use Rattle.bforest_core.proofs.rows.Zipper.{Spot, spot, above_two}
@@ -24,8 +24,8 @@ module _ {K V : Type 0} where
     pub above : Above t path indices up size rest (before ++ y ∷ x ∷ []) (suc (length before))
 
   -- what the call leaves
-  abbrev pub Drops : Table K V → Table K V → List ℕ → ℕ → List (List (LevelNode K ℕ)) → List (K × ℕ) → K × ℕ → Type 0
-  Drops t u path size rows a y = (freed : List ℕ) × Dropped t u path size rows (a ++ y ∷ []) (loss_above (Some (suc (length a))) (map sizes rows)) freed
+  abbrev pub Drops : Table K V → Table K V → List ℕ → ℕ → ℕ → List (List (LevelNode K ℕ)) → List (K × ℕ) → K × ℕ → Type 0
+  Drops t u path up size rows a y = (levels : ℕ) × Dropped t u path size rows (a ++ y ∷ []) (loss_above (Some (suc (length a))) (map sizes rows)) (nodes_up path up levels)
 
   module _ (t : Table K V) (path indices : List ℕ) (up size : ℕ) (rows : List (List (LevelNode K ℕ))) (a : List (K × ℕ)) (y x : K × ℕ) (p : Above t path indices up size rows (a ++ y ∷ x ∷ []) (suc (length a)))
       (r : ℕ) (wide : length path ≡ 17) (height : size ≤ 17) where
@@ -67,11 +67,11 @@ module _ {K V : Type 0} where
       cnt_is = value (inner_content (d.q.l ++ x ∷ d.q.r)) slot_is ∙ item_count (d.q.l ++ x ∷ d.q.r)
 
       -- the node keeps other entries
-      pub keeps : (u : Table K V) → cnt ≢ 1 → Removes t u (get_or path up r) (get_or indices up 0) → Drops t u path size rows a y
+      pub keeps : (u : Table K V) → cnt ≢ 1 → Removes t u (get_or path up r) (get_or indices up 0) → Drops t u path up size rows a y
       keeps u more removes =
           let u_is = rw num_is at (removes (drop 1 (entry_keys (d.q.l ++ x ∷ d.q.r))) (entry_items (d.q.l ++ x ∷ d.q.r)) slot_is) in
           let f = drop_keep t u path indices up size rows (a ++ y ∷ []) x d (λ (e : length (d.q.l ++ x ∷ d.q.r) ≡ 1). more (cnt_is ∙ e)) u_is in
-          ([], subst (λ (z : ℕ). Dropped t u path size rows (a ++ y ∷ []) (loss_above (Some z) (map sizes rows)) []) len_is f)
+          (0, subst (λ (z : ℕ). Dropped t u path size rows (a ++ y ∷ []) (loss_above (Some z) (map sizes rows)) []) len_is f)
 
       module _ (one : cnt ≡ 1) (v : Table K V) (freed : v ≡ with_freed t (get_or path up r)) (high : ℕ) (high_is : high ≡ suc up) where
         v_is : v ≡ with_freed t (get_or path up 0)
@@ -88,8 +88,9 @@ module _ {K V : Type 0} where
         above_asks = record { rest = m.rest; before = heads m.init; y = (m.w.0, m.q); x = (x.0, get_or path up 0); above = above_is }
 
         -- what it leaves is what this one leaves
-        pub empties : (u : Table K V) → ((rows2 : List (List (LevelNode K ℕ))) (a2 : List (K × ℕ)) (y2 x2 : K × ℕ) → Above v path indices high size rows2 (a2 ++ y2 ∷ x2 ∷ []) (suc (length a2)) → Drops v u path size rows2 a2 y2) → Drops t u path size rows a y
+        pub empties : (u : Table K V) → ((rows2 : List (List (LevelNode K ℕ))) (a2 : List (K × ℕ)) (y2 x2 : K × ℕ) → Above v path indices high size rows2 (a2 ++ y2 ∷ x2 ∷ []) (suc (length a2)) → Drops v u path high size rows2 a2 y2) → Drops t u path up size rows a y
         empties u drops =
             let w = drops m.rest (heads m.init) (m.w.0, m.q) (x.0, get_or path up 0) above_is in
-            let f = drop_empty t v u path indices up size rows (a ++ y ∷ []) x w.0 m v_is w.1 in
-            (w.0 ++ get_or path up 0 ∷ [], subst (λ (z : ℕ). Dropped t u path size rows (a ++ y ∷ []) (loss_above (Some z) (map sizes rows)) (w.0 ++ get_or path up 0 ∷ [])) len_is f)
+            let r = subst (λ (z : ℕ). Dropped v u path size m.rest (heads m.init ++ (m.w.0, m.q) ∷ []) (loss_above (Some (suc (length (heads m.init)))) (map sizes m.rest)) (nodes_up path z w.0)) high_is w.1 in
+            let f = drop_empty t v u path indices up size rows (a ++ y ∷ []) x (nodes_up path (suc up) w.0) m v_is r in
+            (suc w.0, subst (λ (z : ℕ). Dropped t u path size rows (a ++ y ∷ []) (loss_above (Some z) (map sizes rows)) (nodes_up path up (suc w.0))) len_is f)

@@ -6,15 +6,16 @@ use Rattle.bforest_core.specs.Table.{Table}
 use Rattle.bforest_core.specs.Levels.{LevelNode, node, flat, head_of, heads, sizes, numbers, FitRow, Stacked, Tree, half_of}
 use Rattle.bforest_core.specs.Sizes.{rebalanced, loss, loss_above, trimmed}
 use Rattle.bforest_core.specs.Place.{RowIn, RowsIn, leaf_content, count, root_above, root_of, numbers_of, StandsAbove, Stands, IsPathAt}
+use Rattle.bforest_core.specs.Climb.{nodes_up}
 use Rattle.bforest_core.specs.Removal.{Frees, Rebuilt, Healed, Joined, UpTo, Trimmed, StandsIn, LeafLoss, Removed}
 use Rattle.bforest_core.proofs.rows.LevelRows.{flat-append, heads-append, sizes-append, FitRow-split, FitRow-join, Solid-full, least-pos}
 use Rattle.bforest_core.proofs.rows.Bounds.{FitRow-full}
 use Rattle.bforest_core.proofs.table.Tables.{count-append, count-row, row-same, rows-same}
 use Rattle.bforest_core.proofs.rows.Tops.{root-stands, top_tree}
 use Rattle.bforest_core.proofs.removal.Losses.{loss_at, placed}
-use Rattle.bforest_core.proofs.removal.Frees.{frees-refl, frees-then, freed-then}
+use Rattle.bforest_core.proofs.removal.Frees.{frees-then, freed-then}
 use Rattle.bforest_core.proofs.removal.Rebalance.{enough, judged}
-use Rattle.bforest_core.proofs.removal.Collapse.{length-sizes, trimmed-is, topped-sizes, stands-below, rows-parts}
+use Rattle.bforest_core.proofs.removal.Collapse.{length-sizes, trimmed-is, topped-sizes, stands-below, rows-parts, trim_none}
 
 module _ {K V : Type 0} where
   -- a path that stands in a tree is at an entry
@@ -49,10 +50,11 @@ module _ {K V : Type 0} where
   }
 
   -- and after roots went
-  pub trimmed_removed : (most : ℕ) (old mid new : Table K V) (path indices : List ℕ) (size : ℕ) (tree : Tree K V) (place root : ℕ) (leaves : List (LevelNode K V)) (rows : List (List (LevelNode K ℕ))) (freed : List ℕ) (size1 size2 root' : ℕ) (gone : List ℕ) (Now : Tree K V → Type 0) →
-      StandsIn most old path indices size tree place → Untrimmed most old mid tree place leaves rows freed → root_of tree ≡ root → (t : Trimmed mid new size1 size2 rows (heads leaves) root root' gone) → size1 ≡ size →
-      Now (record { leaves = leaves; above = t.rows' }) → Removed most old new Now tree place root'
-  trimmed_removed most old mid new path indices size tree place root leaves rows freed size1 size2 root' gone Now s u root_is t size_is at =
+  pub trimmed_removed : (most : ℕ) (old mid new : Table K V) (path indices : List ℕ) (size : ℕ) (tree : Tree K V) (place root : ℕ) (leaves : List (LevelNode K V)) (rows : List (List (LevelNode K ℕ))) (up size1 size2 root' : ℕ) (gone : List ℕ) (Now : Tree K V → Type 0) →
+      StandsIn most old path indices size tree place → Untrimmed most old mid tree place leaves rows (nodes_up path 0 up) → root_of tree ≡ root → (t : Trimmed mid new size1 size2 rows (heads leaves) root root' gone) → size1 ≡ size →
+      Now (record { leaves = leaves; above = t.rows' }) → Removed most old new path Now tree place root'
+  trimmed_removed most old mid new path indices size tree place root leaves rows up size1 size2 root' gone Now s u root_is t size_is at =
+      let freed = nodes_up path 0 up in
       let parts = λ (m : ℕ). ap (λ z. count m z) (ap (flat_map numbers) t.rows_are ∙ flat_map-append numbers t.rows' t.discarded) ∙ count-append m (flat_map numbers t.rows') (flat_map numbers t.discarded) in
       let c0 = λ (m : ℕ). count-append m (numbers leaves) (flat_map numbers rows) in
       let c1 = λ (m : ℕ). count-append m (numbers leaves) (flat_map numbers t.rows') in
@@ -78,29 +80,19 @@ module _ {K V : Type 0} where
         same_root = λ same. t.same_root (omega (arith, same, t.size_is, size_is, s.stands.size_is)) ∙ sym root_is;
         old_root = λ ne. omega (arith, t.old_root (λ (e : size2 ≡ size1). ne (omega (arith, e, t.size_is, size_is, s.stands.size_is))), c2 (root_of tree), ap (λ z. count z gone) root_is);
         low = omega (arith, count_is, u.height);
+        order = record { roots = gone; up = up; freed_is = refl; roots_are = omega (arith, t.one_each, count_is, u.height) };
         frees = frees-then old mid new (numbers_of tree) (flat_map numbers t.discarded) freed gone (λ m none. omega (arith, none, u.numbers_are m, c0 m, parts m)) (λ m some. omega (arith, some, u.numbers_are m, c0 m, parts m, c3 m, s.apart m)) u.frees t.frees;
       }
 
   -- no root goes where each level keeps its nodes
-  pub whole_removed : (most : ℕ) (old new : Table K V) (path indices : List ℕ) (size : ℕ) (tree : Tree K V) (place root : ℕ) (leaves : List (LevelNode K V)) (rows : List (List (LevelNode K ℕ))) (freed : List ℕ) (Now : Tree K V → Type 0) →
-      StandsIn most old path indices size tree place → Untrimmed most old new tree place leaves rows freed → root_of tree ≡ root → length (heads leaves) ≡ length (heads tree.leaves) → map sizes rows ≡ map sizes tree.above →
-      Now (record { leaves = leaves; above = rows }) → Removed most old new Now tree place root
-  whole_removed most old new path indices size tree place root leaves rows freed Now s u root_is len same at =
+  pub whole_removed : (most : ℕ) (old new : Table K V) (path indices : List ℕ) (size : ℕ) (tree : Tree K V) (place root : ℕ) (leaves : List (LevelNode K V)) (rows : List (List (LevelNode K ℕ))) (Now : Tree K V → Type 0) →
+      StandsIn most old path indices size tree place → Untrimmed most old new tree place leaves rows [] → root_of tree ≡ root → length (heads leaves) ≡ length (heads tree.leaves) → map sizes rows ≡ map sizes tree.above →
+      Now (record { leaves = leaves; above = rows }) → Removed most old new path Now tree place root
+  unfolding trim_none
+  whole_removed most old new path indices size tree place root leaves rows Now s u root_is len same at =
       let topped = topped-sizes (heads tree.leaves) (heads leaves) tree.above rows s.fit.stacked u.stacked len same s.fit.topped in
-      let none : Trimmed new new size size rows (heads leaves) root root [] = record {
-        rows' = rows;
-        discarded = [];
-        rows_are = sym (append-nil rows);
-        stacked = u.stacked;
-        topped = topped;
-        size_is = omega (arith, u.height, s.stands.size_is);
-        freed_is = λ m. refl;
-        root_is = u.root_is ∙ root_is;
-        same_root = λ e. refl;
-        old_root = λ ne. absurd (ne refl);
-        frees = frees-refl new [];
-      } in
-      trimmed_removed most old new new path indices size tree place root leaves rows freed size size root [] Now s u root_is none refl at
+      let none = trim_none new size rows (heads leaves) root (up_to most old new path indices size size tree place root leaves rows [] s u refl root_is) topped in
+      trimmed_removed most old new new path indices size tree place root leaves rows 0 size size root [] Now s u root_is none refl at
 
   -- the leaf is half full yet or the last, and stays as it is
   pub kept_untrimmed : (most : ℕ) (old new : Table K V) (path indices : List ℕ) (size : ℕ) (tree : Tree K V) (place : ℕ) → StandsIn most old path indices size tree place → (l : LeafLoss most old new path indices size tree place) → (half_of most ≤ length l.entries) ⊎ (l.after ≡ []) →

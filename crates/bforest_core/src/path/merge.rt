@@ -4,7 +4,7 @@ ghost use Rattle.bforest_nodes.specs.Content.{IsLeafCapacity};
 ghost use Rattle.bforest_core.specs.Levels.{LevelNode, sizes, half_of, most_levels};
 ghost use Rattle.bforest_core.specs.Sizes.{loss_above};
 ghost use Rattle.bforest_core.specs.Place.{inner_content, leaf_content};
-ghost use Rattle.bforest_core.specs.Climb.{Above};
+ghost use Rattle.bforest_core.specs.Climb.{Above, nodes_up};
 ghost use Rattle.bforest_core.specs.Removal.{Rebuilt, OnLevel, Loosened, Healed, Joined, Dropped};
 
 use crate::access::{entries, remove_child, separator, set_separator};
@@ -137,9 +137,9 @@ impl<K: Copy, V: Copy, const N: usize> Path<K, V, N> {
         ensures merged { (rows : List (List (LevelNode K ℕ))) (before : List (K × ℕ)) (first : K) (m : ℕ)
             (next_first : K) (n : ℕ) (after : List (K × ℕ)) → Above pool.old self.old.node self.old.entry up
             self.old.size rows (before ++ (first, m) ∷ (next_first, n) ∷ after) (length before)
-            → (freed : List ℕ) × Rebuilt pool.old pool.new self.old.node self.old.entry self.new.node
+            → (levels : ℕ) × Rebuilt pool.old pool.new self.old.node self.old.entry self.new.node
             self.new.entry up self.old.size rows (before ++ (first, n) ∷ after) (length before)
-            (loss_above (Some (length before)) (map sizes rows)) freed }
+            (loss_above (Some (length before)) (map sizes rows)) (nodes_up self.old.node up levels) }
         ensures size { self.new.size ≡ self.old.size }
     {
         self.remove_merged(up, pool);
@@ -157,8 +157,9 @@ impl<K: Copy, V: Copy, const N: usize> Path<K, V, N> {
             (before ++ y ∷ x ∷ []) (suc (length before)) }
         ensures { (rows : List (List (LevelNode K ℕ))) (before : List (K × ℕ)) (y : K × ℕ) (x : K × ℕ)
             → Above pool.old self.now.node self.now.entry up self.now.size rows (before ++ y ∷ x ∷ [])
-            (suc (length before)) → (freed : List ℕ) × Dropped pool.old pool.new self.now.node self.now.size
-            rows (before ++ y ∷ []) (loss_above (Some (suc (length before))) (map sizes rows)) freed }
+            (suc (length before)) → (levels : ℕ) × Dropped pool.old pool.new self.now.node self.now.size
+            rows (before ++ y ∷ []) (loss_above (Some (suc (length before))) (map sizes rows))
+            (nodes_up self.now.node up levels) }
     {
         let parent = self.node[up];
         if entries(pool, parent) == 1 {

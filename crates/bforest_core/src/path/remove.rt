@@ -6,7 +6,7 @@ ghost use Rattle.bforest_core.specs.Sizes.{shrink};
 ghost use Rattle.bforest_core.specs.Table.{Table};
 ghost use Rattle.bforest_core.specs.Place.{IsPathAt, leaf_content, root_of, count};
 ghost use Rattle.bforest_core.specs.Removal.{UpTo, Trimmed, StandsIn, LeafLoss, Removed, Emptied};
-ghost use Rattle.bforest_core.specs.Change.{Changes, Ends, GivesNodes};
+ghost use Rattle.bforest_core.specs.Change.{Changes, Ends, GivesInOrder, GivesNodes};
 ghost use Rattle.bforest_core.specs.Trees.{IsUnion};
 
 use crate::access::{child, entries, leaf_key, remove_entry};
@@ -15,13 +15,13 @@ use crate::pool::NodePool;
 use bforest_nodes::Node;
 
 impl<K: Copy, V: Copy, const N: usize> Path<K, V, N> {
-    ghost use Rattle.bforest_core.specs.Paths.{IsAtEnd, OnEntry, StandsAt, list_under, sizes_under};
+    ghost use Rattle.bforest_core.specs.Paths.{IsAtEnd, OnEntry, StandsAt, list_under, nodes_of, sizes_under};
 
     /// Takes the entry here out, and answers the root of its tree, or nothing where it was the tree's last entry, whose node is freed
     /// with it. The path goes to the entry that followed, or to the end. It takes no memory.
     ///
     /// Where a leaf falls under half full it is filled from its right neighbour, or goes into it, and so on upwards; a root with a single
-    /// child is discarded. Freed nodes lie in front of the chain.
+    /// child is discarded. Freed nodes lie in front of the chain: those of the path from the leaf up, and in front of them the old root.
     pub fn remove(&mut self, pool: &mut NodePool<K, V, N>) -> Option<Node>
         requires union { IsUnion N pool.old }
         requires stands { OnEntry pool.old self.old }
@@ -33,6 +33,9 @@ impl<K: Copy, V: Copy, const N: usize> Path<K, V, N> {
             (shrink N at.place (sizes_under pool.old at.root))) }
         ensures account { (at : OnEntry pool.old self.old) → GivesNodes (sizes_under pool.old at.root)
             (shrink N at.place (sizes_under pool.old at.root)) pool.old pool.new }
+        ensures order { (at : OnEntry pool.old self.old) → GivesInOrder (nodes_of self.old)
+            (sizes_under pool.old at.root) (shrink N at.place (sizes_under pool.old at.root)) pool.old
+            pool.new }
         ensures stands { (at : OnEntry pool.old self.old)
             → IfSome result (λ root'. StandsAt pool.new root' self.new at.place) }
         ensures same_root { (at : OnEntry pool.old self.old) → IfSome result (λ root'. (root' ≡ at.root)
@@ -70,6 +73,9 @@ impl<K: Copy, V: Copy, const N: usize> Path<K, V, N> {
             (shrink N at.place (sizes_under pool.old at.root))) }
         ensures account { (at : OnEntry pool.old self.old) → GivesNodes (sizes_under pool.old at.root)
             (shrink N at.place (sizes_under pool.old at.root)) pool.old pool.new }
+        ensures order { (at : OnEntry pool.old self.old) → GivesInOrder (nodes_of self.old)
+            (sizes_under pool.old at.root) (shrink N at.place (sizes_under pool.old at.root)) pool.old
+            pool.new }
         ensures same_root { (at : OnEntry pool.old self.old) → IfSome result (λ root'. (root' ≡ at.root)
             ↔ (length (shrink N at.place (sizes_under pool.old at.root))
             ≡ length (sizes_under pool.old at.root))) }
@@ -101,7 +107,7 @@ impl<K: Copy, V: Copy, const N: usize> Path<K, V, N> {
             ≡ Some (leaf_content (x ∷ []))) }
         ensures removed { (tree : Tree K V) (place : ℕ) → StandsIn N pool.old self.old.node self.old.entry
             self.old.size tree place → IfSome result (λ root'. Removed N pool.old pool.new
-            (λ now. IsPathAt self.new.node self.new.entry self.new.size now place) tree place root') }
+            self.old.node (λ now. IsPathAt self.new.node self.new.entry self.new.size now place) tree place root') }
         ensures emptied { result ≡ None → (tree : Tree K V) (place : ℕ) → StandsIn N pool.old self.old.node
             self.old.entry self.old.size tree place → Emptied N pool.old pool.new tree place }
         ensures end { self.new.size ≡ 0 }
@@ -126,7 +132,7 @@ impl<K: Copy, V: Copy, const N: usize> Path<K, V, N> {
             × (slice_get pool.old.nodes (get_or self.old.node 0 0) ≡ Some (leaf_content (x ∷ y ∷ es))) }
         ensures { (tree : Tree K V) (place : ℕ) → StandsIn N pool.old self.old.node self.old.entry
             self.old.size tree place → Removed N pool.old pool.new
-            (λ now. IsPathAt self.new.node self.new.entry self.new.size now place) tree place result }
+            self.old.node (λ now. IsPathAt self.new.node self.new.entry self.new.size now place) tree place result }
     {
         self.take_entry(pool);
         if self.is_past_end(pool) {

@@ -1,4 +1,4 @@
-use Rattle.std.proofs.Common.{rules, ◌+◌, ◌-◌, ◌<◌, [], ◌∷◌, ◌++◌, length, get_or, arith, add-one, ◌∙◌}
+use Rattle.std.proofs.Common.{rules, ◌+◌, ◌-◌, ◌<◌, suc, ◌∷◌, ◌++◌, length, get_or, arith, add-one, ◌∙◌}
 use Rattle.bforest_core.specs.Levels.{heads}
 use Rattle.bforest_core.proofs.rows.Zipper.{above_two}
 use Rattle.bforest_core.proofs.removal.Merge.{merge_healed, merge_again}
@@ -40,13 +40,13 @@ returns-then-rebalance_inner-clause-merged g t c = λ rows a k m k2 n b p.
     let j = c.rebalance_inner.ensures.joined c.if-rebalance_inner.true l.before _ l.entries l.after l.rest l.on_level in
     let size = c.rebalance_inner.ensures.size in
     let r = c.merge_above.ensures.merged l.rest (heads l.before) j.first.0 (get_or c.args.self.now.node c.args.up 0) j.key j.right (heads j.after') (rw (add-one, size) j.above) in
-    (_, merge_again _ _ _ _ _ _ _ _ _ _ _ _ _ _ rows (a ++ (k, n) ∷ b) (length a) l j (omega arith) size r.0 r.1)
+    (suc r.0, merge_again _ _ _ _ _ _ _ _ _ _ _ _ _ _ rows (a ++ (k, n) ∷ b) (length a) l j (omega arith) size r.0 r.1)
 
 pub returns-else-rebalance_inner-clause-merged : goal.returns-else-rebalance_inner-clause-merged
 returns-else-rebalance_inner-clause-merged g t c = λ rows a k m k2 n b p.
     let l = c.remove_merged.ensures rows a k m k2 n b p in
     let h = c.rebalance_inner.ensures.healed c.if-rebalance_inner.false l.before _ l.entries l.after l.rest l.on_level in
-    ([], merge_healed _ _ _ _ _ _ _ _ _ rows (a ++ (k, n) ∷ b) (length a) l h)
+    (0, merge_healed _ _ _ _ _ _ _ _ _ rows (a ++ (k, n) ∷ b) (length a) l h)
 
 pub remove_merged-requires : goal.remove_merged-requires
 remove_merged-requires g t c = (search rules, (search rules, (c.requires.height, c.requires.pending)))

@@ -52,20 +52,20 @@ remove_entry-requires g c =
 
 -- what the removal of a leaf says
 leaf_said : (g : Over) (c : goal.After-remove_leaf g) (root place : ℕ) → StandsUnder c.args.pool.now.nodes root c.args.self.now.node c.args.self.now.entry c.args.self.now.size place →
-    Said g.row.N c.args.pool.now c.remove_leaf.new.pool root place (λ z. IsPathAt c.remove_leaf.new.self.node c.remove_leaf.new.self.entry c.remove_leaf.new.self.size z place) c.remove_leaf.result
+    Said g.row.N c.args.pool.now c.remove_leaf.new.pool c.args.self.now.node root place (λ z. IsPathAt c.remove_leaf.new.self.node c.remove_leaf.new.self.entry c.remove_leaf.new.self.size z place) c.remove_leaf.result
 leaf_said g c root place u =
     let s = stands_in g.row.N c.args.pool.now root place _ _ _ c.requires.union u in
     let tree = tree_of c.args.pool.now.nodes root in
-    said _ _ _ root place _ c.remove_leaf.result
+    said _ _ _ _ root place _ c.remove_leaf.result
     (outcome _ _ _ root place _ _ _ _ c.remove_leaf.result c.requires.union u (c.remove_leaf.ensures.removed tree place s) (λ none. c.remove_leaf.ensures.emptied none tree place s))
 
 -- and that of an entry from a leaf that has others
 entry_said : (g : Over) (c : goal.After-remove_entry g) (root place : ℕ) → StandsUnder c.args.pool.now.nodes root c.args.self.now.node c.args.self.now.entry c.args.self.now.size place →
-    Said g.row.N c.args.pool.now c.remove_entry.new.pool root place (λ z. IsPathAt c.remove_entry.new.self.node c.remove_entry.new.self.entry c.remove_entry.new.self.size z place) (Some c.remove_entry.result)
+    Said g.row.N c.args.pool.now c.remove_entry.new.pool c.args.self.now.node root place (λ z. IsPathAt c.remove_entry.new.self.node c.remove_entry.new.self.entry c.remove_entry.new.self.size z place) (Some c.remove_entry.result)
 entry_said g c root place u =
     let s = stands_in g.row.N c.args.pool.now root place _ _ _ c.requires.union u in
     let tree = tree_of c.args.pool.now.nodes root in
-    said _ _ _ root place _ (Some c.remove_entry.result)
+    said _ _ _ _ root place _ (Some c.remove_entry.result)
     (removal _ _ _ root place _ _ _ _ c.remove_entry.result c.requires.union u (c.remove_entry.ensures tree place s))
 
 pub returns-then-entries-eq1-clause-removed : goal.returns-then-entries-eq1-clause-removed
@@ -73,6 +73,9 @@ returns-then-entries-eq1-clause-removed g c = λ at. if_some _ _ c.remove_leaf.r
 
 pub returns-then-entries-eq1-clause-account : goal.returns-then-entries-eq1-clause-account
 returns-then-entries-eq1-clause-account g c = λ at. (leaf_said g c at.root at.place at.on).gives
+
+pub returns-then-entries-eq1-clause-order : goal.returns-then-entries-eq1-clause-order
+returns-then-entries-eq1-clause-order g c = λ at. (leaf_said g c at.root at.place at.on).order
 
 pub returns-then-entries-eq1-clause-stands : goal.returns-then-entries-eq1-clause-stands
 returns-then-entries-eq1-clause-stands g c = λ at. if_some _ _ c.remove_leaf.result (λ root' r. record { root_is = r.changes.root_is; at = r.at }) (leaf_said g c at.root at.place at.on).some
@@ -97,6 +100,9 @@ returns-else-entries-eq1-clause-removed g c = λ at. (entry_said g c at.root at.
 
 pub returns-else-entries-eq1-clause-account : goal.returns-else-entries-eq1-clause-account
 returns-else-entries-eq1-clause-account g c = λ at. (entry_said g c at.root at.place at.on).gives
+
+pub returns-else-entries-eq1-clause-order : goal.returns-else-entries-eq1-clause-order
+returns-else-entries-eq1-clause-order g c = λ at. (entry_said g c at.root at.place at.on).order
 
 pub returns-else-entries-eq1-clause-stands : goal.returns-else-entries-eq1-clause-stands
 returns-else-entries-eq1-clause-stands g c = λ at. (let r = (entry_said g c at.root at.place at.on).some in record { root_is = r.changes.root_is; at = r.at })

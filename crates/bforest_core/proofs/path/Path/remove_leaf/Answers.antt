@@ -3,6 +3,7 @@ use Rattle.std.proofs.lemmas.List.{get_or_default}
 use Rattle.bforest_core.specs.Table.{with_freed}
 use Rattle.bforest_core.specs.Levels.{heads}
 use Rattle.bforest_core.specs.Place.{leaf_content}
+use Rattle.bforest_core.specs.Climb.{nodes_up}
 use Rattle.bforest_core.proofs.table.Tables.{is_used}
 use Rattle.bforest_core.proofs.removal.Shrunk.{up_to}
 use Rattle.bforest_core.proofs.removal.Removing.{stands_root}
@@ -41,7 +42,7 @@ collapse_root-top-requires g c =
     let here : get_or path 0 c.index-self-0.result ≡ get_or path 0 0 = get_or_default path 0 c.index-self-0.result 0 (omega arith) in
     let l = leaf_drop _ _ c.free_node.new.self _ _ _ s.0 s.1 s.2 d (λ e. c.if-self-eq1.false e) (c.free_node.ensures.freed ∙ ap (λ z. with_freed c.args.pool.now z) here) in
     let r = c.remove_emptied.ensures s.0.above (heads l.init) (l.w.0, l.number) (l.d.x.0, get_or path 0 0) l.above in
-    let u = drop_untrimmed _ _ c.free_node.new.self c.remove_emptied.new.pool _ _ _ s.0 s.1 r.0 s.2 l r.1 in
+    let u = drop_untrimmed _ _ c.free_node.new.self c.remove_emptied.new.pool _ _ _ s.0 s.1 (nodes_up path 1 r.0) s.2 l r.1 in
     (search rules, (search rules, (omega (arith, s.2.low, s.2.stands.size_is), (u.0, heads l.d.before, up_to _ _ _ _ _ _ _ s.0 s.1 c.args.root l.d.before u.0 _ s.2 u.1 refl s.3))))
 
 pub returns-clause-removed : goal.returns-clause-removed

@@ -45,7 +45,7 @@ over_half n m k high is = omega (arith, high, is)
 
 -- what the removal says, at each place under a root
 left : (g : Over) (c : After-root g) (root place : ℕ) → StandsUnder c.args.pool.now.nodes root c.args.self.now.node c.args.self.now.entry c.args.self.now.size place →
-    Said g.row.N c.args.pool.now c.take_entry.new.pool root place (λ z. Unit) (Some c.root.result)
+    Said g.row.N c.args.pool.now c.take_entry.new.pool c.args.self.now.node root place (λ z. Unit) (Some c.root.result)
 left g c root place u =
     let path = c.args.self.now.node in
     let s = stands_in g.row.N c.args.pool.now root place _ _ _ c.requires.union u in
@@ -56,7 +56,7 @@ left g c root place u =
     let counted = c.entries.ensures.value (leaf_content es) (rw here d.slot_is) in
     let l = c.take_entry.ensures tree place s in
     let half : half_of g.row.N ≤ length l.entries = over_half g.row.N c.entries.result (length l.entries) c.if-entries.true (counted ∙ leaf_keys es ∙ l.leaf_was es d.slot_is) in
-    said _ _ _ root place _ (Some c.root.result)
+    said _ _ _ _ root place _ (Some c.root.result)
     (removal _ _ _ root place _ _ _ _ c.root.result c.requires.union u (kept_removed _ _ c.take_entry.new.pool _ _ _ tree place c.root.result (λ z. Unit) s (root-stands g.row.N tree path _ _ place s.fit s.stands ∙ sym c.root.ensures) l (inl half) tt))
 
 pub returns-then-entries-clause-removed : goal.returns-then-entries-clause-removed
@@ -64,6 +64,9 @@ returns-then-entries-clause-removed g c = λ at. (left g c at.root at.place at.o
 
 pub returns-then-entries-clause-account : goal.returns-then-entries-clause-account
 returns-then-entries-clause-account g c = λ at. (left g c at.root at.place at.on).gives
+
+pub returns-then-entries-clause-order : goal.returns-then-entries-clause-order
+returns-then-entries-clause-order g c = λ at. (left g c at.root at.place at.on).order
 
 pub returns-then-entries-clause-same_root : goal.returns-then-entries-clause-same_root
 returns-then-entries-clause-same_root g c = λ at. (left g c at.root at.place at.on).some.same_root

@@ -21,7 +21,7 @@ returns-clause-ended g c =
     let tree = tree_of slots c.args.root in
     let w = is-rooted g.row.N c.args.self.now c.args.root c.requires.union c.requires.root in
     let r = rooted g.row.N c.args.self.now c.args.root c.requires.union c.requires.root in
-    let all = c.free_below.ensures tree.leaves tree.above (whole_top g.row.N slots c.args.root tree w).first (whole_under g.row.N slots c.args.root tree w) r.apart in
+    let all = c.free_below.ensures.freed tree.leaves tree.above (whole_top g.row.N slots c.args.root tree w).first (whole_under g.row.N slots c.args.root tree w) r.apart in
     let gone = uprooted-union g.row.N c.args.self.now c.free_below.new.self c.args.root all.given c.requires.union c.requires.root all.frees.chain_is all.frees.freed_are all.frees.slots_are all.counted all.frees.others in
     record { union = gone.0; root_gone = gone.1; others = gone.2; limit_is = all.frees.limit_is }
 
@@ -31,5 +31,5 @@ returns-clause-account g c =
     let tree = tree_of slots c.args.root in
     let w = is-rooted g.row.N c.args.self.now c.args.root c.requires.union c.requires.root in
     let r = rooted g.row.N c.args.self.now c.args.root c.requires.union c.requires.root in
-    let all = c.free_below.ensures tree.leaves tree.above (whole_top g.row.N slots c.args.root tree w).first (whole_under g.row.N slots c.args.root tree w) r.apart in
+    let all = c.free_below.ensures.freed tree.leaves tree.above (whole_top g.row.N slots c.args.root tree w).first (whole_under g.row.N slots c.args.root tree w) r.apart in
     record { given = all.given; chain_is = all.frees.chain_is; slots = all.frees.slots_are; count_is = omega (arith, length-same all.given (numbers_of tree) all.counted, nodes-count tree) }
