@@ -529,7 +529,7 @@ impl<K: Copy, V: Copy, const N: usize> NodeData<K, V, N> {
         if self.is_inner() {
             self.balance_inner(crit_key, rhs)
         } else {
-            self.balance_leaf(crit_key, rhs)
+            self.balance_leaf(rhs)
         }
     }
 
@@ -567,15 +567,14 @@ impl<K: Copy, V: Copy, const N: usize> NodeData<K, V, N> {
         }
     }
 
-    // Balances two leaves.
-    fn balance_leaf(&mut self, crit_key: K, rhs: &mut Self) -> Option<K>
+    // Balances two leaves, whatever the key between them.
+    fn balance_leaf(&mut self, rhs: &mut Self) -> Option<K>
         requires leaf { IsLeaf self.old }
         requires rhs_leaf { IsLeaf rhs.old }
         requires rhs_filled { 0 < entry_count rhs.old }
         requires underflowed { 2 * entry_count self.old < N }
-        ensures { Balances N self.old crit_key rhs.old result self.new rhs.new }
+        ensures { (crit_key : K) → Balances N self.old crit_key rhs.old result self.new rhs.new }
     {
-        let _crit_key = crit_key;
         match (&mut self.state, &mut rhs.state) {
             (
                 State::Entries(Entries { size, keys, vals }),

@@ -7,7 +7,7 @@ pub returns-then-is_inner : goal.returns-then-is_inner
 returns-then-is_inner g c = record { balanced = c.balance_inner.ensures }
 
 pub returns-else-is_inner : goal.returns-else-is_inner
-returns-else-is_inner g c = record { balanced = c.balance_leaf.ensures }
+returns-else-is_inner g c = record { balanced = c.balance_leaf.ensures c.args.crit_key }
 
 pub balance_inner-requires : goal.balance_inner-requires
 balance_inner-requires g c =
