@@ -104,14 +104,8 @@ impl<K: Copy, V: Copy, const N: usize> NodeData<K, V, N> {
         ensures most { result ≤ 255 }
     {
         match &self.state {
-            State::Branch(size, keys, tree) => {
-                let _keys = keys.front(*size as usize);
-                tree.front(*size as usize + 1).len()
-            }
-            State::Entries(Entries { size, keys, vals }) => {
-                let _vals = vals.front(*size as usize);
-                keys.front(*size as usize).len()
-            }
+            State::Branch(..) => self.unwrap_inner().1.len(),
+            State::Entries(_) => self.unwrap_leaf().1.len(),
             State::Vacant(_) => unreachable!(),
         }
     }
