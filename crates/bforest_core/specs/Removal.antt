@@ -30,9 +30,8 @@ module _ {K V : Type 0} where
     pub slots_are : length new.nodes ≡ length old.nodes
     pub limit_is : new.limit ≡ old.limit
 
-  -- all these nodes lie free now, in front of the chain, and nothing else has changed
-  pub record GivesAll (old new : Table K V) (own : List ℕ) : Type 0 where
-    pub given : List ℕ
+  -- all these nodes lie free now, in front of the chain in the given order, and nothing else has changed
+  pub record GivesAll (old new : Table K V) (own given : List ℕ) : Type 0 where
     pub frees : Frees old new own given
     pub counted : (number : ℕ) → count number given ≡ count number own
 

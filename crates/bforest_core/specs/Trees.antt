@@ -1,5 +1,5 @@
 -- The trees of a table: computed, and as a witness.
-use Rattle.std.specs.Prelude.{◌≡◌, ℕ, zero, suc, ◌≤◌, ◌↔◌, ◌≢◌, Bool, true, false, if◌then◌else◌, nat_lt, nat_eq, ◌&&◌, IsTrue, None, List, [], ◌∷◌, ◌++◌, map, length, take, drop, slice_index_or}
+use Rattle.std.specs.Prelude.{◌≡◌, ℕ, zero, suc, ◌≤◌, ◌↔◌, ◌≢◌, Bool, true, false, if◌then◌else◌, nat_lt, nat_eq, ◌&&◌, IsTrue, None, List, [], ◌∷◌, ◌++◌, map, length, take, drop, reverse, slice_index_or}
 use Rattle.std.specs.List.{flat_map, zip}
 use Rattle.bforest_nodes.specs.Content.{Content, Inner, Leaf, Free, IsFree, IsLeafCapacity, children_of}
 use Rattle.bforest_core.specs.Table.{Table}
@@ -28,6 +28,13 @@ module _ {K V : Type 0} where
   levels_below slots zero level above = level ∷ above
   levels_below slots (suc count) level above =
       elim (flat_map (λ number. children_of (slot slots number)) level) [ [] ↦ level ∷ above | first ∷ rest ↦ levels_below slots count (first ∷ rest) (level ∷ above) ]
+
+  -- the number of a node and those so many levels below it, each in front of those below it, and what is below later
+  -- children in front of what is below earlier ones
+  abbrev pub numbers_down : List (Content K V) → ℕ → ℕ → List ℕ
+  numbers_down slots zero number = number ∷ []
+  numbers_down slots (suc levels) number =
+      number ∷ flat_map (numbers_down slots levels) (reverse (children_of (slot slots number)))
 
   -- the row of these leaves
   abbrev pub leaf_row : List (Content K V) → List ℕ → List (LevelNode K V)

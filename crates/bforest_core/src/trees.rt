@@ -7,8 +7,8 @@ ghost use Rattle.bforest_core.specs.Levels.{LevelNode, flat, half_of, sizes_of, 
 ghost use Rattle.bforest_core.specs.Descent.{Under};
 ghost use Rattle.bforest_core.specs.Place.{count, Distinct};
 ghost use Rattle.bforest_core.specs.Removal.{GivesAll, numbers_under};
-ghost use Rattle.bforest_core.specs.Table.{front_of, slot_count};
-ghost use Rattle.bforest_core.specs.Trees.{IsUnion, is_root, tree_of};
+ghost use Rattle.bforest_core.specs.Table.{slot_count};
+ghost use Rattle.bforest_core.specs.Trees.{IsUnion, is_root, numbers_down, tree_of};
 
 use crate::pool::NodePool;
 use bforest_nodes::{Node, NodeData};
@@ -21,14 +21,16 @@ impl<K: Copy, V: Copy, const N: usize> NodePool<K, V, N> {
         node.number() < self.slots() && !self.node(node).is_free() && !self.is_child(node)
     }
 
-    /// Ends the tree under a root: all its nodes are freed, and lie in front of the chain, the root first. It reads each node, and each inner node twice for
+    /// Ends the tree under a root: all its nodes are freed, and lie in front of the chain: each in front of
+    /// those below it, and later children in front of earlier ones. It reads each node, and each inner node twice for
     /// each of its children, and takes no memory.
     pub fn free_tree(&mut self, root: Node)
         requires union { IsUnion N self.old }
         requires root { IsTrue (is_root self.old.nodes root) }
         ensures ended { Ends N self.old self.new root }
         ensures account { GivesNodes (sizes_of (tree_of self.old.nodes root)) [] self.old self.new }
-        ensures front { front_of self.new.chain ≡ Some root }
+        ensures order { self.new.chain
+            ≡ numbers_down self.old.nodes (length (tree_of self.old.nodes root).above) root ++ self.old.chain }
     {
         self.free_below(root, 0);
     }
@@ -41,11 +43,11 @@ impl<K: Copy, V: Copy, const N: usize> NodePool<K, V, N> {
         requires under { (leaves : List (LevelNode K V)) × (lower : List (List (LevelNode K ℕ))) × (first : K)
             × Under N self.old.nodes leaves lower ((first, node) ∷ [])
             × Distinct (numbers_under leaves lower ++ self.old.chain) × (depth + length lower ≤ top_level) }
-        ensures freed { (leaves : List (LevelNode K V)) (lower : List (List (LevelNode K ℕ))) (first : K)
+        ensures { (leaves : List (LevelNode K V)) (lower : List (List (LevelNode K ℕ))) (first : K)
             → Under N self.old.nodes leaves lower ((first, node) ∷ [])
             → Distinct (numbers_under leaves lower ++ self.old.chain)
-            → GivesAll self.old self.new (numbers_under leaves lower) }
-        ensures front { front_of self.new.chain ≡ Some node }
+            → GivesAll self.old self.new (numbers_under leaves lower)
+            (numbers_down self.old.nodes (length lower) node) }
     {
         if self.node(node).is_inner() {
             self.free_under(node, depth);
@@ -61,11 +63,11 @@ impl<K: Copy, V: Copy, const N: usize> NodePool<K, V, N> {
         requires under { (leaves : List (LevelNode K V)) × (lower : List (List (LevelNode K ℕ))) × (first : K)
             × Under N self.old.nodes leaves lower ((first, node) ∷ [])
             × Distinct (numbers_under leaves lower ++ self.old.chain) × (depth + length lower ≤ top_level) }
-        ensures freed { (leaves : List (LevelNode K V)) (lower : List (List (LevelNode K ℕ))) (first : K)
+        ensures { (leaves : List (LevelNode K V)) (lower : List (List (LevelNode K ℕ))) (first : K)
             → Under N self.old.nodes leaves lower ((first, node) ∷ [])
             → Distinct (numbers_under leaves lower ++ self.old.chain)
-            → GivesAll self.old self.new (numbers_under leaves lower) }
-        ensures front { front_of self.new.chain ≡ Some node }
+            → GivesAll self.old self.new (numbers_under leaves lower)
+            (numbers_down self.old.nodes (length lower) node) }
     {
         for index in 0..self.child_count(node) {
             let child = self.node(node).child(index);

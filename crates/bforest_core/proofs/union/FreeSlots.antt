@@ -23,7 +23,7 @@ module _ {K V : Type 0} where
       ]
 
   -- a slot that reads the same holds the same
-  slot_same : (old new : List (Content K V)) (m : ℕ) → slice_get new m ≡ slice_get old m → slot new m ≡ slot old m
+  pub slot_same : (old new : List (Content K V)) (m : ℕ) → slice_get new m ≡ slice_get old m → slot new m ≡ slot old m
   slot_same old new m same = sym (unwrap_or-slice_get new m (Free None)) ∙ ap (λ z. unwrap_or z (Free None)) same ∙ unwrap_or-slice_get old m (Free None)
 
   -- free slots that are not written stay free

@@ -1,5 +1,5 @@
 -- Freeing all that is below a node, child by child.
-use Rattle.std.proofs.Common.{◌≡◌, ℕ, zero, suc, ◌+◌, ◌≤◌, ◌<◌, List, [], ◌∷◌, ◌++◌, length, drop, slice_get, Some, append-nil, refl, sym, ap, subst, ◌∙◌, length-set, inl, inr, arith}
+use Rattle.std.proofs.Common.{◌≡◌, ℕ, zero, suc, ◌+◌, ◌≤◌, ◌<◌, List, [], ◌∷◌, ◌++◌, length, drop, take, reverse, slice_get, Some, append-nil, refl, sym, ap, subst, ◌∙◌, length-set, inl, inr, arith}
 use Rattle.std.specs.List.{flat_map}
 use Rattle.std.proofs.lemmas.Bool.Decides.{eqb_tells}
 use Rattle.bforest_nodes.specs.Content.{Content, Inner, Leaf, Free, IsInner, children_of, entry_count}
@@ -7,17 +7,26 @@ use Rattle.bforest_core.specs.Table.{Table, front_of, with_freed}
 use Rattle.bforest_core.specs.Levels.{LevelNode, node, flat, heads, numbers, FitRow, half_of}
 use Rattle.bforest_core.specs.Place.{leaf_content, inner_content, entry_items, count, Distinct}
 use Rattle.bforest_core.specs.Descent.{StackedTo, Under}
+use Rattle.bforest_core.specs.Trees.{numbers_down, slot}
 use Rattle.bforest_core.specs.Removal.{Frees, GivesAll, numbers_under}
-use Rattle.bforest_core.proofs.union.FreeSlots.{freed-slot}
+use Rattle.bforest_core.proofs.union.FreeSlots.{freed-slot, slot_same}
 use Rattle.bforest_core.proofs.removal.Frees.{frees-refl, frees-then, frees-wider}
 use Rattle.bforest_core.proofs.walks.Downward.{stacked_last}
 use Rattle.bforest_core.proofs.walks.Leading.{Front, LeafFront, InnerFront, front_step, front_count}
 use Rattle.bforest_core.proofs.rows.LevelRows.{least-pos}
-use Rattle.std.proofs.lemmas.List.{length-map}
+use Rattle.std.proofs.lemmas.List.{length-map, reverse-append, take_all}
 use Rattle.std.proofs.lemmas.Option.{slice_get_within}
+use Rattle.bforest_core.proofs.table.Stored.{some_same}
+use Rattle.bforest_core.proofs.table.Read.{slot-is}
 use Rattle.bforest_core.proofs.table.Lists.{drop-read}
 use Rattle.bforest_core.proofs.union.Sections.{UnderCut, under-cut, tail_same}
 use Rattle.bforest_core.proofs.table.Tables.{count-append, count-same, count-other, row-same, rows-same, slice_get-set_apart}
+
+-- the items up to one more
+items-read : {K : Type 0} (top : List (K × ℕ)) (index : ℕ) (x : K × ℕ) → slice_get top index ≡ Some x → take (suc index) (entry_items top) ≡ take index (entry_items top) ++ x.1 ∷ []
+items-read [] index x found = absurd cc
+items-read (y ∷ top) zero x found = ap (λ z. z.1 ∷ []) (some_same y x found)
+items-read (y ∷ top) (suc index) x found = ap (λ z. y.1 ∷ z) (items-read top index x found)
 
 -- a fit row that shows no node from above has none
 no_nodes : {K X : Type 0} (half most : ℕ) → 1 ≤ half → (row : List (LevelNode K X)) → FitRow half most row → heads row ≡ [] → row ≡ []
@@ -55,6 +64,20 @@ module _ {K V : Type 0} where
       let none : leaves ≡ [] = no_nodes (half_of most) most one leaves u.leaves_fit r.0 in
       omega (arith, count-append m (numbers leaves) (flat_map numbers lower), ap (λ z. count m (numbers z)) none, r.1 m)
 
+  -- the numbers below a node, in slots that agree on them
+  down-same : (old new : List (Content K V)) (levels number : ℕ) → ((m : ℕ) → 0 < count m (numbers_down old levels number) → slice_get new m ≡ slice_get old m) → numbers_down new levels number ≡ numbers_down old levels number
+  down-same old new zero number same = refl
+  down-same old new (suc levels) number same =
+      let kids = reverse (children_of (slot old number)) in
+      let here = slot_same old new number (same number (omega (arith, count-append number (number ∷ []) (flat_map (numbers_down old levels) kids), count-same number []))) in
+      ap (λ z. number ∷ flat_map (numbers_down new levels) (reverse (children_of z))) here ∙ ap (λ z. number ∷ z) (all (down-same old new levels) kids (λ m some. same m (omega (arith, some, count-append m (number ∷ []) (flat_map (numbers_down old levels) kids)))))
+    where
+      all : ((kid : ℕ) → ((m : ℕ) → 0 < count m (numbers_down old levels kid) → slice_get new m ≡ slice_get old m) → numbers_down new levels kid ≡ numbers_down old levels kid) → (kids : List ℕ) → ((m : ℕ) → 0 < count m (flat_map (numbers_down old levels) kids) → slice_get new m ≡ slice_get old m) → flat_map (numbers_down new levels) kids ≡ flat_map (numbers_down old levels) kids
+      all again [] same = refl
+      all again (kid ∷ kids) same =
+          ap (λ z. z ++ flat_map (numbers_down new levels) kids) (again kid (λ m some. same m (omega (arith, some, count-append m (numbers_down old levels kid) (flat_map (numbers_down old levels) kids)))))
+          ∙ ap (λ z. numbers_down old levels kid ++ z) (all again kids (λ m some. same m (omega (arith, some, count-append m (numbers_down old levels kid) (flat_map (numbers_down old levels) kids)))))
+
   -- all below the first so many of the top's nodes is freed, and what is below the others stands as it was
   pub record Swept (most : ℕ) (old now : Table K V) (leaves : List (LevelNode K V)) (rows : List (List (LevelNode K ℕ))) (top : List (K × ℕ)) (index : ℕ) : Type 0 where
     pub left_leaves : List (LevelNode K V)
@@ -64,17 +87,19 @@ module _ {K V : Type 0} where
     pub under : Under most old.nodes left_leaves left_rows (drop index top)
     pub height : length left_rows ≡ length rows
     pub frees : Frees old now own given
+    pub order : given ≡ flat_map (numbers_down old.nodes (length rows)) (reverse (take index (entry_items top)))
     pub counted : (m : ℕ) → count m given ≡ count m own
     pub split : (m : ℕ) → count m (numbers_under leaves rows) ≡ count m own + count m (numbers_under left_leaves left_rows)
 
   module _ (most : ℕ) (one : 1 ≤ half_of most) (old : Table K V) (leaves : List (LevelNode K V)) (rows : List (List (LevelNode K ℕ))) (top : List (K × ℕ)) where
     -- at first nothing is freed
     pub sweep-first : Under most old.nodes leaves rows top → Swept most old old leaves rows top 0
-    sweep-first u = record { left_leaves = leaves; left_rows = rows; own = []; given = []; under = u; height = refl; frees = frees-refl old []; counted = λ m. refl; split = λ m. omega arith }
+    sweep-first u = record { left_leaves = leaves; left_rows = rows; own = []; given = []; under = u; height = refl; frees = frees-refl old []; order = refl; counted = λ m. refl; split = λ m. omega arith }
 
     -- the next child of the top, and what lies below it
     pub record Turn (now : Table K V) (index : ℕ) (x : K × ℕ) : Type 0 where
       pub swept : Swept most old now leaves rows top index
+      pub found : slice_get top index ≡ Some x
       pub cut : UnderCut most old.nodes swept.left_leaves swept.left_rows (x ∷ []) (drop (suc index) top)
       pub under : Under most now.nodes cut.leaves_left cut.lower_left (x ∷ [])
       pub apart : Distinct (numbers_under cut.leaves_left cut.lower_left ++ now.chain)
@@ -86,6 +111,7 @@ module _ {K V : Type 0} where
         let cut = under-cut most old.nodes one s.left_leaves s.left_rows (x ∷ []) (drop (suc index) top) (subst (λ (z : List (K × ℕ)). Under most old.nodes s.left_leaves s.left_rows z) todo s.under) in
         record {
           swept = s;
+          found = found;
           cut = cut;
           under = under-same most old.nodes now.nodes cut.leaves_left cut.lower_left (x ∷ []) (λ m some. s.frees.others m (apart_own m s cut apart some)) cut.left;
           apart = λ m. apart_chain m s cut apart;
@@ -98,35 +124,34 @@ module _ {K V : Type 0} where
         apart_chain m s cut apart = omega (arith, apart m, count-append m (numbers_under leaves rows) old.chain, s.split m, cut.counted m, s.counted m, ap (λ z. count m z) s.frees.chain_is, count-append m s.given old.chain, count-append m (numbers_under cut.leaves_left cut.lower_left) now.chain)
 
     -- and then it is freed too
-    pub sweep-next : (now new : Table K V) (index : ℕ) (x : K × ℕ) → Distinct (numbers_under leaves rows ++ old.chain) → (t : Turn now index x) → GivesAll now new (numbers_under t.cut.leaves_left t.cut.lower_left) → Swept most old new leaves rows top (suc index)
+    pub sweep-next : (now new : Table K V) (index : ℕ) (x : K × ℕ) → Distinct (numbers_under leaves rows ++ old.chain) → (t : Turn now index x) → GivesAll now new (numbers_under t.cut.leaves_left t.cut.lower_left) (numbers_down now.nodes (length t.cut.lower_left) x.1) → Swept most old new leaves rows top (suc index)
     sweep-next now new index x apart t g = record {
       left_leaves = t.cut.leaves_right;
       left_rows = t.cut.lower_right;
       own = t.swept.own ++ numbers_under t.cut.leaves_left t.cut.lower_left;
-      given = g.given ++ t.swept.given;
+      given = numbers_down now.nodes (length t.cut.lower_left) x.1 ++ t.swept.given;
       under = t.cut.right;
       height = t.cut.right_height ∙ t.swept.height;
-      frees = frees-both old now new t.swept.own (numbers_under t.cut.leaves_left t.cut.lower_left) t.swept.given g.given (λ m some. omega (arith, apart m, some, t.swept.counted m, count-append m (numbers_under leaves rows) old.chain, t.swept.split m, t.cut.counted m)) t.swept.frees g.frees;
-      counted = λ m. omega (arith, count-append m g.given t.swept.given, count-append m t.swept.own (numbers_under t.cut.leaves_left t.cut.lower_left), g.counted m, t.swept.counted m);
+      frees = frees-both old now new t.swept.own (numbers_under t.cut.leaves_left t.cut.lower_left) t.swept.given (numbers_down now.nodes (length t.cut.lower_left) x.1) (λ m some. omega (arith, apart m, some, t.swept.counted m, count-append m (numbers_under leaves rows) old.chain, t.swept.split m, t.cut.counted m)) t.swept.frees g.frees;
+      order =
+          ap (λ z. z ++ t.swept.given) (sym (down-same now.nodes old.nodes (length t.cut.lower_left) x.1 (λ m some. sym (t.swept.frees.others m (omega (arith, some, g.counted m, apart m, count-append m (numbers_under leaves rows) old.chain, t.swept.split m, t.cut.counted m))))))
+          ∙ ap (λ z. numbers_down old.nodes z x.1 ++ t.swept.given) (t.cut.left_height ∙ t.swept.height)
+          ∙ ap (λ z. numbers_down old.nodes (length rows) x.1 ++ z) t.swept.order
+          ∙ sym (ap (λ z. flat_map (numbers_down old.nodes (length rows)) (reverse z)) (items-read top index x t.found) ∙ ap (flat_map (numbers_down old.nodes (length rows))) (reverse-append (take index (entry_items top)) (x.1 ∷ [])));
+      counted = λ m. omega (arith, count-append m (numbers_down now.nodes (length t.cut.lower_left) x.1) t.swept.given, count-append m t.swept.own (numbers_under t.cut.leaves_left t.cut.lower_left), g.counted m, t.swept.counted m);
       split = λ m. omega (arith, count-append m t.swept.own (numbers_under t.cut.leaves_left t.cut.lower_left), t.swept.split m, t.cut.counted m);
     }
 
     -- at last all is freed
-    pub sweep-last : (now : Table K V) (index : ℕ) → length top ≤ index → Swept most old now leaves rows top index → GivesAll old now (numbers_under leaves rows)
+    pub sweep-last : (now : Table K V) (index : ℕ) → length top ≤ index → Swept most old now leaves rows top index → GivesAll old now (numbers_under leaves rows) (flat_map (numbers_down old.nodes (length rows)) (reverse (entry_items top)))
     sweep-last now index past s =
         let none : drop index top ≡ [] = dropped top index past in
         let left = under_none most one old.nodes s.left_leaves s.left_rows (subst (λ (z : List (K × ℕ)). Under most old.nodes s.left_leaves s.left_rows z) none s.under) in
-        record {
-          given = s.given;
-          frees = record {
-            others = λ m zero. s.frees.others m (omega (arith, zero, s.split m));
-            freed_are = s.frees.freed_are;
-            chain_is = s.frees.chain_is;
-            slots_are = s.frees.slots_are;
-            limit_is = s.frees.limit_is;
-          };
+        let whole = s.order ∙ ap (λ z. flat_map (numbers_down old.nodes (length rows)) (reverse z)) (take_all index (entry_items top) (omega (arith, past, length-map top (λ (e : K × ℕ). e.1)))) in
+        subst (λ (z : List ℕ). GivesAll old now (numbers_under leaves rows) z) whole (record {
+          frees = frees-wider old now s.own (numbers_under leaves rows) s.given (λ m zero. omega (arith, zero, s.split m)) s.frees;
           counted = λ m. omega (arith, s.counted m, s.split m, left m);
-        }
+        })
       where
         dropped : (top : List (K × ℕ)) (index : ℕ) → length top ≤ index → drop index top ≡ []
         dropped [] zero past = refl
@@ -135,8 +160,8 @@ module _ {K V : Type 0} where
         dropped (x ∷ top) (suc index) past = dropped top index (omega (arith, past))
 
   -- the node itself is freed after all that is below it
-  pub gives-top : (old now : Table K V) (own all : List ℕ) (top : ℕ) → top < length now.nodes → count top own ≡ 0 → ((m : ℕ) → count m all ≡ count m own + count m (top ∷ [])) → GivesAll old now own → GivesAll old (with_freed now top) all
-  gives-top old now own all top low none all_is g =
+  gives-top : (old now : Table K V) (own all given : List ℕ) (top : ℕ) → top < length now.nodes → count top own ≡ 0 → ((m : ℕ) → count m all ≡ count m own + count m (top ∷ [])) → GivesAll old now own given → GivesAll old (with_freed now top) all (top ∷ given)
+  gives-top old now own all given top low none all_is g =
       let one : Frees now (with_freed now top) (top ∷ []) (top ∷ []) = record {
         others = λ m other. slice_get-set_apart now.nodes top m (Free (front_of now.chain)) (λ (e : m ≡ top). absurd (omega (arith, other, count-one m top e)));
         freed_are = (freed-slot now top low, tt);
@@ -144,9 +169,8 @@ module _ {K V : Type 0} where
         slots_are = length-set now.nodes top (Free (front_of now.chain));
         limit_is = refl;
       } in
-      let both = frees-both old now (with_freed now top) own (top ∷ []) g.given (top ∷ []) (λ m some. other_top m some) g.frees one in
+      let both = frees-both old now (with_freed now top) own (top ∷ []) given (top ∷ []) (λ m some. other_top m some) g.frees one in
       record {
-        given = top ∷ g.given;
         frees = record {
           others = λ m zero. both.others m (omega (arith, zero, all_is m, count-append m own (top ∷ [])));
           freed_are = both.freed_are;
@@ -154,13 +178,13 @@ module _ {K V : Type 0} where
           slots_are = both.slots_are;
           limit_is = both.limit_is;
         };
-        counted = λ m. omega (arith, all_is m, g.counted m, count-append m (top ∷ []) g.given);
+        counted = λ m. omega (arith, all_is m, g.counted m, count-append m (top ∷ []) given);
       }
     where
       count-one : (m n : ℕ) → m ≡ n → 0 < count m (n ∷ [])
       count-one m n e = subst (λ (z : ℕ). 0 < count z (n ∷ [])) (sym e) (omega (arith, count-same n []))
 
-      other_top : (m : ℕ) → 0 < count m g.given → count m (top ∷ []) ≡ 0
+      other_top : (m : ℕ) → 0 < count m given → count m (top ∷ []) ≡ 0
       other_top m some =
           elim (eqb_tells top m) [
             | inl w ↦ absurd (let e = ap (λ z. count z own) w.1 in omega (arith, some, none, e, g.counted m))
@@ -200,6 +224,7 @@ module _ {K V : Type 0} where
     pub under : Under most slots low rows top
     pub counted : (m : ℕ) → count m (numbers_under leaves lower) ≡ count m (numbers_under low rows) + count m (number ∷ [])
     pub height : 0 < length top → suc (length rows) ≡ length lower
+    pub down : numbers_down slots (length lower) number ≡ number ∷ flat_map (numbers_down slots (length rows)) (reverse (entry_items top))
 
   module _ (most : ℕ) (one : 1 ≤ half_of most) (slots : List (Content K V)) (leaves : List (LevelNode K V)) where
     open_leaf : (lower : List (List (LevelNode K ℕ))) (first : K) (number : ℕ) → Under most slots leaves lower ((first, number) ∷ []) → LeafFront slots leaves lower number → Opened most slots leaves lower number
@@ -216,6 +241,7 @@ module _ {K V : Type 0} where
           under = record { leaves_fit = tt; leaves_in = tt; stacked = refl; rows_in = tt };
           counted = λ m. omega (arith, count-append m (numbers leaves) (flat_map numbers lower), ap (λ z. count m (numbers z)) row, ap (λ z. count m (flat_map numbers z)) s.lower_is);
           height = λ some. absurd (omega (arith, some));
+          down = ap (λ z. numbers_down slots (length z) number) s.lower_is;
         }
 
     open_inner : (lower : List (List (LevelNode K ℕ))) (first : K) (number : ℕ) → Under most slots leaves lower ((first, number) ∷ []) → InnerFront most slots leaves lower number → Opened most slots leaves lower number
@@ -237,6 +263,7 @@ module _ {K V : Type 0} where
           };
           counted = λ m. omega (arith, count-append m (numbers leaves) (flat_map numbers lower), count-append m (numbers leaves) (flat_map numbers s.rows), ap (λ z. count m (flat_map numbers z)) s.lower_is, rows_more m s.rows s.row, ap (λ z. count m (numbers z)) row);
           height = λ some. sym (front_count most one slots leaves lower number s);
+          down = ap (λ z. numbers_down slots z number) (front_count most one slots leaves lower number s) ∙ ap (λ z. number ∷ flat_map (numbers_down slots (length s.rows)) (reverse (children_of z))) (slot-is slots number (inner_content (s.front.e ∷ s.front.es)) s.slot_is);
         }
       where
         rows_more : (m : ℕ) (rows : List (List (LevelNode K ℕ))) (row : List (LevelNode K ℕ)) → count m (flat_map numbers (rows ++ row ∷ [])) ≡ count m (flat_map numbers rows) + count m (numbers row)
@@ -274,14 +301,22 @@ module _ {K V : Type 0} where
   leaf_childless (Leaf keys vals) other = refl
   leaf_childless (Free next) other = refl
 
+  -- the node, after all its children
+  pub gives-down : (most : ℕ) (old now : Table K V) (leaves : List (LevelNode K V)) (lower : List (List (LevelNode K ℕ))) (number index : ℕ) → (s : Sweeping most old now leaves lower number index) →
+      GivesAll old now (numbers_under s.opened.low s.opened.rows) (flat_map (numbers_down old.nodes (length s.opened.rows)) (reverse (entry_items s.opened.top))) → GivesAll old (with_freed now number) (numbers_under leaves lower) (numbers_down old.nodes (length lower) number)
+  gives-down most old now leaves lower number index s all =
+      let below = flat_map (numbers_down old.nodes (length s.opened.rows)) (reverse (entry_items s.opened.top)) in
+      subst (λ (z : List ℕ). GivesAll old (with_freed now number) (numbers_under leaves lower) z) (sym s.opened.down)
+      (gives-top old now (numbers_under s.opened.low s.opened.rows) (numbers_under leaves lower) below number (slice_get_within now.nodes number s.opened.content s.slot_is) s.alone s.opened.counted all)
+
   -- below a leaf lies nothing, so that it is freed alone
-  pub gives-leaf : (most : ℕ) (one : 1 ≤ half_of most) (old : Table K V) (leaves : List (LevelNode K V)) (lower : List (List (LevelNode K ℕ))) (number : ℕ) → Distinct (numbers_under leaves lower ++ old.chain) → (o : Opened most old.nodes leaves lower number) → (IsInner o.content → ⊥) → GivesAll old (with_freed old number) (numbers_under leaves lower)
+  pub gives-leaf : (most : ℕ) (one : 1 ≤ half_of most) (old : Table K V) (leaves : List (LevelNode K V)) (lower : List (List (LevelNode K ℕ))) (number : ℕ) → Distinct (numbers_under leaves lower ++ old.chain) → (o : Opened most old.nodes leaves lower number) → (IsInner o.content → ⊥) → GivesAll old (with_freed old number) (numbers_under leaves lower) (numbers_down old.nodes (length lower) number)
   unfolding sweeping
   gives-leaf most one old leaves lower number apart o other =
       let first = sweep-first most one old o.low o.rows o.top o.under in
       let s = sweeping most old old leaves lower number 0 apart o first in
       let all = sweep-last most one old o.low o.rows o.top old 0 (omega (arith, leaf_childless o.content other, ap length o.children_are, length-map o.top (λ (e : K × ℕ). e.1))) first in
-      gives-top old old (numbers_under o.low o.rows) (numbers_under leaves lower) number (slice_get_within old.nodes number o.content o.slot_is) s.alone o.counted all
+      gives-down most old old leaves lower number 0 s all
 
   -- the child at the index, and what lies below it
   pub child_turn : (most : ℕ) (one : 1 ≤ half_of most) (old now : Table K V) (leaves : List (LevelNode K V)) (lower : List (List (LevelNode K ℕ))) (number index child : ℕ) → (s : Sweeping most old now leaves lower number index) → slice_get (children_of s.opened.content) index ≡ Some child → (x : K × ℕ) × (x.1 ≡ child) × (index < length s.opened.top) × Turn most one old s.opened.low s.opened.rows s.opened.top now index x

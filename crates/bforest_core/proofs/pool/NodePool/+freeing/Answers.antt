@@ -3,12 +3,12 @@ use Rattle.std.proofs.Common.{rules, ◌≡◌, ℕ, ◌+◌, ◌-◌, ◌*◌, 
 use Rattle.std.proofs.lemmas.List.{length-map}
 use Rattle.std.proofs.lemmas.Option.{slice_get_within}
 use Rattle.bforest_nodes.specs.Content.{IsInner, children_of, entry_count}
-use Rattle.bforest_core.specs.Table.{front_of}
+use Rattle.bforest_core.specs.Trees.{numbers_down}
 use Rattle.bforest_core.specs.Descent.{Under}
 use Rattle.bforest_core.specs.Removal.{GivesAll, numbers_under}
 use Rattle.bforest_core.proofs.walks.Descent.{some_leaf}
 use Rattle.bforest_core.proofs.table.Stored.{some_same}
-use Rattle.bforest_core.proofs.union.Sweep.{Sweeping, child_turn, gives-leaf, gives-top, inner-children, sweep-first, sweep-last, sweep-next, sweeping, under-open}
+use Rattle.bforest_core.proofs.union.Sweep.{Sweeping, child_turn, gives-down, gives-leaf, inner-children, sweep-first, sweep-last, sweep-next, sweeping, under-open}
 use Rattle.bforest_core.proofs.table.Tables.{is_used}
 use Rattle.bforest_core.proofs.pool.NodePool.+freeing.Goals as goal
 
@@ -31,16 +31,13 @@ free_below-free_node-requires g t c =
     let s = sweeping g.row.N c.args.self.now c.args.self.now w.0 w.1 c.args.node 0 w.4 o (sweep-first g.row.N one c.args.self.now o.low o.rows o.top o.under) in
     (search rules, is_used c.args.self.now c.args.node o.content o.slot_is s.off_chain)
 
-pub free_below-returns-else-is_inner-clause-freed : goal.free_below-returns-else-is_inner-clause-freed
-free_below-returns-else-is_inner-clause-freed g t c = λ leaves lower first under apart.
+pub free_below-returns-else-is_inner : goal.free_below-returns-else-is_inner
+free_below-returns-else-is_inner g t c = λ leaves lower first under apart.
     let one = some_leaf _ c.requires.capacity in
     let o = under-open g.row.N one c.args.self.now.nodes leaves lower first c.args.node under in
     let content : c.node.result.now ≡ o.content = some_same c.node.result.now o.content (sym c.node.ensures.value ∙ o.slot_is) in
     let other : IsInner o.content → ⊥ = λ i. false≢true (sym c.if-is_inner.false ∙ c.is_inner.ensures.inner.1 (subst IsInner (sym content) i)) in
-    subst (λ z. GivesAll c.args.self.now z (numbers_under leaves lower)) (sym c.free_node.ensures.freed) (gives-leaf g.row.N one c.args.self.now leaves lower c.args.node apart o other)
-
-pub free_below-returns-else-is_inner-clause-front : goal.free_below-returns-else-is_inner-clause-front
-free_below-returns-else-is_inner-clause-front g t c = ap (λ z. front_of z.chain) c.free_node.ensures.freed
+    subst (λ z. GivesAll c.args.self.now z (numbers_under leaves lower) (numbers_down c.args.self.now.nodes (length lower) c.args.node)) (sym c.free_node.ensures.freed) (gives-leaf g.row.N one c.args.self.now leaves lower c.args.node apart o other)
 
 pub free_under-child_count-index-end-requires : goal.free_under-child_count-index-end-requires
 free_under-child_count-index-end-requires g t c =
@@ -91,7 +88,9 @@ free_under-loop-index-preserved g t c = λ leaves lower apart o.
     let found = ap (λ z. slice_get (children_of z) c.loop-index.index) (sym content) ∙ c.child-child.ensures.child in
     let x = child_turn g.row.N one c.args.self.now c.loop-index.self leaves lower c.args.node c.loop-index.index c.child-child.result s found in
     let under = subst (λ (z : ℕ). Under g.row.N c.loop-index.self.nodes x.3.cut.leaves_left x.3.cut.lower_left ((x.0.0, z) ∷ [])) x.1 x.3.under in
-    let gone = c.free_below.ensures.freed x.3.cut.leaves_left x.3.cut.lower_left x.0.0 under x.3.apart in
+    let gone =
+    subst (λ (z : ℕ). GivesAll c.loop-index.self c.free_below.new.self (numbers_under x.3.cut.leaves_left x.3.cut.lower_left) (numbers_down c.loop-index.self.nodes (length x.3.cut.lower_left) z)) (sym x.1)
+    (c.free_below.ensures x.3.cut.leaves_left x.3.cut.lower_left x.0.0 under x.3.apart) in
     let next : suc c.loop-index.index ≡ c.loop-index.index + 1 = omega arith in
     let swept = sweep-next g.row.N one c.args.self.now s.opened.low s.opened.rows s.opened.top c.loop-index.self c.free_below.new.self c.loop-index.index x.0 s.apart x.3 gone in
     subst (λ (z : ℕ). Sweeping g.row.N c.args.self.now c.free_below.new.self leaves lower c.args.node z) next (sweeping g.row.N c.args.self.now c.free_below.new.self leaves lower c.args.node (suc c.loop-index.index) apart s.opened swept)
@@ -103,13 +102,10 @@ free_under-free_node-requires g t c =
     let s = c.loop-index.invariant w.0 w.1 w.4 o in
     (search rules, is_used c.loop-index.self c.args.node s.opened.content s.slot_is s.off_chain)
 
-pub free_under-returns-clause-freed : goal.free_under-returns-clause-freed
-free_under-returns-clause-freed g t c = λ leaves lower first under apart.
+pub free_under-returns : goal.free_under-returns
+free_under-returns g t c = λ leaves lower first under apart.
     let one = some_leaf _ c.requires.capacity in
     let o = under-open g.row.N one c.args.self.now.nodes leaves lower first c.args.node under in
     let s = c.loop-index.invariant leaves lower apart o in
     let all = sweep-last g.row.N one c.args.self.now s.opened.low s.opened.rows s.opened.top c.loop-index.self c.loop-index.index (omega (arith, c.loop-index-test.false, c.child_count-index-end.ensures s.opened.content s.opened.slot_is, ap length s.opened.children_are, length-map s.opened.top (λ (e : g.row.K.Denot × ℕ). e.1))) s.swept in
-    subst (λ z. GivesAll c.args.self.now z (numbers_under leaves lower)) (sym c.free_node.ensures.freed) (gives-top c.args.self.now c.loop-index.self (numbers_under s.opened.low s.opened.rows) (numbers_under leaves lower) c.args.node (slice_get_within c.loop-index.self.nodes c.args.node s.opened.content s.slot_is) s.alone s.opened.counted all)
-
-pub free_under-returns-clause-front : goal.free_under-returns-clause-front
-free_under-returns-clause-front g t c = ap (λ z. front_of z.chain) c.free_node.ensures.freed
+    subst (λ z. GivesAll c.args.self.now z (numbers_under leaves lower) (numbers_down c.args.self.now.nodes (length lower) c.args.node)) (sym c.free_node.ensures.freed) (gives-down g.row.N c.args.self.now c.loop-index.self leaves lower c.args.node c.loop-index.index s all)

@@ -1,6 +1,6 @@
-use Rattle.std.proofs.Common.{rules, arith}
+use Rattle.std.proofs.Common.{rules, length, arith}
 use Rattle.bforest_core.specs.Place.{numbers_of}
-use Rattle.bforest_core.specs.Trees.{tree_of}
+use Rattle.bforest_core.specs.Trees.{numbers_down, tree_of}
 use Rattle.bforest_core.proofs.union.Account.{length-same, nodes-count}
 use Rattle.bforest_core.proofs.union.Roots.{uprooted-union}
 use Rattle.bforest_core.proofs.union.Unions.{is-rooted, rooted}
@@ -21,8 +21,8 @@ returns-clause-ended g c =
     let tree = tree_of slots c.args.root in
     let w = is-rooted g.row.N c.args.self.now c.args.root c.requires.union c.requires.root in
     let r = rooted g.row.N c.args.self.now c.args.root c.requires.union c.requires.root in
-    let all = c.free_below.ensures.freed tree.leaves tree.above (whole_top g.row.N slots c.args.root tree w).first (whole_under g.row.N slots c.args.root tree w) r.apart in
-    let gone = uprooted-union g.row.N c.args.self.now c.free_below.new.self c.args.root all.given c.requires.union c.requires.root all.frees.chain_is all.frees.freed_are all.frees.slots_are all.counted all.frees.others in
+    let all = c.free_below.ensures tree.leaves tree.above (whole_top g.row.N slots c.args.root tree w).first (whole_under g.row.N slots c.args.root tree w) r.apart in
+    let gone = uprooted-union g.row.N c.args.self.now c.free_below.new.self c.args.root _ c.requires.union c.requires.root all.frees.chain_is all.frees.freed_are all.frees.slots_are all.counted all.frees.others in
     record { union = gone.0; root_gone = gone.1; others = gone.2; limit_is = all.frees.limit_is }
 
 pub returns-clause-account : goal.returns-clause-account
@@ -31,5 +31,13 @@ returns-clause-account g c =
     let tree = tree_of slots c.args.root in
     let w = is-rooted g.row.N c.args.self.now c.args.root c.requires.union c.requires.root in
     let r = rooted g.row.N c.args.self.now c.args.root c.requires.union c.requires.root in
-    let all = c.free_below.ensures.freed tree.leaves tree.above (whole_top g.row.N slots c.args.root tree w).first (whole_under g.row.N slots c.args.root tree w) r.apart in
-    record { given = all.given; chain_is = all.frees.chain_is; slots = all.frees.slots_are; count_is = omega (arith, length-same all.given (numbers_of tree) all.counted, nodes-count tree) }
+    let all = c.free_below.ensures tree.leaves tree.above (whole_top g.row.N slots c.args.root tree w).first (whole_under g.row.N slots c.args.root tree w) r.apart in
+    record { given = numbers_down slots (length tree.above) c.args.root; chain_is = all.frees.chain_is; slots = all.frees.slots_are; count_is = omega (arith, length-same (numbers_down slots (length tree.above) c.args.root) (numbers_of tree) all.counted, nodes-count tree) }
+
+pub returns-clause-order : goal.returns-clause-order
+returns-clause-order g c =
+    let slots = c.args.self.now.nodes in
+    let tree = tree_of slots c.args.root in
+    let w = is-rooted g.row.N c.args.self.now c.args.root c.requires.union c.requires.root in
+    let r = rooted g.row.N c.args.self.now c.args.root c.requires.union c.requires.root in
+    (c.free_below.ensures tree.leaves tree.above (whole_top g.row.N slots c.args.root tree w).first (whole_under g.row.N slots c.args.root tree w) r.apart).frees.chain_is
