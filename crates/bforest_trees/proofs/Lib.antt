@@ -5,6 +5,7 @@ pub mod Measures
 pub mod After
 pub mod Reading
 pub mod Inserting
+pub mod Entering
 pub mod Reserving
 pub mod Accounts
 pub mod Cutting

@@ -1,0 +1,89 @@
+-- An insertion into the tree under a root, from what the search for its key tells: each answer of `insert_under` is one of these.
+use Rattle.bforest_trees.proofs.After.{not-ok}
+use Rattle.bforest_trees.proofs.Changed.{list-root, live-root}
+use Rattle.bforest_trees.proofs.Inserting.{inserts-err, inserts-ok}
+use Rattle.bforest_trees.proofs.Putting.{absent-none, need-absent, need-present, present-some, put-here, put-new}
+use Rattle.bforest_trees.specs.Calls.{Inserts}
+use Rattle.bforest_trees.specs.Forest.{Forest, IsTooMany, NeedsGrowth, free_of, list_at, need_of}
+use Rattle.bforest_trees.specs.Place.{IsSpot}
+use Rattle.bforest_core.proofs.walks.Standing.{on-at, placed-points}
+use Rattle.bforest_core.specs.Change.{Changes, TakesNodes}
+use Rattle.bforest_core.specs.Paths.{IsPlaced, OnEntry, Placing, Pointing, StandsAt, StandsOn, list_under, sizes_under}
+use Rattle.bforest_core.specs.Sizes.{growth, need}
+use Rattle.bforest_core.specs.Table.{slot_count}
+use Rattle.bforest_core.specs.Trees.{is_root}
+use Rattle.bforest_core.specs.declared.path.Path.{Path}
+use Rattle.bforest_core.specs.declared.pool.OutOfMemory.TheVariants.{Full, Memory}
+use Rattle.bforest_core.specs.declared.pool.OutOfMemory.{OutOfMemory}
+use Rattle.bforest_nodes.proofs.Ordered.{IsIncreasing-put}
+use Rattle.bforest_nodes.specs.Entries.{IsIncreasing, is_present, place, value_for, with_value}
+use Rattle.std.specs.Cmp.{IsTotalOrder}
+use Rattle.std.proofs.Common.{Err, IsOk, IsTrue, List, [], None, Ok, Option, Result, Some, ap, arith, false, insert, length, subst, sym, true, ◌∙◌, ◌≡◌, ◌≢◌, ◌≤◌, ◌↔◌, ℕ}
+use Rattle.std.specs.declared.cmp.Ordering.{Ordering}
+
+module _ {K X : Type 0} (most : ℕ) (cmp : K → K → Ordering) (f : Forest K X) (n : ℕ) (k : K) (live : list_at f n ≢ []) where
+  abbrev at : ℕ
+  at = place cmp (list_under f n) k
+
+  root : IsTrue (is_root f.nodes n)
+  root = live-root f n live
+
+  module _ (path : Path K X most) (found : Option X) (value : found ≡ value_for cmp (list_under f n) k) where
+    -- the key is present, and the path on its entry
+    module _ (present : is_present cmp (list_under f n) k ≡ true → StandsOn f n path at) (old : X) (is : found ≡ Some old) where
+      pub here : is_present cmp (list_under f n) k ≡ true
+      here = present-some cmp (list_under f n) k old (sym value ∙ is)
+
+      abbrev pub on-key : OnEntry f path
+      on-key = record { root = n; place = at; on = present here }
+
+      -- its value was written anew
+      pub overwritten : IsTotalOrder cmp → IsIncreasing cmp (list_at f n) → (x : X) (f' : Forest K X) → Changes most f f' n n (with_value (list_under f n) at x) (sizes_under f n) → slot_count f' ≡ slot_count f → f'.chain ≡ f.chain → Inserts most cmp f (Some n) k x (Ok (Some old)) f' (Some n)
+      overwritten total up x f' written slots chain =
+          inserts-ok most cmp f k x n f' n (Some old) (subst (λ (l : List (K × X)). value_for cmp l k ≡ Some old) (sym (list-root f n root)) (sym value ∙ is))
+          (put-here most cmp f n k root here f' x written slots chain) (IsIncreasing-put cmp total _ k x up) (λ low. let few = rw (need-present most cmp f n k root here) at low in omega (arith, few))
+
+      -- and the path stands there
+      pub key-spot : (f' : Forest K X) → StandsOn f' n path at → IsSpot f' (Some n) path (place cmp (list_at f n) k)
+      key-spot f' on = rw (list-root f n root) (on-at f' n path at on)
+
+    -- the key is absent, and the path placed for it
+    module _ (absent : is_present cmp (list_under f n) k ≡ false → IsPlaced f n path at) (is : found ≡ None) where
+      pub gone : is_present cmp (list_under f n) k ≡ false
+      gone = absent-none cmp (list_under f n) k (sym value ∙ is)
+
+      none : value_for cmp (list_at f n) k ≡ None
+      none = subst (λ (l : List (K × X)). value_for cmp l k ≡ None) (sym (list-root f n root)) (sym value ∙ is)
+
+      needs : need_of most cmp f (Some n) k ≡ need most at (sizes_under f n)
+      needs = need-absent most cmp f n k root gone
+
+      abbrev pub at-key : Placing f path
+      at-key = record { root = n; place = at; placed = absent gone }
+
+      -- so it points there still where nothing has changed
+      abbrev pub to-key : (f' : Forest K X) (path' : Path K X most) → f' ≡ f → path' ≡ path → Pointing f' path'
+      to-key f' path' same is = record { root = n; place = at; to = rw (same, is) (placed-points f n path at (absent gone)) }
+
+      module _ (result : Result ℕ OutOfMemory) (full : (result ≡ Err Full) ↔ IsTooMany (need most at (sizes_under f n)) f) where
+        -- it was refused
+        pub refused : IsIncreasing cmp (list_at f n) → (x : X) (err : OutOfMemory) → result ≡ Err err → (result ≡ Err Memory → NeedsGrowth (need most at (sizes_under f n)) f) → (need most at (sizes_under f n) ≤ free_of f → IsOk result) → Inserts most cmp f (Some n) k x (Err err) f (Some n)
+        refused up x err said memory enough =
+            inserts-err most cmp f k x (Some n) err up none
+            (λ e. rw needs (full.0 (said ∙ ap Err e)), λ low. let same = full.1 (rw needs at low) in cc)
+            (λ e. rw needs (memory (said ∙ ap Err e)))
+            (λ low. not-ok result err said (enough (rw needs at low)))
+
+        -- it was put in
+        pub added : IsTotalOrder cmp → IsIncreasing cmp (list_at f n) → (x : X) (root' : ℕ) → result ≡ Ok root' → (f' : Forest K X) → Changes most f f' n root' (insert (list_under f n) at (k, x)) (growth most at (sizes_under f n)) → TakesNodes (need most at (sizes_under f n)) f f' →
+            (root' ≡ n) ↔ (length (growth most at (sizes_under f n)) ≡ length (sizes_under f n)) → Inserts most cmp f (Some n) k x (Ok None) f' (Some root')
+        added total up x root' said f' changes takes same =
+            inserts-ok most cmp f k x n f' root' None none (put-new most cmp f n k root gone f' root' x changes takes same) (IsIncreasing-put cmp total _ k x up) (λ low. let bad = full.1 (rw needs at low) in cc)
+
+      -- and the path stands there
+      pub new-spot : (f' : Forest K X) (root' : ℕ) (path' : Path K X most) → StandsOn f' root' path' at → IsSpot f' (Some root') path' (place cmp (list_at f n) k)
+      new-spot f' root' path' on = rw (list-root f n root) (on-at f' root' path' at on)
+
+      -- so it does after a refusal
+      pub old-spot : (path' : Path K X most) → StandsAt f n path' at → IsSpot f (Some n) path' (place cmp (list_at f n) k)
+      old-spot path' stands = rw (list-root f n root) stands
