@@ -1,5 +1,5 @@
 -- Halving the path's full leaf, and putting the entry into one half: each answer of `halve_leaf` is one of these.
-use Rattle.std.proofs.Common.{◌≡◌, ℕ, ◌-◌, ◌/◌, ◌≤◌, ◌<◌, IsTrue, ◌↔◌, true, false, Bool, if◌then◌else◌, List, ◌∷◌, ◌++◌, length, set, get_or, slice_get, Some, refl, sym, ap, ◌∙◌, subst, arith, length-append}
+use Rattle.std.proofs.Common.{◌≡◌, ℕ, ◌+◌, ◌-◌, ◌/◌, nat_le, ◌≤◌, ◌<◌, IsTrue, ◌↔◌, true, false, Bool, if◌then◌else◌, List, ◌∷◌, ◌++◌, length, set, get_or, slice_get, Some, refl, sym, ap, ◌∙◌, subst, arith, length-append}
 use Rattle.std.proofs.lemmas.List.{get_or_default, get_or-set_same, get_or-set_other}
 use Rattle.bforest_nodes.specs.Content.{Content, Leaf, IsLeafCapacity, with_entry}
 use Rattle.bforest_nodes.specs.declared.node.SplitOff.{SplitOff}
@@ -9,7 +9,7 @@ use Rattle.bforest_core.specs.Place.{leaf_content, entry_keys, entry_items}
 use Rattle.bforest_core.specs.Climb.{Placed, LeafHalved}
 use Rattle.bforest_core.proofs.table.Tables.{is_used}
 use Rattle.bforest_core.proofs.insertion.LeafSpot.{LeafSpot, leaf_spot, keys_count}
-use Rattle.bforest_core.proofs.insertion.LeafHalving.{Odd, odd, LeafSplit, leaf_full_is, leaf_low, leaf_high, split_leaf_spot, left_used, leaf_halves_early, leaf_halves_late}
+use Rattle.bforest_core.proofs.insertion.Halving.{Odd, odd, Split, leaf_full_is, leaf_parts, counted, split_at, stay_low, stay_high, left_used, leaf_halves_early, leaf_halves_late}
 use Rattle.bforest_core.proofs.insertion.LeafParted.{leaf_parted_early, leaf_parted_late}
 
 -- what was written where there was room
@@ -61,22 +61,28 @@ module _ {K V : Type 0} where
       here_split : IsSplitAt cap t (get_or ms 0 0) (get_or js 0 0) parts s
       here_split = subst (λ (z : ℕ). IsSplitAt cap t z (get_or js 0 0) parts s) num_is split
 
+      left_count : parts.lhs_entries ≡ (if nat_le (get_or js 0 0) (cap / 2) then cap / 2 else (cap + 1) / 2)
+      left_count = counted leaf_content cap t s (get_or ms 0 0) (get_or js 0 0) (d.l ++ d.r) parts d.slot_is here_split
+
+      cut : parts.lhs_entries < length (d.l ++ d.r) → Split leaf_content t s (get_or ms 0 0) right parts.lhs_entries (d.l ++ d.r) parts.crit_key
+      cut less = split_at leaf_content cap t s (get_or ms 0 0) (get_or js 0 0) (d.l ++ d.r) parts d.slot_is here_split right (leaf_parts parts.lhs_entries) less d.none_chain front used.within
+
       module _ (low : get_or js 0 0 ≤ cap / 2) where
         low_is : parts.lhs_entries ≡ cap / 2
-        low_is = leaf_low cap t s (get_or ms 0 0) (get_or js 0 0) (d.l ++ d.r) parts d.slot_is here_split low
+        low_is = left_count ∙ stay_low cap (get_or js 0 0) low
 
         low_less : parts.lhs_entries < length (d.l ++ d.r)
         low_less = let q = low_is in let f = full_is in omega (arith, o.low_is, o.cap_is)
 
-        low_cut : LeafSplit t s (get_or ms 0 0) right parts.lhs_entries (d.l ++ d.r) parts.crit_key
-        low_cut = split_leaf_spot cap t s ms js tree place (get_or ms 0 r) right parts d num_is low_less front used split
+        low_cut : Split leaf_content t s (get_or ms 0 0) right parts.lhs_entries (d.l ++ d.r) parts.crit_key
+        low_cut = cut low_less
 
         low_slot : slice_get s.nodes (get_or ms 0 r) ≡ Some (leaf_content low_cut.zs)
-        low_slot = ap (λ z. slice_get s.nodes z) num_is ∙ low_cut.here
+        low_slot = ap (λ z. slice_get s.nodes z) num_is ∙ low_cut.two.here
 
         pub early_asks : EntryAt s (get_or ms 0 r) (get_or js 0 0)
         early_asks = record {
-          used = subst (λ (z : ℕ). IsUsed s z) (sym num_is) (left_used t s (get_or ms 0 0) right parts.lhs_entries (d.l ++ d.r) parts.crit_key low_cut d.none_chain);
+          used = subst (λ (z : ℕ). IsUsed s z) (sym num_is) (left_used leaf_content t s s (get_or ms 0 0) right low_cut.zs (low_cut.y ∷ low_cut.ys) low_cut.two d.none_chain);
           keys = entry_keys low_cut.zs;
           vals = entry_items low_cut.zs;
           slot = low_slot;
@@ -87,16 +93,15 @@ module _ {K V : Type 0} where
         early_halves u key value put has puts =
             let q = low_is in
             let f = full_is in
-            let less = low_less in
             let zs = low_cut.zs in
             let room = (has (entry_keys zs) (entry_items zs) low_slot).1 (omega (arith, keys_count zs, low_cut.count_is)) in
             let written = put_done put s u (get_or ms 0 r) (get_or ms 0 0) (with_entry (leaf_content zs) (get_or js 0 0) key value) (leaf_content zs) num_is room (puts (entry_keys zs) (entry_items zs) low_slot) in
             leaf_parted_early cap t u ms js size tree place (key, value) parts.crit_key right o p d f low
-            (leaf_halves_early cap t s u (get_or ms 0 0) right parts.lhs_entries (get_or js 0 0) d.l d.r parts.crit_key key value o d.index_is low q f low_cut written)
+            (leaf_halves_early cap t s u (get_or ms 0 0) right parts.lhs_entries (get_or js 0 0) d.l d.r parts.crit_key key value o d.index_is f low_cut low q written)
 
       module _ (high : cap / 2 < get_or js 0 0) where
         high_is : parts.lhs_entries ≡ half_of cap
-        high_is = leaf_high cap t s (get_or ms 0 0) (get_or js 0 0) (d.l ++ d.r) parts d.slot_is here_split high
+        high_is = left_count ∙ stay_high cap (get_or js 0 0) high
 
         pub late_within : parts.lhs_entries ≤ get_or js 0 0
         late_within = let q = high_is in omega (arith, o.high_is, o.low_is)
@@ -104,8 +109,8 @@ module _ {K V : Type 0} where
         high_less : parts.lhs_entries < length (d.l ++ d.r)
         high_less = let q = high_is in let f = full_is in omega (arith, o.high_is, o.cap_is, o.some)
 
-        high_cut : LeafSplit t s (get_or ms 0 0) right parts.lhs_entries (d.l ++ d.r) parts.crit_key
-        high_cut = split_leaf_spot cap t s ms js tree place (get_or ms 0 r) right parts d num_is high_less front used split
+        high_cut : Split leaf_content t s (get_or ms 0 0) right parts.lhs_entries (d.l ++ d.r) parts.crit_key
+        high_cut = cut high_less
 
         pub late_asks : EntryAt s right (get_or js 0 0 - parts.lhs_entries)
         late_asks =
@@ -114,7 +119,7 @@ module _ {K V : Type 0} where
               used = used;
               keys = entry_keys (high_cut.y ∷ high_cut.ys);
               vals = entry_items (high_cut.y ∷ high_cut.ys);
-              slot = high_cut.there;
+              slot = high_cut.two.there;
               within = omega (arith, keys_count (high_cut.y ∷ high_cut.ys), ap length high_cut.es_is, length-append high_cut.zs (high_cut.y ∷ high_cut.ys), high_cut.count_is);
             }
 
@@ -125,8 +130,8 @@ module _ {K V : Type 0} where
             let f = full_is in
             let rights = high_cut.y ∷ high_cut.ys in
             let behind = get_or js 0 0 - parts.lhs_entries in
-            let room = (has (entry_keys rights) (entry_items rights) high_cut.there).1 (omega (arith, keys_count rights, ap length high_cut.es_is, length-append high_cut.zs rights, high_cut.count_is, o.high_is)) in
-            let written = put_done put s u right right (with_entry (leaf_content rights) behind key value) (leaf_content rights) refl room (puts (entry_keys rights) (entry_items rights) high_cut.there) in
+            let room = (has (entry_keys rights) (entry_items rights) high_cut.two.there).1 (omega (arith, keys_count rights, ap length high_cut.es_is, length-append high_cut.zs rights, high_cut.count_is, o.high_is)) in
+            let written = put_done put s u right right (with_entry (leaf_content rights) behind key value) (leaf_content rights) refl room (puts (entry_keys rights) (entry_items rights) high_cut.two.there) in
             leaf_parted_late cap t u ms js (set ms 0 right) (set js 0 behind) size tree place (key, value) first right parts.lhs_entries o p d f high q
-            (leaf_halves_late cap t s u (get_or ms 0 0) right parts.lhs_entries (get_or js 0 0) d.l d.r parts.crit_key key first value o d.index_is high q f high_cut zero more written)
+            (leaf_halves_late cap t s u (get_or ms 0 0) right parts.lhs_entries (get_or js 0 0) d.l d.r parts.crit_key key value o d.index_is f high_cut first high q zero more written)
             (λ i other. get_or-set_other ms 0 i right 0 other) (get_or-set_same ms 0 right 0 (omega arith)) (λ i other. get_or-set_other js 0 i behind 0 other) (get_or-set_same js 0 behind 0 (omega arith))
