@@ -1,12 +1,7 @@
-use Rattle.std.proofs.Common.{rules, ◌≡◌, ℕ, ◌+◌, ◌-◌, ◌<◌, ◌∷◌, ◌++◌, length, get_or, slice_get, sym, ap, subst, ◌∙◌, arith}
+use Rattle.std.proofs.Common.{rules, ◌+◌, ◌-◌, ◌<◌, length, get_or, sym, ap, ◌∙◌, arith}
 use Rattle.std.proofs.lemmas.List.{get_or-set_other}
 use Rattle.std.proofs.lemmas.Bool.{false≢true}
-use Rattle.bforest_nodes.specs.Content.{IsInner, entry_count, children_of}
-use Rattle.bforest_core.specs.Levels.{flat}
-use Rattle.bforest_core.specs.Descent.{Under}
-use Rattle.bforest_core.specs.Place.{inner_content}
 use Rattle.bforest_core.proofs.walks.Descent.{some_leaf}
-use Rattle.bforest_core.proofs.table.Stored.{some_same}
 use Rattle.bforest_core.proofs.walks.Leading.{front_within, front_leaf, front_asks, front_below, led_leaf, led_here}
 use Rattle.bforest_core.proofs.path.Path.+descend_first.Goals as goal
 
