@@ -7,7 +7,7 @@ use Rattle.bforest_core.specs.Table.{Table}
 use Rattle.bforest_core.specs.Trees.{IsUnion, tree_of}
 use Rattle.bforest_core.proofs.union.Unions.{is-rooted}
 use Rattle.bforest_core.proofs.walks.LastDown.{Leads}
-use Rattle.bforest_core.proofs.walks.Whole.{whole_top, whole_under}
+use Rattle.bforest_core.proofs.walks.Standing.{under-root}
 use Rattle.bforest_core.proofs.walks.Trailing.{last_stands}
 use Rattle.bforest_core.proofs.walks.Backward.{before_is, at_entry, at_end, stay}
 use Rattle.bforest_core.proofs.walks.Nearby.{here-leaf, here-entry}
@@ -19,7 +19,8 @@ module _ {K V : Type 0} {n : ℕ} (table : Table K V) (union : IsUnion n table) 
   led_back level none leads =
       let tree = tree_of table.nodes root in
       let w = is-rooted n table root union at.root_is in
-      let r = leads tree.leaves tree.above [] (whole_top n table.nodes root tree w).first (whole_under n table.nodes root tree w) in
+      let u = under-root n table root union at.root_is in
+      let r = leads tree.leaves tree.above [] u.first u.under in
       let end = at_end old.node old.entry tree place old.size none at.at in
       let s = last_stands tree old.node old.entry new.node new.entry (level + 1) r.1 (omega (arith, r.0)) in
       (omega (arith, r.0, w.low), omega (arith, end, w.some), record { root_is = at.root_is; stands = subst (λ (z : ℕ). Stands new.node new.entry (level + 1) tree (z - 1)) (sym end) s })
@@ -48,10 +49,9 @@ module _ {K V : Type 0} {n : ℕ} (table : Table K V) (union : IsUnion n table) 
 
 pub descend_last-top-requires : goal.descend_last-top-requires
 descend_last-top-requires g c =
-    let slots = c.args.pool.now.nodes in
-    let tree = tree_of slots c.args.root in
-    let w = is-rooted g.row.N c.args.pool.now c.args.root c.requires.union c.requires.root in
-    (search rules, (search rules, (c.requires.union.1.capacity, (tree.leaves, tree.above, [], (whole_top g.row.N slots c.args.root tree w).first, whole_under g.row.N slots c.args.root tree w, omega (arith, w.low)))))
+    let tree = tree_of c.args.pool.now.nodes c.args.root in
+    let u = under-root g.row.N c.args.pool.now c.args.root c.requires.union c.requires.root in
+    (search rules, (search rules, (c.requires.union.1.capacity, (tree.leaves, tree.above, [], u.first, u.under, omega (arith, u.low)))))
 
 pub overflow_add-self : goal.overflow_add-self
 overflow_add-self g c =
