@@ -1,14 +1,13 @@
 -- A step of a path to the node or the entry before.
-use Rattle.std.proofs.Common.{◌≡◌, ◌≢◌, ℕ, zero, suc, ◌+◌, ◌-◌, ◌≤◌, ◌<◌, List, [], ◌∷◌, ◌++◌, length, get_or, slice_get, Some, refl, sym, ap, subst, ◌∙◌, arith, length-append}
+use Rattle.std.proofs.Common.{◌≡◌, ◌≢◌, ℕ, zero, suc, ◌+◌, ◌-◌, ◌≤◌, ◌<◌, List, [], ◌∷◌, length, get_or, slice_get, Some, refl, sym, ap, subst, ◌∙◌, arith, length-append}
 use Rattle.std.proofs.lemmas.List.{length-map}
 use Rattle.bforest_nodes.specs.Content.{Content, entry_count}
 use Rattle.bforest_core.specs.Levels.{LevelNode, node, flat, heads, Tree, IsFit, half_of}
-use Rattle.bforest_core.specs.Place.{RowIn, leaf_content, inner_content, StandsAbove, Stands, IsIn, IsPathAt, entry_before}
+use Rattle.bforest_core.specs.Place.{RowIn, leaf_content, inner_content, Stands, IsIn, IsPathAt, entry_before}
 use Rattle.bforest_core.specs.Steps.{Moved}
-use Rattle.bforest_core.proofs.walks.Steps.{Spot, Nth, nth, next_at}
+use Rattle.bforest_core.proofs.walks.Steps.{Spot, Nth, nth, next_at, stands_in}
 use Rattle.bforest_core.proofs.table.Tables.{row-split}
 use Rattle.bforest_core.proofs.table.Stored.{item_count}
-use Rattle.bforest_core.proofs.rows.Zipper.{stands-same}
 
 -- a row of no nodes has no entries
 none_flat : {K X : Type 0} (row : List (LevelNode K X)) → length row ≡ 0 → length (flat row) ≡ 0
@@ -32,21 +31,7 @@ module _ {K V : Type 0} (most : ℕ) (one : 1 ≤ half_of most) (slots : List (C
   -- the entry before in the same leaf
   pub back_within : (path' indices' : List ℕ) → path' ≡ path → 0 < get_or indices 0 0 → get_or indices' 0 0 ≡ get_or indices 0 0 - 1 → ((i : ℕ) → i ≢ 0 → get_or indices' i 0 ≡ get_or indices i 0) → (0 < place) × Stands path' indices' size tree (place - 1)
   back_within path' indices' path_is some here above =
-      let n_is = ap (λ z. get_or z 0 0) path_is in (
-        omega (arith, some, s.leaf.place_is),
-        record {
-          leaf = record {
-            before = s.leaf.before;
-            entries = s.leaf.entries;
-            after = s.leaf.after;
-            row_is = s.leaf.row_is ∙ ap (λ z. s.leaf.before ++ node z s.leaf.entries ∷ s.leaf.after) (sym n_is);
-            within = omega (arith, here, s.leaf.within);
-            place_is = omega (arith, here, some, s.leaf.place_is);
-          };
-          above = stands-same path indices path' indices' 1 tree.above (length s.leaf.before) (λ i low. ap (λ z. get_or z i 0) path_is) (λ i low. above i (λ e. omega (arith, e, low))) s.above;
-          size_is = s.size_is;
-        },
-      )
+      (omega (arith, some, s.leaf.place_is), stands_in tree size path indices path' indices' path_is above s.size_is s.leaf.before (get_or path 0 0) s.leaf.entries s.leaf.after (length s.leaf.before) (place - 1) s.leaf.row_is refl s.above refl (omega (arith, here, s.leaf.within)) (omega (arith, here, some, s.leaf.place_is)))
 
   module _ (path1 indices1 : List ℕ) (m : Moved path indices path1 indices1 0 tree.above (heads tree.leaves) (length s.leaf.before - 1)) where
     -- the leaf before
@@ -64,21 +49,7 @@ module _ {K V : Type 0} (most : ℕ) (one : 1 ≤ half_of most) (slots : List (C
         let f = next_at n.before m.head.1 (n.e ∷ n.others) n.after s.leaf.before (get_or path 0 0) s.leaf.entries s.leaf.after (sym n.row_is ∙ s.leaf.row_is) (omega (arith, n.place_is, some)) in
         let l = ap length f in
         let a = length-append (flat n.before) (n.e ∷ n.others) in
-        let n_is : get_or path' 0 0 ≡ m.head.1 = ap (λ z. get_or z 0 0) path_is ∙ m.node_is in (
-          omega (arith, s.leaf.place_is, none, l, a),
-          record {
-            leaf = record {
-              before = n.before;
-              entries = n.e ∷ n.others;
-              after = n.after;
-              row_is = n.row_is ∙ ap (λ z. n.before ++ node z (n.e ∷ n.others) ∷ n.after) (sym n_is);
-              within = omega (arith, here);
-              place_is = omega (arith, here, s.leaf.place_is, none, l, a);
-            };
-            above = subst (λ (z : ℕ). StandsAbove path' indices' 1 tree.above z) (sym n.place_is) (stands-same path1 indices1 path' indices' 1 tree.above (length s.leaf.before - 1) (λ i low. ap (λ z. get_or z i 0) path_is) (λ i low. above i (λ e. omega (arith, e, low))) m.stands);
-            size_is = s.size_is;
-          },
-        )
+        (omega (arith, s.leaf.place_is, none, l, a), stands_in tree size path1 indices1 path' indices' path_is above s.size_is n.before m.head.1 (n.e ∷ n.others) n.after (length s.leaf.before - 1) (place - 1) n.row_is m.node_is m.stands n.place_is (omega (arith, here)) (omega (arith, here, s.leaf.place_is, none, l, a)))
 
   -- no leaf before: the first entry of all
   pub back_first : length s.leaf.before ≡ 0 → get_or indices 0 0 ≡ 0 → place ≡ 0
