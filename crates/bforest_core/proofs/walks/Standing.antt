@@ -15,7 +15,7 @@ use Rattle.bforest_core.proofs.walks.Descent.{some_leaf}
 use Rattle.bforest_core.proofs.walks.Leading.{front_step, led_leaf}
 use Rattle.bforest_core.proofs.table.Read.{slot-is}
 use Rattle.bforest_core.proofs.rows.LevelRows.{flat-append}
-use Rattle.bforest_core.proofs.rows.Tops.{root-points, root-stands}
+use Rattle.bforest_core.proofs.rows.Tops.{root-points}
 use Rattle.bforest_core.proofs.table.Tables.{count-append, count-same}
 use Rattle.bforest_core.proofs.walks.Backward.{at_end, at_entry}
 use Rattle.bforest_core.proofs.walks.Pointed.{points-stands}
@@ -117,12 +117,6 @@ module _ {K V : Type 0} {n : ℕ} (table : Table K V) (root : ℕ) (path : Path 
 
 -- in a union of trees
 module _ {K V : Type 0} {n : ℕ} (most : ℕ) (table : Table K V) (root : ℕ) (path : Path K V n) (place : ℕ) (union : IsUnion most table) where
-  -- it is in the tree of its root
-  pub on-root : StandsOn table root path place → path_root path ≡ root
-  on-root on =
-      let r = rooted most table root union on.root_is in
-      sym (root-stands most (tree_of table.nodes root) path.node path.entry path.size place r.fit on.stands) ∙ r.root_is
-
   -- one that points to a place is in the tree of its root
   pub points-root : PointsTo table root path place → path_root path ≡ root
   points-root to =
