@@ -7,7 +7,6 @@ use Rattle.bforest_core.proofs.rows.Bounds.{leaves-few, depth}
 use Rattle.bforest_core.proofs.walks.Descent.{some_leaf}
 use Rattle.bforest_core.proofs.union.Unions.{is-rooted}
 use Rattle.bforest_core.proofs.walks.Standing.{under-root}
-use Rattle.bforest_core.proofs.pool.NodePool.levels.Given.{Over}
 use Rattle.bforest_core.proofs.pool.NodePool.levels.Goals as goal
 
 -- the leaves are a level, too
@@ -20,12 +19,10 @@ levels_from-requires g c =
     let u = under-root g.row.N c.args.self.now c.args.root c.requires.union c.requires.root in
     (search rules, (c.requires.union.1.capacity, (tree.leaves, tree.above, u.first, [], u.under, omega (arith, u.low))))
 
--- one level more than there are above the leaves
-levels_are : (g : Over) (c : goal.After-levels_from g) → c.levels_from.result ≡ length (tree_of c.args.self.now.nodes c.args.root).above + 1
-levels_are g c = let u = under-root g.row.N c.args.self.now c.args.root c.requires.union c.requires.root in c.levels_from.ensures _ _ u.first [] u.under
-
 pub returns-clause-value : goal.returns-clause-value
-returns-clause-value g c = count_is (tree_of c.args.self.now.nodes c.args.root) _ (levels_are g c)
+returns-clause-value g c =
+    let u = under-root g.row.N c.args.self.now c.args.root c.requires.union c.requires.root in
+    count_is (tree_of c.args.self.now.nodes c.args.root) _ (c.levels_from.ensures _ _ u.first [] u.under)
 
 pub returns-clause-leaves : goal.returns-clause-leaves
 returns-clause-leaves g c =
@@ -39,10 +36,13 @@ pub returns-clause-depth : goal.returns-clause-depth
 returns-clause-depth g c = λ two.
     let tree = tree_of c.args.self.now.nodes c.args.root in
     let w = is-rooted g.row.N c.args.self.now c.args.root c.requires.union c.requires.root in
-    let r = levels_are g c in
+    let u = under-root g.row.N c.args.self.now c.args.root c.requires.union c.requires.root in
+    let r = c.levels_from.ensures _ _ u.first [] u.under in
     let d = depth (half_of g.row.N) g.row.N (some_leaf _ c.requires.union.1.capacity) tree.leaves tree.above w.fit.leaves_fit w.fit.stacked w.fit.topped (omega (arith, r, two)) in
     let e : length tree.above - 1 ≡ c.levels_from.result - 2 = omega (arith, r) in
     subst (λ (z : ℕ). half_of g.row.N * 4 ^ z < length (flat tree.leaves)) e d
 
 pub returns-clause-most : goal.returns-clause-most
-returns-clause-most g c = let u = under-root g.row.N c.args.self.now c.args.root c.requires.union c.requires.root in omega (arith, levels_are g c, u.low)
+returns-clause-most g c =
+    let u = under-root g.row.N c.args.self.now c.args.root c.requires.union c.requires.root in
+    omega (arith, c.levels_from.ensures _ _ u.first [] u.under, u.low)
