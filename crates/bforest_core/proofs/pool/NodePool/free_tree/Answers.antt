@@ -1,12 +1,10 @@
 use Rattle.std.proofs.Common.{rules, arith}
 use Rattle.bforest_core.specs.Place.{numbers_of}
-use Rattle.bforest_core.specs.Removal.{GivesAll}
 use Rattle.bforest_core.specs.Trees.{tree_of}
 use Rattle.bforest_core.proofs.union.Account.{length-same, nodes-count}
 use Rattle.bforest_core.proofs.union.Roots.{uprooted-union}
 use Rattle.bforest_core.proofs.union.Unions.{rooted}
 use Rattle.bforest_core.proofs.walks.Standing.{under-root}
-use Rattle.bforest_core.proofs.pool.NodePool.free_tree.Given.{Over}
 use Rattle.bforest_core.proofs.pool.NodePool.free_tree.Goals as goal
 
 pub free_below-requires : goal.free_below-requires
@@ -16,20 +14,16 @@ free_below-requires g c =
     let r = rooted g.row.N c.args.self.now c.args.root c.requires.union c.requires.root in
     (search rules, (c.requires.union.1.capacity, (tree.leaves, tree.above, u.first, u.under, r.apart, omega (arith, u.low))))
 
--- all nodes under the root were given back
-freed : (g : Over) (c : goal.After-free_below g) → GivesAll c.args.self.now c.free_below.new.self (numbers_of (tree_of c.args.self.now.nodes c.args.root))
-freed g c =
-    let u = under-root g.row.N c.args.self.now c.args.root c.requires.union c.requires.root in
-    c.free_below.ensures.freed _ _ u.first u.under (rooted g.row.N c.args.self.now c.args.root c.requires.union c.requires.root).apart
-
 pub returns-clause-ended : goal.returns-clause-ended
 returns-clause-ended g c =
-    let all = freed g c in
+    let u = under-root g.row.N c.args.self.now c.args.root c.requires.union c.requires.root in
+    let all = c.free_below.ensures.freed _ _ u.first u.under (rooted g.row.N c.args.self.now c.args.root c.requires.union c.requires.root).apart in
     let gone = uprooted-union g.row.N c.args.self.now c.free_below.new.self c.args.root all.given c.requires.union c.requires.root all.frees.chain_is all.frees.freed_are all.frees.slots_are all.counted all.frees.others in
     record { union = gone.0; root_gone = gone.1; others = gone.2; limit_is = all.frees.limit_is }
 
 pub returns-clause-account : goal.returns-clause-account
 returns-clause-account g c =
     let tree = tree_of c.args.self.now.nodes c.args.root in
-    let all = freed g c in
+    let u = under-root g.row.N c.args.self.now c.args.root c.requires.union c.requires.root in
+    let all = c.free_below.ensures.freed _ _ u.first u.under (rooted g.row.N c.args.self.now c.args.root c.requires.union c.requires.root).apart in
     record { given = all.given; chain_is = all.frees.chain_is; slots = all.frees.slots_are; count_is = omega (arith, length-same all.given (numbers_of tree) all.counted, nodes-count tree) }
