@@ -7,7 +7,6 @@ pub mod Parted
 pub mod Insertion
 pub mod Renew
 pub mod LeafSpot
-pub mod LeafHalving
 pub mod LeafParted
 pub mod HalvingLeaf
 pub mod HalvingNode

@@ -1,227 +1,248 @@
--- A full node that is halved, with a new child in one half.
-use Rattle.std.proofs.Common.{◌≡◌, ℕ, ◌-◌, ◌≤◌, ◌<◌, ◌≢◌, nat_lt, if◌then◌else◌, List, [], ◌∷◌, ◌++◌, length, drop, get_or, slice_get, Some, refl, sym, ap, ◌∙◌, subst, append_assoc, length-append, arith}
+-- A full node that is halved, with a new entry in one half.
+use Rattle.std.proofs.Common.{◌≡◌, ℕ, suc, ◌+◌, ◌-◌, ◌/◌, ◌≤◌, ◌<◌, ◌≢◌, nat_le, true, false, if◌then◌else◌, List, [], ◌∷◌, ◌++◌, length, slice_get, Some, refl, sym, ap, ◌∙◌, subst, append_assoc, length-append, length-set, arith}
 use Rattle.bforest_nodes.specs.declared.node.SplitOff.{SplitOff}
-use Rattle.bforest_nodes.specs.Content.{Content, IsCut, left_half, with_child}
+use Rattle.bforest_nodes.specs.Content.{Content, IsCut, IsLeafCapacity, left_half, with_child, with_entry}
 use Rattle.bforest_core.specs.Table.{Table, with_node, with_front, front_of, IsUsed, IsFullAt, IsSplitAt}
-use Rattle.bforest_core.specs.Levels.{LevelNode, head_of}
-use Rattle.bforest_core.specs.Place.{inner_content, entry_keys, count}
-use Rattle.std.proofs.Common.{length-set}
-use Rattle.bforest_core.proofs.rows.LevelRows.{head-is}
-use Rattle.bforest_core.proofs.table.Tables.{count-same, is_used, puts, Takes, takes, length-with_front}
-use Rattle.bforest_core.proofs.rows.Zipper.{cut, Spot}
-use Rattle.bforest_core.proofs.insertion.Grow.{head-grown, halves_left, halves_right}
-use Rattle.bforest_core.proofs.table.Stored.{inner_cuts, some_same, with_child_is, key_count, item_count}
+use Rattle.bforest_core.specs.Levels.{half_of, head_of}
+use Rattle.bforest_core.specs.Place.{inner_content, leaf_content, count}
+use Rattle.bforest_core.proofs.table.Tables.{count-same, is_used, puts, takes, length-with_front}
+use Rattle.bforest_core.proofs.table.Stored.{Parts, inner_cuts, leaf_cuts, some_same, with_child_is, with_entry_is, item_count}
+use Rattle.bforest_core.proofs.rows.Zipper.{cut}
+use Rattle.bforest_core.proofs.insertion.Grow.{head-grown}
+use Rattle.bforest_core.proofs.insertion.LeafSpot.{keys_count}
 
--- a list that is cut behind one of its elements
-record Early {A : Type 0} (p : List A) (q : List A) (l : List A) (x : A) (r : List A) : Type 0 where
+-- two ways to cut one list
+record Between {A : Type 0} (p q l r : List A) : Type 0 where
   pub mid : List A
-  pub p_is : p ≡ l ++ x ∷ mid
+  pub p_is : p ≡ l ++ mid
   pub r_is : r ≡ mid ++ q
 
-early : {A : Type 0} (p q l : List A) (x : A) (r : List A) → p ++ q ≡ l ++ x ∷ r → length l < length p → Early p q l x r
-early [] q l x r e low = absurd (omega arith)
-early (y ∷ p) q [] x r e low =
-    let h : y ≡ x = cc in
-    record { mid = p; p_is = ap (λ z. z ∷ p) h; r_is = (let t : p ++ q ≡ r = cc in sym t) }
-early (y ∷ p) q (z ∷ l) x r e low =
+between : {A : Type 0} (p q l r : List A) → p ++ q ≡ l ++ r → length l ≤ length p → Between p q l r
+between p q [] r e low = record { mid = p; p_is = refl; r_is = sym e }
+between [] q (z ∷ l) r e low = absurd (omega arith)
+between (y ∷ p) q (z ∷ l) r e low =
     let h : y ≡ z = cc in
-    let t : p ++ q ≡ l ++ x ∷ r = cc in
-    let w = early p q l x r t (omega arith) in
+    let t : p ++ q ≡ l ++ r = cc in
+    let w = between p q l r t (omega arith) in
     record { mid = w.mid; p_is = ap (λ v. v ∷ p) h ∙ ap (λ v. z ∷ v) w.p_is; r_is = w.r_is }
-
--- or before it
-record Late {A : Type 0} (p : List A) (q : List A) (l : List A) (x : A) (r : List A) : Type 0 where
-  pub mid : List A
-  pub l_is : l ≡ p ++ mid
-  pub q_is : q ≡ mid ++ x ∷ r
-
-late : {A : Type 0} (p q l : List A) (x : A) (r : List A) → p ++ q ≡ l ++ x ∷ r → length p ≤ length l → Late p q l x r
-late [] q l x r e low = record { mid = l; l_is = refl; q_is = e }
-late (y ∷ p) q [] x r e low = absurd (omega arith)
-late (y ∷ p) q (z ∷ l) x r e low =
-    let h : y ≡ z = cc in
-    let t : p ++ q ≡ l ++ x ∷ r = cc in
-    let w = late p q l x r t (omega arith) in
-    record { mid = w.mid; l_is = ap (λ v. z ∷ v) w.l_is ∙ ap (λ v. v ∷ (p ++ w.mid)) (sym h); q_is = w.q_is }
 
 same_head : {A : Type 0} (p q : A) (xs ys : List A) → p ∷ xs ≡ q ∷ ys → p ≡ q
 same_head p q xs ys e = cc
 
-same_first : {K : Type 0} (j k : K) (n : ℕ) → ◌≡◌ {A = List (K × ℕ)} ((j, n) ∷ []) ((k, n) ∷ []) → j ≡ k
-same_first {K} j k n e = ap (λ z. z.0) (same_head {A = K × ℕ} (j, n) (k, n) [] [] e)
+-- how many entries stay in the left half
+pub stay_low : (cap e : ℕ) → e ≤ cap / 2 → (if nat_le e (cap / 2) then cap / 2 else (cap + 1) / 2) ≡ cap / 2
+stay_low cap e h = let a : nat_le e (cap / 2) ≡ true = grind arith in rw a refl
 
-module _ {K V : Type 0} where
-  -- a full node in two slots
-  pub record Split (t s : Table K V) (n right : ℕ) (es : List (K × ℕ)) (key : K) : Type 0 where
-    pub z : K × ℕ
-    pub zs : List (K × ℕ)
-    pub y : K × ℕ
-    pub ys : List (K × ℕ)
-    pub es_is : es ≡ (z ∷ zs) ++ y ∷ ys
-    pub four : length (z ∷ zs) ≡ 4
-    pub key_is : key ≡ y.0
+pub stay_high : (cap e : ℕ) → cap / 2 < e → (if nat_le e (cap / 2) then cap / 2 else (cap + 1) / 2) ≡ (cap + 1) / 2
+stay_high cap e h = let a : nat_le e (cap / 2) ≡ false = grind arith in rw a refl
+
+-- halves of an odd capacity
+pub record Odd (cap : ℕ) : Type 0 where
+  pub half : ℕ
+  pub some : 1 ≤ half
+  pub cap_is : cap ≡ half + suc half
+  pub low_is : cap / 2 ≡ half
+  pub high_is : half_of cap ≡ suc half
+
+pub odd : (cap : ℕ) → IsLeafCapacity cap → Odd cap
+odd cap c =
+    let least = c.least in
+    let one = c.odd in
+    record {
+      half = cap / 2;
+      some = omega (arith, least);
+      cap_is = omega (arith, one);
+      low_is = refl;
+      high_is = omega (arith, one);
+    }
+
+module _ {K V X : Type 0} (content : List (K × X) → Content K V) where
+  -- two nodes, of which the right one is in what was the front of the chain
+  pub record Two (t u : Table K V) (n right : ℕ) (lefts rights : List (K × X)) : Type 0 where
     pub ne : n ≢ right
-    pub here : slice_get s.nodes n ≡ Some (inner_content (z ∷ zs))
-    pub there : slice_get s.nodes right ≡ Some (inner_content (y ∷ ys))
-    pub same : (m : ℕ) → m ≢ n → m ≢ right → slice_get s.nodes m ≡ slice_get t.nodes m
-    pub chain_is : t.chain ≡ right ∷ s.chain
-    pub slots_are : length s.nodes ≡ length t.nodes
-    pub limit_is : s.limit ≡ t.limit
-
-  split_cut : (t s : Table K V) (n right : ℕ) (es : List (K × ℕ)) (key : K) (left_part right_part : Content K V) (l : List (K × ℕ)) (y : K × ℕ) (ys : List (K × ℕ)) → es ≡ l ++ y ∷ ys → length l ≡ 4 → slice_get t.nodes n ≡ Some (inner_content es) → n ≢ right →
-      IsCut (inner_content es) 4 left_part key right_part → Takes t (with_front t t.chain right_part) right right_part → s ≡ with_node (with_front t t.chain right_part) n left_part → Split t s n right es key
-  split_cut t s n right es key left_part right_part [] y ys es_is four was ne c w after = absurd (omega (arith, four))
-  split_cut t s n right es key left_part right_part (z ∷ zs) y ys es_is four was ne c w after =
-      let p = inner_cuts V z zs y ys 4 left_part right_part key four (subst (λ (v : List (K × ℕ)). IsCut (inner_content v) 4 left_part key right_part) es_is c) in
-      let mid = with_front t t.chain right_part in
-      let found : slice_get mid.nodes n ≡ Some (inner_content es) = w.same n ne ∙ was in
-      let put = puts mid s n left_part (inner_content es) found after in
-      record {
-        z = z;
-        zs = zs;
-        y = y;
-        ys = ys;
-        es_is = es_is;
-        four = four;
-        key_is = p.key_is;
-        ne = ne;
-        here = put.here ∙ ap Some p.left_is;
-        there = put.same right (λ (e : right ≡ n). ne (sym e)) ∙ w.here ∙ ap Some p.right_is;
-        same = λ m a b. put.same m a ∙ w.same m b;
-        chain_is = w.chain_is ∙ ap (λ v. right ∷ v) (sym put.chain_is);
-        slots_are = put.slots_are ∙ w.slots_are;
-        limit_is = put.limit_is ∙ w.limit_is;
-      }
-
-  pub split_at : (cap : ℕ) (t s : Table K V) (n right e : ℕ) (es : List (K × ℕ)) (parts : SplitOff K) → slice_get t.nodes n ≡ Some (inner_content es) → length es ≡ 8 → count n t.chain ≡ 0 → front_of t.chain ≡ Some right → right < length s.nodes →
-      IsSplitAt cap t n e parts s → Split t s n right es parts.crit_key
-  split_at cap t s n right e es parts was eight none front low sp =
-      let whole_is : sp.whole ≡ inner_content es = some_same sp.whole (inner_content es) (sym sp.was ∙ was) in
-      let four : parts.lhs_entries ≡ 4 = sp.counted ∙ ap (λ v. left_half cap v e) whole_is in
-      let c1 = subst (λ (v : Content K V). IsCut v parts.lhs_entries sp.left_half_is parts.crit_key sp.right_half_is) whole_is sp.cut in
-      let c2 = subst (λ (v : ℕ). IsCut (inner_content es) v sp.left_half_is parts.crit_key sp.right_half_is) four c1 in
-      let mid = with_front t t.chain sp.right_half_is in
-      let size : length s.nodes ≡ length t.nodes = ap (λ v. length v.nodes) sp.after ∙ length-set mid.nodes n sp.left_half_is ∙ length-with_front t t.chain sp.right_half_is in
-      let w = takes t mid right sp.right_half_is front refl (omega (arith, low, size)) in
-      let ne : n ≢ right = λ (v : n ≡ right). let h = ap (λ k. count k t.chain) v in omega (arith, h, none, ap (λ k. count right k) w.chain_is, count-same right mid.chain) in
-      let c = cut es 4 (omega (arith, eight)) in
-      split_cut t s n right es parts.crit_key sp.left_half_is sp.right_half_is c.l c.x c.r c.es_is c.place_is was ne c2 w sp.after
-
-  -- the halves, with one child more
-  pub record Halves (t u : Table K V) (n right : ℕ) (middle : K) (es grown : List (K × ℕ)) (e : ℕ) : Type 0 where
-    pub z : K × ℕ
-    pub xs : List (K × ℕ)
-    pub y : K × ℕ
-    pub ys : List (K × ℕ)
-    pub grown_is : grown ≡ (z ∷ xs) ++ y ∷ ys
-    pub left_least : 4 ≤ length (z ∷ xs)
-    pub left_most : length (z ∷ xs) ≤ 5
-    pub right_least : 4 ≤ length (y ∷ ys)
-    pub right_most : length (y ∷ ys) ≤ 5
-    pub left_early : e < 4 → length (z ∷ xs) ≡ 5
-    pub left_late : 4 ≤ e → length (z ∷ xs) ≡ 4
-    pub counts_are : (after : List ℕ) → (if nat_lt e 4 then 5 ∷ 4 ∷ after else 4 ∷ 5 ∷ after) ≡ length (z ∷ xs) ∷ length (y ∷ ys) ∷ after
-    pub first_is : head_of n es ≡ (z.0, n) ∷ []
-    pub middle_is : middle ≡ y.0
-    pub here : slice_get u.nodes n ≡ Some (inner_content (z ∷ xs))
-    pub there : slice_get u.nodes right ≡ Some (inner_content (y ∷ ys))
+    pub here : slice_get u.nodes n ≡ Some (content lefts)
+    pub there : slice_get u.nodes right ≡ Some (content rights)
     pub same : (m : ℕ) → m ≢ n → m ≢ right → slice_get u.nodes m ≡ slice_get t.nodes m
     pub chain_is : t.chain ≡ right ∷ u.chain
     pub slots_are : length u.nodes ≡ length t.nodes
     pub limit_is : u.limit ≡ t.limit
 
-  -- the child went into the left half
-  pub halves_early : (t s u : Table K V) (n right e : ℕ) (l : List (K × ℕ)) (x : K × ℕ) (r : List (K × ℕ)) (middle key : K) (child : ℕ) → length l ≡ e → e < 4 → length (l ++ x ∷ r) ≡ 8 → (sp : Split t s n right (l ++ x ∷ r) middle) →
-      u ≡ with_node s n (with_child (inner_content (sp.z ∷ sp.zs)) e key child) → Halves t u n right middle (l ++ x ∷ r) (l ++ x ∷ (key, child) ∷ r) e
-  halves_early t s u n right e l x r middle key child l_is low eight sp after =
-      let w = early (sp.z ∷ sp.zs) (sp.y ∷ sp.ys) l x r (sym sp.es_is) (omega (arith, l_is, low, sp.four)) in
-      let lefts : List (K × ℕ) = l ++ x ∷ (key, child) ∷ w.mid in
-      let len : length lefts ≡ 5 = omega (arith, length-append l (x ∷ (key, child) ∷ w.mid), length-append l (x ∷ w.mid), ap length w.p_is, sp.four) in
-      let len2 : length (sp.y ∷ sp.ys) ≡ 4 = omega (arith, eight, ap length sp.es_is, length-append (sp.z ∷ sp.zs) (sp.y ∷ sp.ys), sp.four) in
-      let after2 : u ≡ with_node s n (inner_content lefts) = after ∙ ap (λ v. with_node s n (with_child (inner_content v) e key child)) w.p_is ∙ ap (λ v. with_node s n v) (with_child_is V l x w.mid key child e l_is) in
-      let put = puts s u n (inner_content lefts) (inner_content (sp.z ∷ sp.zs)) sp.here after2 in
-      let h = head-is n lefts (omega (arith, len)) in
-      let len3 : length (h.first ∷ h.others) ≡ 5 = ap length (sym h.es_is) ∙ len in
-      record {
-        z = h.first;
-        xs = h.others;
-        y = sp.y;
-        ys = sp.ys;
-        grown_is = ap (λ v. l ++ x ∷ (key, child) ∷ v) w.r_is ∙ sym (append_assoc l (x ∷ (key, child) ∷ w.mid) (sp.y ∷ sp.ys)) ∙ ap (λ v. v ++ sp.y ∷ sp.ys) h.es_is;
-        left_least = omega (arith, len3);
-        left_most = omega (arith, len3);
-        right_least = omega (arith, len2);
-        right_most = omega (arith, len2);
-        left_early = λ early_e. len3;
-        left_late = λ late_e. absurd (omega (arith, late_e, low));
-        counts_are = λ after_sizes. halves_left e (length (h.first ∷ h.others)) (length (sp.y ∷ sp.ys)) after_sizes low len3 len2;
-        first_is = head-grown n l x r ((key, child) ∷ w.mid) ∙ ap (λ v. head_of n v) h.es_is;
-        middle_is = sp.key_is;
-        here = put.here ∙ ap (λ v. Some (inner_content v)) h.es_is;
-        there = put.same right (λ (v : right ≡ n). sp.ne (sym v)) ∙ sp.there;
-        same = λ m a b. put.same m a ∙ sp.same m a b;
-        chain_is = sp.chain_is ∙ ap (λ v. right ∷ v) (sym put.chain_is);
-        slots_are = put.slots_are ∙ sp.slots_are;
-        limit_is = put.limit_is ∙ sp.limit_is;
-      }
+  -- a full node in two slots
+  pub record Split (t s : Table K V) (n right left_count : ℕ) (es : List (K × X)) (key : K) : Type 0 where
+    pub zs : List (K × X)
+    pub y : K × X
+    pub ys : List (K × X)
+    pub es_is : es ≡ zs ++ y ∷ ys
+    pub count_is : length zs ≡ left_count
+    pub key_is : key ≡ y.0
+    pub two : Two t s n right zs (y ∷ ys)
 
-  -- or into the right one
-  pub halves_late : (t s u : Table K V) (n right e : ℕ) (l : List (K × ℕ)) (x : K × ℕ) (r : List (K × ℕ)) (middle key : K) (child : ℕ) → length l ≡ e → 4 ≤ e → length (l ++ x ∷ r) ≡ 8 → (sp : Split t s n right (l ++ x ∷ r) middle) →
-      u ≡ with_node s right (with_child (inner_content (sp.y ∷ sp.ys)) (e - 4) key child) → Halves t u n right middle (l ++ x ∷ r) (l ++ x ∷ (key, child) ∷ r) e
-  halves_late t s u n right e l x r middle key child l_is high eight sp after =
-      let w = late (sp.z ∷ sp.zs) (sp.y ∷ sp.ys) l x r (sym sp.es_is) (omega (arith, l_is, high, sp.four)) in
-      let rights : List (K × ℕ) = w.mid ++ x ∷ (key, child) ∷ r in
-      let mid_is : length w.mid ≡ e - 4 = omega (arith, l_is, ap length w.l_is, length-append (sp.z ∷ sp.zs) w.mid, sp.four) in
-      let len : length rights ≡ 5 = omega (arith, length-append w.mid (x ∷ (key, child) ∷ r), length-append w.mid (x ∷ r), ap length w.q_is, eight, ap length sp.es_is, length-append (sp.z ∷ sp.zs) (sp.y ∷ sp.ys), sp.four) in
-      let after2 : u ≡ with_node s right (inner_content rights) = after ∙ ap (λ v. with_node s right (with_child (inner_content v) (e - 4) key child)) w.q_is ∙ ap (λ v. with_node s right v) (with_child_is V w.mid x r key child (e - 4) mid_is) in
-      let put = puts s u right (inner_content rights) (inner_content (sp.y ∷ sp.ys)) sp.there after2 in
-      let h = head-is right rights (omega (arith, len)) in
-      let len3 : length (h.first ∷ h.others) ≡ 5 = ap length (sym h.es_is) ∙ len in
-      let heads_are : ◌≡◌ {A = List (K × ℕ)} ((sp.y.0, right) ∷ []) ((h.first.0, right) ∷ []) = ap (λ v. head_of right v) w.q_is ∙ head-grown right w.mid x r ((key, child) ∷ r) ∙ ap (λ v. head_of right v) h.es_is in
-      let first_same : sp.y.0 ≡ h.first.0 = same_first sp.y.0 h.first.0 right heads_are in
-      record {
-        z = sp.z;
-        xs = sp.zs;
-        y = h.first;
-        ys = h.others;
-        grown_is = ap (λ v. v ++ x ∷ (key, child) ∷ r) w.l_is ∙ append_assoc (sp.z ∷ sp.zs) w.mid (x ∷ (key, child) ∷ r) ∙ ap (λ v. (sp.z ∷ sp.zs) ++ v) h.es_is;
-        left_least = omega (arith, sp.four);
-        left_most = omega (arith, sp.four);
-        right_least = omega (arith, len3);
-        right_most = omega (arith, len3);
-        left_early = λ early_e. absurd (omega (arith, early_e, high));
-        left_late = λ late_e. sp.four;
-        counts_are = λ after_sizes. halves_right e (length (sp.z ∷ sp.zs)) (length (h.first ∷ h.others)) after_sizes high sp.four len3;
-        first_is = ap (λ v. head_of n v) sp.es_is;
-        middle_is = sp.key_is ∙ first_same;
-        here = put.same n sp.ne ∙ sp.here;
-        there = put.here ∙ ap (λ v. Some (inner_content v)) h.es_is;
-        same = λ m a b. put.same m b ∙ sp.same m a b;
-        chain_is = sp.chain_is ∙ ap (λ v. right ∷ v) (sym put.chain_is);
-        slots_are = put.slots_are ∙ sp.slots_are;
-        limit_is = put.limit_is ∙ sp.limit_is;
-      }
+  -- the halves, with one entry more
+  pub record Halves (t u : Table K V) (n right : ℕ) (middle : K) (grown : List (K × X)) (left_count right_count : ℕ) : Type 0 where
+    pub z : K × X
+    pub xs : List (K × X)
+    pub y : K × X
+    pub ys : List (K × X)
+    pub grown_is : grown ≡ (z ∷ xs) ++ y ∷ ys
+    pub left_is : length (z ∷ xs) ≡ left_count
+    pub right_is : length (y ∷ ys) ≡ right_count
+    pub middle_is : middle ≡ y.0
+    pub two : Two t u n right (z ∷ xs) (y ∷ ys)
+
+  -- how a node of this kind is cut behind so many entries
+  abbrev pub Cuts : ℕ → Type 0
+  Cuts q = (zs : List (K × X)) (y : K × X) (ys : List (K × X)) (left right : Content K V) (key : K) → length zs ≡ q → IsCut (content (zs ++ y ∷ ys)) q left key right → Parts content zs y ys left right key
+
+  module _ (cap : ℕ) (t s : Table K V) (n e : ℕ) (es : List (K × X)) (parts : SplitOff K) (was : slice_get t.nodes n ≡ Some (content es)) (sp : IsSplitAt cap t n e parts s) where
+    whole_is : sp.whole ≡ content es
+    whole_is = some_same sp.whole (content es) (sym sp.was ∙ was)
+
+    -- how many entries the left half has
+    pub counted : parts.lhs_entries ≡ left_half cap (content es) e
+    counted = sp.counted ∙ ap (λ v. left_half cap v e) whole_is
+
+    -- what `split_node` leaves of the node
+    pub split_at : (right : ℕ) → Cuts parts.lhs_entries → parts.lhs_entries < length es → count n t.chain ≡ 0 → front_of t.chain ≡ Some right → right < length s.nodes → Split t s n right parts.lhs_entries es parts.crit_key
+    split_at right cuts less none front low =
+        let c = cut es parts.lhs_entries less in
+        let p = cuts c.l c.x c.r sp.left_half_is sp.right_half_is parts.crit_key c.place_is (subst (λ (v : Content K V). IsCut v parts.lhs_entries sp.left_half_is parts.crit_key sp.right_half_is) (whole_is ∙ ap content c.es_is) sp.cut) in
+        let mid = with_front t t.chain sp.right_half_is in
+        let size : length s.nodes ≡ length t.nodes = ap (λ v. length v.nodes) sp.after ∙ length-set mid.nodes n sp.left_half_is ∙ length-with_front t t.chain sp.right_half_is in
+        let w = takes t mid right sp.right_half_is front refl (omega (arith, low, size)) in
+        let ne : n ≢ right = λ (v : n ≡ right). let h = ap (λ k. count k t.chain) v in omega (arith, h, none, ap (λ k. count right k) w.chain_is, count-same right mid.chain) in
+        let put = puts mid s n sp.left_half_is (content es) (w.same n ne ∙ was) sp.after in
+        record {
+          zs = c.l;
+          y = c.x;
+          ys = c.r;
+          es_is = c.es_is;
+          count_is = c.place_is;
+          key_is = p.key_is;
+          two = record {
+            ne = ne;
+            here = put.here ∙ ap Some p.left_is;
+            there = put.same right (λ (e : right ≡ n). ne (sym e)) ∙ w.here ∙ ap Some p.right_is;
+            same = λ m a b. put.same m a ∙ w.same m b;
+            chain_is = w.chain_is ∙ ap (λ v. right ∷ v) (sym put.chain_is);
+            slots_are = put.slots_are ∙ w.slots_are;
+            limit_is = put.limit_is ∙ w.limit_is;
+          };
+        }
+
+  module _ (t s u : Table K V) (n right : ℕ) (lefts rights : List (K × X)) (w : Two t s n right lefts rights) where
+    -- the left one is in use
+    pub left_used : count n t.chain ≡ 0 → IsUsed s n
+    left_used none = is_used s n (content lefts) w.here (omega (arith, none, ap (λ k. count n k) w.chain_is))
+
+    -- it was written
+    left_put : (more : List (K × X)) → u ≡ with_node s n (content more) → Two t u n right more rights
+    left_put more after =
+        let put = puts s u n (content more) (content lefts) w.here after in
+        record {
+          ne = w.ne;
+          here = put.here;
+          there = put.same right (λ (v : right ≡ n). w.ne (sym v)) ∙ w.there;
+          same = λ m a b. put.same m a ∙ w.same m a b;
+          chain_is = w.chain_is ∙ ap (λ v. right ∷ v) (sym put.chain_is);
+          slots_are = put.slots_are ∙ w.slots_are;
+          limit_is = put.limit_is ∙ w.limit_is;
+        }
+
+    -- or the right one
+    right_put : (more : List (K × X)) → u ≡ with_node s right (content more) → Two t u n right lefts more
+    right_put more after =
+        let put = puts s u right (content more) (content rights) w.there after in
+        record {
+          ne = w.ne;
+          here = put.same n w.ne ∙ w.here;
+          there = put.here;
+          same = λ m a b. put.same m b ∙ w.same m a b;
+          chain_is = w.chain_is ∙ ap (λ v. right ∷ v) (sym put.chain_is);
+          slots_are = put.slots_are ∙ w.slots_are;
+          limit_is = put.limit_is ∙ w.limit_is;
+        }
+
+  -- two nodes as halves
+  halves : (t u : Table K V) (n right : ℕ) (middle : K) (grown lefts rights : List (K × X)) (left_count right_count : ℕ) → grown ≡ lefts ++ rights → length lefts ≡ left_count → length rights ≡ right_count → 1 ≤ left_count → head_of right rights ≡ (middle, right) ∷ [] → Two t u n right lefts rights → Halves t u n right middle grown left_count right_count
+  halves t u n right middle grown [] rights left_count right_count is left_is right_is some head w = absurd (omega (arith, left_is, some))
+  halves t u n right middle grown (z ∷ xs) [] left_count right_count is left_is right_is some head w = absurd cc
+  halves t u n right middle grown (z ∷ xs) (y ∷ ys) left_count right_count is left_is right_is some head w =
+      record { z = z; xs = xs; y = y; ys = ys; grown_is = is; left_is = left_is; right_is = right_is; middle_is = ap (λ v. v.0) (sym (same_head (y.0, right) (middle, right) [] [] head)); two = w }
+
+module _ {K V : Type 0} where
+  -- a full leaf has so many entries
+  pub leaf_full_is : (cap : ℕ) (nodes : List (Content K V)) (n : ℕ) (es : List (K × V)) → slice_get nodes n ≡ Some (leaf_content es) → IsFullAt cap nodes n → length es ≡ cap
+  leaf_full_is cap nodes n es was full = let w = rw was at full in sym (keys_count es) ∙ w.1
 
   -- a full node has 8 children
   pub full_is : (cap : ℕ) (nodes : List (Content K V)) (n : ℕ) (es : List (K × ℕ)) → slice_get nodes n ≡ Some (inner_content es) → IsFullAt cap nodes n → length es ≡ 8
   full_is cap nodes n es was full = let w = rw was at full in sym (item_count es) ∙ w.1
 
-  -- what `split_node` leaves of the path's node
-  pub split_spot : (cap : ℕ) (t s : Table K V) (ms js : List ℕ) (up size : ℕ) (rows : List (List (LevelNode K ℕ))) (a : List (K × ℕ)) (x : K × ℕ) (b : List (K × ℕ)) (n right : ℕ) (parts : SplitOff K) → (d : Spot t ms js up size rows a x b) → n ≡ get_or ms up 0 → IsFullAt cap t.nodes (get_or ms up 0) →
-      front_of t.chain ≡ Some right → IsUsed s right → IsSplitAt cap t n (get_or js up 0) parts s → Split t s (get_or ms up 0) right (d.q.l ++ x ∷ d.q.r) parts.crit_key
-  split_spot cap t s ms js up size rows a x b n right parts d here full front used sp =
-      split_at cap t s (get_or ms up 0) right (get_or js up 0) (d.q.l ++ x ∷ d.q.r) parts d.f.slot_is (full_is cap t.nodes (get_or ms up 0) (d.q.l ++ x ∷ d.q.r) d.f.slot_is full) d.f.none_chain front used.within (rw here at sp)
+  -- how a leaf is cut, and an inner node
+  pub leaf_parts : (q : ℕ) → Cuts {K = K} {V = V} leaf_content q
+  leaf_parts q zs y ys left right key e c = leaf_cuts V zs y ys q left right key e c
 
-  -- the left half is in use, and has a place for each of its children
-  pub left_asks : (t s : Table K V) (n right e : ℕ) (es : List (K × ℕ)) (key : K) → (sp : Split t s n right es key) → count n t.chain ≡ 0 → e < 4 → IsUsed s n × (slice_get s.nodes n ≡ Some (inner_content (sp.z ∷ sp.zs))) × (e ≤ length (drop 1 (entry_keys (sp.z ∷ sp.zs))))
-  left_asks t s n right e es key sp none low = (
-    is_used s n (inner_content (sp.z ∷ sp.zs)) sp.here (omega (arith, none, ap (λ k. count n k) sp.chain_is)),
-    sp.here,
-    omega (arith, key_count (sp.z ∷ sp.zs), sp.four, low),
-  )
+  pub inner_parts : (q : ℕ) → 1 ≤ q → Cuts {K = K} {V = V} inner_content q
+  inner_parts q some [] y ys left right key e c = absurd (omega (arith, e, some))
+  inner_parts q some (z ∷ zs) y ys left right key e c = inner_cuts V z zs y ys q left right key e c
 
-  -- so has the right one
-  pub right_asks : (t s : Table K V) (n right e : ℕ) (es : List (K × ℕ)) (key : K) → (sp : Split t s n right es key) → length es ≡ 8 → e < 8 → (slice_get s.nodes right ≡ Some (inner_content (sp.y ∷ sp.ys))) × (e - 4 ≤ length (drop 1 (entry_keys (sp.y ∷ sp.ys)))) × (length (sp.y ∷ sp.ys) ≡ 4)
-  right_asks t s n right e es key sp eight low =
-      let four : length (sp.y ∷ sp.ys) ≡ 4 = omega (arith, eight, ap length sp.es_is, length-append (sp.z ∷ sp.zs) (sp.y ∷ sp.ys), sp.four) in
-      (sp.there, omega (arith, key_count (sp.y ∷ sp.ys), four, low), four)
+  -- the first key of the right half, with the entry
+  middle_key : (right : ℕ) (mid : List (K × V)) (entry : K × V) (r : List (K × V)) (y : K × V) (ys : List (K × V)) (first : K) → y ∷ ys ≡ mid ++ r → (length mid ≡ 0 → first ≡ entry.0) → (0 < length mid → first ≡ y.0) → head_of right (mid ++ entry ∷ r) ≡ (first, right) ∷ []
+  middle_key right [] entry r y ys first q_is zero more = ap (λ v. (v, right) ∷ []) (sym (zero refl))
+  middle_key right (m ∷ mid) entry r y ys first q_is zero more = ap (λ v. (v, right) ∷ []) (sym (more (omega arith) ∙ ap (λ v. v.0) (same_head y m ys (mid ++ r) q_is)))
+
+  module _ (cap : ℕ) (t s u : Table K V) (n right q e : ℕ) (l r : List (K × V)) (middle key : K) (value : V) (o : Odd cap) (l_is : length l ≡ e) (full : length (l ++ r) ≡ cap) (sp : Split leaf_content t s n right q (l ++ r) middle) where
+    -- the entry went into the leaf's left half
+    pub leaf_halves_early : e ≤ cap / 2 → q ≡ cap / 2 → u ≡ with_node s n (with_entry (leaf_content sp.zs) e key value) → Halves leaf_content t u n right middle (l ++ (key, value) ∷ r) (half_of cap) (half_of cap)
+    leaf_halves_early low q_is after =
+        let w = between sp.zs (sp.y ∷ sp.ys) l r (sym sp.es_is) (omega (arith, l_is, low, sp.count_is, q_is)) in
+        let lefts : List (K × V) = l ++ (key, value) ∷ w.mid in
+        let half_is : length sp.zs ≡ o.half = sp.count_is ∙ q_is ∙ o.low_is in
+        let after2 : u ≡ with_node s n (leaf_content lefts) = after ∙ ap (λ v. with_node s n (with_entry (leaf_content v) e key value)) w.p_is ∙ ap (λ v. with_node s n v) (with_entry_is V l w.mid key value e l_is) in
+        halves leaf_content t u n right middle (l ++ (key, value) ∷ r) lefts (sp.y ∷ sp.ys) (half_of cap) (half_of cap)
+        (ap (λ v. l ++ (key, value) ∷ v) w.r_is ∙ sym (append_assoc l ((key, value) ∷ w.mid) (sp.y ∷ sp.ys)))
+        (omega (arith, length-append l ((key, value) ∷ w.mid), length-append l w.mid, ap length w.p_is, half_is, o.high_is))
+        (omega (arith, full, o.cap_is, ap length sp.es_is, length-append sp.zs (sp.y ∷ sp.ys), half_is, o.high_is))
+        (omega (arith, o.high_is)) (ap (λ v. (v, right) ∷ []) (sym sp.key_is)) (left_put leaf_content t s u n right sp.zs (sp.y ∷ sp.ys) sp.two lefts after2)
+
+    -- or into the right one
+    pub leaf_halves_late : (first : K) → cap / 2 < e → q ≡ half_of cap → (e - q ≡ 0 → first ≡ key) → (0 < e - q → first ≡ middle) → u ≡ with_node s right (with_entry (leaf_content (sp.y ∷ sp.ys)) (e - q) key value) → Halves leaf_content t u n right first (l ++ (key, value) ∷ r) (half_of cap) (half_of cap)
+    leaf_halves_late first high q_is zero more after =
+        let half_is : length sp.zs ≡ suc o.half = sp.count_is ∙ q_is ∙ o.high_is in
+        let w = between l r sp.zs (sp.y ∷ sp.ys) sp.es_is (omega (arith, l_is, high, half_is, o.low_is)) in
+        let rights : List (K × V) = w.mid ++ (key, value) ∷ r in
+        let mid_is : length w.mid ≡ e - q = omega (arith, l_is, ap length w.p_is, length-append sp.zs w.mid, sp.count_is) in
+        let after2 : u ≡ with_node s right (leaf_content rights) = after ∙ ap (λ v. with_node s right (with_entry (leaf_content v) (e - q) key value)) w.r_is ∙ ap (λ v. with_node s right v) (with_entry_is V w.mid r key value (e - q) mid_is) in
+        halves leaf_content t u n right first (l ++ (key, value) ∷ r) sp.zs rights (half_of cap) (half_of cap)
+        (ap (λ v. v ++ (key, value) ∷ r) w.p_is ∙ append_assoc sp.zs w.mid ((key, value) ∷ r)) (half_is ∙ sym o.high_is)
+        (omega (arith, length-append w.mid ((key, value) ∷ r), length-append w.mid r, ap length w.r_is, full, o.cap_is, ap length sp.es_is, length-append sp.zs (sp.y ∷ sp.ys), half_is, o.high_is))
+        (omega (arith, o.high_is)) (middle_key right w.mid (key, value) r sp.y sp.ys first w.r_is (λ none. zero (sym mid_is ∙ none)) (λ some. more (omega (arith, some, mid_is)) ∙ sp.key_is)) (right_put leaf_content t s u n right sp.zs (sp.y ∷ sp.ys) sp.two rights after2)
+
+  module _ (t s u : Table K V) (n right q e : ℕ) (l : List (K × ℕ)) (x : K × ℕ) (r : List (K × ℕ)) (middle key : K) (child : ℕ) (l_is : length l ≡ e) (eight : length (l ++ x ∷ r) ≡ 8) (four : q ≡ 4) (sp : Split {V = V} inner_content t s n right q (l ++ x ∷ r) middle) where
+    -- the right half has 4 children, too
+    pub right_four : length (sp.y ∷ sp.ys) ≡ 4
+    right_four = omega (arith, eight, ap length sp.es_is, length-append sp.zs (sp.y ∷ sp.ys), sp.count_is, four)
+
+    -- the child went into the inner node's left half
+    pub halves_early : e < 4 → u ≡ with_node s n (with_child (inner_content sp.zs) e key child) → Halves inner_content t u n right middle (l ++ x ∷ (key, child) ∷ r) 5 4
+    halves_early low after =
+        let w = between sp.zs (sp.y ∷ sp.ys) (l ++ x ∷ []) r (sym sp.es_is ∙ sym (append_assoc l (x ∷ []) r)) (omega (arith, l_is, low, sp.count_is, four, length-append l (x ∷ []))) in
+        let lefts : List (K × ℕ) = l ++ x ∷ (key, child) ∷ w.mid in
+        let zs_are : sp.zs ≡ l ++ x ∷ w.mid = w.p_is ∙ append_assoc l (x ∷ []) w.mid in
+        let after2 : u ≡ with_node s n (inner_content lefts) = after ∙ ap (λ v. with_node s n (with_child (inner_content v) e key child)) zs_are ∙ ap (λ v. with_node s n v) (with_child_is V l x w.mid key child e l_is) in
+        halves inner_content t u n right middle (l ++ x ∷ (key, child) ∷ r) lefts (sp.y ∷ sp.ys) 5 4
+        (ap (λ v. l ++ x ∷ (key, child) ∷ v) w.r_is ∙ sym (append_assoc l (x ∷ (key, child) ∷ w.mid) (sp.y ∷ sp.ys)))
+        (omega (arith, length-append l (x ∷ (key, child) ∷ w.mid), length-append l (x ∷ w.mid), ap length zs_are, sp.count_is, four))
+        right_four (omega arith) (ap (λ v. (v, right) ∷ []) (sym sp.key_is)) (left_put inner_content t s u n right sp.zs (sp.y ∷ sp.ys) sp.two lefts after2)
+
+    -- or into the right one
+    pub halves_late : 4 ≤ e → u ≡ with_node s right (with_child (inner_content (sp.y ∷ sp.ys)) (e - 4) key child) → Halves inner_content t u n right middle (l ++ x ∷ (key, child) ∷ r) 4 5
+    halves_late high after =
+        let w = between l (x ∷ r) sp.zs (sp.y ∷ sp.ys) sp.es_is (omega (arith, l_is, high, sp.count_is, four)) in
+        let rights : List (K × ℕ) = w.mid ++ x ∷ (key, child) ∷ r in
+        let mid_is : length w.mid ≡ e - 4 = omega (arith, l_is, ap length w.p_is, length-append sp.zs w.mid, sp.count_is, four) in
+        let after2 : u ≡ with_node s right (inner_content rights) = after ∙ ap (λ v. with_node s right (with_child (inner_content v) (e - 4) key child)) w.r_is ∙ ap (λ v. with_node s right v) (with_child_is V w.mid x r key child (e - 4) mid_is) in
+        halves inner_content t u n right middle (l ++ x ∷ (key, child) ∷ r) sp.zs rights 4 5
+        (ap (λ v. v ++ x ∷ (key, child) ∷ r) w.p_is ∙ append_assoc sp.zs w.mid (x ∷ (key, child) ∷ r)) (sp.count_is ∙ four)
+        (omega (arith, length-append w.mid (x ∷ (key, child) ∷ r), length-append w.mid (x ∷ r), ap length w.r_is, right_four))
+        (omega arith) (head-grown right w.mid x ((key, child) ∷ r) r ∙ ap (λ v. head_of right v) (sym w.r_is) ∙ ap (λ v. (v, right) ∷ []) (sym sp.key_is)) (right_put inner_content t s u n right sp.zs (sp.y ∷ sp.ys) sp.two rights after2)

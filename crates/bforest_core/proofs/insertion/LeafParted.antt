@@ -14,7 +14,7 @@ use Rattle.bforest_core.proofs.rows.Tops.{root-stands, root-points}
 use Rattle.bforest_core.proofs.insertion.Rise.{gain-some}
 use Rattle.bforest_core.proofs.insertion.Grow.{flat-halved, heads-halved, FitRow-halved, leaf_full}
 use Rattle.bforest_core.proofs.insertion.LeafSpot.{LeafSpot, renewed, insert_flat, rows_count}
-use Rattle.bforest_core.proofs.insertion.LeafHalving.{LeafHalves, Odd}
+use Rattle.bforest_core.proofs.insertion.Halving.{Halves, Odd}
 
 module _ {K V : Type 0} where
   pub full_gain : (most : ℕ) (t : Table K V) (ms js : List ℕ) (tree : Tree K V) (place : ℕ) → (d : LeafSpot most t ms js tree place) → length (d.l ++ d.r) ≡ most →
@@ -26,7 +26,7 @@ module _ {K V : Type 0} where
 
   -- all but where the path stands
   leaf_parted : (most : ℕ) (t u : Table K V) (ms js ms' js' : List ℕ) (size : ℕ) (tree : Tree K V) (place : ℕ) (entry : K × V) (middle : K) (right : ℕ) (moved : Bool) → Odd most → Placed most t ms js size tree place → (d : LeafSpot most t ms js tree place) → length (d.l ++ d.r) ≡ most →
-      (h : LeafHalves most t u (get_or ms 0 0) right middle (d.l ++ entry ∷ d.r)) →
+      (h : Halves leaf_content t u (get_or ms 0 0) right middle (d.l ++ entry ∷ d.r) (half_of most) (half_of most)) →
       ((i : ℕ) → i ≢ 0 → get_or ms' i 0 ≡ get_or ms i 0) → ((i : ℕ) → i ≢ 0 → get_or js' i 0 ≡ get_or js i 0) →
       (at : IsAt (d.before ++ node (get_or ms 0 0) (h.z ∷ h.xs) ∷ node right (h.y ∷ h.ys) ∷ d.after) (get_or ms' 0 0) (get_or js' 0 0) place) → length at.before ≡ (if moved then suc (length (heads d.before)) else length (heads d.before)) →
       LeafHalved most t u ms ms' js' size tree place entry middle right moved
@@ -42,7 +42,7 @@ module _ {K V : Type 0} where
       let c = λ (m : ℕ). count-append m (numbers row ++ flat_map numbers tree.above) t.chain in
       let c2 = λ (m : ℕ). count-append m (numbers row) (flat_map numbers tree.above) in
       let c3 = λ (m : ℕ). count-row m d.before n es d.after in
-      let c4 = λ (m : ℕ). ap (λ z. count m z) h.chain_is in
+      let c4 = λ (m : ℕ). ap (λ z. count m z) h.two.chain_is in
       let c5 = λ (m : ℕ). count-append m (flat_map numbers up.rows') u.chain in
       let same_right = count-same right u.chain in
       let none_right : count right (numbers d.before) + count right (numbers d.after) ≡ 0 = omega (arith, d.apart right, c right, c2 right, c3 right, c4 right, same_right) in
@@ -65,14 +65,14 @@ module _ {K V : Type 0} where
         flat_is = flat-halved d.before d.after n right (h.z ∷ h.xs) (h.y ∷ h.ys) ∙ ap (λ z. flat d.before ++ (z ++ flat d.after)) (sym h.grown_is)
             ∙ sym (insert_flat d.before n d.l d.r d.after entry) ∙ ap (λ z. insert (flat row) z entry) (sym d.place_is) ∙ ap (λ z. insert (flat z) place entry) (sym d.leaves_are);
         fit = FitRow-halved (half_of most) most d.before d.after n right es (h.z ∷ h.xs) (h.y ∷ h.ys) one d.fit (omega (arith, h.left_is)) (omega (arith, h.left_is, few)) (omega (arith, h.right_is)) (omega (arith, h.right_is, few));
-        inside = row-halved leaf_content t.nodes u.nodes d.before n right es (h.z ∷ h.xs) (h.y ∷ h.ys) d.after d.inside h.same h.here h.there d.none none_right;
+        inside = row-halved leaf_content t.nodes u.nodes d.before n right es (h.z ∷ h.xs) (h.y ∷ h.ys) d.after d.inside h.two.same h.two.here h.two.there d.none none_right;
         gain_is = full_gain most t ms js tree place d full ∙ ap (λ z. (Some z, sizes d.before ++ half_of most ∷ half_of most ∷ sizes d.after)) (sym solid_full)
             ∙ ap (λ z. (Some (length (heads d.before)), sizes d.before ++ z ∷ half_of most ∷ sizes d.after)) (sym h.left_is)
             ∙ ap (λ z. (Some (length (heads d.before)), sizes d.before ++ length (h.z ∷ h.xs) ∷ z ∷ sizes d.after)) (sym h.right_is)
             ∙ ap (λ z. (Some (length (heads d.before)), z)) (sym (sizes-append d.before (node n (h.z ∷ h.xs) ∷ node right (h.y ∷ h.ys) ∷ d.after)));
         above = record {
           stacked = subst (λ (z : List (K × ℕ)). Stacked z up.rows') hs0 up.stacked;
-          inside = rows-same t.nodes u.nodes up.rows' (λ m some. h.same m (ne_from_count m n (flat_map numbers up.rows') some none_rows) (ne_from_count m right (flat_map numbers up.rows') some none_right_rows)) up.inside;
+          inside = rows-same t.nodes u.nodes up.rows' (λ m some. h.two.same m (ne_from_count m n (flat_map numbers up.rows') some none_rows) (ne_from_count m right (flat_map numbers up.rows') some none_right_rows)) up.inside;
           stands = stands-same ms js ms' js' 1 up.rows' (length (heads d.before)) (λ i high. far_m i (λ (e : i ≡ 0). omega (arith, e, high))) (λ i high. far_j i (λ (e : i ≡ 0). omega (arith, e, high)))
               (subst (λ (z : ℕ). StandsAbove ms js 1 up.rows' z) (sym solid_full) (up.stands (length d.before) d.stands));
           height = omega (arith, p.at.points.size_is, rows_count tree.above up.rows' up.sizes_are);
@@ -83,16 +83,16 @@ module _ {K V : Type 0} where
         numbers_above = up.numbers_are;
         at = at;
         at_is = at_is;
-        slots_same = h.same;
-        chain_is = h.chain_is;
-        slots_are = h.slots_are;
-        limit_is = h.limit_is;
+        slots_same = h.two.same;
+        chain_is = h.two.chain_is;
+        slots_are = h.two.slots_are;
+        limit_is = h.two.limit_is;
         nodes_above = λ i high. far_m i (λ (e : i ≡ 0). omega (arith, e, high));
       }
 
   -- the path goes to the left half
   pub leaf_parted_early : (most : ℕ) (t u : Table K V) (ms js : List ℕ) (size : ℕ) (tree : Tree K V) (place : ℕ) (entry : K × V) (middle : K) (right : ℕ) → Odd most → Placed most t ms js size tree place → (d : LeafSpot most t ms js tree place) → length (d.l ++ d.r) ≡ most → get_or js 0 0 ≤ most / 2 →
-      LeafHalves most t u (get_or ms 0 0) right middle (d.l ++ entry ∷ d.r) → LeafHalved most t u ms ms js size tree place entry middle right false
+      Halves leaf_content t u (get_or ms 0 0) right middle (d.l ++ entry ∷ d.r) (half_of most) (half_of most) → LeafHalved most t u ms ms js size tree place entry middle right false
   leaf_parted_early most t u ms js size tree place entry middle right o p d full low h =
       let n = get_or ms 0 0 in
       let one : 1 ≤ half_of most = omega (arith, o.high_is) in
@@ -109,7 +109,7 @@ module _ {K V : Type 0} where
 
   -- or to the right one
   pub leaf_parted_late : (most : ℕ) (t u : Table K V) (ms js ms' js' : List ℕ) (size : ℕ) (tree : Tree K V) (place : ℕ) (entry : K × V) (middle : K) (right q : ℕ) → Odd most → Placed most t ms js size tree place → (d : LeafSpot most t ms js tree place) → length (d.l ++ d.r) ≡ most → most / 2 < get_or js 0 0 → q ≡ half_of most →
-      LeafHalves most t u (get_or ms 0 0) right middle (d.l ++ entry ∷ d.r) →
+      Halves leaf_content t u (get_or ms 0 0) right middle (d.l ++ entry ∷ d.r) (half_of most) (half_of most) →
       ((i : ℕ) → i ≢ 0 → get_or ms' i 0 ≡ get_or ms i 0) → get_or ms' 0 0 ≡ right → ((i : ℕ) → i ≢ 0 → get_or js' i 0 ≡ get_or js i 0) → get_or js' 0 0 ≡ get_or js 0 0 - q →
       LeafHalved most t u ms ms' js' size tree place entry middle right true
   leaf_parted_late most t u ms js ms' js' size tree place entry middle right q o p d full high q_is h far_m m_is far_j j_is =

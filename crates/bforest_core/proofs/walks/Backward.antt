@@ -1,14 +1,14 @@
 -- A step of a path to the node or the entry before.
-use Rattle.std.proofs.Common.{◌≡◌, ◌≢◌, ℕ, zero, suc, ◌+◌, ◌-◌, ◌≤◌, ◌<◌, List, [], ◌∷◌, ◌++◌, length, get_or, slice_get, Some, refl, sym, ap, subst, ◌∙◌, arith, length-append}
-use Rattle.std.proofs.lemmas.List.{length-map}
+use Rattle.std.proofs.Common.{◌≡◌, ◌≢◌, ℕ, zero, suc, ◌+◌, ◌-◌, ◌≤◌, ◌<◌, List, [], ◌∷◌, length, get_or, slice_get, Some, refl, sym, ap, subst, ◌∙◌, arith, length-append}
+use Rattle.std.proofs.lemmas.List.{length-map, get_or_default}
 use Rattle.bforest_nodes.specs.Content.{Content, entry_count}
 use Rattle.bforest_core.specs.Levels.{LevelNode, node, flat, heads, Tree, IsFit, half_of}
-use Rattle.bforest_core.specs.Place.{RowIn, leaf_content, inner_content, StandsAbove, Stands, IsIn, IsPathAt, entry_before}
-use Rattle.bforest_core.specs.Steps.{Moved}
-use Rattle.bforest_core.proofs.walks.Steps.{Spot, Nth, nth, next_at}
+use Rattle.bforest_core.specs.Place.{RowIn, leaf_content, inner_content, Stands, IsIn, IsPathAt, entry_before}
+use Rattle.bforest_core.specs.Steps.{Moved, Over}
+use Rattle.bforest_core.proofs.walks.Entered.{over_leaves}
+use Rattle.bforest_core.proofs.walks.Steps.{Spot, Nth, nth, next_at, stands_in}
 use Rattle.bforest_core.proofs.table.Tables.{row-split}
 use Rattle.bforest_core.proofs.table.Stored.{item_count}
-use Rattle.bforest_core.proofs.rows.Zipper.{stands-same}
 
 -- a row of no nodes has no entries
 none_flat : {K X : Type 0} (row : List (LevelNode K X)) → length row ≡ 0 → length (flat row) ≡ 0
@@ -28,62 +28,6 @@ module _ {K V : Type 0} (slots : List (Content K V)) (path indices : List ℕ) (
   pub first_place : length s.before ≡ 0 → get_or indices up 0 ≡ 0 → place ≡ 0
   first_place first none = omega (arith, s.place_is, none, none_flat s.before first)
 
-module _ {K V : Type 0} (most : ℕ) (one : 1 ≤ half_of most) (slots : List (Content K V)) (path indices : List ℕ) (size : ℕ) (tree : Tree K V) (place : ℕ) (fit : IsFit most tree) (inside : IsIn slots tree) (s : Stands path indices size tree place) where
-  -- the entry before in the same leaf
-  pub back_within : (path' indices' : List ℕ) → path' ≡ path → 0 < get_or indices 0 0 → get_or indices' 0 0 ≡ get_or indices 0 0 - 1 → ((i : ℕ) → i ≢ 0 → get_or indices' i 0 ≡ get_or indices i 0) → (0 < place) × Stands path' indices' size tree (place - 1)
-  back_within path' indices' path_is some here above =
-      let n_is = ap (λ z. get_or z 0 0) path_is in (
-        omega (arith, some, s.leaf.place_is),
-        record {
-          leaf = record {
-            before = s.leaf.before;
-            entries = s.leaf.entries;
-            after = s.leaf.after;
-            row_is = s.leaf.row_is ∙ ap (λ z. s.leaf.before ++ node z s.leaf.entries ∷ s.leaf.after) (sym n_is);
-            within = omega (arith, here, s.leaf.within);
-            place_is = omega (arith, here, some, s.leaf.place_is);
-          };
-          above = stands-same path indices path' indices' 1 tree.above (length s.leaf.before) (λ i low. ap (λ z. get_or z i 0) path_is) (λ i low. above i (λ e. omega (arith, e, low))) s.above;
-          size_is = s.size_is;
-        },
-      )
-
-  module _ (path1 indices1 : List ℕ) (m : Moved path indices path1 indices1 0 tree.above (heads tree.leaves) (length s.leaf.before - 1)) where
-    -- the leaf before
-    pub back_leaf : Nth tree.leaves (length s.leaf.before - 1) m.head
-    back_leaf = nth (half_of most) most one tree.leaves fit.leaves_fit (length s.leaf.before - 1) m.head m.head_is
-
-    -- what its slot holds
-    pub back_slot : slice_get slots (get_or path1 0 0) ≡ Some (leaf_content (back_leaf.e ∷ back_leaf.others))
-    back_slot = ap (λ z. slice_get slots z) m.node_is ∙ (row-split leaf_content slots back_leaf.before (node m.head.1 (back_leaf.e ∷ back_leaf.others) ∷ back_leaf.after) (subst (λ (z : List (LevelNode K V)). RowIn leaf_content slots z) back_leaf.row_is inside.leaves_in)).1.0
-
-    -- its last entry
-    pub back_over : (path' indices' : List ℕ) → path' ≡ path1 → 0 < length s.leaf.before → get_or indices 0 0 ≡ 0 → get_or indices' 0 0 ≡ length back_leaf.others → ((i : ℕ) → i ≢ 0 → get_or indices' i 0 ≡ get_or indices1 i 0) → (0 < place) × Stands path' indices' size tree (place - 1)
-    back_over path' indices' path_is some none here above =
-        let n = back_leaf in
-        let f = next_at n.before m.head.1 (n.e ∷ n.others) n.after s.leaf.before (get_or path 0 0) s.leaf.entries s.leaf.after (sym n.row_is ∙ s.leaf.row_is) (omega (arith, n.place_is, some)) in
-        let l = ap length f in
-        let a = length-append (flat n.before) (n.e ∷ n.others) in
-        let n_is : get_or path' 0 0 ≡ m.head.1 = ap (λ z. get_or z 0 0) path_is ∙ m.node_is in (
-          omega (arith, s.leaf.place_is, none, l, a),
-          record {
-            leaf = record {
-              before = n.before;
-              entries = n.e ∷ n.others;
-              after = n.after;
-              row_is = n.row_is ∙ ap (λ z. n.before ++ node z (n.e ∷ n.others) ∷ n.after) (sym n_is);
-              within = omega (arith, here);
-              place_is = omega (arith, here, s.leaf.place_is, none, l, a);
-            };
-            above = subst (λ (z : ℕ). StandsAbove path' indices' 1 tree.above z) (sym n.place_is) (stands-same path1 indices1 path' indices' 1 tree.above (length s.leaf.before - 1) (λ i low. ap (λ z. get_or z i 0) path_is) (λ i low. above i (λ e. omega (arith, e, low))) m.stands);
-            size_is = s.size_is;
-          },
-        )
-
-  -- no leaf before: the first entry of all
-  pub back_first : length s.leaf.before ≡ 0 → get_or indices 0 0 ≡ 0 → place ≡ 0
-  back_first first none = omega (arith, s.leaf.place_is, none, none_flat s.leaf.before first)
-
 -- the last index of an inner node, and of a leaf
 pub last_child_is : {K : Type 0} (V : Type 0) (e : K × ℕ) (es : List (K × ℕ)) → entry_count {K = K} {V = V} (inner_content (e ∷ es)) - 1 ≡ length es
 last_child_is V e es = omega (arith, item_count es)
@@ -97,6 +41,48 @@ some_child V e es = omega arith
 
 pub some_entry : {K V : Type 0} (e : K × V) (es : List (K × V)) → 1 ≤ entry_count (leaf_content (e ∷ es))
 some_entry e es = omega arith
+
+module _ {K V : Type 0} (most : ℕ) (one : 1 ≤ half_of most) (slots : List (Content K V)) (path indices : List ℕ) (size : ℕ) (tree : Tree K V) (place : ℕ) (fit : IsFit most tree) (inside : IsIn slots tree) (s : Stands path indices size tree place) where
+  -- the entry before in the same leaf
+  pub back_within : (path' indices' : List ℕ) → path' ≡ path → 0 < get_or indices 0 0 → get_or indices' 0 0 ≡ get_or indices 0 0 - 1 → ((i : ℕ) → i ≢ 0 → get_or indices' i 0 ≡ get_or indices i 0) → (0 < place) × Stands path' indices' size tree (place - 1)
+  back_within path' indices' path_is some here above =
+      (omega (arith, some, s.leaf.place_is), stands_in tree size path indices path' indices' path_is above s.size_is s.leaf.before (get_or path 0 0) s.leaf.entries s.leaf.after (length s.leaf.before) (place - 1) s.leaf.row_is refl s.above refl (omega (arith, here, s.leaf.within)) (omega (arith, here, some, s.leaf.place_is)))
+
+  module _ (path1 indices1 : List ℕ) (backs : (rows : List (List (LevelNode K ℕ))) (list : List (K × ℕ)) (at : ℕ) → Over slots path indices 1 size rows list at → (0 < at) × Moved path indices path1 indices1 0 rows list (at - 1)) where
+    m : Moved path indices path1 indices1 0 tree.above (heads tree.leaves) (length s.leaf.before - 1)
+    m = (backs tree.above (heads tree.leaves) (length s.leaf.before) (over_leaves most one slots path indices size tree place fit inside s)).1
+
+    -- the leaf before
+    back_leaf : Nth tree.leaves (length s.leaf.before - 1) m.head
+    back_leaf = nth (half_of most) most one tree.leaves fit.leaves_fit (length s.leaf.before - 1) m.head m.head_is
+
+    -- what its slot holds
+    back_slot : slice_get slots (get_or path1 0 0) ≡ Some (leaf_content (back_leaf.e ∷ back_leaf.others))
+    back_slot = ap (λ z. slice_get slots z) m.node_is ∙ (row-split leaf_content slots back_leaf.before (node m.head.1 (back_leaf.e ∷ back_leaf.others) ∷ back_leaf.after) (subst (λ (z : List (LevelNode K V)). RowIn leaf_content slots z) back_leaf.row_is inside.leaves_in)).1.0
+
+    back_read : (r : ℕ) → 0 < length path1 → slice_get slots (get_or path1 0 r) ≡ Some (leaf_content (back_leaf.e ∷ back_leaf.others))
+    back_read r wide = ap (λ z. slice_get slots z) (get_or_default path1 0 r 0 wide) ∙ back_slot
+
+    -- what its last index asks
+    pub back_asks : (r : ℕ) → 0 < length path1 → (content : Content K V) × (slice_get slots (get_or path1 0 r) ≡ Some content) × (1 ≤ entry_count content)
+    back_asks r wide = (leaf_content (back_leaf.e ∷ back_leaf.others), back_read r wide, some_entry back_leaf.e back_leaf.others)
+
+    -- its last entry
+    pub back_over : (path' indices' : List ℕ) (r last : ℕ) → 0 < length path1 → ((x : Content K V) → slice_get slots (get_or path1 0 r) ≡ Some x → last ≡ entry_count x - 1) → path' ≡ path1 → get_or indices 0 0 ≤ 0 → get_or indices' 0 0 ≡ last → ((i : ℕ) → i ≢ 0 → get_or indices' i 0 ≡ get_or indices1 i 0) → (0 < place) × Stands path' indices' size tree (place - 1)
+    back_over path' indices' r last wide last_is path_is none here_is above =
+        let here = here_is ∙ last_is (leaf_content (back_leaf.e ∷ back_leaf.others)) (back_read r wide) ∙ last_entry_is back_leaf.e back_leaf.others in
+        let some = (backs tree.above (heads tree.leaves) (length s.leaf.before) (over_leaves most one slots path indices size tree place fit inside s)).0 in
+        let n = back_leaf in
+        let f = next_at n.before m.head.1 (n.e ∷ n.others) n.after s.leaf.before (get_or path 0 0) s.leaf.entries s.leaf.after (sym n.row_is ∙ s.leaf.row_is) (omega (arith, n.place_is, some)) in
+        let l = ap length f in
+        let a = length-append (flat n.before) (n.e ∷ n.others) in
+        (omega (arith, s.leaf.place_is, none, l, a), stands_in tree size path1 indices1 path' indices' path_is above s.size_is n.before m.head.1 (n.e ∷ n.others) n.after (length s.leaf.before - 1) (place - 1) n.row_is m.node_is m.stands n.place_is (omega (arith, here)) (omega (arith, here, s.leaf.place_is, none, l, a)))
+
+  -- no leaf before: the first entry of all
+  pub back_first : ((rows : List (List (LevelNode K ℕ))) (list : List (K × ℕ)) (at : ℕ) → Over slots path indices 1 size rows list at → at ≡ 0) → get_or indices 0 0 ≤ 0 → place ≡ 0
+  back_first first none =
+      let none_before = none_flat s.leaf.before (first tree.above (heads tree.leaves) (length s.leaf.before) (over_leaves most one slots path indices size tree place fit inside s)) in
+      omega (arith, s.leaf.place_is, none, none_before)
 
 -- a place that is not the first
 pub before_is : {X : Type 0} (list : List X) (place : ℕ) → 0 < place → slice_get list (place - 1) ≡ entry_before list place

@@ -2,12 +2,13 @@
 use Rattle.std.proofs.Common.{◌≡◌, ◌≢◌, ℕ, suc, ◌+◌, ◌≤◌, ◌<◌, ◌⊎◌, inl, inr, List, [], ◌∷◌, ◌++◌, length, get_or, slice_get, Some, refl, sym, ap, subst, ◌∙◌, arith, append_assoc, length-append}
 use Rattle.std.proofs.lemmas.Option.{slice_get_within}
 use Rattle.std.specs.Cmp.{IsTotalOrder}
+use Rattle.std.specs.List.Sorted.{IsStrictlySortedBy}
 use Rattle.std.specs.List.{AllByRecursion}
 use Rattle.std.specs.Map.{keys_of}
 use Rattle.std.specs.Option.{is_some, option_map}
 use Rattle.std.specs.declared.cmp.Ordering.{Ordering}
 use Rattle.std.specs.declared.cmp.Ordering.TheVariants.{Less, Greater}
-use Rattle.bforest_nodes.specs.Content.{Content, IsInner, IsLeafCapacity}
+use Rattle.bforest_nodes.specs.Content.{Content, Inner, IsInner, IsLeafCapacity}
 use Rattle.bforest_nodes.specs.Entries.{IsIncreasing, place, is_present, value_for}
 use Rattle.bforest_core.specs.Levels.{LevelNode, node, flat, heads, FitRow, half_of}
 use Rattle.bforest_core.specs.Place.{RowIn, leaf_content, inner_content, entry_keys, entry_items, IsAt}
@@ -285,3 +286,20 @@ module _ {K V : Type 0} (cmp : K → K → Ordering) (o : IsTotalOrder cmp) (mos
     -- with a row below, it stands in an inner node
     pub inner_at : (length lower ≡ 0 → ⊥) → InnerStep cmp most slots leaves lower a number key
     inner_at some = elim (step lower a first number b key u inc g) [ inl s ↦ absurd (some (ap length s.lower_is)) | inr s ↦ s ]
+
+  -- the call one level down: where it goes on, and what lies there
+  pub record Below (lower : List (List (LevelNode K ℕ))) (a : List (K × ℕ)) (number : ℕ) (key : K) (s : InnerStep cmp most slots leaves lower a number key) (index child : ℕ) : Type 0 where
+    pub on : Onward cmp s.row s.before (s.e ∷ s.es) index child key
+    pub under : Under most slots leaves s.rows (on.a ++ (on.first, child) ∷ on.b)
+    pub count_is : length lower ≡ suc (length s.rows)
+
+  module _ (lower : List (List (LevelNode K ℕ))) (a : List (K × ℕ)) (number : ℕ) (key : K) (s : InnerStep cmp most slots leaves lower a number key) where
+    -- what following a child asks
+    pub follow_asks : (keys : List K) × (children : List ℕ) × (slice_get slots number ≡ Some (Inner keys children)) × IsStrictlySortedBy cmp keys
+    follow_asks = (entry_keys s.es, entry_items (s.e ∷ s.es), s.slot_is, increasing_rest cmp o s.e s.es s.increasing)
+
+    -- what it says
+    pub below : (index child : ℕ) → ((keys : List K) (children : List ℕ) → slice_get slots number ≡ Some (Inner keys children) → index ≡ child_index cmp keys key) → ((keys : List K) (children : List ℕ) → slice_get slots number ≡ Some (Inner keys children) → slice_get children index ≡ Some child) → Below lower a number key s index child
+    below index child index_is child_is =
+        let d = onward lower a number key s index child (index_is (entry_keys s.es) (entry_items (s.e ∷ s.es)) s.slot_is) (child_is (entry_keys s.es) (entry_items (s.e ∷ s.es)) s.slot_is) in
+        record { on = d; under = subst (λ (z : List (K × ℕ)). Under most slots leaves s.rows z) d.flat_is s.under; count_is = inner_count lower a number key s }

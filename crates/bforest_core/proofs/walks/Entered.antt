@@ -1,14 +1,13 @@
 -- A step of a path from entry to entry of a tree.
-use Rattle.std.proofs.Common.{◌≡◌, ◌≢◌, ℕ, zero, suc, ◌+◌, ◌≤◌, ◌<◌, List, [], ◌∷◌, ◌++◌, length, get_or, slice_get, Option, None, Some, refl, sym, ap, option_map, subst, ◌∙◌, arith, length-append}
+use Rattle.std.proofs.Common.{◌≡◌, ◌≢◌, ℕ, zero, suc, ◌+◌, ◌≤◌, ◌<◌, List, [], ◌∷◌, length, get_or, slice_get, Option, None, Some, refl, sym, ap, option_map, subst, ◌∙◌, arith, length-append}
 use Rattle.bforest_nodes.specs.Content.{Content}
 use Rattle.bforest_core.specs.Levels.{LevelNode, node, flat, heads, FitRow, Tree, IsFit, half_of}
-use Rattle.bforest_core.specs.Place.{RowIn, leaf_content, entry_keys, entry_items, StandsAbove, Stands, IsIn}
+use Rattle.bforest_core.specs.Place.{RowIn, leaf_content, entry_keys, entry_items, Stands, IsIn}
 use Rattle.bforest_core.specs.Steps.{Over, Moved}
 use Rattle.bforest_core.proofs.rows.LevelRows.{FitRow-split}
-use Rattle.bforest_core.proofs.walks.Steps.{fit_full, entry_at, read, nth, next_at, none_behind, not_less}
+use Rattle.bforest_core.proofs.walks.Steps.{fit_full, entry_at, read, nth, next_at, none_behind, not_less, stands_in}
 use Rattle.bforest_core.proofs.table.Stored.{some_same}
 use Rattle.bforest_core.proofs.table.Tables.{row-split}
-use Rattle.bforest_core.proofs.rows.Zipper.{stands-same}
 
 -- an entry from its key and its value
 pub pair_read : {K X : Type 0} (es : List (K × X)) (i : ℕ) (k : K) (x : X) → slice_get (entry_keys es) i ≡ Some k → slice_get (entry_items es) i ≡ Some x → slice_get es i ≡ Some (k, x)
@@ -55,38 +54,14 @@ module _ {K V : Type 0} (most : ℕ) (one : 1 ≤ half_of most) (slots : List (C
   -- the next entry of the same leaf
   pub entry_within : (path' indices' : List ℕ) → path' ≡ path → get_or indices' 0 0 ≡ get_or indices 0 0 + 1 → ((i : ℕ) → i ≢ 0 → get_or indices' i 0 ≡ get_or indices i 0) → get_or indices 0 0 + 1 < length s.leaf.entries → Stands path' indices' size tree (suc place)
   entry_within path' indices' path_is here above low =
-      let n_is = ap (λ z. get_or z 0 0) path_is in
-      record {
-        leaf = record {
-          before = s.leaf.before;
-          entries = s.leaf.entries;
-          after = s.leaf.after;
-          row_is = s.leaf.row_is ∙ ap (λ z. s.leaf.before ++ node z s.leaf.entries ∷ s.leaf.after) (sym n_is);
-          within = omega (arith, here, low);
-          place_is = omega (arith, here, s.leaf.place_is);
-        };
-        above = stands-same path indices path' indices' 1 tree.above (length s.leaf.before) (λ i low. ap (λ z. get_or z i 0) path_is) (λ i low. above i (λ e. omega (arith, e, low))) s.above;
-        size_is = s.size_is;
-      }
+      stands_in tree size path indices path' indices' path_is above s.size_is s.leaf.before (get_or path 0 0) s.leaf.entries s.leaf.after (length s.leaf.before) (suc place) s.leaf.row_is refl s.above refl (omega (arith, here, low)) (omega (arith, here, s.leaf.place_is))
 
   -- the first entry of the next leaf
   pub leaf_next : (path1 indices1 path' indices' : List ℕ) → Moved path indices path1 indices1 0 tree.above (heads tree.leaves) (suc (length s.leaf.before)) → path' ≡ path1 → get_or indices' 0 0 ≡ 0 → ((i : ℕ) → i ≢ 0 → get_or indices' i 0 ≡ get_or indices1 i 0) → Stands path' indices' size tree (length (flat s.leaf.before) + length s.leaf.entries)
   leaf_next path1 indices1 path' indices' m path_is here above =
       let n = nth (half_of most) most one tree.leaves fit.leaves_fit (suc (length s.leaf.before)) m.head m.head_is in
       let f = next_at s.leaf.before (get_or path 0 0) s.leaf.entries s.leaf.after n.before m.head.1 (n.e ∷ n.others) n.after (sym s.leaf.row_is ∙ n.row_is) n.place_is in
-      let n_is : get_or path' 0 0 ≡ m.head.1 = ap (λ z. get_or z 0 0) path_is ∙ m.node_is in
-      record {
-        leaf = record {
-          before = n.before;
-          entries = n.e ∷ n.others;
-          after = n.after;
-          row_is = n.row_is ∙ ap (λ z. n.before ++ node z (n.e ∷ n.others) ∷ n.after) (sym n_is);
-          within = omega (arith, here);
-          place_is = omega (arith, here, ap length f, length-append (flat s.leaf.before) s.leaf.entries);
-        };
-        above = subst (λ (z : ℕ). StandsAbove path' indices' 1 tree.above z) (sym n.place_is) (stands-same path1 indices1 path' indices' 1 tree.above (suc (length s.leaf.before)) (λ i low. ap (λ z. get_or z i 0) path_is) (λ i low. above i (λ e. omega (arith, e, low))) m.stands);
-        size_is = s.size_is;
-      }
+      stands_in tree size path1 indices1 path' indices' path_is above s.size_is n.before m.head.1 (n.e ∷ n.others) n.after (suc (length s.leaf.before)) (length (flat s.leaf.before) + length s.leaf.entries) n.row_is m.node_is m.stands n.place_is (omega (arith, here)) (omega (arith, here, ap length f, length-append (flat s.leaf.before) s.leaf.entries))
 
   -- behind the last leaf is the end
   pub leaf_last : suc (length s.leaf.before) ≡ length (heads tree.leaves) → length (flat s.leaf.before) + length s.leaf.entries ≡ length (flat tree.leaves)

@@ -1,7 +1,8 @@
 -- The way down to the first entry.
-use Rattle.std.proofs.Common.{◌≡◌, ◌≢◌, ℕ, suc, ◌+◌, ◌≤◌, ◌<◌, ◌⊎◌, inl, inr, List, [], ◌∷◌, ◌++◌, length, get_or, slice_get, Some, refl, sym, ap, subst, ◌∙◌, arith, length-append}
+use Rattle.std.proofs.Common.{◌≡◌, ◌≢◌, ℕ, suc, ◌+◌, ◌≤◌, ◌<◌, ◌⊎◌, inl, inr, List, [], ◌∷◌, ◌++◌, length, get_or, set, slice_get, Some, refl, sym, ap, subst, ◌∙◌, arith, length-append}
+use Rattle.std.proofs.lemmas.List.{get_or-set_other}
 use Rattle.std.proofs.lemmas.Option.{slice_get_within}
-use Rattle.bforest_nodes.specs.Content.{Content, IsInner}
+use Rattle.bforest_nodes.specs.Content.{Content, IsInner, entry_count, children_of}
 use Rattle.bforest_core.specs.Levels.{LevelNode, node, flat, heads, FitRow, half_of}
 use Rattle.bforest_core.specs.Place.{RowIn, leaf_content, inner_content, IsAt}
 use Rattle.bforest_core.specs.Descent.{StackedTo, StandsTo, Under, Led}
@@ -126,3 +127,46 @@ module _ {K V : Type 0} (most : ℕ) (one : 1 ≤ half_of most) (slots : List (C
             entries_above = λ i low. entries i (λ z. omega (arith, z, low, high_is, count_is)) ∙ d.entries_above i (omega (arith, low, count_is));
           },
         )
+
+  -- what the call one level down the first nodes is asked
+  pub record FrontBelow (lower : List (List (LevelNode K ℕ))) (child : ℕ) : Type 0 where
+    pub rows : List (List (LevelNode K ℕ))
+    pub first : K
+    pub rest : List (K × ℕ)
+    pub under : Under most slots leaves rows ((first, child) ∷ rest)
+    pub count_is : length lower ≡ suc (length rows)
+
+  -- what it leaves
+  abbrev pub LeadsFirst : List ℕ → List ℕ → List ℕ → List ℕ → ℕ → ℕ → Type 0
+  LeadsFirst path indices path1 indices1 child below =
+      (leaves : List (LevelNode K V)) (lower : List (List (LevelNode K ℕ))) (first : K) (b : List (K × ℕ)) → Under most slots leaves lower ((first, child) ∷ b) → (below ≡ length lower) × Led leaves lower path indices path1 indices1
+
+  module _ (lower : List (List (LevelNode K ℕ))) (first : K) (number : ℕ) (b : List (K × ℕ)) (u : Under most slots leaves lower ((first, number) ∷ b)) (content content2 : Content K V) (read : slice_get slots number ≡ Some content) (inner : IsInner content) (read2 : slice_get slots number ≡ Some content2) where
+    s : InnerFront most slots leaves lower number
+    s = front_inner lower first number b u content read inner
+
+    content_is : content2 ≡ inner_content (s.front.e ∷ s.front.es)
+    content_is = some_same content2 (inner_content (s.front.e ∷ s.front.es)) (sym read2 ∙ s.slot_is)
+
+    -- what reading the first child asks
+    pub front_asks : IsInner content2 × (0 < entry_count content2)
+    front_asks = (subst IsInner (sym content_is) tt, (let n = ap entry_count content_is in omega (arith, n)))
+
+    module _ (child : ℕ) (child_read : slice_get (children_of content2) 0 ≡ Some child) where
+      child_is : child ≡ s.front.e.1
+      child_is = some_same child s.front.e.1 (sym child_read ∙ ap (λ z. slice_get (children_of z) 0) content_is)
+
+      under : Under most slots leaves s.rows ((s.front.e.0, child) ∷ (s.front.es ++ flat s.front.after))
+      under = subst (λ (z : ℕ). Under most slots leaves s.rows ((s.front.e.0, z) ∷ (s.front.es ++ flat s.front.after))) (sym child_is) s.under
+
+      pub front_below : FrontBelow lower child
+      front_below = record { rows = s.rows; first = s.front.e.0; rest = s.front.es ++ flat s.front.after; under = under; count_is = front_count lower number s }
+
+      -- the node's level, and the path through it
+      pub led_here : (path indices path1 indices1 : List ℕ) (below : ℕ) → LeadsFirst path indices path1 indices1 child below → (path2 indices2 : List ℕ) → get_or path2 (below + 1) 0 ≡ number → get_or indices2 (below + 1) 0 ≡ 0 → path2 ≡ set path1 (below + 1) number → indices2 ≡ set indices1 (below + 1) 0 →
+          (below + 1 ≡ length lower) × Led leaves lower path indices path2 indices2
+      led_here path indices path1 indices1 below leads path2 indices2 node_here entry_here path_is indices_are =
+          let r = leads leaves s.rows s.front.e.0 (s.front.es ++ flat s.front.after) under in
+          led_inner lower number s path indices path1 indices1 path2 indices2 (below + 1) (omega (arith, r.0)) r.1 node_here entry_here
+          (λ i other. ap (λ z. get_or z i 0) path_is ∙ get_or-set_other path1 (below + 1) i number 0 other)
+          (λ i other. ap (λ z. get_or z i 0) indices_are ∙ get_or-set_other indices1 (below + 1) i 0 0 other)

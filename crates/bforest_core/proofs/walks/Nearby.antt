@@ -257,7 +257,7 @@ module _ {K V : Type 0} {n : ℕ} (table : Table K V) (root : ℕ) (path : Path 
 
   module _ (e : K × V) (read_is : (entries : List (K × V)) → slice_get table.nodes (leaf_of path) ≡ Some (leaf_content entries) → slice_get entries (index_of path) ≡ Some e) where
     -- which is the list's
-    here-entry : slice_get (list_under table root) p ≡ Some e
+    pub here-entry : slice_get (list_under table root) p ≡ Some e
     unfolding here-leaf
     here-entry =
         let w = is-rooted n table root union on.root_is in

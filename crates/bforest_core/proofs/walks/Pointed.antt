@@ -1,12 +1,11 @@
 -- A path at an entry of a leaf, or behind a leaf's last entry.
-use Rattle.std.proofs.Common.{◌≡◌, ◌≢◌, ℕ, suc, ◌≤◌, ◌<◌, List, ◌∷◌, ◌++◌, length, get_or, slice_get, Some, sym, ap, subst, ◌∙◌, arith, length-append}
+use Rattle.std.proofs.Common.{◌≡◌, ◌≢◌, ℕ, suc, ◌≤◌, ◌<◌, List, ◌∷◌, length, get_or, slice_get, Some, sym, ap, subst, ◌∙◌, arith, length-append}
 use Rattle.bforest_nodes.specs.Content.{Content}
 use Rattle.bforest_core.specs.Levels.{LevelNode, node, flat, heads, Tree, IsFit, half_of}
-use Rattle.bforest_core.specs.Place.{RowIn, leaf_content, StandsAbove, Stands, PointsAt, IsIn}
+use Rattle.bforest_core.specs.Place.{RowIn, leaf_content, Stands, PointsAt, IsIn}
 use Rattle.bforest_core.specs.Steps.{Over, Moved}
-use Rattle.bforest_core.proofs.walks.Steps.{fit_full, nth, next_at, none_behind, not_less}
+use Rattle.bforest_core.proofs.walks.Steps.{fit_full, nth, next_at, none_behind, not_less, stands_in}
 use Rattle.bforest_core.proofs.table.Tables.{row-split}
-use Rattle.bforest_core.proofs.rows.Zipper.{stands-same}
 
 module _ {K V : Type 0} (path indices : List ℕ) (size : ℕ) (tree : Tree K V) (place : ℕ) where
   -- an entry is such a place
@@ -44,19 +43,7 @@ module _ {K V : Type 0} (most : ℕ) (one : 1 ≤ half_of most) (slots : List (C
   pointed_next path1 indices1 path' indices' m path_is here above past =
       let n = nth (half_of most) most one tree.leaves fit.leaves_fit (suc (length p.before)) m.head m.head_is in
       let f = next_at p.before (get_or path 0 0) p.entries p.after n.before m.head.1 (n.e ∷ n.others) n.after (sym p.leaves_are ∙ n.row_is) n.place_is in
-      let n_is : get_or path' 0 0 ≡ m.head.1 = ap (λ z. get_or z 0 0) path_is ∙ m.node_is in
-      record {
-        leaf = record {
-          before = n.before;
-          entries = n.e ∷ n.others;
-          after = n.after;
-          row_is = n.row_is ∙ ap (λ z. n.before ++ node z (n.e ∷ n.others) ∷ n.after) (sym n_is);
-          within = omega (arith, here);
-          place_is = omega (arith, here, p.place_is, p.within, not_less (get_or indices 0 0) (length p.entries) past, ap length f, length-append (flat p.before) p.entries);
-        };
-        above = subst (λ (z : ℕ). StandsAbove path' indices' 1 tree.above z) (sym n.place_is) (stands-same path1 indices1 path' indices' 1 tree.above (suc (length p.before)) (λ i low. ap (λ z. get_or z i 0) path_is) (λ i low. above i (λ e. omega (arith, e, low))) m.stands);
-        size_is = p.size_is;
-      }
+      stands_in tree size path1 indices1 path' indices' path_is above p.size_is n.before m.head.1 (n.e ∷ n.others) n.after (suc (length p.before)) place n.row_is m.node_is m.stands n.place_is (omega (arith, here)) (omega (arith, here, p.place_is, p.within, not_less (get_or indices 0 0) (length p.entries) past, ap length f, length-append (flat p.before) p.entries))
 
   -- behind the last entry of all
   pub pointed_last : (get_or indices 0 0 < length p.entries → ⊥) → suc (length p.before) ≡ length (heads tree.leaves) → place ≡ length (flat tree.leaves)

@@ -6,6 +6,7 @@ use Rattle.bforest_core.specs.declared.path.Path.{Path}
 use Rattle.bforest_core.specs.Paths.{IsPlaced, PointsTo, StandsAt, StandsOn, index_of, leaf_of, list_under, path_root, place_in, spot}
 use Rattle.bforest_nodes.specs.Content.{IsLeaf}
 use Rattle.bforest_core.specs.Change.{StandsUnder}
+use Rattle.bforest_core.specs.Descent.{Under}
 use Rattle.bforest_core.specs.Levels.{LevelNode, Tree, flat, node, numbers}
 use Rattle.bforest_core.specs.Place.{IsPathAt, Stands, count, numbers_of}
 use Rattle.bforest_core.specs.Table.{Table}
@@ -14,7 +15,7 @@ use Rattle.bforest_core.proofs.walks.Descent.{some_leaf}
 use Rattle.bforest_core.proofs.walks.Leading.{front_step, led_leaf}
 use Rattle.bforest_core.proofs.table.Read.{slot-is}
 use Rattle.bforest_core.proofs.rows.LevelRows.{flat-append}
-use Rattle.bforest_core.proofs.rows.Tops.{root-points, root-stands}
+use Rattle.bforest_core.proofs.rows.Tops.{root-points}
 use Rattle.bforest_core.proofs.table.Tables.{count-append, count-same}
 use Rattle.bforest_core.proofs.walks.Backward.{at_end, at_entry}
 use Rattle.bforest_core.proofs.walks.Pointed.{points-stands}
@@ -36,6 +37,17 @@ module _ {K V : Type 0} (most : ℕ) (table : Table K V) (root place : ℕ) (pat
   -- a path on an entry has at most 17 levels
   pub on-low : IsUnion most table → StandsUnder table.nodes root path indices size place → size ≤ 17
   on-low union on = let w = is-rooted most table root union on.root_is in omega (arith, on.stands.size_is, w.low)
+
+-- what lies under a root
+pub record UnderRoot {K V : Type 0} (most : ℕ) (table : Table K V) (root : ℕ) : Type 0 where
+  pub first : K
+  pub under : Under most table.nodes (tree_of table.nodes root).leaves (tree_of table.nodes root).above ((first, root) ∷ [])
+  pub low : length (tree_of table.nodes root).above ≤ 16
+
+pub under-root : {K V : Type 0} (most : ℕ) (table : Table K V) (root : ℕ) → IsUnion most table → IsTrue (is_root table.nodes root) → UnderRoot most table root
+under-root most table root union is =
+    let w = is-rooted most table root union is in
+    record { first = (whole_top most table.nodes root (tree_of table.nodes root) w).first; under = whole_under most table.nodes root (tree_of table.nodes root) w; low = w.low }
 
 -- a path of one level at the front of a root that is a leaf is on the first entry
 pub on-leaf : {K V : Type 0} (most : ℕ) (table : Table K V) (root : ℕ) (path indices : List ℕ) → IsUnion most table → IsTrue (is_root table.nodes root) → IsLeaf (slot table.nodes root) → get_or path 0 0 ≡ root → get_or indices 0 0 ≡ 0 → StandsUnder table.nodes root path indices 1 0
@@ -105,12 +117,6 @@ module _ {K V : Type 0} {n : ℕ} (table : Table K V) (root : ℕ) (path : Path 
 
 -- in a union of trees
 module _ {K V : Type 0} {n : ℕ} (most : ℕ) (table : Table K V) (root : ℕ) (path : Path K V n) (place : ℕ) (union : IsUnion most table) where
-  -- it is in the tree of its root
-  pub on-root : StandsOn table root path place → path_root path ≡ root
-  on-root on =
-      let r = rooted most table root union on.root_is in
-      sym (root-stands most (tree_of table.nodes root) path.node path.entry path.size place r.fit on.stands) ∙ r.root_is
-
   -- one that points to a place is in the tree of its root
   pub points-root : PointsTo table root path place → path_root path ≡ root
   points-root to =

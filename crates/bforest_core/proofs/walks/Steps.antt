@@ -3,8 +3,8 @@ use Rattle.std.proofs.Common.{◌≡◌, ◌≢◌, ℕ, zero, suc, ◌+◌, ◌
 use Rattle.std.proofs.lemmas.List.{append-nil}
 use Rattle.std.specs.Option.{option_map}
 use Rattle.bforest_nodes.specs.Content.{Content}
-use Rattle.bforest_core.specs.Levels.{LevelNode, node, flat, heads, FitRow}
-use Rattle.bforest_core.specs.Place.{RowIn, inner_content, entry_items, StandsAbove}
+use Rattle.bforest_core.specs.Levels.{LevelNode, node, flat, heads, FitRow, Tree}
+use Rattle.bforest_core.specs.Place.{RowIn, inner_content, entry_items, StandsAbove, Stands}
 use Rattle.bforest_core.specs.Climb.{SameBelow}
 use Rattle.bforest_core.specs.Steps.{Over, Moved}
 use Rattle.bforest_core.proofs.rows.LevelRows.{flat-append, least-pos, FitRow-split}
@@ -183,3 +183,21 @@ module _ {K V : Type 0} where
 pub only : {K V : Type 0} (slots : List (Content K V)) (path indices : List ℕ) (level size : ℕ) (rows : List (List (LevelNode K ℕ))) (list : List (K × ℕ)) (place : ℕ) → Over slots path indices level size rows list place → level ≡ size → (place ≡ 0) × (length list ≡ 1)
 only slots path indices level size [] list place p e = (p.stands, p.stacked)
 only slots path indices level size (row ∷ rows) list place p e = absurd (omega (arith, p.height, e))
+
+-- a path whose nodes are those of another, and whose indices but the leaf's are, too: it stands in the other's leaf
+pub stands_in : {K V : Type 0} (tree : Tree K V) (size : ℕ) (path indices path' indices' : List ℕ) → path' ≡ path → ((i : ℕ) → i ≢ 0 → get_or indices' i 0 ≡ get_or indices i 0) → size ≡ suc (length tree.above) →
+    (before : List (LevelNode K V)) (number : ℕ) (es : List (K × V)) (after : List (LevelNode K V)) (k place : ℕ) → tree.leaves ≡ before ++ node number es ∷ after → get_or path 0 0 ≡ number → StandsAbove path indices 1 tree.above k → length before ≡ k →
+    get_or indices' 0 0 < length es → place ≡ length (flat before) + get_or indices' 0 0 → Stands path' indices' size tree place
+stands_in tree size path indices path' indices' path_is same size_is before number es after k place row_is number_is above before_is within place_is =
+    record {
+      leaf = record {
+        before = before;
+        entries = es;
+        after = after;
+        row_is = row_is ∙ ap (λ z. before ++ node z es ∷ after) (sym (ap (λ z. get_or z 0 0) path_is ∙ number_is));
+        within = within;
+        place_is = place_is;
+      };
+      above = subst (λ (z : ℕ). StandsAbove path' indices' 1 tree.above z) (sym before_is) (stands-same path indices path' indices' 1 tree.above k (λ i low. ap (λ z. get_or z i 0) path_is) (λ i low. same i (λ e. omega (arith, e, low))) above);
+      size_is = size_is;
+    }

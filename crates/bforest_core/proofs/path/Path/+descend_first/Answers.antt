@@ -1,13 +1,8 @@
-use Rattle.std.proofs.Common.{rules, ◌≡◌, ℕ, ◌+◌, ◌-◌, ◌<◌, ◌∷◌, ◌++◌, length, get_or, slice_get, sym, ap, subst, ◌∙◌, arith}
+use Rattle.std.proofs.Common.{rules, ◌+◌, ◌-◌, ◌<◌, length, get_or, sym, ap, ◌∙◌, arith}
 use Rattle.std.proofs.lemmas.List.{get_or-set_other}
 use Rattle.std.proofs.lemmas.Bool.{false≢true}
-use Rattle.bforest_nodes.specs.Content.{IsInner, entry_count, children_of}
-use Rattle.bforest_core.specs.Levels.{flat}
-use Rattle.bforest_core.specs.Descent.{Under}
-use Rattle.bforest_core.specs.Place.{inner_content}
 use Rattle.bforest_core.proofs.walks.Descent.{some_leaf}
-use Rattle.bforest_core.proofs.table.Stored.{some_same}
-use Rattle.bforest_core.proofs.walks.Leading.{front_within, front_leaf, front_inner, front_count, led_leaf, led_inner}
+use Rattle.bforest_core.proofs.walks.Leading.{front_within, front_leaf, front_asks, front_below, led_leaf, led_here}
 use Rattle.bforest_core.proofs.path.Path.+descend_first.Goals as goal
 
 pub node-requires : goal.node-requires
@@ -34,64 +29,36 @@ node-requires-2 g t c =
 pub child-child-requires : goal.child-child-requires
 child-child-requires g t c =
     let w = c.requires.under in
-    let s = front_inner g.row.N (some_leaf _ c.requires.capacity) c.args.pool.now.nodes w.0 w.1 w.2 c.args.node w.3 w.4 c.node.result.now c.node.ensures.value (c.is_inner.ensures.inner.0 c.if-not-is_inner.false) in
-    let content : c.node-2.result.now ≡ inner_content (s.front.e ∷ s.front.es) = some_same c.node-2.result.now (inner_content (s.front.e ∷ s.front.es)) (sym c.node-2.ensures.value ∙ s.slot_is) in
-    (search rules, (subst IsInner (sym content) tt, (let n = ap entry_count content in omega (arith, n))))
+    (search rules, front_asks g.row.N (some_leaf _ c.requires.capacity) c.args.pool.now.nodes w.0 w.1 w.2 c.args.node w.3 w.4 c.node.result.now c.node-2.result.now c.node.ensures.value (c.is_inner.ensures.inner.0 c.if-not-is_inner.false) c.node-2.ensures.value)
 
 pub descend_first-below-requires : goal.descend_first-below-requires
 descend_first-below-requires g t c κs within =
     let w = c.requires.under in
-    let s = front_inner g.row.N (some_leaf _ c.requires.capacity) c.args.pool.now.nodes w.0 w.1 w.2 c.args.node w.3 w.4 c.node.result.now c.node.ensures.value (c.is_inner.ensures.inner.0 c.if-not-is_inner.false) in
-    let content : c.node-2.result.now ≡ inner_content (s.front.e ∷ s.front.es) = some_same c.node-2.result.now (inner_content (s.front.e ∷ s.front.es)) (sym c.node-2.ensures.value ∙ s.slot_is) in
-    let child_is : c.child-child.result ≡ s.front.e.1 = some_same c.child-child.result s.front.e.1 (sym c.child-child.ensures.child ∙ ap (λ z. slice_get (children_of z) 0) content) in
-    let under = subst (λ (z : ℕ). Under g.row.N c.args.pool.now.nodes w.0 s.rows ((s.front.e.0, z) ∷ (s.front.es ++ flat s.front.after))) (sym child_is) s.under in
-    let n = front_count g.row.N (some_leaf _ c.requires.capacity) c.args.pool.now.nodes w.0 w.1 c.args.node s in
-    let less : 17 - (c.args.depth + 1) < t = omega (arith, c.decreases, w.5, n) in
-    (less, (within.0, (within.1, ((λ a m. search rules), (search rules, (search rules, (c.requires.capacity, (w.0, s.rows, s.front.e.0, s.front.es ++ flat s.front.after, under, omega (arith, w.5, n)))))))))
+    let b = front_below g.row.N (some_leaf _ c.requires.capacity) c.args.pool.now.nodes w.0 w.1 w.2 c.args.node w.3 w.4 c.node.result.now c.node-2.result.now c.node.ensures.value (c.is_inner.ensures.inner.0 c.if-not-is_inner.false) c.node-2.ensures.value c.child-child.result c.child-child.ensures.child in
+    let less : 17 - (c.args.depth + 1) < t = omega (arith, c.decreases, w.5, b.count_is) in
+    (less, (within.0, (within.1, ((λ a m. search rules), (search rules, (search rules, (c.requires.capacity, (w.0, b.rows, b.first, b.rest, b.under, omega (arith, w.5, b.count_is)))))))))
 
 pub overflow_add-below : goal.overflow_add-below
 overflow_add-below g t c =
     let w = c.requires.under in
-    let s = front_inner g.row.N (some_leaf _ c.requires.capacity) c.args.pool.now.nodes w.0 w.1 w.2 c.args.node w.3 w.4 c.node.result.now c.node.ensures.value (c.is_inner.ensures.inner.0 c.if-not-is_inner.false) in
-    let content : c.node-2.result.now ≡ inner_content (s.front.e ∷ s.front.es) = some_same c.node-2.result.now (inner_content (s.front.e ∷ s.front.es)) (sym c.node-2.ensures.value ∙ s.slot_is) in
-    let child_is : c.child-child.result ≡ s.front.e.1 = some_same c.child-child.result s.front.e.1 (sym c.child-child.ensures.child ∙ ap (λ z. slice_get (children_of z) 0) content) in
-    let under = subst (λ (z : ℕ). Under g.row.N c.args.pool.now.nodes w.0 s.rows ((s.front.e.0, z) ∷ (s.front.es ++ flat s.front.after))) (sym child_is) s.under in
-    let n = front_count g.row.N (some_leaf _ c.requires.capacity) c.args.pool.now.nodes w.0 w.1 c.args.node s in
-    let r = c.descend_first-below.ensures.level w.0 s.rows s.front.e.0 (s.front.es ++ flat s.front.after) under in
-    omega (arith, r.0, n, w.5)
+    let b = front_below g.row.N (some_leaf _ c.requires.capacity) c.args.pool.now.nodes w.0 w.1 w.2 c.args.node w.3 w.4 c.node.result.now c.node-2.result.now c.node.ensures.value (c.is_inner.ensures.inner.0 c.if-not-is_inner.false) c.node-2.ensures.value c.child-child.result c.child-child.ensures.child in
+    let r = c.descend_first-below.ensures.level w.0 b.rows b.first b.rest b.under in
+    omega (arith, r.0, b.count_is, w.5)
 
 pub set_level-requires-2 : goal.set_level-requires-2
 set_level-requires-2 g t c =
     let w = c.requires.under in
-    let s = front_inner g.row.N (some_leaf _ c.requires.capacity) c.args.pool.now.nodes w.0 w.1 w.2 c.args.node w.3 w.4 c.node.result.now c.node.ensures.value (c.is_inner.ensures.inner.0 c.if-not-is_inner.false) in
-    let content : c.node-2.result.now ≡ inner_content (s.front.e ∷ s.front.es) = some_same c.node-2.result.now (inner_content (s.front.e ∷ s.front.es)) (sym c.node-2.ensures.value ∙ s.slot_is) in
-    let child_is : c.child-child.result ≡ s.front.e.1 = some_same c.child-child.result s.front.e.1 (sym c.child-child.ensures.child ∙ ap (λ z. slice_get (children_of z) 0) content) in
-    let under = subst (λ (z : ℕ). Under g.row.N c.args.pool.now.nodes w.0 s.rows ((s.front.e.0, z) ∷ (s.front.es ++ flat s.front.after))) (sym child_is) s.under in
-    let n = front_count g.row.N (some_leaf _ c.requires.capacity) c.args.pool.now.nodes w.0 w.1 c.args.node s in
-    let r = c.descend_first-below.ensures.level w.0 s.rows s.front.e.0 (s.front.es ++ flat s.front.after) under in
-    (search rules, omega (arith, r.0, n, w.5))
+    let b = front_below g.row.N (some_leaf _ c.requires.capacity) c.args.pool.now.nodes w.0 w.1 w.2 c.args.node w.3 w.4 c.node.result.now c.node-2.result.now c.node.ensures.value (c.is_inner.ensures.inner.0 c.if-not-is_inner.false) c.node-2.ensures.value c.child-child.result c.child-child.ensures.child in
+    let r = c.descend_first-below.ensures.level w.0 b.rows b.first b.rest b.under in
+    (search rules, omega (arith, r.0, b.count_is, w.5))
 
 pub overflow_add-result : goal.overflow_add-result
 overflow_add-result g t c =
     let w = c.requires.under in
-    let s = front_inner g.row.N (some_leaf _ c.requires.capacity) c.args.pool.now.nodes w.0 w.1 w.2 c.args.node w.3 w.4 c.node.result.now c.node.ensures.value (c.is_inner.ensures.inner.0 c.if-not-is_inner.false) in
-    let content : c.node-2.result.now ≡ inner_content (s.front.e ∷ s.front.es) = some_same c.node-2.result.now (inner_content (s.front.e ∷ s.front.es)) (sym c.node-2.ensures.value ∙ s.slot_is) in
-    let child_is : c.child-child.result ≡ s.front.e.1 = some_same c.child-child.result s.front.e.1 (sym c.child-child.ensures.child ∙ ap (λ z. slice_get (children_of z) 0) content) in
-    let under = subst (λ (z : ℕ). Under g.row.N c.args.pool.now.nodes w.0 s.rows ((s.front.e.0, z) ∷ (s.front.es ++ flat s.front.after))) (sym child_is) s.under in
-    let n = front_count g.row.N (some_leaf _ c.requires.capacity) c.args.pool.now.nodes w.0 w.1 c.args.node s in
-    let r = c.descend_first-below.ensures.level w.0 s.rows s.front.e.0 (s.front.es ++ flat s.front.after) under in
-    omega (arith, r.0, n, w.5)
+    let b = front_below g.row.N (some_leaf _ c.requires.capacity) c.args.pool.now.nodes w.0 w.1 w.2 c.args.node w.3 w.4 c.node.result.now c.node-2.result.now c.node.ensures.value (c.is_inner.ensures.inner.0 c.if-not-is_inner.false) c.node-2.ensures.value c.child-child.result c.child-child.ensures.child in
+    let r = c.descend_first-below.ensures.level w.0 b.rows b.first b.rest b.under in
+    omega (arith, r.0, b.count_is, w.5)
 
 pub returns-clause-level : goal.returns-clause-level
 returns-clause-level g t c = λ leaves lower first b u.
-    let s = front_inner g.row.N (some_leaf _ c.requires.capacity) c.args.pool.now.nodes leaves lower first c.args.node b u c.node.result.now c.node.ensures.value (c.is_inner.ensures.inner.0 c.if-not-is_inner.false) in
-    let content : c.node-2.result.now ≡ inner_content (s.front.e ∷ s.front.es) = some_same c.node-2.result.now (inner_content (s.front.e ∷ s.front.es)) (sym c.node-2.ensures.value ∙ s.slot_is) in
-    let child_is : c.child-child.result ≡ s.front.e.1 = some_same c.child-child.result s.front.e.1 (sym c.child-child.ensures.child ∙ ap (λ z. slice_get (children_of z) 0) content) in
-    let under = subst (λ (z : ℕ). Under g.row.N c.args.pool.now.nodes leaves s.rows ((s.front.e.0, z) ∷ (s.front.es ++ flat s.front.after))) (sym child_is) s.under in
-    let r = c.descend_first-below.ensures.level leaves s.rows s.front.e.0 (s.front.es ++ flat s.front.after) under in
-    let ms = c.descend_first-below.new.self.node in
-    let js = c.descend_first-below.new.self.entry in
-    let high = c.descend_first-below.result + 1 in
-    led_inner g.row.N (some_leaf _ c.requires.capacity) c.args.pool.now.nodes leaves lower c.args.node s c.args.self.now.node c.args.self.now.entry ms js c.set_level-2.new.self.node c.set_level-2.new.self.entry high (omega (arith, r.0)) r.1 c.set_level-2.ensures.here.0 c.set_level-2.ensures.here.1
-    (λ i other. ap (λ z. get_or z i 0) c.set_level-2.ensures.node ∙ get_or-set_other ms high i c.args.node 0 other)
-    (λ i other. ap (λ z. get_or z i 0) c.set_level-2.ensures.entry ∙ get_or-set_other js high i 0 0 other)
+    led_here g.row.N (some_leaf _ c.requires.capacity) c.args.pool.now.nodes leaves lower first c.args.node b u c.node.result.now c.node-2.result.now c.node.ensures.value (c.is_inner.ensures.inner.0 c.if-not-is_inner.false) c.node-2.ensures.value c.child-child.result c.child-child.ensures.child c.args.self.now.node c.args.self.now.entry c.descend_first-below.new.self.node c.descend_first-below.new.self.entry c.descend_first-below.result c.descend_first-below.ensures.level c.set_level-2.new.self.node c.set_level-2.new.self.entry c.set_level-2.ensures.here.0 c.set_level-2.ensures.here.1 c.set_level-2.ensures.node c.set_level-2.ensures.entry

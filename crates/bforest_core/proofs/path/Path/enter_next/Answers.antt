@@ -1,8 +1,12 @@
-use Rattle.std.proofs.Common.{rules, suc, ◌∷◌, ◌++◌, length, set, refl, ◌∙◌, arith}
+use Rattle.std.proofs.Common.{rules, ℕ, suc, List, ◌∷◌, ◌++◌, length, set, refl, ◌∙◌, arith}
 use Rattle.std.proofs.lemmas.List.{get_or-set_same, get_or-set_other}
+use Rattle.bforest_core.specs.Levels.{LevelNode}
+use Rattle.bforest_core.specs.Climb.{Above}
+use Rattle.bforest_core.specs.Steps.{Moved}
 use Rattle.bforest_core.proofs.removal.Neighbours.{over-above, must_move, entered_next}
 use Rattle.bforest_core.proofs.rows.Zipper.{above_two}
 use Rattle.bforest_core.proofs.rows.Tops.{top-same}
+use Rattle.bforest_core.proofs.path.Path.enter_next.Given.{Over}
 use Rattle.bforest_core.proofs.path.Path.enter_next.Goals as goal
 
 pub next_node-moved-requires : goal.next_node-moved-requires
@@ -10,6 +14,15 @@ next_node-moved-requires g c =
     let w = c.requires.pending in
     let list = w.1 ++ w.2 ∷ w.3 ∷ w.4 in
     (search rules, (search rules, (c.requires.height, (w.0, list, length w.1, over-above c.args.pool.now c.args.self.now.node c.args.self.now.entry (suc c.args.level) c.args.self.now.size w.0 list (length w.1) w.5))))
+
+-- the level above moved to the next node
+moved : (g : Over) (c : goal.After-way_told-1 g) (rows : List (List (LevelNode g.row.K.Denot ℕ))) (a : List (g.row.K.Denot × ℕ)) (x y : g.row.K.Denot × ℕ) (b : List (g.row.K.Denot × ℕ)) →
+    Above c.args.pool.now c.args.self.now.node c.args.self.now.entry (suc c.args.level) c.args.self.now.size rows (a ++ x ∷ y ∷ b) (length a) → Moved c.args.self.now.node c.args.self.now.entry c.next_node-moved.new.self.node c.next_node-moved.new.self.entry c.args.level rows (a ++ x ∷ y ∷ b) (suc (length a))
+moved g c rows a x y b p =
+    let s0 = c.args.self.now in
+    let o = over-above c.args.pool.now s0.node s0.entry (suc c.args.level) s0.size rows (a ++ x ∷ y ∷ b) (length a) p in
+    let yes = must_move c.args.pool.now s0.node s0.entry (suc c.args.level) s0.size rows a x y b c.next_node-moved.result (λ no. c.next_node-moved.ensures.last no rows (a ++ x ∷ y ∷ b) (length a) o) in
+    c.next_node-moved.ensures.moved yes rows (a ++ x ∷ y ∷ b) (length a) o
 
 pub returns-clause-first : goal.returns-clause-first
 returns-clause-first g c = get_or-set_same c.next_node-moved.new.self.entry c.args.level 0 0 (omega (arith, c.requires.pending.5.height, c.requires.height))
@@ -21,41 +34,20 @@ pub returns-clause-moved : goal.returns-clause-moved
 returns-clause-moved g c = λ rows a x y b p.
     let s0 = c.args.self.now in
     let s1 = c.next_node-moved.new.self in
-    let list = a ++ x ∷ y ∷ b in
-    let o = over-above c.args.pool.now s0.node s0.entry (suc c.args.level) s0.size rows list (length a) p in
-    let yes = must_move c.args.pool.now s0.node s0.entry (suc c.args.level) s0.size rows a x y b c.next_node-moved.result (λ no. c.next_node-moved.ensures.last no rows list (length a) o) in
-    let m = c.next_node-moved.ensures.moved yes rows list (length a) o in
-    entered_next c.args.pool.now s0.node s0.entry s1.node s1.entry (set s1.entry c.args.level 0) c.args.level s0.size rows a x y b p m (λ i high. get_or-set_other s1.entry c.args.level i 0 0 (λ same. omega (arith, same, high)))
+    entered_next c.args.pool.now s0.node s0.entry s1.node s1.entry (set s1.entry c.args.level 0) c.args.level s0.size rows a x y b p (moved g c rows a x y b p) (λ i high. get_or-set_other s1.entry c.args.level i 0 0 (λ same. omega (arith, same, high)))
 
 pub returns-clause-nodes_below : goal.returns-clause-nodes_below
-returns-clause-nodes_below g c =
-    let w = c.requires.pending in
-    let s0 = c.args.self.now in
-    let list = w.1 ++ w.2 ∷ w.3 ∷ w.4 in
-    let o = over-above c.args.pool.now s0.node s0.entry (suc c.args.level) s0.size w.0 list (length w.1) w.5 in
-    let yes = must_move c.args.pool.now s0.node s0.entry (suc c.args.level) s0.size w.0 w.1 w.2 w.3 w.4 c.next_node-moved.result (λ no. c.next_node-moved.ensures.last no w.0 list (length w.1) o) in
-    let m = c.next_node-moved.ensures.moved yes w.0 list (length w.1) o in
-    m.nodes_below
+returns-clause-nodes_below g c = let w = c.requires.pending in (moved g c w.0 w.1 w.2 w.3 w.4 w.5).nodes_below
 
 pub returns-clause-entries_below : goal.returns-clause-entries_below
 returns-clause-entries_below g c = λ below low.
     let w = c.requires.pending in
-    let s0 = c.args.self.now in
-    let s1 = c.next_node-moved.new.self in
-    let list = w.1 ++ w.2 ∷ w.3 ∷ w.4 in
-    let o = over-above c.args.pool.now s0.node s0.entry (suc c.args.level) s0.size w.0 list (length w.1) w.5 in
-    let yes = must_move c.args.pool.now s0.node s0.entry (suc c.args.level) s0.size w.0 w.1 w.2 w.3 w.4 c.next_node-moved.result (λ no. c.next_node-moved.ensures.last no w.0 list (length w.1) o) in
-    let m = c.next_node-moved.ensures.moved yes w.0 list (length w.1) o in
-    get_or-set_other s1.entry c.args.level below 0 0 (λ same. omega (arith, same, low)) ∙ m.entries_below below (omega (arith, low))
+    get_or-set_other c.next_node-moved.new.self.entry c.args.level below 0 0 (λ same. omega (arith, same, low)) ∙ (moved g c w.0 w.1 w.2 w.3 w.4 w.5).entries_below below (omega (arith, low))
 
 pub returns-clause-same_top : goal.returns-clause-same_top
 returns-clause-same_top g c =
     let w = c.requires.pending in
     let s0 = c.args.self.now in
     let s1 = c.next_node-moved.new.self in
-    let list = w.1 ++ w.2 ∷ w.3 ∷ w.4 in
-    let o = over-above c.args.pool.now s0.node s0.entry (suc c.args.level) s0.size w.0 list (length w.1) w.5 in
-    let yes = must_move c.args.pool.now s0.node s0.entry (suc c.args.level) s0.size w.0 w.1 w.2 w.3 w.4 c.next_node-moved.result (λ no. c.next_node-moved.ensures.last no w.0 list (length w.1) o) in
-    let m = c.next_node-moved.ensures.moved yes w.0 list (length w.1) o in
-    let e = entered_next c.args.pool.now s0.node s0.entry s1.node s1.entry s1.entry c.args.level s0.size w.0 w.1 w.2 w.3 w.4 w.5 m (λ i high. refl) in
-    top-same c.args.pool.now s0.node s0.entry s1.node s1.entry (suc c.args.level) s0.size w.0 list (length w.1) (suc (length w.1)) w.5 e.0 (above_two c.args.pool.now s0.node s0.entry (suc c.args.level) s0.size w.0 w.1 w.2 w.3 w.4 (length w.1) w.5)
+    let e = entered_next c.args.pool.now s0.node s0.entry s1.node s1.entry s1.entry c.args.level s0.size w.0 w.1 w.2 w.3 w.4 w.5 (moved g c w.0 w.1 w.2 w.3 w.4 w.5) (λ i high. refl) in
+    top-same c.args.pool.now s0.node s0.entry s1.node s1.entry (suc c.args.level) s0.size w.0 (w.1 ++ w.2 ∷ w.3 ∷ w.4) (length w.1) (suc (length w.1)) w.5 e.0 (above_two c.args.pool.now s0.node s0.entry (suc c.args.level) s0.size w.0 w.1 w.2 w.3 w.4 (length w.1) w.5)

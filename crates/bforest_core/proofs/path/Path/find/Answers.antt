@@ -1,10 +1,13 @@
 use Rattle.std.proofs.Common.{rules, ◌≡◌, ℕ, suc, ◌-◌, [], length, arith}
 use Rattle.std.proofs.lemmas.List.{length-map}
-use Rattle.bforest_core.specs.Levels.{Tree, sizes, sizes_of}
+use Rattle.bforest_nodes.specs.Entries.{value_for}
+use Rattle.bforest_core.specs.Descent.{Descended}
+use Rattle.bforest_core.specs.Levels.{Tree, flat, sizes, sizes_of}
 use Rattle.bforest_core.specs.Trees.{tree_of}
-use Rattle.bforest_core.proofs.union.Unions.{is-rooted}
 use Rattle.bforest_core.proofs.walks.Sought.{placed-for, stands-under}
-use Rattle.bforest_core.proofs.walks.Whole.{whole_top, whole_under, all_through, stands_for}
+use Rattle.bforest_core.proofs.walks.Whole.{all_through, stands_for}
+use Rattle.bforest_core.proofs.walks.Standing.{under-root}
+use Rattle.bforest_core.proofs.path.Path.find.Given.{Over}
 use Rattle.bforest_core.proofs.path.Path.find.Goals as goal
 
 -- the level of the root
@@ -21,38 +24,29 @@ overflow_sub-levels g c = omega (arith, c.levels-levels.ensures.value)
 pub descend-requires : goal.descend-requires
 descend-requires g c =
     let order = g.C.Comparator.order c.args.comp.now in
-    let slots = c.args.pool.now.nodes in
-    let tree = tree_of slots c.args.root in
-    let w = is-rooted g.row.N c.args.pool.now c.args.root c.requires.union c.requires.root in
+    let tree = tree_of c.args.pool.now.nodes c.args.root in
+    let u = under-root g.row.N c.args.pool.now c.args.root c.requires.union c.requires.root in
     let levels_is = top_is tree _ c.levels-levels.ensures.value in
-    (search rules, (search rules, (c.requires.union.1.capacity, (omega (arith, levels_is, w.low), (tree.leaves, tree.above, [], (whole_top g.row.N slots c.args.root tree w).first, [], whole_under g.row.N slots c.args.root tree w, c.requires.increasing, all_through order _ c.args.key, levels_is)))))
+    (search rules, (search rules, (c.requires.union.1.capacity, (omega (arith, levels_is, u.low), (tree.leaves, tree.above, [], u.first, [], u.under, c.requires.increasing, all_through order _ c.args.key, levels_is)))))
+
+-- what the way down leaves
+found : (g : Over) (c : goal.After-descend g) → (c.descend.result ≡ value_for (g.C.Comparator.order c.args.comp.now) (flat (tree_of c.args.pool.now.nodes c.args.root).leaves) c.args.key) × Descended (g.C.Comparator.order c.args.comp.now) (tree_of c.args.pool.now.nodes c.args.root).leaves (tree_of c.args.pool.now.nodes c.args.root).above c.args.key 0 c.args.self.now.node c.args.self.now.entry c.descend.new.self.node c.descend.new.self.entry
+found g c =
+    let tree = tree_of c.args.pool.now.nodes c.args.root in
+    let u = under-root g.row.N c.args.pool.now c.args.root c.requires.union c.requires.root in
+    c.descend.ensures.descended tree.leaves tree.above [] u.first [] u.under c.requires.increasing (all_through (g.C.Comparator.order c.args.comp.now) _ c.args.key) (top_is tree _ c.levels-levels.ensures.value)
 
 pub returns-clause-value : goal.returns-clause-value
-returns-clause-value g c =
-    let order = g.C.Comparator.order c.args.comp.now in
-    let slots = c.args.pool.now.nodes in
-    let tree = tree_of slots c.args.root in
-    let w = is-rooted g.row.N c.args.pool.now c.args.root c.requires.union c.requires.root in
-    let levels_is = top_is tree _ c.levels-levels.ensures.value in
-    let r = c.descend.ensures.descended tree.leaves tree.above [] (whole_top g.row.N slots c.args.root tree w).first [] (whole_under g.row.N slots c.args.root tree w) c.requires.increasing (all_through order _ c.args.key) levels_is in
-    r.0
+returns-clause-value g c = (found g c).0
 
 pub returns-clause-present : goal.returns-clause-present
 returns-clause-present g c = λ here.
     let order = g.C.Comparator.order c.args.comp.now in
-    let slots = c.args.pool.now.nodes in
-    let tree = tree_of slots c.args.root in
-    let w = is-rooted g.row.N c.args.pool.now c.args.root c.requires.union c.requires.root in
-    let levels_is = top_is tree _ c.levels-levels.ensures.value in
-    let r = c.descend.ensures.descended tree.leaves tree.above [] (whole_top g.row.N slots c.args.root tree w).first [] (whole_under g.row.N slots c.args.root tree w) c.requires.increasing (all_through order _ c.args.key) levels_is in
-    stands-under order slots c.args.root _ _ _ c.args.key c.requires.root (stands_for order tree c.args.key _ _ _ _ _ r.1 (size_is tree _ _ c.levels-levels.ensures.value c.descend.ensures.size)) here
+    let tree = tree_of c.args.pool.now.nodes c.args.root in
+    stands-under order c.args.pool.now.nodes c.args.root _ _ _ c.args.key c.requires.root (stands_for order tree c.args.key _ _ _ _ _ (found g c).1 (size_is tree _ _ c.levels-levels.ensures.value c.descend.ensures.size)) here
 
 pub returns-clause-absent : goal.returns-clause-absent
 returns-clause-absent g c = λ here.
     let order = g.C.Comparator.order c.args.comp.now in
-    let slots = c.args.pool.now.nodes in
-    let tree = tree_of slots c.args.root in
-    let w = is-rooted g.row.N c.args.pool.now c.args.root c.requires.union c.requires.root in
-    let levels_is = top_is tree _ c.levels-levels.ensures.value in
-    let r = c.descend.ensures.descended tree.leaves tree.above [] (whole_top g.row.N slots c.args.root tree w).first [] (whole_under g.row.N slots c.args.root tree w) c.requires.increasing (all_through order _ c.args.key) levels_is in
-    placed-for order slots c.args.root _ _ _ c.args.key c.requires.root (stands_for order tree c.args.key _ _ _ _ _ r.1 (size_is tree _ _ c.levels-levels.ensures.value c.descend.ensures.size)) here
+    let tree = tree_of c.args.pool.now.nodes c.args.root in
+    placed-for order c.args.pool.now.nodes c.args.root _ _ _ c.args.key c.requires.root (stands_for order tree c.args.key _ _ _ _ _ (found g c).1 (size_is tree _ _ c.levels-levels.ensures.value c.descend.ensures.size)) here

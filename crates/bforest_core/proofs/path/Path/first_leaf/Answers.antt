@@ -6,16 +6,16 @@ use Rattle.bforest_core.proofs.union.Unions.{is-rooted}
 use Rattle.bforest_core.proofs.walks.Descent.{some_leaf}
 use Rattle.bforest_core.proofs.walks.Leading.{front_within}
 use Rattle.bforest_core.proofs.walks.Leaves.{leaf-front, root-leaf}
-use Rattle.bforest_core.proofs.walks.Whole.{whole_led, whole_top, whole_under}
+use Rattle.bforest_core.proofs.walks.Whole.{whole_led}
+use Rattle.bforest_core.proofs.walks.Standing.{under-root}
 use Rattle.bforest_core.proofs.path.Path.first_leaf.Given.{Over}
 use Rattle.bforest_core.proofs.path.Path.first_leaf.Goals as goal
 
 pub node-requires : goal.node-requires
 node-requires g c =
-    let slots = c.args.pool.now.nodes in
-    let tree = tree_of slots c.args.root in
-    let w = is-rooted g.row.N c.args.pool.now c.args.root c.requires.union c.requires.root in
-    (search rules, (search rules, front_within g.row.N (some_leaf _ c.requires.union.1.capacity) slots tree.leaves tree.above (whole_top g.row.N slots c.args.root tree w).first c.args.root [] (whole_under g.row.N slots c.args.root tree w)))
+    let tree = tree_of c.args.pool.now.nodes c.args.root in
+    let u = under-root g.row.N c.args.pool.now c.args.root c.requires.union c.requires.root in
+    (search rules, (search rules, front_within g.row.N (some_leaf _ c.requires.union.1.capacity) c.args.pool.now.nodes tree.leaves tree.above u.first c.args.root [] u.under))
 
 -- the path on the root, which is a leaf
 alone : (g : Over) (c : goal.After-set_root_node g) → StandsOn c.args.pool.now c.args.root c.set_root_node.new.self 0
@@ -33,10 +33,9 @@ returns-then-not-is_inner-clause-stands g c =
 
 pub descend_first-level-requires : goal.descend_first-level-requires
 descend_first-level-requires g c =
-    let slots = c.args.pool.now.nodes in
-    let tree = tree_of slots c.args.root in
-    let w = is-rooted g.row.N c.args.pool.now c.args.root c.requires.union c.requires.root in
-    (search rules, (search rules, (c.requires.union.1.capacity, (tree.leaves, tree.above, (whole_top g.row.N slots c.args.root tree w).first, [], whole_under g.row.N slots c.args.root tree w, omega (arith, w.low)))))
+    let tree = tree_of c.args.pool.now.nodes c.args.root in
+    let u = under-root g.row.N c.args.pool.now c.args.root c.requires.union c.requires.root in
+    (search rules, (search rules, (c.requires.union.1.capacity, (tree.leaves, tree.above, u.first, [], u.under, omega (arith, u.low)))))
 
 pub overflow_add-self : goal.overflow_add-self
 overflow_add-self g c =

@@ -1,41 +1,34 @@
-use Rattle.std.proofs.Common.{rules, ◌≡◌, ◌≤◌, length, arith}
+use Rattle.std.proofs.Common.{rules, arith}
 use Rattle.bforest_core.proofs.insertion.HalvingLeaf.{full_asks, early_asks, early_halves, late_within, late_asks, late_halves}
 use Rattle.bforest_core.proofs.path.Path.halve_leaf.Goals as goal
 
 pub split_node-right-requires : goal.split_node-right-requires
 split_node-right-requires g c =
     let w = c.requires.placed in
-    let wide : length c.args.self.now.node ≡ 17 = omega arith in
-    let d = full_asks g.row.N c.args.pool.now c.args.pool.now c.args.self.now.node c.args.self.now.entry c.args.self.now.size w.0 w.1 w.2 c.index-self-0.result wide c.requires.full in
+    let d = full_asks g.row.N c.args.pool.now c.args.self.now.node c.args.self.now.entry c.args.self.now.size w.0 w.1 w.2 c.index-self-0.result (omega arith) c.args.pool.now c.requires.full in
     (search rules, (d.used, (d.full, c.requires.room)))
 
 pub put_entry-room-requires : goal.put_entry-room-requires
 put_entry-room-requires g c =
     let w = c.requires.placed in
-    let wide : length c.args.self.now.node ≡ 17 = omega arith in
-    let d = early_asks g.row.N c.args.pool.now c.split_node-right.new.self c.args.self.now.node c.args.self.now.entry c.args.self.now.size w.0 w.1 w.2 c.index-self-0.result wide c.requires.full c.split_node-right.ensures.capacity c.split_node-right.result.0 c.split_node-right.result.1 c.split_node-right.ensures.node c.split_node-right.ensures.used c.split_node-right.ensures.split c.if-index.true in
+    let d = early_asks g.row.N c.args.pool.now c.args.self.now.node c.args.self.now.entry c.args.self.now.size w.0 w.1 w.2 c.index-self-0.result (omega arith) c.split_node-right.new.self c.requires.full c.split_node-right.ensures.capacity c.split_node-right.result.0 c.split_node-right.result.1 c.split_node-right.ensures.node c.split_node-right.ensures.used c.split_node-right.ensures.split c.if-index.true in
     (search rules, (d.used, (d.keys, d.vals, d.slot, d.within)))
 
 pub overflow_sub-behind : goal.overflow_sub-behind
 overflow_sub-behind g c =
     let w = c.requires.placed in
-    let wide : length c.args.self.now.node ≡ 17 = omega arith in
-    late_within g.row.N c.args.pool.now c.split_node-right.new.self c.args.self.now.node c.args.self.now.entry c.args.self.now.size w.0 w.1 w.2 c.index-self-0.result wide c.requires.full c.split_node-right.ensures.capacity c.split_node-right.result.0 c.split_node-right.result.1 c.split_node-right.ensures.node c.split_node-right.ensures.used c.split_node-right.ensures.split c.if-index.false
+    late_within g.row.N c.args.pool.now c.args.self.now.node c.args.self.now.entry c.args.self.now.size w.0 w.1 w.2 c.index-self-0.result (omega arith) c.split_node-right.new.self c.requires.full c.split_node-right.ensures.capacity c.split_node-right.result.0 c.split_node-right.result.1 c.split_node-right.ensures.node c.split_node-right.ensures.used c.split_node-right.ensures.split c.if-index.false
 
 pub put_entry-room-requires-else-index : goal.put_entry-room-requires-else-index
 put_entry-room-requires-else-index g c =
     let w = c.requires.placed in
-    let wide : length c.args.self.now.node ≡ 17 = omega arith in
-    let d = late_asks g.row.N c.args.pool.now c.split_node-right.new.self c.args.self.now.node c.args.self.now.entry c.args.self.now.size w.0 w.1 w.2 c.index-self-0.result wide c.requires.full c.split_node-right.ensures.capacity c.split_node-right.result.0 c.split_node-right.result.1 c.split_node-right.ensures.node c.split_node-right.ensures.used c.split_node-right.ensures.split c.if-index.false in
+    let d = late_asks g.row.N c.args.pool.now c.args.self.now.node c.args.self.now.entry c.args.self.now.size w.0 w.1 w.2 c.index-self-0.result (omega arith) c.split_node-right.new.self c.requires.full c.split_node-right.ensures.capacity c.split_node-right.result.0 c.split_node-right.result.1 c.split_node-right.ensures.node c.split_node-right.ensures.used c.split_node-right.ensures.split c.if-index.false in
     (search rules, (d.used, (d.keys, d.vals, d.slot, d.within)))
 
 pub returns-then-index-clause-halved : goal.returns-then-index-clause-halved
 returns-then-index-clause-halved g c = λ tree place p.
-    let wide : length c.args.self.now.node ≡ 17 = omega arith in
-    early_halves g.row.N c.args.pool.now c.split_node-right.new.self c.args.self.now.node c.args.self.now.entry c.args.self.now.size tree place p c.index-self-0.result wide c.requires.full c.split_node-right.ensures.capacity c.split_node-right.result.0 c.split_node-right.result.1 c.split_node-right.ensures.node c.split_node-right.ensures.used c.split_node-right.ensures.split c.if-index.true c.put_entry-room.new.pool c.args.key c.args.value c.put_entry-room.result c.put_entry-room.ensures.room c.put_entry-room.ensures.node
+    early_halves g.row.N c.args.pool.now c.args.self.now.node c.args.self.now.entry c.args.self.now.size tree place p c.index-self-0.result (omega arith) c.split_node-right.new.self c.requires.full c.split_node-right.ensures.capacity c.split_node-right.result.0 c.split_node-right.result.1 c.split_node-right.ensures.node c.split_node-right.ensures.used c.split_node-right.ensures.split c.if-index.true c.put_entry-room.new.pool c.args.key c.args.value c.put_entry-room.result c.put_entry-room.ensures.room c.put_entry-room.ensures.node
 
 pub returns-else-index-clause-halved : goal.returns-else-index-clause-halved
 returns-else-index-clause-halved g c = λ tree place p.
-    let wide : length c.args.self.now.node ≡ 17 = omega arith in
-    let some : 1 ≤ length c.args.self.now.entry = omega arith in
-    late_halves g.row.N c.args.pool.now c.split_node-right.new.self c.args.self.now.node c.args.self.now.entry c.args.self.now.size tree place p c.index-self-0.result wide c.requires.full c.split_node-right.ensures.capacity c.split_node-right.result.0 c.split_node-right.result.1 c.split_node-right.ensures.node c.split_node-right.ensures.used c.split_node-right.ensures.split c.if-index.false c.put_entry-room-else-index.new.pool c.args.key c.first_key.result c.args.value c.put_entry-room-else-index.result c.put_entry-room-else-index.ensures.room c.put_entry-room-else-index.ensures.node c.first_key.ensures.front c.first_key.ensures.behind some
+    late_halves g.row.N c.args.pool.now c.args.self.now.node c.args.self.now.entry c.args.self.now.size tree place p c.index-self-0.result (omega arith) c.split_node-right.new.self c.requires.full c.split_node-right.ensures.capacity c.split_node-right.result.0 c.split_node-right.result.1 c.split_node-right.ensures.node c.split_node-right.ensures.used c.split_node-right.ensures.split c.if-index.false c.put_entry-room-else-index.new.pool c.args.key c.first_key.result c.args.value c.put_entry-room-else-index.result c.put_entry-room-else-index.ensures.room c.put_entry-room-else-index.ensures.node c.first_key.ensures.front c.first_key.ensures.behind (omega arith)

@@ -1,43 +1,35 @@
-use Rattle.std.proofs.Common.{rules, ◌<◌, length, arith}
+use Rattle.std.proofs.Common.{rules, arith}
 use Rattle.bforest_core.proofs.insertion.HalvingNode.{full_asks, index_small, early_asks, early_halves, late_asks, late_halves}
 use Rattle.bforest_core.proofs.path.Path.split_here.Goals as goal
 
 pub split_node-right-requires : goal.split_node-right-requires
 split_node-right-requires g c =
     let w = c.requires.pending in
-    let low : c.args.up < length c.args.self.now.node = omega arith in
-    let d = full_asks g.row.N c.args.pool.now c.args.pool.now c.args.self.now.node c.args.self.now.entry c.args.up c.args.self.now.size w.0 w.1 w.2 w.3 w.4 c.index-self-up.result c.requires.within low c.requires.full in
+    let d = full_asks c.args.pool.now c.args.self.now.node c.args.self.now.entry c.args.up c.args.self.now.size w.0 w.1 w.2 w.3 w.4 c.index-self-up.result c.requires.within (omega arith) g.row.N c.args.pool.now c.requires.full in
     (search rules, (d.used, (d.full, c.requires.room)))
 
 pub put_child-room-requires : goal.put_child-room-requires
 put_child-room-requires g c =
     let w = c.requires.pending in
-    let low : c.args.up < length c.args.self.now.node = omega arith in
-    let d = early_asks g.row.N c.args.pool.now c.split_node-right.new.self c.args.self.now.node c.args.self.now.entry c.args.up c.args.self.now.size w.0 w.1 w.2 w.3 w.4 c.index-self-up.result c.requires.within low c.requires.full c.split_node-right.result.0 c.split_node-right.result.1 c.split_node-right.ensures.node c.split_node-right.ensures.used c.split_node-right.ensures.split c.if-entry-lt-MIN_CHILDREN.true in
+    let d = early_asks c.args.pool.now c.args.self.now.node c.args.self.now.entry c.args.up c.args.self.now.size w.0 w.1 w.2 w.3 w.4 c.index-self-up.result c.requires.within (omega arith) g.row.N c.split_node-right.new.self c.requires.full c.split_node-right.result.0 c.split_node-right.result.1 c.split_node-right.ensures.node c.split_node-right.ensures.used c.split_node-right.ensures.split c.if-entry-lt-MIN_CHILDREN.true in
     (search rules, (d.used, (d.keys, d.children, d.slot, d.within)))
 
 pub put_child-room-requires-else-entry-lt-MIN_CHILDREN : goal.put_child-room-requires-else-entry-lt-MIN_CHILDREN
 put_child-room-requires-else-entry-lt-MIN_CHILDREN g c =
     let w = c.requires.pending in
-    let low : c.args.up < length c.args.self.now.node = omega arith in
-    let d = late_asks g.row.N c.args.pool.now c.split_node-right.new.self c.args.self.now.node c.args.self.now.entry c.args.up c.args.self.now.size w.0 w.1 w.2 w.3 w.4 c.index-self-up.result c.requires.within low c.requires.full c.split_node-right.result.0 c.split_node-right.result.1 c.split_node-right.ensures.node c.split_node-right.ensures.used c.split_node-right.ensures.split in
+    let d = late_asks c.args.pool.now c.args.self.now.node c.args.self.now.entry c.args.up c.args.self.now.size w.0 w.1 w.2 w.3 w.4 c.index-self-up.result c.requires.within (omega arith) g.row.N c.split_node-right.new.self c.requires.full c.split_node-right.result.0 c.split_node-right.result.1 c.split_node-right.ensures.node c.split_node-right.ensures.used c.split_node-right.ensures.split in
     (search rules, (d.used, (d.keys, d.children, d.slot, d.within)))
 
 pub index_behind-requires-else-entry-lt-MIN_CHILDREN : goal.index_behind-requires-else-entry-lt-MIN_CHILDREN
 index_behind-requires-else-entry-lt-MIN_CHILDREN g c =
     let w = c.requires.pending in
-    let low : c.args.up < length c.args.self.now.node = omega arith in
-    let small = index_small g.row.N c.args.pool.now c.split_node-right.new.self c.args.self.now.node c.args.self.now.entry c.args.up c.args.self.now.size w.0 w.1 w.2 w.3 w.4 c.index-self-up.result c.requires.within low c.requires.full in
+    let small = index_small c.args.pool.now c.args.self.now.node c.args.self.now.entry c.args.up c.args.self.now.size w.0 w.1 w.2 w.3 w.4 c.index-self-up.result c.requires.within (omega arith) in
     omega (arith, small)
 
 pub returns-then-entry-lt-MIN_CHILDREN-clause-halved : goal.returns-then-entry-lt-MIN_CHILDREN-clause-halved
 returns-then-entry-lt-MIN_CHILDREN-clause-halved g c = λ rows a x b p.
-    let low : c.args.up < length c.args.self.now.node = omega arith in
-    let low_js : c.args.up < length c.args.self.now.entry = omega arith in
-    early_halves g.row.N c.args.pool.now c.split_node-right.new.self c.args.self.now.node c.args.self.now.entry c.args.up c.args.self.now.size rows a x b p c.index-self-up.result c.requires.within low c.requires.full c.split_node-right.result.0 c.split_node-right.result.1 c.split_node-right.ensures.node c.split_node-right.ensures.used c.split_node-right.ensures.split c.put_child-room.new.pool c.args.half.key c.args.half.node c.args.half.moved c.put_child-room.result c.index_behind.result c.if-entry-lt-MIN_CHILDREN.true c.put_child-room.ensures.room c.put_child-room.ensures.node c.index_behind.ensures.value low_js
+    early_halves c.args.pool.now c.args.self.now.node c.args.self.now.entry c.args.up c.args.self.now.size rows a x b p c.index-self-up.result c.requires.within (omega arith) g.row.N c.split_node-right.new.self c.requires.full c.split_node-right.result.0 c.split_node-right.result.1 c.split_node-right.ensures.node c.split_node-right.ensures.used c.split_node-right.ensures.split c.put_child-room.new.pool c.args.half.key c.args.half.node c.args.half.moved c.put_child-room.result c.index_behind.result c.if-entry-lt-MIN_CHILDREN.true c.put_child-room.ensures.room c.put_child-room.ensures.node c.index_behind.ensures.value (omega arith)
 
 pub returns-else-entry-lt-MIN_CHILDREN-clause-halved : goal.returns-else-entry-lt-MIN_CHILDREN-clause-halved
 returns-else-entry-lt-MIN_CHILDREN-clause-halved g c = λ rows a x b p.
-    let low : c.args.up < length c.args.self.now.node = omega arith in
-    let low_js : c.args.up < length c.args.self.now.entry = omega arith in
-    late_halves g.row.N c.args.pool.now c.split_node-right.new.self c.args.self.now.node c.args.self.now.entry c.args.up c.args.self.now.size rows a x b p c.index-self-up.result c.requires.within low c.requires.full c.split_node-right.result.0 c.split_node-right.result.1 c.split_node-right.ensures.node c.split_node-right.ensures.used c.split_node-right.ensures.split c.put_child-room-else-entry-lt-MIN_CHILDREN.new.pool c.args.half.key c.args.half.node c.args.half.moved c.put_child-room-else-entry-lt-MIN_CHILDREN.result c.index_behind-else-entry-lt-MIN_CHILDREN.result c.if-entry-lt-MIN_CHILDREN.false c.put_child-room-else-entry-lt-MIN_CHILDREN.ensures.room c.put_child-room-else-entry-lt-MIN_CHILDREN.ensures.node c.index_behind-else-entry-lt-MIN_CHILDREN.ensures.value low_js
+    late_halves c.args.pool.now c.args.self.now.node c.args.self.now.entry c.args.up c.args.self.now.size rows a x b p c.index-self-up.result c.requires.within (omega arith) g.row.N c.split_node-right.new.self c.requires.full c.split_node-right.result.0 c.split_node-right.result.1 c.split_node-right.ensures.node c.split_node-right.ensures.used c.split_node-right.ensures.split c.put_child-room-else-entry-lt-MIN_CHILDREN.new.pool c.args.half.key c.args.half.node c.args.half.moved c.put_child-room-else-entry-lt-MIN_CHILDREN.result c.index_behind-else-entry-lt-MIN_CHILDREN.result c.if-entry-lt-MIN_CHILDREN.false c.put_child-room-else-entry-lt-MIN_CHILDREN.ensures.room c.put_child-room-else-entry-lt-MIN_CHILDREN.ensures.node c.index_behind-else-entry-lt-MIN_CHILDREN.ensures.value (omega arith)

@@ -3,7 +3,7 @@ use Rattle.std.proofs.lemmas.List.{get_or_default}
 use Rattle.bforest_core.specs.Levels.{heads, sizes}
 use Rattle.bforest_core.proofs.insertion.Rise.{need_some, above_from, grown_from}
 use Rattle.bforest_core.proofs.insertion.LeafSpot.{leaf_spot}
-use Rattle.bforest_core.proofs.insertion.LeafHalving.{leaf_full_is}
+use Rattle.bforest_core.proofs.insertion.Halving.{leaf_full_is}
 use Rattle.bforest_core.proofs.insertion.LeafParted.{need_leaf, gain_leaf, inserted}
 use Rattle.bforest_core.proofs.rows.Needs.{leaf_need_full}
 use Rattle.bforest_core.proofs.path.Path.split_leaf.Goals as goal

@@ -1,12 +1,7 @@
-use Rattle.std.proofs.Common.{rules, ◌≡◌, ℕ, ◌+◌, ◌-◌, ◌<◌, ◌∷◌, ◌++◌, length, slice_get, sym, ap, subst, ◌∙◌, arith}
+use Rattle.std.proofs.Common.{rules, ◌+◌, ◌-◌, ◌<◌, length, sym, ap, ◌∙◌, arith}
 use Rattle.std.proofs.lemmas.Bool.{false≢true}
-use Rattle.bforest_nodes.specs.Content.{IsInner, entry_count, children_of}
-use Rattle.bforest_core.specs.Levels.{flat}
-use Rattle.bforest_core.specs.Descent.{Under}
-use Rattle.bforest_core.specs.Place.{inner_content}
 use Rattle.bforest_core.proofs.walks.Descent.{some_leaf}
-use Rattle.bforest_core.proofs.table.Stored.{some_same}
-use Rattle.bforest_core.proofs.walks.Leading.{front_within, front_leaf, front_inner, front_count}
+use Rattle.bforest_core.proofs.walks.Leading.{front_within, front_leaf, front_asks, front_below}
 use Rattle.bforest_core.proofs.pool.NodePool.+levels_from.Goals as goal
 
 pub node-requires : goal.node-requires
@@ -22,39 +17,25 @@ node-requires-then-is_inner g t c =
 pub child-requires : goal.child-requires
 child-requires g t c =
     let w = c.requires.under in
-    let s = front_inner g.row.N (some_leaf _ c.requires.capacity) c.args.self.now.nodes w.0 w.1 w.2 c.args.node w.3 w.4 c.node.result.now c.node.ensures.value (c.is_inner.ensures.inner.0 c.if-is_inner.true) in
-    let content : c.node-then-is_inner.result.now ≡ inner_content (s.front.e ∷ s.front.es) = some_same c.node-then-is_inner.result.now (inner_content (s.front.e ∷ s.front.es)) (sym c.node-then-is_inner.ensures.value ∙ s.slot_is) in
-    (search rules, (subst IsInner (sym content) tt, (let n = ap entry_count content in omega (arith, n))))
+    (search rules, front_asks g.row.N (some_leaf _ c.requires.capacity) c.args.self.now.nodes w.0 w.1 w.2 c.args.node w.3 w.4 c.node.result.now c.node-then-is_inner.result.now c.node.ensures.value (c.is_inner.ensures.inner.0 c.if-is_inner.true) c.node-then-is_inner.ensures.value)
 
 pub levels_from-requires : goal.levels_from-requires
 levels_from-requires g t c κs within =
     let w = c.requires.under in
-    let s = front_inner g.row.N (some_leaf _ c.requires.capacity) c.args.self.now.nodes w.0 w.1 w.2 c.args.node w.3 w.4 c.node.result.now c.node.ensures.value (c.is_inner.ensures.inner.0 c.if-is_inner.true) in
-    let content : c.node-then-is_inner.result.now ≡ inner_content (s.front.e ∷ s.front.es) = some_same c.node-then-is_inner.result.now (inner_content (s.front.e ∷ s.front.es)) (sym c.node-then-is_inner.ensures.value ∙ s.slot_is) in
-    let child_is : c.child.result ≡ s.front.e.1 = some_same c.child.result s.front.e.1 (sym c.child.ensures.child ∙ ap (λ z. slice_get (children_of z) 0) content) in
-    let under = subst (λ (z : ℕ). Under g.row.N c.args.self.now.nodes w.0 s.rows ((s.front.e.0, z) ∷ (s.front.es ++ flat s.front.after))) (sym child_is) s.under in
-    let n = front_count g.row.N (some_leaf _ c.requires.capacity) c.args.self.now.nodes w.0 w.1 c.args.node s in
-    let less : 17 - (c.args.depth + 1) < t = omega (arith, c.decreases, w.5, n) in
-    (less, (within.0, (within.1, ((λ a m. search rules), (search rules, (c.requires.capacity, (w.0, s.rows, s.front.e.0, s.front.es ++ flat s.front.after, under, omega (arith, w.5, n))))))))
+    let b = front_below g.row.N (some_leaf _ c.requires.capacity) c.args.self.now.nodes w.0 w.1 w.2 c.args.node w.3 w.4 c.node.result.now c.node-then-is_inner.result.now c.node.ensures.value (c.is_inner.ensures.inner.0 c.if-is_inner.true) c.node-then-is_inner.ensures.value c.child.result c.child.ensures.child in
+    let less : 17 - (c.args.depth + 1) < t = omega (arith, c.decreases, w.5, b.count_is) in
+    (less, (within.0, (within.1, ((λ a m. search rules), (search rules, (c.requires.capacity, (w.0, b.rows, b.first, b.rest, b.under, omega (arith, w.5, b.count_is))))))))
 
 pub overflow_add-result : goal.overflow_add-result
 overflow_add-result g t c =
     let w = c.requires.under in
-    let s = front_inner g.row.N (some_leaf _ c.requires.capacity) c.args.self.now.nodes w.0 w.1 w.2 c.args.node w.3 w.4 c.node.result.now c.node.ensures.value (c.is_inner.ensures.inner.0 c.if-is_inner.true) in
-    let content : c.node-then-is_inner.result.now ≡ inner_content (s.front.e ∷ s.front.es) = some_same c.node-then-is_inner.result.now (inner_content (s.front.e ∷ s.front.es)) (sym c.node-then-is_inner.ensures.value ∙ s.slot_is) in
-    let child_is : c.child.result ≡ s.front.e.1 = some_same c.child.result s.front.e.1 (sym c.child.ensures.child ∙ ap (λ z. slice_get (children_of z) 0) content) in
-    let under = subst (λ (z : ℕ). Under g.row.N c.args.self.now.nodes w.0 s.rows ((s.front.e.0, z) ∷ (s.front.es ++ flat s.front.after))) (sym child_is) s.under in
-    let n = front_count g.row.N (some_leaf _ c.requires.capacity) c.args.self.now.nodes w.0 w.1 c.args.node s in
-    omega (arith, c.levels_from.ensures w.0 s.rows s.front.e.0 (s.front.es ++ flat s.front.after) under, n, w.5)
+    let b = front_below g.row.N (some_leaf _ c.requires.capacity) c.args.self.now.nodes w.0 w.1 w.2 c.args.node w.3 w.4 c.node.result.now c.node-then-is_inner.result.now c.node.ensures.value (c.is_inner.ensures.inner.0 c.if-is_inner.true) c.node-then-is_inner.ensures.value c.child.result c.child.ensures.child in
+    omega (arith, c.levels_from.ensures w.0 b.rows b.first b.rest b.under, b.count_is, w.5)
 
 pub returns-then-is_inner : goal.returns-then-is_inner
 returns-then-is_inner g t c = λ leaves lower first b u.
-    let s = front_inner g.row.N (some_leaf _ c.requires.capacity) c.args.self.now.nodes leaves lower first c.args.node b u c.node.result.now c.node.ensures.value (c.is_inner.ensures.inner.0 c.if-is_inner.true) in
-    let content : c.node-then-is_inner.result.now ≡ inner_content (s.front.e ∷ s.front.es) = some_same c.node-then-is_inner.result.now (inner_content (s.front.e ∷ s.front.es)) (sym c.node-then-is_inner.ensures.value ∙ s.slot_is) in
-    let child_is : c.child.result ≡ s.front.e.1 = some_same c.child.result s.front.e.1 (sym c.child.ensures.child ∙ ap (λ z. slice_get (children_of z) 0) content) in
-    let under = subst (λ (z : ℕ). Under g.row.N c.args.self.now.nodes leaves s.rows ((s.front.e.0, z) ∷ (s.front.es ++ flat s.front.after))) (sym child_is) s.under in
-    let n = front_count g.row.N (some_leaf _ c.requires.capacity) c.args.self.now.nodes leaves lower c.args.node s in
-    omega (arith, c.levels_from.ensures leaves s.rows s.front.e.0 (s.front.es ++ flat s.front.after) under, n)
+    let d = front_below g.row.N (some_leaf _ c.requires.capacity) c.args.self.now.nodes leaves lower first c.args.node b u c.node.result.now c.node-then-is_inner.result.now c.node.ensures.value (c.is_inner.ensures.inner.0 c.if-is_inner.true) c.node-then-is_inner.ensures.value c.child.result c.child.ensures.child in
+    omega (arith, c.levels_from.ensures leaves d.rows d.first d.rest d.under, d.count_is)
 
 pub returns-else-is_inner : goal.returns-else-is_inner
 returns-else-is_inner g t c = λ leaves lower first b u.

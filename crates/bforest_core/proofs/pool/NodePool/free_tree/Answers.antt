@@ -3,41 +3,33 @@ use Rattle.bforest_core.specs.Place.{numbers_of}
 use Rattle.bforest_core.specs.Trees.{numbers_down, tree_of}
 use Rattle.bforest_core.proofs.union.Account.{length-same, nodes-count}
 use Rattle.bforest_core.proofs.union.Roots.{uprooted-union}
-use Rattle.bforest_core.proofs.union.Unions.{is-rooted, rooted}
-use Rattle.bforest_core.proofs.walks.Whole.{whole_top, whole_under}
+use Rattle.bforest_core.proofs.union.Unions.{rooted}
+use Rattle.bforest_core.proofs.walks.Standing.{under-root}
 use Rattle.bforest_core.proofs.pool.NodePool.free_tree.Goals as goal
 
 pub free_below-requires : goal.free_below-requires
 free_below-requires g c =
-    let slots = c.args.self.now.nodes in
-    let tree = tree_of slots c.args.root in
-    let w = is-rooted g.row.N c.args.self.now c.args.root c.requires.union c.requires.root in
+    let tree = tree_of c.args.self.now.nodes c.args.root in
+    let u = under-root g.row.N c.args.self.now c.args.root c.requires.union c.requires.root in
     let r = rooted g.row.N c.args.self.now c.args.root c.requires.union c.requires.root in
-    (search rules, (c.requires.union.1.capacity, (tree.leaves, tree.above, (whole_top g.row.N slots c.args.root tree w).first, whole_under g.row.N slots c.args.root tree w, r.apart, omega (arith, w.low))))
+    (search rules, (c.requires.union.1.capacity, (tree.leaves, tree.above, u.first, u.under, r.apart, omega (arith, u.low))))
 
 pub returns-clause-ended : goal.returns-clause-ended
 returns-clause-ended g c =
-    let slots = c.args.self.now.nodes in
-    let tree = tree_of slots c.args.root in
-    let w = is-rooted g.row.N c.args.self.now c.args.root c.requires.union c.requires.root in
-    let r = rooted g.row.N c.args.self.now c.args.root c.requires.union c.requires.root in
-    let all = c.free_below.ensures tree.leaves tree.above (whole_top g.row.N slots c.args.root tree w).first (whole_under g.row.N slots c.args.root tree w) r.apart in
+    let u = under-root g.row.N c.args.self.now c.args.root c.requires.union c.requires.root in
+    let all = c.free_below.ensures _ _ u.first u.under (rooted g.row.N c.args.self.now c.args.root c.requires.union c.requires.root).apart in
     let gone = uprooted-union g.row.N c.args.self.now c.free_below.new.self c.args.root _ c.requires.union c.requires.root all.frees.chain_is all.frees.freed_are all.frees.slots_are all.counted all.frees.others in
     record { union = gone.0; root_gone = gone.1; others = gone.2; limit_is = all.frees.limit_is }
 
 pub returns-clause-account : goal.returns-clause-account
 returns-clause-account g c =
-    let slots = c.args.self.now.nodes in
-    let tree = tree_of slots c.args.root in
-    let w = is-rooted g.row.N c.args.self.now c.args.root c.requires.union c.requires.root in
-    let r = rooted g.row.N c.args.self.now c.args.root c.requires.union c.requires.root in
-    let all = c.free_below.ensures tree.leaves tree.above (whole_top g.row.N slots c.args.root tree w).first (whole_under g.row.N slots c.args.root tree w) r.apart in
-    record { given = numbers_down slots (length tree.above) c.args.root; chain_is = all.frees.chain_is; slots = all.frees.slots_are; count_is = omega (arith, length-same (numbers_down slots (length tree.above) c.args.root) (numbers_of tree) all.counted, nodes-count tree) }
+    let tree = tree_of c.args.self.now.nodes c.args.root in
+    let given = numbers_down c.args.self.now.nodes (length tree.above) c.args.root in
+    let u = under-root g.row.N c.args.self.now c.args.root c.requires.union c.requires.root in
+    let all = c.free_below.ensures _ _ u.first u.under (rooted g.row.N c.args.self.now c.args.root c.requires.union c.requires.root).apart in
+    record { given = given; chain_is = all.frees.chain_is; slots = all.frees.slots_are; count_is = omega (arith, length-same given (numbers_of tree) all.counted, nodes-count tree) }
 
 pub returns-clause-order : goal.returns-clause-order
 returns-clause-order g c =
-    let slots = c.args.self.now.nodes in
-    let tree = tree_of slots c.args.root in
-    let w = is-rooted g.row.N c.args.self.now c.args.root c.requires.union c.requires.root in
-    let r = rooted g.row.N c.args.self.now c.args.root c.requires.union c.requires.root in
-    (c.free_below.ensures tree.leaves tree.above (whole_top g.row.N slots c.args.root tree w).first (whole_under g.row.N slots c.args.root tree w) r.apart).frees.chain_is
+    let u = under-root g.row.N c.args.self.now c.args.root c.requires.union c.requires.root in
+    (c.free_below.ensures _ _ u.first u.under (rooted g.row.N c.args.self.now c.args.root c.requires.union c.requires.root).apart).frees.chain_is

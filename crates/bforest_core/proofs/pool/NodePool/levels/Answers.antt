@@ -6,7 +6,7 @@ use Rattle.bforest_core.specs.Trees.{tree_of}
 use Rattle.bforest_core.proofs.rows.Bounds.{leaves-few, depth}
 use Rattle.bforest_core.proofs.walks.Descent.{some_leaf}
 use Rattle.bforest_core.proofs.union.Unions.{is-rooted}
-use Rattle.bforest_core.proofs.walks.Whole.{whole_top, whole_under}
+use Rattle.bforest_core.proofs.walks.Standing.{under-root}
 use Rattle.bforest_core.proofs.pool.NodePool.levels.Goals as goal
 
 -- the leaves are a level, too
@@ -15,18 +15,14 @@ count_is tree n is = omega (arith, is, length-map tree.above sizes)
 
 pub levels_from-requires : goal.levels_from-requires
 levels_from-requires g c =
-    let slots = c.args.self.now.nodes in
-    let tree = tree_of slots c.args.root in
-    let w = is-rooted g.row.N c.args.self.now c.args.root c.requires.union c.requires.root in
-    (search rules, (c.requires.union.1.capacity, (tree.leaves, tree.above, (whole_top g.row.N slots c.args.root tree w).first, [], whole_under g.row.N slots c.args.root tree w, omega (arith, w.low))))
+    let tree = tree_of c.args.self.now.nodes c.args.root in
+    let u = under-root g.row.N c.args.self.now c.args.root c.requires.union c.requires.root in
+    (search rules, (c.requires.union.1.capacity, (tree.leaves, tree.above, u.first, [], u.under, omega (arith, u.low))))
 
 pub returns-clause-value : goal.returns-clause-value
 returns-clause-value g c =
-    let slots = c.args.self.now.nodes in
-    let tree = tree_of slots c.args.root in
-    let w = is-rooted g.row.N c.args.self.now c.args.root c.requires.union c.requires.root in
-    let r = c.levels_from.ensures tree.leaves tree.above (whole_top g.row.N slots c.args.root tree w).first [] (whole_under g.row.N slots c.args.root tree w) in
-    count_is tree _ r
+    let u = under-root g.row.N c.args.self.now c.args.root c.requires.union c.requires.root in
+    count_is (tree_of c.args.self.now.nodes c.args.root) _ (c.levels_from.ensures _ _ u.first [] u.under)
 
 pub returns-clause-leaves : goal.returns-clause-leaves
 returns-clause-leaves g c =
@@ -38,18 +34,15 @@ returns-clause-leaves g c =
 
 pub returns-clause-depth : goal.returns-clause-depth
 returns-clause-depth g c = λ two.
-    let slots = c.args.self.now.nodes in
-    let tree = tree_of slots c.args.root in
+    let tree = tree_of c.args.self.now.nodes c.args.root in
     let w = is-rooted g.row.N c.args.self.now c.args.root c.requires.union c.requires.root in
-    let r = c.levels_from.ensures tree.leaves tree.above (whole_top g.row.N slots c.args.root tree w).first [] (whole_under g.row.N slots c.args.root tree w) in
+    let u = under-root g.row.N c.args.self.now c.args.root c.requires.union c.requires.root in
+    let r = c.levels_from.ensures _ _ u.first [] u.under in
     let d = depth (half_of g.row.N) g.row.N (some_leaf _ c.requires.union.1.capacity) tree.leaves tree.above w.fit.leaves_fit w.fit.stacked w.fit.topped (omega (arith, r, two)) in
     let e : length tree.above - 1 ≡ c.levels_from.result - 2 = omega (arith, r) in
     subst (λ (z : ℕ). half_of g.row.N * 4 ^ z < length (flat tree.leaves)) e d
 
 pub returns-clause-most : goal.returns-clause-most
 returns-clause-most g c =
-    let slots = c.args.self.now.nodes in
-    let tree = tree_of slots c.args.root in
-    let w = is-rooted g.row.N c.args.self.now c.args.root c.requires.union c.requires.root in
-    let r = c.levels_from.ensures tree.leaves tree.above (whole_top g.row.N slots c.args.root tree w).first [] (whole_under g.row.N slots c.args.root tree w) in
-    omega (arith, r, w.low)
+    let u = under-root g.row.N c.args.self.now c.args.root c.requires.union c.requires.root in
+    omega (arith, c.levels_from.ensures _ _ u.first [] u.under, u.low)

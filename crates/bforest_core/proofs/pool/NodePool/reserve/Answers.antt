@@ -29,8 +29,7 @@ returns-then-n-self-clause-memory g c = λ is. absurd (ok_not_err _ _ is)
 
 pub returns-then-missing-self-clause-full : goal.returns-then-missing-self-clause-full
 returns-then-missing-self-clause-full g c =
-    let len_is : c.len.result ≡ length c.self.inside.nodes.items = omega arith in
-    let s = sees _ _ _ _ _ c.len.result c.self.view_is c.self.invariant.counted len_is in
+    let s = sees _ _ _ _ _ c.len.result c.self.view_is c.self.invariant.counted (omega arith) in
     (λ is. lacks_room _ _ _ _ c.args.n s c.if-n-self.false c.if-missing-self.true, λ short. refl)
 
 pub returns-then-missing-self-clause-memory : goal.returns-then-missing-self-clause-memory
@@ -38,32 +37,27 @@ returns-then-missing-self-clause-memory g c = λ is. absurd (full_not_memory is)
 
 pub returns-then-missing-self-clause-enough : goal.returns-then-missing-self-clause-enough
 returns-then-missing-self-clause-enough g c =
-    let len_is : c.len.result ≡ length c.self.inside.nodes.items = omega arith in
-    let s = sees _ _ _ _ _ c.len.result c.self.view_is c.self.invariant.counted len_is in
+    let s = sees _ _ _ _ _ c.len.result c.self.view_is c.self.invariant.counted (omega arith) in
     λ enough. absurd (not_enough _ _ _ _ c.args.n s c.if-n-self.false enough)
 
 pub returns-in-Err-clause-full : goal.returns-in-Err-clause-full
 returns-in-Err-clause-full g c =
-    let len_is : c.len.result ≡ length c.self.inside.nodes.items = omega arith in
-    let s = sees _ _ _ _ _ c.len.result c.self.view_is c.self.invariant.counted len_is in
+    let s = sees _ _ _ _ _ c.len.result c.self.view_is c.self.invariant.counted (omega arith) in
     (λ is. absurd (full_not_memory (sym is)), λ short. absurd (finds_room _ _ _ _ c.args.n s c.if-missing-self.false short))
 
 pub returns-in-Err-clause-memory : goal.returns-in-Err-clause-memory
 returns-in-Err-clause-memory g c =
-    let len_is : c.len.result ≡ length c.self.inside.nodes.items = omega arith in
-    let s = sees _ _ _ _ _ c.len.result c.self.view_is c.self.invariant.counted len_is in
+    let s = sees _ _ _ _ _ c.len.result c.self.view_is c.self.invariant.counted (omega arith) in
     λ is. needs_growth _ _ _ _ c.args.n s c.if-n-self.false c.if-missing-self.false
 
 pub returns-in-Err-clause-enough : goal.returns-in-Err-clause-enough
 returns-in-Err-clause-enough g c =
-    let len_is : c.len.result ≡ length c.self.inside.nodes.items = omega arith in
-    let s = sees _ _ _ _ _ c.len.result c.self.view_is c.self.invariant.counted len_is in
+    let s = sees _ _ _ _ _ c.len.result c.self.view_is c.self.invariant.counted (omega arith) in
     λ enough. absurd (not_enough _ _ _ _ c.args.n s c.if-n-self.false enough)
 
 pub returns-in-Ok-clause-full : goal.returns-in-Ok-clause-full
 returns-in-Ok-clause-full g c =
-    let len_is : c.len.result ≡ length c.self.inside.nodes.items = omega arith in
-    let s = sees _ _ _ _ _ c.len.result c.self.view_is c.self.invariant.counted len_is in
+    let s = sees _ _ _ _ _ c.len.result c.self.view_is c.self.invariant.counted (omega arith) in
     (λ is. absurd (ok_not_err _ _ is), λ short. absurd (finds_room _ _ _ _ c.args.n s c.if-missing-self.false short))
 
 pub returns-in-Ok-clause-memory : goal.returns-in-Ok-clause-memory
