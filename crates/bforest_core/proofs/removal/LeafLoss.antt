@@ -1,5 +1,5 @@
 -- The entry where a path stands, taken out of its leaf, which has others.
-use Rattle.std.proofs.Common.{◌≡◌, ◌≢◌, ℕ, suc, ◌+◌, ◌≤◌, ◌<◌, Some, Option, List, [], ◌∷◌, ◌++◌, map, length, get_or, slice_get, refl, sym, ap, ◌∙◌, subst, append_assoc, length-append, arith}
+use Rattle.std.proofs.Common.{◌≡◌, ℕ, suc, ◌+◌, ◌≤◌, ◌<◌, Some, Option, List, [], ◌∷◌, ◌++◌, map, length, get_or, slice_get, refl, sym, ap, ◌∙◌, subst, append_assoc, length-append, arith}
 use Rattle.std.specs.List.{flat_map, remove}
 use Rattle.std.proofs.lemmas.List.{length-map}
 use Rattle.bforest_nodes.specs.Content.{Content, Leaf, without_entry}
@@ -9,9 +9,9 @@ use Rattle.bforest_core.specs.Place.{RowIn, leaf_content, entry_keys, count, Dis
 use Rattle.bforest_core.specs.Climb.{Above}
 use Rattle.bforest_core.specs.Removal.{Rebuilt, StandsIn, LeafLoss}
 use Rattle.bforest_core.proofs.rows.LevelRows.{flat-append, heads-append, sizes-append, FitRow-split, Solid-full, least-pos}
-use Rattle.bforest_core.proofs.table.Tables.{count-append, count-same, count-row, row-split, row-put, row-same, rows-same, ne_from_count, Puts, puts}
+use Rattle.bforest_core.proofs.table.Tables.{count-append, counts, count-same, row-split, row-put, row-same, rows-same, ne_from_count, Puts, puts}
 use Rattle.bforest_core.proofs.rows.Zipper.{cut, apart_here}
-use Rattle.bforest_core.proofs.removal.Frees.{frees-refl}
+use Rattle.bforest_core.proofs.removal.Frees.{frees-refl, frees-then, frees-puts}
 
 remove_between : {A : Type 0} (p s : List A) (x : A) → remove (p ++ x ∷ s) (length p) ≡ p ++ s
 remove_between [] s x = refl
@@ -162,12 +162,8 @@ module _ {K V : Type 0} where
       let row2 : List (LevelNode K V) = d.before ++ node n es ∷ d.after in
       let len : length old ≡ suc (length es) = omega (arith, length-append d.l (d.x ∷ d.r), length-append d.l d.r) in
       let c0 = λ (m : ℕ). ap (λ z. count m (numbers z)) d.leaves_are in
-      let c1 = λ (m : ℕ). count-row m d.before n old d.after in
-      let c2 = λ (m : ℕ). count-row m d.before n es d.after in
-      let c3 = λ (m : ℕ). count-append m (numbers row ++ flat_map numbers tree.above) t.chain in
-      let c4 = λ (m : ℕ). count-append m (numbers row) (flat_map numbers tree.above) in
-      let c5 = λ (m : ℕ). count-append m (numbers row2) (flat_map numbers b.rows') in
-      let c6 = λ (m : ℕ). count-append m (numbers row2 ++ flat_map numbers b.rows') v.chain in
+      let c1 = λ (m : ℕ). counts m d.before n old d.after tree.above t.chain in
+      let c2 = λ (m : ℕ). counts m d.before n es d.after b.rows' v.chain in
       let c7 = λ (m : ℕ). ap (λ z. count m z) (b.frees.chain_is ∙ w.chain_is) in
       let c8 = λ (m : ℕ). count-append m (numbers tree.leaves) (flat_map numbers tree.above) in
       let c9 = λ (m : ℕ). b.numbers_are m in
@@ -177,7 +173,7 @@ module _ {K V : Type 0} where
         entries = es;
         after = d.after;
         rest = b.rows';
-        inside = row-same leaf_content u.nodes v.nodes row2 (λ m some. b.frees.others m (omega (arith, some, d.apart m, c1 m, c2 m, c3 m, c4 m))) in_u;
+        inside = row-same leaf_content u.nodes v.nodes row2 (λ m some. b.frees.others m (omega (arith, some, d.apart m, c1 m, c2 m))) in_u;
         solid = d.solid;
         fits = d.fit.2;
         some = more;
@@ -185,24 +181,16 @@ module _ {K V : Type 0} where
         most_is = omega (arith, d.fit.1, len);
         above = b.above;
         entry_was = omega (arith, d.index_is, length-append d.l d.r);
-        apart = λ m. omega (arith, d.apart m, c1 m, c2 m, c3 m, c4 m, c5 m, c6 m, c7 m, c9 m);
+        apart = λ m. omega (arith, d.apart m, c1 m, c2 m, c7 m, c9 m);
         flat_is = sym (ap (λ z. remove (flat z) place) d.leaves_are ∙ ap (λ z. remove (flat row) z) d.place_is ∙ remove_flat d.before n d.l d.x d.r d.after);
         place_is = omega (arith, d.place_is, d.index_is);
         leaf_was = λ fs slot. leaf_count fs old (slice_get t.nodes n) slot d.slot_is ∙ len;
         sizes_were = ap sizes d.leaves_are ∙ sizes-append d.before (node n old ∷ d.after) ∙ ap (λ z. sizes d.before ++ z ∷ sizes d.after) len;
         rest_sizes = b.sizes_are;
-        numbers_are = λ m. omega (arith, c0 m, c1 m, c2 m, c4 m, c5 m, c8 m, c9 m);
-        frees = record {
-          others = λ m z. b.frees.others m (omega (arith, z, c8 m)) ∙ w.same m (ne_here m n (numbers_of tree) z (omega (arith, c0 n, c1 n, c8 n, count-same n (numbers d.after))));
-          freed_are = tt;
-          chain_is = b.frees.chain_is ∙ w.chain_is;
-          slots_are = b.frees.slots_are ∙ w.slots_are;
-          limit_is = b.frees.limit_is ∙ w.limit_is;
-        };
+        numbers_are = λ m. omega (arith, c0 m, c1 m, c2 m, c8 m, c9 m);
+        frees = frees-then t u v (numbers_of tree) (flat_map numbers tree.above) [] [] (λ m none. omega (arith, none, c8 m)) (λ m some. omega (arith, some))
+            (frees-puts t u n (leaf_content es) (numbers_of tree) (omega (arith, c0 n, c1 n, c8 n, count-same n (numbers d.after))) w) b.frees;
       }
-    where
-      ne_here : (m n : ℕ) (ms : List ℕ) → count m ms ≡ 0 → 0 < count n ms → m ≢ n
-      ne_here m n ms none some = λ (e : m ≡ n). let h = ap (λ z. count z ms) e in omega (arith, h, none, some)
 
   -- the leaf is not the only one of its entry
   pub leaf_more : (most : ℕ) (t : Table K V) (path indices : List ℕ) (size : ℕ) (tree : Tree K V) (place : ℕ) → (d : LeafAt most t path indices size tree place) → (x y : K × V) (es : List (K × V)) → slice_get t.nodes (get_or path 0 0) ≡ Some (leaf_content (x ∷ y ∷ es)) → 1 ≤ length (d.l ++ d.r)

@@ -6,8 +6,8 @@ use Rattle.bforest_core.specs.Levels.{LevelNode, node, flat, heads, head_of, siz
 use Rattle.bforest_core.specs.Place.{RowIn, inner_content, count, StandsAbove}
 use Rattle.bforest_core.specs.Removal.{Rebuilt, Loosened}
 use Rattle.bforest_core.proofs.rows.LevelRows.{flat-append, heads-append, sizes-append, least-pos}
-use Rattle.bforest_core.proofs.table.Tables.{count-append, count-same, count-row, row-split, row-join, row-same, row-put, rows-same, ne_from_count, Puts}
-use Rattle.bforest_core.proofs.removal.Frees.{frees-puts}
+use Rattle.bforest_core.proofs.table.Tables.{count-append, counts, count-same, count-row, row-split, row-join, row-same, row-put, rows-same, ne_from_count, Puts}
+use Rattle.bforest_core.proofs.removal.Frees.{frees-puts, frees-then, frees-wider}
 use Rattle.bforest_core.proofs.rows.Zipper.{Cut_above, facts}
 
 -- a node's first key does not change with a later entry's item
@@ -35,12 +35,8 @@ module _ {K V : Type 0} where
       let lo = f.fit.0 in
       let hi = f.fit.1 in
       let one = least-pos 4 (omega arith) after in
-      let c = λ (m : ℕ). count-row m before n old after in
-      let c2 = λ (m : ℕ). count-row m before n es after in
-      let c3 = λ (m : ℕ). count-append m (numbers (before ++ node n old ∷ after) ++ flat_map numbers rest) t.chain in
-      let c4 = λ (m : ℕ). count-append m (numbers (before ++ node n old ∷ after)) (flat_map numbers rest) in
-      let c5 = λ (m : ℕ). count-append m (numbers (before ++ node n es ∷ after)) (flat_map numbers rest) in
-      let c6 = λ (m : ℕ). count-append m (numbers (before ++ node n es ∷ after) ++ flat_map numbers rest) u.chain in
+      let c = λ (m : ℕ). counts m before n old after rest t.chain in
+      let c2 = λ (m : ℕ). counts m before n es after rest u.chain in
       let c7 = λ (m : ℕ). count-append m (flat_map numbers rest) u.chain in
       let c8 = λ (m : ℕ). ap (λ z. count m z) w.chain_is in
       let quiet : (m : ℕ) → 0 < count m (flat_map numbers rest) → slice_get u.nodes m ≡ slice_get t.nodes m = λ m some. w.same m (ne_from_count m n (flat_map numbers rest) some f.none_rest) in
@@ -61,18 +57,18 @@ module _ {K V : Type 0} where
             inside = rows-same t.nodes u.nodes rest quiet p.inside.1;
             stands = st;
             height = omega (arith, p.height);
-            apart = λ m. omega (arith, p.apart m, c3 m, c4 m, c7 m, c8 m);
+            apart = λ m. omega (arith, p.apart m, c m, c7 m, c8 m);
           };
           number_is = refl;
           entry_was = omega (arith, len2, e_is);
           entry_within = omega (arith, len2, e_is, length-append es (flat after));
-          apart = λ m. omega (arith, p.apart m, c m, c2 m, c3 m, c4 m, c5 m, c6 m, c8 m);
+          apart = λ m. omega (arith, p.apart m, c m, c2 m, c8 m);
         };
         list_is = flat-append before (node n es ∷ after) ∙ simp append_assoc;
         place_is = length-append (flat before) l ∙ ap (λ z. length (flat before) + z) e_is;
         sizes_were = ap (λ z. z ∷ map sizes rest) (sizes-append before (node n old ∷ after) ∙ ap (λ z. sizes before ++ z ∷ sizes after) len);
-        numbers_are = λ m. omega (arith, c m, c2 m, c4 m, c5 m);
-        frees = frees-puts t u n (inner_content es) (numbers (before ++ node n old ∷ after) ++ flat_map numbers rest) (omega (arith, c4 n, c n, count-same n (numbers after))) w;
+        numbers_are = λ m. omega (arith, c m, c2 m);
+        frees = frees-puts t u n (inner_content es) (numbers (before ++ node n old ∷ after) ++ flat_map numbers rest) (omega (arith, c n, count-same n (numbers after))) w;
       }
 
   -- under two parents: the key of the right one's first entry has been renewed above (v)
@@ -91,12 +87,8 @@ module _ {K V : Type 0} where
       let len : length old ≡ suc (length es) = omega (arith, length-append l (x ∷ [])) in
       let lo : 4 ≤ length old = f.fit.0 in
       let hi = f.fit.1 in
-      let c = λ (m : ℕ). count-row m before n old (next ∷ after) in
-      let c2 = λ (m : ℕ). count-row m before n es (next2 ∷ after) in
-      let c3 = λ (m : ℕ). count-append m (numbers (before ++ node n old ∷ next ∷ after) ++ flat_map numbers rest) t.chain in
-      let c4 = λ (m : ℕ). count-append m (numbers (before ++ node n old ∷ next ∷ after)) (flat_map numbers rest) in
-      let c5 = λ (m : ℕ). count-append m (numbers (before ++ node n es ∷ next2 ∷ after)) (flat_map numbers b.rows') in
-      let c6 = λ (m : ℕ). count-append m (numbers (before ++ node n es ∷ next2 ∷ after) ++ flat_map numbers b.rows') u.chain in
+      let c = λ (m : ℕ). counts m before n old (next ∷ after) rest t.chain in
+      let c2 = λ (m : ℕ). counts m before n es (next2 ∷ after) b.rows' u.chain in
       let c7 = λ (m : ℕ). count-append m (flat_map numbers b.rows') u.chain in
       let c8 = λ (m : ℕ). ap (λ z. count m z) w.chain_is in
       let c9 = λ (m : ℕ). ap (λ z. count m z) b.frees.chain_is in
@@ -104,7 +96,7 @@ module _ {K V : Type 0} where
       let quiet : (m : ℕ) → 0 < count m (flat_map numbers b.rows') → slice_get u.nodes m ≡ slice_get v.nodes m = λ m some. w.same m (ne_from_count m n (flat_map numbers b.rows') some none_rows) in
       let row_v : RowIn inner_content v.nodes (before ++ node n old ∷ next2 ∷ after) =
       row-same inner_content t.nodes v.nodes (before ++ node n old ∷ next2 ∷ after)
-      (λ m some. b.frees.others m (omega (arith, some, p.apart m, c m, count-row m before n old (next2 ∷ after), c3 m, c4 m)))
+      (λ m some. b.frees.others m (omega (arith, some, p.apart m, c m, count-row m before n old (next2 ∷ after))))
       (let s = row-split inner_content t.nodes before (node n old ∷ next ∷ after) f.inside in row-join inner_content t.nodes before (node n old ∷ next2 ∷ after) s.0 (s.1.0, (s.1.1.0, s.1.1.1))) in
       let hs : heads before ++ (z.0, n) ∷ (x.0, q) ∷ heads after ≡ heads (before ++ node n es ∷ next2 ∷ after) = sym (heads-append before (node n es ∷ next2 ∷ after)) in
       record {
@@ -129,17 +121,13 @@ module _ {K V : Type 0} where
           number_is = refl;
           entry_was = omega (arith, e_is);
           entry_within = omega (arith, e_is, length-append es ((x.0, y.1) ∷ (ys ++ flat after)));
-          apart = λ m. omega (arith, p.apart m, b.numbers_are m, c m, c2 m, c3 m, c4 m, c5 m, c6 m, c8 m, c9 m);
+          apart = λ m. omega (arith, p.apart m, b.numbers_are m, c m, c2 m, c8 m, c9 m);
         };
         list_is = flat-append before (node n es ∷ next2 ∷ after) ∙ simp append_assoc;
         place_is = length-append (flat before) es ∙ ap (λ z. length (flat before) + z) e_is;
         sizes_were = ap (λ w. w ∷ map sizes rest) (sizes-append before (node n old ∷ next ∷ after) ∙ ap (λ w. sizes before ++ w ∷ suc (length ys) ∷ sizes after) len) ∙ ap (λ w. (sizes before ++ suc (length es) ∷ suc (length ys) ∷ sizes after) ∷ w) (sym b.sizes_are);
-        numbers_are = λ m. omega (arith, c m, c2 m, c4 m, c5 m, b.numbers_are m);
-        frees = record {
-          others = λ m none. w.same m (λ (e : m ≡ n). let h = ap (λ z. count z (numbers (before ++ node n old ∷ next ∷ after) ++ flat_map numbers rest)) e in omega (arith, h, none, c4 n, c n, count-same n (numbers (next ∷ after)))) ∙ b.frees.others m (omega (arith, none, c4 m));
-          freed_are = tt;
-          chain_is = w.chain_is ∙ b.frees.chain_is;
-          slots_are = w.slots_are ∙ b.frees.slots_are;
-          limit_is = w.limit_is ∙ b.frees.limit_is;
-        };
+        numbers_are = λ m. omega (arith, c m, c2 m, b.numbers_are m);
+        frees = (let own : List ℕ = numbers (before ++ node n old ∷ next ∷ after) ++ flat_map numbers rest in
+            frees-then t v u own own [] [] (λ m none. none) (λ m some. omega (arith, some)) (frees-wider t v (flat_map numbers rest) own [] (λ m none. omega (arith, none, c m)) b.frees)
+            (frees-puts v u n (inner_content es) own (omega (arith, c n, count-same n (numbers (next ∷ after)))) w));
       }

@@ -8,7 +8,7 @@ use Rattle.bforest_core.specs.Place.{RowIn, inner_content, count, StandsAbove, e
 use Rattle.bforest_core.specs.Climb.{Above, NextIs}
 use Rattle.bforest_core.specs.Removal.{Rebuilt}
 use Rattle.bforest_core.proofs.rows.LevelRows.{flat-append, heads-append, sizes-append, FitRow-join, least-pos, head-is}
-use Rattle.bforest_core.proofs.table.Tables.{count-append, count-same, count-row, row-split, row-join, row-same, row-put, rows-same, ne_from_count, Puts, puts}
+use Rattle.bforest_core.proofs.table.Tables.{count-append, count-same, counts, row-split, row-join, row-same, row-put, rows-same, ne_from_count, Puts, puts}
 use Rattle.bforest_core.proofs.removal.Frees.{frees-puts, frees-wider}
 use Rattle.bforest_core.proofs.rows.Zipper.{Cut_above, facts, stands_here}
 use Rattle.bforest_core.proofs.rows.Zipper.{Spot}
@@ -104,8 +104,7 @@ module _ {K V : Type 0} where
       let row : List (LevelNode K ℕ) = q.before ++ node n es ∷ q.after in
       let h = head-is n es (omega (arith, d.count_is)) in
       let p = d.whole in
-      let c3 = λ (m : ℕ). count-append m (numbers row ++ flat_map numbers q.rest) t.chain in
-      let c4 = λ (m : ℕ). count-append m (numbers row) (flat_map numbers q.rest) in
+      let c = λ (m : ℕ). counts m q.before n es q.after q.rest t.chain in
       let c7 = λ (m : ℕ). count-append m (flat_map numbers q.rest) t.chain in
       record {
         k = h.first.0;
@@ -114,7 +113,7 @@ module _ {K V : Type 0} where
           inside = p.inside.1;
           stands = q.stands;
           height = omega (arith, p.height);
-          apart = λ m. omega (arith, p.apart m, c3 m, c4 m, c7 m);
+          apart = λ m. omega (arith, p.apart m, c m, c7 m);
         };
       }
 
@@ -158,12 +157,8 @@ module _ {K V : Type 0} where
       let len2 : length es ≡ length l + suc (suc (length r)) = length-append l (x ∷ (key, y.1) ∷ r) in
       let lo = f.fit.0 in
       let hi = f.fit.1 in
-      let c = λ (m : ℕ). count-row m before n old after in
-      let c2 = λ (m : ℕ). count-row m before n es after in
-      let c3 = λ (m : ℕ). count-append m (numbers (before ++ node n old ∷ after) ++ flat_map numbers rest) t.chain in
-      let c4 = λ (m : ℕ). count-append m (numbers (before ++ node n old ∷ after)) (flat_map numbers rest) in
-      let c5 = λ (m : ℕ). count-append m (numbers (before ++ node n es ∷ after)) (flat_map numbers rest) in
-      let c6 = λ (m : ℕ). count-append m (numbers (before ++ node n es ∷ after) ++ flat_map numbers rest) u.chain in
+      let c = λ (m : ℕ). counts m before n old after rest t.chain in
+      let c2 = λ (m : ℕ). counts m before n es after rest u.chain in
       let c8 = λ (m : ℕ). ap (λ z. count m z) w.chain_is in
       let hs : heads (before ++ node n old ∷ after) ≡ heads (before ++ node n es ∷ after) = heads-put before n old es after (same_first n l x (y ∷ r) ((key, y.1) ∷ r)) in
       record {
@@ -173,11 +168,11 @@ module _ {K V : Type 0} where
           inside = (row-put inner_content t.nodes u.nodes before n old es after f.inside w.same w.here f.none, rows-same t.nodes u.nodes rest (λ m some. w.same m (ne_from_count m n (flat_map numbers rest) some f.none_rest)) p.inside.1);
           stands = stands_here path indices up (before ++ node n es ∷ after) before n (get_or indices up 0) es after rest (length (flat before ++ l)) f.solid refl refl refl (omega (arith, len2, e_is)) (length-append (flat before) l ∙ ap (λ z. length (flat before) + z) e_is) st;
           height = p.height;
-          apart = λ m. omega (arith, p.apart m, c m, c2 m, c3 m, c4 m, c5 m, c6 m, c8 m);
+          apart = λ m. omega (arith, p.apart m, c m, c2 m, c8 m);
         };
         sizes_are = ap (λ z. z ∷ map sizes rest) (sizes-append before (node n es ∷ after) ∙ ap (λ z. sizes before ++ z ∷ sizes after) len ∙ sym (sizes-append before (node n old ∷ after)));
-        numbers_are = λ m. omega (arith, c m, c2 m, c4 m, c5 m);
-        frees = frees-puts t u n (inner_content es) (numbers (before ++ node n old ∷ after) ++ flat_map numbers rest) (omega (arith, c4 n, c n, count-same n (numbers after))) w;
+        numbers_are = λ m. omega (arith, c m, c2 m);
+        frees = frees-puts t u n (inner_content es) (numbers (before ++ node n old ∷ after) ++ flat_map numbers rest) (omega (arith, c n, count-same n (numbers after))) w;
         nodes_below = λ i low. refl;
         entries_below = λ i low. refl;
         same_top = refl;
@@ -223,12 +218,8 @@ module _ {K V : Type 0} where
       let row : List (LevelNode K ℕ) = before ++ node n es ∷ node q (y ∷ ys) ∷ after in
       let row2 : List (LevelNode K ℕ) = before ++ node n es ∷ node q ((key, y.1) ∷ ys) ∷ after in
       let f = facts t path indices up size before n (z ∷ l) x [] (node q (y ∷ ys) ∷ after) rest p in
-      let c = λ (m : ℕ). count-row m before n es (node q (y ∷ ys) ∷ after) in
-      let c2 = λ (m : ℕ). count-row m before n es (node q ((key, y.1) ∷ ys) ∷ after) in
-      let c3 = λ (m : ℕ). count-append m (numbers row ++ flat_map numbers rest) t.chain in
-      let c4 = λ (m : ℕ). count-append m (numbers row) (flat_map numbers rest) in
-      let c5 = λ (m : ℕ). count-append m (numbers row2) (flat_map numbers b.rows') in
-      let c6 = λ (m : ℕ). count-append m (numbers row2 ++ flat_map numbers b.rows') u.chain in
+      let c = λ (m : ℕ). counts m before n es (node q (y ∷ ys) ∷ after) rest t.chain in
+      let c2 = λ (m : ℕ). counts m before n es (node q ((key, y.1) ∷ ys) ∷ after) b.rows' u.chain in
       let c8 = λ (m : ℕ). ap (λ z. count m z) b.frees.chain_is in
       let len : length es ≡ suc (length l) + 1 = length-append (z ∷ l) (x ∷ []) in
       let in_t : RowIn inner_content t.nodes row2 = (let s = row-split inner_content t.nodes before (node n es ∷ node q (y ∷ ys) ∷ after) f.inside in row-join inner_content t.nodes before (node n es ∷ node q ((key, y.1) ∷ ys) ∷ after) s.0 (s.1.0, (s.1.1.0, s.1.1.1))) in
@@ -240,14 +231,14 @@ module _ {K V : Type 0} where
             FitRow-join 4 8 before (node n es) (node q ((key, y.1) ∷ ys) ∷ after) f.solid (f.fit.0, f.fit.1, (let g = f.fit.2 in (g.0, g.1, g.2))),
             subst (λ (w : List (K × ℕ)). Stacked w b.rows') (sym (heads-append before (node n es ∷ node q ((key, y.1) ∷ ys) ∷ after))) b.above.stacked,
           );
-          inside = (row-same inner_content t.nodes u.nodes row2 (λ m some. b.frees.others m (omega (arith, some, p.apart m, c m, c2 m, c3 m, c4 m))) in_t, b.above.inside);
+          inside = (row-same inner_content t.nodes u.nodes row2 (λ m some. b.frees.others m (omega (arith, some, p.apart m, c m, c2 m))) in_t, b.above.inside);
           stands = stands_here path indices up row2 before n (get_or indices up 0) es (node q ((key, y.1) ∷ ys) ∷ after) b.rows' (length (flat before ++ (z ∷ l))) f.solid refl refl refl (omega (arith, len, e_is)) (length-append (flat before) (z ∷ l) ∙ ap (λ w. length (flat before) + w) e_is) b.above.stands;
           height = omega (arith, b.above.height);
-          apart = λ m. omega (arith, p.apart m, b.numbers_are m, c m, c2 m, c3 m, c4 m, c5 m, c6 m, c8 m);
+          apart = λ m. omega (arith, p.apart m, b.numbers_are m, c m, c2 m, c8 m);
         };
         sizes_are = ap (λ w. w ∷ map sizes b.rows') (sizes-append before (node n es ∷ node q ((key, y.1) ∷ ys) ∷ after) ∙ sym (sizes-append before (node n es ∷ node q (y ∷ ys) ∷ after))) ∙ ap (λ w. sizes row ∷ w) b.sizes_are;
-        numbers_are = λ m. omega (arith, c m, c2 m, c4 m, c5 m, b.numbers_are m);
-        frees = frees-wider t u (flat_map numbers rest) (numbers row ++ flat_map numbers rest) [] (λ m none. omega (arith, none, c4 m)) b.frees;
+        numbers_are = λ m. omega (arith, c m, c2 m, b.numbers_are m);
+        frees = frees-wider t u (flat_map numbers rest) (numbers row ++ flat_map numbers rest) [] (λ m none. omega (arith, none, c m)) b.frees;
         nodes_below = λ i low. refl;
         entries_below = λ i low. refl;
         same_top = refl;

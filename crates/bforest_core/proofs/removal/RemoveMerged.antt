@@ -8,7 +8,7 @@ use Rattle.bforest_core.specs.Place.{inner_content, StandsAbove, entry_keys, ent
 use Rattle.bforest_core.specs.Climb.{Above}
 use Rattle.bforest_core.specs.Removal.{Rebuilt, Loosened}
 use Rattle.bforest_core.proofs.rows.LevelRows.{heads-append, least-pos}
-use Rattle.bforest_core.proofs.table.Tables.{puts, puts-then, count-append}
+use Rattle.bforest_core.proofs.table.Tables.{puts, puts-then, count-append, counts}
 use Rattle.bforest_core.proofs.rows.Zipper.{Cut_above, facts, Spot}
 use Rattle.bforest_core.proofs.table.Stored.{some_same}
 use Rattle.bforest_core.proofs.rows.Contents.{removed_same, removed_last, last_key}
@@ -92,15 +92,14 @@ module _ {K V : Type 0} where
   across_above t path indices up size before z zs x q y ys after rest p st =
       let n = get_or path up 0 in
       let row : List (LevelNode K ℕ) = before ++ node n ((z ∷ zs) ++ x ∷ []) ∷ node q (y ∷ ys) ∷ after in
-      let c3 = λ (m : ℕ). count-append m (numbers row ++ flat_map numbers rest) t.chain in
-      let c4 = λ (m : ℕ). count-append m (numbers row) (flat_map numbers rest) in
+      let c = λ (m : ℕ). counts m before n ((z ∷ zs) ++ x ∷ []) (node q (y ∷ ys) ∷ after) rest t.chain in
       let c7 = λ (m : ℕ). count-append m (flat_map numbers rest) t.chain in
       record {
         stacked = subst (λ (w : List (K × ℕ)). Stacked w rest) (heads-append before (node n ((z ∷ zs) ++ x ∷ []) ∷ node q (y ∷ ys) ∷ after)) p.stacked.2;
         inside = p.inside.1;
         stands = st;
         height = omega (arith, p.height);
-        apart = λ m. omega (arith, p.apart m, c3 m, c4 m, c7 m);
+        apart = λ m. omega (arith, p.apart m, c m, c7 m);
       }
 
   -- the key under the next parent, and then the entry
