@@ -17,6 +17,7 @@ pub mod Separators
 pub mod Merge
 pub mod RemoveEmptied
 pub mod Healing
+pub mod Asked
 pub mod Rebalancing
 pub mod Neighbour
 pub mod Separating

@@ -1,6 +1,5 @@
 use Rattle.std.proofs.Common.{rules, ◌+◌, ◌<◌, length, arith, subst}
-use Rattle.bforest_core.specs.Place.{inner_content}
-use Rattle.bforest_core.proofs.removal.Rebalancing.{Beside}
+use Rattle.bforest_core.proofs.removal.Asked.{Beside}
 use Rattle.bforest_core.proofs.removal.Neighbour.{index_low, above_asks, above_fewer, first_asks, counted_asks, key_asks, item_asks, same_parent, none_right, next_parent}
 use Rattle.bforest_core.proofs.path.Path.+right_sibling.Goals as goal
 
@@ -14,29 +13,26 @@ pub entries-requires : goal.entries-requires
 entries-requires g t c =
     let w = c.requires.pending in
     let low : c.args.up < length c.args.self.now.node = omega (arith, c.requires.height, w.4.height, c.if-up-self.false) in
-    let d = counted_asks c.args.pool.now c.args.self.now.node c.args.self.now.entry c.args.up c.args.self.now.size w.0 w.1 w.2 w.3 w.4 c.if-up-self.false c.index-self-up.result low in
-    (search rules, (inner_content d.0, d.1, λ free. free))
+    (search rules, counted_asks c.args.pool.now c.args.self.now.node c.args.self.now.entry c.args.up c.args.self.now.size w.0 w.1 w.2 w.3 w.4 c.if-up-self.false c.index-self-up.result low)
 
 pub separator-requires : goal.separator-requires
 separator-requires g t c =
     let w = c.requires.pending in
     let low : c.args.up < length c.args.self.now.node = omega (arith, c.requires.height, w.4.height, c.if-up-self.false) in
-    let d = key_asks c.args.pool.now c.args.self.now.node c.args.self.now.entry c.args.up c.args.self.now.size w.0 w.1 w.2 w.3 w.4 c.if-up-self.false c.index-self-up.result low c.entries.result c.entries.ensures.value c.if-index-entries.true in
-    (search rules, (d.keys, d.children, d.slot, d.within))
+    (search rules, key_asks c.args.pool.now c.args.self.now.node c.args.self.now.entry c.args.up c.args.self.now.size w.0 w.1 w.2 w.3 w.4 c.if-up-self.false c.index-self-up.result low c.entries.result c.entries.ensures.value c.if-index-entries.true)
 
 pub child-requires : goal.child-requires
 child-requires g t c =
     let w = c.requires.pending in
     let low : c.args.up < length c.args.self.now.node = omega (arith, c.requires.height, w.4.height, c.if-up-self.false) in
-    let d = item_asks c.args.pool.now c.args.self.now.node c.args.self.now.entry c.args.up c.args.self.now.size w.0 w.1 w.2 w.3 w.4 c.if-up-self.false c.index-self-up.result low c.entries.result c.entries.ensures.value c.if-index-entries.true in
-    (search rules, (d.keys, d.children, d.slot, d.within))
+    (search rules, item_asks c.args.pool.now c.args.self.now.node c.args.self.now.entry c.args.up c.args.self.now.size w.0 w.1 w.2 w.3 w.4 c.if-up-self.false c.index-self-up.result low c.entries.result c.entries.ensures.value c.if-index-entries.true)
 
 pub right_sibling-requires : goal.right_sibling-requires
 right_sibling-requires g t c κs within =
     let w = c.requires.pending in
     let d = above_asks c.args.pool.now c.args.self.now.node c.args.self.now.entry c.args.up c.args.self.now.size w.0 w.1 w.2 w.3 w.4 c.if-up-self.false in
     let falls = above_fewer c.args.pool.now c.args.self.now.node c.args.self.now.entry c.args.up c.args.self.now.size w.0 w.1 w.2 w.3 w.4 c.if-up-self.false t c.decreases in
-    (falls, (within.0, (within.1, ((λ a' m'. search rules), (search rules, (search rules, (c.requires.height, (d.rows, d.before, d.x, d.after, d.above))))))))
+    (falls, (within.0, (within.1, ((λ a' m'. search rules), (search rules, (search rules, (c.requires.height, d)))))))
 
 pub child-requires-in-Some : goal.child-requires-in-Some
 child-requires-in-Some g t c =
@@ -45,8 +41,7 @@ child-requires-in-Some g t c =
     let path = c.args.self.now.node in
     let indices = c.args.self.now.entry in
     let beside = subst (Beside t0 path indices (c.args.up + 1) c.args.self.now.size) c.in-Some.is c.right_sibling.ensures in
-    let d = first_asks t0 path indices c.args.up c.args.self.now.size w.0 w.1 w.2 w.3 w.4 c.if-up-self.false c.in-Some.next beside in
-    (search rules, (d.keys, d.children, d.slot, d.within))
+    (search rules, first_asks t0 path indices c.args.up c.args.self.now.size w.0 w.1 w.2 w.3 w.4 c.if-up-self.false c.in-Some.next beside)
 
 pub returns-then-index-entries : goal.returns-then-index-entries
 returns-then-index-entries g t c = λ rows a x b p.

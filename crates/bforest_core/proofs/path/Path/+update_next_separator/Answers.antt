@@ -1,5 +1,4 @@
 use Rattle.std.proofs.Common.{rules, ◌<◌, length, arith}
-use Rattle.bforest_core.specs.Place.{inner_content}
 use Rattle.bforest_core.proofs.removal.Separating.{low, index_low, above_fewer, counted_asks, set_asks, same_parent, above_asks, next_parent}
 use Rattle.bforest_core.proofs.path.Path.+update_next_separator.Goals as goal
 
@@ -14,16 +13,14 @@ entries-requires g t c =
     let w = c.requires.pending in
     let under = low c.args.pool.now c.args.self.now.node c.args.self.now.entry c.args.up c.args.self.now.size w.0 w.1 w.2 w.3 w.4 w.5 w.6 in
     let in_path : c.args.up < length c.args.self.now.node = omega (arith, under, c.requires.height) in
-    let d = counted_asks c.args.pool.now c.args.self.now.node c.args.self.now.entry c.args.up c.args.self.now.size w.0 w.1 w.2 w.3 w.4 w.5 w.6 c.index-self-up.result in_path in
-    (search rules, (inner_content d.0, d.1, λ free. free))
+    (search rules, counted_asks c.args.pool.now c.args.self.now.node c.args.self.now.entry c.args.up c.args.self.now.size w.0 w.1 w.2 w.3 w.4 w.5 w.6 c.index-self-up.result in_path)
 
 pub set_separator-requires : goal.set_separator-requires
 set_separator-requires g t c =
     let w = c.requires.pending in
     let under = low c.args.pool.now c.args.self.now.node c.args.self.now.entry c.args.up c.args.self.now.size w.0 w.1 w.2 w.3 w.4 w.5 w.6 in
     let in_path : c.args.up < length c.args.self.now.node = omega (arith, under, c.requires.height) in
-    let d = set_asks c.args.pool.now c.args.self.now.node c.args.self.now.entry c.args.up c.args.self.now.size w.0 w.1 w.2 w.3 w.4 w.5 w.6 c.index-self-up.result in_path c.entries.result c.entries.ensures.value c.if-index-entries.true in
-    (search rules, (d.used, (d.keys, d.children, d.slot, d.within)))
+    (search rules, set_asks c.args.pool.now c.args.self.now.node c.args.self.now.entry c.args.up c.args.self.now.size w.0 w.1 w.2 w.3 w.4 w.5 w.6 c.index-self-up.result in_path c.entries.result c.entries.ensures.value c.if-index-entries.true)
 
 pub update_next_separator-requires : goal.update_next_separator-requires
 update_next_separator-requires g t c κs within =
@@ -32,7 +29,7 @@ update_next_separator-requires g t c κs within =
     let in_path : c.args.up < length c.args.self.now.node = omega (arith, under, c.requires.height) in
     let d = above_asks c.args.pool.now c.args.self.now.node c.args.self.now.entry c.args.up c.args.self.now.size w.0 w.1 w.2 w.3 w.4 w.5 w.6 c.index-self-up.result in_path c.entries.result c.entries.ensures.value c.if-index-entries.false in
     let falls = above_fewer c.args.pool.now c.args.self.now.node c.args.self.now.entry c.args.up c.args.self.now.size w.0 w.1 w.2 w.3 w.4 w.5 w.6 t c.decreases in
-    (falls, (within.0, (within.1, ((λ a' m'. search rules), (search rules, (search rules, (c.requires.height, (d.rows, d.before, d.x, d.key, d.q, d.after, d.above))))))))
+    (falls, (within.0, (within.1, ((λ a' m'. search rules), (search rules, (search rules, (c.requires.height, d)))))))
 
 pub returns-then-index-entries : goal.returns-then-index-entries
 returns-then-index-entries g t c = λ rows a x k n b p.
