@@ -18,31 +18,31 @@ over_half n m c high = omega (arith, c.odd)
 pub entries-left-requires : goal.entries-left-requires
 entries-left-requires g c =
     let w = c.requires.pending in
-    (search rules, counted_asks leaf_content (half_of g.row.N) g.row.N _ (half_leaf g.row.N c.requires.capacity) (leaf_stored g.row.N) _ _ _ _ _ _ c.index-self-0.result refl (omega arith) c.requires.height w.0 w.1 w.2 w.3 w.4 w.5)
+    (search rules, counted_asks leaf_content _ _ _ (half_leaf _ c.requires.capacity) (leaf_stored g.row.N) _ _ _ _ _ _ c.index-self-0.result refl (omega arith) c.requires.height w.0 w.1 w.2 w.3 w.4 w.5)
 
 pub enter_next-requires : goal.enter_next-requires
 enter_next-requires g c =
     let w = c.requires.pending in
-    (search rules, (search rules, (c.requires.height, past_asks leaf_content (half_of g.row.N) g.row.N _ (half_leaf g.row.N c.requires.capacity) (leaf_stored g.row.N) _ _ _ _ _ _ c.index-self-0.result refl (omega arith) c.requires.height w.0 w.1 w.2 w.3 w.4 w.5 c.entries-left.result c.entries-left.ensures.value c.if-self-left.true)))
+    (search rules, (search rules, (c.requires.height, past_asks leaf_content _ _ _ (half_leaf _ c.requires.capacity) (leaf_stored g.row.N) _ _ _ _ _ _ c.index-self-0.result refl (omega arith) c.requires.height w.0 w.1 w.2 w.3 w.4 w.5 c.entries-left.result c.entries-left.ensures.value c.if-self-left.true)))
 
 pub returns-then-self-left-clause-healed : goal.returns-then-self-left-clause-healed
 returns-then-self-left-clause-healed g c = λ same before n es after rest p.
-    past_heals leaf_content (half_of g.row.N) g.row.N _ (half_leaf g.row.N c.requires.capacity) (leaf_stored g.row.N) _ _ _ _ _ _ c.index-self-0.result refl (omega arith) c.requires.height before n es after rest p _ _ c.entries-left.result c.entries-left.ensures.value (over_half _ _ c.requires.capacity c.if-left.true) c.if-self-left.true
+    past_heals leaf_content _ _ _ (half_leaf _ c.requires.capacity) (leaf_stored g.row.N) _ _ _ _ _ _ c.index-self-0.result refl (omega arith) c.requires.height before n es after rest p _ _ c.entries-left.result c.entries-left.ensures.value (over_half _ _ c.requires.capacity c.if-left.true) c.if-self-left.true
     c.enter_next.ensures.moved c.enter_next.ensures.first c.enter_next.ensures.nodes_below c.enter_next.ensures.entries_below c.enter_next.ensures.same_top
 
 pub returns-else-self-left-clause-healed : goal.returns-else-self-left-clause-healed
 returns-else-self-left-clause-healed g c = λ same before n es after rest p.
-    stay_heals leaf_content (half_of g.row.N) g.row.N _ (half_leaf g.row.N c.requires.capacity) (leaf_stored g.row.N) _ _ _ _ _ _ c.index-self-0.result refl (omega arith) c.requires.height before n es after rest p c.entries-left.result c.entries-left.ensures.value (over_half _ _ c.requires.capacity c.if-left.true) c.if-self-left.false
+    stay_heals leaf_content _ _ _ (half_leaf _ c.requires.capacity) (leaf_stored g.row.N) _ _ _ _ _ _ c.index-self-0.result refl (omega arith) c.requires.height before n es after rest p c.entries-left.result c.entries-left.ensures.value (over_half _ _ c.requires.capacity c.if-left.true) c.if-self-left.false
 
 pub right_sibling-requires : goal.right_sibling-requires
 right_sibling-requires g c =
     let w = c.requires.pending in
-    (search rules, (search rules, (c.requires.height, beside_asks leaf_content (half_of g.row.N) g.row.N _ (half_leaf g.row.N c.requires.capacity) (leaf_stored g.row.N) _ _ _ _ _ _ c.index-self-0.result refl (omega arith) c.requires.height w.0 w.1 w.2 w.3 w.4 w.5)))
+    (search rules, (search rules, (c.requires.height, beside_asks leaf_content _ _ _ (half_leaf _ c.requires.capacity) (leaf_stored g.row.N) _ _ _ _ _ _ c.index-self-0.result refl (omega arith) c.requires.height w.0 w.1 w.2 w.3 w.4 w.5)))
 
 pub balance_nodes-requires : goal.balance_nodes-requires
 balance_nodes-requires g c =
     let w = c.requires.pending in
-    (search rules, balance_asks leaf_content (half_of g.row.N) g.row.N _ (half_leaf g.row.N c.requires.capacity) (leaf_stored g.row.N) _ _ _ _ _ _ c.index-self-0.result refl (omega arith) c.requires.height w.0 w.1 w.2 w.3 w.4 w.5 c.entries-left.result c.entries-left.ensures.value (under_half _ _ c.requires.capacity c.if-left.false) _ _ c.in-Some.is c.right_sibling.ensures)
+    (search rules, balance_asks leaf_content _ _ _ (half_leaf _ c.requires.capacity) (leaf_stored g.row.N) _ _ _ _ _ _ c.index-self-0.result refl (omega arith) c.requires.height w.0 w.1 w.2 w.3 w.4 w.5 c.entries-left.result c.entries-left.ensures.value (under_half _ _ c.requires.capacity c.if-left.false) _ _ c.in-Some.is c.right_sibling.ensures)
 
 pub update_next_separator-requires : goal.update_next_separator-requires
 update_next_separator-requires g c =
@@ -52,7 +52,7 @@ update_next_separator-requires g c =
         search rules,
         (
           c.requires.height,
-          rekey_asks leaf_content (half_of g.row.N) g.row.N _ (half_leaf g.row.N c.requires.capacity) (leaf_stored g.row.N) _ _ _ _ _ _ c.index-self-0.result refl (omega arith) c.requires.height w.0 w.1 w.2 w.3 w.4 w.5 c.entries-left.result c.entries-left.ensures.value (under_half _ _ c.requires.capacity c.if-left.false) _ _ c.in-Some.is c.right_sibling.ensures
+          rekey_asks leaf_content _ _ _ (half_leaf _ c.requires.capacity) (leaf_stored g.row.N) _ _ _ _ _ _ c.index-self-0.result refl (omega arith) c.requires.height w.0 w.1 w.2 w.3 w.4 w.5 c.entries-left.result c.entries-left.ensures.value (under_half _ _ c.requires.capacity c.if-left.false) _ _ c.in-Some.is c.right_sibling.ensures
               c.balance_nodes.new.self _ c.balance_nodes.ensures.balanced _ c.in-Some-balance_nodes.is,
         ),
       ),
@@ -62,20 +62,20 @@ pub free_node-requires : goal.free_node-requires
 free_node-requires g c =
     let w = c.requires.pending in (
       search rules,
-      free_asks leaf_content (half_of g.row.N) g.row.N _ (half_leaf g.row.N c.requires.capacity) (leaf_stored g.row.N) _ _ _ _ _ _ c.index-self-0.result refl (omega arith) c.requires.height w.0 w.1 w.2 w.3 w.4 w.5 c.entries-left.result c.entries-left.ensures.value (under_half _ _ c.requires.capacity c.if-left.false) _ _ c.in-Some.is c.right_sibling.ensures
+      free_asks leaf_content _ _ _ (half_leaf _ c.requires.capacity) (leaf_stored g.row.N) _ _ _ _ _ _ c.index-self-0.result refl (omega arith) c.requires.height w.0 w.1 w.2 w.3 w.4 w.5 c.entries-left.result c.entries-left.ensures.value (under_half _ _ c.requires.capacity c.if-left.false) _ _ c.in-Some.is c.right_sibling.ensures
           c.balance_nodes.new.self _ c.balance_nodes.ensures.balanced c.in-None-balance_nodes.is,
     )
 
 pub returns-in-None-clause-healed : goal.returns-in-None-clause-healed
 returns-in-None-clause-healed g c = λ same before n es after rest p.
-    last_heals leaf_content (half_of g.row.N) g.row.N _ (half_leaf g.row.N c.requires.capacity) (leaf_stored g.row.N) _ _ _ _ _ _ c.index-self-0.result refl (omega arith) c.requires.height before n es after rest p c.in-None.ensures
+    last_heals leaf_content _ _ _ (half_leaf _ c.requires.capacity) (leaf_stored g.row.N) _ _ _ _ _ _ c.index-self-0.result refl (omega arith) c.requires.height before n es after rest p c.in-None.ensures
 
 pub returns-in-Some-balance_nodes-clause-healed : goal.returns-in-Some-balance_nodes-clause-healed
 returns-in-Some-balance_nodes-clause-healed g c = λ same before n es after rest p.
-    rekey_heals leaf_content (half_of g.row.N) g.row.N _ (half_leaf g.row.N c.requires.capacity) (leaf_stored g.row.N) _ _ _ _ _ _ c.index-self-0.result refl (omega arith) c.requires.height before n es after rest p c.entries-left.result c.entries-left.ensures.value (under_half _ _ c.requires.capacity c.if-left.false) _ _ c.in-Some.is c.right_sibling.ensures
+    rekey_heals leaf_content _ _ _ (half_leaf _ c.requires.capacity) (leaf_stored g.row.N) _ _ _ _ _ _ c.index-self-0.result refl (omega arith) c.requires.height before n es after rest p c.entries-left.result c.entries-left.ensures.value (under_half _ _ c.requires.capacity c.if-left.false) _ _ c.in-Some.is c.right_sibling.ensures
     c.balance_nodes.new.self _ c.balance_nodes.ensures.balanced _ c.in-Some-balance_nodes.is c.update_next_separator.new.pool c.update_next_separator.ensures
 
 pub returns-in-None-balance_nodes-clause-joined : goal.returns-in-None-balance_nodes-clause-joined
 returns-in-None-balance_nodes-clause-joined g c = λ same before n es after rest p.
-    free_joins leaf_content (half_of g.row.N) g.row.N _ (half_leaf g.row.N c.requires.capacity) (leaf_stored g.row.N) _ _ _ _ _ _ c.index-self-0.result refl (omega arith) c.requires.height before n es after rest p c.entries-left.result c.entries-left.ensures.value (under_half _ _ c.requires.capacity c.if-left.false) _ _ c.in-Some.is c.right_sibling.ensures
+    free_joins leaf_content _ _ _ (half_leaf _ c.requires.capacity) (leaf_stored g.row.N) _ _ _ _ _ _ c.index-self-0.result refl (omega arith) c.requires.height before n es after rest p c.entries-left.result c.entries-left.ensures.value (under_half _ _ c.requires.capacity c.if-left.false) _ _ c.in-Some.is c.right_sibling.ensures
     c.balance_nodes.new.self _ c.balance_nodes.ensures.balanced c.in-None-balance_nodes.is c.free_node.new.self c.free_node.ensures.freed
