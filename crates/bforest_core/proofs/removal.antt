@@ -8,6 +8,7 @@ pub mod Shrunk
 pub mod Removing
 pub mod LeafEmptied
 pub mod Removal
+pub mod Lifted
 pub mod Loosen
 pub mod RemoveMerged
 pub mod Balance

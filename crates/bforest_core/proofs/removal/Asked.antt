@@ -67,8 +67,10 @@ module _ {K V : Type 0} where
 
   -- what the call that renews the key between two neighbours leaves
   abbrev pub Rekeys : Table K V → Table K V → List ℕ → List ℕ → ℕ → ℕ → K → Type 0
-  Rekeys u v path indices up size key = (rows : List (List (LevelNode K ℕ))) (before : List (K × ℕ)) (x : K × ℕ) (first : K) (n : ℕ) (after : List (K × ℕ)) → Above u path indices up size rows (before ++ x ∷ (first, n) ∷ after) (length before) → Rebuilt u v path indices path indices up size rows (before ++ x ∷ (key, n) ∷ after) (length before) (map sizes rows) []
+  Rekeys u v path indices up size key = (rows : List (List (LevelNode K ℕ))) (before : List (K × ℕ)) (x : K × ℕ) (first : K) (n : ℕ) (after : List (K × ℕ)) → Above u path indices up size rows (before ++ x ∷ (first, n) ∷ after) (length before) →
+      Rebuilt u v path indices path indices up size rows (before ++ x ∷ (key, n) ∷ after) (length before) (map sizes rows) []
 
   -- what the call that enters the next node leaves
   abbrev pub Enters : Table K V → List ℕ → List ℕ → List ℕ → List ℕ → ℕ → ℕ → Type 0
-  Enters t path indices path' indices' up size = (rows : List (List (LevelNode K ℕ))) (before : List (K × ℕ)) (x : K × ℕ) (y : K × ℕ) (after : List (K × ℕ)) → Above t path indices (suc up) size rows (before ++ x ∷ y ∷ after) (length before) → Above t path' indices' (suc up) size rows (before ++ x ∷ y ∷ after) (suc (length before)) × (get_or path' up 0 ≡ y.1)
+  Enters t path indices path' indices' up size = (rows : List (List (LevelNode K ℕ))) (before : List (K × ℕ)) (x : K × ℕ) (y : K × ℕ) (after : List (K × ℕ)) → Above t path indices (suc up) size rows (before ++ x ∷ y ∷ after) (length before) →
+      Above t path' indices' (suc up) size rows (before ++ x ∷ y ∷ after) (suc (length before)) × (get_or path' up 0 ≡ y.1)

@@ -8,8 +8,9 @@ use Rattle.bforest_core.specs.Place.{count}
 use Rattle.bforest_core.specs.Climb.{Above, SameBelow, top_of}
 use Rattle.bforest_core.specs.Removal.{Rebuilt, OnLevel, Healed, Joined}
 use Rattle.bforest_core.proofs.rows.LevelRows.{heads-append, least-pos, head-is}
-use Rattle.bforest_core.proofs.table.Tables.{count-append, row-split, is_used, rows-same}
+use Rattle.bforest_core.proofs.table.Tables.{count-append, row-split, is_used, ne_from_count}
 use Rattle.bforest_core.proofs.rows.Zipper.{apart_here}
+use Rattle.bforest_core.proofs.removal.Lifted.{above_same}
 use Rattle.bforest_core.proofs.removal.Balance.{IsHalf, IsStored, PutsTwo, AllRight, Spread, all_right_at, spread_at}
 use Rattle.bforest_core.proofs.removal.Rebalance.{settle_stay, settle_move, settle_spread, settle_join, apart_two}
 
@@ -171,16 +172,9 @@ module _ {K V X : Type 0} (content : List (K × X) → Content K V) (half most :
   spread_above t u path indices up size before n es after rest k q c e d w =
       let a = apart_two content half most hm t before n (d.e ∷ d.es') q (d.f ∷ d.fs) d.after' rest d.level.apart in
       let b = near_above t path indices up size before n es after rest k q d in
-      record {
-        stacked = b.stacked;
-        inside = rows-same t.nodes u.nodes rest (λ m some. w.same m (ne_from m n some a.none_rest) (ne_from m q some a.none_rest_q)) b.inside;
-        stands = b.stands;
-        height = b.height;
-        apart = λ m. omega (arith, b.apart m, count-append m (flat_map numbers rest) t.chain, count-append m (flat_map numbers rest) u.chain, ap (λ z. count m z) w.chain_is);
-      }
-    where
-      ne_from : (m n : ℕ) → 0 < count m (flat_map numbers rest) → count n (flat_map numbers rest) ≡ 0 → m ≢ n
-      ne_from m n some none = λ (x : m ≡ n). let h = ap (λ z. count z (flat_map numbers rest)) x in omega (arith, h, some, none)
+      above_same t u path indices (suc up) size rest (heads before ++ (d.e.0, n) ∷ (d.f.0, q) ∷ heads d.after') (length (heads before))
+      (λ m some. w.same m (ne_from_count m n (flat_map numbers rest) some a.none_rest) (ne_from_count m q (flat_map numbers rest) some a.none_rest_q))
+      (λ m. omega (arith, b.apart m, count-append m (flat_map numbers rest) t.chain, count-append m (flat_map numbers rest) u.chain, ap (λ z. count m z) w.chain_is)) b
 
   -- the two shared, and the key between them is renewed above
   pub heal_spread : (t u v : Table K V) (path indices : List ℕ) (up size : ℕ) (before : List (LevelNode K X)) (n : ℕ) (es : List (K × X)) (after : List (LevelNode K X)) (rest : List (List (LevelNode K ℕ))) (k : K) (q : ℕ) (key : K) → (d : Near t path indices up size before n es after rest k q) → length es < half →

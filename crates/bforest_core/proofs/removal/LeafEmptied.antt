@@ -9,10 +9,11 @@ use Rattle.bforest_core.specs.Place.{RowIn, leaf_content, count, Distinct, root_
 use Rattle.bforest_core.specs.Climb.{nodes_up, Above}
 use Rattle.bforest_core.specs.Removal.{Dropped, UpTo, Trimmed, StandsIn, Removed, Emptied}
 use Rattle.bforest_core.proofs.rows.LevelRows.{flat-append, heads-append, sizes-append, Solid-full}
-use Rattle.bforest_core.proofs.table.Tables.{count-append, counts, count-same, count-row, row-split, row-same, rows-same, ne_from_count}
+use Rattle.bforest_core.proofs.table.Tables.{count-append, counts, count-same, row-split, row-same, ne_from_count}
 use Rattle.bforest_core.proofs.rows.Tops.{root-stands}
 use Rattle.bforest_core.proofs.removal.Losses.{loss_at}
 use Rattle.bforest_core.proofs.removal.Frees.{freed_other, frees-one, frees-first}
+use Rattle.bforest_core.proofs.removal.Lifted.{above_same}
 use Rattle.bforest_core.proofs.removal.Collapse.{heads-flat}
 use Rattle.bforest_core.proofs.removal.LeafLoss.{remove_flat, leaf_count, leaf_at}
 use Rattle.bforest_core.proofs.removal.Shrunk.{Untrimmed, up_to, trimmed_removed}
@@ -142,14 +143,9 @@ module _ {K V : Type 0} where
       let hs : heads d.before ≡ heads r.0 ++ (r.2.0, r.1) ∷ [] = ap heads r.4 ∙ heads-append r.0 (node r.1 (r.2 ∷ r.3) ∷ []) in
       let list : heads (d.before ++ node n (d.x ∷ []) ∷ []) ≡ heads r.0 ++ (r.2.0, r.1) ∷ (d.x.0, n) ∷ [] = heads-append d.before (node n (d.x ∷ []) ∷ []) ∙ ap (λ z. z ++ (d.x.0, n) ∷ []) hs ∙ append_assoc (heads r.0) ((r.2.0, r.1) ∷ []) ((d.x.0, n) ∷ []) in
       let len : length (heads d.before) ≡ suc (length (heads r.0)) = omega (arith, ap length hs, length-append (heads r.0) ((r.2.0, r.1) ∷ [])) in
-      let a = d.above in
-      let b : Above v path indices 1 size tree.above (heads (d.before ++ node n (d.x ∷ []) ∷ [])) (length (heads d.before)) = record {
-        stacked = a.stacked;
-        inside = rows-same t.nodes v.nodes tree.above (λ m here. other m (ne_from_count m n (flat_map numbers tree.above) here d.none_rows)) a.inside;
-        stands = a.stands;
-        height = a.height;
-        apart = λ m. omega (arith, d.apart m, count-append m (numbers (d.before ++ node n (d.x ∷ []) ∷ []) ++ flat_map numbers tree.above) t.chain, count-append m (numbers (d.before ++ node n (d.x ∷ []) ∷ [])) (flat_map numbers tree.above), count-row m d.before n (d.x ∷ []) [], count-append m (flat_map numbers tree.above) v.chain, ap (λ z. count m z.chain) is);
-      } in
+      let row : List (LevelNode K V) = d.before ++ node n (d.x ∷ []) ∷ [] in
+      let b = above_same t v path indices 1 size tree.above (heads row) (length (heads d.before)) (λ m here. other m (ne_from_count m n (flat_map numbers tree.above) here d.none_rows))
+      (λ m. omega (arith, d.apart m, counts m d.before n (d.x ∷ []) [] tree.above t.chain, count-append m (flat_map numbers tree.above) v.chain, ap (λ z. count m z.chain) is)) d.above in
       record {
         d = d;
         init = r.0;

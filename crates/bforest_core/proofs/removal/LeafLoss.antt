@@ -9,9 +9,10 @@ use Rattle.bforest_core.specs.Place.{RowIn, leaf_content, entry_keys, count, Dis
 use Rattle.bforest_core.specs.Climb.{Above}
 use Rattle.bforest_core.specs.Removal.{Rebuilt, StandsIn, LeafLoss}
 use Rattle.bforest_core.proofs.rows.LevelRows.{flat-append, heads-append, sizes-append, FitRow-split, Solid-full, least-pos}
-use Rattle.bforest_core.proofs.table.Tables.{count-append, counts, count-same, row-split, row-put, row-same, rows-same, ne_from_count, Puts, puts}
+use Rattle.bforest_core.proofs.table.Tables.{count-append, counts, count-same, row-split, row-put, row-same, Puts, puts}
 use Rattle.bforest_core.proofs.rows.Zipper.{cut, apart_here}
-use Rattle.bforest_core.proofs.removal.Frees.{frees-refl, frees-then, frees-puts}
+use Rattle.bforest_core.proofs.removal.Lifted.{above_written, rebuilt_same}
+use Rattle.bforest_core.proofs.removal.Frees.{frees-then, frees-puts}
 
 remove_between : {A : Type 0} (p s : List A) (x : A) → remove (p ++ x ∷ s) (length p) ≡ p ++ s
 remove_between [] s x = refl
@@ -128,29 +129,6 @@ module _ {K V : Type 0} where
     pub w : Puts t u (get_or path 0 0) (leaf_content (d.l ++ d.r))
     pub above : Above u path indices 1 size tree.above (heads d.before ++ ((d.x.0, get_or path 0 0) ∷ heads d.after)) (length (heads d.before))
 
-  -- the rows above, in the table of now
-  above_written : (t u : Table K V) (n : ℕ) (c : Content K V) (path indices : List ℕ) (size : ℕ) (rows : List (List (LevelNode K ℕ))) (list : List (K × ℕ)) (p : ℕ) → Puts t u n c → count n (flat_map numbers rows) ≡ 0 → Above t path indices 1 size rows list p → Above u path indices 1 size rows list p
-  above_written t u n c path indices size rows list p w none a = record {
-    stacked = a.stacked;
-    inside = rows-same t.nodes u.nodes rows (λ m some. w.same m (ne_from_count m n (flat_map numbers rows) some none)) a.inside;
-    stands = a.stands;
-    height = a.height;
-    apart = λ m. omega (arith, a.apart m, count-append m (flat_map numbers rows) t.chain, count-append m (flat_map numbers rows) u.chain, ap (λ z. count m z) w.chain_is);
-  }
-
-  -- nothing above has changed
-  rebuilt_same : (u : Table K V) (path indices : List ℕ) (size : ℕ) (rows : List (List (LevelNode K ℕ))) (list : List (K × ℕ)) (p : ℕ) → Above u path indices 1 size rows list p → Rebuilt u u path indices path indices 1 size rows list p (map sizes rows) []
-  rebuilt_same u path indices size rows list p a = record {
-    rows' = rows;
-    above = a;
-    sizes_are = refl;
-    numbers_are = λ m. omega arith;
-    frees = frees-refl u (flat_map numbers rows);
-    nodes_below = λ i low. refl;
-    entries_below = λ i low. refl;
-    same_top = refl;
-  }
-
   -- the leaf without the entry, under rows that have its first key
   leaf_loss : (most : ℕ) (t u v : Table K V) (path indices : List ℕ) (size : ℕ) (tree : Tree K V) (place : ℕ) → (d : LeafAt most t path indices size tree place) → 1 ≤ length (d.l ++ d.r) → Puts t u (get_or path 0 0) (leaf_content (d.l ++ d.r)) →
       Rebuilt u v path indices path indices 1 size tree.above (heads (d.before ++ node (get_or path 0 0) (d.l ++ d.r) ∷ d.after)) (length (heads d.before)) (map sizes tree.above) [] → LeafLoss most t v path indices size tree place
@@ -213,9 +191,9 @@ module _ {K V : Type 0} where
       heads-append d.before (node n (d.l ++ d.x ∷ d.r) ∷ d.after) ∙ ap (λ z. heads d.before ++ (head_of n (z ++ d.x ∷ d.r) ++ heads d.after)) f.2 in
       let new : heads (d.before ++ node n (d.l ++ d.r) ∷ d.after) ≡ heads d.before ++ ((f.0.0, n) ∷ heads d.after) =
       heads-append d.before (node n (d.l ++ d.r) ∷ d.after) ∙ ap (λ z. heads d.before ++ (head_of n (z ++ d.r) ++ heads d.after)) f.2 in
-      let a = above_written t u n (leaf_content (d.l ++ d.r)) path indices size tree.above _ (length (heads d.before)) w d.none_rows d.above in
+      let a = above_written t u n (leaf_content (d.l ++ d.r)) path indices 1 size tree.above _ (length (heads d.before)) w d.none_rows d.above in
       let b = subst (λ (z : List (K × ℕ)). Above u path indices 1 size tree.above z (length (heads d.before))) (old ∙ sym new) a in
-      leaf_loss most t u u path indices size tree place d more w (rebuilt_same u path indices size tree.above _ (length (heads d.before)) b)
+      leaf_loss most t u u path indices size tree place d more w (rebuilt_same u path indices 1 size tree.above _ (length (heads d.before)) b)
 
   -- the leaf's first entry: what is the first now
   pub record FirstOut (most : ℕ) (t u : Table K V) (path indices : List ℕ) (size : ℕ) (tree : Tree K V) (place : ℕ) (d : LeafAt most t path indices size tree place) : Type 0 where
@@ -233,7 +211,7 @@ module _ {K V : Type 0} where
       let none : d.l ≡ [] = no_entries d.l (omega (arith, first, d.index_is)) in
       let old : heads (d.before ++ node n (d.l ++ d.x ∷ d.r) ∷ d.after) ≡ heads d.before ++ ((d.x.0, n) ∷ heads d.after) =
       heads-append d.before (node n (d.l ++ d.x ∷ d.r) ∷ d.after) ∙ ap (λ z. heads d.before ++ (head_of n (z ++ d.x ∷ d.r) ++ heads d.after)) none in
-      let a = above_written t u n (leaf_content (d.l ++ d.r)) path indices size tree.above _ (length (heads d.before)) w d.none_rows d.above in
+      let a = above_written t u n (leaf_content (d.l ++ d.r)) path indices 1 size tree.above _ (length (heads d.before)) w d.none_rows d.above in
       record {
         next = f.0;
         others = f.1;

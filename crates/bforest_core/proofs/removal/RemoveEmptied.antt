@@ -15,7 +15,7 @@ use Rattle.bforest_core.proofs.removal.Frees.{frees-puts, freed_other, frees-fir
 use Rattle.bforest_core.proofs.rows.Zipper.{Cut_above, facts}
 use Rattle.bforest_core.proofs.rows.Zipper.{Spot}
 use Rattle.bforest_core.proofs.rows.Contents.{removed_last}
-use Rattle.bforest_core.proofs.removal.Loosen.{heads-put}
+use Rattle.bforest_core.proofs.removal.Lifted.{heads-put, above_same, rows_above}
 use Rattle.bforest_core.proofs.removal.Merge.{loss_level}
 use Rattle.bforest_core.proofs.rows.Tops.{top_rows}
 use Rattle.bforest_core.proofs.walks.Downward.{last_of}
@@ -161,13 +161,10 @@ module _ {K V : Type 0} where
         a_is = a_is;
         full = Solid-full 4 8 (omega arith) init solid;
         entry_is = sym e_is;
-        above = record {
-          stacked = subst (λ (z : List (K × ℕ)). Stacked z rest) hs p.stacked.2;
-          inside = rows-same t.nodes v.nodes rest (λ m some. other m (ne_from_count m n (flat_map numbers rest) some f.none_rest)) p.inside.1;
-          stands = rw (← len) st;
-          height = omega (arith, p.height);
-          apart = λ m. omega (arith, p.apart m, c m, count-append m (flat_map numbers rest) v.chain, ap (λ z. count m z.chain) v_is);
-        };
+        above = above_same t v path indices (suc up) size rest (heads init ++ (w.0, q) ∷ (x.0, n) ∷ []) (suc (length (heads init))) (λ m some. other m (ne_from_count m n (flat_map numbers rest) some f.none_rest))
+            (λ m. omega (arith, p.apart m, c m, count-append m (flat_map numbers rest) v.chain, ap (λ z. count m z.chain) v_is))
+            (subst (λ (z : ℕ). Above t path indices (suc up) size rest (heads init ++ (w.0, q) ∷ (x.0, n) ∷ []) z) len
+            (subst (λ (z : List (K × ℕ)). Above t path indices (suc up) size rest z (length (heads front))) hs (rows_above t path indices up size front n [] x [] [] rest p st)));
       }
 
   -- an empty parent and what stands in front of it
