@@ -9,6 +9,7 @@ pub mod Removing
 pub mod LeafEmptied
 pub mod Removal
 pub mod Lifted
+pub mod Taking
 pub mod Loosen
 pub mod RemoveMerged
 pub mod Balance

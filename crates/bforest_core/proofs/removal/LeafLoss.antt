@@ -3,15 +3,14 @@ use Rattle.std.proofs.Common.{◌≡◌, ℕ, suc, ◌+◌, ◌≤◌, ◌<◌, 
 use Rattle.std.specs.List.{flat_map, remove}
 use Rattle.std.proofs.lemmas.List.{length-map}
 use Rattle.bforest_nodes.specs.Content.{Content, Leaf, without_entry}
-use Rattle.bforest_core.specs.Table.{Table, with_node}
-use Rattle.bforest_core.specs.Levels.{LevelNode, node, flat, head_of, heads, sizes, numbers, FitRow, Solid, Stacked, Tree, half_of}
+use Rattle.bforest_core.specs.Table.{Table}
+use Rattle.bforest_core.specs.Levels.{LevelNode, node, flat, heads, sizes, numbers, FitRow, Solid, Stacked, Tree, half_of}
 use Rattle.bforest_core.specs.Place.{RowIn, leaf_content, entry_keys, count, Distinct, numbers_of}
 use Rattle.bforest_core.specs.Climb.{Above}
 use Rattle.bforest_core.specs.Removal.{Rebuilt, StandsIn, LeafLoss}
-use Rattle.bforest_core.proofs.rows.LevelRows.{flat-append, heads-append, sizes-append, FitRow-split, Solid-full, least-pos}
-use Rattle.bforest_core.proofs.table.Tables.{count-append, counts, count-same, row-split, row-put, row-same, Puts, puts}
+use Rattle.bforest_core.proofs.rows.LevelRows.{flat-append, sizes-append, FitRow-split, Solid-full, least-pos}
+use Rattle.bforest_core.proofs.table.Tables.{count-append, counts, count-same, row-split, row-put, row-same, Puts}
 use Rattle.bforest_core.proofs.rows.Zipper.{cut, apart_here}
-use Rattle.bforest_core.proofs.removal.Lifted.{above_written, rebuilt_same}
 use Rattle.bforest_core.proofs.removal.Frees.{frees-then, frees-puts}
 
 remove_between : {A : Type 0} (p s : List A) (x : A) → remove (p ++ x ∷ s) (length p) ≡ p ++ s
@@ -46,7 +45,7 @@ no_nodes half most one (node n [] ∷ row) f e = absurd (omega (arith, f.0, leas
 no_nodes half most one (node n (x ∷ es) ∷ row) f e = absurd cc
 
 -- a list that is not empty
-some_first : {A : Type 0} (es : List A) → 0 < length es → (y : A) × (others : List A) × (es ≡ y ∷ others)
+pub some_first : {A : Type 0} (es : List A) → 0 < length es → (y : A) × (others : List A) × (es ≡ y ∷ others)
 some_first [] low = absurd (omega (arith, low))
 some_first (y ∷ es) low = (y, es, refl)
 
@@ -122,15 +121,8 @@ module _ {K V : Type 0} where
         none_chain = d.2;
       }
 
-  -- the leaf without the entry, before the rows above get another key
-  pub record LeafCut (most : ℕ) (t u : Table K V) (path indices : List ℕ) (size : ℕ) (tree : Tree K V) (place : ℕ) : Type 0 where
-    pub d : LeafAt most t path indices size tree place
-    pub more : 1 ≤ length (d.l ++ d.r)
-    pub w : Puts t u (get_or path 0 0) (leaf_content (d.l ++ d.r))
-    pub above : Above u path indices 1 size tree.above (heads d.before ++ ((d.x.0, get_or path 0 0) ∷ heads d.after)) (length (heads d.before))
-
   -- the leaf without the entry, under rows that have its first key
-  leaf_loss : (most : ℕ) (t u v : Table K V) (path indices : List ℕ) (size : ℕ) (tree : Tree K V) (place : ℕ) → (d : LeafAt most t path indices size tree place) → 1 ≤ length (d.l ++ d.r) → Puts t u (get_or path 0 0) (leaf_content (d.l ++ d.r)) →
+  pub leaf_loss : (most : ℕ) (t u v : Table K V) (path indices : List ℕ) (size : ℕ) (tree : Tree K V) (place : ℕ) → (d : LeafAt most t path indices size tree place) → 1 ≤ length (d.l ++ d.r) → Puts t u (get_or path 0 0) (leaf_content (d.l ++ d.r)) →
       Rebuilt u v path indices path indices 1 size tree.above (heads (d.before ++ node (get_or path 0 0) (d.l ++ d.r) ∷ d.after)) (length (heads d.before)) (map sizes tree.above) [] → LeafLoss most t v path indices size tree place
   leaf_loss most t u v path indices size tree place d more w b =
       let n = get_or path 0 0 in
@@ -169,67 +161,3 @@ module _ {K V : Type 0} where
         frees = frees-then t u v (numbers_of tree) (flat_map numbers tree.above) [] [] (λ m none. omega (arith, none, c8 m)) (λ m some. omega (arith, some))
             (frees-puts t u n (leaf_content es) (numbers_of tree) (omega (arith, c0 n, c1 n, c8 n, count-same n (numbers d.after))) w) b.frees;
       }
-
-  -- the leaf is not the only one of its entry
-  pub leaf_more : (most : ℕ) (t : Table K V) (path indices : List ℕ) (size : ℕ) (tree : Tree K V) (place : ℕ) → (d : LeafAt most t path indices size tree place) → (x y : K × V) (es : List (K × V)) → slice_get t.nodes (get_or path 0 0) ≡ Some (leaf_content (x ∷ y ∷ es)) → 1 ≤ length (d.l ++ d.r)
-  leaf_more most t path indices size tree place d x y es slot =
-      omega (arith, leaf_count (d.l ++ d.x ∷ d.r) (x ∷ y ∷ es) (slice_get t.nodes (get_or path 0 0)) d.slot_is slot, length-append d.l (d.x ∷ d.r), length-append d.l d.r)
-
-  -- the write of the leaf
-  pub leaf_puts : (most : ℕ) (t u : Table K V) (path indices : List ℕ) (size : ℕ) (tree : Tree K V) (place : ℕ) → (d : LeafAt most t path indices size tree place) →
-      u ≡ with_node t (get_or path 0 0) (without_entry (leaf_content (d.l ++ d.x ∷ d.r)) (get_or indices 0 0)) → Puts t u (get_or path 0 0) (leaf_content (d.l ++ d.r))
-  leaf_puts most t u path indices size tree place d written =
-      puts t u (get_or path 0 0) (leaf_content (d.l ++ d.r)) (leaf_content (d.l ++ d.x ∷ d.r)) d.slot_is
-      (written ∙ ap (λ z. with_node t (get_or path 0 0) z) (without_entry_is d.l d.x d.r (get_or indices 0 0) d.index_is))
-
-  -- an entry behind the leaf's first
-  pub loss_behind : (most : ℕ) (t u : Table K V) (path indices : List ℕ) (size : ℕ) (tree : Tree K V) (place : ℕ) → (d : LeafAt most t path indices size tree place) → 1 ≤ length (d.l ++ d.r) → Puts t u (get_or path 0 0) (leaf_content (d.l ++ d.r)) → 0 < get_or indices 0 0 → LeafLoss most t u path indices size tree place
-  loss_behind most t u path indices size tree place d more w behind =
-      let n = get_or path 0 0 in
-      let f = some_first d.l (omega (arith, behind, d.index_is)) in
-      let old : heads (d.before ++ node n (d.l ++ d.x ∷ d.r) ∷ d.after) ≡ heads d.before ++ ((f.0.0, n) ∷ heads d.after) =
-      heads-append d.before (node n (d.l ++ d.x ∷ d.r) ∷ d.after) ∙ ap (λ z. heads d.before ++ (head_of n (z ++ d.x ∷ d.r) ++ heads d.after)) f.2 in
-      let new : heads (d.before ++ node n (d.l ++ d.r) ∷ d.after) ≡ heads d.before ++ ((f.0.0, n) ∷ heads d.after) =
-      heads-append d.before (node n (d.l ++ d.r) ∷ d.after) ∙ ap (λ z. heads d.before ++ (head_of n (z ++ d.r) ++ heads d.after)) f.2 in
-      let a = above_written t u n (leaf_content (d.l ++ d.r)) path indices 1 size tree.above _ (length (heads d.before)) w d.none_rows d.above in
-      let b = subst (λ (z : List (K × ℕ)). Above u path indices 1 size tree.above z (length (heads d.before))) (old ∙ sym new) a in
-      leaf_loss most t u u path indices size tree place d more w (rebuilt_same u path indices 1 size tree.above _ (length (heads d.before)) b)
-
-  -- the leaf's first entry: what is the first now
-  pub record FirstOut (most : ℕ) (t u : Table K V) (path indices : List ℕ) (size : ℕ) (tree : Tree K V) (place : ℕ) (d : LeafAt most t path indices size tree place) : Type 0 where
-    pub next : K × V
-    pub others : List (K × V)
-    pub es_is : d.l ++ d.r ≡ next ∷ others
-    pub slot_is : slice_get u.nodes (get_or path 0 0) ≡ Some (leaf_content (next ∷ others))
-    pub above : Above u path indices 1 size tree.above (heads d.before ++ (d.x.0, get_or path 0 0) ∷ heads d.after) (length (heads d.before))
-
-  -- it is found where the path was at the first entry
-  pub first_out : (most : ℕ) (t u : Table K V) (path indices : List ℕ) (size : ℕ) (tree : Tree K V) (place : ℕ) → (d : LeafAt most t path indices size tree place) → 1 ≤ length (d.l ++ d.r) → Puts t u (get_or path 0 0) (leaf_content (d.l ++ d.r)) → get_or indices 0 0 ≤ 0 → FirstOut most t u path indices size tree place d
-  first_out most t u path indices size tree place d more w first =
-      let n = get_or path 0 0 in
-      let f = some_first (d.l ++ d.r) more in
-      let none : d.l ≡ [] = no_entries d.l (omega (arith, first, d.index_is)) in
-      let old : heads (d.before ++ node n (d.l ++ d.x ∷ d.r) ∷ d.after) ≡ heads d.before ++ ((d.x.0, n) ∷ heads d.after) =
-      heads-append d.before (node n (d.l ++ d.x ∷ d.r) ∷ d.after) ∙ ap (λ z. heads d.before ++ (head_of n (z ++ d.x ∷ d.r) ++ heads d.after)) none in
-      let a = above_written t u n (leaf_content (d.l ++ d.r)) path indices 1 size tree.above _ (length (heads d.before)) w d.none_rows d.above in
-      record {
-        next = f.0;
-        others = f.1;
-        es_is = f.2;
-        slot_is = w.here ∙ ap (λ z. Some (leaf_content z)) f.2;
-        above = subst (λ (z : List (K × ℕ)). Above u path indices 1 size tree.above z (length (heads d.before))) old a;
-      }
-    where
-      no_entries : {A : Type 0} (es : List A) → length es ≤ 0 → es ≡ []
-      no_entries [] low = refl
-      no_entries (e ∷ es) low = absurd (omega (arith, low))
-
-  -- and after the rows above got its key
-  pub loss_first : (most : ℕ) (t u v : Table K V) (path indices : List ℕ) (size : ℕ) (tree : Tree K V) (place : ℕ) (key : K) → (d : LeafAt most t path indices size tree place) → 1 ≤ length (d.l ++ d.r) → Puts t u (get_or path 0 0) (leaf_content (d.l ++ d.r)) → (f : FirstOut most t u path indices size tree place d) → f.next.0 ≡ key →
-      Rebuilt u v path indices path indices 1 size tree.above (heads d.before ++ (key, get_or path 0 0) ∷ heads d.after) (length (heads d.before)) (map sizes tree.above) [] → LeafLoss most t v path indices size tree place
-  loss_first most t u v path indices size tree place key d more w f key_is b =
-      let n = get_or path 0 0 in
-      let new : heads d.before ++ ((key, n) ∷ heads d.after) ≡ heads (d.before ++ node n (d.l ++ d.r) ∷ d.after) =
-      ap (λ z. heads d.before ++ ((z, n) ∷ heads d.after)) (sym key_is) ∙ ap (λ z. heads d.before ++ (head_of n z ++ heads d.after)) (sym f.es_is) ∙ sym (heads-append d.before (node n (d.l ++ d.r) ∷ d.after)) in
-      leaf_loss most t u v path indices size tree place d more w
-      (subst (λ (z : List (K × ℕ)). Rebuilt u v path indices path indices 1 size tree.above z (length (heads d.before)) (map sizes tree.above) []) new b)
