@@ -14,15 +14,10 @@ use Rattle.bforest_core.proofs.rows.Tops.{root-stands}
 use Rattle.bforest_core.proofs.removal.Losses.{loss_at}
 use Rattle.bforest_core.proofs.removal.Frees.{freed_other, frees-one, frees-first}
 use Rattle.bforest_core.proofs.removal.Lifted.{above_same}
+use Rattle.bforest_core.proofs.removal.RemoveEmptied.{fit_solid}
 use Rattle.bforest_core.proofs.removal.Collapse.{heads-flat}
 use Rattle.bforest_core.proofs.removal.LeafLoss.{remove_flat, leaf_count, leaf_at}
 use Rattle.bforest_core.proofs.removal.Shrunk.{Untrimmed, up_to, trimmed_removed}
-
--- solid nodes fit as a row
-fit_solid : {K X : Type 0} (half most : ℕ) → 1 ≤ half → (row : List (LevelNode K X)) → Solid half most row → FitRow half most row
-fit_solid half most one [] s = tt
-fit_solid half most one (node m es ∷ []) s = (omega (arith, s.0, one), s.1, tt)
-fit_solid half most one (node m es ∷ next ∷ ns) s = (s.0, s.1, fit_solid half most one (next ∷ ns) s.2)
 
 -- parts of a list of one
 one_entry : {A : Type 0} (l : List A) (x : A) (r : List A) → length (l ++ x ∷ r) ≡ 1 → (l ≡ []) × (r ≡ [])

@@ -1,5 +1,5 @@
 -- The rows above a level: in another table, and under a row whose keys were written.
-use Rattle.std.proofs.Common.{◌≡◌, ℕ, suc, ◌+◌, ◌<◌, List, [], ◌∷◌, ◌++◌, map, length, get_or, slice_get, refl, sym, ap, ◌∙◌, subst, length-append, arith}
+use Rattle.std.proofs.Common.{◌≡◌, ℕ, suc, ◌+◌, ◌<◌, ◌≤◌, List, [], ◌∷◌, ◌++◌, map, length, get_or, slice_get, refl, sym, ap, ◌∙◌, subst, length-append, arith}
 use Rattle.std.specs.List.{flat_map}
 use Rattle.bforest_nodes.specs.Content.{Content}
 use Rattle.bforest_core.specs.Table.{Table}
@@ -7,7 +7,7 @@ use Rattle.bforest_core.specs.Levels.{LevelNode, node, flat, heads, head_of, siz
 use Rattle.bforest_core.specs.Place.{RowIn, inner_content, count, StandsAbove, Distinct}
 use Rattle.bforest_core.specs.Climb.{Above}
 use Rattle.bforest_core.specs.Removal.{Rebuilt, Frees}
-use Rattle.bforest_core.proofs.rows.LevelRows.{heads-append, sizes-append, FitRow-join}
+use Rattle.bforest_core.proofs.rows.LevelRows.{least-pos, heads-append, sizes-append, FitRow-join}
 use Rattle.bforest_core.proofs.table.Tables.{count-append, count-same, counts, row-put, rows-same, ne_from_count, Puts}
 use Rattle.bforest_core.proofs.rows.Zipper.{Cut_above, facts, stands_here}
 use Rattle.bforest_core.proofs.removal.Frees.{frees-puts, frees-refl}
@@ -20,6 +20,25 @@ head-other n (z ∷ l) k x y r s = refl
 -- nor do the heads of a row
 pub heads-put : {K X : Type 0} (before : List (LevelNode K X)) (n : ℕ) (es fs : List (K × X)) (after : List (LevelNode K X)) → head_of n es ≡ head_of n fs → heads (before ++ node n es ∷ after) ≡ heads (before ++ node n fs ∷ after)
 heads-put before n es fs after e = heads-append before _ ∙ ap (λ w. heads before ++ (w ++ heads after)) e ∙ sym (heads-append before _)
+
+-- the next node of a row, under its first key
+pub record NextNode {K X : Type 0} (after : List (LevelNode K X)) (k : K) (q : ℕ) : Type 0 where
+  pub f : K × X
+  pub fs : List (K × X)
+  pub rest : List (LevelNode K X)
+  pub after_is : after ≡ node q (f ∷ fs) ∷ rest
+  pub k_is : k ≡ f.0
+
+same_head : {A : Type 0} (p q : A) (xs ys : List A) → p ∷ xs ≡ q ∷ ys → p ≡ q
+same_head p q xs ys e = cc
+
+-- a row that is not empty as it is seen
+pub next_of : {K X : Type 0} (half most : ℕ) → 1 ≤ half → (after : List (LevelNode K X)) (k : K) (q : ℕ) (cs : List (K × ℕ)) → FitRow half most after → heads after ≡ (k, q) ∷ cs → NextNode after k q
+next_of half most one [] k q cs f e = absurd cc
+next_of half most one (node m [] ∷ after) k q cs f e = absurd (let g = f.0 in omega (arith, g, least-pos half one after))
+next_of {K} half most one (node m (x ∷ xs) ∷ after) k q cs f e =
+    let kq = same_head {A = K × ℕ} (x.0, m) (k, q) (heads after) cs e in
+    record { f = x; fs = xs; rest = after; after_is = ap (λ z. node z (x ∷ xs) ∷ after) (ap (λ z. z.1) kq); k_is = ap (λ z. z.0) (sym kq) }
 
 module _ {K V : Type 0} where
   -- the rows above, in a table that agrees at their numbers

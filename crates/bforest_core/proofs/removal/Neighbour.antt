@@ -9,7 +9,8 @@ use Rattle.bforest_core.specs.Climb.{Above, NextIs}
 use Rattle.bforest_core.proofs.rows.Zipper.{Spot, spot}
 use Rattle.bforest_core.proofs.table.Stored.{key_count, item_count}
 use Rattle.bforest_core.proofs.removal.Asked.{NodeAt, KeyAt, ChildAt, ReadsKey, ReadsChild, OneAbove, Beside}
-use Rattle.bforest_core.proofs.removal.Neighbours.{UpAbove, NextNode, up_above, next_within, next_none, next_of, slot_next, next_across}
+use Rattle.bforest_core.proofs.removal.Neighbours.{UpAbove, up_above, next_within, next_none, slot_next, next_across}
+use Rattle.bforest_core.proofs.removal.Lifted.{NextNode, next_of}
 
 module _ {K V : Type 0} where
   module _ (t : Table K V) (path indices : List ℕ) (up size : ℕ) (rows : List (List (LevelNode K ℕ))) (a : List (K × ℕ)) (x : K × ℕ) (b : List (K × ℕ)) (p : Above t path indices up size rows (a ++ x ∷ b) (length a)) (other : up ≢ size) where
@@ -42,7 +43,7 @@ module _ {K V : Type 0} where
 
     module _ (next : K × ℕ) (beside : Beside t path indices (up + 1) size (Some next)) where
       n : NextNode d.q.after next.0 next.1
-      n = let nx = next_above (Some next) beside in next_of d.q.after next.0 next.1 nx.0 d.f.fit.2 nx.1
+      n = let nx = next_above (Some next) beside in next_of 4 8 (omega arith) d.q.after next.0 next.1 nx.0 d.f.fit.2 nx.1
 
       n_slot : slice_get t.nodes next.1 ≡ Some (Inner (drop 1 (entry_keys (n.f ∷ n.fs))) (entry_items (n.f ∷ n.fs)))
       n_slot = slot_next t path indices up size rows a x b d next.0 next.1 n

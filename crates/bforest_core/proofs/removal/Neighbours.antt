@@ -7,13 +7,14 @@ use Rattle.bforest_core.specs.Levels.{LevelNode, node, flat, heads, head_of, siz
 use Rattle.bforest_core.specs.Place.{RowIn, inner_content, StandsAbove, entry_keys, entry_items}
 use Rattle.bforest_core.specs.Climb.{Above, NextIs}
 use Rattle.bforest_core.specs.Removal.{Rebuilt}
-use Rattle.bforest_core.proofs.rows.LevelRows.{flat-append, heads-append, least-pos, head-is}
+use Rattle.bforest_core.proofs.rows.LevelRows.{flat-append, heads-append, head-is}
 use Rattle.bforest_core.proofs.table.Tables.{count-row, counts, row-split, row-join, row-same, Puts, puts}
 use Rattle.bforest_core.proofs.removal.Frees.{frees-wider}
 use Rattle.bforest_core.proofs.rows.Zipper.{Cut_above, facts}
 use Rattle.bforest_core.proofs.rows.Zipper.{Spot}
 use Rattle.bforest_core.proofs.removal.RemoveMerged.{Across, across_cut}
-use Rattle.bforest_core.proofs.removal.Lifted.{rows_above, lifted, renamed}
+use Rattle.bforest_core.proofs.removal.LeafLoss.{no_nodes}
+use Rattle.bforest_core.proofs.removal.Lifted.{NextNode, rows_above, lifted, renamed}
 use Rattle.bforest_core.proofs.rows.Zipper.{stands-same}
 use Rattle.std.specs.Prelude.{Bool, false}
 use Rattle.bforest_core.specs.Steps.{Over, Moved}
@@ -58,31 +59,6 @@ nothing_right : {K : Type 0} (l : List (K × ℕ)) (x : K × ℕ) (r : List (K �
 nothing_right l x [] e l_is less = refl
 nothing_right l x (y ∷ r) e l_is less = absurd (omega (arith, less, l_is, length-append l (x ∷ y ∷ r)))
 
--- the next node of a row, under its first key
-pub record NextNode {K : Type 0} (after : List (LevelNode K ℕ)) (k : K) (q : ℕ) : Type 0 where
-  pub f : K × ℕ
-  pub fs : List (K × ℕ)
-  pub rest : List (LevelNode K ℕ)
-  pub after_is : after ≡ node q (f ∷ fs) ∷ rest
-  pub k_is : k ≡ f.0
-
-same_head : {A : Type 0} (p q : A) (xs ys : List A) → p ∷ xs ≡ q ∷ ys → p ≡ q
-same_head p q xs ys e = cc
-
--- a row that is not empty as it is seen
-pub next_of : {K : Type 0} (after : List (LevelNode K ℕ)) (k : K) (q : ℕ) (cs : List (K × ℕ)) → FitRow 4 8 after → heads after ≡ (k, q) ∷ cs → NextNode after k q
-next_of [] k q cs f e = absurd cc
-next_of (node m [] ∷ after) k q cs f e = absurd (let g = f.0 in omega (arith, g, least-pos 4 (omega arith) after))
-next_of {K} (node m (x ∷ xs) ∷ after) k q cs f e =
-    let kq = same_head {A = K × ℕ} (x.0, m) (k, q) (heads after) cs e in
-    record { f = x; fs = xs; rest = after; after_is = ap (λ z. node z (x ∷ xs) ∷ after) (ap (λ z. z.1) kq); k_is = ap (λ z. z.0) (sym kq) }
-
--- a row that nothing is seen of has no entries
-pub none_of : {K : Type 0} (after : List (LevelNode K ℕ)) → FitRow 4 8 after → heads after ≡ [] → flat after ≡ []
-none_of [] f e = refl
-none_of (node m [] ∷ after) f e = absurd (let g = f.0 in omega (arith, g, least-pos 4 (omega arith) after))
-none_of (node m (x ∷ xs) ∷ after) f e = absurd cc
-
 module _ {K V : Type 0} where
   -- no row above: no neighbour
   pub none_at_top : (t : Table K V) (path indices : List ℕ) (up size : ℕ) (rows : List (List (LevelNode K ℕ))) (a : List (K × ℕ)) (x : K × ℕ) (b : List (K × ℕ)) (p : ℕ) → Above t path indices up size rows (a ++ x ∷ b) p → up ≡ size → b ≡ []
@@ -120,7 +96,7 @@ module _ {K V : Type 0} where
   -- no neighbour
   pub next_none : (t : Table K V) (path indices : List ℕ) (up size : ℕ) (rows : List (List (LevelNode K ℕ))) (a : List (K × ℕ)) (x : K × ℕ) (b : List (K × ℕ)) (d : Spot t path indices up size rows a x b) → length (d.q.l ++ x ∷ d.q.r) ≤ get_or indices up 0 + 1 → heads d.q.after ≡ [] → b ≡ []
   next_none t path indices up size rows a x b d less none =
-      d.q.b_is ∙ ap (λ z. z ++ flat d.q.after) (nothing_right d.q.l x d.q.r (get_or indices up 0) d.q.entry_is less) ∙ none_of d.q.after d.f.fit.2 none
+      d.q.b_is ∙ ap (λ z. z ++ flat d.q.after) (nothing_right d.q.l x d.q.r (get_or indices up 0) d.q.entry_is less) ∙ ap flat (no_nodes 4 8 (omega arith) d.q.after d.f.fit.2 none)
 
   -- the next node's slot
   pub slot_next : (t : Table K V) (path indices : List ℕ) (up size : ℕ) (rows : List (List (LevelNode K ℕ))) (a : List (K × ℕ)) (x : K × ℕ) (b : List (K × ℕ)) (d : Spot t path indices up size rows a x b) (k : K) (q : ℕ) (n : NextNode d.q.after k q) → slice_get t.nodes q ≡ Some (inner_content (n.f ∷ n.fs))

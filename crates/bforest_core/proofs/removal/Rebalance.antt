@@ -1,5 +1,5 @@
 -- A node that lost an entry: it stays, or is balanced with its right neighbour.
-use Rattle.std.proofs.Common.{◌≡◌, ℕ, zero, suc, ◌+◌, ◌-◌, ◌*◌, ◌/◌, ◌≤◌, ◌<◌, ◌≢◌, ◌⊎◌, true, false, nat_lt, nat_le, List, [], ◌∷◌, ◌++◌, map, length, set, get_or, slice_get, Some, refl, sym, ap, ◌∙◌, subst, inl, inr, append_assoc, length-append, length-set, arith}
+use Rattle.std.proofs.Common.{◌≡◌, ℕ, zero, suc, ◌+◌, ◌-◌, ◌*◌, ◌/◌, ◌≤◌, ◌<◌, ◌≢◌, ◌⊎◌, true, false, nat_le, List, [], ◌∷◌, ◌++◌, map, length, set, get_or, slice_get, Some, refl, sym, ap, ◌∙◌, subst, inl, inr, append_assoc, length-append, length-set, arith}
 use Rattle.std.specs.List.{flat_map}
 use Rattle.std.proofs.lemmas.List.{append-nil, get_or-set_other, get_or-set_same}
 use Rattle.bforest_nodes.specs.Content.{Content, Free}
@@ -13,14 +13,9 @@ use Rattle.bforest_core.proofs.rows.LevelRows.{flat-append, heads-append, sizes-
 use Rattle.bforest_core.proofs.table.Tables.{count-append, counts, count-same, count-row, row-same, row-put_two, row-drop_put, rows-same, ne_from_count, absent_ne, slice_get-set_apart}
 use Rattle.bforest_core.proofs.removal.Frees.{frees-refl}
 use Rattle.bforest_core.proofs.rows.Zipper.{above_two, stands-same}
+use Rattle.bforest_core.proofs.removal.Losses.{here_lt, past_lt}
 use Rattle.bforest_core.proofs.removal.Balance.{IsHalf, AllRight, Spread}
 use Rattle.bforest_core.proofs.removal.Frees.{freed-is}
-
-yes_lt : (a b : ℕ) → a < b → nat_lt a b ≡ true
-yes_lt a b h = grind arith
-
-no_lt : (a b : ℕ) → b ≤ a → nat_lt a b ≡ false
-no_lt a b h = grind arith
 
 yes_le : (a b : ℕ) → a ≤ b → nat_le a b ≡ true
 yes_le a b h = grind arith
@@ -35,15 +30,15 @@ rebalanced_last q (suc m) one = refl
 
 rebalanced_healthy : (q m r : ℕ) (after : List ℕ) → 1 ≤ m → q ≤ 2 * m → rebalanced q m (r ∷ after) ≡ (false, m ∷ r ∷ after)
 rebalanced_healthy q zero r after one h = absurd (omega arith)
-rebalanced_healthy q (suc m) r after one h = let e = no_lt (2 * suc m) q h in rw e refl
+rebalanced_healthy q (suc m) r after one h = let e = past_lt (2 * suc m) q h in rw e refl
 
 rebalanced_joined : (q m r : ℕ) (after : List ℕ) → 1 ≤ m → 2 * m < q → m + r ≤ q → rebalanced q m (r ∷ after) ≡ (true, (m + r) ∷ after)
 rebalanced_joined q zero r after one h fits = absurd (omega arith)
-rebalanced_joined q (suc m) r after one h fits = let e = yes_lt (2 * suc m) q h in let f = yes_le (suc m + r) q fits in rw (e, f) refl
+rebalanced_joined q (suc m) r after one h fits = let e = here_lt (2 * suc m) q h in let f = yes_le (suc m + r) q fits in rw (e, f) refl
 
 rebalanced_spread : (q m r : ℕ) (after : List ℕ) → 1 ≤ m → 2 * m < q → q < m + r → rebalanced q m (r ∷ after) ≡ (false, ((m + r) - (m + r) / 2) ∷ (m + r) / 2 ∷ after)
 rebalanced_spread q zero r after one h more = absurd (omega arith)
-rebalanced_spread q (suc m) r after one h more = let e = yes_lt (2 * suc m) q h in let f = no_le (suc m + r) q more in rw (e, f) refl
+rebalanced_spread q (suc m) r after one h more = let e = here_lt (2 * suc m) q h in let f = no_le (suc m + r) q more in rw (e, f) refl
 
 -- a node that is half full or the last is large enough
 pub enough : {K X : Type 0} (half : ℕ) (es : List (K × X)) (after : List (LevelNode K X)) → 1 ≤ length es → (half ≤ length es) ⊎ (after ≡ []) → least half after ≤ length es

@@ -26,6 +26,12 @@ root_on_path path indices up size row rest hs hs2 p stacked stands height =
     let high : up + length rest ≡ size - 1 = omega (arith, height) in
     top_rows hs path indices up row rest p stacked stands ∙ ap (λ z. get_or path z 0) high
 
+-- solid nodes fit as a row
+pub fit_solid : {K X : Type 0} (half most : ℕ) → 1 ≤ half → (row : List (LevelNode K X)) → Solid half most row → FitRow half most row
+fit_solid half most one [] s = tt
+fit_solid half most one (node m es ∷ []) s = (omega (arith, s.0, one), s.1, tt)
+fit_solid half most one (node m es ∷ next ∷ ns) s = (s.0, s.1, fit_solid half most one (next ∷ ns) s.2)
+
 -- nothing to the right
 nothing : {K : Type 0} (r : List (K × ℕ)) (after : List (LevelNode K ℕ)) → FitRow 4 8 after → [] ≡ r ++ flat after → (r ≡ []) × (after ≡ [])
 nothing [] [] f e = (refl, refl)
@@ -91,7 +97,7 @@ module _ {K V : Type 0} where
       let ss = loss_level 8 front 0 0 (length (flat front)) [] (map sizes rest) (map sizes (row ∷ rest)) were (omega arith) (omega arith) refl in
       record {
         rows' = front ∷ r.rows';
-        stacked = (refl, FitRow-solid front fs.0, subst (λ (z : List (K × ℕ)). Stacked z r.rows') (sym hs) r.stacked);
+        stacked = (refl, fit_solid 4 8 (omega arith) front fs.0, subst (λ (z : List (K × ℕ)). Stacked z r.rows') (sym hs) r.stacked);
         inside = (row-same inner_content v.nodes u.nodes front (λ m some. r.frees.others m (omega (arith, some, p.apart m, c m))) in_v, r.inside);
         height = ap suc r.height;
         sizes_are = ap (λ z. sizes front ∷ z) r.sizes_are ∙ ap (λ z. sizes front ∷ loss_above (Some z) (map sizes rest)) (sym len) ∙ ap (λ z. z ∷ loss_above (Some (length front)) (map sizes rest)) (sym (append-nil (sizes front))) ∙ sym ss;
@@ -99,11 +105,6 @@ module _ {K V : Type 0} where
         root_is = ap (λ z. root_above z r.rows') hs ∙ r.root_is;
         frees = frees-first t v u n (inner_content (x ∷ [])) (numbers row ++ flat_map numbers rest) (flat_map numbers rest) freed f.slot_is v_is (omega (arith, c n, count-same n [])) f.none_rest (λ m none. omega (arith, none, c m)) r.frees;
       }
-    where
-      FitRow-solid : (row : List (LevelNode K ℕ)) → Solid 4 8 row → FitRow 4 8 row
-      FitRow-solid [] s = tt
-      FitRow-solid (node m es ∷ []) s = (omega (arith, s.0), s.1, tt)
-      FitRow-solid (node m es ∷ next ∷ ns) s = (s.0, s.1, FitRow-solid (next ∷ ns) s.2)
 
   -- the parent of the path keeps others
   pub drop_keep : (t u : Table K V) (path indices : List ℕ) (up size : ℕ) (rows : List (List (LevelNode K ℕ))) (a : List (K × ℕ)) (x : K × ℕ) (d : Spot t path indices up size rows a x []) → length (d.q.l ++ x ∷ d.q.r) ≢ 1 →
