@@ -43,6 +43,9 @@ module _ {K V : Type 0} where
   abbrev pub TwoAbove : Table K V → List ℕ → List ℕ → ℕ → ℕ → Type 0
   TwoAbove t path indices up size = (rows : List (List (LevelNode K ℕ))) × (before : List (K × ℕ)) × (x : K × ℕ) × (key : K) × (n : ℕ) × (after : List (K × ℕ)) × Above t path indices up size rows (before ++ x ∷ (key, n) ∷ after) (length before)
 
+  pub two_low : (t : Table K V) (path indices : List ℕ) (up size : ℕ) → TwoAbove t path indices up size → up < size
+  two_low t path indices up size w = above_two t path indices up size w.0 w.1 w.2 (w.3, w.4) w.5 (length w.1) w.6
+
   -- the same for another call
   abbrev pub NextAbove : Table K V → List ℕ → List ℕ → ℕ → ℕ → Type 0
   NextAbove t path indices up size = (rows : List (List (LevelNode K ℕ))) × (before : List (K × ℕ)) × (x : K × ℕ) × (y : K × ℕ) × (after : List (K × ℕ)) × Above t path indices up size rows (before ++ x ∷ y ∷ after) (length before)

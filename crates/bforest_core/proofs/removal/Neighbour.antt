@@ -52,9 +52,9 @@ module _ {K V : Type 0} where
       pub first_asks : ChildAt t next.1 0
       first_asks = (drop 1 (entry_keys (n.f ∷ n.fs)), entry_items (n.f ∷ n.fs), n_slot, omega arith)
 
-    module _ (r : ℕ) (in_path : up < length path) where
+    module _ (r : ℕ) (wide : length path ≡ 17) (height : size ≤ 17) where
       slot : slice_get t.nodes (get_or path up r) ≡ Some (inner_content (d.q.l ++ x ∷ d.q.r))
-      slot = ap (λ z. slice_get t.nodes z) (get_or_default path up r 0 in_path) ∙ d.f.slot_is
+      slot = let l = low in ap (λ z. slice_get t.nodes z) (get_or_default path up r 0 (omega (arith, l, wide, height))) ∙ d.f.slot_is
 
       -- what counting the children asks
       pub counted_asks : NodeAt t (get_or path up r)

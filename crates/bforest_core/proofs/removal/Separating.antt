@@ -16,7 +16,7 @@ use Rattle.bforest_core.proofs.removal.Neighbours.{rekey_same, rekey_over}
 
 module _ {K V : Type 0} where
   module _ (t : Table K V) (path indices : List ℕ) (up size : ℕ) (rows : List (List (LevelNode K ℕ))) (a : List (K × ℕ)) (x : K × ℕ) (k : K) (n : ℕ) (b : List (K × ℕ)) (p : Above t path indices up size rows (a ++ x ∷ (k, n) ∷ b) (length a)) where
-    pub low : up < size
+    low : up < size
     low = above_two t path indices up size rows a x (k, n) b (length a) p
 
     d : Spot t path indices up size rows a x ((k, n) ∷ b)
@@ -29,9 +29,9 @@ module _ {K V : Type 0} where
     pub above_fewer : (s : ℕ) → size - up ≡ s → size - (up + 1) < s
     above_fewer s bound = let l = low in omega arith
 
-    module _ (r : ℕ) (in_path : up < length path) where
+    module _ (r : ℕ) (wide : length path ≡ 17) (height : size ≤ 17) where
       num_is : get_or path up r ≡ get_or path up 0
-      num_is = get_or_default path up r 0 in_path
+      num_is = let l = low in get_or_default path up r 0 (omega (arith, l, wide, height))
 
       slot : slice_get t.nodes (get_or path up r) ≡ Some (inner_content (d.q.l ++ x ∷ d.q.r))
       slot = ap (λ z. slice_get t.nodes z) num_is ∙ d.f.slot_is
