@@ -60,12 +60,6 @@ nothing_right l x [] e l_is less = refl
 nothing_right l x (y ∷ r) e l_is less = absurd (omega (arith, less, l_is, length-append l (x ∷ y ∷ r)))
 
 module _ {K V : Type 0} where
-  -- no row above: no neighbour
-  pub none_at_top : (t : Table K V) (path indices : List ℕ) (up size : ℕ) (rows : List (List (LevelNode K ℕ))) (a : List (K × ℕ)) (x : K × ℕ) (b : List (K × ℕ)) (p : ℕ) → Above t path indices up size rows (a ++ x ∷ b) p → up ≡ size → b ≡ []
-  none_at_top t path indices up size (row ∷ rows) a x b p h e = absurd (omega (arith, h.height, e))
-  none_at_top t path indices up size [] a x [] p h e = refl
-  none_at_top t path indices up size [] a x (y ∷ b) p h e = absurd (omega (arith, h.stacked, length-append a (x ∷ y ∷ b)))
-
   -- the rows one level up, under the path's node
   pub record UpAbove (t : Table K V) (path indices : List ℕ) (up size : ℕ) (before : List (LevelNode K ℕ)) (n : ℕ) (after : List (LevelNode K ℕ)) (rest : List (List (LevelNode K ℕ))) : Type 0 where
     pub k : K
