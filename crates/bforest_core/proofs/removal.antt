@@ -8,6 +8,8 @@ pub mod Shrunk
 pub mod Removing
 pub mod LeafEmptied
 pub mod Removal
+pub mod Lifted
+pub mod Taking
 pub mod Loosen
 pub mod RemoveMerged
 pub mod Balance
@@ -17,6 +19,7 @@ pub mod Separators
 pub mod Merge
 pub mod RemoveEmptied
 pub mod Healing
+pub mod Asked
 pub mod Rebalancing
 pub mod Neighbour
 pub mod Separating

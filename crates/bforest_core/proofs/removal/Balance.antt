@@ -2,7 +2,7 @@
 use Rattle.std.proofs.Common.{◌≡◌, ℕ, suc, ◌+◌, ◌-◌, ◌/◌, ◌≤◌, ◌<◌, ◌≢◌, List, [], ◌∷◌, ◌++◌, length, set, slice_get, Some, None, refl, sym, ap, ◌∙◌, subst, inl, inr, length-append, arith}
 use Rattle.std.proofs.lemmas.List.{length-map, map-append}
 use Rattle.std.proofs.lemmas.Bool.{cases_lt}
-use Rattle.bforest_nodes.specs.Content.{Content, Inner, Leaf, IsSameKind, entry_count, entry_capacity, joined, IsCut, Balances, left_share}
+use Rattle.bforest_nodes.specs.Content.{Content, Inner, Leaf, IsFree, IsSameKind, entry_count, entry_capacity, joined, IsCut, Balances, left_share}
 use Rattle.bforest_core.specs.Table.{Table, with_node, IsBalancedAt}
 use Rattle.bforest_core.proofs.table.Lists.{slice_get-set_same}
 use Rattle.std.proofs.lemmas.Option.{slice_get_within}
@@ -22,6 +22,7 @@ pub record IsHalf (half most : ℕ) : Type 0 where
 pub record IsStored {K V X : Type 0} (content : List (K × X) → Content K V) (n most : ℕ) : Type 0 where
   pub count_is : (es : List (K × X)) → entry_count (content es) ≡ length es
   pub capacity_is : (es : List (K × X)) → entry_capacity n (content es) ≡ most
+  pub used : (es : List (K × X)) → ¬ IsFree (content es)
   pub kind : (es fs : List (K × X)) → IsSameKind (content es) (content fs)
   pub joins : (e : K × X) (es : List (K × X)) (f : K × X) (fs : List (K × X)) → joined (content (e ∷ es)) f.0 (content (f ∷ fs)) ≡ content ((e ∷ es) ++ f ∷ fs)
   pub cuts : (x : K × X) (xs : List (K × X)) (y : K × X) (ys : List (K × X)) (q : ℕ) (left right : Content K V) (key : K) → length (x ∷ xs) ≡ q → IsCut (content ((x ∷ xs) ++ y ∷ ys)) q left key right → Parts content (x ∷ xs) y ys left right key
@@ -38,6 +39,7 @@ module _ {K : Type 0} where
   inner_stored {V} n = record {
     count_is = λ es. length-map es (λ (w : K × ℕ). w.1);
     capacity_is = λ es. refl;
+    used = λ es free. free;
     kind = λ es fs. tt;
     joins = λ e es f fs. sym (ap (λ w. Inner w (entry_items ((e ∷ es) ++ f ∷ fs))) (keys-app es (f ∷ fs)) ∙ ap (λ w. Inner (entry_keys es ++ f.0 ∷ entry_keys fs) w) (items-app (e ∷ es) (f ∷ fs)));
     cuts = inner_cuts V;
@@ -48,6 +50,7 @@ module _ {K : Type 0} where
   leaf_stored {V} n = record {
     count_is = λ es. length-map es (λ (w : K × V). w.0);
     capacity_is = λ es. refl;
+    used = λ es free. free;
     kind = λ es fs. tt;
     joins = λ e es f fs. sym (ap (λ w. Leaf w (entry_items ((e ∷ es) ++ f ∷ fs))) (keys-app (e ∷ es) (f ∷ fs)) ∙ ap (λ w. Leaf (entry_keys (e ∷ es) ++ f.0 ∷ entry_keys fs) w) (items-app (e ∷ es) (f ∷ fs)));
     cuts = λ x xs y ys q left right key e c. leaf_cuts V (x ∷ xs) y ys q left right key e c;

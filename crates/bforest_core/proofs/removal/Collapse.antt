@@ -1,19 +1,18 @@
 -- Roots with a single child, which go: from the root down, and in the sizes from the leaves up.
-use Rattle.std.proofs.Common.{◌≡◌, ◌≢◌, ℕ, suc, ◌+◌, ◌-◌, ◌≤◌, ◌<◌, Some, List, [], ◌∷◌, ◌++◌, map, length, get_or, slice_get, refl, sym, ap, ◌∙◌, subst, inl, inr, append_assoc, append-nil, length-append, length-set, arith}
+use Rattle.std.proofs.Common.{◌≡◌, ◌≢◌, ℕ, suc, ◌+◌, ◌-◌, ◌≤◌, ◌<◌, Some, List, [], ◌∷◌, ◌++◌, map, length, get_or, slice_get, refl, sym, ap, ◌∙◌, subst, append_assoc, append-nil, length-append, arith}
 use Rattle.std.specs.List.{flat_map}
 use Rattle.std.proofs.lemmas.List.Concat.{flat_map-append}
-use Rattle.std.proofs.lemmas.Bool.Decides.{eqb_tells}
-use Rattle.bforest_nodes.specs.Content.{Content, Free, entry_count}
-use Rattle.bforest_core.specs.Table.{Table, with_freed, front_of}
+use Rattle.bforest_nodes.specs.Content.{Content, entry_count}
+use Rattle.bforest_core.specs.Table.{Table, with_freed}
 use Rattle.bforest_core.specs.Levels.{LevelNode, node, flat, heads, sizes, numbers, Stacked, Topped}
 use Rattle.bforest_core.specs.Sizes.{trimmed}
 use Rattle.bforest_core.specs.Place.{RowsIn, inner_content, count, root_above, first_number, StandsAbove}
-use Rattle.bforest_core.specs.Removal.{Frees, UpTo, Trimmed}
+use Rattle.bforest_core.specs.Removal.{UpTo, Trimmed}
 use Rattle.bforest_core.proofs.rows.LevelRows.{least-pos}
 use Rattle.bforest_core.proofs.rows.Bounds.{FitRow-full}
-use Rattle.bforest_core.proofs.table.Tables.{count-append, count-same, count-other, slice_get-set_apart, ne_from_count, absent_ne, rows-same}
+use Rattle.bforest_core.proofs.table.Tables.{count-append, count-same, ne_from_count, rows-same}
 use Rattle.bforest_core.proofs.table.Stored.{item_count}
-use Rattle.bforest_core.proofs.removal.Frees.{frees-refl, frees-then, freed-is}
+use Rattle.bforest_core.proofs.removal.Frees.{frees-refl, freed_other, frees-first}
 
 -- the sizes of a row are as many as its nodes
 pub length-sizes : {K X : Type 0} (row : List (LevelNode K X)) → length (sizes row) ≡ length row
@@ -163,20 +162,6 @@ module _ {K V : Type 0} where
   trim_stays t size rows list root u d two =
       trim_none t size rows list root u (subst (λ (z : List (List (LevelNode K ℕ))). Topped list z) (sym d.top.rows_are) (topped-here list d.top.init root d.top.entries two d.whole.stacked))
 
-  -- a slot other than the freed one
-  freed_other : (t v : Table K V) (root : ℕ) → v ≡ with_freed t root → (m : ℕ) → m ≢ root → slice_get v.nodes m ≡ slice_get t.nodes m
-  freed_other t v root is m ne = ap (λ z. slice_get z.nodes m) is ∙ slice_get-set_apart t.nodes root m (Free (front_of t.chain)) ne
-
-  -- one freed node
-  pub frees-one : (t v : Table K V) (n : ℕ) (old : Content K V) → slice_get t.nodes n ≡ Some old → v ≡ with_freed t n → Frees t v (n ∷ []) (n ∷ [])
-  frees-one t v n old found is = record {
-    others = λ m none. freed_other t v n is m (absent_ne m n [] none);
-    freed_are = (freed-is t v n old found is, tt);
-    chain_is = ap (λ z. z.chain) is;
-    slots_are = ap (λ z. length z.nodes) is ∙ length-set t.nodes n (Free (front_of t.chain));
-    limit_is = ap (λ z. z.limit) is;
-  }
-
   -- the rows below a root with a single child, after it was freed
   pub trim_child : (t v : Table K V) (size size1 : ℕ) (list : List (K × ℕ)) (root : ℕ) (init : List (List (LevelNode K ℕ))) (x : K × ℕ) → UpTo t size (init ++ (node root (x ∷ []) ∷ []) ∷ []) list root → count root (flat_map numbers init) ≡ 0 → v ≡ with_freed t root → size1 ≡ size - 1 → UpTo v size1 init list x.1
   trim_child t v size size1 list root init x u none is size_is = record {
@@ -208,23 +193,9 @@ module _ {K V : Type 0} where
         root_is = r.root_is;
         same_root = λ same. absurd (omega (arith, same, less));
         old_root = λ ne. omega (arith, d root, count-same root []);
-        frees = (let f = frees-one t v root (inner_content (x ∷ [])) slot is in
-            let own : List ℕ = flat_map numbers (r.discarded ++ row ∷ []) in
-            record {
-              others = λ m z. r.frees.others m (omega (arith, z, c m)) ∙ f.others m (omega (arith, z, c m));
-              freed_are = (frees-then t v u (root ∷ flat_map numbers r.discarded) (flat_map numbers r.discarded) (root ∷ []) freed (λ m z. omega (arith, z)) (λ m some. only m some none parts) (record { others = λ m z. f.others m (omega (arith, z)); freed_are = f.freed_are; chain_is = f.chain_is; slots_are = f.slots_are; limit_is = f.limit_is }) r.frees).freed_are;
-              chain_is = r.frees.chain_is ∙ ap (λ z. freed ++ z) f.chain_is ∙ sym (append_assoc freed (root ∷ []) t.chain);
-              slots_are = r.frees.slots_are ∙ f.slots_are;
-              limit_is = r.frees.limit_is ∙ f.limit_is;
-            });
+        frees = frees-first t v u root (inner_content (x ∷ [])) (flat_map numbers (r.discarded ++ row ∷ [])) (flat_map numbers r.discarded) freed slot is
+            (omega (arith, c root, count-same root [])) (omega (arith, none, parts root)) (λ m none. omega (arith, none, c m)) r.frees;
       }
-    where
-      only : (m : ℕ) → 0 < count m (root ∷ []) → count root (flat_map numbers init) ≡ 0 → ((k : ℕ) → count k (flat_map numbers init) ≡ count k (flat_map numbers r.rows') + count k (flat_map numbers r.discarded)) → count m (flat_map numbers r.discarded) ≡ 0
-      only m some none parts =
-          elim (eqb_tells root m) [
-            | inl w ↦ (let e : root ≡ m = w.1 in subst (λ (z : ℕ). count z (flat_map numbers r.discarded) ≡ 0) e (omega (arith, none, parts root)))
-            | inr w ↦ absurd (omega (arith, some, count-other m root [] w.1))
-          ]
 
   -- a root with a single child
   pub record OnlyChild (t : Table K V) (size : ℕ) (rows : List (List (LevelNode K ℕ))) (list : List (K × ℕ)) (root : ℕ) : Type 0 where

@@ -1,14 +1,23 @@
 -- Changes of some numbers of a table, of which some are freed: none, one after another, and of more numbers.
-use Rattle.std.proofs.Common.{◌≡◌, ℕ, ◌<◌, List, [], ◌++◌, slice_get, Some, refl, sym, ap, ◌∙◌, subst, append_assoc, arith}
+use Rattle.std.proofs.Common.{◌≡◌, ◌≢◌, ℕ, ◌<◌, List, [], ◌∷◌, ◌++◌, length, slice_get, Some, refl, sym, ap, ◌∙◌, subst, inl, inr, append_assoc, length-set, arith}
+use Rattle.std.proofs.lemmas.Bool.Decides.{eqb_tells}
 use Rattle.std.proofs.lemmas.Option.{slice_get_within}
-use Rattle.bforest_nodes.specs.Content.{Content, IsFree}
-use Rattle.bforest_core.specs.Table.{Table, with_freed}
+use Rattle.bforest_nodes.specs.Content.{Content, Free, IsFree}
+use Rattle.bforest_core.specs.Table.{Table, with_freed, front_of}
 use Rattle.bforest_core.specs.Place.{count}
 use Rattle.bforest_core.specs.Removal.{Frees}
 use Rattle.bforest_core.specs.Trees.{slot, Every}
-use Rattle.bforest_core.proofs.table.Tables.{Puts}
+use Rattle.bforest_core.proofs.table.Tables.{Puts, count-other, slice_get-set_apart}
 use Rattle.bforest_core.proofs.union.Forests.{every-join}
 use Rattle.bforest_core.proofs.union.FreeSlots.{free-same, freed-slot}
+
+-- a number that one stands among is that one
+only_here : (m n : ℕ) (ms : List ℕ) → 0 < count m (n ∷ []) → count n ms ≡ 0 → count m ms ≡ 0
+only_here m n ms some none =
+    elim (eqb_tells n m) [
+      | inl w ↦ (let e : n ≡ m = w.1 in subst (λ (z : ℕ). count z ms ≡ 0) e none)
+      | inr w ↦ absurd (omega (arith, some, count-other m n [] w.1))
+    ]
 
 module _ {K V : Type 0} where
   -- nothing has changed
@@ -54,3 +63,29 @@ module _ {K V : Type 0} where
   pub freed-is : (u v : Table K V) (n : ℕ) (old : Content K V) → slice_get u.nodes n ≡ Some old → v ≡ with_freed u n → IsFree (slot v.nodes n)
   freed-is u v n old found is =
       subst (λ (z : Table K V). IsFree (slot z.nodes n)) (sym is) (freed-slot u n (slice_get_within u.nodes n old found))
+
+  -- a slot other than the freed one
+  pub freed_other : (t v : Table K V) (n : ℕ) → v ≡ with_freed t n → (m : ℕ) → m ≢ n → slice_get v.nodes m ≡ slice_get t.nodes m
+  freed_other t v n is m ne = ap (λ z. slice_get z.nodes m) is ∙ slice_get-set_apart t.nodes n m (Free (front_of t.chain)) ne
+
+  -- one freed node
+  pub frees-one : (t v : Table K V) (n : ℕ) (old : Content K V) (own : List ℕ) → slice_get t.nodes n ≡ Some old → v ≡ with_freed t n → 0 < count n own → Frees t v own (n ∷ [])
+  frees-one t v n old own found is some = record {
+    others = λ m z. freed_other t v n is m (λ (e : m ≡ n). let h = ap (λ w. count w own) e in omega (arith, h, z, some));
+    freed_are = (freed-is t v n old found is, tt);
+    chain_is = ap (λ z. z.chain) is;
+    slots_are = ap (λ z. length z.nodes) is ∙ length-set t.nodes n (Free (front_of t.chain));
+    limit_is = ap (λ z. z.limit) is;
+  }
+
+  -- and then a change of others
+  pub frees-first : (t v u : Table K V) (n : ℕ) (old : Content K V) (own wide freed : List ℕ) → slice_get t.nodes n ≡ Some old → v ≡ with_freed t n → 0 < count n own → count n wide ≡ 0 →
+      ((m : ℕ) → count m own ≡ 0 → count m wide ≡ 0) → Frees v u wide freed → Frees t u own (freed ++ n ∷ [])
+  frees-first t v u n old own wide freed found is some none less q =
+      frees-then t v u own wide (n ∷ []) freed less (λ m here. only_here m n wide here none) (frees-one t v n old own found is some) q
+
+  -- a change that frees one of a level, between one on it and one of the rows above
+  pub frees-joined : (t u w v : Table K V) (own row rest : List ℕ) (n : ℕ) (freed : List ℕ) → ((m : ℕ) → count m own ≡ 0 → (count m row ≡ 0) × (count m rest ≡ 0)) → count n rest ≡ 0 →
+      Frees t u own [] → Frees u w row (n ∷ []) → Frees w v rest freed → Frees t v own (freed ++ n ∷ [])
+  frees-joined t u w v own row rest n freed less none p q r =
+      frees-then t w v own rest (n ∷ []) freed (λ m z. (less m z).1) (λ m here. only_here m n rest here none) (frees-then t u w own row [] (n ∷ []) (λ m z. (less m z).0) (λ m some. omega (arith, some)) p q) r

@@ -3,18 +3,17 @@ use Rattle.std.proofs.Common.{◌≡◌, ℕ, suc, ◌≤◌, ◌<◌, ◌≢◌
 use Rattle.std.specs.List.{flat_map}
 use Rattle.bforest_nodes.specs.Content.{Content}
 use Rattle.bforest_core.specs.Table.{Table, IsUsed, IsUnderflowedAt, IsBalancedAt, with_freed}
-use Rattle.bforest_core.specs.Levels.{LevelNode, node, flat, heads, head_of, sizes, numbers, FitRow}
+use Rattle.bforest_core.specs.Levels.{LevelNode, node, flat, heads, head_of, sizes, numbers}
 use Rattle.bforest_core.specs.Place.{count}
 use Rattle.bforest_core.specs.Climb.{Above, SameBelow, top_of}
 use Rattle.bforest_core.specs.Removal.{Rebuilt, OnLevel, Healed, Joined}
 use Rattle.bforest_core.proofs.rows.LevelRows.{heads-append, least-pos, head-is}
-use Rattle.bforest_core.proofs.table.Tables.{count-append, row-split, is_used, rows-same}
+use Rattle.bforest_core.proofs.table.Tables.{count-append, row-split, is_used, ne_from_count}
 use Rattle.bforest_core.proofs.rows.Zipper.{apart_here}
+use Rattle.bforest_core.proofs.removal.LeafLoss.{no_nodes}
+use Rattle.bforest_core.proofs.removal.Lifted.{next_of, above_same}
 use Rattle.bforest_core.proofs.removal.Balance.{IsHalf, IsStored, PutsTwo, AllRight, Spread, all_right_at, spread_at}
 use Rattle.bforest_core.proofs.removal.Rebalance.{settle_stay, settle_move, settle_spread, settle_join, apart_two}
-
-same_head : {A : Type 0} (p q : A) (xs ys : List A) → p ∷ xs ≡ q ∷ ys → p ≡ q
-same_head p q xs ys e = cc
 
 module _ {K V X : Type 0} (content : List (K × X) → Content K V) (half most : ℕ) (hm : IsHalf half most) where
   -- the node's slot
@@ -64,12 +63,9 @@ module _ {K V X : Type 0} (content : List (K × X) → Content K V) (half most :
   -- where the level above names a next node
   pub near_next : (t : Table K V) (path indices : List ℕ) (up size : ℕ) (before : List (LevelNode K X)) (n : ℕ) (es : List (K × X)) (after : List (LevelNode K X)) (rest : List (List (LevelNode K ℕ))) (k : K) (q : ℕ) (cs : List (K × ℕ)) → OnLevel content half most t path indices up size before n es after rest →
       heads after ≡ (k, q) ∷ cs → Near t path indices up size before n es after rest k q
-  near_next t path indices up size before n es [] rest k q cs p e = absurd cc
-  near_next t path indices up size before n es (node m [] ∷ after) rest k q cs p e = absurd (let g = p.fits.0 in omega (arith, g, least-pos half (omega (arith, hm.two)) after))
-  near_next t path indices up size before n es (node m (f ∷ fs) ∷ after) rest k q cs p e =
-      let kq = same_head {A = K × ℕ} (f.0, m) (k, q) (heads after) cs e in
-      let m_is : m ≡ q = ap (λ z. z.1) kq in
-      near_at t path indices up size before n es (node m (f ∷ fs) ∷ after) rest q f fs after k p (ap (λ z. node z (f ∷ fs) ∷ after) m_is) (ap (λ z. z.0) (sym kq))
+  near_next t path indices up size before n es after rest k q cs p e =
+      let w = next_of half most (omega (arith, hm.two)) after k q cs p.fits e in
+      near_at t path indices up size before n es after rest q w.f w.fs w.rest k p w.after_is w.k_is
 
   -- what stands behind a node that the path is past
   pub record Past (t : Table K V) (path indices : List ℕ) (up size : ℕ) (before : List (LevelNode K X)) (n : ℕ) (es : List (K × X)) (after : List (LevelNode K X)) (rest : List (List (LevelNode K ℕ))) : Type 0 where
@@ -104,17 +100,11 @@ module _ {K V X : Type 0} (content : List (K × X) → Content K V) (half most :
         above = subst (λ (z : List (K × ℕ)). Above t path indices (suc up) size rest z (length (heads before))) (heads-append before (node n es ∷ after) ∙ ap (λ z. heads before ++ (head_of n z ++ heads after)) h.es_is) p.above;
       }
 
-  -- no next node
-  pub no_after : (after : List (LevelNode K X)) → FitRow half most after → heads after ≡ [] → after ≡ []
-  no_after [] f e = refl
-  no_after (node m [] ∷ after) f e = absurd (let g = f.0 in omega (arith, g, least-pos half (omega (arith, hm.two)) after))
-  no_after (node m (x ∷ xs) ∷ after) f e = absurd cc
-
   -- the last node stays as it is
   pub settle_last : (t : Table K V) (path indices : List ℕ) (up size : ℕ) (before : List (LevelNode K X)) (n : ℕ) (es : List (K × X)) (after : List (LevelNode K X)) (rest : List (List (LevelNode K ℕ))) → OnLevel content half most t path indices up size before n es after rest →
       heads after ≡ [] → Healed content half most t t path indices path indices up size before n es after rest
   settle_last t path indices up size before n es after rest p e =
-      let none = no_after after p.fits e in
+      let none = no_nodes half most (omega (arith, hm.two)) after p.fits e in
       settle_stay content half most hm t path indices up size before n es after rest p (inr none) (omega (arith, p.entry_within, length-append es (flat after), ap (λ z. length (flat z)) none))
 
   -- the path goes from behind a node to the next
@@ -171,16 +161,9 @@ module _ {K V X : Type 0} (content : List (K × X) → Content K V) (half most :
   spread_above t u path indices up size before n es after rest k q c e d w =
       let a = apart_two content half most hm t before n (d.e ∷ d.es') q (d.f ∷ d.fs) d.after' rest d.level.apart in
       let b = near_above t path indices up size before n es after rest k q d in
-      record {
-        stacked = b.stacked;
-        inside = rows-same t.nodes u.nodes rest (λ m some. w.same m (ne_from m n some a.none_rest) (ne_from m q some a.none_rest_q)) b.inside;
-        stands = b.stands;
-        height = b.height;
-        apart = λ m. omega (arith, b.apart m, count-append m (flat_map numbers rest) t.chain, count-append m (flat_map numbers rest) u.chain, ap (λ z. count m z) w.chain_is);
-      }
-    where
-      ne_from : (m n : ℕ) → 0 < count m (flat_map numbers rest) → count n (flat_map numbers rest) ≡ 0 → m ≢ n
-      ne_from m n some none = λ (x : m ≡ n). let h = ap (λ z. count z (flat_map numbers rest)) x in omega (arith, h, some, none)
+      above_same t u path indices (suc up) size rest (heads before ++ (d.e.0, n) ∷ (d.f.0, q) ∷ heads d.after') (length (heads before))
+      (λ m some. w.same m (ne_from_count m n (flat_map numbers rest) some a.none_rest) (ne_from_count m q (flat_map numbers rest) some a.none_rest_q))
+      (λ m. omega (arith, b.apart m, count-append m (flat_map numbers rest) t.chain, count-append m (flat_map numbers rest) u.chain, ap (λ z. count m z) w.chain_is)) b
 
   -- the two shared, and the key between them is renewed above
   pub heal_spread : (t u v : Table K V) (path indices : List ℕ) (up size : ℕ) (before : List (LevelNode K X)) (n : ℕ) (es : List (K × X)) (after : List (LevelNode K X)) (rest : List (List (LevelNode K ℕ))) (k : K) (q : ℕ) (key : K) → (d : Near t path indices up size before n es after rest k q) → length es < half →

@@ -1,27 +1,23 @@
 -- The only entry of a leaf goes, and the leaf with it: it is the right-most.
-use Rattle.std.proofs.Common.{◌≡◌, ◌≢◌, ℕ, suc, ◌+◌, ◌≤◌, Some, List, [], ◌∷◌, ◌++◌, map, length, get_or, slice_get, refl, sym, ap, ◌∙◌, subst, append_assoc, append-nil, length-append, length-set, arith}
+use Rattle.std.proofs.Common.{◌≡◌, ◌≢◌, ℕ, suc, ◌+◌, ◌≤◌, Some, List, [], ◌∷◌, ◌++◌, map, length, get_or, slice_get, refl, sym, ap, ◌∙◌, subst, append_assoc, append-nil, length-append, arith}
 use Rattle.std.specs.List.{flat_map, remove}
-use Rattle.bforest_nodes.specs.Content.{Free, IsLeafCapacity}
-use Rattle.bforest_core.specs.Table.{Table, with_freed, front_of}
+use Rattle.bforest_nodes.specs.Content.{IsLeafCapacity}
+use Rattle.bforest_core.specs.Table.{Table, with_freed}
 use Rattle.bforest_core.specs.Levels.{LevelNode, node, flat, heads, sizes, numbers, FitRow, Solid, Stacked, Topped, Tree, half_of, sizes_of}
 use Rattle.bforest_core.specs.Sizes.{loss, loss_above, shrink}
 use Rattle.bforest_core.specs.Place.{RowIn, leaf_content, count, Distinct, root_above, root_of, numbers_of, IsPathAt}
 use Rattle.bforest_core.specs.Climb.{nodes_up, Above}
 use Rattle.bforest_core.specs.Removal.{Dropped, UpTo, Trimmed, StandsIn, Removed, Emptied}
 use Rattle.bforest_core.proofs.rows.LevelRows.{flat-append, heads-append, sizes-append, Solid-full}
-use Rattle.bforest_core.proofs.table.Tables.{count-append, count-row, row-split, row-same, rows-same, ne_from_count, absent_ne, slice_get-set_apart}
+use Rattle.bforest_core.proofs.table.Tables.{count-append, counts, count-same, row-split, row-same, ne_from_count}
 use Rattle.bforest_core.proofs.rows.Tops.{root-stands}
 use Rattle.bforest_core.proofs.removal.Losses.{loss_at}
-use Rattle.bforest_core.proofs.removal.Frees.{freed-then, freed-is}
-use Rattle.bforest_core.proofs.removal.Collapse.{heads-flat, frees-one}
+use Rattle.bforest_core.proofs.removal.Frees.{freed_other, frees-one, frees-first}
+use Rattle.bforest_core.proofs.removal.Lifted.{above_same}
+use Rattle.bforest_core.proofs.removal.RemoveEmptied.{fit_solid}
+use Rattle.bforest_core.proofs.removal.Collapse.{heads-flat}
 use Rattle.bforest_core.proofs.removal.LeafLoss.{remove_flat, leaf_count, leaf_at}
 use Rattle.bforest_core.proofs.removal.Shrunk.{Untrimmed, up_to, trimmed_removed}
-
--- solid nodes fit as a row
-fit_solid : {K X : Type 0} (half most : ℕ) → 1 ≤ half → (row : List (LevelNode K X)) → Solid half most row → FitRow half most row
-fit_solid half most one [] s = tt
-fit_solid half most one (node m es ∷ []) s = (omega (arith, s.0, one), s.1, tt)
-fit_solid half most one (node m es ∷ next ∷ ns) s = (s.0, s.1, fit_solid half most one (next ∷ ns) s.2)
 
 -- parts of a list of one
 one_entry : {A : Type 0} (l : List A) (x : A) (r : List A) → length (l ++ x ∷ r) ≡ 1 → (l ≡ []) × (r ≡ [])
@@ -110,7 +106,6 @@ module _ {K V : Type 0} where
       let levels : sizes_of tree ≡ (1 ∷ []) ∷ [] = ap (λ z. sizes z ∷ map sizes tree.above) leaves_are ∙ ap (λ z. (1 ∷ []) ∷ map sizes z) above_is in
       let first : place ≡ 0 = d.place_is ∙ ap (λ z. length (flat z)) none in
       let nums : (m : ℕ) → count m (n ∷ []) ≡ count m (numbers_of tree) = λ m. sym (ap (λ z. count m (numbers z ++ flat_map numbers tree.above)) leaves_are ∙ ap (λ z. count m ((n ∷ []) ++ flat_map numbers z)) above_is) in
-      let f = frees-one t v n (leaf_content (d.x ∷ [])) d.slot_is is in
       record {
         single = ap (λ z. length (flat z)) leaves_are;
         none_left = ap (λ z. shrink most place z) levels ∙ ap (λ z. shrink most z ((1 ∷ []) ∷ [])) first;
@@ -118,13 +113,7 @@ module _ {K V : Type 0} where
         freed = n ∷ [];
         freed_is = nums;
         one = refl;
-        frees = record {
-          others = λ m none. f.others m (omega (arith, none, nums m));
-          freed_are = f.freed_are;
-          chain_is = f.chain_is;
-          slots_are = f.slots_are;
-          limit_is = f.limit_is;
-        };
+        frees = frees-one t v n (leaf_content (d.x ∷ [])) (numbers_of tree) d.slot_is is (omega (arith, nums n, count-same n []));
       }
 
   -- others stand before it: the rows above, after it was freed
@@ -145,18 +134,13 @@ module _ {K V : Type 0} where
       let low = two_leaves (heads tree.leaves) tree.above s.fit.topped (λ (e : length tree.above ≡ 0). more (omega (arith, e, s.stands.size_is))) in
       let some : 1 ≤ length (heads d.before) = omega (arith, low, ap (λ z. length (heads z)) d.leaves_are, ap length (heads-append d.before (node n (d.x ∷ []) ∷ [])), length-append (heads d.before) ((d.x.0, n) ∷ [])) in
       let r = last_before (half_of most) most d.half d.before d.solid some in
-      let other : (m : ℕ) → m ≢ n → slice_get v.nodes m ≡ slice_get t.nodes m = λ m ne. ap (λ z. slice_get z.nodes m) is ∙ slice_get-set_apart t.nodes n m (Free (front_of t.chain)) ne in
+      let other = freed_other t v n is in
       let hs : heads d.before ≡ heads r.0 ++ (r.2.0, r.1) ∷ [] = ap heads r.4 ∙ heads-append r.0 (node r.1 (r.2 ∷ r.3) ∷ []) in
       let list : heads (d.before ++ node n (d.x ∷ []) ∷ []) ≡ heads r.0 ++ (r.2.0, r.1) ∷ (d.x.0, n) ∷ [] = heads-append d.before (node n (d.x ∷ []) ∷ []) ∙ ap (λ z. z ++ (d.x.0, n) ∷ []) hs ∙ append_assoc (heads r.0) ((r.2.0, r.1) ∷ []) ((d.x.0, n) ∷ []) in
       let len : length (heads d.before) ≡ suc (length (heads r.0)) = omega (arith, ap length hs, length-append (heads r.0) ((r.2.0, r.1) ∷ [])) in
-      let a = d.above in
-      let b : Above v path indices 1 size tree.above (heads (d.before ++ node n (d.x ∷ []) ∷ [])) (length (heads d.before)) = record {
-        stacked = a.stacked;
-        inside = rows-same t.nodes v.nodes tree.above (λ m here. other m (ne_from_count m n (flat_map numbers tree.above) here d.none_rows)) a.inside;
-        stands = a.stands;
-        height = a.height;
-        apart = λ m. omega (arith, d.apart m, count-append m (numbers (d.before ++ node n (d.x ∷ []) ∷ []) ++ flat_map numbers tree.above) t.chain, count-append m (numbers (d.before ++ node n (d.x ∷ []) ∷ [])) (flat_map numbers tree.above), count-row m d.before n (d.x ∷ []) [], count-append m (flat_map numbers tree.above) v.chain, ap (λ z. count m z.chain) is);
-      } in
+      let row : List (LevelNode K V) = d.before ++ node n (d.x ∷ []) ∷ [] in
+      let b = above_same t v path indices 1 size tree.above (heads row) (length (heads d.before)) (λ m here. other m (ne_from_count m n (flat_map numbers tree.above) here d.none_rows))
+      (λ m. omega (arith, d.apart m, counts m d.before n (d.x ∷ []) [] tree.above t.chain, count-append m (flat_map numbers tree.above) v.chain, ap (λ z. count m z.chain) is)) d.above in
       record {
         d = d;
         init = r.0;
@@ -184,14 +168,12 @@ module _ {K V : Type 0} where
       let full = Solid-full (half_of most) most d.half front d.solid in
       let len : suc (length (heads c.init)) ≡ length front = omega (arith, full, ap length hs, length-append (heads c.init) ((c.w.0, c.number) ∷ [])) in
       let z0 : length (flat front) ≡ length (flat front) + 0 = omega arith in
-      let other : (m : ℕ) → m ≢ n → slice_get v.nodes m ≡ slice_get t.nodes m = λ m ne. ap (λ z. slice_get z.nodes m) c.freed_is ∙ slice_get-set_apart t.nodes n m (Free (front_of t.chain)) ne in
+      let other = freed_other t v n c.freed_is in
       let in_v : RowIn leaf_content v.nodes front = row-same leaf_content t.nodes v.nodes front (λ m some. other m (ne_from_count m n (numbers front) some d.none_before)) (row-split leaf_content t.nodes front (node n (d.x ∷ []) ∷ []) d.inside).0 in
       let l1 = ap (λ z. loss most place z) (ap sizes d.leaves_are ∙ sizes-append front (node n (d.x ∷ []) ∷ [])) ∙ ap (λ z. loss most z (sizes front ++ suc 0 ∷ [])) (d.place_is ∙ z0) ∙ loss_at most front 0 0 [] (omega arith) in
       let c0 = λ (m : ℕ). ap (λ z. count m (numbers z)) d.leaves_are in
-      let c1 = λ (m : ℕ). count-row m front n (d.x ∷ []) [] in
+      let c1 = λ (m : ℕ). counts m front n (d.x ∷ []) [] tree.above t.chain in
       let c2 = λ (m : ℕ). count-append m (numbers tree.leaves) (flat_map numbers tree.above) in
-      let c3 = λ (m : ℕ). count-append m (numbers row ++ flat_map numbers tree.above) t.chain in
-      let c4 = λ (m : ℕ). count-append m (numbers row) (flat_map numbers tree.above) in
       let c5 = λ (m : ℕ). count-append m (numbers front) (flat_map numbers r.rows') in
       let c10 = λ (m : ℕ). count-append m freed (n ∷ []) in (
         r.rows',
@@ -200,20 +182,14 @@ module _ {K V : Type 0} where
           sizes_are = ap (λ z. sizes front ∷ z) r.sizes_are ∙ ap (λ z. sizes front ∷ loss_above (Some z) (map sizes tree.above)) len ∙ ap (λ z. z ∷ loss_above (Some (length front)) (map sizes tree.above)) (sym (append-nil (sizes front))) ∙ sym (ap (λ z. z.1 ∷ loss_above z.0 (map sizes tree.above)) l1);
           half = d.half;
           leaves_fit = fit_solid (half_of most) most d.half front d.solid;
-          leaves_in = row-same leaf_content v.nodes u.nodes front (λ m some. r.frees.others m (omega (arith, some, d.apart m, c1 m, c3 m, c4 m))) in_v;
+          leaves_in = row-same leaf_content v.nodes u.nodes front (λ m some. r.frees.others m (omega (arith, some, d.apart m, c1 m))) in_v;
           some = omega (arith, heads-flat front, full, len);
           stacked = subst (λ (z : List (K × ℕ)). Stacked z r.rows') (sym hs) r.stacked;
           rows_in = r.inside;
           height = r.height;
           numbers_are = λ m. omega (arith, c0 m, c1 m, c2 m, c5 m, c10 m, r.numbers_are m);
           root_is = ap (λ z. root_above z r.rows') hs ∙ r.root_is ∙ sym (root-stands most tree path indices size place s.fit s.stands);
-          frees = record {
-            others = λ m none. r.frees.others m (omega (arith, none, c2 m)) ∙ other m (absent_ne m n [] (omega (arith, none, c0 m, c1 m, c2 m)));
-            freed_are = freed-then v u (flat_map numbers tree.above) (n ∷ []) freed r.frees (λ m some. omega (arith, some, d.apart m, c1 m, c3 m, c4 m)) (freed-is t v n (leaf_content (d.x ∷ [])) d.slot_is c.freed_is, tt);
-            chain_is = r.frees.chain_is ∙ ap (λ z. freed ++ z.chain) c.freed_is ∙ sym (append_assoc freed (n ∷ []) t.chain);
-            slots_are = r.frees.slots_are ∙ ap (λ z. length z.nodes) c.freed_is ∙ length-set t.nodes n (Free (front_of t.chain));
-            limit_is = r.frees.limit_is ∙ ap (λ z. z.limit) c.freed_is;
-          };
+          frees = frees-first t v u n (leaf_content (d.x ∷ [])) (numbers_of tree) (flat_map numbers tree.above) freed d.slot_is c.freed_is (omega (arith, c0 n, c1 n, c2 n, count-same n [])) d.none_rows (λ m none. omega (arith, none, c2 m)) r.frees;
         },
       )
 

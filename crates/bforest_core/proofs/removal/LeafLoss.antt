@@ -1,17 +1,17 @@
 -- The entry where a path stands, taken out of its leaf, which has others.
-use Rattle.std.proofs.Common.{◌≡◌, ◌≢◌, ℕ, suc, ◌+◌, ◌≤◌, ◌<◌, Some, Option, List, [], ◌∷◌, ◌++◌, map, length, get_or, slice_get, refl, sym, ap, ◌∙◌, subst, append_assoc, length-append, arith}
+use Rattle.std.proofs.Common.{◌≡◌, ℕ, suc, ◌+◌, ◌≤◌, ◌<◌, Some, Option, List, [], ◌∷◌, ◌++◌, map, length, get_or, slice_get, refl, sym, ap, ◌∙◌, subst, append_assoc, length-append, arith}
 use Rattle.std.specs.List.{flat_map, remove}
 use Rattle.std.proofs.lemmas.List.{length-map}
 use Rattle.bforest_nodes.specs.Content.{Content, Leaf, without_entry}
-use Rattle.bforest_core.specs.Table.{Table, with_node}
-use Rattle.bforest_core.specs.Levels.{LevelNode, node, flat, head_of, heads, sizes, numbers, FitRow, Solid, Stacked, Tree, half_of}
+use Rattle.bforest_core.specs.Table.{Table}
+use Rattle.bforest_core.specs.Levels.{LevelNode, node, flat, heads, sizes, numbers, FitRow, Solid, Stacked, Tree, half_of}
 use Rattle.bforest_core.specs.Place.{RowIn, leaf_content, entry_keys, count, Distinct, numbers_of}
 use Rattle.bforest_core.specs.Climb.{Above}
 use Rattle.bforest_core.specs.Removal.{Rebuilt, StandsIn, LeafLoss}
-use Rattle.bforest_core.proofs.rows.LevelRows.{flat-append, heads-append, sizes-append, FitRow-split, Solid-full, least-pos}
-use Rattle.bforest_core.proofs.table.Tables.{count-append, count-same, count-row, row-split, row-put, row-same, rows-same, ne_from_count, Puts, puts}
+use Rattle.bforest_core.proofs.rows.LevelRows.{flat-append, sizes-append, FitRow-split, Solid-full, least-pos}
+use Rattle.bforest_core.proofs.table.Tables.{count-append, counts, count-same, row-split, row-put, row-same, Puts}
 use Rattle.bforest_core.proofs.rows.Zipper.{cut, apart_here}
-use Rattle.bforest_core.proofs.removal.Frees.{frees-refl}
+use Rattle.bforest_core.proofs.removal.Frees.{frees-then, frees-puts}
 
 remove_between : {A : Type 0} (p s : List A) (x : A) → remove (p ++ x ∷ s) (length p) ≡ p ++ s
 remove_between [] s x = refl
@@ -45,7 +45,7 @@ no_nodes half most one (node n [] ∷ row) f e = absurd (omega (arith, f.0, leas
 no_nodes half most one (node n (x ∷ es) ∷ row) f e = absurd cc
 
 -- a list that is not empty
-some_first : {A : Type 0} (es : List A) → 0 < length es → (y : A) × (others : List A) × (es ≡ y ∷ others)
+pub some_first : {A : Type 0} (es : List A) → 0 < length es → (y : A) × (others : List A) × (es ≡ y ∷ others)
 some_first [] low = absurd (omega (arith, low))
 some_first (y ∷ es) low = (y, es, refl)
 
@@ -121,38 +121,8 @@ module _ {K V : Type 0} where
         none_chain = d.2;
       }
 
-  -- the leaf without the entry, before the rows above get another key
-  pub record LeafCut (most : ℕ) (t u : Table K V) (path indices : List ℕ) (size : ℕ) (tree : Tree K V) (place : ℕ) : Type 0 where
-    pub d : LeafAt most t path indices size tree place
-    pub more : 1 ≤ length (d.l ++ d.r)
-    pub w : Puts t u (get_or path 0 0) (leaf_content (d.l ++ d.r))
-    pub above : Above u path indices 1 size tree.above (heads d.before ++ ((d.x.0, get_or path 0 0) ∷ heads d.after)) (length (heads d.before))
-
-  -- the rows above, in the table of now
-  above_written : (t u : Table K V) (n : ℕ) (c : Content K V) (path indices : List ℕ) (size : ℕ) (rows : List (List (LevelNode K ℕ))) (list : List (K × ℕ)) (p : ℕ) → Puts t u n c → count n (flat_map numbers rows) ≡ 0 → Above t path indices 1 size rows list p → Above u path indices 1 size rows list p
-  above_written t u n c path indices size rows list p w none a = record {
-    stacked = a.stacked;
-    inside = rows-same t.nodes u.nodes rows (λ m some. w.same m (ne_from_count m n (flat_map numbers rows) some none)) a.inside;
-    stands = a.stands;
-    height = a.height;
-    apart = λ m. omega (arith, a.apart m, count-append m (flat_map numbers rows) t.chain, count-append m (flat_map numbers rows) u.chain, ap (λ z. count m z) w.chain_is);
-  }
-
-  -- nothing above has changed
-  rebuilt_same : (u : Table K V) (path indices : List ℕ) (size : ℕ) (rows : List (List (LevelNode K ℕ))) (list : List (K × ℕ)) (p : ℕ) → Above u path indices 1 size rows list p → Rebuilt u u path indices path indices 1 size rows list p (map sizes rows) []
-  rebuilt_same u path indices size rows list p a = record {
-    rows' = rows;
-    above = a;
-    sizes_are = refl;
-    numbers_are = λ m. omega arith;
-    frees = frees-refl u (flat_map numbers rows);
-    nodes_below = λ i low. refl;
-    entries_below = λ i low. refl;
-    same_top = refl;
-  }
-
   -- the leaf without the entry, under rows that have its first key
-  leaf_loss : (most : ℕ) (t u v : Table K V) (path indices : List ℕ) (size : ℕ) (tree : Tree K V) (place : ℕ) → (d : LeafAt most t path indices size tree place) → 1 ≤ length (d.l ++ d.r) → Puts t u (get_or path 0 0) (leaf_content (d.l ++ d.r)) →
+  pub leaf_loss : (most : ℕ) (t u v : Table K V) (path indices : List ℕ) (size : ℕ) (tree : Tree K V) (place : ℕ) → (d : LeafAt most t path indices size tree place) → 1 ≤ length (d.l ++ d.r) → Puts t u (get_or path 0 0) (leaf_content (d.l ++ d.r)) →
       Rebuilt u v path indices path indices 1 size tree.above (heads (d.before ++ node (get_or path 0 0) (d.l ++ d.r) ∷ d.after)) (length (heads d.before)) (map sizes tree.above) [] → LeafLoss most t v path indices size tree place
   leaf_loss most t u v path indices size tree place d more w b =
       let n = get_or path 0 0 in
@@ -162,12 +132,8 @@ module _ {K V : Type 0} where
       let row2 : List (LevelNode K V) = d.before ++ node n es ∷ d.after in
       let len : length old ≡ suc (length es) = omega (arith, length-append d.l (d.x ∷ d.r), length-append d.l d.r) in
       let c0 = λ (m : ℕ). ap (λ z. count m (numbers z)) d.leaves_are in
-      let c1 = λ (m : ℕ). count-row m d.before n old d.after in
-      let c2 = λ (m : ℕ). count-row m d.before n es d.after in
-      let c3 = λ (m : ℕ). count-append m (numbers row ++ flat_map numbers tree.above) t.chain in
-      let c4 = λ (m : ℕ). count-append m (numbers row) (flat_map numbers tree.above) in
-      let c5 = λ (m : ℕ). count-append m (numbers row2) (flat_map numbers b.rows') in
-      let c6 = λ (m : ℕ). count-append m (numbers row2 ++ flat_map numbers b.rows') v.chain in
+      let c1 = λ (m : ℕ). counts m d.before n old d.after tree.above t.chain in
+      let c2 = λ (m : ℕ). counts m d.before n es d.after b.rows' v.chain in
       let c7 = λ (m : ℕ). ap (λ z. count m z) (b.frees.chain_is ∙ w.chain_is) in
       let c8 = λ (m : ℕ). count-append m (numbers tree.leaves) (flat_map numbers tree.above) in
       let c9 = λ (m : ℕ). b.numbers_are m in
@@ -177,7 +143,7 @@ module _ {K V : Type 0} where
         entries = es;
         after = d.after;
         rest = b.rows';
-        inside = row-same leaf_content u.nodes v.nodes row2 (λ m some. b.frees.others m (omega (arith, some, d.apart m, c1 m, c2 m, c3 m, c4 m))) in_u;
+        inside = row-same leaf_content u.nodes v.nodes row2 (λ m some. b.frees.others m (omega (arith, some, d.apart m, c1 m, c2 m))) in_u;
         solid = d.solid;
         fits = d.fit.2;
         some = more;
@@ -185,85 +151,13 @@ module _ {K V : Type 0} where
         most_is = omega (arith, d.fit.1, len);
         above = b.above;
         entry_was = omega (arith, d.index_is, length-append d.l d.r);
-        apart = λ m. omega (arith, d.apart m, c1 m, c2 m, c3 m, c4 m, c5 m, c6 m, c7 m, c9 m);
+        apart = λ m. omega (arith, d.apart m, c1 m, c2 m, c7 m, c9 m);
         flat_is = sym (ap (λ z. remove (flat z) place) d.leaves_are ∙ ap (λ z. remove (flat row) z) d.place_is ∙ remove_flat d.before n d.l d.x d.r d.after);
         place_is = omega (arith, d.place_is, d.index_is);
         leaf_was = λ fs slot. leaf_count fs old (slice_get t.nodes n) slot d.slot_is ∙ len;
         sizes_were = ap sizes d.leaves_are ∙ sizes-append d.before (node n old ∷ d.after) ∙ ap (λ z. sizes d.before ++ z ∷ sizes d.after) len;
         rest_sizes = b.sizes_are;
-        numbers_are = λ m. omega (arith, c0 m, c1 m, c2 m, c4 m, c5 m, c8 m, c9 m);
-        frees = record {
-          others = λ m z. b.frees.others m (omega (arith, z, c8 m)) ∙ w.same m (ne_here m n (numbers_of tree) z (omega (arith, c0 n, c1 n, c8 n, count-same n (numbers d.after))));
-          freed_are = tt;
-          chain_is = b.frees.chain_is ∙ w.chain_is;
-          slots_are = b.frees.slots_are ∙ w.slots_are;
-          limit_is = b.frees.limit_is ∙ w.limit_is;
-        };
+        numbers_are = λ m. omega (arith, c0 m, c1 m, c2 m, c8 m, c9 m);
+        frees = frees-then t u v (numbers_of tree) (flat_map numbers tree.above) [] [] (λ m none. omega (arith, none, c8 m)) (λ m some. omega (arith, some))
+            (frees-puts t u n (leaf_content es) (numbers_of tree) (omega (arith, c0 n, c1 n, c8 n, count-same n (numbers d.after))) w) b.frees;
       }
-    where
-      ne_here : (m n : ℕ) (ms : List ℕ) → count m ms ≡ 0 → 0 < count n ms → m ≢ n
-      ne_here m n ms none some = λ (e : m ≡ n). let h = ap (λ z. count z ms) e in omega (arith, h, none, some)
-
-  -- the leaf is not the only one of its entry
-  pub leaf_more : (most : ℕ) (t : Table K V) (path indices : List ℕ) (size : ℕ) (tree : Tree K V) (place : ℕ) → (d : LeafAt most t path indices size tree place) → (x y : K × V) (es : List (K × V)) → slice_get t.nodes (get_or path 0 0) ≡ Some (leaf_content (x ∷ y ∷ es)) → 1 ≤ length (d.l ++ d.r)
-  leaf_more most t path indices size tree place d x y es slot =
-      omega (arith, leaf_count (d.l ++ d.x ∷ d.r) (x ∷ y ∷ es) (slice_get t.nodes (get_or path 0 0)) d.slot_is slot, length-append d.l (d.x ∷ d.r), length-append d.l d.r)
-
-  -- the write of the leaf
-  pub leaf_puts : (most : ℕ) (t u : Table K V) (path indices : List ℕ) (size : ℕ) (tree : Tree K V) (place : ℕ) → (d : LeafAt most t path indices size tree place) →
-      u ≡ with_node t (get_or path 0 0) (without_entry (leaf_content (d.l ++ d.x ∷ d.r)) (get_or indices 0 0)) → Puts t u (get_or path 0 0) (leaf_content (d.l ++ d.r))
-  leaf_puts most t u path indices size tree place d written =
-      puts t u (get_or path 0 0) (leaf_content (d.l ++ d.r)) (leaf_content (d.l ++ d.x ∷ d.r)) d.slot_is
-      (written ∙ ap (λ z. with_node t (get_or path 0 0) z) (without_entry_is d.l d.x d.r (get_or indices 0 0) d.index_is))
-
-  -- an entry behind the leaf's first
-  pub loss_behind : (most : ℕ) (t u : Table K V) (path indices : List ℕ) (size : ℕ) (tree : Tree K V) (place : ℕ) → (d : LeafAt most t path indices size tree place) → 1 ≤ length (d.l ++ d.r) → Puts t u (get_or path 0 0) (leaf_content (d.l ++ d.r)) → 0 < get_or indices 0 0 → LeafLoss most t u path indices size tree place
-  loss_behind most t u path indices size tree place d more w behind =
-      let n = get_or path 0 0 in
-      let f = some_first d.l (omega (arith, behind, d.index_is)) in
-      let old : heads (d.before ++ node n (d.l ++ d.x ∷ d.r) ∷ d.after) ≡ heads d.before ++ ((f.0.0, n) ∷ heads d.after) =
-      heads-append d.before (node n (d.l ++ d.x ∷ d.r) ∷ d.after) ∙ ap (λ z. heads d.before ++ (head_of n (z ++ d.x ∷ d.r) ++ heads d.after)) f.2 in
-      let new : heads (d.before ++ node n (d.l ++ d.r) ∷ d.after) ≡ heads d.before ++ ((f.0.0, n) ∷ heads d.after) =
-      heads-append d.before (node n (d.l ++ d.r) ∷ d.after) ∙ ap (λ z. heads d.before ++ (head_of n (z ++ d.r) ++ heads d.after)) f.2 in
-      let a = above_written t u n (leaf_content (d.l ++ d.r)) path indices size tree.above _ (length (heads d.before)) w d.none_rows d.above in
-      let b = subst (λ (z : List (K × ℕ)). Above u path indices 1 size tree.above z (length (heads d.before))) (old ∙ sym new) a in
-      leaf_loss most t u u path indices size tree place d more w (rebuilt_same u path indices size tree.above _ (length (heads d.before)) b)
-
-  -- the leaf's first entry: what is the first now
-  pub record FirstOut (most : ℕ) (t u : Table K V) (path indices : List ℕ) (size : ℕ) (tree : Tree K V) (place : ℕ) (d : LeafAt most t path indices size tree place) : Type 0 where
-    pub next : K × V
-    pub others : List (K × V)
-    pub es_is : d.l ++ d.r ≡ next ∷ others
-    pub slot_is : slice_get u.nodes (get_or path 0 0) ≡ Some (leaf_content (next ∷ others))
-    pub above : Above u path indices 1 size tree.above (heads d.before ++ (d.x.0, get_or path 0 0) ∷ heads d.after) (length (heads d.before))
-
-  -- it is found where the path was at the first entry
-  pub first_out : (most : ℕ) (t u : Table K V) (path indices : List ℕ) (size : ℕ) (tree : Tree K V) (place : ℕ) → (d : LeafAt most t path indices size tree place) → 1 ≤ length (d.l ++ d.r) → Puts t u (get_or path 0 0) (leaf_content (d.l ++ d.r)) → get_or indices 0 0 ≤ 0 → FirstOut most t u path indices size tree place d
-  first_out most t u path indices size tree place d more w first =
-      let n = get_or path 0 0 in
-      let f = some_first (d.l ++ d.r) more in
-      let none : d.l ≡ [] = no_entries d.l (omega (arith, first, d.index_is)) in
-      let old : heads (d.before ++ node n (d.l ++ d.x ∷ d.r) ∷ d.after) ≡ heads d.before ++ ((d.x.0, n) ∷ heads d.after) =
-      heads-append d.before (node n (d.l ++ d.x ∷ d.r) ∷ d.after) ∙ ap (λ z. heads d.before ++ (head_of n (z ++ d.x ∷ d.r) ++ heads d.after)) none in
-      let a = above_written t u n (leaf_content (d.l ++ d.r)) path indices size tree.above _ (length (heads d.before)) w d.none_rows d.above in
-      record {
-        next = f.0;
-        others = f.1;
-        es_is = f.2;
-        slot_is = w.here ∙ ap (λ z. Some (leaf_content z)) f.2;
-        above = subst (λ (z : List (K × ℕ)). Above u path indices 1 size tree.above z (length (heads d.before))) old a;
-      }
-    where
-      no_entries : {A : Type 0} (es : List A) → length es ≤ 0 → es ≡ []
-      no_entries [] low = refl
-      no_entries (e ∷ es) low = absurd (omega (arith, low))
-
-  -- and after the rows above got its key
-  pub loss_first : (most : ℕ) (t u v : Table K V) (path indices : List ℕ) (size : ℕ) (tree : Tree K V) (place : ℕ) (key : K) → (d : LeafAt most t path indices size tree place) → 1 ≤ length (d.l ++ d.r) → Puts t u (get_or path 0 0) (leaf_content (d.l ++ d.r)) → (f : FirstOut most t u path indices size tree place d) → f.next.0 ≡ key →
-      Rebuilt u v path indices path indices 1 size tree.above (heads d.before ++ (key, get_or path 0 0) ∷ heads d.after) (length (heads d.before)) (map sizes tree.above) [] → LeafLoss most t v path indices size tree place
-  loss_first most t u v path indices size tree place key d more w f key_is b =
-      let n = get_or path 0 0 in
-      let new : heads d.before ++ ((key, n) ∷ heads d.after) ≡ heads (d.before ++ node n (d.l ++ d.r) ∷ d.after) =
-      ap (λ z. heads d.before ++ ((z, n) ∷ heads d.after)) (sym key_is) ∙ ap (λ z. heads d.before ++ (head_of n z ++ heads d.after)) (sym f.es_is) ∙ sym (heads-append d.before (node n (d.l ++ d.r) ∷ d.after)) in
-      leaf_loss most t u v path indices size tree place d more w
-      (subst (λ (z : List (K × ℕ)). Rebuilt u v path indices path indices 1 size tree.above z (length (heads d.before)) (map sizes tree.above) []) new b)

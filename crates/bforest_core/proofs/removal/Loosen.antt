@@ -1,23 +1,16 @@
 -- An entry taken out of the row above a level.
-use Rattle.std.proofs.Common.{◌≡◌, ℕ, suc, ◌+◌, ◌≤◌, ◌<◌, List, [], ◌∷◌, ◌++◌, map, length, get_or, slice_get, refl, sym, ap, ◌∙◌, subst, append_assoc, length-append, arith}
+use Rattle.std.proofs.Common.{◌≡◌, ℕ, suc, ◌+◌, ◌≤◌, List, [], ◌∷◌, ◌++◌, map, length, get_or, refl, sym, ap, ◌∙◌, subst, append_assoc, length-append, arith}
 use Rattle.std.specs.List.{flat_map}
 use Rattle.bforest_core.specs.Table.{Table}
-use Rattle.bforest_core.specs.Levels.{LevelNode, node, flat, heads, head_of, sizes, numbers, Stacked}
+use Rattle.bforest_core.specs.Levels.{LevelNode, node, flat, heads, sizes, numbers}
 use Rattle.bforest_core.specs.Place.{RowIn, inner_content, count, StandsAbove}
+use Rattle.bforest_core.specs.Climb.{Above}
 use Rattle.bforest_core.specs.Removal.{Rebuilt, Loosened}
 use Rattle.bforest_core.proofs.rows.LevelRows.{flat-append, heads-append, sizes-append, least-pos}
-use Rattle.bforest_core.proofs.table.Tables.{count-append, count-same, count-row, row-split, row-join, row-same, row-put, rows-same, ne_from_count, Puts}
-use Rattle.bforest_core.proofs.removal.Frees.{frees-puts}
+use Rattle.bforest_core.proofs.table.Tables.{counts, count-same, count-row, row-split, row-join, row-same, row-put, Puts}
+use Rattle.bforest_core.proofs.removal.Frees.{frees-puts, frees-then, frees-wider}
 use Rattle.bforest_core.proofs.rows.Zipper.{Cut_above, facts}
-
--- a node's first key does not change with a later entry's item
-pub head-other : {K X : Type 0} (n : ℕ) (l : List (K × X)) (k : K) (x y : X) (r s : List (K × X)) → head_of n (l ++ (k, x) ∷ r) ≡ head_of n (l ++ (k, y) ∷ s)
-head-other n [] k x y r s = refl
-head-other n (z ∷ l) k x y r s = refl
-
--- nor do the heads of a row
-pub heads-put : {K X : Type 0} (before : List (LevelNode K X)) (n : ℕ) (es fs : List (K × X)) (after : List (LevelNode K X)) → head_of n es ≡ head_of n fs → heads (before ++ node n es ∷ after) ≡ heads (before ++ node n fs ∷ after)
-heads-put before n es fs after e = heads-append before _ ∙ ap (λ w. heads before ++ (w ++ heads after)) e ∙ sym (heads-append before _)
+use Rattle.bforest_core.proofs.removal.Lifted.{head-other, heads-put, above_written, rows_above}
 
 module _ {K V : Type 0} where
   -- under the same parent
@@ -35,15 +28,9 @@ module _ {K V : Type 0} where
       let lo = f.fit.0 in
       let hi = f.fit.1 in
       let one = least-pos 4 (omega arith) after in
-      let c = λ (m : ℕ). count-row m before n old after in
-      let c2 = λ (m : ℕ). count-row m before n es after in
-      let c3 = λ (m : ℕ). count-append m (numbers (before ++ node n old ∷ after) ++ flat_map numbers rest) t.chain in
-      let c4 = λ (m : ℕ). count-append m (numbers (before ++ node n old ∷ after)) (flat_map numbers rest) in
-      let c5 = λ (m : ℕ). count-append m (numbers (before ++ node n es ∷ after)) (flat_map numbers rest) in
-      let c6 = λ (m : ℕ). count-append m (numbers (before ++ node n es ∷ after) ++ flat_map numbers rest) u.chain in
-      let c7 = λ (m : ℕ). count-append m (flat_map numbers rest) u.chain in
+      let c = λ (m : ℕ). counts m before n old after rest t.chain in
+      let c2 = λ (m : ℕ). counts m before n es after rest u.chain in
       let c8 = λ (m : ℕ). ap (λ z. count m z) w.chain_is in
-      let quiet : (m : ℕ) → 0 < count m (flat_map numbers rest) → slice_get u.nodes m ≡ slice_get t.nodes m = λ m some. w.same m (ne_from_count m n (flat_map numbers rest) some f.none_rest) in
       record {
         before = before;
         entries = es;
@@ -56,23 +43,18 @@ module _ {K V : Type 0} where
           some = omega (arith, len2);
           lost_one = omega (arith, lo, len);
           most_is = omega (arith, hi, len);
-          above = record {
-            stacked = subst (λ (z : List (K × ℕ)). Stacked z rest) (heads-put before n old es after (head-other n l x.0 x.1 y.1 (y ∷ r) r)) p.stacked.2;
-            inside = rows-same t.nodes u.nodes rest quiet p.inside.1;
-            stands = st;
-            height = omega (arith, p.height);
-            apart = λ m. omega (arith, p.apart m, c3 m, c4 m, c7 m, c8 m);
-          };
+          above = above_written t u n (inner_content es) path indices (suc up) size rest (heads (before ++ node n es ∷ after)) (length (heads before)) w f.none_rest
+              (subst (λ (z : List (K × ℕ)). Above t path indices (suc up) size rest z (length (heads before))) (heads-put before n old es after (head-other n l x.0 x.1 y.1 (y ∷ r) r)) (rows_above t path indices up size before n l x (y ∷ r) after rest p st));
           number_is = refl;
           entry_was = omega (arith, len2, e_is);
           entry_within = omega (arith, len2, e_is, length-append es (flat after));
-          apart = λ m. omega (arith, p.apart m, c m, c2 m, c3 m, c4 m, c5 m, c6 m, c8 m);
+          apart = λ m. omega (arith, p.apart m, c m, c2 m, c8 m);
         };
         list_is = flat-append before (node n es ∷ after) ∙ simp append_assoc;
         place_is = length-append (flat before) l ∙ ap (λ z. length (flat before) + z) e_is;
         sizes_were = ap (λ z. z ∷ map sizes rest) (sizes-append before (node n old ∷ after) ∙ ap (λ z. sizes before ++ z ∷ sizes after) len);
-        numbers_are = λ m. omega (arith, c m, c2 m, c4 m, c5 m);
-        frees = frees-puts t u n (inner_content es) (numbers (before ++ node n old ∷ after) ++ flat_map numbers rest) (omega (arith, c4 n, c n, count-same n (numbers after))) w;
+        numbers_are = λ m. omega (arith, c m, c2 m);
+        frees = frees-puts t u n (inner_content es) (numbers (before ++ node n old ∷ after) ++ flat_map numbers rest) (omega (arith, c n, count-same n (numbers after))) w;
       }
 
   -- under two parents: the key of the right one's first entry has been renewed above (v)
@@ -91,20 +73,14 @@ module _ {K V : Type 0} where
       let len : length old ≡ suc (length es) = omega (arith, length-append l (x ∷ [])) in
       let lo : 4 ≤ length old = f.fit.0 in
       let hi = f.fit.1 in
-      let c = λ (m : ℕ). count-row m before n old (next ∷ after) in
-      let c2 = λ (m : ℕ). count-row m before n es (next2 ∷ after) in
-      let c3 = λ (m : ℕ). count-append m (numbers (before ++ node n old ∷ next ∷ after) ++ flat_map numbers rest) t.chain in
-      let c4 = λ (m : ℕ). count-append m (numbers (before ++ node n old ∷ next ∷ after)) (flat_map numbers rest) in
-      let c5 = λ (m : ℕ). count-append m (numbers (before ++ node n es ∷ next2 ∷ after)) (flat_map numbers b.rows') in
-      let c6 = λ (m : ℕ). count-append m (numbers (before ++ node n es ∷ next2 ∷ after) ++ flat_map numbers b.rows') u.chain in
-      let c7 = λ (m : ℕ). count-append m (flat_map numbers b.rows') u.chain in
+      let c = λ (m : ℕ). counts m before n old (next ∷ after) rest t.chain in
+      let c2 = λ (m : ℕ). counts m before n es (next2 ∷ after) b.rows' u.chain in
       let c8 = λ (m : ℕ). ap (λ z. count m z) w.chain_is in
       let c9 = λ (m : ℕ). ap (λ z. count m z) b.frees.chain_is in
       let none_rows : count n (flat_map numbers b.rows') ≡ 0 = omega (arith, b.numbers_are n, f.none_rest) in
-      let quiet : (m : ℕ) → 0 < count m (flat_map numbers b.rows') → slice_get u.nodes m ≡ slice_get v.nodes m = λ m some. w.same m (ne_from_count m n (flat_map numbers b.rows') some none_rows) in
       let row_v : RowIn inner_content v.nodes (before ++ node n old ∷ next2 ∷ after) =
       row-same inner_content t.nodes v.nodes (before ++ node n old ∷ next2 ∷ after)
-      (λ m some. b.frees.others m (omega (arith, some, p.apart m, c m, count-row m before n old (next2 ∷ after), c3 m, c4 m)))
+      (λ m some. b.frees.others m (omega (arith, some, p.apart m, c m, count-row m before n old (next2 ∷ after))))
       (let s = row-split inner_content t.nodes before (node n old ∷ next ∷ after) f.inside in row-join inner_content t.nodes before (node n old ∷ next2 ∷ after) s.0 (s.1.0, (s.1.1.0, s.1.1.1))) in
       let hs : heads before ++ (z.0, n) ∷ (x.0, q) ∷ heads after ≡ heads (before ++ node n es ∷ next2 ∷ after) = sym (heads-append before (node n es ∷ next2 ∷ after)) in
       record {
@@ -119,27 +95,18 @@ module _ {K V : Type 0} where
           some = omega arith;
           lost_one = omega (arith, lo, len);
           most_is = omega (arith, hi, len);
-          above = record {
-            stacked = subst (λ (w : List (K × ℕ)). Stacked w b.rows') hs b.above.stacked;
-            inside = rows-same v.nodes u.nodes b.rows' quiet b.above.inside;
-            stands = b.above.stands;
-            height = b.above.height;
-            apart = λ m. omega (arith, b.above.apart m, c7 m, c8 m, count-append m (flat_map numbers b.rows') v.chain);
-          };
+          above = above_written v u n (inner_content es) path indices (suc up) size b.rows' (heads (before ++ node n es ∷ next2 ∷ after)) (length (heads before)) w none_rows
+              (subst (λ (y : List (K × ℕ)). Above v path indices (suc up) size b.rows' y (length (heads before))) hs b.above);
           number_is = refl;
           entry_was = omega (arith, e_is);
           entry_within = omega (arith, e_is, length-append es ((x.0, y.1) ∷ (ys ++ flat after)));
-          apart = λ m. omega (arith, p.apart m, b.numbers_are m, c m, c2 m, c3 m, c4 m, c5 m, c6 m, c8 m, c9 m);
+          apart = λ m. omega (arith, p.apart m, b.numbers_are m, c m, c2 m, c8 m, c9 m);
         };
         list_is = flat-append before (node n es ∷ next2 ∷ after) ∙ simp append_assoc;
         place_is = length-append (flat before) es ∙ ap (λ z. length (flat before) + z) e_is;
         sizes_were = ap (λ w. w ∷ map sizes rest) (sizes-append before (node n old ∷ next ∷ after) ∙ ap (λ w. sizes before ++ w ∷ suc (length ys) ∷ sizes after) len) ∙ ap (λ w. (sizes before ++ suc (length es) ∷ suc (length ys) ∷ sizes after) ∷ w) (sym b.sizes_are);
-        numbers_are = λ m. omega (arith, c m, c2 m, c4 m, c5 m, b.numbers_are m);
-        frees = record {
-          others = λ m none. w.same m (λ (e : m ≡ n). let h = ap (λ z. count z (numbers (before ++ node n old ∷ next ∷ after) ++ flat_map numbers rest)) e in omega (arith, h, none, c4 n, c n, count-same n (numbers (next ∷ after)))) ∙ b.frees.others m (omega (arith, none, c4 m));
-          freed_are = tt;
-          chain_is = w.chain_is ∙ b.frees.chain_is;
-          slots_are = w.slots_are ∙ b.frees.slots_are;
-          limit_is = w.limit_is ∙ b.frees.limit_is;
-        };
+        numbers_are = λ m. omega (arith, c m, c2 m, b.numbers_are m);
+        frees = (let own : List ℕ = numbers (before ++ node n old ∷ next ∷ after) ++ flat_map numbers rest in
+            frees-then t v u own own [] [] (λ m none. none) (λ m some. omega (arith, some)) (frees-wider t v (flat_map numbers rest) own [] (λ m none. omega (arith, none, c m)) b.frees)
+            (frees-puts v u n (inner_content es) own (omega (arith, c n, count-same n (numbers (next ∷ after)))) w));
       }

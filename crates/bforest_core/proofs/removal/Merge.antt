@@ -8,10 +8,10 @@ use Rattle.bforest_core.specs.Place.{RowIn, inner_content, count}
 use Rattle.bforest_core.specs.Climb.{nodes_up}
 use Rattle.bforest_core.specs.Removal.{Rebuilt, Loosened, Healed, Joined}
 use Rattle.bforest_core.proofs.rows.LevelRows.{flat-append, heads-append, sizes-append, FitRow-split, Solid-full, least-pos}
-use Rattle.bforest_core.proofs.table.Tables.{count-append, count-row, row-same}
+use Rattle.bforest_core.proofs.table.Tables.{count-append, count-same, counts, row-same}
 use Rattle.bforest_core.proofs.rows.Zipper.{stands_here}
 use Rattle.bforest_core.proofs.removal.Losses.{loss_at, placed}
-use Rattle.bforest_core.proofs.removal.Frees.{freed-then}
+use Rattle.bforest_core.proofs.removal.Frees.{frees-then, frees-joined}
 
 -- SHRINK one level, with its outcome known
 pub loss_level : {K X : Type 0} (q : ℕ) (before : List (LevelNode K X)) (m e p : ℕ) (after : List ℕ) (levels all : List (List ℕ)) → all ≡ (sizes before ++ suc m ∷ after) ∷ levels → e ≤ m → p ≡ length (flat before) + e → q ≡ 8 →
@@ -37,10 +37,8 @@ module _ {K V : Type 0} where
       let solid = (FitRow-split 4 8 h.before' (node h.number' h.entries') h.after' h.fit).0 in
       let list : flat row2 ≡ hs = h.list_is ∙ l.list_is in
       let ss = loss_level 8 l.before (length l.entries) (get_or indices up 0) p (sizes l.after) (map sizes l.rest) (map sizes rows) l.sizes_were l.on_level.entry_was l.place_is refl in
-      let c4 = λ (m : ℕ). count-append m (numbers row) (flat_map numbers l.rest) in
-      let c5 = λ (m : ℕ). count-append m (numbers row2) (flat_map numbers h.rest') in
-      let c6 = λ (m : ℕ). count-append m (numbers row ++ flat_map numbers l.rest) u.chain in
-      let c7 = λ (m : ℕ). count-append m (numbers row2 ++ flat_map numbers h.rest') v.chain in
+      let c = λ (m : ℕ). counts m l.before n l.entries l.after l.rest u.chain in
+      let c2 = λ (m : ℕ). counts m h.before' h.number' h.entries' h.after' h.rest' v.chain in
       let c8 = λ (m : ℕ). ap (λ z. count m z) h.frees.chain_is in
       let c9 = λ (m : ℕ). ap (λ z. count m z) h.row_numbers in
       record {
@@ -50,17 +48,11 @@ module _ {K V : Type 0} where
           inside = (h.inside, h.above.inside);
           stands = stands_here path' indices' up row2 h.before' h.number' (get_or indices' up 0) h.entries' h.after' h.rest' p solid refl h.number_is refl h.within (l.place_is ∙ sym h.place_is) h.above.stands;
           height = omega (arith, h.above.height);
-          apart = λ m. omega (arith, l.on_level.apart m, c4 m, c5 m, c6 m, c7 m, c8 m, c9 m, h.rest_numbers m);
+          apart = λ m. omega (arith, l.on_level.apart m, c m, c2 m, c8 m, c9 m, h.rest_numbers m);
         };
         sizes_are = ap (λ z. z ∷ map sizes h.rest') h.sizes_are ∙ ap (λ z. (sizes l.before ++ (rebalanced 8 (length l.entries) (sizes l.after)).1) ∷ z) h.rest_sizes ∙ sym (ss ∙ ap (λ z. (sizes l.before ++ (rebalanced 8 (length l.entries) (sizes l.after)).1) ∷ loss_above (placed (length l.before) z) (map sizes l.rest)) h.stays);
-        numbers_are = λ m. omega (arith, l.numbers_are m, c4 m, c5 m, c9 m, h.rest_numbers m);
-        frees = record {
-          others = λ m none. h.frees.others m (omega (arith, none, l.numbers_are m)) ∙ l.frees.others m none;
-          freed_are = tt;
-          chain_is = h.frees.chain_is ∙ l.frees.chain_is;
-          slots_are = h.frees.slots_are ∙ l.frees.slots_are;
-          limit_is = h.frees.limit_is ∙ l.frees.limit_is;
-        };
+        numbers_are = λ m. omega (arith, l.numbers_are m, c m, c2 m, c9 m, h.rest_numbers m);
+        frees = frees-then t u v (flat_map numbers rows) (numbers row ++ flat_map numbers l.rest) [] [] (λ m none. omega (arith, none, l.numbers_are m)) (λ m some. omega (arith, some)) l.frees h.frees;
         nodes_below = h.nodes_below;
         entries_below = h.entries_below;
         same_top = h.same_top;
@@ -84,17 +76,13 @@ module _ {K V : Type 0} where
       let flats : flat row2 ≡ flat row = flat-append l.before (node j.right both ∷ j.after') ∙ ap (λ z. flat l.before ++ z) (append_assoc l.entries j.right_entries (flat j.after')) ∙ sym (flat-append l.before (node n l.entries ∷ node j.right j.right_entries ∷ j.after')) ∙ ap (λ z. flat (l.before ++ node n l.entries ∷ z)) (sym j.after_is) in
       let hs2 : heads l.before ++ (j.first.0, j.right) ∷ heads j.after' ≡ heads row2 = sym (heads-append l.before (node j.right both ∷ j.after') ∙ ap (λ z. heads l.before ++ (head_of j.right (z ++ j.right_entries) ++ heads j.after')) j.entries_are) in
       let ss = loss_level 8 l.before (length l.entries) (get_or indices up 0) p (sizes l.after) (map sizes l.rest) (map sizes rows) l.sizes_were l.on_level.entry_was l.place_is refl in
-      let c0 = λ (m : ℕ). ap (λ z. count m (numbers (l.before ++ node n l.entries ∷ z))) j.after_is in
-      let c1 = λ (m : ℕ). count-row m l.before n l.entries (node j.right j.right_entries ∷ j.after') in
-      let c2 = λ (m : ℕ). count-row m l.before j.right both j.after' in
-      let c4 = λ (m : ℕ). count-append m (numbers row) (flat_map numbers l.rest) in
-      let c5 = λ (m : ℕ). count-append m (numbers row2) (flat_map numbers r.rows') in
-      let c6 = λ (m : ℕ). count-append m (numbers row ++ flat_map numbers l.rest) u.chain in
-      let c7 = λ (m : ℕ). count-append m (numbers row2 ++ flat_map numbers r.rows') v.chain in
+      let c0 = λ (m : ℕ). ap (λ z. count m (n ∷ numbers z)) j.after_is in
+      let c1 = λ (m : ℕ). counts m l.before n l.entries l.after l.rest u.chain in
+      let c2 = λ (m : ℕ). counts m l.before j.right both j.after' r.rows' v.chain in
       let c8 = λ (m : ℕ). ap (λ z. count m z) (r.frees.chain_is ∙ ap (λ z. freed ++ z) j.frees.chain_is) in
       let c9 = λ (m : ℕ). count-append m freed (n ∷ u.chain) in
       let c10 = λ (m : ℕ). count-append m freed (n ∷ []) in
-      let inside : RowIn inner_content v.nodes row2 = row-same inner_content w.nodes v.nodes row2 (λ m more. r.frees.others m (omega (arith, more, l.on_level.apart m, c0 m, c1 m, c2 m, c4 m, c6 m))) j.inside in
+      let inside : RowIn inner_content v.nodes row2 = row-same inner_content w.nodes v.nodes row2 (λ m more. r.frees.others m (omega (arith, more, l.on_level.apart m, c0 m, c1 m, c2 m))) j.inside in
       record {
         rows' = row2 ∷ r.rows';
         above = record {
@@ -102,18 +90,13 @@ module _ {K V : Type 0} where
           inside = (inside, r.above.inside);
           stands = stands_here path' indices' up row2 l.before j.right (get_or indices up 0) both j.after' r.rows' p solid refl (r.nodes_below up (omega arith) ∙ j.number_is) (r.entries_below up (omega arith) ∙ j.entry_is) (omega (arith, l.on_level.entry_was, len, some)) l.place_is r.above.stands;
           height = omega (arith, r.above.height);
-          apart = λ m. omega (arith, l.on_level.apart m, r.numbers_are m, c0 m, c1 m, c2 m, c4 m, c5 m, c6 m, c7 m, c8 m, c9 m);
+          apart = λ m. omega (arith, l.on_level.apart m, r.numbers_are m, c0 m, c1 m, c2 m, c8 m, c9 m);
         };
         sizes_are = ap (λ z. z ∷ map sizes r.rows') (sizes-append l.before (node j.right both ∷ j.after')) ∙ ap (λ z. (sizes l.before ++ length both ∷ sizes j.after') ∷ z) (r.sizes_are ∙ ap (λ z. loss_above (Some z) (map sizes l.rest)) full)
             ∙ sym (ss ∙ ap (λ z. (sizes l.before ++ z.1) ∷ loss_above (placed (length l.before) z.0) (map sizes l.rest)) j.outcome);
-        numbers_are = λ m. omega (arith, l.numbers_are m, r.numbers_are m, c0 m, c1 m, c2 m, c4 m, c5 m, c10 m);
-        frees = record {
-          others = λ m none. r.frees.others m (omega (arith, none, l.numbers_are m, c4 m)) ∙ j.frees.others m (omega (arith, none, l.numbers_are m, c4 m)) ∙ l.frees.others m none;
-          freed_are = freed-then w v (flat_map numbers l.rest) (n ∷ []) freed r.frees (λ m more. omega (arith, more, l.on_level.apart m, c0 m, c1 m, c4 m, c6 m)) j.frees.freed_are;
-          chain_is = r.frees.chain_is ∙ ap (λ z. freed ++ z) (j.frees.chain_is ∙ ap (λ z. n ∷ z) l.frees.chain_is) ∙ sym (append_assoc freed (n ∷ []) t.chain);
-          slots_are = r.frees.slots_are ∙ j.frees.slots_are ∙ l.frees.slots_are;
-          limit_is = r.frees.limit_is ∙ j.frees.limit_is ∙ l.frees.limit_is;
-        };
+        numbers_are = λ m. omega (arith, l.numbers_are m, r.numbers_are m, c0 m, c1 m, c2 m, c10 m);
+        frees = frees-joined t u w v (flat_map numbers rows) (numbers row) (flat_map numbers l.rest) n freed (λ m none. (omega (arith, none, l.numbers_are m, c1 m), omega (arith, none, l.numbers_are m, c1 m)))
+            (omega (arith, l.on_level.apart n, c1 n, count-same n (numbers l.after))) l.frees j.frees r.frees;
         nodes_below = λ i low. r.nodes_below i (omega (arith, low)) ∙ j.nodes_below i low;
         entries_below = λ i low. r.entries_below i (omega (arith, low)) ∙ j.entries_below i low;
         same_top = r.same_top ∙ j.same_top;

@@ -8,39 +8,11 @@ use Rattle.bforest_core.specs.Place.{inner_content, entry_keys, entry_items}
 use Rattle.bforest_core.specs.Climb.{Above, NextIs}
 use Rattle.bforest_core.proofs.rows.Zipper.{Spot, spot}
 use Rattle.bforest_core.proofs.table.Stored.{key_count, item_count}
-use Rattle.bforest_core.proofs.removal.Rebalancing.{Beside}
-use Rattle.bforest_core.proofs.removal.Neighbours.{UpAbove, NextNode, up_above, next_within, next_none, next_of, slot_next, next_across}
+use Rattle.bforest_core.proofs.removal.Asked.{NodeAt, KeyAt, ChildAt, ReadsKey, ReadsChild, OneAbove, Beside}
+use Rattle.bforest_core.proofs.removal.Neighbours.{UpAbove, up_above, next_within, next_none, slot_next, next_across}
+use Rattle.bforest_core.proofs.removal.Lifted.{NextNode, next_of}
 
 module _ {K V : Type 0} where
-  -- what reading the key behind an index asks
-  pub record KeyAt (t : Table K V) (number index : ℕ) : Type 0 where
-    pub keys : List K
-    pub children : List ℕ
-    pub slot : slice_get t.nodes number ≡ Some (Inner keys children)
-    pub within : index < length keys
-
-  -- and a child
-  pub record ItemAt (t : Table K V) (number index : ℕ) : Type 0 where
-    pub keys : List K
-    pub children : List ℕ
-    pub slot : slice_get t.nodes number ≡ Some (Inner keys children)
-    pub within : index < length children
-
-  -- what reading a key says, and a child
-  abbrev pub IsKeyAt : Table K V → ℕ → ℕ → K → Type 0
-  IsKeyAt t number index key = (keys : List K) (children : List ℕ) → slice_get t.nodes number ≡ Some (Inner keys children) → slice_get keys index ≡ Some key
-
-  abbrev pub IsItemAt : Table K V → ℕ → ℕ → ℕ → Type 0
-  IsItemAt t number index child = (keys : List K) (children : List ℕ) → slice_get t.nodes number ≡ Some (Inner keys children) → slice_get children index ≡ Some child
-
-  -- the rows above, for the call there
-  pub record RowsUp (t : Table K V) (path indices : List ℕ) (high size : ℕ) : Type 0 where
-    pub rows : List (List (LevelNode K ℕ))
-    pub before : List (K × ℕ)
-    pub x : K × ℕ
-    pub after : List (K × ℕ)
-    pub above : Above t path indices high size rows (before ++ x ∷ after) (length before)
-
   module _ (t : Table K V) (path indices : List ℕ) (up size : ℕ) (rows : List (List (LevelNode K ℕ))) (a : List (K × ℕ)) (x : K × ℕ) (b : List (K × ℕ)) (p : Above t path indices up size rows (a ++ x ∷ b) (length a)) (other : up ≢ size) where
     low : up < size
     low = let h = p.height in omega arith
@@ -59,8 +31,8 @@ module _ {K V : Type 0} where
     above_next = rw add-one u.above
 
     -- what the call one level up asks
-    pub above_asks : RowsUp t path indices (up + 1) size
-    above_asks = record { rows = d.q.rest; before = heads d.q.before; x = (u.k, get_or path up 0); after = heads d.q.after; above = above_next }
+    pub above_asks : OneAbove t path indices (up + 1) size
+    above_asks = (d.q.rest, heads d.q.before, (u.k, get_or path up 0), heads d.q.after, above_next)
 
     pub above_fewer : (n : ℕ) → size - up ≡ n → size - (up + 1) < n
     above_fewer n bound = let l = low in omega arith
@@ -71,22 +43,22 @@ module _ {K V : Type 0} where
 
     module _ (next : K × ℕ) (beside : Beside t path indices (up + 1) size (Some next)) where
       n : NextNode d.q.after next.0 next.1
-      n = let nx = next_above (Some next) beside in next_of d.q.after next.0 next.1 nx.0 d.f.fit.2 nx.1
+      n = let nx = next_above (Some next) beside in next_of 4 8 (omega arith) d.q.after next.0 next.1 nx.0 d.f.fit.2 nx.1
 
       n_slot : slice_get t.nodes next.1 ≡ Some (Inner (drop 1 (entry_keys (n.f ∷ n.fs))) (entry_items (n.f ∷ n.fs)))
       n_slot = slot_next t path indices up size rows a x b d next.0 next.1 n
 
       -- what reading its first child asks
-      pub first_asks : ItemAt t next.1 0
-      first_asks = record { keys = drop 1 (entry_keys (n.f ∷ n.fs)); children = entry_items (n.f ∷ n.fs); slot = n_slot; within = omega arith }
+      pub first_asks : ChildAt t next.1 0
+      first_asks = (drop 1 (entry_keys (n.f ∷ n.fs)), entry_items (n.f ∷ n.fs), n_slot, omega arith)
 
-    module _ (r : ℕ) (in_path : up < length path) where
+    module _ (r : ℕ) (wide : length path ≡ 17) (height : size ≤ 17) where
       slot : slice_get t.nodes (get_or path up r) ≡ Some (inner_content (d.q.l ++ x ∷ d.q.r))
-      slot = ap (λ z. slice_get t.nodes z) (get_or_default path up r 0 in_path) ∙ d.f.slot_is
+      slot = let l = low in ap (λ z. slice_get t.nodes z) (get_or_default path up r 0 (omega (arith, l, wide, height))) ∙ d.f.slot_is
 
       -- what counting the children asks
-      pub counted_asks : (es : List (K × ℕ)) × (slice_get t.nodes (get_or path up r) ≡ Some (inner_content es))
-      counted_asks = (d.q.l ++ x ∷ d.q.r, slot)
+      pub counted_asks : NodeAt t (get_or path up r)
+      counted_asks = (inner_content (d.q.l ++ x ∷ d.q.r), slot, λ free. free)
 
       module _ (m : ℕ) (value : (content : Content K V) → slice_get t.nodes (get_or path up r) ≡ Some content → m ≡ entry_count content) where
         count_is : m ≡ length (d.q.l ++ x ∷ d.q.r)
@@ -94,12 +66,12 @@ module _ {K V : Type 0} where
 
         -- the neighbour has the same parent
         pub key_asks : get_or indices up 0 + 1 < m → KeyAt t (get_or path up r) (get_or indices up 0)
-        key_asks more = record { keys = drop 1 (entry_keys (d.q.l ++ x ∷ d.q.r)); children = entry_items (d.q.l ++ x ∷ d.q.r); slot = slot; within = omega (arith, count_is, more, key_count (d.q.l ++ x ∷ d.q.r)) }
+        key_asks more = (drop 1 (entry_keys (d.q.l ++ x ∷ d.q.r)), entry_items (d.q.l ++ x ∷ d.q.r), slot, omega (arith, count_is, more, key_count (d.q.l ++ x ∷ d.q.r)))
 
-        pub item_asks : get_or indices up 0 + 1 < m → ItemAt t (get_or path up r) (get_or indices up 0 + 1)
-        item_asks more = record { keys = drop 1 (entry_keys (d.q.l ++ x ∷ d.q.r)); children = entry_items (d.q.l ++ x ∷ d.q.r); slot = slot; within = omega (arith, count_is, more, item_count (d.q.l ++ x ∷ d.q.r)) }
+        pub item_asks : get_or indices up 0 + 1 < m → ChildAt t (get_or path up r) (get_or indices up 0 + 1)
+        item_asks more = (drop 1 (entry_keys (d.q.l ++ x ∷ d.q.r)), entry_items (d.q.l ++ x ∷ d.q.r), slot, omega (arith, count_is, more, item_count (d.q.l ++ x ∷ d.q.r)))
 
-        pub same_parent : (key : K) (child : ℕ) → get_or indices up 0 + 1 < m → IsKeyAt t (get_or path up r) (get_or indices up 0) key → IsItemAt t (get_or path up r) (get_or indices up 0 + 1) child → NextIs (Some (key, child)) b
+        pub same_parent : (key : K) (child : ℕ) → get_or indices up 0 + 1 < m → ReadsKey t (get_or path up r) (get_or indices up 0) key → ReadsChild t (get_or path up r) (get_or indices up 0 + 1) child → NextIs (Some (key, child)) b
         same_parent key child more key_is child_is =
             let keys = drop 1 (entry_keys (d.q.l ++ x ∷ d.q.r)) in
             let items = entry_items (d.q.l ++ x ∷ d.q.r) in
@@ -113,7 +85,7 @@ module _ {K V : Type 0} where
         none_right less beside = next_none t path indices up size rows a x b d (past less) (next_above None beside)
 
         -- it has another parent
-        pub next_parent : (next : K × ℕ) (beside : Beside t path indices (up + 1) size (Some next)) (child : ℕ) → m ≤ get_or indices up 0 + 1 → IsItemAt t next.1 0 child → NextIs (Some (next.0, child)) b
+        pub next_parent : (next : K × ℕ) (beside : Beside t path indices (up + 1) size (Some next)) (child : ℕ) → m ≤ get_or indices up 0 + 1 → ReadsChild t next.1 0 child → NextIs (Some (next.0, child)) b
         next_parent next beside child less child_is =
             let w = n next beside in
             next_across t path indices up size rows a x b d next.0 next.1 w child (past less) (child_is (drop 1 (entry_keys (w.f ∷ w.fs))) (entry_items (w.f ∷ w.fs)) (n_slot next beside))

@@ -3,17 +3,18 @@ use Rattle.std.proofs.Common.{◌≡◌, ℕ, suc, ◌+◌, ◌≤◌, ◌<◌, 
 use Rattle.std.specs.List.{flat_map}
 use Rattle.bforest_nodes.specs.Content.{Inner, with_key}
 use Rattle.bforest_core.specs.Table.{Table, with_node}
-use Rattle.bforest_core.specs.Levels.{LevelNode, node, flat, heads, head_of, sizes, numbers, FitRow, Stacked}
-use Rattle.bforest_core.specs.Place.{RowIn, inner_content, count, StandsAbove, entry_keys, entry_items}
+use Rattle.bforest_core.specs.Levels.{LevelNode, node, flat, heads, head_of, sizes, numbers, FitRow}
+use Rattle.bforest_core.specs.Place.{RowIn, inner_content, StandsAbove, entry_keys, entry_items}
 use Rattle.bforest_core.specs.Climb.{Above, NextIs}
 use Rattle.bforest_core.specs.Removal.{Rebuilt}
-use Rattle.bforest_core.proofs.rows.LevelRows.{flat-append, heads-append, sizes-append, FitRow-join, least-pos, head-is}
-use Rattle.bforest_core.proofs.table.Tables.{count-append, count-same, count-row, row-split, row-join, row-same, row-put, rows-same, ne_from_count, Puts, puts}
-use Rattle.bforest_core.proofs.removal.Frees.{frees-puts, frees-wider}
-use Rattle.bforest_core.proofs.rows.Zipper.{Cut_above, facts, stands_here}
+use Rattle.bforest_core.proofs.rows.LevelRows.{flat-append, heads-append, head-is}
+use Rattle.bforest_core.proofs.table.Tables.{count-row, counts, row-split, row-join, row-same, Puts, puts}
+use Rattle.bforest_core.proofs.removal.Frees.{frees-wider}
+use Rattle.bforest_core.proofs.rows.Zipper.{Cut_above, facts}
 use Rattle.bforest_core.proofs.rows.Zipper.{Spot}
 use Rattle.bforest_core.proofs.removal.RemoveMerged.{Across, across_cut}
-use Rattle.bforest_core.proofs.removal.Loosen.{heads-put}
+use Rattle.bforest_core.proofs.removal.LeafLoss.{no_nodes}
+use Rattle.bforest_core.proofs.removal.Lifted.{NextNode, rows_above, lifted, renamed}
 use Rattle.bforest_core.proofs.rows.Zipper.{stands-same}
 use Rattle.std.specs.Prelude.{Bool, false}
 use Rattle.bforest_core.specs.Steps.{Over, Moved}
@@ -58,38 +59,7 @@ nothing_right : {K : Type 0} (l : List (K × ℕ)) (x : K × ℕ) (r : List (K �
 nothing_right l x [] e l_is less = refl
 nothing_right l x (y ∷ r) e l_is less = absurd (omega (arith, less, l_is, length-append l (x ∷ y ∷ r)))
 
--- the next node of a row, under its first key
-pub record NextNode {K : Type 0} (after : List (LevelNode K ℕ)) (k : K) (q : ℕ) : Type 0 where
-  pub f : K × ℕ
-  pub fs : List (K × ℕ)
-  pub rest : List (LevelNode K ℕ)
-  pub after_is : after ≡ node q (f ∷ fs) ∷ rest
-  pub k_is : k ≡ f.0
-
-same_head : {A : Type 0} (p q : A) (xs ys : List A) → p ∷ xs ≡ q ∷ ys → p ≡ q
-same_head p q xs ys e = cc
-
--- a row that is not empty as it is seen
-pub next_of : {K : Type 0} (after : List (LevelNode K ℕ)) (k : K) (q : ℕ) (cs : List (K × ℕ)) → FitRow 4 8 after → heads after ≡ (k, q) ∷ cs → NextNode after k q
-next_of [] k q cs f e = absurd cc
-next_of (node m [] ∷ after) k q cs f e = absurd (let g = f.0 in omega (arith, g, least-pos 4 (omega arith) after))
-next_of {K} (node m (x ∷ xs) ∷ after) k q cs f e =
-    let kq = same_head {A = K × ℕ} (x.0, m) (k, q) (heads after) cs e in
-    record { f = x; fs = xs; rest = after; after_is = ap (λ z. node z (x ∷ xs) ∷ after) (ap (λ z. z.1) kq); k_is = ap (λ z. z.0) (sym kq) }
-
--- a row that nothing is seen of has no entries
-pub none_of : {K : Type 0} (after : List (LevelNode K ℕ)) → FitRow 4 8 after → heads after ≡ [] → flat after ≡ []
-none_of [] f e = refl
-none_of (node m [] ∷ after) f e = absurd (let g = f.0 in omega (arith, g, least-pos 4 (omega arith) after))
-none_of (node m (x ∷ xs) ∷ after) f e = absurd cc
-
 module _ {K V : Type 0} where
-  -- no row above: no neighbour
-  pub none_at_top : (t : Table K V) (path indices : List ℕ) (up size : ℕ) (rows : List (List (LevelNode K ℕ))) (a : List (K × ℕ)) (x : K × ℕ) (b : List (K × ℕ)) (p : ℕ) → Above t path indices up size rows (a ++ x ∷ b) p → up ≡ size → b ≡ []
-  none_at_top t path indices up size (row ∷ rows) a x b p h e = absurd (omega (arith, h.height, e))
-  none_at_top t path indices up size [] a x [] p h e = refl
-  none_at_top t path indices up size [] a x (y ∷ b) p h e = absurd (omega (arith, h.stacked, length-append a (x ∷ y ∷ b)))
-
   -- the rows one level up, under the path's node
   pub record UpAbove (t : Table K V) (path indices : List ℕ) (up size : ℕ) (before : List (LevelNode K ℕ)) (n : ℕ) (after : List (LevelNode K ℕ)) (rest : List (List (LevelNode K ℕ))) : Type 0 where
     pub k : K
@@ -101,21 +71,11 @@ module _ {K V : Type 0} where
       let q = d.q in
       let n = get_or path up 0 in
       let es : List (K × ℕ) = q.l ++ x ∷ q.r in
-      let row : List (LevelNode K ℕ) = q.before ++ node n es ∷ q.after in
       let h = head-is n es (omega (arith, d.count_is)) in
-      let p = d.whole in
-      let c3 = λ (m : ℕ). count-append m (numbers row ++ flat_map numbers q.rest) t.chain in
-      let c4 = λ (m : ℕ). count-append m (numbers row) (flat_map numbers q.rest) in
-      let c7 = λ (m : ℕ). count-append m (flat_map numbers q.rest) t.chain in
       record {
         k = h.first.0;
-        above = record {
-          stacked = subst (λ (w : List (K × ℕ)). Stacked w q.rest) (heads-append q.before (node n es ∷ q.after) ∙ ap (λ z. heads q.before ++ (head_of n z ++ heads q.after)) h.es_is) p.stacked.2;
-          inside = p.inside.1;
-          stands = q.stands;
-          height = omega (arith, p.height);
-          apart = λ m. omega (arith, p.apart m, c3 m, c4 m, c7 m);
-        };
+        above = subst (λ (w : List (K × ℕ)). Above t path indices (suc up) size q.rest w (length (heads q.before))) (heads-append q.before (node n es ∷ q.after) ∙ ap (λ z. heads q.before ++ (head_of n z ++ heads q.after)) h.es_is)
+            (rows_above t path indices up size q.before n q.l x q.r q.after q.rest d.whole q.stands);
       }
 
   -- the neighbour under the same parent
@@ -130,7 +90,7 @@ module _ {K V : Type 0} where
   -- no neighbour
   pub next_none : (t : Table K V) (path indices : List ℕ) (up size : ℕ) (rows : List (List (LevelNode K ℕ))) (a : List (K × ℕ)) (x : K × ℕ) (b : List (K × ℕ)) (d : Spot t path indices up size rows a x b) → length (d.q.l ++ x ∷ d.q.r) ≤ get_or indices up 0 + 1 → heads d.q.after ≡ [] → b ≡ []
   next_none t path indices up size rows a x b d less none =
-      d.q.b_is ∙ ap (λ z. z ++ flat d.q.after) (nothing_right d.q.l x d.q.r (get_or indices up 0) d.q.entry_is less) ∙ none_of d.q.after d.f.fit.2 none
+      d.q.b_is ∙ ap (λ z. z ++ flat d.q.after) (nothing_right d.q.l x d.q.r (get_or indices up 0) d.q.entry_is less) ∙ ap flat (no_nodes 4 8 (omega arith) d.q.after d.f.fit.2 none)
 
   -- the next node's slot
   pub slot_next : (t : Table K V) (path indices : List ℕ) (up size : ℕ) (rows : List (List (LevelNode K ℕ))) (a : List (K × ℕ)) (x : K × ℕ) (b : List (K × ℕ)) (d : Spot t path indices up size rows a x b) (k : K) (q : ℕ) (n : NextNode d.q.after k q) → slice_get t.nodes q ≡ Some (inner_content (n.f ∷ n.fs))
@@ -153,35 +113,8 @@ module _ {K V : Type 0} where
       let n = get_or path up 0 in
       let old : List (K × ℕ) = l ++ x ∷ y ∷ r in
       let es : List (K × ℕ) = l ++ x ∷ (key, y.1) ∷ r in
-      let f = facts t path indices up size before n l x (y ∷ r) after rest p in
       let len : length es ≡ length old = omega (arith, length-append l (x ∷ y ∷ r), length-append l (x ∷ (key, y.1) ∷ r)) in
-      let len2 : length es ≡ length l + suc (suc (length r)) = length-append l (x ∷ (key, y.1) ∷ r) in
-      let lo = f.fit.0 in
-      let hi = f.fit.1 in
-      let c = λ (m : ℕ). count-row m before n old after in
-      let c2 = λ (m : ℕ). count-row m before n es after in
-      let c3 = λ (m : ℕ). count-append m (numbers (before ++ node n old ∷ after) ++ flat_map numbers rest) t.chain in
-      let c4 = λ (m : ℕ). count-append m (numbers (before ++ node n old ∷ after)) (flat_map numbers rest) in
-      let c5 = λ (m : ℕ). count-append m (numbers (before ++ node n es ∷ after)) (flat_map numbers rest) in
-      let c6 = λ (m : ℕ). count-append m (numbers (before ++ node n es ∷ after) ++ flat_map numbers rest) u.chain in
-      let c8 = λ (m : ℕ). ap (λ z. count m z) w.chain_is in
-      let hs : heads (before ++ node n old ∷ after) ≡ heads (before ++ node n es ∷ after) = heads-put before n old es after (same_first n l x (y ∷ r) ((key, y.1) ∷ r)) in
-      record {
-        rows' = (before ++ node n es ∷ after) ∷ rest;
-        above = record {
-          stacked = (flat-append before (node n es ∷ after) ∙ simp append_assoc, FitRow-join 4 8 before (node n es) after f.solid (omega (arith, lo, len), omega (arith, hi, len), f.fit.2), subst (λ (z : List (K × ℕ)). Stacked z rest) hs p.stacked.2);
-          inside = (row-put inner_content t.nodes u.nodes before n old es after f.inside w.same w.here f.none, rows-same t.nodes u.nodes rest (λ m some. w.same m (ne_from_count m n (flat_map numbers rest) some f.none_rest)) p.inside.1);
-          stands = stands_here path indices up (before ++ node n es ∷ after) before n (get_or indices up 0) es after rest (length (flat before ++ l)) f.solid refl refl refl (omega (arith, len2, e_is)) (length-append (flat before) l ∙ ap (λ z. length (flat before) + z) e_is) st;
-          height = p.height;
-          apart = λ m. omega (arith, p.apart m, c m, c2 m, c3 m, c4 m, c5 m, c6 m, c8 m);
-        };
-        sizes_are = ap (λ z. z ∷ map sizes rest) (sizes-append before (node n es ∷ after) ∙ ap (λ z. sizes before ++ z ∷ sizes after) len ∙ sym (sizes-append before (node n old ∷ after)));
-        numbers_are = λ m. omega (arith, c m, c2 m, c4 m, c5 m);
-        frees = frees-puts t u n (inner_content es) (numbers (before ++ node n old ∷ after) ++ flat_map numbers rest) (omega (arith, c4 n, c n, count-same n (numbers after))) w;
-        nodes_below = λ i low. refl;
-        entries_below = λ i low. refl;
-        same_top = refl;
-      }
+      renamed t u path indices up size before l x (y ∷ r) after rest es ((flat before ++ l) ++ x ∷ (key, y.1) ∷ (r ++ flat after)) p e_is st len (same_first n l x (y ∷ r) ((key, y.1) ∷ r)) (flat-append before (node n es ∷ after) ∙ simp append_assoc) w
     where
       same_first : (n : ℕ) (l : List (K × ℕ)) (x : K × ℕ) (r s : List (K × ℕ)) → head_of n (l ++ x ∷ r) ≡ head_of n (l ++ x ∷ s)
       same_first n [] x r s = refl
@@ -223,35 +156,15 @@ module _ {K V : Type 0} where
       let row : List (LevelNode K ℕ) = before ++ node n es ∷ node q (y ∷ ys) ∷ after in
       let row2 : List (LevelNode K ℕ) = before ++ node n es ∷ node q ((key, y.1) ∷ ys) ∷ after in
       let f = facts t path indices up size before n (z ∷ l) x [] (node q (y ∷ ys) ∷ after) rest p in
-      let c = λ (m : ℕ). count-row m before n es (node q (y ∷ ys) ∷ after) in
+      let c = λ (m : ℕ). counts m before n es (node q (y ∷ ys) ∷ after) rest t.chain in
       let c2 = λ (m : ℕ). count-row m before n es (node q ((key, y.1) ∷ ys) ∷ after) in
-      let c3 = λ (m : ℕ). count-append m (numbers row ++ flat_map numbers rest) t.chain in
-      let c4 = λ (m : ℕ). count-append m (numbers row) (flat_map numbers rest) in
-      let c5 = λ (m : ℕ). count-append m (numbers row2) (flat_map numbers b.rows') in
-      let c6 = λ (m : ℕ). count-append m (numbers row2 ++ flat_map numbers b.rows') u.chain in
-      let c8 = λ (m : ℕ). ap (λ z. count m z) b.frees.chain_is in
-      let len : length es ≡ suc (length l) + 1 = length-append (z ∷ l) (x ∷ []) in
       let in_t : RowIn inner_content t.nodes row2 = (let s = row-split inner_content t.nodes before (node n es ∷ node q (y ∷ ys) ∷ after) f.inside in row-join inner_content t.nodes before (node n es ∷ node q ((key, y.1) ∷ ys) ∷ after) s.0 (s.1.0, (s.1.1.0, s.1.1.1))) in
-      record {
-        rows' = row2 ∷ b.rows';
-        above = record {
-          stacked = (
-            flat-append before (node n es ∷ node q ((key, y.1) ∷ ys) ∷ after) ∙ simp append_assoc,
-            FitRow-join 4 8 before (node n es) (node q ((key, y.1) ∷ ys) ∷ after) f.solid (f.fit.0, f.fit.1, (let g = f.fit.2 in (g.0, g.1, g.2))),
-            subst (λ (w : List (K × ℕ)). Stacked w b.rows') (sym (heads-append before (node n es ∷ node q ((key, y.1) ∷ ys) ∷ after))) b.above.stacked,
-          );
-          inside = (row-same inner_content t.nodes u.nodes row2 (λ m some. b.frees.others m (omega (arith, some, p.apart m, c m, c2 m, c3 m, c4 m))) in_t, b.above.inside);
-          stands = stands_here path indices up row2 before n (get_or indices up 0) es (node q ((key, y.1) ∷ ys) ∷ after) b.rows' (length (flat before ++ (z ∷ l))) f.solid refl refl refl (omega (arith, len, e_is)) (length-append (flat before) (z ∷ l) ∙ ap (λ w. length (flat before) + w) e_is) b.above.stands;
-          height = omega (arith, b.above.height);
-          apart = λ m. omega (arith, p.apart m, b.numbers_are m, c m, c2 m, c3 m, c4 m, c5 m, c6 m, c8 m);
-        };
-        sizes_are = ap (λ w. w ∷ map sizes b.rows') (sizes-append before (node n es ∷ node q ((key, y.1) ∷ ys) ∷ after) ∙ sym (sizes-append before (node n es ∷ node q (y ∷ ys) ∷ after))) ∙ ap (λ w. sizes row ∷ w) b.sizes_are;
-        numbers_are = λ m. omega (arith, c m, c2 m, c4 m, c5 m, b.numbers_are m);
-        frees = frees-wider t u (flat_map numbers rest) (numbers row ++ flat_map numbers rest) [] (λ m none. omega (arith, none, c4 m)) b.frees;
-        nodes_below = λ i low. refl;
-        entries_below = λ i low. refl;
-        same_top = refl;
-      }
+      let next2 : List (LevelNode K ℕ) = node q ((key, y.1) ∷ ys) ∷ after in
+      let fit : FitRow 4 8 (node n es ∷ next2) = (f.fit.0, f.fit.1, (let g = f.fit.2 in (g.0, g.1, g.2))) in
+      lifted t t u path indices up size before (z ∷ l) x [] (node q (y ∷ ys) ∷ after) rest es next2 ((flat before ++ (z ∷ l)) ++ x ∷ (key, y.1) ∷ (ys ++ flat after)) (heads before ++ (z.0, n) ∷ (key, q) ∷ heads after) p e_is refl refl refl
+      (flat-append before (node n es ∷ next2) ∙ simp append_assoc) (sym (heads-append before (node n es ∷ next2))) fit
+      (row-same inner_content t.nodes u.nodes row2 (λ m some. b.frees.others m (omega (arith, some, p.apart m, c m, c2 m))) in_t)
+      (frees-wider t u (flat_map numbers rest) (numbers row ++ flat_map numbers rest) [] (λ m none. omega (arith, none, c m)) b.frees) b
 
   -- the same, where the rows are cut at the path
   pub rekey_over : (t u : Table K V) (path indices : List ℕ) (up size : ℕ) (rows : List (List (LevelNode K ℕ))) (a : List (K × ℕ)) (x : K × ℕ) (k : K) (n : ℕ) (b : List (K × ℕ)) (key : K) (d : Spot t path indices up size rows a x ((k, n) ∷ b)) (o : Across d.q.l d.q.r d.q.after (k, n) b) →

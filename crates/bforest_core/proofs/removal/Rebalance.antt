@@ -1,5 +1,5 @@
 -- A node that lost an entry: it stays, or is balanced with its right neighbour.
-use Rattle.std.proofs.Common.{◌≡◌, ℕ, zero, suc, ◌+◌, ◌-◌, ◌*◌, ◌/◌, ◌≤◌, ◌<◌, ◌≢◌, ◌⊎◌, true, false, nat_lt, nat_le, List, [], ◌∷◌, ◌++◌, map, length, set, get_or, slice_get, Some, refl, sym, ap, ◌∙◌, subst, inl, inr, append_assoc, length-append, length-set, arith}
+use Rattle.std.proofs.Common.{◌≡◌, ℕ, zero, suc, ◌+◌, ◌-◌, ◌*◌, ◌/◌, ◌≤◌, ◌<◌, ◌≢◌, ◌⊎◌, true, false, nat_le, List, [], ◌∷◌, ◌++◌, map, length, set, get_or, slice_get, Some, refl, sym, ap, ◌∙◌, subst, inl, inr, append_assoc, length-append, length-set, arith}
 use Rattle.std.specs.List.{flat_map}
 use Rattle.std.proofs.lemmas.List.{append-nil, get_or-set_other, get_or-set_same}
 use Rattle.bforest_nodes.specs.Content.{Content, Free}
@@ -10,17 +10,12 @@ use Rattle.bforest_core.specs.Place.{RowIn, count, Distinct}
 use Rattle.bforest_core.specs.Climb.{Above, SameBelow, top_of}
 use Rattle.bforest_core.specs.Removal.{Rebuilt, OnLevel, Healed, Joined}
 use Rattle.bforest_core.proofs.rows.LevelRows.{flat-append, heads-append, sizes-append, numbers-append, FitRow-join, least-le, Solid-more}
-use Rattle.bforest_core.proofs.table.Tables.{count-append, count-same, count-row, row-same, row-put_two, row-drop_put, rows-same, ne_from_count, absent_ne, slice_get-set_apart}
+use Rattle.bforest_core.proofs.table.Tables.{count-append, counts, count-same, count-row, row-same, row-put_two, row-drop_put, rows-same, ne_from_count, absent_ne, slice_get-set_apart}
 use Rattle.bforest_core.proofs.removal.Frees.{frees-refl}
 use Rattle.bforest_core.proofs.rows.Zipper.{above_two, stands-same}
+use Rattle.bforest_core.proofs.removal.Losses.{here_lt, past_lt}
 use Rattle.bforest_core.proofs.removal.Balance.{IsHalf, AllRight, Spread}
 use Rattle.bforest_core.proofs.removal.Frees.{freed-is}
-
-yes_lt : (a b : ℕ) → a < b → nat_lt a b ≡ true
-yes_lt a b h = grind arith
-
-no_lt : (a b : ℕ) → b ≤ a → nat_lt a b ≡ false
-no_lt a b h = grind arith
 
 yes_le : (a b : ℕ) → a ≤ b → nat_le a b ≡ true
 yes_le a b h = grind arith
@@ -35,15 +30,15 @@ rebalanced_last q (suc m) one = refl
 
 rebalanced_healthy : (q m r : ℕ) (after : List ℕ) → 1 ≤ m → q ≤ 2 * m → rebalanced q m (r ∷ after) ≡ (false, m ∷ r ∷ after)
 rebalanced_healthy q zero r after one h = absurd (omega arith)
-rebalanced_healthy q (suc m) r after one h = let e = no_lt (2 * suc m) q h in rw e refl
+rebalanced_healthy q (suc m) r after one h = let e = past_lt (2 * suc m) q h in rw e refl
 
 rebalanced_joined : (q m r : ℕ) (after : List ℕ) → 1 ≤ m → 2 * m < q → m + r ≤ q → rebalanced q m (r ∷ after) ≡ (true, (m + r) ∷ after)
 rebalanced_joined q zero r after one h fits = absurd (omega arith)
-rebalanced_joined q (suc m) r after one h fits = let e = yes_lt (2 * suc m) q h in let f = yes_le (suc m + r) q fits in rw (e, f) refl
+rebalanced_joined q (suc m) r after one h fits = let e = here_lt (2 * suc m) q h in let f = yes_le (suc m + r) q fits in rw (e, f) refl
 
 rebalanced_spread : (q m r : ℕ) (after : List ℕ) → 1 ≤ m → 2 * m < q → q < m + r → rebalanced q m (r ∷ after) ≡ (false, ((m + r) - (m + r) / 2) ∷ (m + r) / 2 ∷ after)
 rebalanced_spread q zero r after one h more = absurd (omega arith)
-rebalanced_spread q (suc m) r after one h more = let e = yes_lt (2 * suc m) q h in let f = no_le (suc m + r) q more in rw (e, f) refl
+rebalanced_spread q (suc m) r after one h more = let e = here_lt (2 * suc m) q h in let f = no_le (suc m + r) q more in rw (e, f) refl
 
 -- a node that is half full or the last is large enough
 pub enough : {K X : Type 0} (half : ℕ) (es : List (K × X)) (after : List (LevelNode K X)) → 1 ≤ length es → (half ≤ length es) ⊎ (after ≡ []) → least half after ≤ length es
@@ -145,20 +140,18 @@ module _ {K V X : Type 0} (content : List (K × X) → Content K V) (half most :
   pub apart_two : (t : Table K V) (before : List (LevelNode K X)) (n : ℕ) (es : List (K × X)) (q : ℕ) (fs : List (K × X)) (after : List (LevelNode K X)) (rest : List (List (LevelNode K ℕ))) → Distinct ((numbers (before ++ node n es ∷ node q fs ∷ after) ++ flat_map numbers rest) ++ t.chain) → Apart t before n q after rest
   apart_two t before n es q fs after rest d =
       let row : List (LevelNode K X) = before ++ node n es ∷ node q fs ∷ after in
-      let c = λ (m : ℕ). count-row m before n es (node q fs ∷ after) in
-      let c3 = λ (m : ℕ). count-append m (numbers row ++ flat_map numbers rest) t.chain in
-      let c4 = λ (m : ℕ). count-append m (numbers row) (flat_map numbers rest) in
+      let c = λ (m : ℕ). counts m before n es (node q fs ∷ after) rest t.chain in
       let sn = count-same n (q ∷ numbers after) in
       let sq = count-same q (numbers after) in
-      let ne : n ≢ q = λ (e : n ≡ q). let h = ap (λ z. count z (q ∷ numbers after)) e in omega (arith, d n, c n, c3 n, c4 n, sn, h, sq) in
+      let ne : n ≢ q = λ (e : n ≡ q). let h = ap (λ z. count z (q ∷ numbers after)) e in omega (arith, d n, c n, sn, h, sq) in
       record {
         ne = ne;
-        none = omega (arith, d n, c n, c3 n, c4 n, sn);
-        none_q = omega (arith, d q, c q, c3 q, c4 q, sq);
-        none_rest = omega (arith, d n, c n, c3 n, c4 n, sn);
-        none_rest_q = omega (arith, d q, c q, c3 q, c4 q, sq);
-        none_chain = omega (arith, d n, c n, c3 n, c4 n, sn);
-        none_chain_q = omega (arith, d q, c q, c3 q, c4 q, sq);
+        none = omega (arith, d n, c n, sn);
+        none_q = omega (arith, d q, c q, sq);
+        none_rest = omega (arith, d n, c n, sn);
+        none_rest_q = omega (arith, d q, c q, sq);
+        none_chain = omega (arith, d n, c n, sn);
+        none_chain_q = omega (arith, d q, c q, sq);
       }
 
   -- it takes entries of its right neighbour, and the key between the two has been renewed above (v)
@@ -178,12 +171,10 @@ module _ {K V X : Type 0} (content : List (K × X) → Content K V) (half most :
       let hi : suc (length s.xs) ≤ most = omega (arith, s.left_is, under, hm.lo, hm.hi, hm.two, fit_q.1) in
       let lo_q : half ≤ suc (length s.ys) = omega (arith, s.right_is, s.more, hm.lo, hm.hi) in
       let hi_q : suc (length s.ys) ≤ most = omega (arith, s.right_is, under, hm.lo, hm.hi, fit_q.1) in
-      let c = λ (m : ℕ). count-row m before n (e ∷ es) (node q (f ∷ fs) ∷ after) in
+      let c = λ (m : ℕ). counts m before n (e ∷ es) (node q (f ∷ fs) ∷ after) rest t.chain in
       let c2 = λ (m : ℕ). count-row m before n (s.x ∷ s.xs) (node q (s.y ∷ s.ys) ∷ after) in
-      let c3 = λ (m : ℕ). count-append m (numbers row ++ flat_map numbers rest) t.chain in
-      let c4 = λ (m : ℕ). count-append m (numbers row) (flat_map numbers rest) in
       let in_u : RowIn content u.nodes row2 = row-put_two content t.nodes u.nodes before n q (e ∷ es) (f ∷ fs) (s.x ∷ s.xs) (s.y ∷ s.ys) after p.inside s.two.same s.two.here s.two.there a.none a.none_q in
-      let in_v : RowIn content v.nodes row2 = row-same content u.nodes v.nodes row2 (λ m some. b.frees.others m (omega (arith, some, p.apart m, c m, c2 m, c3 m, c4 m))) in_u in
+      let in_v : RowIn content v.nodes row2 = row-same content u.nodes v.nodes row2 (λ m some. b.frees.others m (omega (arith, some, p.apart m, c m, c2 m))) in_u in
       let flats : flat row2 ≡ flat row = flat-append before (node n (s.x ∷ s.xs) ∷ node q (s.y ∷ s.ys) ∷ after) ∙ ap (λ z. flat before ++ z) (sym (append_assoc (s.x ∷ s.xs) (s.y ∷ s.ys) (flat after)) ∙ ap (λ z. z ++ flat after) (sym s.whole) ∙ append_assoc (e ∷ es) (f ∷ fs) (flat after)) ∙ sym (flat-append before (node n (e ∷ es) ∷ node q (f ∷ fs) ∷ after)) in
       let hs : heads before ++ (e.0, n) ∷ (key, q) ∷ heads after ≡ heads row2 =
       ap (λ z. heads before ++ (z, n) ∷ (key, q) ∷ heads after) (ap (λ z. z.0) x_is) ∙ ap (λ z. heads before ++ (s.x.0, n) ∷ (z, q) ∷ heads after) s.key_is ∙ sym (heads-append before (node n (s.x ∷ s.xs) ∷ node q (s.y ∷ s.ys) ∷ after)) in
@@ -206,7 +197,7 @@ module _ {K V X : Type 0} (content : List (K × X) → Content K V) (half most :
         row_numbers = numbers-append before (node n (s.x ∷ s.xs) ∷ node q (s.y ∷ s.ys) ∷ after) ∙ sym (numbers-append before (node n (e ∷ es) ∷ node q (f ∷ fs) ∷ after));
         rest_numbers = λ m. omega (arith, b.numbers_are m);
         frees = record {
-          others = λ m none. b.frees.others m (omega (arith, none, c4 m)) ∙ s.two.same m (absent_ne m n (q ∷ numbers after) (omega (arith, none, c4 m, c m))) (absent_ne m q (numbers after) (omega (arith, none, c4 m, c m)));
+          others = λ m none. b.frees.others m (omega (arith, none, c m)) ∙ s.two.same m (absent_ne m n (q ∷ numbers after) (omega (arith, none, c m))) (absent_ne m q (numbers after) (omega (arith, none, c m)));
           freed_are = tt;
           chain_is = b.frees.chain_is ∙ s.two.chain_is;
           slots_are = b.frees.slots_are ∙ s.two.slots_are;
@@ -233,9 +224,7 @@ module _ {K V X : Type 0} (content : List (K × X) → Content K V) (half most :
       let other : (m : ℕ) → m ≢ n → slice_get v.nodes m ≡ slice_get u.nodes m = λ m ne. ap (λ z. slice_get z.nodes m) v_is ∙ slice_get-set_apart u.nodes n m (Free (front_of u.chain)) ne in
       let same : (m : ℕ) → m ≢ n → m ≢ q → slice_get v.nodes m ≡ slice_get t.nodes m = λ m x y. other m x ∙ s.two.same m x y in
       let there : slice_get v.nodes q ≡ Some (content ((e ∷ es) ++ f ∷ fs)) = other q (λ (w : q ≡ n). a.ne (sym w)) ∙ s.two.there in
-      let c = λ (m : ℕ). count-row m before n (e ∷ es) (node q (f ∷ fs) ∷ after) in
-      let c3 = λ (m : ℕ). count-append m (numbers row ++ flat_map numbers rest) t.chain in
-      let c4 = λ (m : ℕ). count-append m (numbers row) (flat_map numbers rest) in
+      let c = λ (m : ℕ). counts m before n (e ∷ es) (node q (f ∷ fs) ∷ after) rest t.chain in
       let chain : v.chain ≡ n ∷ t.chain = ap (λ z. z.chain) v_is ∙ ap (λ z. n ∷ z) s.two.chain_is in
       let quiet : (m : ℕ) → 0 < count m (flat_map numbers rest) → slice_get v.nodes m ≡ slice_get t.nodes m = λ m some. same m (ne_from_count m n (flat_map numbers rest) some a.none_rest) (ne_from_count m q (flat_map numbers rest) some a.none_rest_q) in
       record {
@@ -255,7 +244,7 @@ module _ {K V X : Type 0} (content : List (K × X) → Content K V) (half most :
           inside = rows-same t.nodes v.nodes rest quiet p.above.inside;
           stands = stands-same path indices (set path up q) indices (suc up) rest (length (heads before)) (λ i high. get_or-set_other path up i q 0 (λ (w : i ≡ up). omega (arith, w, high))) (λ i high. refl) p.above.stands;
           height = p.above.height;
-          apart = λ m. omega (arith, p.apart m, c m, c3 m, c4 m, count-append m (flat_map numbers rest) v.chain, ap (λ z. count m z) chain);
+          apart = λ m. omega (arith, p.apart m, c m, count-append m (flat_map numbers rest) v.chain, ap (λ z. count m z) chain);
         };
         number_is = get_or-set_same path up q 0 low;
         entry_is = refl;

@@ -1,71 +1,43 @@
 -- Settling a level, with what the calls on the way say: each answer of `rebalance_leaf` and `rebalance_inner` is one of these.
-use Rattle.std.proofs.Common.{◌≡◌, ℕ, suc, ◌≤◌, ◌<◌, ◌≢◌, List, [], ◌∷◌, ◌++◌, map, length, set, get_or, slice_get, Some, None, Option, sym, ap, ◌∙◌, subst, inl, arith}
+use Rattle.std.proofs.Common.{◌≡◌, ℕ, suc, ◌≤◌, ◌<◌, ◌≢◌, List, ◌∷◌, ◌++◌, length, set, get_or, slice_get, Some, None, Option, sym, ap, ◌∙◌, subst, inl, arith}
 use Rattle.std.proofs.lemmas.List.{get_or_default}
 use Rattle.bforest_nodes.specs.Content.{Content, entry_count}
 use Rattle.bforest_core.specs.Table.{Table, IsUsed, IsUnderflowedAt, IsBalancedAt, with_freed}
-use Rattle.bforest_core.specs.Levels.{LevelNode, heads, sizes}
+use Rattle.bforest_core.specs.Levels.{LevelNode, heads}
 use Rattle.bforest_core.specs.Place.{count}
 use Rattle.bforest_core.specs.Climb.{Above, NextIs, SameBelow, top_of}
-use Rattle.bforest_core.specs.Removal.{Rebuilt, OnLevel, Healed, Joined}
+use Rattle.bforest_core.specs.Removal.{OnLevel, Healed, Joined}
 use Rattle.bforest_core.proofs.table.Tables.{is_used}
-use Rattle.bforest_core.proofs.removal.Balance.{IsHalf, IsStored}
+use Rattle.bforest_core.proofs.removal.Balance.{IsHalf, IsStored, AllRight, Spread}
+use Rattle.bforest_core.proofs.removal.Asked.{NodeAt, OneAbove, NextAbove, TwoAbove, Beside, Rekeys, Enters}
 use Rattle.bforest_core.proofs.removal.Rebalance.{settle_stay}
-use Rattle.bforest_core.proofs.removal.Healing.{Near, slot_here, none_here, used_here, near_next, near_past, near_above, headed, settle_last, settle_past, underflowed, near_spread, near_right, spread_above, heal_spread, join_right}
-
-module _ {K V : Type 0} where
-  -- what the call for the right neighbour answers
-  abbrev pub Beside : Table K V → List ℕ → List ℕ → ℕ → ℕ → Option (K × ℕ) → Type 0
-  Beside t path indices up size r = (rows : List (List (LevelNode K ℕ))) (before : List (K × ℕ)) (x : K × ℕ) (after : List (K × ℕ)) → Above t path indices up size rows (before ++ x ∷ after) (length before) → NextIs r after
-
-  -- what the call that renews the key between two neighbours leaves
-  abbrev pub Rekeys : Table K V → Table K V → List ℕ → List ℕ → ℕ → ℕ → K → Type 0
-  Rekeys u v path indices up size key = (rows : List (List (LevelNode K ℕ))) (before : List (K × ℕ)) (x : K × ℕ) (first : K) (n : ℕ) (after : List (K × ℕ)) → Above u path indices up size rows (before ++ x ∷ (first, n) ∷ after) (length before) → Rebuilt u v path indices path indices up size rows (before ++ x ∷ (key, n) ∷ after) (length before) (map sizes rows) []
-
-  -- what the call that enters the next node leaves
-  abbrev pub Enters : Table K V → List ℕ → List ℕ → List ℕ → List ℕ → ℕ → ℕ → Type 0
-  Enters t path indices path' indices' up size = (rows : List (List (LevelNode K ℕ))) (before : List (K × ℕ)) (x : K × ℕ) (y : K × ℕ) (after : List (K × ℕ)) → Above t path indices (suc up) size rows (before ++ x ∷ y ∷ after) (length before) → Above t path' indices' (suc up) size rows (before ++ x ∷ y ∷ after) (suc (length before)) × (get_or path' up 0 ≡ y.1)
-
-  -- the rows from a level on, with an entry in sight
-  pub record OneAbove (t : Table K V) (path indices : List ℕ) (up size : ℕ) (rest : List (List (LevelNode K ℕ))) : Type 0 where
-    pub before : List (K × ℕ)
-    pub x : K × ℕ
-    pub after : List (K × ℕ)
-    pub above : Above t path indices up size rest (before ++ x ∷ after) (length before)
-
-  -- or with two
-  pub record TwoAbove (t : Table K V) (path indices : List ℕ) (up size : ℕ) (rest : List (List (LevelNode K ℕ))) : Type 0 where
-    pub before : List (K × ℕ)
-    pub x : K × ℕ
-    pub key : K
-    pub q : ℕ
-    pub after : List (K × ℕ)
-    pub above : Above t path indices up size rest (before ++ x ∷ (key, q) ∷ after) (length before)
+use Rattle.bforest_core.proofs.removal.Healing.{Near, Headed, slot_here, none_here, used_here, near_next, near_past, near_above, headed, settle_last, settle_past, underflowed, near_spread, near_right, spread_above, heal_spread, join_right}
 
 module _ {K V X : Type 0} (content : List (K × X) → Content K V) (half most cap : ℕ) (hm : IsHalf half most) (s : IsStored content cap most)
-    (t : Table K V) (path indices : List ℕ) (up size high r : ℕ) (high_is : high ≡ suc up) (low : up < length path)
+    (t : Table K V) (path indices : List ℕ) (up size high r : ℕ) (high_is : high ≡ suc up) (wide : length path ≡ 17) (height : size ≤ 17)
     (before : List (LevelNode K X)) (n : ℕ) (es : List (K × X)) (after : List (LevelNode K X)) (rest : List (List (LevelNode K ℕ))) (p : OnLevel content half most t path indices up size before n es after rest) where
+  low : up < length path
+  low = let h = p.above.height in omega (arith, h, wide, height)
+
   -- the node as the code reads its number
   num_is : get_or path up r ≡ n
   num_is = get_or_default path up r 0 low ∙ p.number_is
 
-  pub slot_read : slice_get t.nodes (get_or path up r) ≡ Some (content es)
+  slot_read : slice_get t.nodes (get_or path up r) ≡ Some (content es)
   slot_read = ap (λ z. slice_get t.nodes z) num_is ∙ slot_here content half most hm t path indices up size before n es after rest p
 
-  pub count_read : (m : ℕ) → ((x : Content K V) → slice_get t.nodes (get_or path up r) ≡ Some x → m ≡ entry_count x) → m ≡ length es
+  -- what counting its entries asks
+  pub counted_asks : NodeAt t (get_or path up r)
+  counted_asks = (content es, slot_read, s.used es)
+
+  count_read : (m : ℕ) → ((x : Content K V) → slice_get t.nodes (get_or path up r) ≡ Some x → m ≡ entry_count x) → m ≡ length es
   count_read m value = value (content es) slot_read ∙ s.count_is es
 
   -- what entering the next node asks
-  pub past_asks : (m : ℕ) → ((x : Content K V) → slice_get t.nodes (get_or path up r) ≡ Some x → m ≡ entry_count x) → get_or indices up 0 ≡ m → TwoAbove t path indices (suc up) size rest
+  pub past_asks : (m : ℕ) → ((x : Content K V) → slice_get t.nodes (get_or path up r) ≡ Some x → m ≡ entry_count x) → get_or indices up 0 ≡ m → NextAbove t path indices (suc up) size
   past_asks m value past =
       let d = near_past content half most hm t path indices up size before n es after rest p (past ∙ count_read m value) in
-      record {
-        before = heads before;
-        x = (d.near.e.0, n);
-        key = d.near.f.0;
-        q = d.q;
-        after = heads d.near.after';
-        above = near_above content half most hm t path indices up size before n es after rest d.k d.q d.near;
-      }
+      (rest, heads before, (d.near.e.0, n), (d.near.f.0, d.q), heads d.near.after', near_above content half most hm t path indices up size before n es after rest d.k d.q d.near)
 
   -- what it leaves
   pub past_heals : (path' indices' : List ℕ) (m : ℕ) → ((x : Content K V) → slice_get t.nodes (get_or path up r) ≡ Some x → m ≡ entry_count x) → half ≤ m → get_or indices up 0 ≡ m →
@@ -84,17 +56,20 @@ module _ {K V X : Type 0} (content : List (K × X) → Content K V) (half most c
       let cnt = count_read m value in
       settle_stay content half most hm t path indices up size before n es after rest p (inl (subst (λ (z : ℕ). half ≤ z) cnt healthy)) (omega (arith, cnt, p.entry_was, inside))
 
+  -- the level above names the node
+  named : Headed content half most hm t path indices up size before n after rest
+  named = headed content half most hm t path indices up size before n es after rest p
+
+  above_high : Above t path indices high size rest (heads before ++ (named.k, n) ∷ heads after) (length (heads before))
+  above_high = subst (λ (z : ℕ). Above t path indices z size rest (heads before ++ (named.k, n) ∷ heads after) (length (heads before))) (sym high_is) named.above
+
   -- what the call for the right neighbour asks
-  pub beside_asks : OneAbove t path indices high size rest
-  beside_asks =
-      let h = headed content half most hm t path indices up size before n es after rest p in
-      record { before = heads before; x = (h.k, n); after = heads after; above = subst (λ (z : ℕ). Above t path indices z size rest (heads before ++ (h.k, n) ∷ heads after) (length (heads before))) (sym high_is) h.above }
+  pub beside_asks : OneAbove t path indices high size
+  beside_asks = (rest, heads before, (named.k, n), heads after, above_high)
 
   -- what it answers
   next_is : (o : Option (K × ℕ)) → Beside t path indices high size o → NextIs o (heads after)
-  next_is o beside =
-      let h = headed content half most hm t path indices up size before n es after rest p in
-      beside rest (heads before) (h.k, n) (heads after) (subst (λ (z : ℕ). Above t path indices z size rest (heads before ++ (h.k, n) ∷ heads after) (length (heads before))) (sym high_is) h.above)
+  next_is o beside = beside rest (heads before) (named.k, n) (heads after) above_high
 
   -- the last node stays
   pub last_heals : Beside t path indices high size None → Healed content half most t t path indices path indices up size before n es after rest
@@ -110,52 +85,51 @@ module _ {K V X : Type 0} (content : List (K × X) → Content K V) (half most c
         near_next content half most hm t path indices up size before n es after rest next.0 next.1 nx.0 p nx.1
 
     -- what balancing asks
-    pub balance_asks : IsUsed t (get_or path up r) × IsUsed t next.1 × (get_or path up r ≢ next.1) × IsUnderflowedAt cap t.nodes (get_or path up r) next.1
+    pub balance_asks : IsUsed t (get_or path up r) × (IsUsed t next.1 × ((get_or path up r ≢ next.1) × IsUnderflowedAt cap t.nodes (get_or path up r) next.1))
     balance_asks =
         let e = sym num_is in
         let w = underflowed content half most hm cap s t path indices up size before n es after rest next.0 next.1 near_is under_is in (
           subst (λ (z : ℕ). IsUsed t z) e (used_here content half most hm t path indices up size before n es after rest p),
-          w.0,
-          subst (λ (z : ℕ). z ≢ next.1) e w.1,
-          subst (λ (z : ℕ). IsUnderflowedAt cap t.nodes z next.1) e w.2,
+          (w.0, (subst (λ (z : ℕ). z ≢ next.1) e w.1, subst (λ (z : ℕ). IsUnderflowedAt cap t.nodes z next.1) e w.2)),
         )
 
     module _ (u : Table K V) (got : Option K) (balanced : IsBalancedAt cap t (get_or path up r) next.0 next.1 got u) where
-      -- what renewing the key between the two asks
-      pub rekey_asks : (key : K) → got ≡ Some key → TwoAbove u path indices high size rest
-      rekey_asks key got_is =
-          let d = near_is in
-          let b = subst (λ (z : Option K). IsBalancedAt cap t n next.0 next.1 z u) got_is (subst (λ (z : ℕ). IsBalancedAt cap t z next.0 next.1 got u) num_is balanced) in
-          let w = near_spread content half most hm cap s t u path indices up size before n es after rest next.0 next.1 key d b in
-          record {
-            before = heads before;
-            x = (d.e.0, n);
-            key = d.f.0;
-            q = next.1;
-            after = heads d.after';
-            above = subst (λ (z : ℕ). Above u path indices z size rest (heads before ++ (d.e.0, n) ∷ (d.f.0, next.1) ∷ heads d.after') (length (heads before))) (sym high_is) (spread_above content half most hm t u path indices up size before n es after rest next.0 next.1 (content (w.x ∷ w.xs)) (content (w.y ∷ w.ys)) d w.two);
-          }
+      -- renewing the key between the two
+      module _ (key : K) (got_is : got ≡ Some key) where
+        spread : Spread content t u most n next.1 (near_is.e ∷ near_is.es') (near_is.f ∷ near_is.fs) key
+        spread =
+            let b = subst (λ (z : Option K). IsBalancedAt cap t n next.0 next.1 z u) got_is (subst (λ (z : ℕ). IsBalancedAt cap t z next.0 next.1 got u) num_is balanced) in
+            near_spread content half most hm cap s t u path indices up size before n es after rest next.0 next.1 key near_is b
 
-      -- what it leaves
-      pub rekey_heals : (key : K) (v : Table K V) → got ≡ Some key → Rekeys u v path indices high size key → Healed content half most t v path indices path indices up size before n es after rest
-      rekey_heals key v got_is rekeys =
-          let d = near_is in
-          let b = subst (λ (z : Option K). IsBalancedAt cap t n next.0 next.1 z u) got_is (subst (λ (z : ℕ). IsBalancedAt cap t z next.0 next.1 got u) num_is balanced) in
-          let w = near_spread content half most hm cap s t u path indices up size before n es after rest next.0 next.1 key d b in
-          let ab = spread_above content half most hm t u path indices up size before n es after rest next.0 next.1 (content (w.x ∷ w.xs)) (content (w.y ∷ w.ys)) d w.two in
-          let rk = subst (λ (z : ℕ). Rekeys u v path indices z size key) high_is rekeys in
-          heal_spread content half most hm t u v path indices up size before n es after rest next.0 next.1 key d under_is w (rk rest (heads before) (d.e.0, n) d.f.0 next.1 (heads d.after') ab)
+        above_is : Above u path indices (suc up) size rest (heads before ++ (near_is.e.0, n) ∷ (near_is.f.0, next.1) ∷ heads near_is.after') (length (heads before))
+        above_is = spread_above content half most hm t u path indices up size before n es after rest next.0 next.1 (content (spread.x ∷ spread.xs)) (content (spread.y ∷ spread.ys)) near_is spread.two
 
-      -- what freeing the emptied node asks
-      pub free_asks : got ≡ None → IsUsed u (get_or path up r)
-      free_asks got_is =
-          let b = subst (λ (z : Option K). IsBalancedAt cap t n next.0 next.1 z u) got_is (subst (λ (z : ℕ). IsBalancedAt cap t z next.0 next.1 got u) num_is balanced) in
-          let w = near_right content half most hm cap s t u path indices up size before n es after rest next.0 next.1 near_is b in
-          subst (λ (z : ℕ). IsUsed u z) (sym num_is) (is_used u n w.left_content w.two.here (ap (λ z. count n z) w.two.chain_is ∙ none_here content half most hm t path indices up size before n es after rest p))
+        -- what it asks
+        pub rekey_asks : TwoAbove u path indices high size
+        rekey_asks =
+            let d = near_is in
+            (rest, heads before, (d.e.0, n), d.f.0, next.1, heads d.after', subst (λ (z : ℕ). Above u path indices z size rest (heads before ++ (d.e.0, n) ∷ (d.f.0, next.1) ∷ heads d.after') (length (heads before))) (sym high_is) above_is)
 
-      -- what it leaves
-      pub free_joins : (v : Table K V) → got ≡ None → v ≡ with_freed u (get_or path up r) → Joined content half most t v path indices (set path up next.1) indices up size before n es after rest
-      free_joins v got_is freed =
-          let b = subst (λ (z : Option K). IsBalancedAt cap t n next.0 next.1 z u) got_is (subst (λ (z : ℕ). IsBalancedAt cap t z next.0 next.1 got u) num_is balanced) in
-          let w = near_right content half most hm cap s t u path indices up size before n es after rest next.0 next.1 near_is b in
-          join_right content half most hm t u v path indices up size before n es after rest next.0 next.1 near_is under_is w (freed ∙ ap (λ z. with_freed u z) num_is) low
+        -- what it leaves
+        pub rekey_heals : (v : Table K V) → Rekeys u v path indices high size key → Healed content half most t v path indices path indices up size before n es after rest
+        rekey_heals v rekeys =
+            let d = near_is in
+            let rk = subst (λ (z : ℕ). Rekeys u v path indices z size key) high_is rekeys in
+            heal_spread content half most hm t u v path indices up size before n es after rest next.0 next.1 key d under_is spread (rk rest (heads before) (d.e.0, n) d.f.0 next.1 (heads d.after') above_is)
+
+      -- freeing the emptied node
+      module _ (got_is : got ≡ None) where
+        all_right : AllRight content t u most n next.1 (near_is.e ∷ near_is.es') (near_is.f ∷ near_is.fs)
+        all_right =
+            let b = subst (λ (z : Option K). IsBalancedAt cap t n next.0 next.1 z u) got_is (subst (λ (z : ℕ). IsBalancedAt cap t z next.0 next.1 got u) num_is balanced) in
+            near_right content half most hm cap s t u path indices up size before n es after rest next.0 next.1 near_is b
+
+        -- what it asks
+        pub free_asks : IsUsed u (get_or path up r)
+        free_asks =
+            let w = all_right in
+            subst (λ (z : ℕ). IsUsed u z) (sym num_is) (is_used u n w.left_content w.two.here (ap (λ z. count n z) w.two.chain_is ∙ none_here content half most hm t path indices up size before n es after rest p))
+
+        -- what it leaves
+        pub free_joins : (v : Table K V) → v ≡ with_freed u (get_or path up r) → Joined content half most t v path indices (set path up next.1) indices up size before n es after rest
+        free_joins v freed = join_right content half most hm t u v path indices up size before n es after rest next.0 next.1 near_is under_is all_right (freed ∙ ap (λ z. with_freed u z) num_is) low

@@ -1,31 +1,36 @@
 -- The right-most node of a level went: its entry goes, and the nodes that this leaves empty.
-use Rattle.std.proofs.Common.{◌≡◌, ℕ, suc, ◌+◌, ◌-◌, ◌≤◌, ◌≢◌, List, [], ◌∷◌, ◌++◌, map, length, get_or, slice_get, Some, refl, sym, ap, ◌∙◌, subst, append_assoc, length-append, length-set, arith}
+use Rattle.std.proofs.Common.{◌≡◌, ℕ, suc, ◌+◌, ◌-◌, ◌≤◌, ◌≢◌, List, [], ◌∷◌, ◌++◌, map, length, get_or, Some, refl, sym, ap, ◌∙◌, subst, append_assoc, length-append, arith}
 use Rattle.std.specs.List.{flat_map}
 use Rattle.std.proofs.lemmas.List.{append-nil}
-use Rattle.bforest_nodes.specs.Content.{Free, without_child}
-use Rattle.bforest_core.specs.Table.{Table, with_node, with_freed, front_of}
+use Rattle.bforest_nodes.specs.Content.{without_child}
+use Rattle.bforest_core.specs.Table.{Table, with_node, with_freed}
 use Rattle.bforest_core.specs.Levels.{LevelNode, node, flat, heads, sizes, numbers, FitRow, Solid, Stacked}
 use Rattle.bforest_core.specs.Sizes.{loss_above}
 use Rattle.bforest_core.specs.Place.{RowIn, inner_content, count, StandsAbove, root_above}
 use Rattle.bforest_core.specs.Climb.{Above, top_of}
 use Rattle.bforest_core.specs.Removal.{Dropped}
 use Rattle.bforest_core.proofs.rows.LevelRows.{flat-append, heads-append, sizes-append, FitRow-join, FitRow-split, Solid-full, least-pos}
-use Rattle.bforest_core.proofs.table.Tables.{count-append, count-same, count-row, row-split, row-put, row-same, rows-same, ne_from_count, absent_ne, puts, slice_get-set_apart}
-use Rattle.bforest_core.proofs.removal.Frees.{frees-puts}
+use Rattle.bforest_core.proofs.table.Tables.{count-append, counts, count-same, row-split, row-put, row-same, rows-same, ne_from_count, puts}
+use Rattle.bforest_core.proofs.removal.Frees.{frees-puts, freed_other, frees-first}
 use Rattle.bforest_core.proofs.rows.Zipper.{Cut_above, facts}
 use Rattle.bforest_core.proofs.rows.Zipper.{Spot}
 use Rattle.bforest_core.proofs.rows.Contents.{removed_last}
-use Rattle.bforest_core.proofs.removal.Loosen.{heads-put}
+use Rattle.bforest_core.proofs.removal.Lifted.{heads-put, above_same, rows_above}
 use Rattle.bforest_core.proofs.removal.Merge.{loss_level}
 use Rattle.bforest_core.proofs.rows.Tops.{top_rows}
 use Rattle.bforest_core.proofs.walks.Downward.{last_of}
-use Rattle.bforest_core.proofs.removal.Frees.{freed-then, freed-is}
 
 -- the root's number is the path's last
 root_on_path : {K : Type 0} (path indices : List ℕ) (up size : ℕ) (row : List (LevelNode K ℕ)) (rest : List (List (LevelNode K ℕ))) (hs hs2 : List (K × ℕ)) (p : ℕ) → Stacked hs (row ∷ rest) → StandsAbove path indices up (row ∷ rest) p → up + suc (length rest) ≡ size → root_above hs2 (row ∷ rest) ≡ top_of path size
 root_on_path path indices up size row rest hs hs2 p stacked stands height =
     let high : up + length rest ≡ size - 1 = omega (arith, height) in
     top_rows hs path indices up row rest p stacked stands ∙ ap (λ z. get_or path z 0) high
+
+-- solid nodes fit as a row
+pub fit_solid : {K X : Type 0} (half most : ℕ) → 1 ≤ half → (row : List (LevelNode K X)) → Solid half most row → FitRow half most row
+fit_solid half most one [] s = tt
+fit_solid half most one (node m es ∷ []) s = (omega (arith, s.0, one), s.1, tt)
+fit_solid half most one (node m es ∷ next ∷ ns) s = (s.0, s.1, fit_solid half most one (next ∷ ns) s.2)
 
 -- nothing to the right
 nothing : {K : Type 0} (r : List (K × ℕ)) (after : List (LevelNode K ℕ)) → FitRow 4 8 after → [] ≡ r ++ flat after → (r ≡ []) × (after ≡ [])
@@ -53,10 +58,8 @@ module _ {K V : Type 0} where
       let w = puts t u n (inner_content es) (inner_content old) f.slot_is (u_is ∙ ap (λ c. with_node t n c) (removed_last V z l x (get_or indices up 0) e_is)) in
       let len : length old ≡ suc (length es) = length-append es (x ∷ []) ∙ omega arith in
       let hi = f.fit.1 in
-      let c = λ (m : ℕ). count-row m before n old [] in
-      let c2 = λ (m : ℕ). count-row m before n es [] in
-      let c4 = λ (m : ℕ). count-append m (numbers (before ++ node n old ∷ [])) (flat_map numbers rest) in
-      let c5 = λ (m : ℕ). count-append m (numbers (before ++ node n es ∷ [])) (flat_map numbers rest) in
+      let c = λ (m : ℕ). counts m before n old [] rest t.chain in
+      let c2 = λ (m : ℕ). counts m before n es [] rest u.chain in
       let hs : heads (before ++ node n old ∷ []) ≡ heads (before ++ node n es ∷ []) = heads-put before n old es [] refl in
       let were : map sizes ((before ++ node n old ∷ []) ∷ rest) ≡ (sizes before ++ suc (length es) ∷ []) ∷ map sizes rest = ap (λ w. w ∷ map sizes rest) (sizes-append before (node n old ∷ []) ∙ ap (λ w. sizes before ++ w ∷ []) len) in
       let ss = loss_level 8 before (length es) (length es) (length (flat before ++ es)) [] (map sizes rest) (map sizes ((before ++ node n old ∷ []) ∷ rest)) were (omega arith) (length-append (flat before) es) refl in
@@ -67,9 +70,9 @@ module _ {K V : Type 0} where
         inside = (row-put inner_content t.nodes u.nodes before n old es [] f.inside w.same w.here f.none, rows-same t.nodes u.nodes rest (λ m some. w.same m (ne_from_count m n (flat_map numbers rest) some f.none_rest)) p.inside.1);
         height = refl;
         sizes_are = ap (λ w. w ∷ map sizes rest) (sizes-append before (node n es ∷ [])) ∙ sym ss;
-        numbers_are = λ m. omega (arith, c m, c2 m, c4 m, c5 m);
+        numbers_are = λ m. omega (arith, c m, c2 m);
         root_is = ap (λ w. root_above w rest) (sym hs) ∙ root_on_path path indices up size (before ++ node n old ∷ []) rest ((flat before ++ es) ++ x ∷ ([] ++ [])) [] (length (flat before ++ es)) p.stacked p.stands p.height;
-        frees = frees-puts t u n (inner_content es) (numbers (before ++ node n old ∷ []) ++ flat_map numbers rest) (omega (arith, c4 n, c n, count-same n [])) w;
+        frees = frees-puts t u n (inner_content es) (numbers (before ++ node n old ∷ []) ++ flat_map numbers rest) (omega (arith, c n, count-same n [])) w;
       }
 
   -- the parent was spot empty, and went (v); so did its own entry
@@ -83,12 +86,10 @@ module _ {K V : Type 0} where
       let row : List (LevelNode K ℕ) = front ++ node n (x ∷ []) ∷ [] in
       let f = facts t path indices up size front n [] x [] [] rest p in
       let fs = FitRow-split 4 8 front (node n (x ∷ [])) [] p.stacked.1 in
-      let c = λ (m : ℕ). count-row m front n (x ∷ []) [] in
-      let c4 = λ (m : ℕ). count-append m (numbers row) (flat_map numbers rest) in
+      let c = λ (m : ℕ). counts m front n (x ∷ []) [] rest t.chain in
       let c5 = λ (m : ℕ). count-append m (numbers front) (flat_map numbers r.rows') in
-      let c3 = λ (m : ℕ). count-append m (numbers row ++ flat_map numbers rest) t.chain in
       let c10 = λ (m : ℕ). count-append m freed (n ∷ []) in
-      let other : (m : ℕ) → m ≢ n → slice_get v.nodes m ≡ slice_get t.nodes m = λ m ne. ap (λ z. slice_get z.nodes m) v_is ∙ slice_get-set_apart t.nodes n m (Free (front_of t.chain)) ne in
+      let other = freed_other t v n v_is in
       let in_v : RowIn inner_content v.nodes front = row-same inner_content t.nodes v.nodes front (λ m some. other m (ne_from_count m n (numbers front) some (omega (arith, f.none)))) (row-split inner_content t.nodes front (node n (x ∷ []) ∷ []) f.inside).0 in
       let hs : heads front ≡ heads init ++ (w.0, q) ∷ [] = heads-append init (node q (w ∷ ws) ∷ []) in
       let len : length front ≡ suc (length (heads init)) = length-append init (node q (w ∷ ws) ∷ []) ∙ omega (arith, full) in
@@ -96,25 +97,14 @@ module _ {K V : Type 0} where
       let ss = loss_level 8 front 0 0 (length (flat front)) [] (map sizes rest) (map sizes (row ∷ rest)) were (omega arith) (omega arith) refl in
       record {
         rows' = front ∷ r.rows';
-        stacked = (refl, FitRow-solid front fs.0, subst (λ (z : List (K × ℕ)). Stacked z r.rows') (sym hs) r.stacked);
-        inside = (row-same inner_content v.nodes u.nodes front (λ m some. r.frees.others m (omega (arith, some, p.apart m, c m, c3 m, c4 m))) in_v, r.inside);
+        stacked = (refl, fit_solid 4 8 (omega arith) front fs.0, subst (λ (z : List (K × ℕ)). Stacked z r.rows') (sym hs) r.stacked);
+        inside = (row-same inner_content v.nodes u.nodes front (λ m some. r.frees.others m (omega (arith, some, p.apart m, c m))) in_v, r.inside);
         height = ap suc r.height;
         sizes_are = ap (λ z. sizes front ∷ z) r.sizes_are ∙ ap (λ z. sizes front ∷ loss_above (Some z) (map sizes rest)) (sym len) ∙ ap (λ z. z ∷ loss_above (Some (length front)) (map sizes rest)) (sym (append-nil (sizes front))) ∙ sym ss;
-        numbers_are = λ m. omega (arith, c m, c4 m, c5 m, c10 m, r.numbers_are m);
+        numbers_are = λ m. omega (arith, c m, c5 m, c10 m, r.numbers_are m);
         root_is = ap (λ z. root_above z r.rows') hs ∙ r.root_is;
-        frees = record {
-          others = λ m none. r.frees.others m (omega (arith, none, c4 m)) ∙ other m (absent_ne m n [] (omega (arith, none, c4 m, c m)));
-          freed_are = freed-then v u (flat_map numbers rest) (n ∷ []) freed r.frees (λ m more. omega (arith, more, p.apart m, c m, c3 m, c4 m)) (freed-is t v n (inner_content (x ∷ [])) f.slot_is v_is, tt);
-          chain_is = r.frees.chain_is ∙ ap (λ z. freed ++ z.chain) v_is ∙ sym (append_assoc freed (n ∷ []) t.chain);
-          slots_are = r.frees.slots_are ∙ ap (λ z. length z.nodes) v_is ∙ length-set t.nodes n (Free (front_of t.chain));
-          limit_is = r.frees.limit_is ∙ ap (λ z. z.limit) v_is;
-        };
+        frees = frees-first t v u n (inner_content (x ∷ [])) (numbers row ++ flat_map numbers rest) (flat_map numbers rest) freed f.slot_is v_is (omega (arith, c n, count-same n [])) f.none_rest (λ m none. omega (arith, none, c m)) r.frees;
       }
-    where
-      FitRow-solid : (row : List (LevelNode K ℕ)) → Solid 4 8 row → FitRow 4 8 row
-      FitRow-solid [] s = tt
-      FitRow-solid (node m es ∷ []) s = (omega (arith, s.0), s.1, tt)
-      FitRow-solid (node m es ∷ next ∷ ns) s = (s.0, s.1, FitRow-solid (next ∷ ns) s.2)
 
   -- the parent of the path keeps others
   pub drop_keep : (t u : Table K V) (path indices : List ℕ) (up size : ℕ) (rows : List (List (LevelNode K ℕ))) (a : List (K × ℕ)) (x : K × ℕ) (d : Spot t path indices up size rows a x []) → length (d.q.l ++ x ∷ d.q.r) ≢ 1 →
@@ -159,10 +149,8 @@ module _ {K V : Type 0} where
       let solid = (FitRow-split 4 8 init (node q (w ∷ ws)) (node n (x ∷ []) ∷ []) (let h = p.stacked.1 in rw append_assoc at h)).0 in
       let hs : heads row ≡ heads init ++ (w.0, q) ∷ (x.0, n) ∷ [] = ap heads (append_assoc init (node q (w ∷ ws) ∷ []) (node n (x ∷ []) ∷ [])) ∙ heads-append init (node q (w ∷ ws) ∷ node n (x ∷ []) ∷ []) in
       let len : length (heads front) ≡ suc (length (heads init)) = ap length (heads-append init (node q (w ∷ ws) ∷ [])) ∙ length-append (heads init) ((w.0, q) ∷ []) ∙ omega arith in
-      let other : (m : ℕ) → m ≢ n → slice_get v.nodes m ≡ slice_get t.nodes m = λ m ne. ap (λ z. slice_get z.nodes m) v_is ∙ slice_get-set_apart t.nodes n m (Free (front_of t.chain)) ne in
-      let c = λ (m : ℕ). count-row m front n (x ∷ []) [] in
-      let c3 = λ (m : ℕ). count-append m (numbers row ++ flat_map numbers rest) t.chain in
-      let c4 = λ (m : ℕ). count-append m (numbers row) (flat_map numbers rest) in
+      let other = freed_other t v n v_is in
+      let c = λ (m : ℕ). counts m front n (x ∷ []) [] rest t.chain in
       record {
         init = init;
         q = q;
@@ -174,13 +162,10 @@ module _ {K V : Type 0} where
         a_is = a_is;
         full = Solid-full 4 8 (omega arith) init solid;
         entry_is = sym e_is;
-        above = record {
-          stacked = subst (λ (z : List (K × ℕ)). Stacked z rest) hs p.stacked.2;
-          inside = rows-same t.nodes v.nodes rest (λ m some. other m (ne_from_count m n (flat_map numbers rest) some f.none_rest)) p.inside.1;
-          stands = rw (← len) st;
-          height = omega (arith, p.height);
-          apart = λ m. omega (arith, p.apart m, c m, c3 m, c4 m, count-append m (flat_map numbers rest) v.chain, ap (λ z. count m z.chain) v_is);
-        };
+        above = above_same t v path indices (suc up) size rest (heads init ++ (w.0, q) ∷ (x.0, n) ∷ []) (suc (length (heads init))) (λ m some. other m (ne_from_count m n (flat_map numbers rest) some f.none_rest))
+            (λ m. omega (arith, p.apart m, c m, count-append m (flat_map numbers rest) v.chain, ap (λ z. count m z.chain) v_is))
+            (subst (λ (z : ℕ). Above t path indices (suc up) size rest (heads init ++ (w.0, q) ∷ (x.0, n) ∷ []) z) len
+            (subst (λ (z : List (K × ℕ)). Above t path indices (suc up) size rest z (length (heads front))) hs (rows_above t path indices up size front n [] x [] [] rest p st)));
       }
 
   -- an empty parent and what stands in front of it

@@ -1,17 +1,17 @@
 -- The steps of `remove_merged`, over plain values.
 use Rattle.std.proofs.Common.{◌≡◌, ℕ, suc, ◌+◌, ◌-◌, ◌≤◌, ◌<◌, List, [], ◌∷◌, ◌++◌, map, length, drop, set, get_or, slice_get, Some, refl, sym, ap, ◌∙◌, subst, length-append, arith}
-use Rattle.std.specs.List.{flat_map}
 use Rattle.bforest_nodes.specs.Content.{Inner, without_child}
 use Rattle.bforest_core.specs.Table.{Table, with_node}
-use Rattle.bforest_core.specs.Levels.{LevelNode, node, flat, heads, sizes, numbers, FitRow, Stacked}
+use Rattle.bforest_core.specs.Levels.{LevelNode, node, flat, heads, sizes, FitRow}
 use Rattle.bforest_core.specs.Place.{inner_content, StandsAbove, entry_keys, entry_items}
 use Rattle.bforest_core.specs.Climb.{Above}
 use Rattle.bforest_core.specs.Removal.{Rebuilt, Loosened}
 use Rattle.bforest_core.proofs.rows.LevelRows.{heads-append, least-pos}
-use Rattle.bforest_core.proofs.table.Tables.{puts, puts-then, count-append}
+use Rattle.bforest_core.proofs.table.Tables.{puts, puts-then}
 use Rattle.bforest_core.proofs.rows.Zipper.{Cut_above, facts, Spot}
 use Rattle.bforest_core.proofs.table.Stored.{some_same}
 use Rattle.bforest_core.proofs.rows.Contents.{removed_same, removed_last, last_key}
+use Rattle.bforest_core.proofs.removal.Lifted.{rows_above}
 use Rattle.bforest_core.proofs.removal.Loosen.{loosen_same, loosen_over}
 
 -- the neighbour stands under the next parent
@@ -90,18 +90,8 @@ module _ {K V : Type 0} where
       Cut_above t path indices up size before (get_or path up 0) (z ∷ zs) x [] (node q (y ∷ ys) ∷ after) rest → StandsAbove path indices (suc up) rest (length (heads before)) →
       Above t path indices (suc up) size rest (heads before ++ (z.0, get_or path up 0) ∷ (y.0, q) ∷ heads after) (length (heads before))
   across_above t path indices up size before z zs x q y ys after rest p st =
-      let n = get_or path up 0 in
-      let row : List (LevelNode K ℕ) = before ++ node n ((z ∷ zs) ++ x ∷ []) ∷ node q (y ∷ ys) ∷ after in
-      let c3 = λ (m : ℕ). count-append m (numbers row ++ flat_map numbers rest) t.chain in
-      let c4 = λ (m : ℕ). count-append m (numbers row) (flat_map numbers rest) in
-      let c7 = λ (m : ℕ). count-append m (flat_map numbers rest) t.chain in
-      record {
-        stacked = subst (λ (w : List (K × ℕ)). Stacked w rest) (heads-append before (node n ((z ∷ zs) ++ x ∷ []) ∷ node q (y ∷ ys) ∷ after)) p.stacked.2;
-        inside = p.inside.1;
-        stands = st;
-        height = omega (arith, p.height);
-        apart = λ m. omega (arith, p.apart m, c3 m, c4 m, c7 m);
-      }
+      subst (λ (w : List (K × ℕ)). Above t path indices (suc up) size rest w (length (heads before))) (heads-append before (node (get_or path up 0) ((z ∷ zs) ++ x ∷ []) ∷ node q (y ∷ ys) ∷ after))
+      (rows_above t path indices up size before (get_or path up 0) (z ∷ zs) x [] (node q (y ∷ ys) ∷ after) rest p st)
 
   -- the key under the next parent, and then the entry
   pub take_over : (t v u : Table K V) (path indices : List ℕ) (up size : ℕ) (rows : List (List (LevelNode K ℕ))) (a : List (K × ℕ)) (k : K) (m : ℕ) (k2 : K) (n : ℕ) (b : List (K × ℕ)) → (d : Spot t path indices up size rows a (k, m) ((k2, n) ∷ b)) → (o : Across d.q.l d.q.r d.q.after (k2, n) b) →

@@ -12,17 +12,9 @@ use Rattle.bforest_core.proofs.table.Tables.{is_used}
 use Rattle.bforest_core.proofs.rows.Zipper.{Spot, spot, above_two}
 use Rattle.bforest_core.proofs.table.Stored.{item_count}
 use Rattle.bforest_core.proofs.removal.RemoveEmptied.{last_form, drop_keep, Emptied, emptied, drop_empty}
-use Rattle.bforest_core.proofs.removal.RemovingMerged.{NodeAt, ChildAt, Removes}
+use Rattle.bforest_core.proofs.removal.Asked.{NodeAt, ChildAt, Removes, LastTwo}
 
 module _ {K V : Type 0} where
-  -- the last two entries of the row above
-  pub record LastTwo (t : Table K V) (path indices : List ℕ) (up size : ℕ) : Type 0 where
-    pub rest : List (List (LevelNode K ℕ))
-    pub before : List (K × ℕ)
-    pub y : K × ℕ
-    pub x : K × ℕ
-    pub above : Above t path indices up size rest (before ++ y ∷ x ∷ []) (suc (length before))
-
   -- what the call leaves
   abbrev pub Drops : Table K V → Table K V → List ℕ → ℕ → ℕ → List (List (LevelNode K ℕ)) → List (K × ℕ) → K × ℕ → Type 0
   Drops t u path up size rows a y = (levels : ℕ) × Dropped t u path size rows (a ++ y ∷ []) (loss_above (Some (suc (length a))) (map sizes rows)) (nodes_up path up levels)
@@ -45,19 +37,13 @@ module _ {K V : Type 0} where
     len_is = length-append a (y ∷ []) ∙ omega arith
 
     pub node_asks : NodeAt t (get_or path up r)
-    node_asks = record { entries = d.q.l ++ x ∷ d.q.r; slot = slot_is }
+    node_asks = (inner_content (d.q.l ++ x ∷ d.q.r), slot_is, λ free. free)
 
     pub used_is : IsUsed t (get_or path up r)
     used_is = subst (λ (z : ℕ). IsUsed t z) (sym num_is) (is_used t (get_or path up 0) (inner_content (d.q.l ++ x ∷ d.q.r)) d.f.slot_is d.f.none_chain)
 
-    pub child_asks : ChildAt t (get_or path up r) (get_or indices up 0)
-    child_asks = record {
-      used = used_is;
-      keys = drop 1 (entry_keys (d.q.l ++ x ∷ d.q.r));
-      children = entry_items (d.q.l ++ x ∷ d.q.r);
-      slot = slot_is;
-      within = omega (arith, item_count (d.q.l ++ x ∷ d.q.r), d.count_is);
-    }
+    pub child_asks : IsUsed t (get_or path up r) × ChildAt t (get_or path up r) (get_or indices up 0)
+    child_asks = (used_is, (drop 1 (entry_keys (d.q.l ++ x ∷ d.q.r)), entry_items (d.q.l ++ x ∷ d.q.r), slot_is, omega (arith, item_count (d.q.l ++ x ∷ d.q.r), d.count_is)))
 
     pub drop_fewer : (high n : ℕ) → high ≡ suc up → size - up ≡ n → size - high < n
     drop_fewer high n high_is bound = let low = top in omega arith
@@ -85,7 +71,7 @@ module _ {K V : Type 0} where
 
         -- what the call one level up asks
         pub above_asks : LastTwo v path indices high size
-        above_asks = record { rest = m.rest; before = heads m.init; y = (m.w.0, m.q); x = (x.0, get_or path up 0); above = above_is }
+        above_asks = (m.rest, heads m.init, (m.w.0, m.q), (x.0, get_or path up 0), above_is)
 
         -- what it leaves is what this one leaves
         pub empties : (u : Table K V) → ((rows2 : List (List (LevelNode K ℕ))) (a2 : List (K × ℕ)) (y2 x2 : K × ℕ) → Above v path indices high size rows2 (a2 ++ y2 ∷ x2 ∷ []) (suc (length a2)) → Drops v u path high size rows2 a2 y2) → Drops t u path up size rows a y

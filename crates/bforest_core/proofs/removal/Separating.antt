@@ -1,7 +1,7 @@
 -- Renewing the key between two neighbours: each answer of `update_next_separator` is one of these.
 use Rattle.std.proofs.Common.{◌≡◌, ℕ, ◌+◌, ◌-◌, ◌≤◌, ◌<◌, List, [], ◌∷◌, ◌++◌, map, length, drop, get_or, slice_get, Some, sym, ap, ◌∙◌, subst, arith, add-one}
 use Rattle.std.proofs.lemmas.List.{get_or_default}
-use Rattle.bforest_nodes.specs.Content.{Content, Inner, entry_count, with_key}
+use Rattle.bforest_nodes.specs.Content.{Content, entry_count, with_key}
 use Rattle.bforest_core.specs.Table.{Table, IsUsed, with_node}
 use Rattle.bforest_core.specs.Levels.{LevelNode, heads, sizes}
 use Rattle.bforest_core.specs.Place.{inner_content, entry_keys, entry_items}
@@ -10,35 +10,13 @@ use Rattle.bforest_core.specs.Removal.{Rebuilt}
 use Rattle.bforest_core.proofs.table.Tables.{is_used}
 use Rattle.bforest_core.proofs.rows.Zipper.{Spot, spot, above_two}
 use Rattle.bforest_core.proofs.table.Stored.{key_count, item_count}
-use Rattle.bforest_core.proofs.removal.Rebalancing.{Rekeys}
+use Rattle.bforest_core.proofs.removal.Asked.{NodeAt, KeyAt, Writes, TwoAbove, Rekeys}
 use Rattle.bforest_core.proofs.removal.RemoveMerged.{Across, across, across_cut, across_above}
 use Rattle.bforest_core.proofs.removal.Neighbours.{rekey_same, rekey_over}
 
 module _ {K V : Type 0} where
-  -- what writing a key asks
-  pub record SetAt (t : Table K V) (number index : ℕ) : Type 0 where
-    pub used : IsUsed t number
-    pub keys : List K
-    pub children : List ℕ
-    pub slot : slice_get t.nodes number ≡ Some (Inner keys children)
-    pub within : index < length keys
-
-  -- what it leaves
-  abbrev pub Sets : Table K V → Table K V → ℕ → ℕ → K → Type 0
-  Sets t u number index key = (keys : List K) (children : List ℕ) → slice_get t.nodes number ≡ Some (Inner keys children) → u ≡ with_node t number (with_key (Inner keys children) index key)
-
-  -- the rows above, for the call there
-  pub record RowsUp (t : Table K V) (path indices : List ℕ) (high size : ℕ) : Type 0 where
-    pub rows : List (List (LevelNode K ℕ))
-    pub before : List (K × ℕ)
-    pub x : K × ℕ
-    pub key : K
-    pub q : ℕ
-    pub after : List (K × ℕ)
-    pub above : Above t path indices high size rows (before ++ x ∷ (key, q) ∷ after) (length before)
-
   module _ (t : Table K V) (path indices : List ℕ) (up size : ℕ) (rows : List (List (LevelNode K ℕ))) (a : List (K × ℕ)) (x : K × ℕ) (k : K) (n : ℕ) (b : List (K × ℕ)) (p : Above t path indices up size rows (a ++ x ∷ (k, n) ∷ b) (length a)) where
-    pub low : up < size
+    low : up < size
     low = above_two t path indices up size rows a x (k, n) b (length a) p
 
     d : Spot t path indices up size rows a x ((k, n) ∷ b)
@@ -51,34 +29,28 @@ module _ {K V : Type 0} where
     pub above_fewer : (s : ℕ) → size - up ≡ s → size - (up + 1) < s
     above_fewer s bound = let l = low in omega arith
 
-    module _ (r : ℕ) (in_path : up < length path) where
+    module _ (r : ℕ) (wide : length path ≡ 17) (height : size ≤ 17) where
       num_is : get_or path up r ≡ get_or path up 0
-      num_is = get_or_default path up r 0 in_path
+      num_is = let l = low in get_or_default path up r 0 (omega (arith, l, wide, height))
 
       slot : slice_get t.nodes (get_or path up r) ≡ Some (inner_content (d.q.l ++ x ∷ d.q.r))
       slot = ap (λ z. slice_get t.nodes z) num_is ∙ d.f.slot_is
 
       -- what counting the children asks
-      pub counted_asks : (es : List (K × ℕ)) × (slice_get t.nodes (get_or path up r) ≡ Some (inner_content es))
-      counted_asks = (d.q.l ++ x ∷ d.q.r, slot)
+      pub counted_asks : NodeAt t (get_or path up r)
+      counted_asks = (inner_content (d.q.l ++ x ∷ d.q.r), slot, λ free. free)
 
       module _ (m : ℕ) (value : (content : Content K V) → slice_get t.nodes (get_or path up r) ≡ Some content → m ≡ entry_count content) where
         count_is : m ≡ length (d.q.l ++ x ∷ d.q.r)
         count_is = value (inner_content (d.q.l ++ x ∷ d.q.r)) slot ∙ item_count (d.q.l ++ x ∷ d.q.r)
 
         -- the neighbour has the same parent
-        pub set_asks : get_or indices up 0 + 1 < m → SetAt t (get_or path up r) (get_or indices up 0)
+        pub set_asks : get_or indices up 0 + 1 < m → IsUsed t (get_or path up r) × KeyAt t (get_or path up r) (get_or indices up 0)
         set_asks more =
             let es : List (K × ℕ) = d.q.l ++ x ∷ d.q.r in
-            record {
-              used = subst (λ (z : ℕ). IsUsed t z) (sym num_is) (is_used t (get_or path up 0) (inner_content es) d.f.slot_is d.f.none_chain);
-              keys = drop 1 (entry_keys es);
-              children = entry_items es;
-              slot = slot;
-              within = omega (arith, count_is, more, key_count es);
-            }
+            (subst (λ (z : ℕ). IsUsed t z) (sym num_is) (is_used t (get_or path up 0) (inner_content es) d.f.slot_is d.f.none_chain), (drop 1 (entry_keys es), entry_items es, slot, omega (arith, count_is, more, key_count es)))
 
-        pub same_parent : (u : Table K V) (key : K) → get_or indices up 0 + 1 < m → Sets t u (get_or path up r) (get_or indices up 0) key → Rebuilt t u path indices path indices up size rows (a ++ x ∷ (key, n) ∷ b) (length a) (map sizes rows) []
+        pub same_parent : (u : Table K V) (key : K) → get_or indices up 0 + 1 < m → Writes t u (get_or path up r) (get_or indices up 0) key → Rebuilt t u path indices path indices up size rows (a ++ x ∷ (key, n) ∷ b) (length a) (map sizes rows) []
         same_parent u key more sets =
             let es : List (K × ℕ) = d.q.l ++ x ∷ d.q.r in
             let written = subst (λ (z : ℕ). u ≡ with_node t z (with_key (inner_content es) (get_or indices up 0) key)) num_is (sets (drop 1 (entry_keys es)) (entry_items es) slot) in
@@ -92,8 +64,8 @@ module _ {K V : Type 0} where
           above_next = rw add-one (across_above t path indices up size d.q.before o.z o.zs x o.q (k, n) o.ys o.rest d.q.rest (across_cut t path indices up size rows a x (k, n) b d o) d.q.stands)
 
           -- it has another: what the call one level up asks
-          pub above_asks : RowsUp t path indices (up + 1) size
-          above_asks = record { rows = d.q.rest; before = heads d.q.before; x = (o.z.0, get_or path up 0); key = k; q = o.q; after = heads o.rest; above = above_next }
+          pub above_asks : TwoAbove t path indices (up + 1) size
+          above_asks = (d.q.rest, heads d.q.before, (o.z.0, get_or path up 0), k, o.q, heads o.rest, above_next)
 
           pub next_parent : (u : Table K V) (key : K) → Rekeys t u path indices (up + 1) size key → Rebuilt t u path indices path indices up size rows (a ++ x ∷ (key, n) ∷ b) (length a) (map sizes rows) []
           next_parent u key rekeys =

@@ -1,18 +1,18 @@
 -- The first key of a node renewed in the rows above its level.
-use Rattle.std.proofs.Common.{◌≡◌, ℕ, suc, ◌+◌, ◌-◌, ◌≤◌, ◌<◌, List, [], ◌∷◌, ◌++◌, map, length, drop, set, get_or, refl, sym, ap, ◌∙◌, subst, append_assoc, length-append, arith}
+use Rattle.std.proofs.Common.{◌≡◌, ℕ, suc, ◌-◌, ◌≤◌, ◌<◌, List, [], ◌∷◌, ◌++◌, map, length, drop, set, get_or, refl, sym, ap, ◌∙◌, subst, append_assoc, length-append, arith}
 use Rattle.std.specs.List.{flat_map}
 use Rattle.bforest_nodes.specs.Content.{Inner, with_key}
 use Rattle.bforest_core.specs.Table.{Table, with_node}
-use Rattle.bforest_core.specs.Levels.{LevelNode, node, flat, heads, sizes, numbers, Stacked}
-use Rattle.bforest_core.specs.Place.{RowIn, inner_content, count, StandsAbove, entry_keys, entry_items}
+use Rattle.bforest_core.specs.Levels.{LevelNode, node, flat, heads, sizes, numbers}
+use Rattle.bforest_core.specs.Place.{RowIn, inner_content, StandsAbove, entry_keys, entry_items}
 use Rattle.bforest_core.specs.Climb.{Above}
 use Rattle.bforest_core.specs.Removal.{Rebuilt}
-use Rattle.bforest_core.proofs.rows.LevelRows.{flat-append, heads-append, sizes-append, FitRow-join}
-use Rattle.bforest_core.proofs.table.Tables.{count-append, count-same, count-row, row-split, row-join, row-same, row-put, rows-same, ne_from_count, puts}
-use Rattle.bforest_core.proofs.removal.Frees.{frees-puts, frees-refl, frees-wider}
-use Rattle.bforest_core.proofs.rows.Zipper.{Cut_above, facts, stands_here}
+use Rattle.bforest_core.proofs.rows.LevelRows.{flat-append, heads-append}
+use Rattle.bforest_core.proofs.table.Tables.{count-row, counts, row-split, row-join, row-same, puts}
+use Rattle.bforest_core.proofs.removal.Frees.{frees-refl, frees-wider}
+use Rattle.bforest_core.proofs.rows.Zipper.{Cut_above, facts}
 use Rattle.bforest_core.proofs.rows.Zipper.{Spot}
-use Rattle.bforest_core.proofs.removal.Loosen.{heads-put}
+use Rattle.bforest_core.proofs.removal.Lifted.{lifted, renamed}
 
 set_here : {K : Type 0} (l : List (K × ℕ)) (x : K × ℕ) (r : List (K × ℕ)) (key : K) → set (entry_keys (l ++ x ∷ r)) (length l) key ≡ entry_keys (l ++ (key, x.1) ∷ r)
 set_here [] x r key = refl
@@ -53,33 +53,7 @@ module _ {K V : Type 0} where
       ap (λ i. Inner (set (entry_keys (l ++ x ∷ r)) i key) (entry_items old)) at ∙ ap (λ i. Inner i (entry_items old)) (set_here l x r key) ∙ ap (λ i. Inner (entry_keys (l ++ (key, x.1) ∷ r)) i) (items_here (z ∷ l) x r key) in
       let w = puts t u n (inner_content es) (inner_content old) f.slot_is (u_is ∙ ap (λ c. with_node t n c) content_is) in
       let len : length es ≡ length old = omega (arith, length-append l (x ∷ r), length-append l ((key, x.1) ∷ r)) in
-      let len2 : length es ≡ suc (length l) + suc (length r) = length-append (z ∷ l) ((key, x.1) ∷ r) in
-      let lo = f.fit.0 in
-      let hi = f.fit.1 in
-      let c = λ (m : ℕ). count-row m before n old after in
-      let c2 = λ (m : ℕ). count-row m before n es after in
-      let c3 = λ (m : ℕ). count-append m (numbers (before ++ node n old ∷ after) ++ flat_map numbers rest) t.chain in
-      let c4 = λ (m : ℕ). count-append m (numbers (before ++ node n old ∷ after)) (flat_map numbers rest) in
-      let c5 = λ (m : ℕ). count-append m (numbers (before ++ node n es ∷ after)) (flat_map numbers rest) in
-      let c6 = λ (m : ℕ). count-append m (numbers (before ++ node n es ∷ after) ++ flat_map numbers rest) u.chain in
-      let c8 = λ (m : ℕ). ap (λ z. count m z) w.chain_is in
-      let hs : heads (before ++ node n old ∷ after) ≡ heads (before ++ node n es ∷ after) = heads-put before n old es after refl in
-      record {
-        rows' = (before ++ node n es ∷ after) ∷ rest;
-        above = record {
-          stacked = (flat-append before (node n es ∷ after) ∙ simp append_assoc, FitRow-join 4 8 before (node n es) after f.solid (omega (arith, lo, len), omega (arith, hi, len), f.fit.2), subst (λ (z : List (K × ℕ)). Stacked z rest) hs p.stacked.2);
-          inside = (row-put inner_content t.nodes u.nodes before n old es after f.inside w.same w.here f.none, rows-same t.nodes u.nodes rest (λ m some. w.same m (ne_from_count m n (flat_map numbers rest) some f.none_rest)) p.inside.1);
-          stands = stands_here path indices up (before ++ node n es ∷ after) before n (get_or indices up 0) es after rest (length (flat before ++ (z ∷ l))) f.solid refl refl refl (omega (arith, len2, e_is)) (length-append (flat before) (z ∷ l) ∙ ap (λ z. length (flat before) + z) e_is) st;
-          height = p.height;
-          apart = λ m. omega (arith, p.apart m, c m, c2 m, c3 m, c4 m, c5 m, c6 m, c8 m);
-        };
-        sizes_are = ap (λ z. z ∷ map sizes rest) (sizes-append before (node n es ∷ after) ∙ ap (λ z. sizes before ++ z ∷ sizes after) len ∙ sym (sizes-append before (node n old ∷ after)));
-        numbers_are = λ m. omega (arith, c m, c2 m, c4 m, c5 m);
-        frees = frees-puts t u n (inner_content es) (numbers (before ++ node n old ∷ after) ++ flat_map numbers rest) (omega (arith, c4 n, c n, count-same n (numbers after))) w;
-        nodes_below = λ i low. refl;
-        entries_below = λ i low. refl;
-        same_top = refl;
-      }
+      renamed t u path indices up size before (z ∷ l) x r after rest es ((flat before ++ (z ∷ l)) ++ (key, x.1) ∷ (r ++ flat after)) p e_is st len refl (flat-append before (node n es ∷ after) ∙ simp append_assoc) w
 
   -- the first key of the parent: renewed above (u)
   rekey_up : (t u : Table K V) (path indices : List ℕ) (up size : ℕ) (before : List (LevelNode K ℕ)) (x : K × ℕ) (r : List (K × ℕ)) (after : List (LevelNode K ℕ)) (rest : List (List (LevelNode K ℕ))) (key : K) →
@@ -92,30 +66,13 @@ module _ {K V : Type 0} where
       let es : List (K × ℕ) = (key, x.1) ∷ r in
       let row2 : List (LevelNode K ℕ) = before ++ node n es ∷ after in
       let f = facts t path indices up size before n [] x r after rest p in
-      let c = λ (m : ℕ). count-row m before n old after in
+      let c = λ (m : ℕ). counts m before n old after rest t.chain in
       let c2 = λ (m : ℕ). count-row m before n es after in
-      let c3 = λ (m : ℕ). count-append m (numbers (before ++ node n old ∷ after) ++ flat_map numbers rest) t.chain in
-      let c4 = λ (m : ℕ). count-append m (numbers (before ++ node n old ∷ after)) (flat_map numbers rest) in
-      let c5 = λ (m : ℕ). count-append m (numbers row2) (flat_map numbers b.rows') in
-      let c6 = λ (m : ℕ). count-append m (numbers row2 ++ flat_map numbers b.rows') u.chain in
-      let c8 = λ (m : ℕ). ap (λ z. count m z) b.frees.chain_is in
       let in_t : RowIn inner_content t.nodes row2 = (let s = row-split inner_content t.nodes before (node n old ∷ after) f.inside in row-join inner_content t.nodes before (node n es ∷ after) s.0 (s.1.0, s.1.1)) in
-      record {
-        rows' = row2 ∷ b.rows';
-        above = record {
-          stacked = (flat-append before (node n es ∷ after) ∙ simp append_assoc, FitRow-join 4 8 before (node n es) after f.solid (f.fit.0, f.fit.1, f.fit.2), subst (λ (w : List (K × ℕ)). Stacked w b.rows') (sym (heads-append before (node n es ∷ after))) b.above.stacked);
-          inside = (row-same inner_content t.nodes u.nodes row2 (λ m some. b.frees.others m (omega (arith, some, p.apart m, c m, c2 m, c3 m, c4 m))) in_t, b.above.inside);
-          stands = stands_here path indices up row2 before n (get_or indices up 0) es after b.rows' (length (flat before ++ [])) f.solid refl refl refl (omega (arith, e_is)) (length-append (flat before) [] ∙ ap (λ w. length (flat before) + w) e_is) b.above.stands;
-          height = omega (arith, b.above.height);
-          apart = λ m. omega (arith, p.apart m, b.numbers_are m, c m, c2 m, c3 m, c4 m, c5 m, c6 m, c8 m);
-        };
-        sizes_are = ap (λ w. w ∷ map sizes b.rows') (sizes-append before (node n es ∷ after) ∙ sym (sizes-append before (node n old ∷ after))) ∙ ap (λ w. sizes (before ++ node n old ∷ after) ∷ w) b.sizes_are;
-        numbers_are = λ m. omega (arith, c m, c2 m, c4 m, c5 m, b.numbers_are m);
-        frees = frees-wider t u (flat_map numbers rest) (numbers (before ++ node n old ∷ after) ++ flat_map numbers rest) [] (λ m none. omega (arith, none, c4 m)) b.frees;
-        nodes_below = λ i low. refl;
-        entries_below = λ i low. refl;
-        same_top = refl;
-      }
+      lifted t t u path indices up size before [] x r after rest es after ((flat before ++ []) ++ (key, x.1) ∷ (r ++ flat after)) (heads before ++ (key, n) ∷ heads after) p e_is refl refl refl
+      (flat-append before (node n es ∷ after) ∙ simp append_assoc) (sym (heads-append before (node n es ∷ after))) f.fit
+      (row-same inner_content t.nodes u.nodes row2 (λ m some. b.frees.others m (omega (arith, some, p.apart m, c m, c2 m))) in_t)
+      (frees-wider t u (flat_map numbers rest) (numbers (before ++ node n old ∷ after) ++ flat_map numbers rest) [] (λ m none. omega (arith, none, c m)) b.frees) b
 
   -- the separator in the parent of the path
   pub rekey_parent : (t u : Table K V) (path indices : List ℕ) (up size : ℕ) (rows : List (List (LevelNode K ℕ))) (a : List (K × ℕ)) (k : K) (n : ℕ) (b : List (K × ℕ)) (key : K) (d : Spot t path indices up size rows a (k, n) b) → 0 < get_or indices up 0 →

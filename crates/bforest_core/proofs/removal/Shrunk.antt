@@ -1,5 +1,5 @@
 -- A tree after an entry went, before roots with a single child go, and after.
-use Rattle.std.proofs.Common.{◌≡◌, ℕ, zero, suc, ◌+◌, ◌≤◌, ◌<◌, Some, List, [], ◌∷◌, ◌++◌, ◌⊎◌, map, length, get_or, refl, sym, ap, ◌∙◌, subst, append_assoc, append-nil, length-append, arith}
+use Rattle.std.proofs.Common.{◌≡◌, ℕ, zero, suc, ◌+◌, ◌≤◌, ◌<◌, Some, List, [], ◌∷◌, ◌++◌, ◌⊎◌, map, length, get_or, refl, sym, ap, ◌∙◌, subst, append_assoc, length-append, arith}
 use Rattle.std.specs.List.{flat_map, remove}
 use Rattle.std.proofs.lemmas.List.Concat.{flat_map-append}
 use Rattle.bforest_core.specs.Table.{Table}
@@ -10,11 +10,12 @@ use Rattle.bforest_core.specs.Climb.{nodes_up}
 use Rattle.bforest_core.specs.Removal.{Frees, Rebuilt, Healed, Joined, UpTo, Trimmed, StandsIn, LeafLoss, Removed}
 use Rattle.bforest_core.proofs.rows.LevelRows.{flat-append, heads-append, sizes-append, FitRow-split, FitRow-join, Solid-full, least-pos}
 use Rattle.bforest_core.proofs.rows.Bounds.{FitRow-full}
-use Rattle.bforest_core.proofs.table.Tables.{count-append, count-row, row-same, rows-same}
+use Rattle.bforest_core.proofs.table.Tables.{count-append, count-same, counts, row-same, rows-same}
 use Rattle.bforest_core.proofs.rows.Tops.{root-stands, top_tree}
 use Rattle.bforest_core.proofs.removal.Losses.{loss_at, placed}
-use Rattle.bforest_core.proofs.removal.Frees.{frees-then, freed-then}
+use Rattle.bforest_core.proofs.removal.Frees.{frees-then, frees-joined}
 use Rattle.bforest_core.proofs.removal.Rebalance.{enough, judged}
+use Rattle.bforest_core.proofs.removal.PastEnd.{loss_half}
 use Rattle.bforest_core.proofs.removal.Collapse.{length-sizes, trimmed-is, topped-sizes, stands-below, rows-parts, trim_none}
 
 module _ {K V : Type 0} where
@@ -94,16 +95,21 @@ module _ {K V : Type 0} where
       let none = trim_none new size rows (heads leaves) root (up_to most old new path indices size size tree place root leaves rows [] s u refl root_is) topped in
       trimmed_removed most old new new path indices size tree place root leaves rows 0 size size root [] Now s u root_is none refl at
 
+  -- the sizes of the leaves after the loss, as their balance is
+  lost : (most : ℕ) (old mid : Table K V) (path indices : List ℕ) (size : ℕ) (tree : Tree K V) (place : ℕ) → (l : LeafLoss most old mid path indices size tree place) →
+      loss most place (sizes tree.leaves) ≡ (placed (length l.before) (rebalanced most (length l.entries) (sizes l.after)).0, sizes l.before ++ (rebalanced most (length l.entries) (sizes l.after)).1)
+  lost most old mid path indices size tree place l =
+      ap (λ z. loss most place z) l.sizes_were ∙ ap (λ z. loss most z (sizes l.before ++ suc (length l.entries) ∷ sizes l.after)) l.place_is
+      ∙ loss_at most l.before (length l.entries) (get_or indices 0 0) (sizes l.after) (omega (arith, l.entry_was))
+
   -- the leaf is half full yet or the last, and stays as it is
   pub kept_untrimmed : (most : ℕ) (old new : Table K V) (path indices : List ℕ) (size : ℕ) (tree : Tree K V) (place : ℕ) → StandsIn most old path indices size tree place → (l : LeafLoss most old new path indices size tree place) → (half_of most ≤ length l.entries) ⊎ (l.after ≡ []) →
       Untrimmed most old new tree place (l.before ++ node (get_or path 0 0) l.entries ∷ l.after) l.rest []
   kept_untrimmed most old new path indices size tree place s l why =
       let n = get_or path 0 0 in
       let row : List (LevelNode K V) = l.before ++ node n l.entries ∷ l.after in
-      let least_one : 1 ≤ most = omega (arith, l.some, l.most_is) in
-      let half : 1 ≤ half_of most = omega (arith, least_one) in
-      let l1 = ap (λ z. loss most place z) l.sizes_were ∙ ap (λ z. loss most z (sizes l.before ++ suc (length l.entries) ∷ sizes l.after)) l.place_is ∙ loss_at most l.before (length l.entries) (get_or indices 0 0) (sizes l.after) (omega (arith, l.entry_was)) in
-      let l2 = l1 ∙ ap (λ z. (placed (length l.before) z.0, sizes l.before ++ z.1)) (judged (half_of most) most l.entries l.after (omega arith) l.some why) in
+      let half = loss_half most old new path indices size tree place l in
+      let l2 = lost most old new path indices size tree place l ∙ ap (λ z. (placed (length l.before) z.0, sizes l.before ++ z.1)) (judged (half_of most) most l.entries l.after (omega arith) l.some why) in
       let full = Solid-full (half_of most) most half l.before l.solid in
       let st = l.above.stands in
       record {
@@ -129,10 +135,8 @@ module _ {K V : Type 0} where
       let n = get_or path 0 0 in
       let row : List (LevelNode K V) = l.before ++ node n l.entries ∷ l.after in
       let row2 : List (LevelNode K V) = h.before' ++ node h.number' h.entries' ∷ h.after' in
-      let least_one : 1 ≤ most = omega (arith, l.some, l.most_is) in
-      let half : 1 ≤ half_of most = omega (arith, least_one) in
-      let l1 = ap (λ z. loss most place z) l.sizes_were ∙ ap (λ z. loss most z (sizes l.before ++ suc (length l.entries) ∷ sizes l.after)) l.place_is ∙ loss_at most l.before (length l.entries) (get_or indices 0 0) (sizes l.after) (omega (arith, l.entry_was)) in
-      let l2 = l1 ∙ ap (λ z. (placed (length l.before) z, sizes l.before ++ (rebalanced most (length l.entries) (sizes l.after)).1)) h.stays in
+      let half = loss_half most old mid path indices size tree place l in
+      let l2 = lost most old mid path indices size tree place l ∙ ap (λ z. (placed (length l.before) z, sizes l.before ++ (rebalanced most (length l.entries) (sizes l.after)).1)) h.stays in
       let f = FitRow-split (half_of most) most h.before' (node h.number' h.entries') h.after' h.fit in
       let full = Solid-full (half_of most) most half h.before' f.0 in
       let some : 1 ≤ length h.entries' = omega (arith, h.within) in
@@ -152,13 +156,7 @@ module _ {K V : Type 0} where
         height = omega (arith, h.above.height, s.stands.size_is);
         numbers_are = λ m. omega (arith, l.numbers_are m, c4 m, c5 m, c9 m, h.rest_numbers m);
         root_is = top_tree row2 h.rest' path' indices' size (length h.before') h.before' h.entries' h.after' (ap (λ z. h.before' ++ node z h.entries' ∷ h.after') (sym h.number_is)) some h.above.stacked (rw full at st) (omega (arith, h.above.height)) ∙ h.same_top ∙ sym (root-stands most tree path indices size place s.fit s.stands);
-        frees = record {
-          others = λ m none. h.frees.others m (omega (arith, none, l.numbers_are m)) ∙ l.frees.others m none;
-          freed_are = tt;
-          chain_is = h.frees.chain_is ∙ l.frees.chain_is;
-          slots_are = h.frees.slots_are ∙ l.frees.slots_are;
-          limit_is = h.frees.limit_is ∙ l.frees.limit_is;
-        };
+        frees = frees-then old mid new (numbers_of tree) (numbers row ++ flat_map numbers l.rest) [] [] (λ m none. omega (arith, none, l.numbers_are m)) (λ m some. omega (arith, some)) l.frees h.frees;
       }
 
   -- and the path stands at the place
@@ -166,8 +164,7 @@ module _ {K V : Type 0} where
       (h : Healed leaf_content (half_of most) most mid new path indices path' indices' 0 size l.before (get_or path 0 0) l.entries l.after l.rest) → size1 ≡ size →
       Stands path' indices' size1 (record { leaves = h.before' ++ node h.number' h.entries' ∷ h.after'; above = h.rest' }) place
   healed_stands most old mid new path indices path' indices' size size1 tree place s l h size_is =
-      let least_one : 1 ≤ most = omega (arith, l.some, l.most_is) in
-      let half : 1 ≤ half_of most = omega (arith, least_one) in
+      let half = loss_half most old mid path indices size tree place l in
       let f = FitRow-split (half_of most) most h.before' (node h.number' h.entries') h.after' h.fit in
       let full = Solid-full (half_of most) most half h.before' f.0 in
       let st = h.above.stands in
@@ -187,20 +184,15 @@ module _ {K V : Type 0} where
       let row : List (LevelNode K V) = l.before ++ node n l.entries ∷ l.after in
       let both : List (K × V) = l.entries ++ j.right_entries in
       let row2 : List (LevelNode K V) = l.before ++ node j.right both ∷ j.after' in
-      let least_one : 1 ≤ most = omega (arith, l.some, l.most_is) in
-      let half : 1 ≤ half_of most = omega (arith, least_one) in
+      let half = loss_half most old mid path indices size tree place l in
       let full = Solid-full (half_of most) most half l.before l.solid in
       let some : 1 ≤ length both = omega (arith, l.some, length-append l.entries j.right_entries) in
       let flats : flat row2 ≡ flat row = flat-append l.before (node j.right both ∷ j.after') ∙ ap (λ z. flat l.before ++ z) (append_assoc l.entries j.right_entries (flat j.after')) ∙ sym (flat-append l.before (node n l.entries ∷ node j.right j.right_entries ∷ j.after')) ∙ ap (λ z. flat (l.before ++ node n l.entries ∷ z)) (sym j.after_is) in
       let hs2 : heads l.before ++ (j.first.0, j.right) ∷ heads j.after' ≡ heads row2 = sym (heads-append l.before (node j.right both ∷ j.after') ∙ ap (λ z. heads l.before ++ (head_of j.right (z ++ j.right_entries) ++ heads j.after')) j.entries_are) in
-      let l1 = ap (λ z. loss most place z) l.sizes_were ∙ ap (λ z. loss most z (sizes l.before ++ suc (length l.entries) ∷ sizes l.after)) l.place_is ∙ loss_at most l.before (length l.entries) (get_or indices 0 0) (sizes l.after) (omega (arith, l.entry_was)) in
-      let l2 = l1 ∙ ap (λ z. (placed (length l.before) z.0, sizes l.before ++ z.1)) j.outcome in
-      let c0 = λ (m : ℕ). ap (λ z. count m (numbers (l.before ++ node n l.entries ∷ z))) j.after_is in
-      let c1 = λ (m : ℕ). count-row m l.before n l.entries (node j.right j.right_entries ∷ j.after') in
-      let c2 = λ (m : ℕ). count-row m l.before j.right both j.after' in
-      let c4 = λ (m : ℕ). count-append m (numbers row) (flat_map numbers l.rest) in
-      let c5 = λ (m : ℕ). count-append m (numbers row2) (flat_map numbers r.rows') in
-      let c6 = λ (m : ℕ). count-append m (numbers row ++ flat_map numbers l.rest) mid.chain in
+      let l2 = lost most old mid path indices size tree place l ∙ ap (λ z. (placed (length l.before) z.0, sizes l.before ++ z.1)) j.outcome in
+      let c0 = λ (m : ℕ). ap (λ z. count m (n ∷ numbers z)) j.after_is in
+      let c1 = λ (m : ℕ). counts m l.before n l.entries l.after l.rest mid.chain in
+      let c2 = λ (m : ℕ). counts m l.before j.right both j.after' r.rows' new.chain in
       let c10 = λ (m : ℕ). count-append m freed (n ∷ []) in
       let stacked : Stacked (heads row2) r.rows' = subst (λ (z : List (K × ℕ)). Stacked z r.rows') hs2 r.above.stacked in
       let number_is : get_or path' 0 0 ≡ j.right = r.nodes_below 0 (omega arith) ∙ j.number_is in
@@ -211,20 +203,15 @@ module _ {K V : Type 0} where
             ∙ sym (ap (λ z. z.1 ∷ loss_above z.0 (map sizes tree.above)) l2);
         half = half;
         leaves_fit = j.fit;
-        leaves_in = row-same leaf_content mid2.nodes new.nodes row2 (λ m more. r.frees.others m (omega (arith, more, l.apart m, c0 m, c1 m, c2 m, c4 m, c6 m))) j.inside;
+        leaves_in = row-same leaf_content mid2.nodes new.nodes row2 (λ m more. r.frees.others m (omega (arith, more, l.apart m, c0 m, c1 m, c2 m))) j.inside;
         some = omega (arith, ap length (flat-append l.before (node j.right both ∷ j.after')), length-append (flat l.before) (both ++ flat j.after'), length-append both (flat j.after'), some);
         stacked = stacked;
         rows_in = r.above.inside;
         height = omega (arith, r.above.height, s.stands.size_is);
-        numbers_are = λ m. omega (arith, l.numbers_are m, r.numbers_are m, c0 m, c1 m, c2 m, c4 m, c5 m, c10 m);
+        numbers_are = λ m. omega (arith, l.numbers_are m, r.numbers_are m, c0 m, c1 m, c2 m, c10 m);
         root_is = top_tree row2 r.rows' path' indices' size (length l.before) l.before both j.after' (ap (λ z. l.before ++ node z both ∷ j.after') (sym number_is)) some stacked (rw full at st) (omega (arith, r.above.height)) ∙ r.same_top ∙ j.same_top ∙ sym (root-stands most tree path indices size place s.fit s.stands);
-        frees = record {
-          others = λ m none. r.frees.others m (omega (arith, none, l.numbers_are m, c4 m)) ∙ j.frees.others m (omega (arith, none, l.numbers_are m, c4 m)) ∙ l.frees.others m none;
-          freed_are = freed-then mid2 new (flat_map numbers l.rest) (n ∷ []) freed r.frees (λ m more. omega (arith, more, l.apart m, c0 m, c1 m, c4 m, c6 m)) j.frees.freed_are;
-          chain_is = r.frees.chain_is ∙ ap (λ z. freed ++ z) (j.frees.chain_is ∙ ap (λ z. n ∷ z) l.frees.chain_is) ∙ sym (append_assoc freed (n ∷ []) old.chain);
-          slots_are = r.frees.slots_are ∙ j.frees.slots_are ∙ l.frees.slots_are;
-          limit_is = r.frees.limit_is ∙ j.frees.limit_is ∙ l.frees.limit_is;
-        };
+        frees = frees-joined old mid mid2 new (numbers_of tree) (numbers row) (flat_map numbers l.rest) n freed (λ m none. (omega (arith, none, l.numbers_are m, c1 m), omega (arith, none, l.numbers_are m, c1 m)))
+            (omega (arith, l.apart n, c1 n, count-same n (numbers l.after))) l.frees j.frees r.frees;
       }
 
   -- and the path stands at the place, in what is left of the rows
@@ -236,8 +223,7 @@ module _ {K V : Type 0} where
   joined_stands most old mid mid2 new new2 path indices path1 indices1 path' indices' path2 indices2 size tree place freed s l j r size1 size2 root root' gone t path_is indices_is more =
       let both : List (K × V) = l.entries ++ j.right_entries in
       let row2 : List (LevelNode K V) = l.before ++ node j.right both ∷ j.after' in
-      let least_one : 1 ≤ most = omega (arith, l.some, l.most_is) in
-      let half : 1 ≤ half_of most = omega (arith, least_one) in
+      let half = loss_half most old mid path indices size tree place l in
       let full = Solid-full (half_of most) most half l.before l.solid in
       let number_is : get_or path2 0 0 ≡ j.right = ap (λ z. get_or z 0 0) path_is ∙ r.nodes_below 0 (omega arith) ∙ j.number_is in
       let entry_is : get_or indices2 0 0 ≡ get_or indices 0 0 = ap (λ z. get_or z 0 0) indices_is ∙ r.entries_below 0 (omega arith) ∙ j.entry_is in
@@ -255,7 +241,6 @@ module _ {K V : Type 0} where
   pub joined_more : (most : ℕ) (old mid mid2 : Table K V) (path indices path1 indices1 : List ℕ) (size : ℕ) (tree : Tree K V) (place : ℕ) → (l : LeafLoss most old mid path indices size tree place) →
       (j : Joined leaf_content (half_of most) most mid mid2 path indices path1 indices1 0 size l.before (get_or path 0 0) l.entries l.after l.rest) → 0 < length j.right_entries
   joined_more most old mid mid2 path indices path1 indices1 size tree place l j =
-      let least_one : 1 ≤ most = omega (arith, l.some, l.most_is) in
-      let half : 1 ≤ half_of most = omega (arith, least_one) in
+      let half = loss_half most old mid path indices size tree place l in
       let fits : FitRow (half_of most) most (node j.right j.right_entries ∷ j.after') = subst (λ (z : List (LevelNode K V)). FitRow (half_of most) most z) j.after_is l.fits in
       omega (arith, fits.0, least-pos (half_of most) half j.after')

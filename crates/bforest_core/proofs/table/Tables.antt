@@ -29,6 +29,15 @@ absent_ne m x ms z = λ (e : m ≡ x). let c = count-same x ms in let f = ap (λ
 pub count-row : {K X : Type 0} (k : ℕ) (before : List (LevelNode K X)) (n : ℕ) (es : List (K × X)) (after : List (LevelNode K X)) → count k (numbers (before ++ node n es ∷ after)) ≡ count k (numbers before) + count k (n ∷ numbers after)
 count-row k before n es after = ap (λ z. count k z) (numbers-append before (node n es ∷ after)) ∙ count-append k (numbers before) _
 
+-- how often a number stands in a level, in all rows from it on, and with the chain
+pub counts : {K X : Type 0} (m : ℕ) (before : List (LevelNode K X)) (n : ℕ) (es : List (K × X)) (after : List (LevelNode K X)) (rest : List (List (LevelNode K ℕ))) (chain : List ℕ) →
+    (count m (numbers (before ++ node n es ∷ after)) ≡ count m (numbers before) + count m (n ∷ numbers after))
+    × (count m (numbers (before ++ node n es ∷ after) ++ flat_map numbers rest) ≡ count m (numbers (before ++ node n es ∷ after)) + count m (flat_map numbers rest))
+    × (count m ((numbers (before ++ node n es ∷ after) ++ flat_map numbers rest) ++ chain) ≡ count m (numbers (before ++ node n es ∷ after) ++ flat_map numbers rest) + count m chain)
+counts m before n es after rest chain =
+    let row = numbers (before ++ node n es ∷ after) in
+    (count-row m before n es after, count-append m row (flat_map numbers rest), count-append m (row ++ flat_map numbers rest) chain)
+
 -- a number that does not stand on the chain
 pub off_chain : (n : ℕ) (ms : List ℕ) → count n ms ≡ 0 → list_any (nat_eq n) ms ≡ false
 off_chain n [] none = refl

@@ -1,16 +1,15 @@
 use Rattle.std.proofs.Common.{rules, ◌+◌, ◌-◌, ◌<◌, suc, ◌∷◌, ◌++◌, length, get_or, arith, add-one, ◌∙◌}
 use Rattle.bforest_core.specs.Levels.{heads}
-use Rattle.bforest_core.proofs.rows.Zipper.{above_two}
+use Rattle.bforest_core.proofs.removal.Asked.{merge_low}
 use Rattle.bforest_core.proofs.removal.Merge.{merge_healed, merge_again}
 use Rattle.bforest_core.proofs.path.Path.+merge_above.Goals as goal
 
 pub merge_above-requires : goal.merge_above-requires
 merge_above-requires g t c κs within =
     let w = c.requires.pending in
-    let low = above_two _ _ _ _ _ w.0 w.1 (w.2, w.3) (w.4, w.5) w.6 _ w.7 in
     let l = c.remove_merged.ensures w.0 w.1 w.2 w.3 w.4 w.5 w.6 w.7 in
     let j = c.rebalance_inner.ensures.joined c.if-rebalance_inner.true l.before _ l.entries l.after l.rest l.on_level in
-    let less : c.rebalance_inner.new.self.size - (c.args.up + 1) < t = omega (arith, c.decreases, low, c.rebalance_inner.ensures.size) in
+    let less : c.rebalance_inner.new.self.size - (c.args.up + 1) < t = omega (arith, c.decreases, merge_low _ _ _ _ _ w, c.rebalance_inner.ensures.size) in
     let size = c.rebalance_inner.ensures.size in (
       less,
       (
@@ -64,7 +63,4 @@ pub returns-else-rebalance_inner-clause-size : goal.returns-else-rebalance_inner
 returns-else-rebalance_inner-clause-size g t c = c.rebalance_inner.ensures.size
 
 pub overflow_add-up : goal.overflow_add-up
-overflow_add-up g t c =
-    let w = c.requires.pending in
-    let low = above_two _ _ _ _ _ w.0 w.1 (w.2, w.3) (w.4, w.5) w.6 _ w.7 in
-    omega (arith, low)
+overflow_add-up g t c = omega (arith, merge_low _ _ _ _ _ c.requires.pending)

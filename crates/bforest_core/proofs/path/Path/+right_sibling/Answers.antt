@@ -1,69 +1,55 @@
-use Rattle.std.proofs.Common.{rules, ◌+◌, ◌<◌, length, arith, subst}
-use Rattle.bforest_core.specs.Place.{inner_content}
-use Rattle.bforest_core.proofs.removal.Rebalancing.{Beside}
+use Rattle.std.proofs.Common.{rules, ◌+◌, arith, subst}
+use Rattle.bforest_core.proofs.removal.Asked.{Beside}
 use Rattle.bforest_core.proofs.removal.Neighbour.{index_low, above_asks, above_fewer, first_asks, counted_asks, key_asks, item_asks, same_parent, none_right, next_parent}
 use Rattle.bforest_core.proofs.path.Path.+right_sibling.Goals as goal
 
 pub overflow_add-index : goal.overflow_add-index
 overflow_add-index g t c =
     let w = c.requires.pending in
-    let low = index_low c.args.pool.now c.args.self.now.node c.args.self.now.entry c.args.up c.args.self.now.size w.0 w.1 w.2 w.3 w.4 c.if-up-self.false in
+    let low = index_low _ _ _ _ _ w.0 w.1 w.2 w.3 w.4 c.if-up-self.false in
     omega (arith, low)
 
 pub entries-requires : goal.entries-requires
 entries-requires g t c =
     let w = c.requires.pending in
-    let low : c.args.up < length c.args.self.now.node = omega (arith, c.requires.height, w.4.height, c.if-up-self.false) in
-    let d = counted_asks c.args.pool.now c.args.self.now.node c.args.self.now.entry c.args.up c.args.self.now.size w.0 w.1 w.2 w.3 w.4 c.if-up-self.false c.index-self-up.result low in
-    (search rules, (inner_content d.0, d.1, λ free. free))
+    (search rules, counted_asks _ _ _ _ _ w.0 w.1 w.2 w.3 w.4 c.if-up-self.false c.index-self-up.result (omega arith) c.requires.height)
 
 pub separator-requires : goal.separator-requires
 separator-requires g t c =
     let w = c.requires.pending in
-    let low : c.args.up < length c.args.self.now.node = omega (arith, c.requires.height, w.4.height, c.if-up-self.false) in
-    let d = key_asks c.args.pool.now c.args.self.now.node c.args.self.now.entry c.args.up c.args.self.now.size w.0 w.1 w.2 w.3 w.4 c.if-up-self.false c.index-self-up.result low c.entries.result c.entries.ensures.value c.if-index-entries.true in
-    (search rules, (d.keys, d.children, d.slot, d.within))
+    (search rules, key_asks _ _ _ _ _ w.0 w.1 w.2 w.3 w.4 c.if-up-self.false c.index-self-up.result (omega arith) c.requires.height c.entries.result c.entries.ensures.value c.if-index-entries.true)
 
 pub child-requires : goal.child-requires
 child-requires g t c =
     let w = c.requires.pending in
-    let low : c.args.up < length c.args.self.now.node = omega (arith, c.requires.height, w.4.height, c.if-up-self.false) in
-    let d = item_asks c.args.pool.now c.args.self.now.node c.args.self.now.entry c.args.up c.args.self.now.size w.0 w.1 w.2 w.3 w.4 c.if-up-self.false c.index-self-up.result low c.entries.result c.entries.ensures.value c.if-index-entries.true in
-    (search rules, (d.keys, d.children, d.slot, d.within))
+    (search rules, item_asks _ _ _ _ _ w.0 w.1 w.2 w.3 w.4 c.if-up-self.false c.index-self-up.result (omega arith) c.requires.height c.entries.result c.entries.ensures.value c.if-index-entries.true)
 
 pub right_sibling-requires : goal.right_sibling-requires
 right_sibling-requires g t c κs within =
     let w = c.requires.pending in
-    let d = above_asks c.args.pool.now c.args.self.now.node c.args.self.now.entry c.args.up c.args.self.now.size w.0 w.1 w.2 w.3 w.4 c.if-up-self.false in
-    let falls = above_fewer c.args.pool.now c.args.self.now.node c.args.self.now.entry c.args.up c.args.self.now.size w.0 w.1 w.2 w.3 w.4 c.if-up-self.false t c.decreases in
-    (falls, (within.0, (within.1, ((λ a' m'. search rules), (search rules, (search rules, (c.requires.height, (d.rows, d.before, d.x, d.after, d.above))))))))
+    let d = above_asks _ _ _ _ _ w.0 w.1 w.2 w.3 w.4 c.if-up-self.false in
+    let falls = above_fewer _ _ _ _ _ w.0 w.1 w.2 w.3 w.4 c.if-up-self.false t c.decreases in
+    (falls, (within.0, (within.1, ((λ a' m'. search rules), (search rules, (search rules, (c.requires.height, d)))))))
 
 pub child-requires-in-Some : goal.child-requires-in-Some
 child-requires-in-Some g t c =
     let w = c.requires.pending in
-    let t0 = c.args.pool.now in
-    let path = c.args.self.now.node in
-    let indices = c.args.self.now.entry in
-    let beside = subst (Beside t0 path indices (c.args.up + 1) c.args.self.now.size) c.in-Some.is c.right_sibling.ensures in
-    let d = first_asks t0 path indices c.args.up c.args.self.now.size w.0 w.1 w.2 w.3 w.4 c.if-up-self.false c.in-Some.next beside in
-    (search rules, (d.keys, d.children, d.slot, d.within))
+    let beside = subst (Beside c.args.pool.now c.args.self.now.node c.args.self.now.entry (c.args.up + 1) c.args.self.now.size) c.in-Some.is c.right_sibling.ensures in
+    (search rules, first_asks _ _ _ _ _ w.0 w.1 w.2 w.3 w.4 c.if-up-self.false c.in-Some.next beside)
 
 pub returns-then-index-entries : goal.returns-then-index-entries
 returns-then-index-entries g t c = λ rows a x b p.
-    let low : c.args.up < length c.args.self.now.node = omega (arith, c.requires.height, p.height, c.if-up-self.false) in
-    same_parent c.args.pool.now c.args.self.now.node c.args.self.now.entry c.args.up c.args.self.now.size rows a x b p c.if-up-self.false c.index-self-up.result low c.entries.result c.entries.ensures.value c.separator.result c.child.result c.if-index-entries.true c.separator.ensures c.child.ensures
+    same_parent _ _ _ _ _ rows a x b p c.if-up-self.false c.index-self-up.result (omega arith) c.requires.height c.entries.result c.entries.ensures.value c.separator.result c.child.result c.if-index-entries.true c.separator.ensures c.child.ensures
 
 pub returns-in-None : goal.returns-in-None
 returns-in-None g t c = λ rows a x b p.
-    let low : c.args.up < length c.args.self.now.node = omega (arith, c.requires.height, p.height, c.if-up-self.false) in
     let beside = subst (Beside c.args.pool.now c.args.self.now.node c.args.self.now.entry (c.args.up + 1) c.args.self.now.size) c.in-None.is c.right_sibling.ensures in
-    none_right c.args.pool.now c.args.self.now.node c.args.self.now.entry c.args.up c.args.self.now.size rows a x b p c.if-up-self.false c.index-self-up.result low c.entries.result c.entries.ensures.value c.if-index-entries.false beside
+    none_right _ _ _ _ _ rows a x b p c.if-up-self.false c.index-self-up.result (omega arith) c.requires.height c.entries.result c.entries.ensures.value c.if-index-entries.false beside
 
 pub returns-in-Some : goal.returns-in-Some
 returns-in-Some g t c = λ rows a x b p.
-    let low : c.args.up < length c.args.self.now.node = omega (arith, c.requires.height, p.height, c.if-up-self.false) in
     let beside = subst (Beside c.args.pool.now c.args.self.now.node c.args.self.now.entry (c.args.up + 1) c.args.self.now.size) c.in-Some.is c.right_sibling.ensures in
-    next_parent c.args.pool.now c.args.self.now.node c.args.self.now.entry c.args.up c.args.self.now.size rows a x b p c.if-up-self.false c.index-self-up.result low c.entries.result c.entries.ensures.value c.in-Some.next beside c.child-in-Some.result c.if-index-entries.false c.child-in-Some.ensures
+    next_parent _ _ _ _ _ rows a x b p c.if-up-self.false c.index-self-up.result (omega arith) c.requires.height c.entries.result c.entries.ensures.value c.in-Some.next beside c.child-in-Some.result c.if-index-entries.false c.child-in-Some.ensures
 
 pub bounds-self-up : goal.bounds-self-up
 bounds-self-up g t c = omega (arith, c.requires.pending.4.height, c.requires.height, c.if-up-self.false)

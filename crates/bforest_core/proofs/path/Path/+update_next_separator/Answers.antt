@@ -1,77 +1,50 @@
-use Rattle.std.proofs.Common.{rules, ◌<◌, length, arith}
-use Rattle.bforest_core.specs.Place.{inner_content}
-use Rattle.bforest_core.proofs.removal.Separating.{low, index_low, above_fewer, counted_asks, set_asks, same_parent, above_asks, next_parent}
+use Rattle.std.proofs.Common.{rules, arith}
+use Rattle.bforest_core.proofs.removal.Asked.{two_low}
+use Rattle.bforest_core.proofs.removal.Separating.{index_low, above_fewer, counted_asks, set_asks, same_parent, above_asks, next_parent}
 use Rattle.bforest_core.proofs.path.Path.+update_next_separator.Goals as goal
 
 pub overflow_add-index : goal.overflow_add-index
 overflow_add-index g t c =
     let w = c.requires.pending in
-    let small = index_low c.args.pool.now c.args.self.now.node c.args.self.now.entry c.args.up c.args.self.now.size w.0 w.1 w.2 w.3 w.4 w.5 w.6 in
+    let small = index_low _ _ _ _ _ w.0 w.1 w.2 w.3 w.4 w.5 w.6 in
     omega (arith, small)
 
 pub entries-requires : goal.entries-requires
 entries-requires g t c =
     let w = c.requires.pending in
-    let under = low c.args.pool.now c.args.self.now.node c.args.self.now.entry c.args.up c.args.self.now.size w.0 w.1 w.2 w.3 w.4 w.5 w.6 in
-    let in_path : c.args.up < length c.args.self.now.node = omega (arith, under, c.requires.height) in
-    let d = counted_asks c.args.pool.now c.args.self.now.node c.args.self.now.entry c.args.up c.args.self.now.size w.0 w.1 w.2 w.3 w.4 w.5 w.6 c.index-self-up.result in_path in
-    (search rules, (inner_content d.0, d.1, λ free. free))
+    (search rules, counted_asks _ _ _ _ _ w.0 w.1 w.2 w.3 w.4 w.5 w.6 c.index-self-up.result (omega arith) c.requires.height)
 
 pub set_separator-requires : goal.set_separator-requires
 set_separator-requires g t c =
     let w = c.requires.pending in
-    let under = low c.args.pool.now c.args.self.now.node c.args.self.now.entry c.args.up c.args.self.now.size w.0 w.1 w.2 w.3 w.4 w.5 w.6 in
-    let in_path : c.args.up < length c.args.self.now.node = omega (arith, under, c.requires.height) in
-    let d = set_asks c.args.pool.now c.args.self.now.node c.args.self.now.entry c.args.up c.args.self.now.size w.0 w.1 w.2 w.3 w.4 w.5 w.6 c.index-self-up.result in_path c.entries.result c.entries.ensures.value c.if-index-entries.true in
-    (search rules, (d.used, (d.keys, d.children, d.slot, d.within)))
+    (search rules, set_asks _ _ _ _ _ w.0 w.1 w.2 w.3 w.4 w.5 w.6 c.index-self-up.result (omega arith) c.requires.height c.entries.result c.entries.ensures.value c.if-index-entries.true)
 
 pub update_next_separator-requires : goal.update_next_separator-requires
 update_next_separator-requires g t c κs within =
     let w = c.requires.pending in
-    let under = low c.args.pool.now c.args.self.now.node c.args.self.now.entry c.args.up c.args.self.now.size w.0 w.1 w.2 w.3 w.4 w.5 w.6 in
-    let in_path : c.args.up < length c.args.self.now.node = omega (arith, under, c.requires.height) in
-    let d = above_asks c.args.pool.now c.args.self.now.node c.args.self.now.entry c.args.up c.args.self.now.size w.0 w.1 w.2 w.3 w.4 w.5 w.6 c.index-self-up.result in_path c.entries.result c.entries.ensures.value c.if-index-entries.false in
-    let falls = above_fewer c.args.pool.now c.args.self.now.node c.args.self.now.entry c.args.up c.args.self.now.size w.0 w.1 w.2 w.3 w.4 w.5 w.6 t c.decreases in
-    (falls, (within.0, (within.1, ((λ a' m'. search rules), (search rules, (search rules, (c.requires.height, (d.rows, d.before, d.x, d.key, d.q, d.after, d.above))))))))
+    let d = above_asks _ _ _ _ _ w.0 w.1 w.2 w.3 w.4 w.5 w.6 c.index-self-up.result (omega arith) c.requires.height c.entries.result c.entries.ensures.value c.if-index-entries.false in
+    let falls = above_fewer _ _ _ _ _ w.0 w.1 w.2 w.3 w.4 w.5 w.6 t c.decreases in
+    (falls, (within.0, (within.1, ((λ a' m'. search rules), (search rules, (search rules, (c.requires.height, d)))))))
 
 pub returns-then-index-entries : goal.returns-then-index-entries
 returns-then-index-entries g t c = λ rows a x k n b p.
-    let under = low c.args.pool.now c.args.self.now.node c.args.self.now.entry c.args.up c.args.self.now.size rows a x k n b p in
-    let in_path : c.args.up < length c.args.self.now.node = omega (arith, under, c.requires.height) in
-    same_parent c.args.pool.now c.args.self.now.node c.args.self.now.entry c.args.up c.args.self.now.size rows a x k n b p c.index-self-up.result in_path c.entries.result c.entries.ensures.value c.set_separator.new.pool c.args.key c.if-index-entries.true c.set_separator.ensures
+    same_parent _ _ _ _ _ rows a x k n b p c.index-self-up.result (omega arith) c.requires.height c.entries.result c.entries.ensures.value c.set_separator.new.pool c.args.key c.if-index-entries.true c.set_separator.ensures
 
 pub returns-else-index-entries : goal.returns-else-index-entries
 returns-else-index-entries g t c = λ rows a x k n b p.
-    let under = low c.args.pool.now c.args.self.now.node c.args.self.now.entry c.args.up c.args.self.now.size rows a x k n b p in
-    let in_path : c.args.up < length c.args.self.now.node = omega (arith, under, c.requires.height) in
-    next_parent c.args.pool.now c.args.self.now.node c.args.self.now.entry c.args.up c.args.self.now.size rows a x k n b p c.index-self-up.result in_path c.entries.result c.entries.ensures.value c.if-index-entries.false c.update_next_separator.new.pool c.args.key c.update_next_separator.ensures
+    next_parent _ _ _ _ _ rows a x k n b p c.index-self-up.result (omega arith) c.requires.height c.entries.result c.entries.ensures.value c.if-index-entries.false c.update_next_separator.new.pool c.args.key c.update_next_separator.ensures
 
 pub bounds-self-up : goal.bounds-self-up
-bounds-self-up g t c =
-    let w = c.requires.pending in
-    let under = low c.args.pool.now c.args.self.now.node c.args.self.now.entry c.args.up c.args.self.now.size w.0 w.1 w.2 w.3 w.4 w.5 w.6 in
-    omega (arith, under, c.requires.height)
+bounds-self-up g t c = omega (arith, two_low _ _ _ _ _ c.requires.pending, c.requires.height)
 
 pub bounds-self-up-2 : goal.bounds-self-up-2
-bounds-self-up-2 g t c =
-    let w = c.requires.pending in
-    let under = low c.args.pool.now c.args.self.now.node c.args.self.now.entry c.args.up c.args.self.now.size w.0 w.1 w.2 w.3 w.4 w.5 w.6 in
-    omega (arith, under, c.requires.height)
+bounds-self-up-2 g t c = omega (arith, two_low _ _ _ _ _ c.requires.pending, c.requires.height)
 
 pub listed : goal.listed
-listed g t c =
-    let w = c.requires.pending in
-    let under = low c.args.pool.now c.args.self.now.node c.args.self.now.entry c.args.up c.args.self.now.size w.0 w.1 w.2 w.3 w.4 w.5 w.6 in
-    omega (arith, under, c.requires.height)
+listed g t c = omega (arith, two_low _ _ _ _ _ c.requires.pending, c.requires.height)
 
 pub offset_bounds-self-up : goal.offset_bounds-self-up
-offset_bounds-self-up g t c =
-    let w = c.requires.pending in
-    let under = low c.args.pool.now c.args.self.now.node c.args.self.now.entry c.args.up c.args.self.now.size w.0 w.1 w.2 w.3 w.4 w.5 w.6 in
-    omega (arith, under, c.requires.height)
+offset_bounds-self-up g t c = omega (arith, two_low _ _ _ _ _ c.requires.pending, c.requires.height)
 
 pub overflow_add-up : goal.overflow_add-up
-overflow_add-up g t c =
-    let w = c.requires.pending in
-    let under = low c.args.pool.now c.args.self.now.node c.args.self.now.entry c.args.up c.args.self.now.size w.0 w.1 w.2 w.3 w.4 w.5 w.6 in
-    omega (arith, under, c.requires.height)
+overflow_add-up g t c = omega (arith, two_low _ _ _ _ _ c.requires.pending, c.requires.height)

@@ -1,7 +1,7 @@
-use Rattle.std.proofs.Common.{rules, ◌<◌, length, arith, add-one}
+use Rattle.std.proofs.Common.{rules, arith, add-one}
 use Rattle.bforest_core.specs.Place.{inner_content}
 use Rattle.bforest_core.proofs.removal.Balance.{IsHalf, inner_stored}
-use Rattle.bforest_core.proofs.removal.Rebalancing.{slot_read, past_asks, past_heals, stay_heals, beside_asks, last_heals, balance_asks, rekey_asks, rekey_heals, free_asks, free_joins}
+use Rattle.bforest_core.proofs.removal.Rebalancing.{counted_asks, past_asks, past_heals, stay_heals, beside_asks, last_heals, balance_asks, rekey_asks, rekey_heals, free_asks, free_joins}
 use Rattle.bforest_core.proofs.path.Path.rebalance_inner.Goals as goal
 
 half_inner : IsHalf 4 8
@@ -10,75 +10,67 @@ half_inner = record { two = omega arith; lo = omega arith; hi = omega arith }
 pub entries-left-requires : goal.entries-left-requires
 entries-left-requires g c =
     let w = c.requires.pending in
-    let low : c.args.level < length c.args.self.now.node = omega (arith, w.5.above.height) in
-    let slot = slot_read inner_content 4 8 _ half_inner (inner_stored g.row.N) _ _ _ _ _ _ c.index-self-level.result (add-one c.args.level) low w.0 w.1 w.2 w.3 w.4 w.5 in
-    (search rules, (inner_content w.2, slot, λ free. free))
+    (search rules, counted_asks inner_content 4 8 _ half_inner (inner_stored g.row.N) _ _ _ _ _ _ c.index-self-level.result (add-one c.args.level) (omega arith) c.requires.height w.0 w.1 w.2 w.3 w.4 w.5)
 
 pub enter_next-requires : goal.enter_next-requires
 enter_next-requires g c =
     let w = c.requires.pending in
-    let low : c.args.level < length c.args.self.now.node = omega (arith, w.5.above.height) in
-    let d = past_asks inner_content 4 8 _ half_inner (inner_stored g.row.N) _ _ _ _ _ _ c.index-self-level.result (add-one c.args.level) low w.0 w.1 w.2 w.3 w.4 w.5 c.entries-left.result c.entries-left.ensures.value c.if-self-level.true in
-    (search rules, (search rules, (c.requires.height, (w.4, d.before, d.x, (d.key, d.q), d.after, d.above))))
+    (search rules, (search rules, (c.requires.height, past_asks inner_content 4 8 _ half_inner (inner_stored g.row.N) _ _ _ _ _ _ c.index-self-level.result (add-one c.args.level) (omega arith) c.requires.height w.0 w.1 w.2 w.3 w.4 w.5 c.entries-left.result c.entries-left.ensures.value c.if-self-level.true)))
 
 pub returns-then-self-level-clause-healed : goal.returns-then-self-level-clause-healed
 returns-then-self-level-clause-healed g c = λ same before n es after rest p.
-    let low : c.args.level < length c.args.self.now.node = omega (arith, p.above.height) in
-    past_heals inner_content 4 8 _ half_inner (inner_stored g.row.N) _ _ _ _ _ _ c.index-self-level.result (add-one c.args.level) low before n es after rest p _ _ c.entries-left.result c.entries-left.ensures.value c.if-left-ge-MIN_CHILDREN.true c.if-self-level.true
+    past_heals inner_content 4 8 _ half_inner (inner_stored g.row.N) _ _ _ _ _ _ c.index-self-level.result (add-one c.args.level) (omega arith) c.requires.height before n es after rest p _ _ c.entries-left.result c.entries-left.ensures.value c.if-left-ge-MIN_CHILDREN.true c.if-self-level.true
     c.enter_next.ensures.moved c.enter_next.ensures.first c.enter_next.ensures.nodes_below c.enter_next.ensures.entries_below c.enter_next.ensures.same_top
 
 pub returns-else-self-level-clause-healed : goal.returns-else-self-level-clause-healed
 returns-else-self-level-clause-healed g c = λ same before n es after rest p.
-    let low : c.args.level < length c.args.self.now.node = omega (arith, p.above.height) in
-    stay_heals inner_content 4 8 _ half_inner (inner_stored g.row.N) _ _ _ _ _ _ c.index-self-level.result (add-one c.args.level) low before n es after rest p c.entries-left.result c.entries-left.ensures.value c.if-left-ge-MIN_CHILDREN.true c.if-self-level.false
+    stay_heals inner_content 4 8 _ half_inner (inner_stored g.row.N) _ _ _ _ _ _ c.index-self-level.result (add-one c.args.level) (omega arith) c.requires.height before n es after rest p c.entries-left.result c.entries-left.ensures.value c.if-left-ge-MIN_CHILDREN.true c.if-self-level.false
 
 pub right_sibling-requires : goal.right_sibling-requires
 right_sibling-requires g c =
     let w = c.requires.pending in
-    let low : c.args.level < length c.args.self.now.node = omega (arith, w.5.above.height) in
-    let h = beside_asks inner_content 4 8 _ half_inner (inner_stored g.row.N) _ _ _ _ _ _ c.index-self-level.result (add-one c.args.level) low w.0 w.1 w.2 w.3 w.4 w.5 in
-    (search rules, (search rules, (c.requires.height, (w.4, h.before, h.x, h.after, h.above))))
+    (search rules, (search rules, (c.requires.height, beside_asks inner_content 4 8 _ half_inner (inner_stored g.row.N) _ _ _ _ _ _ c.index-self-level.result (add-one c.args.level) (omega arith) c.requires.height w.0 w.1 w.2 w.3 w.4 w.5)))
 
 pub balance_nodes-requires : goal.balance_nodes-requires
 balance_nodes-requires g c =
     let w = c.requires.pending in
-    let low : c.args.level < length c.args.self.now.node = omega (arith, w.5.above.height) in
-    let r = balance_asks inner_content 4 8 _ half_inner (inner_stored g.row.N) _ _ _ _ _ _ c.index-self-level.result (add-one c.args.level) low w.0 w.1 w.2 w.3 w.4 w.5 c.entries-left.result c.entries-left.ensures.value c.if-left-ge-MIN_CHILDREN.false _ _ c.in-Some.is c.right_sibling.ensures in
-    (search rules, (r.0, (r.1, (r.2, r.3))))
+    (search rules, balance_asks inner_content 4 8 _ half_inner (inner_stored g.row.N) _ _ _ _ _ _ c.index-self-level.result (add-one c.args.level) (omega arith) c.requires.height w.0 w.1 w.2 w.3 w.4 w.5 c.entries-left.result c.entries-left.ensures.value c.if-left-ge-MIN_CHILDREN.false _ _ c.in-Some.is c.right_sibling.ensures)
 
 pub update_next_separator-requires : goal.update_next_separator-requires
 update_next_separator-requires g c =
-    let w = c.requires.pending in
-    let low : c.args.level < length c.args.self.now.node = omega (arith, w.5.above.height) in
-    let d = rekey_asks inner_content 4 8 _ half_inner (inner_stored g.row.N) _ _ _ _ _ _ c.index-self-level.result (add-one c.args.level) low w.0 w.1 w.2 w.3 w.4 w.5 c.entries-left.result c.entries-left.ensures.value c.if-left-ge-MIN_CHILDREN.false _ _ c.in-Some.is c.right_sibling.ensures
-    c.balance_nodes.new.self _ c.balance_nodes.ensures.balanced _ c.in-Some-balance_nodes.is in
-    (search rules, (search rules, (c.requires.height, (w.4, d.before, d.x, d.key, d.q, d.after, d.above))))
+    let w = c.requires.pending in (
+      search rules,
+      (
+        search rules,
+        (
+          c.requires.height,
+          rekey_asks inner_content 4 8 _ half_inner (inner_stored g.row.N) _ _ _ _ _ _ c.index-self-level.result (add-one c.args.level) (omega arith) c.requires.height w.0 w.1 w.2 w.3 w.4 w.5 c.entries-left.result c.entries-left.ensures.value c.if-left-ge-MIN_CHILDREN.false _ _ c.in-Some.is c.right_sibling.ensures
+              c.balance_nodes.new.self _ c.balance_nodes.ensures.balanced _ c.in-Some-balance_nodes.is,
+        ),
+      ),
+    )
 
 pub free_node-requires : goal.free_node-requires
 free_node-requires g c =
-    let w = c.requires.pending in
-    let low : c.args.level < length c.args.self.now.node = omega (arith, w.5.above.height) in (
+    let w = c.requires.pending in (
       search rules,
-      free_asks inner_content 4 8 _ half_inner (inner_stored g.row.N) _ _ _ _ _ _ c.index-self-level.result (add-one c.args.level) low w.0 w.1 w.2 w.3 w.4 w.5 c.entries-left.result c.entries-left.ensures.value c.if-left-ge-MIN_CHILDREN.false _ _ c.in-Some.is c.right_sibling.ensures
+      free_asks inner_content 4 8 _ half_inner (inner_stored g.row.N) _ _ _ _ _ _ c.index-self-level.result (add-one c.args.level) (omega arith) c.requires.height w.0 w.1 w.2 w.3 w.4 w.5 c.entries-left.result c.entries-left.ensures.value c.if-left-ge-MIN_CHILDREN.false _ _ c.in-Some.is c.right_sibling.ensures
           c.balance_nodes.new.self _ c.balance_nodes.ensures.balanced c.in-None-balance_nodes.is,
     )
 
 pub returns-in-None-clause-healed : goal.returns-in-None-clause-healed
 returns-in-None-clause-healed g c = λ same before n es after rest p.
-    let low : c.args.level < length c.args.self.now.node = omega (arith, p.above.height) in
-    last_heals inner_content 4 8 _ half_inner (inner_stored g.row.N) _ _ _ _ _ _ c.index-self-level.result (add-one c.args.level) low before n es after rest p c.in-None.ensures
+    last_heals inner_content 4 8 _ half_inner (inner_stored g.row.N) _ _ _ _ _ _ c.index-self-level.result (add-one c.args.level) (omega arith) c.requires.height before n es after rest p c.in-None.ensures
 
 pub returns-in-Some-balance_nodes-clause-healed : goal.returns-in-Some-balance_nodes-clause-healed
 returns-in-Some-balance_nodes-clause-healed g c = λ same before n es after rest p.
-    let low : c.args.level < length c.args.self.now.node = omega (arith, p.above.height) in
-    rekey_heals inner_content 4 8 _ half_inner (inner_stored g.row.N) _ _ _ _ _ _ c.index-self-level.result (add-one c.args.level) low before n es after rest p c.entries-left.result c.entries-left.ensures.value c.if-left-ge-MIN_CHILDREN.false _ _ c.in-Some.is c.right_sibling.ensures
-    c.balance_nodes.new.self _ c.balance_nodes.ensures.balanced _ c.update_next_separator.new.pool c.in-Some-balance_nodes.is c.update_next_separator.ensures
+    rekey_heals inner_content 4 8 _ half_inner (inner_stored g.row.N) _ _ _ _ _ _ c.index-self-level.result (add-one c.args.level) (omega arith) c.requires.height before n es after rest p c.entries-left.result c.entries-left.ensures.value c.if-left-ge-MIN_CHILDREN.false _ _ c.in-Some.is c.right_sibling.ensures
+    c.balance_nodes.new.self _ c.balance_nodes.ensures.balanced _ c.in-Some-balance_nodes.is c.update_next_separator.new.pool c.update_next_separator.ensures
 
 pub returns-in-None-balance_nodes-clause-joined : goal.returns-in-None-balance_nodes-clause-joined
 returns-in-None-balance_nodes-clause-joined g c = λ same before n es after rest p.
-    let low : c.args.level < length c.args.self.now.node = omega (arith, p.above.height) in
-    free_joins inner_content 4 8 _ half_inner (inner_stored g.row.N) _ _ _ _ _ _ c.index-self-level.result (add-one c.args.level) low before n es after rest p c.entries-left.result c.entries-left.ensures.value c.if-left-ge-MIN_CHILDREN.false _ _ c.in-Some.is c.right_sibling.ensures
-    c.balance_nodes.new.self _ c.balance_nodes.ensures.balanced c.free_node.new.self c.in-None-balance_nodes.is c.free_node.ensures.freed
+    free_joins inner_content 4 8 _ half_inner (inner_stored g.row.N) _ _ _ _ _ _ c.index-self-level.result (add-one c.args.level) (omega arith) c.requires.height before n es after rest p c.entries-left.result c.entries-left.ensures.value c.if-left-ge-MIN_CHILDREN.false _ _ c.in-Some.is c.right_sibling.ensures
+    c.balance_nodes.new.self _ c.balance_nodes.ensures.balanced c.in-None-balance_nodes.is c.free_node.new.self c.free_node.ensures.freed
 
 pub offset_bounds-self-level : goal.offset_bounds-self-level
 offset_bounds-self-level g c = omega (arith, c.requires.pending.5.above.height, c.requires.height)

@@ -1,9 +1,9 @@
-use Rattle.std.proofs.Common.{rules, ℕ, ◌≤◌, ◌<◌, ◌/◌, length, refl, arith}
+use Rattle.std.proofs.Common.{rules, ℕ, ◌≤◌, ◌<◌, ◌/◌, refl, arith}
 use Rattle.bforest_nodes.specs.Content.{IsLeafCapacity}
 use Rattle.bforest_core.specs.Levels.{half_of}
 use Rattle.bforest_core.specs.Place.{leaf_content}
 use Rattle.bforest_core.proofs.removal.Balance.{IsHalf, leaf_stored}
-use Rattle.bforest_core.proofs.removal.Rebalancing.{slot_read, past_asks, past_heals, stay_heals, beside_asks, last_heals, balance_asks, rekey_asks, rekey_heals, free_asks, free_joins}
+use Rattle.bforest_core.proofs.removal.Rebalancing.{counted_asks, past_asks, past_heals, stay_heals, beside_asks, last_heals, balance_asks, rekey_asks, rekey_heals, free_asks, free_joins}
 use Rattle.bforest_core.proofs.path.Path.rebalance_leaf.Goals as goal
 
 half_leaf : (n : ℕ) → IsLeafCapacity n → IsHalf (half_of n) n
@@ -18,72 +18,64 @@ over_half n m c high = omega (arith, c.odd)
 pub entries-left-requires : goal.entries-left-requires
 entries-left-requires g c =
     let w = c.requires.pending in
-    let low : 0 < length c.args.self.now.node = omega (arith, w.5.above.height) in
-    let slot = slot_read leaf_content (half_of g.row.N) g.row.N _ (half_leaf g.row.N c.requires.capacity) (leaf_stored g.row.N) _ _ _ _ _ _ c.index-self-0.result refl low w.0 w.1 w.2 w.3 w.4 w.5 in
-    (search rules, (leaf_content w.2, slot, λ free. free))
+    (search rules, counted_asks leaf_content _ _ _ (half_leaf _ c.requires.capacity) (leaf_stored g.row.N) _ _ _ _ _ _ c.index-self-0.result refl (omega arith) c.requires.height w.0 w.1 w.2 w.3 w.4 w.5)
 
 pub enter_next-requires : goal.enter_next-requires
 enter_next-requires g c =
     let w = c.requires.pending in
-    let low : 0 < length c.args.self.now.node = omega (arith, w.5.above.height) in
-    let d = past_asks leaf_content (half_of g.row.N) g.row.N _ (half_leaf g.row.N c.requires.capacity) (leaf_stored g.row.N) _ _ _ _ _ _ c.index-self-0.result refl low w.0 w.1 w.2 w.3 w.4 w.5 c.entries-left.result c.entries-left.ensures.value c.if-self-left.true in
-    (search rules, (search rules, (c.requires.height, (w.4, d.before, d.x, (d.key, d.q), d.after, d.above))))
+    (search rules, (search rules, (c.requires.height, past_asks leaf_content _ _ _ (half_leaf _ c.requires.capacity) (leaf_stored g.row.N) _ _ _ _ _ _ c.index-self-0.result refl (omega arith) c.requires.height w.0 w.1 w.2 w.3 w.4 w.5 c.entries-left.result c.entries-left.ensures.value c.if-self-left.true)))
 
 pub returns-then-self-left-clause-healed : goal.returns-then-self-left-clause-healed
 returns-then-self-left-clause-healed g c = λ same before n es after rest p.
-    let low : 0 < length c.args.self.now.node = omega (arith, p.above.height) in
-    past_heals leaf_content (half_of g.row.N) g.row.N _ (half_leaf g.row.N c.requires.capacity) (leaf_stored g.row.N) _ _ _ _ _ _ c.index-self-0.result refl low before n es after rest p _ _ c.entries-left.result c.entries-left.ensures.value (over_half _ _ c.requires.capacity c.if-left.true) c.if-self-left.true
+    past_heals leaf_content _ _ _ (half_leaf _ c.requires.capacity) (leaf_stored g.row.N) _ _ _ _ _ _ c.index-self-0.result refl (omega arith) c.requires.height before n es after rest p _ _ c.entries-left.result c.entries-left.ensures.value (over_half _ _ c.requires.capacity c.if-left.true) c.if-self-left.true
     c.enter_next.ensures.moved c.enter_next.ensures.first c.enter_next.ensures.nodes_below c.enter_next.ensures.entries_below c.enter_next.ensures.same_top
 
 pub returns-else-self-left-clause-healed : goal.returns-else-self-left-clause-healed
 returns-else-self-left-clause-healed g c = λ same before n es after rest p.
-    let low : 0 < length c.args.self.now.node = omega (arith, p.above.height) in
-    stay_heals leaf_content (half_of g.row.N) g.row.N _ (half_leaf g.row.N c.requires.capacity) (leaf_stored g.row.N) _ _ _ _ _ _ c.index-self-0.result refl low before n es after rest p c.entries-left.result c.entries-left.ensures.value (over_half _ _ c.requires.capacity c.if-left.true) c.if-self-left.false
+    stay_heals leaf_content _ _ _ (half_leaf _ c.requires.capacity) (leaf_stored g.row.N) _ _ _ _ _ _ c.index-self-0.result refl (omega arith) c.requires.height before n es after rest p c.entries-left.result c.entries-left.ensures.value (over_half _ _ c.requires.capacity c.if-left.true) c.if-self-left.false
 
 pub right_sibling-requires : goal.right_sibling-requires
 right_sibling-requires g c =
     let w = c.requires.pending in
-    let low : 0 < length c.args.self.now.node = omega (arith, w.5.above.height) in
-    let h = beside_asks leaf_content (half_of g.row.N) g.row.N _ (half_leaf g.row.N c.requires.capacity) (leaf_stored g.row.N) _ _ _ _ _ _ c.index-self-0.result refl low w.0 w.1 w.2 w.3 w.4 w.5 in
-    (search rules, (search rules, (c.requires.height, (w.4, h.before, h.x, h.after, h.above))))
+    (search rules, (search rules, (c.requires.height, beside_asks leaf_content _ _ _ (half_leaf _ c.requires.capacity) (leaf_stored g.row.N) _ _ _ _ _ _ c.index-self-0.result refl (omega arith) c.requires.height w.0 w.1 w.2 w.3 w.4 w.5)))
 
 pub balance_nodes-requires : goal.balance_nodes-requires
 balance_nodes-requires g c =
     let w = c.requires.pending in
-    let low : 0 < length c.args.self.now.node = omega (arith, w.5.above.height) in
-    let r = balance_asks leaf_content (half_of g.row.N) g.row.N _ (half_leaf g.row.N c.requires.capacity) (leaf_stored g.row.N) _ _ _ _ _ _ c.index-self-0.result refl low w.0 w.1 w.2 w.3 w.4 w.5 c.entries-left.result c.entries-left.ensures.value (under_half _ _ c.requires.capacity c.if-left.false) _ _ c.in-Some.is c.right_sibling.ensures in
-    (search rules, (r.0, (r.1, (r.2, r.3))))
+    (search rules, balance_asks leaf_content _ _ _ (half_leaf _ c.requires.capacity) (leaf_stored g.row.N) _ _ _ _ _ _ c.index-self-0.result refl (omega arith) c.requires.height w.0 w.1 w.2 w.3 w.4 w.5 c.entries-left.result c.entries-left.ensures.value (under_half _ _ c.requires.capacity c.if-left.false) _ _ c.in-Some.is c.right_sibling.ensures)
 
 pub update_next_separator-requires : goal.update_next_separator-requires
 update_next_separator-requires g c =
-    let w = c.requires.pending in
-    let low : 0 < length c.args.self.now.node = omega (arith, w.5.above.height) in
-    let d = rekey_asks leaf_content (half_of g.row.N) g.row.N _ (half_leaf g.row.N c.requires.capacity) (leaf_stored g.row.N) _ _ _ _ _ _ c.index-self-0.result refl low w.0 w.1 w.2 w.3 w.4 w.5 c.entries-left.result c.entries-left.ensures.value (under_half _ _ c.requires.capacity c.if-left.false) _ _ c.in-Some.is c.right_sibling.ensures
-    c.balance_nodes.new.self _ c.balance_nodes.ensures.balanced _ c.in-Some-balance_nodes.is in
-    (search rules, (search rules, (c.requires.height, (w.4, d.before, d.x, d.key, d.q, d.after, d.above))))
+    let w = c.requires.pending in (
+      search rules,
+      (
+        search rules,
+        (
+          c.requires.height,
+          rekey_asks leaf_content _ _ _ (half_leaf _ c.requires.capacity) (leaf_stored g.row.N) _ _ _ _ _ _ c.index-self-0.result refl (omega arith) c.requires.height w.0 w.1 w.2 w.3 w.4 w.5 c.entries-left.result c.entries-left.ensures.value (under_half _ _ c.requires.capacity c.if-left.false) _ _ c.in-Some.is c.right_sibling.ensures
+              c.balance_nodes.new.self _ c.balance_nodes.ensures.balanced _ c.in-Some-balance_nodes.is,
+        ),
+      ),
+    )
 
 pub free_node-requires : goal.free_node-requires
 free_node-requires g c =
-    let w = c.requires.pending in
-    let low : 0 < length c.args.self.now.node = omega (arith, w.5.above.height) in (
+    let w = c.requires.pending in (
       search rules,
-      free_asks leaf_content (half_of g.row.N) g.row.N _ (half_leaf g.row.N c.requires.capacity) (leaf_stored g.row.N) _ _ _ _ _ _ c.index-self-0.result refl low w.0 w.1 w.2 w.3 w.4 w.5 c.entries-left.result c.entries-left.ensures.value (under_half _ _ c.requires.capacity c.if-left.false) _ _ c.in-Some.is c.right_sibling.ensures
+      free_asks leaf_content _ _ _ (half_leaf _ c.requires.capacity) (leaf_stored g.row.N) _ _ _ _ _ _ c.index-self-0.result refl (omega arith) c.requires.height w.0 w.1 w.2 w.3 w.4 w.5 c.entries-left.result c.entries-left.ensures.value (under_half _ _ c.requires.capacity c.if-left.false) _ _ c.in-Some.is c.right_sibling.ensures
           c.balance_nodes.new.self _ c.balance_nodes.ensures.balanced c.in-None-balance_nodes.is,
     )
 
 pub returns-in-None-clause-healed : goal.returns-in-None-clause-healed
 returns-in-None-clause-healed g c = λ same before n es after rest p.
-    let low : 0 < length c.args.self.now.node = omega (arith, p.above.height) in
-    last_heals leaf_content (half_of g.row.N) g.row.N _ (half_leaf g.row.N c.requires.capacity) (leaf_stored g.row.N) _ _ _ _ _ _ c.index-self-0.result refl low before n es after rest p c.in-None.ensures
+    last_heals leaf_content _ _ _ (half_leaf _ c.requires.capacity) (leaf_stored g.row.N) _ _ _ _ _ _ c.index-self-0.result refl (omega arith) c.requires.height before n es after rest p c.in-None.ensures
 
 pub returns-in-Some-balance_nodes-clause-healed : goal.returns-in-Some-balance_nodes-clause-healed
 returns-in-Some-balance_nodes-clause-healed g c = λ same before n es after rest p.
-    let low : 0 < length c.args.self.now.node = omega (arith, p.above.height) in
-    rekey_heals leaf_content (half_of g.row.N) g.row.N _ (half_leaf g.row.N c.requires.capacity) (leaf_stored g.row.N) _ _ _ _ _ _ c.index-self-0.result refl low before n es after rest p c.entries-left.result c.entries-left.ensures.value (under_half _ _ c.requires.capacity c.if-left.false) _ _ c.in-Some.is c.right_sibling.ensures
-    c.balance_nodes.new.self _ c.balance_nodes.ensures.balanced _ c.update_next_separator.new.pool c.in-Some-balance_nodes.is c.update_next_separator.ensures
+    rekey_heals leaf_content _ _ _ (half_leaf _ c.requires.capacity) (leaf_stored g.row.N) _ _ _ _ _ _ c.index-self-0.result refl (omega arith) c.requires.height before n es after rest p c.entries-left.result c.entries-left.ensures.value (under_half _ _ c.requires.capacity c.if-left.false) _ _ c.in-Some.is c.right_sibling.ensures
+    c.balance_nodes.new.self _ c.balance_nodes.ensures.balanced _ c.in-Some-balance_nodes.is c.update_next_separator.new.pool c.update_next_separator.ensures
 
 pub returns-in-None-balance_nodes-clause-joined : goal.returns-in-None-balance_nodes-clause-joined
 returns-in-None-balance_nodes-clause-joined g c = λ same before n es after rest p.
-    let low : 0 < length c.args.self.now.node = omega (arith, p.above.height) in
-    free_joins leaf_content (half_of g.row.N) g.row.N _ (half_leaf g.row.N c.requires.capacity) (leaf_stored g.row.N) _ _ _ _ _ _ c.index-self-0.result refl low before n es after rest p c.entries-left.result c.entries-left.ensures.value (under_half _ _ c.requires.capacity c.if-left.false) _ _ c.in-Some.is c.right_sibling.ensures
-    c.balance_nodes.new.self _ c.balance_nodes.ensures.balanced c.free_node.new.self c.in-None-balance_nodes.is c.free_node.ensures.freed
+    free_joins leaf_content _ _ _ (half_leaf _ c.requires.capacity) (leaf_stored g.row.N) _ _ _ _ _ _ c.index-self-0.result refl (omega arith) c.requires.height before n es after rest p c.entries-left.result c.entries-left.ensures.value (under_half _ _ c.requires.capacity c.if-left.false) _ _ c.in-Some.is c.right_sibling.ensures
+    c.balance_nodes.new.self _ c.balance_nodes.ensures.balanced c.in-None-balance_nodes.is c.free_node.new.self c.free_node.ensures.freed

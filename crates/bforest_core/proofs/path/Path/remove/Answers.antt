@@ -1,11 +1,10 @@
-use Rattle.std.proofs.Common.{rules, ◌≡◌, ◌≢◌, ℕ, Some, ◌∷◌, ◌++◌, get_or, length, sym, ◌∙◌, length-append, arith}
-use Rattle.std.proofs.lemmas.List.{get_or_default}
-use Rattle.bforest_core.specs.Place.{IsPathAt, leaf_content}
+use Rattle.std.proofs.Common.{rules, ℕ, Some, sym, ◌∙◌, arith}
+use Rattle.bforest_core.specs.Place.{IsPathAt}
 use Rattle.bforest_core.specs.Trees.{tree_of}
 use Rattle.bforest_core.specs.Change.{StandsUnder}
 use Rattle.bforest_core.proofs.rows.Tops.{root-stands}
-use Rattle.bforest_core.proofs.removal.LeafLoss.{leaf_keys, leaf_at}
-use Rattle.bforest_core.proofs.removal.Removal.{stands_in, removal, Said, outcome, said, if_some, one_slot, more_slot}
+use Rattle.bforest_core.proofs.removal.Taking.{counted_asks, single, others}
+use Rattle.bforest_core.proofs.removal.Removal.{stands_in, removal, Said, outcome, said, if_some}
 use Rattle.bforest_core.proofs.path.Path.remove.Given.{Over}
 use Rattle.bforest_core.proofs.path.Path.remove.Goals as goal
 
@@ -18,37 +17,23 @@ root-root-requires g c =
 pub entries-requires : goal.entries-requires
 entries-requires g c =
     let w = c.requires.stands in
-    let path = c.args.self.now.node in
-    let d = leaf_at _ _ _ _ _ _ w.place (stands_in _ _ w.root w.place _ _ _ c.requires.union w.on) in
-    let here : get_or path 0 c.index-self-0.result ≡ get_or path 0 0 = get_or_default path 0 c.index-self-0.result 0 (omega arith) in
-    (search rules, (leaf_content (d.l ++ d.x ∷ d.r), rw here d.slot_is, λ free. free))
+    (search rules, counted_asks _ _ _ _ _ _ w.place (stands_in _ _ w.root w.place _ _ _ c.requires.union w.on) c.index-self-0.result (omega arith))
 
 pub remove_leaf-requires : goal.remove_leaf-requires
 remove_leaf-requires g c =
     let w = c.requires.stands in
-    let path = c.args.self.now.node in
     let s = stands_in _ _ w.root w.place _ _ _ c.requires.union w.on in
     let tree = tree_of c.args.pool.now.nodes w.root in
-    let d = leaf_at _ _ _ _ _ _ w.place s in
-    let es = d.l ++ d.x ∷ d.r in
-    let here : get_or path 0 c.index-self-0.result ≡ get_or path 0 0 = get_or_default path 0 c.index-self-0.result 0 (omega arith) in
-    let counted = c.entries.ensures.value (leaf_content es) (rw here d.slot_is) in
-    let slot = one_slot es _ (omega (arith, counted, c.if-entries-eq1.true, leaf_keys es)) d.slot_is in
-    (search rules, (search rules, (c.requires.union.1.capacity, ((tree, w.place, s, root-stands g.row.N tree path _ _ w.place s.fit s.stands ∙ sym c.root-root.ensures), (slot.0, slot.1)))))
+    let alone = single _ _ _ _ _ tree w.place s c.index-self-0.result (omega arith) c.entries.result c.entries.ensures.value c.if-entries-eq1.true in
+    (search rules, (search rules, (c.requires.union.1.capacity, ((tree, w.place, s, root-stands g.row.N tree c.args.self.now.node _ _ w.place s.fit s.stands ∙ sym c.root-root.ensures), alone))))
 
 pub remove_entry-requires : goal.remove_entry-requires
 remove_entry-requires g c =
     let w = c.requires.stands in
-    let path = c.args.self.now.node in
     let s = stands_in _ _ w.root w.place _ _ _ c.requires.union w.on in
     let tree = tree_of c.args.pool.now.nodes w.root in
-    let d = leaf_at _ _ _ _ _ _ w.place s in
-    let es = d.l ++ d.x ∷ d.r in
-    let here : get_or path 0 c.index-self-0.result ≡ get_or path 0 0 = get_or_default path 0 c.index-self-0.result 0 (omega arith) in
-    let counted = c.entries.ensures.value (leaf_content es) (rw here d.slot_is) in
-    let more : length es ≢ 1 = λ one. c.if-entries-eq1.false (omega (arith, counted, one, leaf_keys es)) in
-    let slot = more_slot es _ (omega (arith, length-append d.l (d.x ∷ d.r))) more d.slot_is in
-    (search rules, (search rules, (c.requires.union.1.capacity, ((tree, w.place, s, root-stands g.row.N tree path _ _ w.place s.fit s.stands ∙ sym c.root-root.ensures), (slot.0, slot.1, slot.2, slot.3)))))
+    let more = others _ _ _ _ _ tree w.place s c.index-self-0.result (omega arith) c.entries.result c.entries.ensures.value (λ one. c.if-entries-eq1.false one) in
+    (search rules, (search rules, (c.requires.union.1.capacity, ((tree, w.place, s, root-stands g.row.N tree c.args.self.now.node _ _ w.place s.fit s.stands ∙ sym c.root-root.ensures), more))))
 
 -- what the removal of a leaf says
 leaf_said : (g : Over) (c : goal.After-remove_leaf g) (root place : ℕ) → StandsUnder c.args.pool.now.nodes root c.args.self.now.node c.args.self.now.entry c.args.self.now.size place →

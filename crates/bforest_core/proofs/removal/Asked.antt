@@ -1,0 +1,79 @@
+-- What the calls on the nodes of a path and on the rows above a level ask, in the form in which they ask it, and what they leave.
+use Rattle.std.proofs.Common.{◌≡◌, ℕ, suc, ◌<◌, Option, Some, List, [], ◌∷◌, ◌++◌, map, length, get_or, slice_get}
+use Rattle.bforest_nodes.specs.Content.{Content, Inner, IsFree, with_key, without_child}
+use Rattle.bforest_core.specs.Table.{Table, with_node}
+use Rattle.bforest_core.specs.Levels.{LevelNode, sizes}
+use Rattle.bforest_core.specs.Climb.{Above, NextIs}
+use Rattle.bforest_core.specs.Removal.{Rebuilt}
+use Rattle.bforest_core.proofs.rows.Zipper.{above_two}
+
+module _ {K V : Type 0} where
+  -- a node in use, whose entries are counted
+  abbrev pub NodeAt : Table K V → ℕ → Type 0
+  NodeAt t number = (content : Content K V) × (slice_get t.nodes number ≡ Some content) × (¬ IsFree content)
+
+  -- an inner node with a separator of this index
+  abbrev pub KeyAt : Table K V → ℕ → ℕ → Type 0
+  KeyAt t number index = (keys : List K) × (children : List ℕ) × (slice_get t.nodes number ≡ Some (Inner keys children)) × (index < length keys)
+
+  -- or with a child
+  abbrev pub ChildAt : Table K V → ℕ → ℕ → Type 0
+  ChildAt t number index = (keys : List K) × (children : List ℕ) × (slice_get t.nodes number ≡ Some (Inner keys children)) × (index < length children)
+
+  -- what the call that reads a separator says, and a child
+  abbrev pub ReadsKey : Table K V → ℕ → ℕ → K → Type 0
+  ReadsKey t number index key = (keys : List K) (children : List ℕ) → slice_get t.nodes number ≡ Some (Inner keys children) → slice_get keys index ≡ Some key
+
+  abbrev pub ReadsChild : Table K V → ℕ → ℕ → ℕ → Type 0
+  ReadsChild t number index child = (keys : List K) (children : List ℕ) → slice_get t.nodes number ≡ Some (Inner keys children) → slice_get children index ≡ Some child
+
+  -- what the call that writes a separator leaves
+  abbrev pub Writes : Table K V → Table K V → ℕ → ℕ → K → Type 0
+  Writes t u number index key = (keys : List K) (children : List ℕ) → slice_get t.nodes number ≡ Some (Inner keys children) → u ≡ with_node t number (with_key (Inner keys children) index key)
+
+  -- and the call that takes a child out
+  abbrev pub Removes : Table K V → Table K V → ℕ → ℕ → Type 0
+  Removes t u number index = (keys : List K) (children : List ℕ) → slice_get t.nodes number ≡ Some (Inner keys children) → u ≡ with_node t number (without_child (Inner keys children) index)
+
+  -- the rows from a level on, with an entry in sight
+  abbrev pub OneAbove : Table K V → List ℕ → List ℕ → ℕ → ℕ → Type 0
+  OneAbove t path indices up size = (rows : List (List (LevelNode K ℕ))) × (before : List (K × ℕ)) × (x : K × ℕ) × (after : List (K × ℕ)) × Above t path indices up size rows (before ++ x ∷ after) (length before)
+
+  -- with two
+  abbrev pub TwoAbove : Table K V → List ℕ → List ℕ → ℕ → ℕ → Type 0
+  TwoAbove t path indices up size = (rows : List (List (LevelNode K ℕ))) × (before : List (K × ℕ)) × (x : K × ℕ) × (key : K) × (n : ℕ) × (after : List (K × ℕ)) × Above t path indices up size rows (before ++ x ∷ (key, n) ∷ after) (length before)
+
+  pub two_low : (t : Table K V) (path indices : List ℕ) (up size : ℕ) → TwoAbove t path indices up size → up < size
+  two_low t path indices up size w = above_two t path indices up size w.0 w.1 w.2 (w.3, w.4) w.5 (length w.1) w.6
+
+  -- the same for another call
+  abbrev pub NextAbove : Table K V → List ℕ → List ℕ → ℕ → ℕ → Type 0
+  NextAbove t path indices up size = (rows : List (List (LevelNode K ℕ))) × (before : List (K × ℕ)) × (x : K × ℕ) × (y : K × ℕ) × (after : List (K × ℕ)) × Above t path indices up size rows (before ++ x ∷ y ∷ after) (length before)
+
+  -- or another
+  abbrev pub MergeAbove : Table K V → List ℕ → List ℕ → ℕ → ℕ → Type 0
+  MergeAbove t path indices up size = (rows : List (List (LevelNode K ℕ))) × (before : List (K × ℕ)) × (k : K) × (m : ℕ) × (k2 : K) × (n : ℕ) × (after : List (K × ℕ)) × Above t path indices up size rows (before ++ (k, m) ∷ (k2, n) ∷ after) (length before)
+
+  pub merge_low : (t : Table K V) (path indices : List ℕ) (up size : ℕ) → MergeAbove t path indices up size → up < size
+  merge_low t path indices up size w = above_two t path indices up size w.0 w.1 (w.2, w.3) (w.4, w.5) w.6 (length w.1) w.7
+
+  -- or with the last two
+  abbrev pub LastTwo : Table K V → List ℕ → List ℕ → ℕ → ℕ → Type 0
+  LastTwo t path indices up size = (rows : List (List (LevelNode K ℕ))) × (before : List (K × ℕ)) × (y : K × ℕ) × (x : K × ℕ) × Above t path indices up size rows (before ++ y ∷ x ∷ []) (suc (length before))
+
+  pub last_low : (t : Table K V) (path indices : List ℕ) (up size : ℕ) → LastTwo t path indices up size → up < size
+  last_low t path indices up size w = above_two t path indices up size w.0 w.1 w.2 w.3 [] (suc (length w.1)) w.4
+
+  -- what the call for the right neighbour answers
+  abbrev pub Beside : Table K V → List ℕ → List ℕ → ℕ → ℕ → Option (K × ℕ) → Type 0
+  Beside t path indices up size r = (rows : List (List (LevelNode K ℕ))) (before : List (K × ℕ)) (x : K × ℕ) (after : List (K × ℕ)) → Above t path indices up size rows (before ++ x ∷ after) (length before) → NextIs r after
+
+  -- what the call that renews the key between two neighbours leaves
+  abbrev pub Rekeys : Table K V → Table K V → List ℕ → List ℕ → ℕ → ℕ → K → Type 0
+  Rekeys u v path indices up size key = (rows : List (List (LevelNode K ℕ))) (before : List (K × ℕ)) (x : K × ℕ) (first : K) (n : ℕ) (after : List (K × ℕ)) → Above u path indices up size rows (before ++ x ∷ (first, n) ∷ after) (length before) →
+      Rebuilt u v path indices path indices up size rows (before ++ x ∷ (key, n) ∷ after) (length before) (map sizes rows) []
+
+  -- what the call that enters the next node leaves
+  abbrev pub Enters : Table K V → List ℕ → List ℕ → List ℕ → List ℕ → ℕ → ℕ → Type 0
+  Enters t path indices path' indices' up size = (rows : List (List (LevelNode K ℕ))) (before : List (K × ℕ)) (x : K × ℕ) (y : K × ℕ) (after : List (K × ℕ)) → Above t path indices (suc up) size rows (before ++ x ∷ y ∷ after) (length before) →
+      Above t path' indices' (suc up) size rows (before ++ x ∷ y ∷ after) (suc (length before)) × (get_or path' up 0 ≡ y.1)
