@@ -1,7 +1,7 @@
 -- Bounds on leaves, on levels and on nodes.
 use Rattle.std.proofs.Common.{◌≡◌, ℕ, suc, ◌+◌, ◌*◌, ◌^◌, ◌≤◌, ◌<◌, ◌-◌, nat_lt, true, false, Option, Some, None, List, [], ◌∷◌, ◌++◌, map, length, refl, sym, ap, ◌∙◌, inl, inr, subst, length-append, arith}
 use Rattle.std.proofs.lemmas.Bool.{cases_lt}
-use Rattle.std.proofs.Math.Nat.{mul-le-mul_left, pow-succ', pow-le-pow_right}
+use Rattle.std.proofs.Math.Nat.{mul-le-mul_left, pow-succ'}
 use Rattle.std.proofs.lemmas.List.{length-map}
 use Rattle.bforest_core.specs.Levels.{LevelNode, node, flat, heads, sizes, FitRow, Stacked, Topped}
 use Rattle.bforest_core.specs.Sizes.{inner_gain, gain_above}
@@ -55,26 +55,6 @@ depth half most one leaves [] f s t two = absurd (omega arith)
 depth half most one leaves (row ∷ rows) f s t two =
     let e : length (row ∷ rows) - 1 ≡ length rows = omega arith in
     rw e (depth_of half most one leaves row rows f s t)
-
--- how many nodes a level and those above it have
-abbrev pub nodes_from : {K : Type 0} → List (K × ℕ) → List (List (LevelNode K ℕ)) → ℕ
-nodes_from hs [] = length hs
-nodes_from hs (row ∷ rows) = length hs + nodes_from (heads row) rows
-
-nodes-many : {K : Type 0} (hs : List (K × ℕ)) (row : List (LevelNode K ℕ)) (rows : List (List (LevelNode K ℕ))) → Stacked hs (row ∷ rows) → Topped hs (row ∷ rows) → 4 ^ suc (length rows) ≤ 3 * nodes_from hs (row ∷ rows)
-nodes-many hs row [] s t = let one : length (heads row) ≡ 1 = s.2 in omega (arith, t.0, one)
-nodes-many hs row (row2 ∷ rows) s t =
-    let r = nodes-many (heads row) row2 rows s.2 t.1 in
-    let l = levels-few hs row (row2 ∷ rows) s t in
-    let p : 4 ^ suc (suc (length rows)) ≡ 4 * 4 ^ suc (length rows) = pow-succ' 4 (suc (length rows)) in
-    omega (arith, r, l, p)
-
--- a tree of 18 levels has more nodes than there are numbers
-pub levels-seventeen : {K : Type 0} (hs : List (K × ℕ)) (rows : List (List (LevelNode K ℕ))) → Stacked hs rows → Topped hs rows → nodes_from hs rows < 2 ^ 32 → length rows ≤ 16
-levels-seventeen hs [] s t n = omega arith
-levels-seventeen hs (row ∷ rows) s t n =
-    let r = nodes-many hs row rows s t in
-    elim (cases_lt (length rows) 16) [ inl a ↦ a | inr b ↦ absurd (let p = pow-le-pow_right {n = 4} (omega arith) (let q : 17 ≤ suc (length rows) = omega arith in q) in omega (arith, p, r, n)) ]
 
 -- one level more, at most
 pub gain-most : (k : Option ℕ) (levels : List (List ℕ)) → length (gain_above k levels) ≤ suc (length levels)
