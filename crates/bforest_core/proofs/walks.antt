@@ -3,6 +3,7 @@ pub mod Sought
 pub mod LeafSearch
 pub mod Rising
 pub mod Downward
+pub mod TopNode
 pub mod Descent
 pub mod Whole
 pub mod Steps
@@ -12,7 +13,5 @@ pub mod Leaves
 pub mod Pointed
 pub mod Backward
 pub mod Turns
-pub mod Trailing
-pub mod LastDown
 pub mod Standing
 pub mod Nearby

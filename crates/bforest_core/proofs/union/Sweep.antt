@@ -4,22 +4,21 @@ use Rattle.std.specs.List.{flat_map}
 use Rattle.std.proofs.lemmas.Bool.Decides.{eqb_tells}
 use Rattle.bforest_nodes.specs.Content.{Content, Inner, Leaf, Free, IsInner, children_of, entry_count}
 use Rattle.bforest_core.specs.Table.{Table, front_of, with_freed}
-use Rattle.bforest_core.specs.Levels.{LevelNode, node, flat, heads, numbers, FitRow, half_of}
+use Rattle.bforest_core.specs.Levels.{LevelNode, node, flat, heads, numbers, half_of}
 use Rattle.bforest_core.specs.Place.{leaf_content, inner_content, entry_items, count, Distinct}
 use Rattle.bforest_core.specs.Descent.{StackedTo, Under}
 use Rattle.bforest_core.specs.Trees.{numbers_down, slot}
 use Rattle.bforest_core.specs.Removal.{Frees, GivesAll, numbers_under}
 use Rattle.bforest_core.proofs.union.FreeSlots.{freed-slot, slot_same}
 use Rattle.bforest_core.proofs.removal.Frees.{frees-refl, frees-then, frees-wider}
-use Rattle.bforest_core.proofs.walks.Downward.{stacked_last}
-use Rattle.bforest_core.proofs.walks.Leading.{Front, LeafFront, InnerFront, front_step, front_count}
-use Rattle.bforest_core.proofs.rows.LevelRows.{least-pos}
+use Rattle.bforest_core.proofs.walks.Downward.{Seen, no_heads}
+use Rattle.bforest_core.proofs.walks.TopNode.{LeafUnder, InnerUnder, node_under, no_elements}
 use Rattle.std.proofs.lemmas.List.{length-map, reverse-append, take_all}
 use Rattle.std.proofs.lemmas.Option.{slice_get_within}
 use Rattle.bforest_core.proofs.table.Stored.{some_same}
 use Rattle.bforest_core.proofs.table.Read.{slot-is}
 use Rattle.bforest_core.proofs.table.Lists.{drop-read}
-use Rattle.bforest_core.proofs.union.Sections.{UnderCut, under-cut, tail_same}
+use Rattle.bforest_core.proofs.union.Sections.{UnderCut, under-cut}
 use Rattle.bforest_core.proofs.table.Tables.{count-append, count-same, count-other, row-same, rows-same, slice_get-set_apart}
 
 -- the items up to one more
@@ -28,18 +27,12 @@ items-read [] index x found = absurd cc
 items-read (y ∷ top) zero x found = ap (λ z. z.1 ∷ []) (some_same y x found)
 items-read (y ∷ top) (suc index) x found = ap (λ z. y.1 ∷ z) (items-read top index x found)
 
--- a fit row that shows no node from above has none
-no_nodes : {K X : Type 0} (half most : ℕ) → 1 ≤ half → (row : List (LevelNode K X)) → FitRow half most row → heads row ≡ [] → row ≡ []
-no_nodes half most one [] f h = refl
-no_nodes half most one (node m [] ∷ ns) f h = absurd (omega (arith, f.0, least-pos half one ns))
-no_nodes half most one (node m (e ∷ es) ∷ ns) f h = absurd cc
-
--- nor do rows below no node
+-- rows below no node have none
 rows_none : {K : Type 0} (list : List (K × ℕ)) (rows : List (List (LevelNode K ℕ))) → StackedTo list rows [] → (list ≡ []) × ((m : ℕ) → count m (flat_map numbers rows) ≡ 0)
 rows_none list [] s = (s, λ m. refl)
 rows_none list (row ∷ rows) s =
     let r = rows_none (heads row) rows s.2 in
-    let none : row ≡ [] = no_nodes 4 8 (omega arith) row s.1 r.0 in
+    let none : row ≡ [] = no_heads 4 8 (omega arith) row s.1 r.0 in
     (sym s.0 ∙ ap flat none, λ m. omega (arith, count-append m (numbers row) (flat_map numbers rows), ap (λ z. count m (numbers z)) none, r.1 m))
 
 module _ {K V : Type 0} where
@@ -61,7 +54,7 @@ module _ {K V : Type 0} where
   under_none : (most : ℕ) → 1 ≤ half_of most → (slots : List (Content K V)) (leaves : List (LevelNode K V)) (lower : List (List (LevelNode K ℕ))) → Under most slots leaves lower [] → (m : ℕ) → count m (numbers_under leaves lower) ≡ 0
   under_none most one slots leaves lower u m =
       let r = rows_none (heads leaves) lower u.stacked in
-      let none : leaves ≡ [] = no_nodes (half_of most) most one leaves u.leaves_fit r.0 in
+      let none : leaves ≡ [] = no_heads (half_of most) most one leaves u.leaves_fit r.0 in
       omega (arith, count-append m (numbers leaves) (flat_map numbers lower), ap (λ z. count m (numbers z)) none, r.1 m)
 
   -- the numbers below a node, in slots that agree on them
@@ -199,12 +192,9 @@ item_at (y ∷ top) zero child found = (y, refl, cc)
 item_at (y ∷ top) (suc index) child found = item_at top index child found
 
 -- a row of one node seen from above
-one_node : {K X : Type 0} (half most : ℕ) → 1 ≤ half → (row : List (LevelNode K X)) (first : K) (number : ℕ) → FitRow half most row → heads row ≡ (first, number) ∷ [] → (f : Front row number) → row ≡ node number (f.e ∷ f.es) ∷ []
-one_node half most one row first number fit h f =
-    let row_is = f.row_is in
-    let tail : heads f.after ≡ [] = (tail_same (f.e.0, number) (first, number) (heads f.after) [] (ap heads (sym row_is) ∙ h)).1 in
-    let fits = subst (λ z. FitRow half most z) row_is fit in
-    row_is ∙ ap (λ z. node number (f.e ∷ f.es) ∷ z) (no_nodes half most one f.after fits.2 tail)
+one_node : {K X : Type 0} (half most : ℕ) → 1 ≤ half → (row : List (LevelNode K X)) (first : K) (number : ℕ) (at : Seen half most row [] first number []) → row ≡ node number (at.e ∷ at.es) ∷ []
+one_node half most one row first number at =
+    at.row_is ∙ ap (λ z. z ++ node number (at.e ∷ at.es) ∷ at.after) (no_elements at.before at.before_is) ∙ ap (λ z. node number (at.e ∷ at.es) ∷ z) (no_heads half most one at.after at.after_fit at.after_is)
 
 module _ {K V : Type 0} where
   -- only an inner node has children, and they are its entries
@@ -227,15 +217,14 @@ module _ {K V : Type 0} where
     pub down : numbers_down slots (length lower) number ≡ number ∷ flat_map (numbers_down slots (length rows)) (reverse (entry_items top))
 
   module _ (most : ℕ) (one : 1 ≤ half_of most) (slots : List (Content K V)) (leaves : List (LevelNode K V)) where
-    open_leaf : (lower : List (List (LevelNode K ℕ))) (first : K) (number : ℕ) → Under most slots leaves lower ((first, number) ∷ []) → LeafFront slots leaves lower number → Opened most slots leaves lower number
-    open_leaf lower first number u s =
-        let stacked = subst (λ z. StackedTo (heads leaves) z ((first, number) ∷ [])) s.lower_is u.stacked in
-        let row = one_node (half_of most) most one leaves first number u.leaves_fit stacked s.front in
+    open_leaf : (lower : List (List (LevelNode K ℕ))) (first : K) (number : ℕ) → LeafUnder most slots leaves lower [] first number [] → Opened most slots leaves lower number
+    open_leaf lower first number s =
+        let row = one_node (half_of most) most one leaves first number s.at in
         record {
           low = [];
           rows = [];
           top = [];
-          content = leaf_content (s.front.e ∷ s.front.es);
+          content = leaf_content (s.at.e ∷ s.at.es);
           slot_is = s.slot_is;
           children_are = refl;
           under = record { leaves_fit = tt; leaves_in = tt; stacked = refl; rows_in = tt };
@@ -244,26 +233,21 @@ module _ {K V : Type 0} where
           down = ap (λ z. numbers_down slots (length z) number) s.lower_is;
         }
 
-    open_inner : (lower : List (List (LevelNode K ℕ))) (first : K) (number : ℕ) → Under most slots leaves lower ((first, number) ∷ []) → InnerFront most slots leaves lower number → Opened most slots leaves lower number
-    open_inner lower first number u s =
-        let st = stacked_last (heads leaves) s.rows s.row ((first, number) ∷ []) (subst (λ z. StackedTo (heads leaves) z ((first, number) ∷ [])) s.lower_is u.stacked) in
-        let row = one_node 4 8 (omega arith) s.row first number st.1 st.2 s.front in
+    open_inner : (lower : List (List (LevelNode K ℕ))) (first : K) (number : ℕ) → InnerUnder most slots leaves lower [] first number [] → Opened most slots leaves lower number
+    open_inner lower first number s =
+        let row = one_node 4 8 (omega arith) s.row first number s.at in
+        let es = s.at.e ∷ s.at.es in
         record {
           low = leaves;
           rows = s.rows;
-          top = s.front.e ∷ s.front.es;
-          content = inner_content (s.front.e ∷ s.front.es);
+          top = es;
+          content = inner_content es;
           slot_is = s.slot_is;
           children_are = refl;
-          under = record {
-            leaves_fit = u.leaves_fit;
-            leaves_in = u.leaves_in;
-            stacked = subst (λ z. StackedTo (heads leaves) s.rows z) (ap flat row ∙ append-nil (s.front.e ∷ s.front.es)) st.0;
-            rows_in = s.under.rows_in;
-          };
+          under = subst (λ z. Under most slots leaves s.rows z) (ap flat row ∙ append-nil es) s.under;
           counted = λ m. omega (arith, count-append m (numbers leaves) (flat_map numbers lower), count-append m (numbers leaves) (flat_map numbers s.rows), ap (λ z. count m (flat_map numbers z)) s.lower_is, rows_more m s.rows s.row, ap (λ z. count m (numbers z)) row);
-          height = λ some. sym (front_count most one slots leaves lower number s);
-          down = ap (λ z. numbers_down slots z number) (front_count most one slots leaves lower number s) ∙ ap (λ z. number ∷ flat_map (numbers_down slots (length s.rows)) (reverse (children_of z))) (slot-is slots number (inner_content (s.front.e ∷ s.front.es)) s.slot_is);
+          height = λ some. sym s.count_is;
+          down = ap (λ z. numbers_down slots z number) s.count_is ∙ ap (λ z. number ∷ flat_map (numbers_down slots (length s.rows)) (reverse (children_of z))) (slot-is slots number (inner_content es) s.slot_is);
         }
       where
         rows_more : (m : ℕ) (rows : List (List (LevelNode K ℕ))) (row : List (LevelNode K ℕ)) → count m (flat_map numbers (rows ++ row ∷ [])) ≡ count m (flat_map numbers rows) + count m (numbers row)
@@ -271,7 +255,7 @@ module _ {K V : Type 0} where
         rows_more m (r ∷ rows) row = omega (arith, rows_more m rows row, count-append m (numbers r) (flat_map numbers rows), count-append m (numbers r) (flat_map numbers (rows ++ row ∷ [])))
 
     pub under-open : (lower : List (List (LevelNode K ℕ))) (first : K) (number : ℕ) → Under most slots leaves lower ((first, number) ∷ []) → Opened most slots leaves lower number
-    under-open lower first number u = elim (front_step most one slots leaves lower first number [] u) [ inl s ↦ open_leaf lower first number u s | inr s ↦ open_inner lower first number u s ]
+    under-open lower first number u = elim (node_under most one slots leaves lower [] first number [] u) [ inl s ↦ open_leaf lower first number s | inr s ↦ open_inner lower first number s ]
 
   -- the sweep of a node's children, with what it shows of the node itself
   pub record Sweeping (most : ℕ) (old now : Table K V) (leaves : List (LevelNode K V)) (lower : List (List (LevelNode K ℕ))) (number index : ℕ) : Type 0 where

@@ -15,7 +15,7 @@ use Rattle.bforest_core.proofs.table.Stored.{some_same}
 use Rattle.bforest_core.proofs.union.Unions.{is-rooted}
 use Rattle.bforest_core.proofs.walks.Descent.{some_leaf}
 use Rattle.bforest_core.proofs.walks.Entered.{leaf_last, leaf_next, leaf_slot, over_leaves}
-use Rattle.bforest_core.proofs.walks.Leading.{front_leaf}
+use Rattle.bforest_core.proofs.walks.TopNode.{leaf_under}
 use Rattle.bforest_core.proofs.walks.Steps.{only}
 use Rattle.bforest_core.proofs.walks.Whole.{whole_top, whole_under}
 
@@ -41,7 +41,7 @@ root-leaf most table union root content is found other =
     let tree = tree_of table.nodes root in
     let w = is-rooted most table root union is in
     let t = whole_top most table.nodes root tree w in
-    let f = front_leaf most (some_leaf most union.1.capacity) table.nodes tree.leaves tree.above t.first root [] (whole_under most table.nodes root tree w) content found other in
+    let f = leaf_under most (some_leaf most union.1.capacity) table.nodes tree.leaves tree.above [] t.first root [] (whole_under most table.nodes root tree w) content found other in
     subst IsLeaf (sym (slot-is table.nodes root _ f.slot_is)) tt
 
 module _ {K V : Type 0} {n : ℕ} (most : ℕ) (table : Table K V) (union : IsUnion most table) where

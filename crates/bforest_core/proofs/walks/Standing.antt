@@ -12,7 +12,8 @@ use Rattle.bforest_core.specs.Place.{IsPathAt, Stands, count, numbers_of}
 use Rattle.bforest_core.specs.Table.{Table}
 use Rattle.bforest_core.specs.Trees.{IsUnion, is_root, slot, tree_of}
 use Rattle.bforest_core.proofs.walks.Descent.{some_leaf}
-use Rattle.bforest_core.proofs.walks.Leading.{front_step, led_leaf}
+use Rattle.bforest_core.proofs.walks.Leading.{led_leaf}
+use Rattle.bforest_core.proofs.walks.TopNode.{node_under}
 use Rattle.bforest_core.proofs.table.Read.{slot-is}
 use Rattle.bforest_core.proofs.rows.LevelRows.{flat-append}
 use Rattle.bforest_core.proofs.rows.Tops.{root-points}
@@ -56,10 +57,10 @@ on-leaf most table root path indices union is leaf node_is index_is =
     let tree = tree_of slots root in
     let w = is-rooted most table root union is in
     let one = some_leaf most union.1.capacity in
-    elim (front_step most one slots tree.leaves tree.above (whole_top most slots root tree w).first root [] (whole_under most slots root tree w)) [
+    elim (node_under most one slots tree.leaves tree.above [] (whole_top most slots root tree w).first root [] (whole_under most slots root tree w)) [
       | inl s ↦ record {
         root_is = is;
-        stands = led_stands tree path indices path indices 1 (led_leaf most one slots tree.leaves tree.above root s path indices path indices node_is index_is (λ i ne. refl) (λ i ne. refl)) (omega (arith, ap length s.lower_is));
+        stands = led_stands tree path indices path indices 1 (led_leaf most one slots tree.leaves tree.above _ root [] s path indices path indices node_is index_is (λ i ne. refl) (λ i ne. refl)) (omega (arith, ap length s.lower_is));
       }
       | inr s ↦ absurd (subst IsLeaf (slot-is slots root _ s.slot_is) leaf)
     ]

@@ -4,7 +4,7 @@ use Rattle.bforest_core.specs.Paths.{StandsOn}
 use Rattle.bforest_core.specs.Trees.{tree_of}
 use Rattle.bforest_core.proofs.union.Unions.{is-rooted}
 use Rattle.bforest_core.proofs.walks.Descent.{some_leaf}
-use Rattle.bforest_core.proofs.walks.Leading.{front_within}
+use Rattle.bforest_core.proofs.walks.TopNode.{node_within}
 use Rattle.bforest_core.proofs.walks.Leaves.{leaf-front, root-leaf}
 use Rattle.bforest_core.proofs.walks.Whole.{whole_led}
 use Rattle.bforest_core.proofs.walks.Standing.{under-root}
@@ -15,7 +15,7 @@ pub node-requires : goal.node-requires
 node-requires g c =
     let tree = tree_of c.args.pool.now.nodes c.args.root in
     let u = under-root g.row.N c.args.pool.now c.args.root c.requires.union c.requires.root in
-    (search rules, (search rules, front_within g.row.N (some_leaf _ c.requires.union.1.capacity) c.args.pool.now.nodes tree.leaves tree.above u.first c.args.root [] u.under))
+    (search rules, (search rules, node_within g.row.N (some_leaf _ c.requires.union.1.capacity) c.args.pool.now.nodes tree.leaves tree.above [] u.first c.args.root [] u.under))
 
 -- the path on the root, which is a leaf
 alone : (g : Over) (c : goal.After-set_root_node g) → StandsOn c.args.pool.now c.args.root c.set_root_node.new.self 0
