@@ -10,7 +10,6 @@ pub mod Steps
 pub mod Entered
 pub mod Leading
 pub mod Leaves
-pub mod Pointed
 pub mod Backward
 pub mod Turns
 pub mod Standing

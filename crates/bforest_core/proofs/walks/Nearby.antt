@@ -28,9 +28,8 @@ use Rattle.bforest_core.proofs.union.Unions.{is-rooted}
 use Rattle.bforest_core.proofs.walks.Backward.{at_end, at_entry}
 use Rattle.bforest_core.proofs.walks.Descent.{some_leaf}
 use Rattle.bforest_core.proofs.walks.Entered.{entry_is, leaf_room, leaf_slot}
-use Rattle.bforest_core.proofs.walks.Pointed.{points-stands}
 use Rattle.bforest_core.proofs.walks.Rising.{all_before, all_greater, all_less, entry_between, increasing_rest, increasing_split, place_between}
-use Rattle.bforest_core.proofs.walks.Standing.{on-within}
+use Rattle.bforest_core.proofs.walks.Standing.{on-within, points-stands}
 use Rattle.bforest_core.proofs.walks.Steps.{read}
 
 module _ {K X : Type 0} (cmp : K → K → Ordering) (es : List (K × X)) (key : K) where
@@ -169,7 +168,7 @@ module _ {K V : Type 0} {n : ℕ} (table : Table K V) (root : ℕ) (path : Path 
         record {
           root_is = on.root_is;
           at = record {
-            points = points-stands path.node path.entry path.size tree 0 s;
+            points = points-stands path.node path.entry tree 0 path.size s;
             first = λ none. no_nodes (half_of n) n one s.leaf.before solid (omega (arith, s.leaf.place_is));
           };
         }
