@@ -8,82 +8,45 @@ use Rattle.bforest_nodes.specs.Content.{Content, IsFree, entry_count, entry_capa
 use Rattle.bforest_core.specs.Table.{Table}
 use Rattle.bforest_core.specs.Levels.{LevelNode, node, flat, heads, sizes, sizes_of, numbers, Tree}
 use Rattle.bforest_core.specs.Sizes.{inner_gain, leaf_gain, need, need_above}
-use Rattle.bforest_core.specs.Place.{inner_content, leaf_content}
+use Rattle.bforest_core.specs.Place.{count, inner_content, leaf_content}
 use Rattle.bforest_core.specs.Climb.{Above, Placed}
-use Rattle.bforest_core.proofs.rows.LevelRows.{sizes-append, FitRow-split}
-use Rattle.bforest_core.proofs.table.Tables.{count-append, row-split}
+use Rattle.bforest_core.proofs.rows.LevelRows.{sizes-append}
+use Rattle.bforest_core.proofs.table.Tables.{count-append}
 use Rattle.bforest_core.proofs.insertion.Grow.{gain_some, gain_room}
 use Rattle.bforest_core.proofs.table.Stored.{some_same, item_count}
 use Rattle.bforest_core.proofs.insertion.LeafSpot.{LeafSpot, keys_count, leaf_spot, room_gain}
 use Rattle.bforest_core.proofs.insertion.LeafParted.{full_gain}
+use Rattle.bforest_core.proofs.walks.Steps.{Spot, spot}
 
 -- a node that does not say that it is full
 not_so : {A : Type 0} (full : Bool) → full ≡ false → (IsTrue full ↔ A) → ¬ A
 not_so full none h = λ a. false≢true (sym none ∙ h.1 a)
 
 module _ {K V : Type 0} where
-  -- the lowest of the rows above a level, cut at the path's node
-  record Floor (t : Table K V) (ms js : List ℕ) (up size : ℕ) (rows : List (List (LevelNode K ℕ))) (p : ℕ) : Type 0 where
-    before : List (LevelNode K ℕ)
-    entries : List (K × ℕ)
-    after : List (LevelNode K ℕ)
-    rest : List (List (LevelNode K ℕ))
-    rows_are : rows ≡ (before ++ node (get_or ms up 0) entries ∷ after) ∷ rest
-    within : get_or js up 0 < length entries
-    place_is : p ≡ length (flat before) + get_or js up 0
-    slot_is : slice_get t.nodes (get_or ms up 0) ≡ Some (inner_content entries)
-    most_is : length entries ≤ 8
-    list : List (K × ℕ)
-    above : Above t ms js (suc up) size rest list (length before)
-
-  floor_at : (t : Table K V) (ms js : List ℕ) (up size : ℕ) (row : List (LevelNode K ℕ)) (rest : List (List (LevelNode K ℕ))) (list : List (K × ℕ)) (p : ℕ) → (ab : Above t ms js up size (row ∷ rest) list p) →
-      (before : List (LevelNode K ℕ)) (es : List (K × ℕ)) (after : List (LevelNode K ℕ)) → row ≡ before ++ node (get_or ms up 0) es ∷ after → Above t ms js up size ((before ++ node (get_or ms up 0) es ∷ after) ∷ rest) list p
-  floor_at t ms js up size row rest list p ab before es after is = subst (λ (z : List (LevelNode K ℕ)). Above t ms js up size (z ∷ rest) list p) is ab
-
-  floor : (t : Table K V) (ms js : List ℕ) (up size : ℕ) (rows : List (List (LevelNode K ℕ))) (list : List (K × ℕ)) (p : ℕ) → Above t ms js up size rows list p → up < size → Floor t ms js up size rows p
-  floor t ms js up size [] list p ab low = absurd (omega (arith, ab.height, low))
-  floor t ms js up size (row ∷ rest) list p ab low =
-      let at = ab.stands.0 in
-      let n = get_or ms up 0 in
-      let row2 : List (LevelNode K ℕ) = at.before ++ node n at.entries ∷ at.after in
-      let ab2 = floor_at t ms js up size row rest list p ab at.before at.entries at.after at.row_is in
-      let c = λ (m : ℕ). count-append m (numbers row ++ flat_map numbers rest) t.chain in
-      let c2 = λ (m : ℕ). count-append m (numbers row) (flat_map numbers rest) in
-      let c3 = λ (m : ℕ). count-append m (flat_map numbers rest) t.chain in
-      record {
-        before = at.before;
-        entries = at.entries;
-        after = at.after;
-        rest = rest;
-        rows_are = ap (λ z. z ∷ rest) at.row_is;
-        within = at.within;
-        place_is = at.place_is;
-        slot_is = (row-split inner_content t.nodes at.before (node n at.entries ∷ at.after) ab2.inside.0).1.0;
-        most_is = (FitRow-split 4 8 at.before (node n at.entries) at.after ab2.stacked.1).1.1;
-        list = heads row;
-        above = record {
-          stacked = ab.stacked.2;
-          inside = ab.inside.1;
-          stands = ab.stands.1;
-          height = omega (arith, ab.height);
-          apart = λ m. omega (arith, ab.apart m, c m, c2 m, c3 m);
-        };
-      }
+  -- the rows above one on which the path stands
+  above_spot : (t : Table K V) (ms js : List ℕ) (up size : ℕ) (rows : List (List (LevelNode K ℕ))) (list : List (K × ℕ)) (p : ℕ) → Above t ms js up size rows list p → (s : Spot t.nodes ms js up size rows list p) → Above t ms js (suc up) size s.rest (heads s.row) (length s.before)
+  above_spot t ms js up size rows list p ab s = record {
+    stacked = s.over.stacked;
+    inside = s.over.inside;
+    stands = s.over.stands;
+    height = s.over.height;
+    apart = λ m. omega (arith, ab.apart m, ap (λ z. count m (flat_map numbers z ++ t.chain)) s.rows_are, count-append m (numbers s.row ++ flat_map numbers s.rest) t.chain, count-append m (numbers s.row) (flat_map numbers s.rest), count-append m (flat_map numbers s.rest) t.chain);
+  }
 
   -- a full node, and one with room
-  floor_full : (t : Table K V) (ms js : List ℕ) (up size : ℕ) (rows : List (List (LevelNode K ℕ))) (p : ℕ) → (f : Floor t ms js up size rows p) → length f.entries ≡ 8 → need_above (Some p) (map sizes rows) ≡ suc (need_above (Some (length f.before)) (map sizes f.rest))
-  floor_full t ms js up size rows p f eight =
+  spot_full : (t : Table K V) (ms js : List ℕ) (up size : ℕ) (rows : List (List (LevelNode K ℕ))) (list : List (K × ℕ)) (p : ℕ) → (f : Spot t.nodes ms js up size rows list p) → length f.entries ≡ 8 → need_above (Some p) (map sizes rows) ≡ suc (need_above (Some (length f.before)) (map sizes f.rest))
+  spot_full t ms js up size rows list p f eight =
       let row : List (LevelNode K ℕ) = f.before ++ node (get_or ms up 0) f.entries ∷ f.after in
       let g : (inner_gain p (sizes row)).0 ≡ Some (length f.before) =
       ap (λ z. (inner_gain z (sizes row)).0) f.place_is ∙ ap (λ z. (inner_gain (length (flat f.before) + get_or js up 0) z).0) (sizes-append f.before (node (get_or ms up 0) f.entries ∷ f.after)) ∙ gain_some f.before (length f.entries) (get_or js up 0) (sizes f.after) f.within eight in
-      ap (λ z. need_above (Some p) (map sizes z)) f.rows_are ∙ ap (λ z. suc (need_above z (map sizes f.rest))) g
+      ap (λ z. need_above (Some p) (map sizes z)) (f.rows_are ∙ ap (λ z. z ∷ f.rest) f.row_is) ∙ ap (λ z. suc (need_above z (map sizes f.rest))) g
 
-  floor_room : (t : Table K V) (ms js : List ℕ) (up size : ℕ) (rows : List (List (LevelNode K ℕ))) (p : ℕ) → (f : Floor t ms js up size rows p) → length f.entries < 8 → need_above (Some p) (map sizes rows) ≡ 1
-  floor_room t ms js up size rows p f room =
+  spot_room : (t : Table K V) (ms js : List ℕ) (up size : ℕ) (rows : List (List (LevelNode K ℕ))) (list : List (K × ℕ)) (p : ℕ) → (f : Spot t.nodes ms js up size rows list p) → length f.entries < 8 → need_above (Some p) (map sizes rows) ≡ 1
+  spot_room t ms js up size rows list p f room =
       let row : List (LevelNode K ℕ) = f.before ++ node (get_or ms up 0) f.entries ∷ f.after in
       let g : (inner_gain p (sizes row)).0 ≡ None =
       ap (λ z. (inner_gain z (sizes row)).0) f.place_is ∙ ap (λ z. (inner_gain (length (flat f.before) + get_or js up 0) z).0) (sizes-append f.before (node (get_or ms up 0) f.entries ∷ f.after)) ∙ ap (λ z. z.0) (gain_room f.before (length f.entries) (get_or js up 0) (sizes f.after) f.within room) in
-      ap (λ z. need_above (Some p) (map sizes z)) f.rows_are ∙ ap (λ z. suc (need_above z (map sizes f.rest))) g
+      ap (λ z. need_above (Some p) (map sizes z)) (f.rows_are ∙ ap (λ z. z ∷ f.rest) f.row_is) ∙ ap (λ z. suc (need_above z (map sizes f.rest))) g
 
   -- the rows above the leaves
   above_leaves : (most : ℕ) (t : Table K V) (ms js : List ℕ) (size : ℕ) (tree : Tree K V) (place : ℕ) → Placed most t ms js size tree place → (d : LeafSpot most t ms js tree place) → Above t ms js 1 size tree.above (heads (d.before ++ node (get_or ms 0 0) (d.l ++ d.r) ∷ d.after)) (length d.before)
@@ -117,8 +80,8 @@ module _ {K V : Type 0} where
 
   -- a level above the leaves, and the test of the path's node there
   module _ (t : Table K V) (ms js : List ℕ) (up size : ℕ) (rows : List (List (LevelNode K ℕ))) (list : List (K × ℕ)) (p : ℕ) (ab : Above t ms js up size rows list p) (other : up ≢ size) (wide : size ≤ length ms) (r : ℕ) where
-    abbrev level : Floor t ms js up size rows p
-    level = floor t ms js up size rows list p ab (omega (arith, ab.height, other))
+    abbrev level : Spot t.nodes ms js up size rows list p
+    level = spot t.nodes ms js up size rows list p (record { stacked = ab.stacked; inside = ab.inside; stands = ab.stands; height = ab.height }) other
 
     level_slot : slice_get t.nodes (get_or ms up r) ≡ Some (inner_content level.entries)
     level_slot = ap (λ z. slice_get t.nodes z) (get_or_default ms up r 0 (omega (arith, ab.height, other, wide))) ∙ level.slot_is
@@ -129,7 +92,7 @@ module _ {K V : Type 0} where
 
     -- the level above
     pub level_above : (rows : List (List (LevelNode K ℕ))) × (list : List (K × ℕ)) × (at : ℕ) × Above t ms js (up + 1) size rows list at
-    level_above = (level.rest, level.list, length level.before, subst (λ (z : ℕ). Above t ms js z size level.rest level.list (length level.before)) (sym (add-one up)) level.above)
+    level_above = (level.rest, heads level.row, length level.before, subst (λ (z : ℕ). Above t ms js z size level.rest (heads level.row) (length level.before)) (sym (add-one up)) (above_spot t ms js up size rows list p ab level))
 
     module _ (content : Content K V) (read : slice_get t.nodes (get_or ms up r) ≡ Some content) where
       content_is : content ≡ inner_content level.entries
@@ -144,10 +107,10 @@ module _ {K V : Type 0} where
 
         pub level_full : full ≡ true → (more : ℕ) → ((rows : List (List (LevelNode K ℕ))) (list : List (K × ℕ)) (at : ℕ) → Above t ms js (up + 1) size rows list at → more ≡ need_above (Some at) (map sizes rows)) → more + 1 ≡ need_above (Some p) (map sizes rows)
         unfolding level_above
-        level_full is more needs = omega (arith, floor_full t ms js up size rows p level (tells.0 is), needs level_above.0 level_above.1 level_above.2 level_above.3)
+        level_full is more needs = omega (arith, spot_full t ms js up size rows list p level (tells.0 is), needs level_above.0 level_above.1 level_above.2 level_above.3)
 
         pub level_room : full ≡ false → 1 ≡ need_above (Some p) (map sizes rows)
-        level_room none = sym (floor_room t ms js up size rows p level (omega (arith, not_so full none tells, level.most_is)))
+        level_room none = sym (spot_room t ms js up size rows list p level (omega (arith, not_so full none tells, level.most_is)))
 
   -- the leaf, and its test
   module _ (most : ℕ) (t : Table K V) (ms js : List ℕ) (size : ℕ) (tree : Tree K V) (place : ℕ) (p : Placed most t ms js size tree place) where

@@ -8,10 +8,7 @@ use Rattle.bforest_core.specs.Descent.{StackedTo, Under}
 use Rattle.bforest_core.specs.Removal.{numbers_under}
 use Rattle.bforest_core.proofs.rows.LevelRows.{flat-append, numbers-append, least-pos}
 use Rattle.bforest_core.proofs.table.Tables.{count-append}
-
--- two lists that are the same have the same parts
-pub tail_same : {A : Type 0} (x y : A) (xs ys : List A) → x ∷ xs ≡ y ∷ ys → (x ≡ y) × (xs ≡ ys)
-tail_same x y xs ys e = (cc, cc)
+use Rattle.bforest_core.proofs.walks.Downward.{cons_same}
 
 module _ {K X : Type 0} where
   -- a row cut where it is seen from above
@@ -27,7 +24,7 @@ module _ {K X : Type 0} where
   row-cut half most one [] (x ∷ a) b f h = absurd cc
   row-cut half most one (node m [] ∷ ns) (x ∷ a) b f h = absurd (omega (arith, f.0, least-pos half one ns))
   row-cut half most one (node m (e ∷ es) ∷ ns) (x ∷ a) b f h =
-      let s = tail_same (e.0, m) x (heads ns) (a ++ b) h in
+      let s = cons_same (e.0, m) x (heads ns) (a ++ b) h in
       let r = row-cut half most one ns a b f.2 s.1 in
       record {
         left = node m (e ∷ es) ∷ r.left;

@@ -52,7 +52,8 @@ module _ {K : Type 0} where
         stands_same ms js ms' js' (suc level) rows (length at.before) top (λ i low. f i (omega (arith, low))) (λ i low. g i (omega (arith, low))) s.1,
       )
 
-cons_same : {A : Type 0} (p q : A) (xs ys : List A) → p ∷ xs ≡ q ∷ ys → (p ≡ q) × (xs ≡ ys)
+-- two lists that are the same have the same parts
+pub cons_same : {A : Type 0} (p q : A) (xs ys : List A) → p ∷ xs ≡ q ∷ ys → (p ≡ q) × (xs ≡ ys)
 cons_same p q xs ys e = (cc, cc)
 
 -- the node of a row that stands between these, seen from above
