@@ -1,5 +1,6 @@
 -- A step of a path from entry to entry of a tree.
 use Rattle.std.proofs.Common.{◌≡◌, ◌≢◌, ℕ, zero, suc, ◌+◌, ◌≤◌, ◌<◌, List, [], ◌∷◌, ◌++◌, length, get_or, slice_get, Option, None, Some, refl, sym, ap, option_map, subst, ◌∙◌, arith, length-append}
+use Rattle.std.proofs.lemmas.Option.{slice_get_within}
 use Rattle.bforest_nodes.specs.Content.{Content}
 use Rattle.bforest_core.specs.Levels.{LevelNode, node, flat, heads, FitRow, Tree, IsFit, half_of}
 use Rattle.bforest_core.specs.Place.{RowIn, leaf_content, entry_keys, entry_items, Stands, IsIn}
@@ -60,33 +61,37 @@ module _ {K V : Type 0} (most : ℕ) (one : 1 ≤ half_of most) (slots : List (C
       let x = read s.leaf.entries (get_or indices 0 0) s.leaf.within in
       ap (λ z. slice_get (flat tree.leaves) z) s.leaf.place_is ∙ entry_at tree.leaves s.leaf.before (get_or path 0 0) s.leaf.entries s.leaf.after (get_or indices 0 0) x.0 s.leaf.row_is x.1 ∙ sym x.1 ∙ e
 
-  -- the next entry of the same leaf
-  pub entry_within : (path' indices' : List ℕ) → path' ≡ path → get_or indices' 0 0 ≡ get_or indices 0 0 + 1 → ((i : ℕ) → i ≢ 0 → get_or indices' i 0 ≡ get_or indices i 0) → get_or indices 0 0 + 1 < length s.leaf.entries → Stands path' indices' size tree (suc place)
-  entry_within path' indices' path_is here above low =
-      stands_in tree size path indices path' indices' path_is above s.size_is s.leaf.before (get_or path 0 0) s.leaf.entries s.leaf.after (length s.leaf.before) (suc place) s.leaf.row_is refl s.above refl (omega (arith, here, low)) (omega (arith, here, s.leaf.place_is))
+  -- as it was read in the leaf
+  pub entry_read : (e : K × V) → ((es : List (K × V)) → slice_get slots (get_or path 0 0) ≡ Some (leaf_content es) → slice_get es (get_or indices 0 0) ≡ Some e) → slice_get (flat tree.leaves) place ≡ Some e
+  entry_read e read_is = entry_is (Some e) (read_is s.leaf.entries leaf_slot)
+
+  module _ (e : K × V) (read_is : (es : List (K × V)) → slice_get slots (get_or path 0 0) ≡ Some (leaf_content es) → Some e ≡ slice_get es (get_or indices 0 0 + 1)) where
+    -- the next entry is one of the same leaf
+    pub next_read : Some e ≡ slice_get (flat tree.leaves) (suc place)
+    next_read =
+        let next : suc place ≡ length (flat s.leaf.before) + (get_or indices 0 0 + 1) = omega (arith, s.leaf.place_is) in
+        sym (ap (λ z. slice_get (flat tree.leaves) z) next ∙ entry_at tree.leaves s.leaf.before (get_or path 0 0) s.leaf.entries s.leaf.after (get_or indices 0 0 + 1) e s.leaf.row_is (sym (read_is s.leaf.entries leaf_slot)))
+
+    pub next_within : (path' indices' : List ℕ) → path' ≡ path → get_or indices' 0 0 ≡ get_or indices 0 0 + 1 → SameBut 0 indices indices' → Stands path' indices' size tree (suc place)
+    next_within path' indices' path_is here above =
+        let low = slice_get_within s.leaf.entries (get_or indices 0 0 + 1) e (sym (read_is s.leaf.entries leaf_slot)) in
+        stands_in tree size path indices path' indices' path_is above s.size_is s.leaf.before (get_or path 0 0) s.leaf.entries s.leaf.after (length s.leaf.before) (suc place) s.leaf.row_is refl s.above refl (omega (arith, here, low)) (omega (arith, here, s.leaf.place_is))
 
   -- behind the last leaf is the end
   pub leaf_last : suc (length s.leaf.before) ≡ length (heads tree.leaves) → length (flat s.leaf.before) + length s.leaf.entries ≡ length (flat tree.leaves)
   leaf_last last = sym (none_behind tree.leaves s.leaf.before (get_or path 0 0) s.leaf.entries s.leaf.after s.leaf.row_is (last ∙ fit_full (half_of most) most one tree.leaves fit.leaves_fit))
 
-  -- where the path stands on the last entry of its leaf, the next leaf's first is the next entry
-  pub entry_over : (path1 indices1 path' indices' : List ℕ) → Moved path indices path1 indices1 0 tree.above (heads tree.leaves) (suc (length s.leaf.before)) → path' ≡ path1 → get_or indices' 0 0 ≡ 0 → ((i : ℕ) → i ≢ 0 → get_or indices' i 0 ≡ get_or indices1 i 0) → (get_or indices 0 0 + 1 < length s.leaf.entries → ⊥) → Stands path' indices' size tree (suc place)
-  entry_over path1 indices1 path' indices' m path_is here above past =
-      subst (λ (z : ℕ). Stands path' indices' size tree z) (omega (arith, s.leaf.place_is, s.leaf.within, not_less (get_or indices 0 0 + 1) (length s.leaf.entries) past)) (first_behind most one path indices size tree fit s.size_is s.leaf.before (get_or path 0 0) s.leaf.entries s.leaf.after s.leaf.row_is path1 indices1 path' indices' m path_is here above)
-
-  -- the last entry of all
-  pub entry_last : (get_or indices 0 0 + 1 < length s.leaf.entries → ⊥) → suc (length s.leaf.before) ≡ length (heads tree.leaves) → suc place ≡ length (flat tree.leaves)
-  entry_last past last = omega (arith, s.leaf.place_is, s.leaf.within, not_less (get_or indices 0 0 + 1) (length s.leaf.entries) past, leaf_last last)
-
   module _ (none : (es : List (K × V)) → slice_get slots (get_or path 0 0) ≡ Some (leaf_content es) → None ≡ slice_get es (get_or indices 0 0 + 1)) where
     -- the leaf has no entry of the next index
-    past-leaf : get_or indices 0 0 + 1 < length s.leaf.entries → ⊥
-    past-leaf = none_past s.leaf.entries (get_or indices 0 0 + 1) (none s.leaf.entries leaf_slot)
+    leaf_ends : suc place ≡ length (flat s.leaf.before) + length s.leaf.entries
+    leaf_ends = omega (arith, s.leaf.place_is, s.leaf.within, not_less (get_or indices 0 0 + 1) (length s.leaf.entries) (none_past s.leaf.entries (get_or indices 0 0 + 1) (none s.leaf.entries leaf_slot)))
 
     -- then the next leaf's first entry is the next one
-    pub next_over : (path1 indices1 path' indices' : List ℕ) → ((rows : List (List (LevelNode K ℕ))) (list : List (K × ℕ)) (at : ℕ) → Over slots path indices 1 size rows list at → Moved path indices path1 indices1 0 rows list (suc at)) → path' ≡ path1 → get_or indices' 0 0 ≡ 0 → ((i : ℕ) → i ≢ 0 → get_or indices' i 0 ≡ get_or indices1 i 0) → Stands path' indices' size tree (suc place)
-    next_over path1 indices1 path' indices' moved path_is here above = entry_over path1 indices1 path' indices' (moved tree.above (heads tree.leaves) (length s.leaf.before) over_leaves) path_is here above past-leaf
+    pub next_over : (path1 indices1 path' indices' : List ℕ) → ((rows : List (List (LevelNode K ℕ))) (list : List (K × ℕ)) (at : ℕ) → Over slots path indices 1 size rows list at → Moved path indices path1 indices1 0 rows list (suc at)) → path' ≡ path1 → get_or indices' 0 0 ≡ 0 → SameBut 0 indices1 indices' → Stands path' indices' size tree (suc place)
+    next_over path1 indices1 path' indices' moved path_is here above =
+        subst (λ (z : ℕ). Stands path' indices' size tree z) (sym leaf_ends)
+        (first_behind most one path indices size tree fit s.size_is s.leaf.before (get_or path 0 0) s.leaf.entries s.leaf.after s.leaf.row_is path1 indices1 path' indices' (moved tree.above (heads tree.leaves) (length s.leaf.before) over_leaves) path_is here above)
 
     -- or, where no leaf follows, the path stands on the last
     pub next_last : ((rows : List (List (LevelNode K ℕ))) (list : List (K × ℕ)) (at : ℕ) → Over slots path indices 1 size rows list at → suc at ≡ length list) → suc place ≡ length (flat tree.leaves)
-    next_last last = entry_last past-leaf (last tree.above (heads tree.leaves) (length s.leaf.before) over_leaves)
+    next_last last = leaf_ends ∙ leaf_last (last tree.above (heads tree.leaves) (length s.leaf.before) over_leaves)
