@@ -49,14 +49,11 @@ kept p (x ∷ xs) = if p x then x ∷ kept p xs else kept p xs
 -- the sum over those is the sum over all of what the others add nothing to
 sum-kept : (p : ℕ → Bool) (f : ℕ → ℕ) (xs : List ℕ) → sum_by f (kept p xs) ≡ sum_by (λ n. if p n then f n else 0) xs
 sum-kept p f [] = refl
-sum-kept p f (x ∷ xs) =
-    let ih = sum-kept p f xs in
-    let a = sum_by-cons (λ n. if p n then f n else 0) x xs in
-    by (p x) refl ih a
+sum-kept p f (x ∷ xs) = by (p x) refl (sum-kept p f xs)
   where
-    by : (b : Bool) → p x ≡ b → sum_by f (kept p xs) ≡ sum_by (λ n. if p n then f n else 0) xs → sum_by (λ n. if p n then f n else 0) (x ∷ xs) ≡ (if p x then f x else 0) + sum_by (λ n. if p n then f n else 0) xs → sum_by f (kept p (x ∷ xs)) ≡ sum_by (λ n. if p n then f n else 0) (x ∷ xs)
-    by true e ih a = let k = ap (λ z. sum_by f (if z then x ∷ kept p xs else kept p xs)) e in let v = ap (λ z. if z then f x else 0) e in omega (arith, k, v, ih, a, sum_by-cons f x (kept p xs))
-    by false e ih a = let k = ap (λ z. sum_by f (if z then x ∷ kept p xs else kept p xs)) e in let v = ap (λ z. if z then f x else 0) e in omega (arith, k, v, ih, a)
+    by : (b : Bool) → p x ≡ b → sum_by f (kept p xs) ≡ sum_by (λ n. if p n then f n else 0) xs → sum_by f (kept p (x ∷ xs)) ≡ sum_by (λ n. if p n then f n else 0) (x ∷ xs)
+    by true e ih = let k = ap (λ z. sum_by f (if z then x ∷ kept p xs else kept p xs)) e in let v = ap (λ z. if z then f x else 0) e in omega (arith, k, v, ih, sum_by-cons (λ n. if p n then f n else 0) x xs, sum_by-cons f x (kept p xs))
+    by false e ih = let k = ap (λ z. sum_by f (if z then x ∷ kept p xs else kept p xs)) e in let v = ap (λ z. if z then f x else 0) e in omega (arith, k, v, ih, sum_by-cons (λ n. if p n then f n else 0) x xs)
 
 -- a number that passes stands among them as often, and no other
 count-kept : (p : ℕ → Bool) (m : ℕ) (xs : List ℕ) → count m (kept p xs) ≡ (if p m then count m xs else 0)

@@ -1,16 +1,17 @@
 -- Freeing all that is below a node, child by child.
-use Rattle.std.proofs.Common.{◌≡◌, ℕ, zero, suc, ◌+◌, ◌≤◌, ◌<◌, List, [], ◌∷◌, ◌++◌, length, drop, take, reverse, slice_get, Some, append-nil, refl, sym, ap, subst, ◌∙◌, length-set, inl, inr, arith}
+use Rattle.std.proofs.Common.{◌≡◌, ℕ, zero, suc, ◌+◌, ◌≤◌, ◌<◌, List, [], ◌∷◌, ◌++◌, length, drop, take, reverse, slice_get, Some, append-nil, refl, sym, ap, subst, ◌∙◌, inl, inr, arith}
 use Rattle.std.specs.List.{flat_map}
-use Rattle.std.proofs.lemmas.Bool.Decides.{eqb_tells}
+use Rattle.std.proofs.lemmas.Bool.{cases_lt}
+use Rattle.std.proofs.lemmas.List.Concat.{flat_map-append}
 use Rattle.bforest_nodes.specs.Content.{Content, Inner, Leaf, Free, IsInner, children_of, entry_count}
-use Rattle.bforest_core.specs.Table.{Table, front_of, with_freed}
+use Rattle.bforest_core.specs.Table.{Table, with_freed}
 use Rattle.bforest_core.specs.Levels.{LevelNode, node, flat, heads, numbers, half_of}
 use Rattle.bforest_core.specs.Place.{leaf_content, inner_content, entry_items, count, Distinct}
 use Rattle.bforest_core.specs.Descent.{StackedTo, Under}
 use Rattle.bforest_core.specs.Trees.{numbers_down, slot}
 use Rattle.bforest_core.specs.Removal.{Frees, GivesAll, numbers_under}
-use Rattle.bforest_core.proofs.union.FreeSlots.{freed-slot, slot_same}
-use Rattle.bforest_core.proofs.removal.Frees.{frees-refl, frees-then, frees-wider}
+use Rattle.bforest_core.proofs.union.FreeSlots.{slot_same}
+use Rattle.bforest_core.proofs.removal.Frees.{frees-one, frees-refl, frees-then, frees-wider, only_here}
 use Rattle.bforest_core.proofs.walks.Downward.{Seen, no_heads}
 use Rattle.bforest_core.proofs.walks.TopNode.{LeafUnder, InnerUnder, node_under, no_elements}
 use Rattle.std.proofs.lemmas.List.{length-map, reverse-append, take_all}
@@ -19,7 +20,7 @@ use Rattle.bforest_core.proofs.table.Stored.{some_same}
 use Rattle.bforest_core.proofs.table.Read.{slot-is}
 use Rattle.bforest_core.proofs.table.Lists.{drop-read}
 use Rattle.bforest_core.proofs.union.Sections.{UnderCut, under-cut}
-use Rattle.bforest_core.proofs.table.Tables.{count-append, count-same, count-other, row-same, rows-same, slice_get-set_apart}
+use Rattle.bforest_core.proofs.table.Tables.{count-append, count-same, row-same, rows-same}
 
 -- the items up to one more
 items-read : {K : Type 0} (top : List (K × ℕ)) (index : ℕ) (x : K × ℕ) → slice_get top index ≡ Some x → take (suc index) (entry_items top) ≡ take index (entry_items top) ++ x.1 ∷ []
@@ -153,36 +154,14 @@ module _ {K V : Type 0} where
         dropped (x ∷ top) (suc index) past = dropped top index (omega (arith, past))
 
   -- the node itself is freed after all that is below it
-  gives-top : (old now : Table K V) (own all given : List ℕ) (top : ℕ) → top < length now.nodes → count top own ≡ 0 → ((m : ℕ) → count m all ≡ count m own + count m (top ∷ [])) → GivesAll old now own given → GivesAll old (with_freed now top) all (top ∷ given)
-  gives-top old now own all given top low none all_is g =
-      let one : Frees now (with_freed now top) (top ∷ []) (top ∷ []) = record {
-        others = λ m other. slice_get-set_apart now.nodes top m (Free (front_of now.chain)) (λ (e : m ≡ top). absurd (omega (arith, other, count-one m top e)));
-        freed_are = (freed-slot now top low, tt);
-        chain_is = refl;
-        slots_are = length-set now.nodes top (Free (front_of now.chain));
-        limit_is = refl;
-      } in
-      let both = frees-both old now (with_freed now top) own (top ∷ []) given (top ∷ []) (λ m some. other_top m some) g.frees one in
+  gives-top : (old now : Table K V) (own all given : List ℕ) (top : ℕ) (content : Content K V) → slice_get now.nodes top ≡ Some content → count top own ≡ 0 → ((m : ℕ) → count m all ≡ count m own + count m (top ∷ [])) → GivesAll old now own given → GivesAll old (with_freed now top) all (top ∷ given)
+  gives-top old now own all given top content found none all_is g =
+      let apart : (m : ℕ) → 0 < count m given → count m (top ∷ []) ≡ 0 =
+      λ m some. elim (cases_lt 0 (count m (top ∷ []))) [ inl here ↦ absurd (omega (arith, some, g.counted m, only_here m top own here none)) | inr past ↦ omega (arith, past) ] in
       record {
-        frees = record {
-          others = λ m zero. both.others m (omega (arith, zero, all_is m, count-append m own (top ∷ [])));
-          freed_are = both.freed_are;
-          chain_is = both.chain_is;
-          slots_are = both.slots_are;
-          limit_is = both.limit_is;
-        };
+        frees = frees-then old now (with_freed now top) all (top ∷ []) given (top ∷ []) (λ m zero. omega (arith, zero, all_is m)) apart (frees-wider old now own all given (λ m zero. omega (arith, zero, all_is m)) g.frees) (frees-one now (with_freed now top) top content (top ∷ []) found refl (omega (arith, count-same top [])));
         counted = λ m. omega (arith, all_is m, g.counted m, count-append m (top ∷ []) given);
       }
-    where
-      count-one : (m n : ℕ) → m ≡ n → 0 < count m (n ∷ [])
-      count-one m n e = subst (λ (z : ℕ). 0 < count z (n ∷ [])) (sym e) (omega (arith, count-same n []))
-
-      other_top : (m : ℕ) → 0 < count m given → count m (top ∷ []) ≡ 0
-      other_top m some =
-          elim (eqb_tells top m) [
-            | inl w ↦ absurd (let e = ap (λ z. count z own) w.1 in omega (arith, some, none, e, g.counted m))
-            | inr w ↦ count-other m top [] w.1
-          ]
 
 -- the entry whose item stands at an index
 item_at : {K : Type 0} (top : List (K × ℕ)) (index child : ℕ) → slice_get (entry_items top) index ≡ Some child → (x : K × ℕ) × (slice_get top index ≡ Some x) × (x.1 ≡ child)
@@ -245,14 +224,10 @@ module _ {K V : Type 0} where
           slot_is = s.slot_is;
           children_are = refl;
           under = subst (λ z. Under most slots leaves s.rows z) (ap flat row ∙ append-nil es) s.under;
-          counted = λ m. omega (arith, count-append m (numbers leaves) (flat_map numbers lower), count-append m (numbers leaves) (flat_map numbers s.rows), ap (λ z. count m (flat_map numbers z)) s.lower_is, rows_more m s.rows s.row, ap (λ z. count m (numbers z)) row);
+          counted = λ m. omega (arith, count-append m (numbers leaves) (flat_map numbers lower), count-append m (numbers leaves) (flat_map numbers s.rows), ap (λ z. count m (flat_map numbers z)) s.lower_is, ap (λ z. count m z) (flat_map-append numbers s.rows (s.row ∷ [])), count-append m (flat_map numbers s.rows) (numbers s.row ++ []), ap (λ z. count m z) (append-nil (numbers s.row)), ap (λ z. count m (numbers z)) row);
           height = λ some. sym s.count_is;
           down = ap (λ z. numbers_down slots z number) s.count_is ∙ ap (λ z. number ∷ flat_map (numbers_down slots (length s.rows)) (reverse (children_of z))) (slot-is slots number (inner_content es) s.slot_is);
         }
-      where
-        rows_more : (m : ℕ) (rows : List (List (LevelNode K ℕ))) (row : List (LevelNode K ℕ)) → count m (flat_map numbers (rows ++ row ∷ [])) ≡ count m (flat_map numbers rows) + count m (numbers row)
-        rows_more m [] row = omega (arith, ap (λ z. count m z) (append-nil (numbers row)))
-        rows_more m (r ∷ rows) row = omega (arith, rows_more m rows row, count-append m (numbers r) (flat_map numbers rows), count-append m (numbers r) (flat_map numbers (rows ++ row ∷ [])))
 
     pub under-open : (lower : List (List (LevelNode K ℕ))) (first : K) (number : ℕ) → Under most slots leaves lower ((first, number) ∷ []) → Opened most slots leaves lower number
     under-open lower first number u = elim (node_under most one slots leaves lower [] first number [] u) [ inl s ↦ open_leaf lower first number s | inr s ↦ open_inner lower first number s ]
@@ -291,7 +266,7 @@ module _ {K V : Type 0} where
   gives-down most old now leaves lower number index s all =
       let below = flat_map (numbers_down old.nodes (length s.opened.rows)) (reverse (entry_items s.opened.top)) in
       subst (λ (z : List ℕ). GivesAll old (with_freed now number) (numbers_under leaves lower) z) (sym s.opened.down)
-      (gives-top old now (numbers_under s.opened.low s.opened.rows) (numbers_under leaves lower) below number (slice_get_within now.nodes number s.opened.content s.slot_is) s.alone s.opened.counted all)
+      (gives-top old now (numbers_under s.opened.low s.opened.rows) (numbers_under leaves lower) below number s.opened.content s.slot_is s.alone s.opened.counted all)
 
   -- below a leaf lies nothing, so that it is freed alone
   pub gives-leaf : (most : ℕ) (one : 1 ≤ half_of most) (old : Table K V) (leaves : List (LevelNode K V)) (lower : List (List (LevelNode K ℕ))) (number : ℕ) → Distinct (numbers_under leaves lower ++ old.chain) → (o : Opened most old.nodes leaves lower number) → (IsInner o.content → ⊥) → GivesAll old (with_freed old number) (numbers_under leaves lower) (numbers_down old.nodes (length lower) number)

@@ -1,5 +1,5 @@
 -- A step of a path from entry to entry of a tree.
-use Rattle.std.proofs.Common.{◌≡◌, ◌≢◌, ℕ, zero, suc, ◌+◌, ◌≤◌, ◌<◌, List, [], ◌∷◌, ◌++◌, length, get_or, slice_get, Option, None, Some, refl, sym, ap, option_map, subst, ◌∙◌, arith, length-append}
+use Rattle.std.proofs.Common.{◌≡◌, ℕ, zero, suc, ◌+◌, ◌≤◌, ◌<◌, List, [], ◌∷◌, ◌++◌, length, get_or, slice_get, Option, None, Some, refl, sym, ap, option_map, subst, ◌∙◌, arith, length-append}
 use Rattle.std.proofs.lemmas.Option.{slice_get_within}
 use Rattle.bforest_nodes.specs.Content.{Content}
 use Rattle.bforest_core.specs.Levels.{LevelNode, node, flat, heads, FitRow, Tree, IsFit, half_of}
@@ -55,15 +55,10 @@ module _ {K V : Type 0} (most : ℕ) (one : 1 ≤ half_of most) (slots : List (C
   pub over_leaves : Over slots path indices 1 size tree.above (heads tree.leaves) (length s.leaf.before)
   over_leaves = record { stacked = fit.stacked; inside = inside.rows_in; stands = s.above; height = omega (arith, s.size_is) }
 
-  -- the entry at the place
-  pub entry_is : (o : Option (K × V)) → slice_get s.leaf.entries (get_or indices 0 0) ≡ o → slice_get (flat tree.leaves) place ≡ o
-  entry_is o e =
-      let x = read s.leaf.entries (get_or indices 0 0) s.leaf.within in
-      ap (λ z. slice_get (flat tree.leaves) z) s.leaf.place_is ∙ entry_at tree.leaves s.leaf.before (get_or path 0 0) s.leaf.entries s.leaf.after (get_or indices 0 0) x.0 s.leaf.row_is x.1 ∙ sym x.1 ∙ e
-
-  -- as it was read in the leaf
+  -- the entry at the place, as it was read in the leaf
   pub entry_read : (e : K × V) → ((es : List (K × V)) → slice_get slots (get_or path 0 0) ≡ Some (leaf_content es) → slice_get es (get_or indices 0 0) ≡ Some e) → slice_get (flat tree.leaves) place ≡ Some e
-  entry_read e read_is = entry_is (Some e) (read_is s.leaf.entries leaf_slot)
+  entry_read e read_is =
+      ap (λ z. slice_get (flat tree.leaves) z) s.leaf.place_is ∙ entry_at tree.leaves s.leaf.before (get_or path 0 0) s.leaf.entries s.leaf.after (get_or indices 0 0) e s.leaf.row_is (read_is s.leaf.entries leaf_slot)
 
   module _ (e : K × V) (read_is : (es : List (K × V)) → slice_get slots (get_or path 0 0) ≡ Some (leaf_content es) → Some e ≡ slice_get es (get_or indices 0 0 + 1)) where
     -- the next entry is one of the same leaf

@@ -14,7 +14,7 @@ use Rattle.bforest_core.specs.Steps.{Moved, Over}
 use Rattle.bforest_core.specs.Table.{Table}
 use Rattle.bforest_core.specs.Trees.{IsUnion, is_root, slot, tree_of}
 use Rattle.bforest_core.proofs.walks.Descent.{some_leaf}
-use Rattle.bforest_core.proofs.walks.Leading.{led_leaf}
+use Rattle.bforest_core.proofs.walks.Leading.{LeadsFirst, led_leaf}
 use Rattle.bforest_core.proofs.walks.TopNode.{SameBut, node_under}
 use Rattle.bforest_core.proofs.table.Read.{slot-is}
 use Rattle.bforest_core.proofs.rows.LevelRows.{flat-append}
@@ -65,6 +65,13 @@ pub under-root : {K V : Type 0} (most : ℕ) (table : Table K V) (root : ℕ) �
 under-root most table root union is =
     let w = is-rooted most table root union is in
     record { first = (whole_top most table.nodes root (tree_of table.nodes root) w).first; under = whole_under most table.nodes root (tree_of table.nodes root) w; low = w.low }
+
+-- a path that was led from a root down to the first entry
+pub led-first : {K V : Type 0} (most : ℕ) (table : Table K V) (root : ℕ) → IsUnion most table → IsTrue (is_root table.nodes root) → (path indices path' indices' : List ℕ) (level : ℕ) → LeadsFirst most table.nodes path indices path' indices' root level → (level ≤ 16) × StandsUnder table.nodes root path' indices' (level + 1) 0
+led-first most table root union is path indices path' indices' level leads =
+    let u = under-root most table root union is in
+    let d = leads (tree_of table.nodes root).leaves (tree_of table.nodes root).above u.first [] u.under in
+    (omega (arith, d.0, u.low), record { root_is = is; stands = led_stands (tree_of table.nodes root) path indices path' indices' (level + 1) d.1 (omega (arith, d.0)) })
 
 -- a path of one level at the front of a root that is a leaf is on the first entry
 pub on-leaf : {K V : Type 0} (most : ℕ) (table : Table K V) (root : ℕ) (path indices : List ℕ) → IsUnion most table → IsTrue (is_root table.nodes root) → IsLeaf (slot table.nodes root) → get_or path 0 0 ≡ root → get_or indices 0 0 ≡ 0 → StandsUnder table.nodes root path indices 1 0
