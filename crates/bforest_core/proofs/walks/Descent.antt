@@ -96,7 +96,7 @@ module _ {K V : Type 0} (cmp : K → K → Ordering) (o : IsTotalOrder cmp) (mos
     pub inner_step : InnerUnder most slots leaves lower a first number b → InnerStep cmp most slots leaves lower a first number b key
     inner_step s = record {
       here = s;
-      increasing = (increasing_about cmp o s.at (stacked_increasing cmp (heads leaves) s.rows (flat s.row) s.under.stacked (heads_increasing cmp leaves inc))).1;
+      increasing = (increasing_about cmp o s.at (stacked_increasing cmp o (heads leaves) s.rows (flat s.row) s.under.stacked (heads_increasing cmp o leaves inc))).1;
       from = subst (λ (z : K). IsFrom cmp a z key) (sym s.at.first_is) g.from;
       upto = upto_flat cmp 4 8 (omega arith) s.at.after key s.at.after_fit (subst (λ (z : List (K × ℕ)). IsUpTo cmp z key) (sym s.at.after_is) g.upto);
     }

@@ -1,5 +1,6 @@
 -- Rows seen from the top: the highest of them, and the node of a row that is seen from above.
 use Rattle.std.proofs.Common.{◌≡◌, ℕ, suc, ◌+◌, ◌≤◌, ◌<◌, List, [], ◌∷◌, ◌++◌, length, get_or, refl, sym, ap, subst, ◌∙◌, arith}
+use Rattle.std.specs.Cmp.{IsTotalOrder}
 use Rattle.std.specs.List.Sorted.{IsStrictlySortedBy}
 use Rattle.std.specs.List.{AllByRecursion}
 use Rattle.std.specs.Map.{keys_of}
@@ -11,7 +12,7 @@ use Rattle.bforest_core.specs.Levels.{LevelNode, node, flat, heads, FitRow}
 use Rattle.bforest_core.specs.Place.{RowIn, RowsIn, inner_content, IsAt}
 use Rattle.bforest_core.specs.Descent.{StackedTo, StandsTo, IsUpTo}
 use Rattle.bforest_core.proofs.rows.LevelRows.{least-pos}
-use Rattle.bforest_core.proofs.walks.Rising.{all_split}
+use Rattle.bforest_core.proofs.walks.Rising.{all_split, increasing_split}
 
 -- the last of some elements
 pub record Last {A : Type 0} (xs : List A) : Type 0 where
@@ -94,15 +95,11 @@ module _ {K X : Type 0} where
   heads_all P (node m (e ∷ es) ∷ ns) h = (h.0, heads_all P ns (all_split P es (flat ns) h.1).1)
 
   -- the nodes of a row increase as its entries do
-  pub heads_increasing : (cmp : K → K → Ordering) (row : List (LevelNode K X)) → IsIncreasing cmp (flat row) → IsIncreasing cmp (heads row)
+  pub heads_increasing : (cmp : K → K → Ordering) → IsTotalOrder cmp → (row : List (LevelNode K X)) → IsIncreasing cmp (flat row) → IsIncreasing cmp (heads row)
   unfolding IsStrictlySortedBy
-  heads_increasing cmp [] h = tt
-  heads_increasing cmp (node m [] ∷ ns) h = heads_increasing cmp ns h
-  heads_increasing cmp (node m (e ∷ es) ∷ ns) h = (heads_all (λ k. cmp e.0 k ≡ Less) ns (all_split (λ k. cmp e.0 k ≡ Less) es (flat ns) h.0).1, heads_increasing cmp ns (rest es h.1))
-    where
-      rest : (es : List (K × X)) → IsStrictlySortedBy cmp (keys_of (es ++ flat ns)) → IsIncreasing cmp (flat ns)
-      rest [] h = h
-      rest (e ∷ es) h = rest es h.1
+  heads_increasing cmp o [] h = tt
+  heads_increasing cmp o (node m [] ∷ ns) h = heads_increasing cmp o ns h
+  heads_increasing cmp o (node m (e ∷ es) ∷ ns) h = (heads_all (λ k. cmp e.0 k ≡ Less) ns (all_split (λ k. cmp e.0 k ≡ Less) es (flat ns) h.0).1, heads_increasing cmp o ns (increasing_split cmp o es (flat ns) h.1).1)
 
   -- the key is before a row's entries as it is before its nodes
   pub upto_flat : (cmp : K → K → Ordering) (half most : ℕ) → 1 ≤ half → (row : List (LevelNode K X)) (key : K) → FitRow half most row → IsUpTo cmp (heads row) key → IsUpTo cmp (flat row) key
@@ -111,6 +108,6 @@ module _ {K X : Type 0} where
   upto_flat cmp half most one (node m (e ∷ es) ∷ ns) key f u = u
 
 -- the nodes of the top increase as the entries of the lowest row do
-pub stacked_increasing : {K : Type 0} (cmp : K → K → Ordering) (list : List (K × ℕ)) (rows : List (List (LevelNode K ℕ))) (top : List (K × ℕ)) → StackedTo list rows top → IsIncreasing cmp list → IsIncreasing cmp top
-stacked_increasing cmp list [] top s h = subst (IsIncreasing cmp) s h
-stacked_increasing cmp list (row ∷ rows) top s h = stacked_increasing cmp (heads row) rows top s.2 (heads_increasing cmp row (subst (IsIncreasing cmp) (sym s.0) h))
+pub stacked_increasing : {K : Type 0} (cmp : K → K → Ordering) → IsTotalOrder cmp → (list : List (K × ℕ)) (rows : List (List (LevelNode K ℕ))) (top : List (K × ℕ)) → StackedTo list rows top → IsIncreasing cmp list → IsIncreasing cmp top
+stacked_increasing cmp o list [] top s h = subst (IsIncreasing cmp) s h
+stacked_increasing cmp o list (row ∷ rows) top s h = stacked_increasing cmp o (heads row) rows top s.2 (heads_increasing cmp o row (subst (IsIncreasing cmp) (sym s.0) h))
