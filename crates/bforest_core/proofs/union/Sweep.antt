@@ -13,8 +13,8 @@ use Rattle.bforest_core.specs.Removal.{Frees, GivesAll, numbers_under}
 use Rattle.bforest_core.proofs.union.FreeSlots.{slot_same}
 use Rattle.bforest_core.proofs.removal.Frees.{frees-one, frees-refl, frees-then, frees-wider, only_here}
 use Rattle.bforest_core.proofs.walks.Downward.{Seen, no_heads}
-use Rattle.bforest_core.proofs.walks.TopNode.{LeafUnder, InnerUnder, node_under, no_elements}
-use Rattle.std.proofs.lemmas.List.{length-map, reverse-append, take_all}
+use Rattle.bforest_core.proofs.walks.TopNode.{LeafUnder, InnerUnder, node_under}
+use Rattle.std.proofs.lemmas.List.{drop_all, length-map, nil_from_length, reverse-append, take_all}
 use Rattle.std.proofs.lemmas.Option.{slice_get_within}
 use Rattle.bforest_core.proofs.table.Stored.{some_same}
 use Rattle.bforest_core.proofs.table.Read.{slot-is}
@@ -139,19 +139,13 @@ module _ {K V : Type 0} where
     -- at last all is freed
     pub sweep-last : (now : Table K V) (index : ℕ) → length top ≤ index → Swept most old now leaves rows top index → GivesAll old now (numbers_under leaves rows) (flat_map (numbers_down old.nodes (length rows)) (reverse (entry_items top)))
     sweep-last now index past s =
-        let none : drop index top ≡ [] = dropped top index past in
+        let none : drop index top ≡ [] = drop_all index top past in
         let left = under_none most one old.nodes s.left_leaves s.left_rows (subst (λ (z : List (K × ℕ)). Under most old.nodes s.left_leaves s.left_rows z) none s.under) in
         let whole = s.order ∙ ap (λ z. flat_map (numbers_down old.nodes (length rows)) (reverse z)) (take_all index (entry_items top) (omega (arith, past, length-map top (λ (e : K × ℕ). e.1)))) in
         subst (λ (z : List ℕ). GivesAll old now (numbers_under leaves rows) z) whole (record {
           frees = frees-wider old now s.own (numbers_under leaves rows) s.given (λ m zero. omega (arith, zero, s.split m)) s.frees;
           counted = λ m. omega (arith, s.counted m, s.split m, left m);
         })
-      where
-        dropped : (top : List (K × ℕ)) (index : ℕ) → length top ≤ index → drop index top ≡ []
-        dropped [] zero past = refl
-        dropped [] (suc index) past = refl
-        dropped (x ∷ top) zero past = absurd (omega (arith, past))
-        dropped (x ∷ top) (suc index) past = dropped top index (omega (arith, past))
 
   -- the node itself is freed after all that is below it
   gives-top : (old now : Table K V) (own all given : List ℕ) (top : ℕ) (content : Content K V) → slice_get now.nodes top ≡ Some content → count top own ≡ 0 → ((m : ℕ) → count m all ≡ count m own + count m (top ∷ [])) → GivesAll old now own given → GivesAll old (with_freed now top) all (top ∷ given)
@@ -173,7 +167,7 @@ item_at (y ∷ top) (suc index) child found = item_at top index child found
 -- a row of one node seen from above
 one_node : {K X : Type 0} (half most : ℕ) → 1 ≤ half → (row : List (LevelNode K X)) (first : K) (number : ℕ) (at : Seen half most row [] first number []) → row ≡ node number (at.e ∷ at.es) ∷ []
 one_node half most one row first number at =
-    at.row_is ∙ ap (λ z. z ++ node number (at.e ∷ at.es) ∷ at.after) (no_elements at.before at.before_is) ∙ ap (λ z. node number (at.e ∷ at.es) ∷ z) (no_heads half most one at.after at.after_fit at.after_is)
+    at.row_is ∙ ap (λ z. z ++ node number (at.e ∷ at.es) ∷ at.after) (nil_from_length at.before at.before_is) ∙ ap (λ z. node number (at.e ∷ at.es) ∷ z) (no_heads half most one at.after at.after_fit at.after_is)
 
 module _ {K V : Type 0} where
   -- only an inner node has children, and they are its entries

@@ -95,11 +95,3 @@ module _ {K V : Type 0} (path indices : List ℕ) (tree : Tree K V) (place : ℕ
   pub at_end : (size : ℕ) → size ≡ 0 → IsPathAt path indices size tree place → place ≡ length (flat tree.leaves)
   at_end zero none at = at
   at_end (suc size) none at = absurd (omega (arith, none))
-
--- the same path stands where it stood
-pub stay : {K V : Type 0} (path indices : List ℕ) (size : ℕ) (path' indices' : List ℕ) (size' : ℕ) (tree : Tree K V) (place place' : ℕ) → path' ≡ path → indices' ≡ indices → size' ≡ size → place' ≡ place → Stands path indices size tree place → Stands path' indices' size' tree place'
-stay path indices size path' indices' size' tree place place' path_is indices_are size_is place_is s =
-    subst (λ (z : List ℕ). Stands z indices' size' tree place') (sym path_is)
-    (subst (λ (z : List ℕ). Stands path z size' tree place') (sym indices_are)
-    (subst (λ (z : ℕ). Stands path indices z tree place') (sym size_is)
-    (subst (λ (z : ℕ). Stands path indices size tree z) (sym place_is) s)))

@@ -1,5 +1,6 @@
 -- The way down of a search: one level of it, and its end in a leaf.
 use Rattle.std.proofs.Common.{◌≡◌, ◌≢◌, ℕ, suc, ◌+◌, ◌≤◌, ◌⊎◌, inl, inr, List, [], ◌∷◌, ◌++◌, length, get_or, slice_get, Some, refl, sym, ap, subst, ◌∙◌, arith, append_assoc, length-append}
+use Rattle.std.proofs.lemmas.List.{nil_from_length}
 use Rattle.std.proofs.lemmas.Option.{slice_get_within}
 use Rattle.std.specs.Cmp.{IsTotalOrder}
 use Rattle.std.specs.List.Sorted.{IsStrictlySortedBy}
@@ -19,13 +20,13 @@ use Rattle.bforest_core.proofs.rows.LevelRows.{flat-append}
 use Rattle.bforest_core.proofs.table.Stored.{some_same, slice_get_at}
 use Rattle.bforest_core.proofs.walks.Rising.{all_less, increasing_split, increasing_rest, all_before, all_greater, place_between, entry_between, place-le, first_passed, sides}
 use Rattle.bforest_core.proofs.walks.Downward.{Seen, stands_more, heads_increasing, upto_flat, stacked_increasing}
-use Rattle.bforest_core.proofs.walks.TopNode.{SameBut, InnerUnder, LeafUnder, flat_parted, no_elements, seen_at}
+use Rattle.bforest_core.proofs.walks.TopNode.{SameBut, InnerUnder, LeafUnder, flat_parted, seen_at}
 
 pub some_leaf : (n : ℕ) → IsLeafCapacity n → 1 ≤ half_of n
 some_leaf n c = omega (arith, c.least)
 
 none_before : {A B : Type 0} (xs : List A) (ys : List B) → length xs ≡ length ys → ys ≡ [] → xs ≡ []
-none_before xs ys l e = no_elements xs (l ∙ ap length e)
+none_before xs ys l e = nil_from_length xs (l ∙ ap length e)
 
 module _ {K : Type 0} (cmp : K → K → Ordering) where
   is_from : (a : List (K × ℕ)) (first key : K) → cmp first key ≢ Greater → IsFrom cmp a first key

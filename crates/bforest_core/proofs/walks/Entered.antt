@@ -1,13 +1,14 @@
 -- A step of a path from entry to entry of a tree.
-use Rattle.std.proofs.Common.{◌≡◌, ℕ, zero, suc, ◌+◌, ◌≤◌, ◌<◌, List, [], ◌∷◌, ◌++◌, length, get_or, slice_get, Option, None, Some, refl, sym, ap, option_map, subst, ◌∙◌, arith, length-append}
+use Rattle.std.proofs.Common.{◌≡◌, ℕ, zero, suc, ◌+◌, ◌≤◌, List, [], ◌∷◌, ◌++◌, length, get_or, slice_get, Option, None, Some, refl, sym, ap, option_map, subst, ◌∙◌, arith, length-append}
 use Rattle.std.proofs.lemmas.Option.{slice_get_within}
 use Rattle.bforest_nodes.specs.Content.{Content}
 use Rattle.bforest_core.specs.Levels.{LevelNode, node, flat, heads, FitRow, Tree, IsFit, half_of}
 use Rattle.bforest_core.specs.Place.{RowIn, leaf_content, entry_keys, entry_items, Stands, IsIn}
 use Rattle.bforest_core.specs.Steps.{Over, Moved}
 use Rattle.bforest_core.proofs.rows.LevelRows.{FitRow-split}
-use Rattle.bforest_core.proofs.walks.Steps.{fit_full, entry_at, read, nth, next_at, none_behind, not_less, stands_in}
+use Rattle.bforest_core.proofs.walks.Steps.{fit_full, entry_at, read, nth, next_at, none_behind, stands_in}
 use Rattle.bforest_core.proofs.walks.TopNode.{SameBut}
+use Rattle.bforest_core.proofs.table.Lists.{read_none}
 use Rattle.bforest_core.proofs.table.Stored.{some_same}
 use Rattle.bforest_core.proofs.table.Tables.{row-split}
 
@@ -30,12 +31,6 @@ pair_answer (y ∷ es) (suc i) None k x = pair_answer es i None k x
 -- what is read at a path's leaf is that leaf
 pub leaf_is : {K V : Type 0} (slots : List (Content K V)) (path : List ℕ) (number : ℕ) (content : Content K V) (es : List (K × V)) → slice_get slots number ≡ Some content → number ≡ get_or path 0 0 → slice_get slots (get_or path 0 0) ≡ Some (leaf_content es) → content ≡ leaf_content es
 leaf_is slots path number content es found here slot = some_same content (leaf_content es) (sym found ∙ ap (λ z. slice_get slots z) here ∙ slot)
-
--- where no entry is read, none lies
-pub none_past : {X : Type 0} (xs : List X) (i : ℕ) → None ≡ slice_get xs i → i < length xs → ⊥
-none_past [] i none low = omega (arith, low)
-none_past (x ∷ xs) zero none low = absurd cc
-none_past (x ∷ xs) (suc i) none low = none_past xs i none (omega (arith, low))
 
 -- a path that went to the leaf behind one, and to the front there, stands on the entry that follows
 pub first_behind : {K V : Type 0} (most : ℕ) (one : 1 ≤ half_of most) (path indices : List ℕ) (size : ℕ) (tree : Tree K V) (fit : IsFit most tree) (size_is : size ≡ suc (length tree.above)) (before : List (LevelNode K V)) (n : ℕ) (es : List (K × V)) (after : List (LevelNode K V)) → tree.leaves ≡ before ++ node n es ∷ after → (path1 indices1 path' indices' : List ℕ) →
@@ -79,7 +74,7 @@ module _ {K V : Type 0} (most : ℕ) (one : 1 ≤ half_of most) (slots : List (C
   module _ (none : (es : List (K × V)) → slice_get slots (get_or path 0 0) ≡ Some (leaf_content es) → None ≡ slice_get es (get_or indices 0 0 + 1)) where
     -- the leaf has no entry of the next index
     leaf_ends : suc place ≡ length (flat s.leaf.before) + length s.leaf.entries
-    leaf_ends = omega (arith, s.leaf.place_is, s.leaf.within, not_less (get_or indices 0 0 + 1) (length s.leaf.entries) (none_past s.leaf.entries (get_or indices 0 0 + 1) (none s.leaf.entries leaf_slot)))
+    leaf_ends = omega (arith, s.leaf.place_is, s.leaf.within, read_none s.leaf.entries (get_or indices 0 0 + 1) (none s.leaf.entries leaf_slot))
 
     -- then the next leaf's first entry is the next one
     pub next_over : (path1 indices1 path' indices' : List ℕ) → ((rows : List (List (LevelNode K ℕ))) (list : List (K × ℕ)) (at : ℕ) → Over slots path indices 1 size rows list at → Moved path indices path1 indices1 0 rows list (suc at)) → path' ≡ path1 → get_or indices' 0 0 ≡ 0 → SameBut 0 indices1 indices' → Stands path' indices' size tree (suc place)

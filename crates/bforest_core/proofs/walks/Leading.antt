@@ -1,5 +1,6 @@
 -- The way down to the first entry, and to the last: each answer of `descend_first` and `descend_last` is one of these.
 use Rattle.std.proofs.Common.{◌≡◌, ℕ, zero, suc, ◌+◌, ◌-◌, ◌≤◌, ◌<◌, List, [], ◌∷◌, ◌++◌, length, get_or, set, slice_get, Some, refl, sym, ap, subst, ◌∙◌, arith, length-append}
+use Rattle.std.proofs.lemmas.List.{nil_from_length}
 use Rattle.bforest_nodes.specs.Content.{Content, IsInner, entry_count, children_of}
 use Rattle.bforest_core.specs.Levels.{LevelNode, node, flat, Tree, half_of}
 use Rattle.bforest_core.specs.Place.{leaf_content, inner_content, entry_items, IsAt, Stands}
@@ -8,7 +9,7 @@ use Rattle.bforest_core.proofs.rows.LevelRows.{flat-append}
 use Rattle.bforest_core.proofs.table.Stored.{some_same, item_count}
 use Rattle.bforest_core.proofs.walks.Backward.{last_child_is, last_entry_is}
 use Rattle.bforest_core.proofs.walks.Downward.{Seen, stands_more, stands_same, no_heads}
-use Rattle.bforest_core.proofs.walks.TopNode.{SameBut, no_elements, none_flat, flat_parted, seen_at, set_but, LeafUnder, InnerUnder, leaf_under, inner_under}
+use Rattle.bforest_core.proofs.walks.TopNode.{SameBut, none_flat, flat_parted, seen_at, set_but, LeafUnder, InnerUnder, leaf_under, inner_under}
 use Rattle.bforest_core.proofs.walks.Whole.{stands_above}
 
 -- the path stands at a place of the leaves, and on the rows from there up to this node of the top; above it is as before
@@ -138,7 +139,7 @@ module _ {K V : Type 0} (most : ℕ) (one : 1 ≤ half_of most) (slots : List (C
       pub front_below : FrontBelow most slots leaves lower child
       front_below =
           let c = child_under most slots leaves lower [] first number b front_node content2 read2 0 child child_read in
-          let none = no_elements c.front (omega (arith, c.front_is, none_flat front_node.at.before front_node.at.before_is)) in
+          let none = nil_from_length c.front (omega (arith, c.front_is, none_flat front_node.at.before front_node.at.before_is)) in
           record { rows = front_node.rows; first = c.key; rest = c.back; under = subst (λ (z : List (K × ℕ)). Under most slots leaves front_node.rows (z ++ (c.key, child) ∷ c.back)) none c.under; count_is = front_node.count_is }
 
       -- the node's level, and the path through it
@@ -178,7 +179,7 @@ module _ {K V : Type 0} (most : ℕ) (one : 1 ≤ half_of most) (slots : List (C
 
       pub back_below : BackBelow most slots leaves lower child
       back_below =
-          let none = no_elements c.back (omega (arith, c.front_is, c.back_is, index, last_place 4 8 (omega arith) back_node.row a first number back_node.at)) in
+          let none = nil_from_length c.back (omega (arith, c.front_is, c.back_is, index, last_place 4 8 (omega arith) back_node.row a first number back_node.at)) in
           record { rows = back_node.rows; before = c.front; first = c.key; under = subst (λ (z : List (K × ℕ)). Under most slots leaves back_node.rows (c.front ++ (c.key, child) ∷ z)) none c.under; count_is = back_node.count_is }
 
       -- the node's level, and the path through it

@@ -1,6 +1,6 @@
 -- A node at the top of some rows: a leaf where there are none of inner nodes, and else one of the highest of these.
 use Rattle.std.proofs.Common.{◌≡◌, ◌≢◌, ℕ, suc, ◌+◌, ◌≤◌, ◌<◌, ◌⊎◌, inl, inr, List, [], ◌∷◌, ◌++◌, length, get_or, set, slice_get, Some, refl, sym, ap, subst, ◌∙◌, arith, append_assoc, length-append}
-use Rattle.std.proofs.lemmas.List.{get_or-set_other}
+use Rattle.std.proofs.lemmas.List.{get_or-set_other, nil_from_length}
 use Rattle.std.proofs.lemmas.Option.{slice_get_within}
 use Rattle.bforest_nodes.specs.Content.{Content, IsInner, entry_count}
 use Rattle.bforest_core.specs.Levels.{LevelNode, node, flat, heads, half_of}
@@ -18,14 +18,9 @@ SameBut level old new = (i : ℕ) → i ≢ level → get_or new i 0 ≡ get_or 
 pub set_but : (old new : List ℕ) (level n : ℕ) → new ≡ set old level n → SameBut level old new
 set_but old new level n is i other = ap (λ z. get_or z i 0) is ∙ get_or-set_other old level i n 0 other
 
--- a list of no elements
-pub no_elements : {X : Type 0} (xs : List X) → length xs ≡ 0 → xs ≡ []
-no_elements [] e = refl
-no_elements (x ∷ xs) e = absurd (omega (arith, e))
-
 -- a row of no nodes has no entries
 pub none_flat : {K X : Type 0} (row : List (LevelNode K X)) → length row ≡ 0 → length (flat row) ≡ 0
-none_flat row e = ap (λ z. length (flat z)) (no_elements row e)
+none_flat row e = ap (λ z. length (flat z)) (nil_from_length row e)
 
 -- the entries of a row, parted within a node
 pub flat_parted : {K X : Type 0} (before : List (LevelNode K X)) (n : ℕ) (es l : List (K × X)) (x : K × X) (r : List (K × X)) (after : List (LevelNode K X)) → es ≡ l ++ x ∷ r → flat (before ++ node n es ∷ after) ≡ (flat before ++ l) ++ x ∷ (r ++ flat after)
