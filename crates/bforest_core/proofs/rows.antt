@@ -4,6 +4,5 @@ pub mod Zipper
 pub mod Tops
 pub mod Bounds
 pub mod Counts
-pub mod FirstKeys
 pub mod Needs
 pub mod Contents

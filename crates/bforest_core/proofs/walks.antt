@@ -3,16 +3,14 @@ pub mod Sought
 pub mod LeafSearch
 pub mod Rising
 pub mod Downward
+pub mod TopNode
 pub mod Descent
 pub mod Whole
 pub mod Steps
 pub mod Entered
 pub mod Leading
 pub mod Leaves
-pub mod Pointed
 pub mod Backward
 pub mod Turns
-pub mod Trailing
-pub mod LastDown
 pub mod Standing
 pub mod Nearby

@@ -21,7 +21,8 @@ use Rattle.bforest_core.proofs.table.Chains.{length-fresh_nodes, length-down_fro
 use Rattle.bforest_core.proofs.rows.Counts.{once_below, below-one, few-below}
 use Rattle.bforest_core.proofs.union.Forests.{root-among}
 use Rattle.bforest_core.proofs.rows.Bounds.{climb-seventeen}
-use Rattle.bforest_core.proofs.union.Unions.{Rooted, IsPlanted, rooted}
+use Rattle.bforest_core.proofs.union.Exchange.{IsPlanted}
+use Rattle.bforest_core.proofs.union.Unions.{Rooted, rooted}
 use Rattle.bforest_core.proofs.union.Roots.{exchanged}
 use Rattle.bforest_core.proofs.union.Reserved.{reserved-union, reserved-roots, reserved-then}
 use Rattle.bforest_core.proofs.insertion.LeafSpot.{placed_from, inserted_from}

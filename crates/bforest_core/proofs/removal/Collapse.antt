@@ -9,7 +9,7 @@ use Rattle.bforest_core.specs.Sizes.{trimmed}
 use Rattle.bforest_core.specs.Place.{RowsIn, inner_content, count, root_above, first_number, StandsAbove}
 use Rattle.bforest_core.specs.Removal.{UpTo, Trimmed}
 use Rattle.bforest_core.proofs.rows.LevelRows.{least-pos}
-use Rattle.bforest_core.proofs.rows.Bounds.{FitRow-full}
+use Rattle.bforest_core.proofs.walks.Steps.{fit_full}
 use Rattle.bforest_core.proofs.table.Tables.{count-append, count-same, ne_from_count, rows-same}
 use Rattle.bforest_core.proofs.table.Stored.{item_count}
 use Rattle.bforest_core.proofs.removal.Frees.{frees-refl, freed_other, frees-first}
@@ -37,7 +37,7 @@ module _ {K : Type 0} where
   top_here list [] root s is = absurd (omega (arith, s.2))
   top_here list (node n [] ∷ row) root s is = absurd (omega (arith, s.1.0, least-pos 4 (omega arith) row))
   top_here list (node n (e ∷ es) ∷ []) root s is = record { init = []; entries = e ∷ es; rows_are = ap (λ z. (node z (e ∷ es) ∷ []) ∷ []) is; some = omega arith }
-  top_here list (node n (e ∷ es) ∷ next ∷ row) root s is = absurd (omega (arith, s.2, FitRow-full 4 8 (omega arith) (node n (e ∷ es) ∷ next ∷ row) s.1))
+  top_here list (node n (e ∷ es) ∷ next ∷ row) root s is = absurd (omega (arith, s.2, fit_full 4 8 (omega arith) (node n (e ∷ es) ∷ next ∷ row) s.1))
 
   -- there is one over any rows
   pub top_of_rows : (list : List (K × ℕ)) (row : List (LevelNode K ℕ)) (rows : List (List (LevelNode K ℕ))) (root : ℕ) → Stacked list (row ∷ rows) → root_above list (row ∷ rows) ≡ root → Top (row ∷ rows) root
@@ -75,7 +75,7 @@ module _ {K : Type 0} where
   trimmed-is [] list (row ∷ rows) gone len s u t = absurd (omega (arith, len, t.0))
   trimmed-is (size ∷ []) list (row ∷ rows) gone len s u t = absurd (omega (arith, len, t.0))
   trimmed-is (size ∷ next ∷ after) list (row ∷ rows) gone len s u t =
-      ap (λ z. (size ∷ next ∷ after) ∷ z) (trimmed-is (sizes row) (heads row) rows gone (length-sizes row ∙ sym (FitRow-full 4 8 (omega arith) row u.1)) s.2 u.2 t.1)
+      ap (λ z. (size ∷ next ∷ after) ∷ z) (trimmed-is (sizes row) (heads row) rows gone (length-sizes row ∙ sym (fit_full 4 8 (omega arith) row u.1)) s.2 u.2 t.1)
 
   -- rows of the same sizes over as many nodes
   pub topped-sizes : (list list' : List (K × ℕ)) (rows rows' : List (List (LevelNode K ℕ))) → Stacked list rows → Stacked list' rows' → length list' ≡ length list → map sizes rows' ≡ map sizes rows → Topped list rows → Topped list' rows'
@@ -84,8 +84,8 @@ module _ {K : Type 0} where
   topped-sizes list list' (row ∷ rows) (row' ∷ rows') s s' len same t =
       let here : sizes row' ≡ sizes row = cc in
       let rest : map sizes rows' ≡ map sizes rows = cc in
-      let a = FitRow-full 4 8 (omega arith) row s.1 in
-      let b = FitRow-full 4 8 (omega arith) row' s'.1 in
+      let a = fit_full 4 8 (omega arith) row s.1 in
+      let b = fit_full 4 8 (omega arith) row' s'.1 in
       (omega (arith, t.0, len), topped-sizes (heads row) (heads row') rows rows' s.2 s'.2 (omega (arith, a, b, length-sizes row, length-sizes row', ap length here)) rest t.1)
 
   -- a path through the rows goes through the lower ones
@@ -93,7 +93,7 @@ module _ {K : Type 0} where
   stands-below path indices level list [] gone place low s st = omega (arith, low, s)
   stands-below path indices level list (row ∷ rows) gone place low s st =
       let at = st.0 in
-      let full = FitRow-full 4 8 (omega arith) row s.1 in
+      let full = fit_full 4 8 (omega arith) row s.1 in
       let within : length at.before < length (heads row) = omega (arith, full, ap length at.row_is, length-append at.before (node (get_or path level 0) at.entries ∷ at.after)) in
       (at, stands-below path indices (suc level) (heads row) rows gone (length at.before) within s.2 st.1)
 

@@ -12,7 +12,7 @@ use Rattle.bforest_core.proofs.union.Forests.{every-join}
 use Rattle.bforest_core.proofs.union.FreeSlots.{free-same, freed-slot}
 
 -- a number that one stands among is that one
-only_here : (m n : ℕ) (ms : List ℕ) → 0 < count m (n ∷ []) → count n ms ≡ 0 → count m ms ≡ 0
+pub only_here : (m n : ℕ) (ms : List ℕ) → 0 < count m (n ∷ []) → count n ms ≡ 0 → count m ms ≡ 0
 only_here m n ms some none =
     elim (eqb_tells n m) [
       | inl w ↦ (let e : n ≡ m = w.1 in subst (λ (z : ℕ). count z ms ≡ 0) e none)

@@ -15,7 +15,8 @@ use Rattle.bforest_core.specs.Removal.{StandsIn, Removed, Emptied}
 use Rattle.bforest_core.proofs.rows.LevelRows.{flat-append}
 use Rattle.bforest_core.proofs.table.Tables.{count-append}
 use Rattle.bforest_core.proofs.union.Forests.{root-among}
-use Rattle.bforest_core.proofs.union.Unions.{IsPlanted, rooted}
+use Rattle.bforest_core.proofs.union.Exchange.{IsPlanted}
+use Rattle.bforest_core.proofs.union.Unions.{rooted}
 use Rattle.bforest_core.proofs.union.Roots.{exchanged-freed, uprooted-union}
 use Rattle.bforest_core.proofs.union.Account.{length-same, nodes-count}
 
@@ -79,7 +80,7 @@ module _ {K V : Type 0} where
       let tree = tree_of old.nodes root in
       let r = rooted most old root union s.root_is in
       let planted : IsPlanted most new.nodes i.tree' = record { fit = i.fit; inside = i.inside; some = i.some; low = omega (arith, i.low, r.low) } in
-      let e = exchanged-freed most old new root i.tree' i.freed union s.root_is planted i.frees.chain_is i.frees.freed_are i.frees.slots_are i.numbers_are i.frees.others in
+      let e = exchanged-freed most old new root i.tree' i.freed union s.root_is planted i.frees i.numbers_are in
       let levels : length (shrink most place (sizes_of tree)) ≡ suc (length i.tree'.above) = omega (arith, ap length i.sizes_are, length-map i.tree'.above sizes) in
       let levels_were : length (sizes_of tree) ≡ suc (length tree.above) = omega (arith, length-map tree.above sizes) in
       let among = root-among most new.nodes i.tree' i.fit i.inside i.some in
@@ -137,7 +138,7 @@ module _ {K V : Type 0} where
   ending most old new root place path indices size union s i =
       let tree = tree_of old.nodes root in
       let r = rooted most old root union s.root_is in
-      let u = uprooted-union most old new root i.freed union s.root_is i.frees.chain_is i.frees.freed_are i.frees.slots_are i.freed_is i.frees.others in
+      let u = uprooted-union most old new root i.freed union s.root_is i.frees i.freed_is in
       let among = root-among most old.nodes tree r.fit r.inside r.some in
       record {
         ends = record { union = u.0; root_gone = u.1; others = u.2; limit_is = i.frees.limit_is };

@@ -7,7 +7,7 @@ use Rattle.bforest_core.specs.Place.{leaf_content, root_of, IsPathAt}
 use Rattle.bforest_core.specs.Climb.{nodes_up, Above}
 use Rattle.bforest_core.specs.Removal.{Rebuilt, Healed, Joined, UpTo, Trimmed, StandsIn, LeafLoss, Removed}
 use Rattle.bforest_core.proofs.rows.LevelRows.{flat-append}
-use Rattle.bforest_core.proofs.rows.Bounds.{FitRow-full}
+use Rattle.bforest_core.proofs.walks.Steps.{fit_full}
 use Rattle.bforest_core.proofs.rows.Tops.{root-stands}
 use Rattle.bforest_core.proofs.removal.Collapse.{length-sizes}
 use Rattle.bforest_core.proofs.removal.Merge.{nodes_up-same}
@@ -29,7 +29,7 @@ module _ {K V : Type 0} where
   as_many : (most : ℕ) (old new : Table K V) (path indices : List ℕ) (size : ℕ) (tree : Tree K V) (place : ℕ) → (l : LeafLoss most old new path indices size tree place) → FitRow (half_of most) most tree.leaves → (row : List (LevelNode K V)) → FitRow (half_of most) most row → length row ≡ length l.before + suc (length l.after) → length (heads row) ≡ length (heads tree.leaves)
   as_many most old new path indices size tree place l fit row fit2 len =
       let half = loss_half most old new path indices size tree place l in
-      omega (arith, FitRow-full (half_of most) most half row fit2, FitRow-full (half_of most) most half tree.leaves fit, length-sizes tree.leaves, ap length l.sizes_were, length-append (sizes l.before) (suc (length l.entries) ∷ sizes l.after), length-sizes l.before, length-sizes l.after, len)
+      omega (arith, fit_full (half_of most) most half row fit2, fit_full (half_of most) most half tree.leaves fit, length-sizes tree.leaves, ap length l.sizes_were, length-append (sizes l.before) (suc (length l.entries) ∷ sizes l.after), length-sizes l.before, length-sizes l.after, len)
 
   -- the leaf is half full yet or the last
   pub kept_removed : (most : ℕ) (old new : Table K V) (path indices : List ℕ) (size : ℕ) (tree : Tree K V) (place root : ℕ) (Now : Tree K V → Type 0) → StandsIn most old path indices size tree place → root_of tree ≡ root → (l : LeafLoss most old new path indices size tree place) → (half_of most ≤ length l.entries) ⊎ (l.after ≡ []) →

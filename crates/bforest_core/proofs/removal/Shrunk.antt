@@ -9,7 +9,7 @@ use Rattle.bforest_core.specs.Place.{RowIn, RowsIn, leaf_content, count, root_ab
 use Rattle.bforest_core.specs.Climb.{nodes_up}
 use Rattle.bforest_core.specs.Removal.{Frees, Rebuilt, Healed, Joined, UpTo, Trimmed, StandsIn, LeafLoss, Removed}
 use Rattle.bforest_core.proofs.rows.LevelRows.{flat-append, heads-append, sizes-append, FitRow-split, FitRow-join, Solid-full, least-pos}
-use Rattle.bforest_core.proofs.rows.Bounds.{FitRow-full}
+use Rattle.bforest_core.proofs.walks.Steps.{fit_full}
 use Rattle.bforest_core.proofs.table.Tables.{count-append, count-same, counts, row-same, rows-same}
 use Rattle.bforest_core.proofs.rows.Tops.{root-stands, top_tree}
 use Rattle.bforest_core.proofs.removal.Losses.{loss_at, placed}
@@ -62,7 +62,7 @@ module _ {K V : Type 0} where
       let c2 = λ (m : ℕ). count-append m gone freed in
       let c3 = λ (m : ℕ). count-append m (numbers_of tree) old.chain in
       let rows_in = rows-parts mid.nodes t.rows' t.discarded (subst (λ (z : List (List (LevelNode K ℕ))). RowsIn mid.nodes z) t.rows_are u.rows_in) in
-      let len : length (sizes leaves) ≡ length (heads leaves) = length-sizes leaves ∙ sym (FitRow-full (half_of most) most u.half leaves u.leaves_fit) in
+      let len : length (sizes leaves) ≡ length (heads leaves) = length-sizes leaves ∙ sym (fit_full (half_of most) most u.half leaves u.leaves_fit) in
       let count_is : length rows ≡ length t.rows' + length t.discarded = ap length t.rows_are ∙ length-append t.rows' t.discarded in
       record {
         tree' = record { leaves = leaves; above = t.rows' };

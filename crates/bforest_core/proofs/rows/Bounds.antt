@@ -1,17 +1,11 @@
 -- Bounds on leaves, on levels and on nodes.
 use Rattle.std.proofs.Common.{◌≡◌, ℕ, suc, ◌+◌, ◌*◌, ◌^◌, ◌≤◌, ◌<◌, ◌-◌, nat_lt, true, false, Option, Some, None, List, [], ◌∷◌, ◌++◌, map, length, refl, sym, ap, ◌∙◌, inl, inr, subst, length-append, arith}
 use Rattle.std.proofs.lemmas.Bool.{cases_lt}
-use Rattle.std.proofs.Math.Nat.{mul-le-mul_left, pow-succ', pow-le-pow_right}
+use Rattle.std.proofs.Math.Nat.{mul-le-mul_left, pow-succ'}
 use Rattle.std.proofs.lemmas.List.{length-map}
 use Rattle.bforest_core.specs.Levels.{LevelNode, node, flat, heads, sizes, FitRow, Stacked, Topped}
 use Rattle.bforest_core.specs.Sizes.{inner_gain, gain_above}
-use Rattle.bforest_core.proofs.rows.LevelRows.{least-pos}
-
--- a fit row is seen from above node by node
-pub FitRow-full : {K X : Type 0} (half most : ℕ) → 1 ≤ half → (row : List (LevelNode K X)) → FitRow half most row → length (heads row) ≡ length row
-FitRow-full half most one [] f = refl
-FitRow-full half most one (node m [] ∷ ns) f = absurd (omega (arith, f.0, least-pos half one ns))
-FitRow-full half most one (node m (e ∷ es) ∷ ns) f = ap suc (FitRow-full half most one ns f.2)
+use Rattle.bforest_core.proofs.walks.Steps.{fit_full}
 
 -- a row has more entries than its nodes but the last would have at half
 pub entries-many : {K X : Type 0} (half most : ℕ) → 1 ≤ half → (m : ℕ) (es : List (K × X)) (ns : List (LevelNode K X)) → FitRow half most (node m es ∷ ns) → half * length ns < length (flat (node m es ∷ ns))
@@ -36,7 +30,7 @@ levels-few hs [] (row2 ∷ rows) s t = let r = levels-few [] row2 rows s.2 t.1 i
 levels-few hs (node m es ∷ ns) (row2 ∷ rows) s t =
     let r = levels-few (heads (node m es ∷ ns)) row2 rows s.2 t.1 in
     let e = entries-many 4 8 (omega arith) m es ns s.1 in
-    let full : length (heads (node m es ∷ ns)) ≡ suc (length ns) = FitRow-full 4 8 (omega arith) (node m es ∷ ns) s.1 in
+    let full : length (heads (node m es ∷ ns)) ≡ suc (length ns) = fit_full 4 8 (omega arith) (node m es ∷ ns) s.1 in
     let p : 4 ^ suc (length rows) ≡ 4 * 4 ^ length rows = pow-succ' 4 (length rows) in
     omega (arith, r, e, full, p, ap length s.0)
 
@@ -45,7 +39,7 @@ depth_of half most one [] row rows f s t = let two : 2 ≤ 0 = t.0 in absurd (om
 depth_of half most one (node m es ∷ ns) row rows f s t =
     let r = levels-few (heads (node m es ∷ ns)) row rows s t in
     let e = entries-many half most one m es ns f in
-    let full : length (heads (node m es ∷ ns)) ≡ suc (length ns) = FitRow-full half most one (node m es ∷ ns) f in
+    let full : length (heads (node m es ∷ ns)) ≡ suc (length ns) = fit_full half most one (node m es ∷ ns) f in
     let p : half * 4 ^ length rows ≤ half * length ns = mul-le-mul_left half (omega (arith, r, full)) in
     omega (arith, p, e)
 
@@ -55,26 +49,6 @@ depth half most one leaves [] f s t two = absurd (omega arith)
 depth half most one leaves (row ∷ rows) f s t two =
     let e : length (row ∷ rows) - 1 ≡ length rows = omega arith in
     rw e (depth_of half most one leaves row rows f s t)
-
--- how many nodes a level and those above it have
-abbrev pub nodes_from : {K : Type 0} → List (K × ℕ) → List (List (LevelNode K ℕ)) → ℕ
-nodes_from hs [] = length hs
-nodes_from hs (row ∷ rows) = length hs + nodes_from (heads row) rows
-
-nodes-many : {K : Type 0} (hs : List (K × ℕ)) (row : List (LevelNode K ℕ)) (rows : List (List (LevelNode K ℕ))) → Stacked hs (row ∷ rows) → Topped hs (row ∷ rows) → 4 ^ suc (length rows) ≤ 3 * nodes_from hs (row ∷ rows)
-nodes-many hs row [] s t = let one : length (heads row) ≡ 1 = s.2 in omega (arith, t.0, one)
-nodes-many hs row (row2 ∷ rows) s t =
-    let r = nodes-many (heads row) row2 rows s.2 t.1 in
-    let l = levels-few hs row (row2 ∷ rows) s t in
-    let p : 4 ^ suc (suc (length rows)) ≡ 4 * 4 ^ suc (length rows) = pow-succ' 4 (suc (length rows)) in
-    omega (arith, r, l, p)
-
--- a tree of 18 levels has more nodes than there are numbers
-pub levels-seventeen : {K : Type 0} (hs : List (K × ℕ)) (rows : List (List (LevelNode K ℕ))) → Stacked hs rows → Topped hs rows → nodes_from hs rows < 2 ^ 32 → length rows ≤ 16
-levels-seventeen hs [] s t n = omega arith
-levels-seventeen hs (row ∷ rows) s t n =
-    let r = nodes-many hs row rows s t in
-    elim (cases_lt (length rows) 16) [ inl a ↦ a | inr b ↦ absurd (let p = pow-le-pow_right {n = 4} (omega arith) (let q : 17 ≤ suc (length rows) = omega arith in q) in omega (arith, p, r, n)) ]
 
 -- one level more, at most
 pub gain-most : (k : Option ℕ) (levels : List (List ℕ)) → length (gain_above k levels) ≤ suc (length levels)
@@ -107,7 +81,7 @@ root_full {K} p q (node m es ∷ []) one f e =
     let len : length (flat (node m es ∷ [])) ≡ length es = length-append es [] ∙ omega arith in
     elim (cases_lt (length es) 8) [ inl lt ↦ absurd (let z = none_small p (length es) lt in cc) | inr ge ↦ omega (arith, len, ge) ]
 root_full p q (node m es ∷ n ∷ ns) one f e =
-    absurd (omega (arith, one, FitRow-full 4 8 (omega arith) (node m es ∷ n ∷ ns) f))
+    absurd (omega (arith, one, fit_full 4 8 (omega arith) (node m es ∷ n ∷ ns) f))
 
 -- a tree that gets a new root is wide
 risen : {K : Type 0} (p : ℕ) (hs : List (K × ℕ)) (row : List (LevelNode K ℕ)) (rows : List (List (LevelNode K ℕ))) → Stacked hs (row ∷ rows) → Topped hs (row ∷ rows) → length (gain_above (Some p) (map sizes (row ∷ rows))) ≡ suc (suc (length rows)) → 7 * 4 ^ length rows < length hs
@@ -126,7 +100,7 @@ risen p hs row (row2 ∷ rows) s t e =
   where
     wide : {K : Type 0} (row : List (LevelNode K ℕ)) → FitRow 4 8 row → 0 < length (heads row) → 4 * length (heads row) < length (flat row) + 4
     wide [] f some = absurd (omega (arith, some))
-    wide (node m es ∷ ns) f some = omega (arith, entries-many 4 8 (omega arith) m es ns f, FitRow-full 4 8 (omega arith) (node m es ∷ ns) f)
+    wide (node m es ∷ ns) f some = omega (arith, entries-many 4 8 (omega arith) m es ns f, fit_full 4 8 (omega arith) (node m es ∷ ns) f)
 
 -- an insertion leaves a tree of as many levels as a path has room for
 pub climb-seventeen : {K : Type 0} (p : ℕ) (hs : List (K × ℕ)) (rows : List (List (LevelNode K ℕ))) → Stacked hs rows → Topped hs rows → length hs < 2 ^ 32 → length rows ≤ 16 → length (gain_above (Some p) (map sizes rows)) ≤ 16

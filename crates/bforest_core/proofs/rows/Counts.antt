@@ -1,6 +1,7 @@
 -- Counting numbers: lists in which each number stands as often, and what the slots of a table name.
 use Rattle.std.proofs.Common.{◌≡◌, ℕ, zero, suc, ◌+◌, ◌≤◌, ◌<◌, ◌↔◌, IsTrue, nat_eq, nat_lt, if◌then◌else◌, true, false, List, [], ◌∷◌, ◌++◌, length, take, drop, slice_get, Some, None, refl, sym, ap, ◌∙◌, inl, inr, length-append, arith}
-use Rattle.std.specs.List.{flat_map, list_any}
+use Rattle.std.specs.List.{flat_map, list_any, sum_by}
+use Rattle.std.proofs.lemmas.List.Sums.{sum_by-cons, sum_by-append}
 use Rattle.std.proofs.lemmas.List.{take_all}
 use Rattle.std.proofs.lemmas.List.Concat.{flat_map-append}
 use Rattle.std.proofs.lemmas.Bool.{cases_lt}
@@ -46,18 +47,28 @@ found-counts n (m ∷ ms) =
       | inr w ↦ (let e = w.0 in let r = found-counts n ms in (λ found. omega (arith, count-other n m ms w.1, r.0 (rw e at found)), λ some. rw e (r.1 (omega (arith, count-other n m ms w.1, some)))))
     ]
 
--- lists in which each number stands as often name each number as often
-pub named-same : (f : ℕ → List ℕ) (xs ys : List ℕ) → ((n : ℕ) → count n xs ≡ count n ys) → (m : ℕ) → count m (flat_map f xs) ≡ count m (flat_map f ys)
-named-same f [] [] same m = refl
-named-same f [] (y ∷ ys) same m = absurd (omega (arith, same y, count-same y ys))
-named-same f (x ∷ xs) ys same m =
+-- the sum over numbers, split at one
+sum-parts : (f : ℕ → ℕ) (xs : List ℕ) (x : ℕ) (ys : List ℕ) → sum_by f (xs ++ x ∷ ys) ≡ f x + sum_by f (xs ++ ys)
+sum-parts f xs x ys = omega (arith, sum_by-append f xs (x ∷ ys), sum_by-append f xs ys, sum_by-cons f x ys)
+
+-- lists in which each number stands as often have one sum
+pub sum-same : (f : ℕ → ℕ) (xs ys : List ℕ) → ((n : ℕ) → count n xs ≡ count n ys) → sum_by f xs ≡ sum_by f ys
+sum-same f [] [] same = refl
+sum-same f [] (y ∷ ys) same = absurd (omega (arith, same y, count-same y ys))
+sum-same f (x ∷ xs) ys same =
     let s = standing x ys (omega (arith, same x, count-same x xs)) in
     let less : (n : ℕ) → count n xs ≡ count n (s.0 ++ s.1) = λ n. (let a = ap (λ z. count n z) s.2 in omega (arith, same n, a, count-append n s.0 (x ∷ s.1), count-append n s.0 s.1)) in
-    let ih = named-same f xs (s.0 ++ s.1) less m in
-    let a = ap (λ z. count m (flat_map f z)) s.2 in
-    let b = ap (λ z. count m z) (flat_map-append f s.0 (x ∷ s.1)) ∙ count-append m (flat_map f s.0) (f x ++ flat_map f s.1) in
-    let c = ap (λ z. count m z) (flat_map-append f s.0 s.1) ∙ count-append m (flat_map f s.0) (flat_map f s.1) in
-    omega (arith, ih, a, b, c, count-append m (f x) (flat_map f s.1), count-append m (f x) (flat_map f xs))
+    let ih = sum-same f xs (s.0 ++ s.1) less in
+    let a = ap (λ z. sum_by f z) s.2 in
+    omega (arith, ih, a, sum_by-cons f x xs, sum-parts f s.0 x s.1)
+
+-- how often the numbers of a list name another
+count-named : (f : ℕ → List ℕ) (m : ℕ) (xs : List ℕ) → count m (flat_map f xs) ≡ sum_by (λ (x : ℕ). count m (f x)) xs
+count-named f m [] = refl
+count-named f m (x ∷ xs) = omega (arith, count-append m (f x) (flat_map f xs), count-named f m xs, sum_by-cons (λ (x : ℕ). count m (f x)) x xs)
+
+pub named-same : (f : ℕ → List ℕ) (xs ys : List ℕ) → ((n : ℕ) → count n xs ≡ count n ys) → (m : ℕ) → count m (flat_map f xs) ≡ count m (flat_map f ys)
+named-same f xs ys same m = omega (arith, count-named f m xs, count-named f m ys, sum-same (λ (x : ℕ). count m (f x)) xs ys same)
 
 -- the numbers below one
 abbrev pub upto : ℕ → List ℕ

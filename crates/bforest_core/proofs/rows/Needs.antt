@@ -1,86 +1,55 @@
 -- How many nodes an insertion needs, counted from the leaf upwards.
-use Rattle.std.proofs.Common.{◌≡◌, ℕ, suc, ◌+◌, ◌≤◌, ◌<◌, IsTrue, false, Bool, ◌↔◌, List, [], ◌∷◌, ◌++◌, map, length, get_or, slice_get, Some, None, refl, sym, ap, ◌∙◌, subst, arith}
+use Rattle.std.proofs.Common.{◌≡◌, ℕ, suc, ◌+◌, ◌≤◌, ◌<◌, ◌≢◌, IsTrue, true, false, Bool, add-one, ◌↔◌, List, [], ◌∷◌, ◌++◌, map, length, get_or, slice_get, Some, None, refl, sym, ap, ◌∙◌, subst, arith}
 use Rattle.std.specs.List.{flat_map}
 use Rattle.std.proofs.lemmas.Bool.{false≢true}
+use Rattle.std.proofs.lemmas.List.{get_or_default}
+use Rattle.std.proofs.lemmas.Option.{slice_get_within}
 use Rattle.bforest_nodes.specs.Content.{Content, IsFree, entry_count, entry_capacity}
 use Rattle.bforest_core.specs.Table.{Table}
-use Rattle.bforest_core.specs.Levels.{LevelNode, node, flat, heads, sizes, numbers, Tree}
-use Rattle.bforest_core.specs.Sizes.{inner_gain, leaf_gain, need_above}
-use Rattle.bforest_core.specs.Place.{inner_content, leaf_content}
+use Rattle.bforest_core.specs.Levels.{LevelNode, node, flat, heads, sizes, sizes_of, numbers, Tree}
+use Rattle.bforest_core.specs.Sizes.{inner_gain, leaf_gain, need, need_above}
+use Rattle.bforest_core.specs.Place.{count, inner_content, leaf_content}
 use Rattle.bforest_core.specs.Climb.{Above, Placed}
-use Rattle.bforest_core.proofs.rows.LevelRows.{sizes-append, FitRow-split}
-use Rattle.bforest_core.proofs.table.Tables.{count-append, row-split}
+use Rattle.bforest_core.proofs.rows.LevelRows.{sizes-append}
+use Rattle.bforest_core.proofs.table.Tables.{count-append}
 use Rattle.bforest_core.proofs.insertion.Grow.{gain_some, gain_room}
 use Rattle.bforest_core.proofs.table.Stored.{some_same, item_count}
-use Rattle.bforest_core.proofs.insertion.LeafSpot.{LeafSpot, keys_count, room_gain}
+use Rattle.bforest_core.proofs.insertion.LeafSpot.{LeafSpot, keys_count, leaf_spot, room_gain}
 use Rattle.bforest_core.proofs.insertion.LeafParted.{full_gain}
+use Rattle.bforest_core.proofs.walks.Steps.{Spot, spot}
+
+-- a node that does not say that it is full
+not_so : {A : Type 0} (full : Bool) → full ≡ false → (IsTrue full ↔ A) → ¬ A
+not_so full none h = λ a. false≢true (sym none ∙ h.1 a)
 
 module _ {K V : Type 0} where
-  -- the lowest of the rows above a level, cut at the path's node
-  pub record Floor (t : Table K V) (ms js : List ℕ) (up size : ℕ) (rows : List (List (LevelNode K ℕ))) (p : ℕ) : Type 0 where
-    pub before : List (LevelNode K ℕ)
-    pub entries : List (K × ℕ)
-    pub after : List (LevelNode K ℕ)
-    pub rest : List (List (LevelNode K ℕ))
-    pub rows_are : rows ≡ (before ++ node (get_or ms up 0) entries ∷ after) ∷ rest
-    pub within : get_or js up 0 < length entries
-    pub place_is : p ≡ length (flat before) + get_or js up 0
-    pub slot_is : slice_get t.nodes (get_or ms up 0) ≡ Some (inner_content entries)
-    pub most_is : length entries ≤ 8
-    pub list : List (K × ℕ)
-    pub above : Above t ms js (suc up) size rest list (length before)
-
-  floor_at : (t : Table K V) (ms js : List ℕ) (up size : ℕ) (row : List (LevelNode K ℕ)) (rest : List (List (LevelNode K ℕ))) (list : List (K × ℕ)) (p : ℕ) → (ab : Above t ms js up size (row ∷ rest) list p) →
-      (before : List (LevelNode K ℕ)) (es : List (K × ℕ)) (after : List (LevelNode K ℕ)) → row ≡ before ++ node (get_or ms up 0) es ∷ after → Above t ms js up size ((before ++ node (get_or ms up 0) es ∷ after) ∷ rest) list p
-  floor_at t ms js up size row rest list p ab before es after is = subst (λ (z : List (LevelNode K ℕ)). Above t ms js up size (z ∷ rest) list p) is ab
-
-  pub floor : (t : Table K V) (ms js : List ℕ) (up size : ℕ) (rows : List (List (LevelNode K ℕ))) (list : List (K × ℕ)) (p : ℕ) → Above t ms js up size rows list p → up < size → Floor t ms js up size rows p
-  floor t ms js up size [] list p ab low = absurd (omega (arith, ab.height, low))
-  floor t ms js up size (row ∷ rest) list p ab low =
-      let at = ab.stands.0 in
-      let n = get_or ms up 0 in
-      let row2 : List (LevelNode K ℕ) = at.before ++ node n at.entries ∷ at.after in
-      let ab2 = floor_at t ms js up size row rest list p ab at.before at.entries at.after at.row_is in
-      let c = λ (m : ℕ). count-append m (numbers row ++ flat_map numbers rest) t.chain in
-      let c2 = λ (m : ℕ). count-append m (numbers row) (flat_map numbers rest) in
-      let c3 = λ (m : ℕ). count-append m (flat_map numbers rest) t.chain in
-      record {
-        before = at.before;
-        entries = at.entries;
-        after = at.after;
-        rest = rest;
-        rows_are = ap (λ z. z ∷ rest) at.row_is;
-        within = at.within;
-        place_is = at.place_is;
-        slot_is = (row-split inner_content t.nodes at.before (node n at.entries ∷ at.after) ab2.inside.0).1.0;
-        most_is = (FitRow-split 4 8 at.before (node n at.entries) at.after ab2.stacked.1).1.1;
-        list = heads row;
-        above = record {
-          stacked = ab.stacked.2;
-          inside = ab.inside.1;
-          stands = ab.stands.1;
-          height = omega (arith, ab.height);
-          apart = λ m. omega (arith, ab.apart m, c m, c2 m, c3 m);
-        };
-      }
+  -- the rows above one on which the path stands
+  above_spot : (t : Table K V) (ms js : List ℕ) (up size : ℕ) (rows : List (List (LevelNode K ℕ))) (list : List (K × ℕ)) (p : ℕ) → Above t ms js up size rows list p → (s : Spot t.nodes ms js up size rows list p) → Above t ms js (suc up) size s.rest (heads s.row) (length s.before)
+  above_spot t ms js up size rows list p ab s = record {
+    stacked = s.over.stacked;
+    inside = s.over.inside;
+    stands = s.over.stands;
+    height = s.over.height;
+    apart = λ m. omega (arith, ab.apart m, ap (λ z. count m (flat_map numbers z ++ t.chain)) s.rows_are, count-append m (numbers s.row ++ flat_map numbers s.rest) t.chain, count-append m (numbers s.row) (flat_map numbers s.rest), count-append m (flat_map numbers s.rest) t.chain);
+  }
 
   -- a full node, and one with room
-  pub floor_full : (t : Table K V) (ms js : List ℕ) (up size : ℕ) (rows : List (List (LevelNode K ℕ))) (p : ℕ) → (f : Floor t ms js up size rows p) → length f.entries ≡ 8 → need_above (Some p) (map sizes rows) ≡ suc (need_above (Some (length f.before)) (map sizes f.rest))
-  floor_full t ms js up size rows p f eight =
+  spot_full : (t : Table K V) (ms js : List ℕ) (up size : ℕ) (rows : List (List (LevelNode K ℕ))) (list : List (K × ℕ)) (p : ℕ) → (f : Spot t.nodes ms js up size rows list p) → length f.entries ≡ 8 → need_above (Some p) (map sizes rows) ≡ suc (need_above (Some (length f.before)) (map sizes f.rest))
+  spot_full t ms js up size rows list p f eight =
       let row : List (LevelNode K ℕ) = f.before ++ node (get_or ms up 0) f.entries ∷ f.after in
       let g : (inner_gain p (sizes row)).0 ≡ Some (length f.before) =
       ap (λ z. (inner_gain z (sizes row)).0) f.place_is ∙ ap (λ z. (inner_gain (length (flat f.before) + get_or js up 0) z).0) (sizes-append f.before (node (get_or ms up 0) f.entries ∷ f.after)) ∙ gain_some f.before (length f.entries) (get_or js up 0) (sizes f.after) f.within eight in
-      ap (λ z. need_above (Some p) (map sizes z)) f.rows_are ∙ ap (λ z. suc (need_above z (map sizes f.rest))) g
+      ap (λ z. need_above (Some p) (map sizes z)) (f.rows_are ∙ ap (λ z. z ∷ f.rest) f.row_is) ∙ ap (λ z. suc (need_above z (map sizes f.rest))) g
 
-  pub floor_room : (t : Table K V) (ms js : List ℕ) (up size : ℕ) (rows : List (List (LevelNode K ℕ))) (p : ℕ) → (f : Floor t ms js up size rows p) → length f.entries < 8 → need_above (Some p) (map sizes rows) ≡ 1
-  floor_room t ms js up size rows p f room =
+  spot_room : (t : Table K V) (ms js : List ℕ) (up size : ℕ) (rows : List (List (LevelNode K ℕ))) (list : List (K × ℕ)) (p : ℕ) → (f : Spot t.nodes ms js up size rows list p) → length f.entries < 8 → need_above (Some p) (map sizes rows) ≡ 1
+  spot_room t ms js up size rows list p f room =
       let row : List (LevelNode K ℕ) = f.before ++ node (get_or ms up 0) f.entries ∷ f.after in
       let g : (inner_gain p (sizes row)).0 ≡ None =
       ap (λ z. (inner_gain z (sizes row)).0) f.place_is ∙ ap (λ z. (inner_gain (length (flat f.before) + get_or js up 0) z).0) (sizes-append f.before (node (get_or ms up 0) f.entries ∷ f.after)) ∙ ap (λ z. z.0) (gain_room f.before (length f.entries) (get_or js up 0) (sizes f.after) f.within room) in
-      ap (λ z. need_above (Some p) (map sizes z)) f.rows_are ∙ ap (λ z. suc (need_above z (map sizes f.rest))) g
+      ap (λ z. need_above (Some p) (map sizes z)) (f.rows_are ∙ ap (λ z. z ∷ f.rest) f.row_is) ∙ ap (λ z. suc (need_above z (map sizes f.rest))) g
 
   -- the rows above the leaves
-  pub above_leaves : (most : ℕ) (t : Table K V) (ms js : List ℕ) (size : ℕ) (tree : Tree K V) (place : ℕ) → Placed most t ms js size tree place → (d : LeafSpot most t ms js tree place) → Above t ms js 1 size tree.above (heads (d.before ++ node (get_or ms 0 0) (d.l ++ d.r) ∷ d.after)) (length d.before)
+  above_leaves : (most : ℕ) (t : Table K V) (ms js : List ℕ) (size : ℕ) (tree : Tree K V) (place : ℕ) → Placed most t ms js size tree place → (d : LeafSpot most t ms js tree place) → Above t ms js 1 size tree.above (heads (d.before ++ node (get_or ms 0 0) (d.l ++ d.r) ∷ d.after)) (length d.before)
   above_leaves most t ms js size tree place p d =
       let row : List (LevelNode K V) = d.before ++ node (get_or ms 0 0) (d.l ++ d.r) ∷ d.after in
       let c = λ (m : ℕ). count-append m (numbers row ++ flat_map numbers tree.above) t.chain in
@@ -98,31 +67,85 @@ module _ {K V : Type 0} where
   pub leaf_need_full : (most : ℕ) (t : Table K V) (ms js : List ℕ) (tree : Tree K V) (place : ℕ) → (d : LeafSpot most t ms js tree place) → length (d.l ++ d.r) ≡ most → need_above (leaf_gain most place (sizes tree.leaves)).0 (map sizes tree.above) ≡ need_above (Some (length d.before)) (map sizes tree.above)
   leaf_need_full most t ms js tree place d full = ap (λ z. need_above z.0 (map sizes tree.above)) (full_gain most t ms js tree place d full)
 
-  pub leaf_need_room : (most : ℕ) (t : Table K V) (ms js : List ℕ) (tree : Tree K V) (place : ℕ) → (d : LeafSpot most t ms js tree place) → length (d.l ++ d.r) < most → need_above (leaf_gain most place (sizes tree.leaves)).0 (map sizes tree.above) ≡ 0
+  leaf_need_room : (most : ℕ) (t : Table K V) (ms js : List ℕ) (tree : Tree K V) (place : ℕ) → (d : LeafSpot most t ms js tree place) → length (d.l ++ d.r) < most → need_above (leaf_gain most place (sizes tree.leaves)).0 (map sizes tree.above) ≡ 0
   leaf_need_room most t ms js tree place d room = ap (λ z. need_above z.0 (map sizes tree.above)) (room_gain most t ms js tree place d room)
 
   -- what a node answers of whether it is full
-  pub inner_full : (cap : ℕ) (full : Bool) (now : Content K V) (nodes : List (Content K V)) (n : ℕ) (es : List (K × ℕ)) → slice_get nodes n ≡ Some now → slice_get nodes n ≡ Some (inner_content es) → (IsTrue full ↔ (entry_count now ≡ entry_capacity cap now)) → IsTrue full ↔ (length es ≡ 8)
-  inner_full cap full now nodes n es found slot h =
-      let is : now ≡ inner_content es = some_same now (inner_content es) (sym found ∙ slot) in
-      let h2 = subst (λ (z : Content K V). IsTrue full ↔ (entry_count z ≡ entry_capacity cap z)) is h in
-      subst (λ (z : ℕ). IsTrue full ↔ (z ≡ 8)) (item_count es) h2
+  says_full : (cap : ℕ) (full : Bool) (now is : Content K V) (count : ℕ) → now ≡ is → entry_count is ≡ count → (IsTrue full ↔ (entry_count now ≡ entry_capacity cap now)) → IsTrue full ↔ (count ≡ entry_capacity cap is)
+  says_full cap full now is count same count_is says =
+      subst (λ (z : ℕ). IsTrue full ↔ (z ≡ entry_capacity cap is)) count_is (subst (λ (z : Content K V). IsTrue full ↔ (entry_count z ≡ entry_capacity cap z)) same says)
 
-  pub leaf_is_full : (cap : ℕ) (full : Bool) (now : Content K V) (nodes : List (Content K V)) (n : ℕ) (es : List (K × V)) → slice_get nodes n ≡ Some now → slice_get nodes n ≡ Some (leaf_content es) → (IsTrue full ↔ (entry_count now ≡ entry_capacity cap now)) → IsTrue full ↔ (length es ≡ cap)
-  leaf_is_full cap full now nodes n es found slot h =
-      let is : now ≡ leaf_content es = some_same now (leaf_content es) (sym found ∙ slot) in
-      let h2 = subst (λ (z : Content K V). IsTrue full ↔ (entry_count z ≡ entry_capacity cap z)) is h in
-      subst (λ (z : ℕ). IsTrue full ↔ (z ≡ cap)) (keys_count es) h2
+  not_free : (now is : Content K V) → now ≡ is → ¬ IsFree is → ¬ IsFree now
+  not_free now is same used = subst (λ (z : Content K V). ¬ IsFree z) (sym same) used
 
-  pub inner_not_free : (now : Content K V) (nodes : List (Content K V)) (n : ℕ) (es : List (K × ℕ)) → slice_get nodes n ≡ Some now → slice_get nodes n ≡ Some (inner_content es) → ¬ IsFree now
-  inner_not_free now nodes n es found slot = subst (λ (z : Content K V). ¬ IsFree z) (sym (some_same now (inner_content es) (sym found ∙ slot))) (λ free. free)
+  -- a level above the leaves, and the test of the path's node there
+  module _ (t : Table K V) (ms js : List ℕ) (up size : ℕ) (rows : List (List (LevelNode K ℕ))) (list : List (K × ℕ)) (p : ℕ) (ab : Above t ms js up size rows list p) (other : up ≢ size) (wide : size ≤ length ms) (r : ℕ) where
+    abbrev level : Spot t.nodes ms js up size rows list p
+    level = spot t.nodes ms js up size rows list p (record { stacked = ab.stacked; inside = ab.inside; stands = ab.stands; height = ab.height }) other
 
-  pub leaf_not_free : (now : Content K V) (nodes : List (Content K V)) (n : ℕ) (es : List (K × V)) → slice_get nodes n ≡ Some now → slice_get nodes n ≡ Some (leaf_content es) → ¬ IsFree now
-  leaf_not_free now nodes n es found slot = subst (λ (z : Content K V). ¬ IsFree z) (sym (some_same now (leaf_content es) (sym found ∙ slot))) (λ free. free)
+    level_slot : slice_get t.nodes (get_or ms up r) ≡ Some (inner_content level.entries)
+    level_slot = ap (λ z. slice_get t.nodes z) (get_or_default ms up r 0 (omega (arith, ab.height, other, wide))) ∙ level.slot_is
 
--- a node that does not say that it is full
-pub not_so : {A : Type 0} (full : Bool) → full ≡ false → (IsTrue full ↔ A) → ¬ A
-not_so full none h = λ a. false≢true (sym none ∙ h.1 a)
+    -- reading it
+    pub level_within : get_or ms up r < length t.nodes
+    level_within = slice_get_within t.nodes (get_or ms up r) (inner_content level.entries) level_slot
+
+    -- the level above
+    pub level_above : (rows : List (List (LevelNode K ℕ))) × (list : List (K × ℕ)) × (at : ℕ) × Above t ms js (up + 1) size rows list at
+    level_above = (level.rest, heads level.row, length level.before, subst (λ (z : ℕ). Above t ms js z size level.rest (heads level.row) (length level.before)) (sym (add-one up)) (above_spot t ms js up size rows list p ab level))
+
+    module _ (content : Content K V) (read : slice_get t.nodes (get_or ms up r) ≡ Some content) where
+      content_is : content ≡ inner_content level.entries
+      content_is = some_same content (inner_content level.entries) (sym read ∙ level_slot)
+
+      pub level_used : ¬ IsFree content
+      level_used = not_free content (inner_content level.entries) content_is (λ free. free)
+
+      module _ (cap : ℕ) (full : Bool) (says : IsTrue full ↔ (entry_count content ≡ entry_capacity cap content)) where
+        tells : IsTrue full ↔ (length level.entries ≡ 8)
+        tells = says_full cap full content (inner_content level.entries) (length level.entries) content_is (item_count level.entries) says
+
+        pub level_full : full ≡ true → (more : ℕ) → ((rows : List (List (LevelNode K ℕ))) (list : List (K × ℕ)) (at : ℕ) → Above t ms js (up + 1) size rows list at → more ≡ need_above (Some at) (map sizes rows)) → more + 1 ≡ need_above (Some p) (map sizes rows)
+        unfolding level_above
+        level_full is more needs = omega (arith, spot_full t ms js up size rows list p level (tells.0 is), needs level_above.0 level_above.1 level_above.2 level_above.3)
+
+        pub level_room : full ≡ false → 1 ≡ need_above (Some p) (map sizes rows)
+        level_room none = sym (spot_room t ms js up size rows list p level (omega (arith, not_so full none tells, level.most_is)))
+
+  -- the leaf, and its test
+  module _ (most : ℕ) (t : Table K V) (ms js : List ℕ) (size : ℕ) (tree : Tree K V) (place : ℕ) (p : Placed most t ms js size tree place) where
+    abbrev leaf : LeafSpot most t ms js tree place
+    leaf = leaf_spot most t ms js size tree place p
+
+    -- the level above
+    pub leaf_above : (rows : List (List (LevelNode K ℕ))) × (list : List (K × ℕ)) × (at : ℕ) × Above t ms js 1 size rows list at
+    leaf_above = (tree.above, heads (leaf.before ++ node (get_or ms 0 0) (leaf.l ++ leaf.r) ∷ leaf.after), length leaf.before, above_leaves most t ms js size tree place p leaf)
+
+    module _ (wide : 0 < length ms) (r : ℕ) where
+      leaf_slot : slice_get t.nodes (get_or ms 0 r) ≡ Some (leaf_content (leaf.l ++ leaf.r))
+      leaf_slot = ap (λ z. slice_get t.nodes z) (get_or_default ms 0 r 0 wide) ∙ leaf.slot_is
+
+      -- reading it
+      pub leaf_within : get_or ms 0 r < length t.nodes
+      leaf_within = slice_get_within t.nodes (get_or ms 0 r) (leaf_content (leaf.l ++ leaf.r)) leaf_slot
+
+      module _ (content : Content K V) (read : slice_get t.nodes (get_or ms 0 r) ≡ Some content) where
+        leaf_content_is : content ≡ leaf_content (leaf.l ++ leaf.r)
+        leaf_content_is = some_same content (leaf_content (leaf.l ++ leaf.r)) (sym read ∙ leaf_slot)
+
+        pub leaf_used : ¬ IsFree content
+        leaf_used = not_free content (leaf_content (leaf.l ++ leaf.r)) leaf_content_is (λ free. free)
+
+        module _ (full : Bool) (says : IsTrue full ↔ (entry_count content ≡ entry_capacity most content)) where
+          leaf_tells : IsTrue full ↔ (length (leaf.l ++ leaf.r) ≡ most)
+          leaf_tells = says_full most full content (leaf_content (leaf.l ++ leaf.r)) (length (leaf.l ++ leaf.r)) leaf_content_is (keys_count (leaf.l ++ leaf.r)) says
+
+          pub leaf_full : full ≡ true → (more : ℕ) → ((rows : List (List (LevelNode K ℕ))) (list : List (K × ℕ)) (at : ℕ) → Above t ms js 1 size rows list at → more ≡ need_above (Some at) (map sizes rows)) → more ≡ need most place (sizes_of tree)
+          unfolding leaf_above
+          leaf_full is more needs = needs leaf_above.0 leaf_above.1 leaf_above.2 leaf_above.3 ∙ sym (leaf_need_full most t ms js tree place leaf (leaf_tells.0 is))
+
+          pub leaf_room : full ≡ false → 0 ≡ need most place (sizes_of tree)
+          leaf_room none = sym (leaf_need_room most t ms js tree place leaf (omega (arith, not_so full none leaf_tells, leaf.most_is)))
 
 -- where all nodes are full: a new root too
 pub top_need : {K : Type 0} (place up size : ℕ) (rows : List (List (LevelNode K ℕ))) → up + length rows ≡ size → up ≡ size → 2 ≡ need_above (Some place) (map sizes rows)

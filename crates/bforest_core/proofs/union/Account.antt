@@ -4,32 +4,17 @@ use Rattle.std.specs.List.{flat_map, sum_by}
 use Rattle.std.proofs.lemmas.Bool.{cases_lt, false≢true}
 use Rattle.std.proofs.lemmas.List.{get_or_past}
 use Rattle.std.proofs.lemmas.Bool.Decides.{eqb_tells}
-use Rattle.std.proofs.lemmas.List.Sums.{sum_by-cons, sum_by-append}
+use Rattle.std.proofs.lemmas.List.Sums.{sum_by-cons}
 use Rattle.bforest_nodes.specs.Content.{Content, Free, children_of}
 use Rattle.bforest_core.specs.Table.{Table}
 use Rattle.bforest_core.specs.Levels.{LevelNode, node, sizes, numbers, sizes_of, Tree}
 use Rattle.bforest_core.specs.Place.{count, root_of, numbers_of}
 use Rattle.bforest_core.specs.Trees.{slot, is_used, tree_of, is_root, IsForest, IsUnion}
-use Rattle.bforest_core.proofs.table.Tables.{count-append, count-same, count-other}
-use Rattle.bforest_core.proofs.rows.Counts.{once_below, below-one, standing, upto, count-upto}
+use Rattle.bforest_core.proofs.table.Tables.{count-other}
+use Rattle.bforest_core.proofs.rows.Counts.{once_below, below-one, sum-same, upto, count-upto}
 use Rattle.bforest_core.proofs.union.Forests.{root-counts, roots-once, tree-back}
 
--- the sum over numbers, split at one
-sum-parts : (f : ℕ → ℕ) (xs : List ℕ) (x : ℕ) (ys : List ℕ) → sum_by f (xs ++ x ∷ ys) ≡ f x + sum_by f (xs ++ ys)
-sum-parts f xs x ys = omega (arith, sum_by-append f xs (x ∷ ys), sum_by-append f xs ys, sum_by-cons f x ys)
-
--- lists in which each number stands as often have one sum
-sum-same : (f : ℕ → ℕ) (xs ys : List ℕ) → ((n : ℕ) → count n xs ≡ count n ys) → sum_by f xs ≡ sum_by f ys
-sum-same f [] [] same = refl
-sum-same f [] (y ∷ ys) same = absurd (omega (arith, same y, count-same y ys))
-sum-same f (x ∷ xs) ys same =
-    let s = standing x ys (omega (arith, same x, count-same x xs)) in
-    let less : (n : ℕ) → count n xs ≡ count n (s.0 ++ s.1) = λ n. (let a = ap (λ z. count n z) s.2 in omega (arith, same n, a, count-append n s.0 (x ∷ s.1), count-append n s.0 s.1)) in
-    let ih = sum-same f xs (s.0 ++ s.1) less in
-    let a = ap (λ z. sum_by f z) s.2 in
-    omega (arith, ih, a, sum_by-cons f x xs, sum-parts f s.0 x s.1)
-
--- and one length
+-- lists in which each number stands as often have one length
 length-sum : (xs : List ℕ) → length xs ≡ sum_by (λ (n : ℕ). 1) xs
 length-sum [] = refl
 length-sum (x ∷ xs) = omega (arith, length-sum xs, sum_by-cons (λ (n : ℕ). 1) x xs)
@@ -49,14 +34,11 @@ kept p (x ∷ xs) = if p x then x ∷ kept p xs else kept p xs
 -- the sum over those is the sum over all of what the others add nothing to
 sum-kept : (p : ℕ → Bool) (f : ℕ → ℕ) (xs : List ℕ) → sum_by f (kept p xs) ≡ sum_by (λ n. if p n then f n else 0) xs
 sum-kept p f [] = refl
-sum-kept p f (x ∷ xs) =
-    let ih = sum-kept p f xs in
-    let a = sum_by-cons (λ n. if p n then f n else 0) x xs in
-    by (p x) refl ih a
+sum-kept p f (x ∷ xs) = by (p x) refl (sum-kept p f xs)
   where
-    by : (b : Bool) → p x ≡ b → sum_by f (kept p xs) ≡ sum_by (λ n. if p n then f n else 0) xs → sum_by (λ n. if p n then f n else 0) (x ∷ xs) ≡ (if p x then f x else 0) + sum_by (λ n. if p n then f n else 0) xs → sum_by f (kept p (x ∷ xs)) ≡ sum_by (λ n. if p n then f n else 0) (x ∷ xs)
-    by true e ih a = let k = ap (λ z. sum_by f (if z then x ∷ kept p xs else kept p xs)) e in let v = ap (λ z. if z then f x else 0) e in omega (arith, k, v, ih, a, sum_by-cons f x (kept p xs))
-    by false e ih a = let k = ap (λ z. sum_by f (if z then x ∷ kept p xs else kept p xs)) e in let v = ap (λ z. if z then f x else 0) e in omega (arith, k, v, ih, a)
+    by : (b : Bool) → p x ≡ b → sum_by f (kept p xs) ≡ sum_by (λ n. if p n then f n else 0) xs → sum_by f (kept p (x ∷ xs)) ≡ sum_by (λ n. if p n then f n else 0) (x ∷ xs)
+    by true e ih = let k = ap (λ z. sum_by f (if z then x ∷ kept p xs else kept p xs)) e in let v = ap (λ z. if z then f x else 0) e in omega (arith, k, v, ih, sum_by-cons (λ n. if p n then f n else 0) x xs, sum_by-cons f x (kept p xs))
+    by false e ih = let k = ap (λ z. sum_by f (if z then x ∷ kept p xs else kept p xs)) e in let v = ap (λ z. if z then f x else 0) e in omega (arith, k, v, ih, sum_by-cons (λ n. if p n then f n else 0) x xs)
 
 -- a number that passes stands among them as often, and no other
 count-kept : (p : ℕ → Bool) (m : ℕ) (xs : List ℕ) → count m (kept p xs) ≡ (if p m then count m xs else 0)

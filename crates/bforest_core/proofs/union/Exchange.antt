@@ -7,12 +7,13 @@ use Rattle.std.proofs.lemmas.Bool.{cases_lt}
 use Rattle.bforest_nodes.specs.Content.{Content, IsFree}
 use Rattle.bforest_core.specs.Table.{Table}
 use Rattle.bforest_core.specs.Levels.{flat, numbers, Tree, IsFit}
-use Rattle.bforest_core.specs.Place.{IsIn, leaf_content, count, root_of, numbers_of}
+use Rattle.bforest_core.specs.Place.{IsIn, Distinct, leaf_content, count, root_of, numbers_of}
+use Rattle.bforest_core.specs.Removal.{Frees}
 use Rattle.bforest_core.specs.Trees.{slot, tree_of, is_root, Every, IsForest}
 use Rattle.bforest_core.proofs.table.Tables.{count-append, row-same, rows-same}
 use Rattle.bforest_core.proofs.union.FreeSlots.{free-same}
 use Rattle.bforest_core.proofs.rows.Counts.{once_below, at-most-one}
-use Rattle.bforest_core.proofs.union.Forests.{every-append, every-join, once, roots-once, root-counts, tree-with, tree-back}
+use Rattle.bforest_core.proofs.union.Forests.{every-append, every-join, roots-once, root-counts, tree-with, tree-back}
 
 -- what holds of each in a list holds of each before and after a part of it, also with another part between them
 every_outer : {X : Type 0} (P : X → Type 0) (before gone after : List X) → Every P (before ++ (gone ++ after)) → Every P before × Every P after
@@ -20,6 +21,10 @@ every_outer P before gone after e = let r = every-append P before (gone ++ after
 
 every_put : {X : Type 0} (P : X → Type 0) (before come after : List X) → Every P before × Every P after → Every P come → Every P (before ++ (come ++ after))
 every_put P before come after e c = every-join P before (come ++ after) e.0 (every-join P come after c e.1)
+
+every-map : {X : Type 0} (P Q : X → Type 0) → ((x : X) → P x → Q x) → (xs : List X) → Every P xs → Every Q xs
+every-map P Q f [] e = tt
+every-map P Q f (x ∷ xs) e = (f x e.0, every-map P Q f xs e.1)
 
 module _ {K V : Type 0} where
   -- a tree lies in any slots that agree at its numbers
@@ -47,27 +52,59 @@ module _ {K V : Type 0} where
       let d = ap (λ z. count m z) (flat_map-append numbers_of some after) ∙ count-append m (flat_map numbers_of some) (flat_map numbers_of after) in
       omega (arith, a, b, c, d)
 
-  -- Some trees of a forest exchanged for others that lie in the new table: each number stands there as often as before,
-  -- and the slots of all numbers but theirs and the chain's are as before.
-  pub exchange-trees : (most : ℕ) (old new : Table K V) (before gone come after : List (Tree K V)) → IsForest most old (before ++ (gone ++ after)) →
-      Every (IsFit most) come → Every (IsIn new.nodes) come → Every (λ (tree : Tree K V). 1 ≤ length (flat tree.leaves)) come → Every (λ (tree : Tree K V). length tree.above ≤ 16) come →
-      Every (λ (number : ℕ). IsFree (slot new.nodes number)) new.chain → length new.nodes ≡ length old.nodes →
-      ((m : ℕ) → count m (flat_map numbers_of come) + count m new.chain ≡ count m (flat_map numbers_of gone) + count m old.chain) →
-      ((m : ℕ) → count m (flat_map numbers_of gone) + count m old.chain ≡ 0 → slice_get new.nodes m ≡ slice_get old.nodes m) →
-      IsForest most new (before ++ (come ++ after))
-  exchange-trees most old new before gone come after f fit inside some low free slots nums others =
+  -- Numbers gone from the trees of a table, and others come: each stands there and on the chain as often as before, and the
+  -- slots of all but those and the chain's are as before.
+  pub record Traded (old new : Table K V) (gone come : List ℕ) : Type 0 where
+    pub free : Every (λ (number : ℕ). IsFree (slot new.nodes number)) new.chain
+    pub slots_are : length new.nodes ≡ length old.nodes
+    pub nums : (m : ℕ) → count m come + count m new.chain ≡ count m gone + count m old.chain
+    pub others : (m : ℕ) → count m gone + count m old.chain ≡ 0 → slice_get new.nodes m ≡ slice_get old.nodes m
+
+  -- the chain gave its first numbers
+  pub traded-taken : (old new : Table K V) (gone come taken : List ℕ) → Every (λ (number : ℕ). IsFree (slot old.nodes number)) old.chain → Distinct (gone ++ old.chain) → old.chain ≡ taken ++ new.chain → length new.nodes ≡ length old.nodes →
+      ((m : ℕ) → count m come ≡ count m gone + count m taken) → ((m : ℕ) → count m gone + count m taken ≡ 0 → slice_get new.nodes m ≡ slice_get old.nodes m) → Traded old new gone come
+  traded-taken old new gone come taken free apart chain_is slots nums others =
+      let c = λ (m : ℕ). ap (λ z. count m z) chain_is ∙ count-append m taken new.chain in
+      let rest = (every-append (λ (number : ℕ). IsFree (slot old.nodes number)) taken new.chain (subst (λ (z : List ℕ). Every (λ (number : ℕ). IsFree (slot old.nodes number)) z) chain_is free)).1 in
+      record {
+        free = free-same old.nodes new.nodes new.chain (λ m here. others m (omega (arith, here, c m, apart m, count-append m gone old.chain))) rest;
+        slots_are = slots;
+        nums = λ m. omega (arith, nums m, c m);
+        others = λ m none. others m (omega (arith, none, c m));
+      }
+
+  -- or it got numbers in front
+  pub traded-freed : (old new : Table K V) (gone come freed : List ℕ) → Every (λ (number : ℕ). IsFree (slot old.nodes number)) old.chain → Distinct (gone ++ old.chain) → Frees old new gone freed → ((m : ℕ) → count m come + count m freed ≡ count m gone) → Traded old new gone come
+  traded-freed old new gone come freed free apart f nums =
+      let still = free-same old.nodes new.nodes old.chain (λ m here. f.others m (omega (arith, here, apart m, count-append m gone old.chain))) free in
+      record {
+        free = subst (λ (z : List ℕ). Every (λ (number : ℕ). IsFree (slot new.nodes number)) z) (sym f.chain_is) (every-join (λ (number : ℕ). IsFree (slot new.nodes number)) freed old.chain f.freed_are still);
+        slots_are = f.slots_are;
+        nums = λ m. omega (arith, nums m, ap (λ z. count m z) f.chain_is, count-append m freed old.chain);
+        others = λ m none. f.others m (omega (arith, none));
+      }
+
+  -- a fit tree that is not empty, of at most 17 levels, lies in these slots
+  pub record IsPlanted (most : ℕ) (slots : List (Content K V)) (tree : Tree K V) : Type 0 where
+    pub fit : IsFit most tree
+    pub inside : IsIn slots tree
+    pub some : 1 ≤ length (flat tree.leaves)
+    pub low : length tree.above ≤ 16
+
+  -- some trees of a forest exchanged for others that lie in the new table
+  pub exchange-trees : (most : ℕ) (old new : Table K V) (before gone come after : List (Tree K V)) → IsForest most old (before ++ (gone ++ after)) → Every (IsPlanted most new.nodes) come → Traded old new (flat_map numbers_of gone) (flat_map numbers_of come) → IsForest most new (before ++ (come ++ after))
+  exchange-trees most old new before gone come after f p t =
       let one : (m : ℕ) → count m (flat_map numbers_of before) + (count m (flat_map numbers_of gone) + count m (flat_map numbers_of after)) + count m old.chain ≤ 1 =
       λ m. omega (arith, f.account m, at-most-one m (length old.nodes), count_parts m before gone after old.chain) in
       let ins = every_outer (IsIn old.nodes) before gone after f.inside in
       record {
         capacity = f.capacity;
-        fit = every_put (IsFit most) before come after (every_outer (IsFit most) before gone after f.fit) fit;
-        inside = every-join (IsIn new.nodes) before (come ++ after) (trees-same old.nodes new.nodes before (λ m here. others m (omega (arith, here, one m))) ins.0)
-            (every-join (IsIn new.nodes) come after inside (trees-same old.nodes new.nodes after (λ m here. others m (omega (arith, here, one m))) ins.1));
-        some = every_put (λ (tree : Tree K V). 1 ≤ length (flat tree.leaves)) before come after (every_outer (λ (tree : Tree K V). 1 ≤ length (flat tree.leaves)) before gone after f.some) some;
-        low = every_put (λ (tree : Tree K V). length tree.above ≤ 16) before come after (every_outer (λ (tree : Tree K V). length tree.above ≤ 16) before gone after f.low) low;
-        free = free;
-        account = λ m. omega (arith, count_parts m before come after new.chain, count_parts m before gone after old.chain, nums m) ∙ f.account m ∙ ap (λ z. once_below m z) (sym slots);
+        fit = every_put (IsFit most) before come after (every_outer (IsFit most) before gone after f.fit) (every-map (IsPlanted most new.nodes) (IsFit most) (λ tree q. q.fit) come p);
+        inside = every_put (IsIn new.nodes) before come after (trees-same old.nodes new.nodes before (λ m here. t.others m (omega (arith, here, one m))) ins.0, trees-same old.nodes new.nodes after (λ m here. t.others m (omega (arith, here, one m))) ins.1) (every-map (IsPlanted most new.nodes) (IsIn new.nodes) (λ tree q. q.inside) come p);
+        some = every_put (λ (tree : Tree K V). 1 ≤ length (flat tree.leaves)) before come after (every_outer (λ (tree : Tree K V). 1 ≤ length (flat tree.leaves)) before gone after f.some) (every-map (IsPlanted most new.nodes) (λ (tree : Tree K V). 1 ≤ length (flat tree.leaves)) (λ tree q. q.some) come p);
+        low = every_put (λ (tree : Tree K V). length tree.above ≤ 16) before come after (every_outer (λ (tree : Tree K V). length tree.above ≤ 16) before gone after f.low) (every-map (IsPlanted most new.nodes) (λ (tree : Tree K V). length tree.above ≤ 16) (λ tree q. q.low) come p);
+        free = t.free;
+        account = λ m. omega (arith, count_parts m before come after new.chain, count_parts m before gone after old.chain, t.nums m) ∙ f.account m ∙ ap (λ z. once_below m z) (sym t.slots_are);
       }
 
   -- how often a number is a root of three parts of the trees
@@ -109,42 +146,3 @@ module _ {K V : Type 0} where
       (m : ℕ) → 0 < count m (map root_of gone) → count m (map root_of come) ≡ 0 → ¬ IsTrue (is_root new.nodes m)
   roots-gone most old new before gone come after f g m some none root =
       omega (arith, (root-counts most new (before ++ (come ++ after)) g m).0 root, count_roots m before gone after, count_roots m before come after, some, none, roots-once most old (before ++ (gone ++ after)) f m)
-
-  -- the same where the chain gave its first numbers
-  pub grown-trees : (most : ℕ) (old new : Table K V) (before gone come after : List (Tree K V)) (taken : List ℕ) → IsForest most old (before ++ (gone ++ after)) →
-      Every (IsFit most) come → Every (IsIn new.nodes) come → Every (λ (tree : Tree K V). 1 ≤ length (flat tree.leaves)) come → Every (λ (tree : Tree K V). length tree.above ≤ 16) come →
-      old.chain ≡ taken ++ new.chain → length new.nodes ≡ length old.nodes →
-      ((m : ℕ) → count m (flat_map numbers_of come) ≡ count m (flat_map numbers_of gone) + count m taken) →
-      ((m : ℕ) → count m (flat_map numbers_of gone) + count m taken ≡ 0 → slice_get new.nodes m ≡ slice_get old.nodes m) →
-      IsForest most new (before ++ (come ++ after))
-  grown-trees most old new before gone come after taken f fit inside some low chain_is slots nums others =
-      let c = λ (m : ℕ). ap (λ z. count m z) chain_is ∙ count-append m taken new.chain in
-      let one = λ (m : ℕ). once most old (before ++ (gone ++ after)) f m in
-      let p = λ (m : ℕ). count_parts m before gone after [] in
-      let q = λ (m : ℕ). count-append m (flat_map numbers_of (before ++ (gone ++ after))) [] in
-      exchange-trees most old new before gone come after f fit inside some low
-      (free-same old.nodes new.nodes new.chain (λ m here. others m (omega (arith, here, c m, one m, p m, q m)))
-      (every-append (λ (number : ℕ). IsFree (slot old.nodes number)) taken new.chain (subst (λ (z : List ℕ). Every (λ (number : ℕ). IsFree (slot old.nodes number)) z) chain_is f.free)).1)
-      slots
-      (λ m. omega (arith, nums m, c m))
-      (λ m none. others m (omega (arith, none, c m)))
-
-  -- and where it got numbers in front, whose slots are free
-  pub shrunk-trees : (most : ℕ) (old new : Table K V) (before gone come after : List (Tree K V)) (freed : List ℕ) → IsForest most old (before ++ (gone ++ after)) →
-      Every (IsFit most) come → Every (IsIn new.nodes) come → Every (λ (tree : Tree K V). 1 ≤ length (flat tree.leaves)) come → Every (λ (tree : Tree K V). length tree.above ≤ 16) come →
-      new.chain ≡ freed ++ old.chain → Every (λ (number : ℕ). IsFree (slot new.nodes number)) freed → length new.nodes ≡ length old.nodes →
-      ((m : ℕ) → count m (flat_map numbers_of come) + count m freed ≡ count m (flat_map numbers_of gone)) →
-      ((m : ℕ) → count m (flat_map numbers_of gone) ≡ 0 → slice_get new.nodes m ≡ slice_get old.nodes m) →
-      IsForest most new (before ++ (come ++ after))
-  shrunk-trees most old new before gone come after freed f fit inside some low chain_is free slots nums others =
-      let c = λ (m : ℕ). ap (λ z. count m z) chain_is ∙ count-append m freed old.chain in
-      let one = λ (m : ℕ). once most old (before ++ (gone ++ after)) f m in
-      let p = λ (m : ℕ). count_parts m before gone after [] in
-      let q = λ (m : ℕ). count-append m (flat_map numbers_of (before ++ (gone ++ after))) [] in
-      exchange-trees most old new before gone come after f fit inside some low
-      (subst (λ (z : List ℕ). Every (λ (number : ℕ). IsFree (slot new.nodes number)) z) (sym chain_is)
-      (every-join (λ (number : ℕ). IsFree (slot new.nodes number)) freed old.chain free
-      (free-same old.nodes new.nodes old.chain (λ m here. others m (omega (arith, here, one m, p m, q m))) f.free)))
-      slots
-      (λ m. omega (arith, nums m, c m))
-      (λ m none. others m (omega (arith, none)))

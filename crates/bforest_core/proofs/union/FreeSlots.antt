@@ -1,10 +1,9 @@
--- Slots that are free: those of a chain, of a node that was freed, and those that a change leaves free.
-use Rattle.std.proofs.Common.{◌≡◌, ℕ, ◌<◌, Option, List, [], ◌∷◌, slice_get, None, sym, ap, ◌∙◌, subst, inl, inr, arith}
+-- Slots that are free: those of a list, of a node that was freed, and those that a change leaves free.
+use Rattle.std.proofs.Common.{◌≡◌, ℕ, ◌<◌, List, [], ◌∷◌, slice_get, None, sym, ap, ◌∙◌, subst, inl, inr, arith}
 use Rattle.std.specs.Option.{unwrap_or}
 use Rattle.std.proofs.lemmas.Bool.Decides.{eqb_tells}
 use Rattle.std.proofs.lemmas.Option.{unwrap_or-slice_get}
 use Rattle.bforest_nodes.specs.Content.{Content, Free, IsFree}
-use Rattle.bforest_core.specs.Chain.{IsChain}
 use Rattle.bforest_core.specs.Table.{Table, front_of, slot_count, with_freed}
 use Rattle.bforest_core.specs.Place.{count}
 use Rattle.bforest_core.specs.Trees.{slot, Every}
@@ -34,15 +33,7 @@ module _ {K V : Type 0} where
     free-same old new ms (λ k some. same k (omega (arith, some))) f.1,
   )
 
-  -- the slots of a chain are free
-  pub chain-free : (nodes : List (Content K V)) (chain : List ℕ) (first : Option ℕ) → IsChain nodes chain first → Every (λ (m : ℕ). IsFree (slot nodes m)) chain
-  chain-free nodes [] first linked = tt
-  chain-free nodes (m ∷ ms) first linked = (
-    subst (λ (z : Content K V). IsFree z) (sym (slot-is nodes m (Free linked.0) linked.2)) tt,
-    chain-free nodes ms linked.0 linked.3,
-  )
-
-  -- so is that of a node that was freed
+  -- the slot of a node that was freed is free
   pub freed-slot : (table : Table K V) (m : ℕ) → m < slot_count table → IsFree (slot (with_freed table m).nodes m)
   freed-slot table m low =
       let found = slice_get-set_same table.nodes m (Free (front_of table.chain)) low in

@@ -11,7 +11,7 @@ use Rattle.bforest_core.specs.Change.{Plants}
 use Rattle.bforest_core.proofs.table.Tables.{count-append, count-same, absent_ne, takes}
 use Rattle.bforest_core.proofs.table.Chains.{length-fresh_nodes, length-down_from}
 use Rattle.bforest_core.proofs.rows.Counts.{past-none}
-use Rattle.bforest_core.proofs.union.Unions.{IsPlanted}
+use Rattle.bforest_core.proofs.union.Exchange.{IsPlanted}
 use Rattle.bforest_core.proofs.union.Roots.{planted-union}
 use Rattle.bforest_core.proofs.union.Reserved.{reserved-union, reserved-then, reserved-roots}
 

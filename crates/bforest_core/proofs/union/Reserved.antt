@@ -2,6 +2,7 @@
 use Rattle.std.proofs.Common.{◌≡◌, ℕ, zero, suc, ◌+◌, ◌-◌, ◌≤◌, ◌<◌, IsTrue, Bool, true, false, Option, None, List, [], ◌∷◌, ◌++◌, length, get_or, slice_get, refl, sym, ap, ◌∙◌, inl, inr, subst, length-append, arith}
 use Rattle.std.specs.List.{flat_map}
 use Rattle.std.proofs.lemmas.Bool.{cases_lt}
+use Rattle.std.proofs.lemmas.List.{get_or-append_right}
 use Rattle.std.proofs.lemmas.Option.{slice_get-get_or}
 use Rattle.bforest_nodes.specs.Content.{Content, Free, IsFree}
 use Rattle.bforest_core.specs.Table.{Table, down_from, fresh_nodes, front_of, front_of_new, free_count, slot_count, with_slots, reserved}
@@ -56,9 +57,7 @@ fresh_free K V first (suc n) next m = free_more (fresh_nodes {K = K} {V = V} fir
 module _ {K V : Type 0} where
   -- so is each slot from them on
   past_free : (xs more : List (Content K V)) → ((m : ℕ) → IsFree (slot more m)) → (m : ℕ) → length xs ≤ m → IsFree (slot (xs ++ more) m)
-  past_free [] more f m past = f m
-  past_free (x ∷ xs) more f zero past = absurd (omega (arith, past))
-  past_free (x ∷ xs) more f (suc m) past = past_free xs more f m (omega (arith, past))
+  past_free xs more f m past = subst IsFree (sym (get_or-append_right xs more (length xs) m (Free None) refl past)) (f (m - length xs))
 
   -- the slots before them are as they were
   slots_same : (xs more : List (Content K V)) (m : ℕ) → m < length xs → slice_get (xs ++ more) m ≡ slice_get xs m

@@ -7,11 +7,8 @@ use Rattle.bforest_core.specs.Place.{RowIn, RowsIn, leaf_content, inner_content,
 use Rattle.bforest_core.specs.Descent.{StackedTo, Under}
 use Rattle.bforest_core.specs.Removal.{numbers_under}
 use Rattle.bforest_core.proofs.rows.LevelRows.{flat-append, numbers-append, least-pos}
-use Rattle.bforest_core.proofs.table.Tables.{count-append}
-
--- two lists that are the same have the same parts
-pub tail_same : {A : Type 0} (x y : A) (xs ys : List A) → x ∷ xs ≡ y ∷ ys → (x ≡ y) × (xs ≡ ys)
-tail_same x y xs ys e = (cc, cc)
+use Rattle.bforest_core.proofs.table.Tables.{count-append, row-split}
+use Rattle.bforest_core.proofs.walks.Downward.{cons_same}
 
 module _ {K X : Type 0} where
   -- a row cut where it is seen from above
@@ -27,7 +24,7 @@ module _ {K X : Type 0} where
   row-cut half most one [] (x ∷ a) b f h = absurd cc
   row-cut half most one (node m [] ∷ ns) (x ∷ a) b f h = absurd (omega (arith, f.0, least-pos half one ns))
   row-cut half most one (node m (e ∷ es) ∷ ns) (x ∷ a) b f h =
-      let s = tail_same (e.0, m) x (heads ns) (a ++ b) h in
+      let s = cons_same (e.0, m) x (heads ns) (a ++ b) h in
       let r = row-cut half most one ns a b f.2 s.1 in
       record {
         left = node m (e ∷ es) ∷ r.left;
@@ -43,11 +40,6 @@ module _ {K X : Type 0} where
   fit_cut half most one (node m es ∷ []) ys f = ((omega (arith, f.0, least-pos half one ys), f.1, tt), f.2)
   fit_cut half most one (node m es ∷ (x ∷ xs)) ys f =
       let r = fit_cut half most one (x ∷ xs) ys f.2 in ((f.0, f.1, r.0), r.1)
-
-  -- and both lie in the slots
-  in_cut : {V : Type 0} (content : List (K × X) → Content K V) (slots : List (Content K V)) (xs ys : List (LevelNode K X)) → RowIn content slots (xs ++ ys) → RowIn content slots xs × RowIn content slots ys
-  in_cut content slots [] ys i = (tt, i)
-  in_cut content slots (node m es ∷ xs) ys i = let r = in_cut content slots xs ys i.1 in ((i.0, r.0), r.1)
 
 -- inner rows cut below two parts of the top
 pub record RowsCut {K V : Type 0} (slots : List (Content K V)) (list : List (K × ℕ)) (rows : List (List (LevelNode K ℕ))) (a b : List (K × ℕ)) : Type 0 where
@@ -68,7 +60,7 @@ module _ {K V : Type 0} where
   rows_more : (slots : List (Content K V)) (list : List (K × ℕ)) (row : List (LevelNode K ℕ)) (rows : List (List (LevelNode K ℕ))) (a b : List (K × ℕ)) → flat row ≡ list → FitRow 4 8 row → RowIn inner_content slots row → (r : RowsCut slots (heads row) rows a b) → RowCut row r.list_left r.list_right → RowsCut slots list (row ∷ rows) a b
   rows_more slots list row rows a b is f i r c =
       let fits = fit_cut 4 8 (omega arith) c.left c.right (subst (λ z. FitRow 4 8 z) c.row_is f) in
-      let ins = in_cut inner_content slots c.left c.right (subst (λ z. RowIn inner_content slots z) c.row_is i) in
+      let ins = row-split inner_content slots c.left c.right (subst (λ z. RowIn inner_content slots z) c.row_is i) in
       record {
         list_left = flat c.left;
         list_right = flat c.right;
@@ -109,7 +101,7 @@ module _ {K V : Type 0} (most : ℕ) (slots : List (Content K V)) where
       let r = rows-cut slots (heads leaves) lower a b u.stacked u.rows_in in
       let c = row-cut (half_of most) most one leaves r.list_left r.list_right u.leaves_fit r.list_is in
       let fits = fit_cut (half_of most) most one c.left c.right (subst (λ z. FitRow (half_of most) most z) c.row_is u.leaves_fit) in
-      let ins = in_cut leaf_content slots c.left c.right (subst (λ z. RowIn leaf_content slots z) c.row_is u.leaves_in) in
+      let ins = row-split leaf_content slots c.left c.right (subst (λ z. RowIn leaf_content slots z) c.row_is u.leaves_in) in
       record {
         leaves_left = c.left;
         leaves_right = c.right;

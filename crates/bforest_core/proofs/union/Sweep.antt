@@ -1,26 +1,26 @@
 -- Freeing all that is below a node, child by child.
-use Rattle.std.proofs.Common.{◌≡◌, ℕ, zero, suc, ◌+◌, ◌≤◌, ◌<◌, List, [], ◌∷◌, ◌++◌, length, drop, take, reverse, slice_get, Some, append-nil, refl, sym, ap, subst, ◌∙◌, length-set, inl, inr, arith}
+use Rattle.std.proofs.Common.{◌≡◌, ℕ, zero, suc, ◌+◌, ◌≤◌, ◌<◌, List, [], ◌∷◌, ◌++◌, length, drop, take, reverse, slice_get, Some, append-nil, refl, sym, ap, subst, ◌∙◌, inl, inr, arith}
 use Rattle.std.specs.List.{flat_map}
-use Rattle.std.proofs.lemmas.Bool.Decides.{eqb_tells}
+use Rattle.std.proofs.lemmas.Bool.{cases_lt}
+use Rattle.std.proofs.lemmas.List.Concat.{flat_map-append}
 use Rattle.bforest_nodes.specs.Content.{Content, Inner, Leaf, Free, IsInner, children_of, entry_count}
-use Rattle.bforest_core.specs.Table.{Table, front_of, with_freed}
-use Rattle.bforest_core.specs.Levels.{LevelNode, node, flat, heads, numbers, FitRow, half_of}
+use Rattle.bforest_core.specs.Table.{Table, with_freed}
+use Rattle.bforest_core.specs.Levels.{LevelNode, node, flat, heads, numbers, half_of}
 use Rattle.bforest_core.specs.Place.{leaf_content, inner_content, entry_items, count, Distinct}
 use Rattle.bforest_core.specs.Descent.{StackedTo, Under}
 use Rattle.bforest_core.specs.Trees.{numbers_down, slot}
 use Rattle.bforest_core.specs.Removal.{Frees, GivesAll, numbers_under}
-use Rattle.bforest_core.proofs.union.FreeSlots.{freed-slot, slot_same}
-use Rattle.bforest_core.proofs.removal.Frees.{frees-refl, frees-then, frees-wider}
-use Rattle.bforest_core.proofs.walks.Downward.{stacked_last}
-use Rattle.bforest_core.proofs.walks.Leading.{Front, LeafFront, InnerFront, front_step, front_count}
-use Rattle.bforest_core.proofs.rows.LevelRows.{least-pos}
-use Rattle.std.proofs.lemmas.List.{length-map, reverse-append, take_all}
+use Rattle.bforest_core.proofs.union.FreeSlots.{slot_same}
+use Rattle.bforest_core.proofs.removal.Frees.{frees-one, frees-refl, frees-then, frees-wider, only_here}
+use Rattle.bforest_core.proofs.walks.Downward.{Seen, no_heads}
+use Rattle.bforest_core.proofs.walks.TopNode.{LeafUnder, InnerUnder, node_under}
+use Rattle.std.proofs.lemmas.List.{drop_all, length-map, nil_from_length, reverse-append, take_all}
 use Rattle.std.proofs.lemmas.Option.{slice_get_within}
 use Rattle.bforest_core.proofs.table.Stored.{some_same}
 use Rattle.bforest_core.proofs.table.Read.{slot-is}
 use Rattle.bforest_core.proofs.table.Lists.{drop-read}
-use Rattle.bforest_core.proofs.union.Sections.{UnderCut, under-cut, tail_same}
-use Rattle.bforest_core.proofs.table.Tables.{count-append, count-same, count-other, row-same, rows-same, slice_get-set_apart}
+use Rattle.bforest_core.proofs.union.Sections.{UnderCut, under-cut}
+use Rattle.bforest_core.proofs.table.Tables.{count-append, count-same, row-same, rows-same}
 
 -- the items up to one more
 items-read : {K : Type 0} (top : List (K × ℕ)) (index : ℕ) (x : K × ℕ) → slice_get top index ≡ Some x → take (suc index) (entry_items top) ≡ take index (entry_items top) ++ x.1 ∷ []
@@ -28,18 +28,12 @@ items-read [] index x found = absurd cc
 items-read (y ∷ top) zero x found = ap (λ z. z.1 ∷ []) (some_same y x found)
 items-read (y ∷ top) (suc index) x found = ap (λ z. y.1 ∷ z) (items-read top index x found)
 
--- a fit row that shows no node from above has none
-no_nodes : {K X : Type 0} (half most : ℕ) → 1 ≤ half → (row : List (LevelNode K X)) → FitRow half most row → heads row ≡ [] → row ≡ []
-no_nodes half most one [] f h = refl
-no_nodes half most one (node m [] ∷ ns) f h = absurd (omega (arith, f.0, least-pos half one ns))
-no_nodes half most one (node m (e ∷ es) ∷ ns) f h = absurd cc
-
--- nor do rows below no node
+-- rows below no node have none
 rows_none : {K : Type 0} (list : List (K × ℕ)) (rows : List (List (LevelNode K ℕ))) → StackedTo list rows [] → (list ≡ []) × ((m : ℕ) → count m (flat_map numbers rows) ≡ 0)
 rows_none list [] s = (s, λ m. refl)
 rows_none list (row ∷ rows) s =
     let r = rows_none (heads row) rows s.2 in
-    let none : row ≡ [] = no_nodes 4 8 (omega arith) row s.1 r.0 in
+    let none : row ≡ [] = no_heads 4 8 (omega arith) row s.1 r.0 in
     (sym s.0 ∙ ap flat none, λ m. omega (arith, count-append m (numbers row) (flat_map numbers rows), ap (λ z. count m (numbers z)) none, r.1 m))
 
 module _ {K V : Type 0} where
@@ -61,7 +55,7 @@ module _ {K V : Type 0} where
   under_none : (most : ℕ) → 1 ≤ half_of most → (slots : List (Content K V)) (leaves : List (LevelNode K V)) (lower : List (List (LevelNode K ℕ))) → Under most slots leaves lower [] → (m : ℕ) → count m (numbers_under leaves lower) ≡ 0
   under_none most one slots leaves lower u m =
       let r = rows_none (heads leaves) lower u.stacked in
-      let none : leaves ≡ [] = no_nodes (half_of most) most one leaves u.leaves_fit r.0 in
+      let none : leaves ≡ [] = no_heads (half_of most) most one leaves u.leaves_fit r.0 in
       omega (arith, count-append m (numbers leaves) (flat_map numbers lower), ap (λ z. count m (numbers z)) none, r.1 m)
 
   -- the numbers below a node, in slots that agree on them
@@ -145,51 +139,23 @@ module _ {K V : Type 0} where
     -- at last all is freed
     pub sweep-last : (now : Table K V) (index : ℕ) → length top ≤ index → Swept most old now leaves rows top index → GivesAll old now (numbers_under leaves rows) (flat_map (numbers_down old.nodes (length rows)) (reverse (entry_items top)))
     sweep-last now index past s =
-        let none : drop index top ≡ [] = dropped top index past in
+        let none : drop index top ≡ [] = drop_all index top past in
         let left = under_none most one old.nodes s.left_leaves s.left_rows (subst (λ (z : List (K × ℕ)). Under most old.nodes s.left_leaves s.left_rows z) none s.under) in
         let whole = s.order ∙ ap (λ z. flat_map (numbers_down old.nodes (length rows)) (reverse z)) (take_all index (entry_items top) (omega (arith, past, length-map top (λ (e : K × ℕ). e.1)))) in
         subst (λ (z : List ℕ). GivesAll old now (numbers_under leaves rows) z) whole (record {
           frees = frees-wider old now s.own (numbers_under leaves rows) s.given (λ m zero. omega (arith, zero, s.split m)) s.frees;
           counted = λ m. omega (arith, s.counted m, s.split m, left m);
         })
-      where
-        dropped : (top : List (K × ℕ)) (index : ℕ) → length top ≤ index → drop index top ≡ []
-        dropped [] zero past = refl
-        dropped [] (suc index) past = refl
-        dropped (x ∷ top) zero past = absurd (omega (arith, past))
-        dropped (x ∷ top) (suc index) past = dropped top index (omega (arith, past))
 
   -- the node itself is freed after all that is below it
-  gives-top : (old now : Table K V) (own all given : List ℕ) (top : ℕ) → top < length now.nodes → count top own ≡ 0 → ((m : ℕ) → count m all ≡ count m own + count m (top ∷ [])) → GivesAll old now own given → GivesAll old (with_freed now top) all (top ∷ given)
-  gives-top old now own all given top low none all_is g =
-      let one : Frees now (with_freed now top) (top ∷ []) (top ∷ []) = record {
-        others = λ m other. slice_get-set_apart now.nodes top m (Free (front_of now.chain)) (λ (e : m ≡ top). absurd (omega (arith, other, count-one m top e)));
-        freed_are = (freed-slot now top low, tt);
-        chain_is = refl;
-        slots_are = length-set now.nodes top (Free (front_of now.chain));
-        limit_is = refl;
-      } in
-      let both = frees-both old now (with_freed now top) own (top ∷ []) given (top ∷ []) (λ m some. other_top m some) g.frees one in
+  gives-top : (old now : Table K V) (own all given : List ℕ) (top : ℕ) (content : Content K V) → slice_get now.nodes top ≡ Some content → count top own ≡ 0 → ((m : ℕ) → count m all ≡ count m own + count m (top ∷ [])) → GivesAll old now own given → GivesAll old (with_freed now top) all (top ∷ given)
+  gives-top old now own all given top content found none all_is g =
+      let apart : (m : ℕ) → 0 < count m given → count m (top ∷ []) ≡ 0 =
+      λ m some. elim (cases_lt 0 (count m (top ∷ []))) [ inl here ↦ absurd (omega (arith, some, g.counted m, only_here m top own here none)) | inr past ↦ omega (arith, past) ] in
       record {
-        frees = record {
-          others = λ m zero. both.others m (omega (arith, zero, all_is m, count-append m own (top ∷ [])));
-          freed_are = both.freed_are;
-          chain_is = both.chain_is;
-          slots_are = both.slots_are;
-          limit_is = both.limit_is;
-        };
+        frees = frees-then old now (with_freed now top) all (top ∷ []) given (top ∷ []) (λ m zero. omega (arith, zero, all_is m)) apart (frees-wider old now own all given (λ m zero. omega (arith, zero, all_is m)) g.frees) (frees-one now (with_freed now top) top content (top ∷ []) found refl (omega (arith, count-same top [])));
         counted = λ m. omega (arith, all_is m, g.counted m, count-append m (top ∷ []) given);
       }
-    where
-      count-one : (m n : ℕ) → m ≡ n → 0 < count m (n ∷ [])
-      count-one m n e = subst (λ (z : ℕ). 0 < count z (n ∷ [])) (sym e) (omega (arith, count-same n []))
-
-      other_top : (m : ℕ) → 0 < count m given → count m (top ∷ []) ≡ 0
-      other_top m some =
-          elim (eqb_tells top m) [
-            | inl w ↦ absurd (let e = ap (λ z. count z own) w.1 in omega (arith, some, none, e, g.counted m))
-            | inr w ↦ count-other m top [] w.1
-          ]
 
 -- the entry whose item stands at an index
 item_at : {K : Type 0} (top : List (K × ℕ)) (index child : ℕ) → slice_get (entry_items top) index ≡ Some child → (x : K × ℕ) × (slice_get top index ≡ Some x) × (x.1 ≡ child)
@@ -199,12 +165,9 @@ item_at (y ∷ top) zero child found = (y, refl, cc)
 item_at (y ∷ top) (suc index) child found = item_at top index child found
 
 -- a row of one node seen from above
-one_node : {K X : Type 0} (half most : ℕ) → 1 ≤ half → (row : List (LevelNode K X)) (first : K) (number : ℕ) → FitRow half most row → heads row ≡ (first, number) ∷ [] → (f : Front row number) → row ≡ node number (f.e ∷ f.es) ∷ []
-one_node half most one row first number fit h f =
-    let row_is = f.row_is in
-    let tail : heads f.after ≡ [] = (tail_same (f.e.0, number) (first, number) (heads f.after) [] (ap heads (sym row_is) ∙ h)).1 in
-    let fits = subst (λ z. FitRow half most z) row_is fit in
-    row_is ∙ ap (λ z. node number (f.e ∷ f.es) ∷ z) (no_nodes half most one f.after fits.2 tail)
+one_node : {K X : Type 0} (half most : ℕ) → 1 ≤ half → (row : List (LevelNode K X)) (first : K) (number : ℕ) (at : Seen half most row [] first number []) → row ≡ node number (at.e ∷ at.es) ∷ []
+one_node half most one row first number at =
+    at.row_is ∙ ap (λ z. z ++ node number (at.e ∷ at.es) ∷ at.after) (nil_from_length at.before at.before_is) ∙ ap (λ z. node number (at.e ∷ at.es) ∷ z) (no_heads half most one at.after at.after_fit at.after_is)
 
 module _ {K V : Type 0} where
   -- only an inner node has children, and they are its entries
@@ -227,15 +190,14 @@ module _ {K V : Type 0} where
     pub down : numbers_down slots (length lower) number ≡ number ∷ flat_map (numbers_down slots (length rows)) (reverse (entry_items top))
 
   module _ (most : ℕ) (one : 1 ≤ half_of most) (slots : List (Content K V)) (leaves : List (LevelNode K V)) where
-    open_leaf : (lower : List (List (LevelNode K ℕ))) (first : K) (number : ℕ) → Under most slots leaves lower ((first, number) ∷ []) → LeafFront slots leaves lower number → Opened most slots leaves lower number
-    open_leaf lower first number u s =
-        let stacked = subst (λ z. StackedTo (heads leaves) z ((first, number) ∷ [])) s.lower_is u.stacked in
-        let row = one_node (half_of most) most one leaves first number u.leaves_fit stacked s.front in
+    open_leaf : (lower : List (List (LevelNode K ℕ))) (first : K) (number : ℕ) → LeafUnder most slots leaves lower [] first number [] → Opened most slots leaves lower number
+    open_leaf lower first number s =
+        let row = one_node (half_of most) most one leaves first number s.at in
         record {
           low = [];
           rows = [];
           top = [];
-          content = leaf_content (s.front.e ∷ s.front.es);
+          content = leaf_content (s.at.e ∷ s.at.es);
           slot_is = s.slot_is;
           children_are = refl;
           under = record { leaves_fit = tt; leaves_in = tt; stacked = refl; rows_in = tt };
@@ -244,34 +206,25 @@ module _ {K V : Type 0} where
           down = ap (λ z. numbers_down slots (length z) number) s.lower_is;
         }
 
-    open_inner : (lower : List (List (LevelNode K ℕ))) (first : K) (number : ℕ) → Under most slots leaves lower ((first, number) ∷ []) → InnerFront most slots leaves lower number → Opened most slots leaves lower number
-    open_inner lower first number u s =
-        let st = stacked_last (heads leaves) s.rows s.row ((first, number) ∷ []) (subst (λ z. StackedTo (heads leaves) z ((first, number) ∷ [])) s.lower_is u.stacked) in
-        let row = one_node 4 8 (omega arith) s.row first number st.1 st.2 s.front in
+    open_inner : (lower : List (List (LevelNode K ℕ))) (first : K) (number : ℕ) → InnerUnder most slots leaves lower [] first number [] → Opened most slots leaves lower number
+    open_inner lower first number s =
+        let row = one_node 4 8 (omega arith) s.row first number s.at in
+        let es = s.at.e ∷ s.at.es in
         record {
           low = leaves;
           rows = s.rows;
-          top = s.front.e ∷ s.front.es;
-          content = inner_content (s.front.e ∷ s.front.es);
+          top = es;
+          content = inner_content es;
           slot_is = s.slot_is;
           children_are = refl;
-          under = record {
-            leaves_fit = u.leaves_fit;
-            leaves_in = u.leaves_in;
-            stacked = subst (λ z. StackedTo (heads leaves) s.rows z) (ap flat row ∙ append-nil (s.front.e ∷ s.front.es)) st.0;
-            rows_in = s.under.rows_in;
-          };
-          counted = λ m. omega (arith, count-append m (numbers leaves) (flat_map numbers lower), count-append m (numbers leaves) (flat_map numbers s.rows), ap (λ z. count m (flat_map numbers z)) s.lower_is, rows_more m s.rows s.row, ap (λ z. count m (numbers z)) row);
-          height = λ some. sym (front_count most one slots leaves lower number s);
-          down = ap (λ z. numbers_down slots z number) (front_count most one slots leaves lower number s) ∙ ap (λ z. number ∷ flat_map (numbers_down slots (length s.rows)) (reverse (children_of z))) (slot-is slots number (inner_content (s.front.e ∷ s.front.es)) s.slot_is);
+          under = subst (λ z. Under most slots leaves s.rows z) (ap flat row ∙ append-nil es) s.under;
+          counted = λ m. omega (arith, count-append m (numbers leaves) (flat_map numbers lower), count-append m (numbers leaves) (flat_map numbers s.rows), ap (λ z. count m (flat_map numbers z)) s.lower_is, ap (λ z. count m z) (flat_map-append numbers s.rows (s.row ∷ [])), count-append m (flat_map numbers s.rows) (numbers s.row ++ []), ap (λ z. count m z) (append-nil (numbers s.row)), ap (λ z. count m (numbers z)) row);
+          height = λ some. sym s.count_is;
+          down = ap (λ z. numbers_down slots z number) s.count_is ∙ ap (λ z. number ∷ flat_map (numbers_down slots (length s.rows)) (reverse (children_of z))) (slot-is slots number (inner_content es) s.slot_is);
         }
-      where
-        rows_more : (m : ℕ) (rows : List (List (LevelNode K ℕ))) (row : List (LevelNode K ℕ)) → count m (flat_map numbers (rows ++ row ∷ [])) ≡ count m (flat_map numbers rows) + count m (numbers row)
-        rows_more m [] row = omega (arith, ap (λ z. count m z) (append-nil (numbers row)))
-        rows_more m (r ∷ rows) row = omega (arith, rows_more m rows row, count-append m (numbers r) (flat_map numbers rows), count-append m (numbers r) (flat_map numbers (rows ++ row ∷ [])))
 
     pub under-open : (lower : List (List (LevelNode K ℕ))) (first : K) (number : ℕ) → Under most slots leaves lower ((first, number) ∷ []) → Opened most slots leaves lower number
-    under-open lower first number u = elim (front_step most one slots leaves lower first number [] u) [ inl s ↦ open_leaf lower first number u s | inr s ↦ open_inner lower first number u s ]
+    under-open lower first number u = elim (node_under most one slots leaves lower [] first number [] u) [ inl s ↦ open_leaf lower first number s | inr s ↦ open_inner lower first number s ]
 
   -- the sweep of a node's children, with what it shows of the node itself
   pub record Sweeping (most : ℕ) (old now : Table K V) (leaves : List (LevelNode K V)) (lower : List (List (LevelNode K ℕ))) (number index : ℕ) : Type 0 where
@@ -307,7 +260,7 @@ module _ {K V : Type 0} where
   gives-down most old now leaves lower number index s all =
       let below = flat_map (numbers_down old.nodes (length s.opened.rows)) (reverse (entry_items s.opened.top)) in
       subst (λ (z : List ℕ). GivesAll old (with_freed now number) (numbers_under leaves lower) z) (sym s.opened.down)
-      (gives-top old now (numbers_under s.opened.low s.opened.rows) (numbers_under leaves lower) below number (slice_get_within now.nodes number s.opened.content s.slot_is) s.alone s.opened.counted all)
+      (gives-top old now (numbers_under s.opened.low s.opened.rows) (numbers_under leaves lower) below number s.opened.content s.slot_is s.alone s.opened.counted all)
 
   -- below a leaf lies nothing, so that it is freed alone
   pub gives-leaf : (most : ℕ) (one : 1 ≤ half_of most) (old : Table K V) (leaves : List (LevelNode K V)) (lower : List (List (LevelNode K ℕ))) (number : ℕ) → Distinct (numbers_under leaves lower ++ old.chain) → (o : Opened most old.nodes leaves lower number) → (IsInner o.content → ⊥) → GivesAll old (with_freed old number) (numbers_under leaves lower) (numbers_down old.nodes (length lower) number)

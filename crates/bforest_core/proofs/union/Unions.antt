@@ -1,21 +1,15 @@
--- What a change of one tree says of the union of trees.
-use Rattle.std.proofs.Common.{◌≡◌, ℕ, ◌+◌, ◌≤◌, ◌<◌, ◌≢◌, IsTrue, List, [], ◌∷◌, ◌++◌, length, slice_get, refl, sym, ap, subst, inl, inr, append-nil, arith}
+-- A tree of a union of trees, under its root.
+use Rattle.std.proofs.Common.{◌≡◌, ℕ, ◌≤◌, ◌<◌, IsTrue, List, [], ◌∷◌, ◌++◌, length, refl, sym, ap, subst, inl, inr, arith}
 use Rattle.std.specs.List.{flat_map}
 use Rattle.std.proofs.lemmas.Bool.{cases_lt}
-use Rattle.bforest_nodes.specs.Content.{Content, IsFree}
 use Rattle.bforest_core.specs.Table.{Table}
 use Rattle.bforest_core.specs.Levels.{flat, Tree, IsFit}
 use Rattle.bforest_core.specs.Place.{IsIn, count, Distinct, root_of, numbers_of}
 use Rattle.bforest_core.specs.Descent.{IsRooted}
-use Rattle.bforest_core.specs.Trees.{slot, tree_of, is_root, Every, IsForest, IsUnion, OthersKeep}
-use Rattle.bforest_core.proofs.table.Tables.{count-append, count-other}
+use Rattle.bforest_core.specs.Trees.{tree_of, is_root, IsForest, IsUnion}
+use Rattle.bforest_core.proofs.table.Tables.{count-append}
 use Rattle.bforest_core.proofs.rows.Counts.{past-none}
 use Rattle.bforest_core.proofs.union.Forests.{every-append, once, root-tree, tree-back}
-use Rattle.bforest_core.proofs.union.Exchange.{grown-trees, shrunk-trees, others-keep}
-
--- another number than a root
-pub not-root : (other root : ℕ) → other ≢ root → count other (root ∷ []) ≡ 0
-not-root other root ne = count-other other root [] (λ (e : root ≡ other). ne (sym e))
 
 module _ {K V : Type 0} where
   -- a tree stands under a root of a table, among these trees
@@ -68,67 +62,3 @@ module _ {K V : Type 0} where
   is-rooted most table root union is =
       let r = rooted most table root union is in
       record { fit = r.fit; inside = r.inside; root_is = r.root_is; some = r.some; low = r.low }
-
-  -- a fit tree that is not empty, of at most 17 levels, lies in these slots
-  pub record IsPlanted (most : ℕ) (slots : List (Content K V)) (tree : Tree K V) : Type 0 where
-    pub fit : IsFit most tree
-    pub inside : IsIn slots tree
-    pub some : 1 ≤ length (flat tree.leaves)
-    pub low : length tree.above ≤ 16
-
-  -- how often a number stands in one tree
-  count_one : (m : ℕ) (tree : Tree K V) → count m (flat_map numbers_of (tree ∷ [])) ≡ count m (numbers_of tree)
-  count_one m tree = ap (λ z. count m z) (append-nil (numbers_of tree))
-
-  -- one tree of a forest exchanged for another
-  keeps : (most : ℕ) (old new : Table K V) (before : List (Tree K V)) (tree tree' : Tree K V) (after : List (Tree K V)) → IsForest most old (before ++ tree ∷ after) → IsForest most new (before ++ tree' ∷ after) → OthersKeep old.nodes new.nodes (root_of tree) (root_of tree')
-  keeps most old new before tree tree' after f g other ne ne' =
-      others-keep most old new before (tree ∷ []) (tree' ∷ []) after f g other (not-root other (root_of tree) ne) (not-root other (root_of tree') ne')
-
-  -- An insertion: the tree took these numbers from the front of the chain. All other roots keep their trees.
-  pub exchange : (most : ℕ) (old new : Table K V) (before : List (Tree K V)) (tree tree' : Tree K V) (after : List (Tree K V)) (taken : List ℕ) → IsForest most old (before ++ tree ∷ after) → IsPlanted most new.nodes tree' →
-      old.chain ≡ taken ++ new.chain → length new.nodes ≡ length old.nodes →
-      ((m : ℕ) → count m (numbers_of tree') ≡ count m (numbers_of tree) + count m taken) →
-      ((m : ℕ) → count m (numbers_of tree) + count m taken ≡ 0 → slice_get new.nodes m ≡ slice_get old.nodes m) →
-      IsForest most new (before ++ tree' ∷ after) × OthersKeep old.nodes new.nodes (root_of tree) (root_of tree')
-  exchange most old new before tree tree' after taken f p chain_is slots nums others =
-      let g = grown-trees most old new before (tree ∷ []) (tree' ∷ []) after taken f (p.fit, tt) (p.inside, tt) (p.some, tt) (p.low, tt) chain_is slots
-      (λ m. omega (arith, nums m, count_one m tree, count_one m tree'))
-      (λ m none. others m (omega (arith, none, count_one m tree))) in
-      (g, keeps most old new before tree tree' after f g)
-
-  -- A removal: the tree gave these numbers to the front of the chain, and their slots are free. All other roots keep their trees.
-  pub exchange-freed : (most : ℕ) (old new : Table K V) (before : List (Tree K V)) (tree tree' : Tree K V) (after : List (Tree K V)) (freed : List ℕ) → IsForest most old (before ++ tree ∷ after) → IsPlanted most new.nodes tree' →
-      new.chain ≡ freed ++ old.chain → Every (λ (number : ℕ). IsFree (slot new.nodes number)) freed → length new.nodes ≡ length old.nodes →
-      ((m : ℕ) → count m (numbers_of tree') + count m freed ≡ count m (numbers_of tree)) →
-      ((m : ℕ) → count m (numbers_of tree) ≡ 0 → slice_get new.nodes m ≡ slice_get old.nodes m) →
-      IsForest most new (before ++ tree' ∷ after) × OthersKeep old.nodes new.nodes (root_of tree) (root_of tree')
-  exchange-freed most old new before tree tree' after freed f p chain_is free slots nums others =
-      let g = shrunk-trees most old new before (tree ∷ []) (tree' ∷ []) after freed f (p.fit, tt) (p.inside, tt) (p.some, tt) (p.low, tt) chain_is free slots
-      (λ m. omega (arith, nums m, count_one m tree, count_one m tree'))
-      (λ m none. others m (omega (arith, none, count_one m tree))) in
-      (g, keeps most old new before tree tree' after f g)
-
-  -- A first entry: a new tree of numbers from the front of the chain. All roots keep their trees.
-  pub planted : (most : ℕ) (old new : Table K V) (trees : List (Tree K V)) (tree' : Tree K V) (taken : List ℕ) → IsForest most old trees → IsPlanted most new.nodes tree' →
-      old.chain ≡ taken ++ new.chain → length new.nodes ≡ length old.nodes →
-      ((m : ℕ) → count m (numbers_of tree') ≡ count m taken) →
-      ((m : ℕ) → count m taken ≡ 0 → slice_get new.nodes m ≡ slice_get old.nodes m) →
-      IsForest most new (tree' ∷ trees) × OthersKeep old.nodes new.nodes (root_of tree') (root_of tree')
-  planted most old new trees tree' taken f p chain_is slots nums others =
-      let g = grown-trees most old new [] [] (tree' ∷ []) trees taken f (p.fit, tt) (p.inside, tt) (p.some, tt) (p.low, tt) chain_is slots
-      (λ m. omega (arith, nums m, count_one m tree'))
-      (λ m none. others m (omega (arith, none))) in
-      (g, λ other ne ne'. others-keep most old new [] [] (tree' ∷ []) trees f g other refl (not-root other (root_of tree') ne))
-
-  -- All entries gone: the tree gave all its numbers to the front of the chain. All other roots keep their trees.
-  pub uprooted : (most : ℕ) (old new : Table K V) (before : List (Tree K V)) (tree : Tree K V) (after : List (Tree K V)) (freed : List ℕ) → IsForest most old (before ++ tree ∷ after) →
-      new.chain ≡ freed ++ old.chain → Every (λ (number : ℕ). IsFree (slot new.nodes number)) freed → length new.nodes ≡ length old.nodes →
-      ((m : ℕ) → count m freed ≡ count m (numbers_of tree)) →
-      ((m : ℕ) → count m (numbers_of tree) ≡ 0 → slice_get new.nodes m ≡ slice_get old.nodes m) →
-      IsForest most new (before ++ after) × OthersKeep old.nodes new.nodes (root_of tree) (root_of tree)
-  uprooted most old new before tree after freed f chain_is free slots nums others =
-      let g = shrunk-trees most old new before (tree ∷ []) [] after freed f tt tt tt tt chain_is free slots
-      (λ m. omega (arith, nums m, count_one m tree))
-      (λ m none. others m (omega (arith, none, count_one m tree))) in
-      (g, λ other ne ne'. others-keep most old new before (tree ∷ []) [] after f g other (not-root other (root_of tree) ne) refl)

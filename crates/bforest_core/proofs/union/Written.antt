@@ -14,7 +14,8 @@ use Rattle.bforest_core.proofs.walks.LeafSearch.{items-read}
 use Rattle.bforest_core.proofs.insertion.LeafSpot.{keys_count}
 use Rattle.bforest_core.proofs.walks.Steps.{entry_at, read}
 use Rattle.bforest_core.proofs.table.Read.{slot-is}
-use Rattle.bforest_core.proofs.union.Unions.{IsPlanted, rooted}
+use Rattle.bforest_core.proofs.union.Exchange.{IsPlanted}
+use Rattle.bforest_core.proofs.union.Unions.{rooted}
 use Rattle.bforest_core.proofs.union.Roots.{exchanged}
 
 module _ {K X : Type 0} where

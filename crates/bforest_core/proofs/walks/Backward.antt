@@ -1,5 +1,5 @@
 -- A step of a path to the node or the entry before.
-use Rattle.std.proofs.Common.{◌≡◌, ◌≢◌, ℕ, zero, suc, ◌+◌, ◌-◌, ◌≤◌, ◌<◌, List, [], ◌∷◌, length, get_or, slice_get, Some, refl, sym, ap, subst, ◌∙◌, arith, length-append}
+use Rattle.std.proofs.Common.{◌≡◌, ◌≢◌, ℕ, zero, suc, ◌+◌, ◌-◌, ◌≤◌, ◌<◌, List, ◌∷◌, length, get_or, slice_get, Some, refl, sym, ap, subst, ◌∙◌, arith, length-append}
 use Rattle.std.proofs.lemmas.List.{length-map, get_or_default}
 use Rattle.bforest_nodes.specs.Content.{Content, entry_count}
 use Rattle.bforest_core.specs.Levels.{LevelNode, node, flat, heads, Tree, IsFit, half_of}
@@ -7,13 +7,9 @@ use Rattle.bforest_core.specs.Place.{RowIn, leaf_content, inner_content, Stands,
 use Rattle.bforest_core.specs.Steps.{Moved, Over}
 use Rattle.bforest_core.proofs.walks.Entered.{over_leaves}
 use Rattle.bforest_core.proofs.walks.Steps.{Spot, Nth, nth, next_at, stands_in}
+use Rattle.bforest_core.proofs.walks.TopNode.{none_flat}
 use Rattle.bforest_core.proofs.table.Tables.{row-split}
 use Rattle.bforest_core.proofs.table.Stored.{item_count}
-
--- a row of no nodes has no entries
-none_flat : {K X : Type 0} (row : List (LevelNode K X)) → length row ≡ 0 → length (flat row) ≡ 0
-none_flat [] e = refl
-none_flat (x ∷ row) e = absurd (omega (arith, e))
 
 module _ {K V : Type 0} (slots : List (Content K V)) (path indices : List ℕ) (level up size : ℕ) (rows : List (List (LevelNode K ℕ))) (list : List (K × ℕ)) (place : ℕ) (up_is : up ≡ suc level) (s : Spot slots path indices up size rows list place) where
   -- the last child of the node before is the child before
@@ -99,11 +95,3 @@ module _ {K V : Type 0} (path indices : List ℕ) (tree : Tree K V) (place : ℕ
   pub at_end : (size : ℕ) → size ≡ 0 → IsPathAt path indices size tree place → place ≡ length (flat tree.leaves)
   at_end zero none at = at
   at_end (suc size) none at = absurd (omega (arith, none))
-
--- the same path stands where it stood
-pub stay : {K V : Type 0} (path indices : List ℕ) (size : ℕ) (path' indices' : List ℕ) (size' : ℕ) (tree : Tree K V) (place place' : ℕ) → path' ≡ path → indices' ≡ indices → size' ≡ size → place' ≡ place → Stands path indices size tree place → Stands path' indices' size' tree place'
-stay path indices size path' indices' size' tree place place' path_is indices_are size_is place_is s =
-    subst (λ (z : List ℕ). Stands z indices' size' tree place') (sym path_is)
-    (subst (λ (z : List ℕ). Stands path z size' tree place') (sym indices_are)
-    (subst (λ (z : ℕ). Stands path indices z tree place') (sym size_is)
-    (subst (λ (z : ℕ). Stands path indices size tree z) (sym place_is) s)))

@@ -1,5 +1,6 @@
 -- Rows seen from the top: the highest of them, and the node of a row that is seen from above.
 use Rattle.std.proofs.Common.{◌≡◌, ℕ, suc, ◌+◌, ◌≤◌, ◌<◌, List, [], ◌∷◌, ◌++◌, length, get_or, refl, sym, ap, subst, ◌∙◌, arith}
+use Rattle.std.specs.Cmp.{IsTotalOrder}
 use Rattle.std.specs.List.Sorted.{IsStrictlySortedBy}
 use Rattle.std.specs.List.{AllByRecursion}
 use Rattle.std.specs.Map.{keys_of}
@@ -11,7 +12,7 @@ use Rattle.bforest_core.specs.Levels.{LevelNode, node, flat, heads, FitRow}
 use Rattle.bforest_core.specs.Place.{RowIn, RowsIn, inner_content, IsAt}
 use Rattle.bforest_core.specs.Descent.{StackedTo, StandsTo, IsUpTo}
 use Rattle.bforest_core.proofs.rows.LevelRows.{least-pos}
-use Rattle.bforest_core.proofs.walks.Rising.{all_split}
+use Rattle.bforest_core.proofs.walks.Rising.{all_split, increasing_split}
 
 -- the last of some elements
 pub record Last {A : Type 0} (xs : List A) : Type 0 where
@@ -52,11 +53,12 @@ module _ {K : Type 0} where
         stands_same ms js ms' js' (suc level) rows (length at.before) top (λ i low. f i (omega (arith, low))) (λ i low. g i (omega (arith, low))) s.1,
       )
 
-cons_same : {A : Type 0} (p q : A) (xs ys : List A) → p ∷ xs ≡ q ∷ ys → (p ≡ q) × (xs ≡ ys)
+-- two lists that are the same have the same parts
+pub cons_same : {A : Type 0} (p q : A) (xs ys : List A) → p ∷ xs ≡ q ∷ ys → (p ≡ q) × (xs ≡ ys)
 cons_same p q xs ys e = (cc, cc)
 
 -- the node of a row that stands between these, seen from above
-pub record Seen {K X : Type 0} (row : List (LevelNode K X)) (a : List (K × ℕ)) (first : K) (number : ℕ) (b : List (K × ℕ)) : Type 0 where
+pub record Seen {K X : Type 0} (half most : ℕ) (row : List (LevelNode K X)) (a : List (K × ℕ)) (first : K) (number : ℕ) (b : List (K × ℕ)) : Type 0 where
   pub before : List (LevelNode K X)
   pub e : K × X
   pub es : List (K × X)
@@ -65,19 +67,26 @@ pub record Seen {K X : Type 0} (row : List (LevelNode K X)) (a : List (K × ℕ)
   pub first_is : e.0 ≡ first
   pub before_is : length before ≡ length a
   pub after_is : heads after ≡ b
+  pub after_fit : FitRow half most after
 
 module _ {K X : Type 0} where
-  pub seen : (half most : ℕ) → 1 ≤ half → (row : List (LevelNode K X)) (a : List (K × ℕ)) (first : K) (number : ℕ) (b : List (K × ℕ)) → FitRow half most row → heads row ≡ a ++ (first, number) ∷ b → Seen row a first number b
+  pub seen : (half most : ℕ) → 1 ≤ half → (row : List (LevelNode K X)) (a : List (K × ℕ)) (first : K) (number : ℕ) (b : List (K × ℕ)) → FitRow half most row → heads row ≡ a ++ (first, number) ∷ b → Seen half most row a first number b
   seen half most one [] [] first number b f h = absurd cc
   seen half most one [] (z ∷ a) first number b f h = absurd cc
   seen half most one (node m [] ∷ ns) a first number b f h = absurd (omega (arith, f.0, least-pos half one ns))
   seen half most one (node m (e ∷ es) ∷ ns) [] first number b f h =
       let s = cons_same (e.0, m) (first, number) (heads ns) b h in
-      record { before = []; e = e; es = es; after = ns; row_is = ap (λ z. node z (e ∷ es) ∷ ns) (ap (λ z. z.1) s.0); first_is = ap (λ z. z.0) s.0; before_is = refl; after_is = s.1 }
+      record { before = []; e = e; es = es; after = ns; row_is = ap (λ z. node z (e ∷ es) ∷ ns) (ap (λ z. z.1) s.0); first_is = ap (λ z. z.0) s.0; before_is = refl; after_is = s.1; after_fit = f.2 }
   seen half most one (node m (e ∷ es) ∷ ns) (z ∷ a) first number b f h =
       let s = cons_same (e.0, m) z (heads ns) (a ++ (first, number) ∷ b) h in
       let r = seen half most one ns a first number b f.2 s.1 in
-      record { before = node m (e ∷ es) ∷ r.before; e = r.e; es = r.es; after = r.after; row_is = ap (λ w. node m (e ∷ es) ∷ w) r.row_is; first_is = r.first_is; before_is = ap suc r.before_is; after_is = r.after_is }
+      record { before = node m (e ∷ es) ∷ r.before; e = r.e; es = r.es; after = r.after; row_is = ap (λ w. node m (e ∷ es) ∷ w) r.row_is; first_is = r.first_is; before_is = ap suc r.before_is; after_is = r.after_is; after_fit = r.after_fit }
+
+  -- a fit row that shows no node from above has none
+  pub no_heads : (half most : ℕ) → 1 ≤ half → (row : List (LevelNode K X)) → FitRow half most row → heads row ≡ [] → row ≡ []
+  no_heads half most one [] f h = refl
+  no_heads half most one (node m [] ∷ ns) f h = absurd (omega (arith, f.0, least-pos half one ns))
+  no_heads half most one (node m (e ∷ es) ∷ ns) f h = absurd cc
 
   -- what holds of all keys of a row holds of those that are seen
   heads_all : (P : K → Type 0) (row : List (LevelNode K X)) → AllByRecursion P (keys_of (flat row)) → AllByRecursion P (keys_of (heads row))
@@ -86,15 +95,11 @@ module _ {K X : Type 0} where
   heads_all P (node m (e ∷ es) ∷ ns) h = (h.0, heads_all P ns (all_split P es (flat ns) h.1).1)
 
   -- the nodes of a row increase as its entries do
-  pub heads_increasing : (cmp : K → K → Ordering) (row : List (LevelNode K X)) → IsIncreasing cmp (flat row) → IsIncreasing cmp (heads row)
+  pub heads_increasing : (cmp : K → K → Ordering) → IsTotalOrder cmp → (row : List (LevelNode K X)) → IsIncreasing cmp (flat row) → IsIncreasing cmp (heads row)
   unfolding IsStrictlySortedBy
-  heads_increasing cmp [] h = tt
-  heads_increasing cmp (node m [] ∷ ns) h = heads_increasing cmp ns h
-  heads_increasing cmp (node m (e ∷ es) ∷ ns) h = (heads_all (λ k. cmp e.0 k ≡ Less) ns (all_split (λ k. cmp e.0 k ≡ Less) es (flat ns) h.0).1, heads_increasing cmp ns (rest es h.1))
-    where
-      rest : (es : List (K × X)) → IsStrictlySortedBy cmp (keys_of (es ++ flat ns)) → IsIncreasing cmp (flat ns)
-      rest [] h = h
-      rest (e ∷ es) h = rest es h.1
+  heads_increasing cmp o [] h = tt
+  heads_increasing cmp o (node m [] ∷ ns) h = heads_increasing cmp o ns h
+  heads_increasing cmp o (node m (e ∷ es) ∷ ns) h = (heads_all (λ k. cmp e.0 k ≡ Less) ns (all_split (λ k. cmp e.0 k ≡ Less) es (flat ns) h.0).1, heads_increasing cmp o ns (increasing_split cmp o es (flat ns) h.1).1)
 
   -- the key is before a row's entries as it is before its nodes
   pub upto_flat : (cmp : K → K → Ordering) (half most : ℕ) → 1 ≤ half → (row : List (LevelNode K X)) (key : K) → FitRow half most row → IsUpTo cmp (heads row) key → IsUpTo cmp (flat row) key
@@ -103,6 +108,6 @@ module _ {K X : Type 0} where
   upto_flat cmp half most one (node m (e ∷ es) ∷ ns) key f u = u
 
 -- the nodes of the top increase as the entries of the lowest row do
-pub stacked_increasing : {K : Type 0} (cmp : K → K → Ordering) (list : List (K × ℕ)) (rows : List (List (LevelNode K ℕ))) (top : List (K × ℕ)) → StackedTo list rows top → IsIncreasing cmp list → IsIncreasing cmp top
-stacked_increasing cmp list [] top s h = subst (IsIncreasing cmp) s h
-stacked_increasing cmp list (row ∷ rows) top s h = stacked_increasing cmp (heads row) rows top s.2 (heads_increasing cmp row (subst (IsIncreasing cmp) (sym s.0) h))
+pub stacked_increasing : {K : Type 0} (cmp : K → K → Ordering) → IsTotalOrder cmp → (list : List (K × ℕ)) (rows : List (List (LevelNode K ℕ))) (top : List (K × ℕ)) → StackedTo list rows top → IsIncreasing cmp list → IsIncreasing cmp top
+stacked_increasing cmp o list [] top s h = subst (IsIncreasing cmp) s h
+stacked_increasing cmp o list (row ∷ rows) top s h = stacked_increasing cmp o (heads row) rows top s.2 (heads_increasing cmp o row (subst (IsIncreasing cmp) (sym s.0) h))

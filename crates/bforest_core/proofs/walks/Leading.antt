@@ -1,172 +1,197 @@
--- The way down to the first entry.
-use Rattle.std.proofs.Common.{◌≡◌, ◌≢◌, ℕ, suc, ◌+◌, ◌≤◌, ◌<◌, ◌⊎◌, inl, inr, List, [], ◌∷◌, ◌++◌, length, get_or, set, slice_get, Some, refl, sym, ap, subst, ◌∙◌, arith, length-append}
-use Rattle.std.proofs.lemmas.List.{get_or-set_other}
-use Rattle.std.proofs.lemmas.Option.{slice_get_within}
+-- The way down to the first entry, and to the last: each answer of `descend_first` and `descend_last` is one of these.
+use Rattle.std.proofs.Common.{◌≡◌, ℕ, zero, suc, ◌+◌, ◌-◌, ◌≤◌, ◌<◌, List, [], ◌∷◌, ◌++◌, length, get_or, set, slice_get, Some, refl, sym, ap, subst, ◌∙◌, arith, length-append}
+use Rattle.std.proofs.lemmas.List.{nil_from_length}
 use Rattle.bforest_nodes.specs.Content.{Content, IsInner, entry_count, children_of}
-use Rattle.bforest_core.specs.Levels.{LevelNode, node, flat, heads, FitRow, half_of}
-use Rattle.bforest_core.specs.Place.{RowIn, leaf_content, inner_content, IsAt}
-use Rattle.bforest_core.specs.Descent.{StackedTo, StandsTo, Under, Led}
-use Rattle.bforest_core.proofs.rows.LevelRows.{least-pos}
-use Rattle.bforest_core.proofs.table.Stored.{some_same}
-use Rattle.bforest_core.proofs.walks.Downward.{last_of, stacked_last, in_last, stands_more, stands_same}
+use Rattle.bforest_core.specs.Levels.{LevelNode, node, flat, Tree, half_of}
+use Rattle.bforest_core.specs.Place.{leaf_content, inner_content, entry_items, IsAt, Stands}
+use Rattle.bforest_core.specs.Descent.{StandsTo, SameAbove, Under, Led, LedLast}
+use Rattle.bforest_core.proofs.rows.LevelRows.{flat-append}
+use Rattle.bforest_core.proofs.table.Stored.{some_same, item_count}
+use Rattle.bforest_core.proofs.walks.Backward.{last_child_is, last_entry_is}
+use Rattle.bforest_core.proofs.walks.Downward.{Seen, stands_more, stands_same, no_heads}
+use Rattle.bforest_core.proofs.walks.TopNode.{SameBut, none_flat, flat_parted, seen_at, set_but, LeafUnder, InnerUnder, leaf_under, inner_under}
+use Rattle.bforest_core.proofs.walks.Whole.{stands_above}
 
--- the first node of a row
-pub record Front {K X : Type 0} (row : List (LevelNode K X)) (number : ℕ) : Type 0 where
-  pub e : K × X
-  pub es : List (K × X)
-  pub after : List (LevelNode K X)
-  pub row_is : row ≡ node number (e ∷ es) ∷ after
+-- the path stands at a place of the leaves, and on the rows from there up to this node of the top; above it is as before
+pub record LedTo {K V : Type 0} (leaves : List (LevelNode K V)) (lower : List (List (LevelNode K ℕ))) (place top : ℕ) (path indices path' indices' : List ℕ) : Type 0 where
+  pub leaf : IsAt leaves (get_or path' 0 0) (get_or indices' 0 0) place
+  pub stands : StandsTo path' indices' 1 lower (length leaf.before) top
+  pub nodes_above : SameAbove (length lower) path path'
+  pub entries_above : SameAbove (length lower) indices indices'
 
-pub record InnerFront {K V : Type 0} (most : ℕ) (slots : List (Content K V)) (leaves : List (LevelNode K V)) (lower : List (List (LevelNode K ℕ))) (number : ℕ) : Type 0 where
-  pub rows : List (List (LevelNode K ℕ))
-  pub row : List (LevelNode K ℕ)
-  pub front : Front row number
-  pub lower_is : lower ≡ rows ++ row ∷ []
-  pub under : Under most slots leaves rows ((front.e.0, front.e.1) ∷ (front.es ++ flat front.after))
-  pub slot_is : slice_get slots number ≡ Some (inner_content (front.e ∷ front.es))
+-- the child at an index of a node's entries
+child_cut : {K : Type 0} (es : List (K × ℕ)) (index child : ℕ) → slice_get (entry_items es) index ≡ Some child → (l : List (K × ℕ)) × (key : K) × (r : List (K × ℕ)) × (es ≡ l ++ (key, child) ∷ r) × (length l ≡ index)
+child_cut [] index child found = absurd cc
+child_cut (y ∷ es) zero child found = ([], y.0, es, ap (λ z. (y.0, z) ∷ es) (some_same y.1 child found), refl)
+child_cut (y ∷ es) (suc index) child found = let r = child_cut es index child found in (y ∷ r.0, r.1, r.2, ap (λ z. y ∷ z) r.3, ap suc r.4)
 
-pub record LeafFront {K V : Type 0} (slots : List (Content K V)) (leaves : List (LevelNode K V)) (lower : List (List (LevelNode K ℕ))) (number : ℕ) : Type 0 where
-  pub front : Front leaves number
-  pub lower_is : lower ≡ []
-  pub slot_is : slice_get slots number ≡ Some (leaf_content (front.e ∷ front.es))
+-- a row ends with the last entry of its last node
+last_place : {K X : Type 0} (half most : ℕ) → 1 ≤ half → (row : List (LevelNode K X)) (a : List (K × ℕ)) (first : K) (number : ℕ) (at : Seen half most row a first number []) → length (flat row) ≡ length (flat at.before) + suc (length at.es)
+last_place half most one row a first number at =
+    let none = ap (λ z. length (flat z)) (no_heads half most one at.after at.after_fit at.after_is) in
+    let parts = ap length (ap flat at.row_is ∙ flat-append at.before (node number (at.e ∷ at.es) ∷ at.after)) in
+    omega (arith, none, parts, length-append (flat at.before) ((at.e ∷ at.es) ++ flat at.after), length-append at.es (flat at.after))
 
-cons_same : {A : Type 0} (p q : A) (xs ys : List A) → p ∷ xs ≡ q ∷ ys → (p ≡ q) × (xs ≡ ys)
-cons_same p q xs ys e = (cc, cc)
+module _ {K V : Type 0} (most : ℕ) (slots : List (Content K V)) (leaves : List (LevelNode K V)) (lower : List (List (LevelNode K ℕ))) (a : List (K × ℕ)) (first : K) (number : ℕ) (b : List (K × ℕ)) (path indices : List ℕ) where
+  -- the path was led to an entry of a leaf
+  leaf_led : (s : LeafUnder most slots leaves lower a first number b) (path' indices' : List ℕ) (index place : ℕ) → index ≤ length s.at.es → place ≡ length (flat s.at.before) + index → get_or path' 0 0 ≡ number → get_or indices' 0 0 ≡ index → SameBut 0 path path' → SameBut 0 indices indices' → LedTo leaves lower place (length a) path indices path' indices'
+  leaf_led s path' indices' index place within place_is m_is j_is nodes entries =
+      subst (λ (z : List (List (LevelNode K ℕ))). LedTo leaves z place (length a) path indices path' indices') (sym s.lower_is) (record {
+        leaf = seen_at s.at (get_or path' 0 0) (get_or indices' 0 0) index place m_is j_is within place_is;
+        stands = s.at.before_is;
+        nodes_above = λ i low. nodes i (λ z. omega (arith, z, low));
+        entries_above = λ i low. entries i (λ z. omega (arith, z, low));
+      })
 
-front_of_row : {K X : Type 0} (half most : ℕ) → 1 ≤ half → (row : List (LevelNode K X)) (first : K) (number : ℕ) (b : List (K × ℕ)) → FitRow half most row → heads row ≡ (first, number) ∷ b → Front row number
-front_of_row half most one [] first number b f h = absurd cc
-front_of_row half most one (node m [] ∷ ns) first number b f h = absurd (omega (arith, f.0, least-pos half one ns))
-front_of_row half most one (node m (e ∷ es) ∷ ns) first number b f h =
-    let s = cons_same (e.0, m) (first, number) (heads ns) b h in
-    record { e = e; es = es; after = ns; row_is = ap (λ z. node z (e ∷ es) ∷ ns) (ap (λ z. z.1) s.0) }
-
-module _ {K V : Type 0} (most : ℕ) (one : 1 ≤ half_of most) (slots : List (Content K V)) (leaves : List (LevelNode K V)) where
-  front_row : (rows : List (List (LevelNode K ℕ))) (row : List (LevelNode K ℕ)) (lower : List (List (LevelNode K ℕ))) (first : K) (number : ℕ) (b : List (K × ℕ)) → lower ≡ rows ++ row ∷ [] → Under most slots leaves (rows ++ row ∷ []) ((first, number) ∷ b) → InnerFront most slots leaves lower number
-  front_row rows row lower first number b lower_is u =
-      let s = stacked_last (heads leaves) rows row ((first, number) ∷ b) u.stacked in
-      let i = in_last slots rows row u.rows_in in
-      let f = front_of_row 4 8 (omega arith) row first number b s.1 s.2 in
+  -- and on from a child of an inner node
+  inner_led : (s : InnerUnder most slots leaves lower a first number b) (path1 indices1 path2 indices2 : List ℕ) (high index place top : ℕ) → high ≡ suc (length s.rows) → index ≤ length s.at.es → top ≡ length (flat s.at.before) + index → LedTo leaves s.rows place top path indices path1 indices1 → get_or path2 high 0 ≡ number → get_or indices2 high 0 ≡ index →
+      SameBut high path1 path2 → SameBut high indices1 indices2 → LedTo leaves lower place (length a) path indices path2 indices2
+  inner_led s path1 indices1 path2 indices2 high index place top high_is within top_is d m_is j_is nodes entries =
+      let below = stands_same path1 indices1 path2 indices2 1 s.rows (length d.leaf.before) top (λ i low. nodes i (λ z. omega (arith, z, low, high_is))) (λ i low. entries i (λ z. omega (arith, z, low, high_is))) d.stands in
+      let more = stands_more path2 indices2 1 s.rows s.row (length d.leaf.before) top high below (omega (arith, high_is)) (seen_at s.at (get_or path2 high 0) (get_or indices2 high 0) index top m_is j_is within top_is) in
       record {
-        rows = rows;
-        row = row;
-        front = f;
-        lower_is = lower_is;
-        under = record { leaves_fit = u.leaves_fit; leaves_in = u.leaves_in; stacked = subst (λ (z : List (K × ℕ)). StackedTo (heads leaves) rows z) (ap flat f.row_is) s.0; rows_in = i.0 };
-        slot_is = (subst (λ (z : List (LevelNode K ℕ)). RowIn inner_content slots z) f.row_is i.1).0;
+        leaf = record {
+          before = d.leaf.before;
+          entries = d.leaf.entries;
+          after = d.leaf.after;
+          row_is = d.leaf.row_is ∙ ap (λ z. d.leaf.before ++ node z d.leaf.entries ∷ d.leaf.after) (sym (nodes 0 (λ z. omega (arith, z, high_is))));
+          within = omega (arith, entries 0 (λ z. omega (arith, z, high_is)), d.leaf.within);
+          place_is = d.leaf.place_is ∙ ap (λ z. length (flat d.leaf.before) + z) (sym (entries 0 (λ z. omega (arith, z, high_is))));
+        };
+        stands = subst (λ (z : List (List (LevelNode K ℕ))). StandsTo path2 indices2 1 z (length d.leaf.before) (length a)) (sym s.lower_is) (subst (λ (z : ℕ). StandsTo path2 indices2 1 (s.rows ++ s.row ∷ []) (length d.leaf.before) z) s.at.before_is more);
+        nodes_above = λ i low. nodes i (λ z. omega (arith, z, low, high_is, s.count_is)) ∙ d.nodes_above i (omega (arith, low, s.count_is));
+        entries_above = λ i low. entries i (λ z. omega (arith, z, low, high_is, s.count_is)) ∙ d.entries_above i (omega (arith, low, s.count_is));
       }
 
-  pub front_step : (lower : List (List (LevelNode K ℕ))) (first : K) (number : ℕ) (b : List (K × ℕ)) → Under most slots leaves lower ((first, number) ∷ b) → LeafFront slots leaves lower number ⊎ InnerFront most slots leaves lower number
-  front_step [] first number b u =
-      let f = front_of_row (half_of most) most one leaves first number b u.leaves_fit u.stacked in
-      inl (record { front = f; lower_is = refl; slot_is = (subst (λ (z : List (LevelNode K V)). RowIn leaf_content slots z) f.row_is u.leaves_in).0 })
-  front_step (r ∷ rs) first number b u =
-      let z = last_of r rs in
-      inr (front_row z.init z.last (r ∷ rs) first number b z.is (subst (λ (w : List (List (LevelNode K ℕ))). Under most slots leaves w ((first, number) ∷ b)) z.is u))
+-- what lies under a child of an inner node
+record ChildUnder {K V : Type 0} (most : ℕ) (slots : List (Content K V)) (leaves : List (LevelNode K V)) (lower rows : List (List (LevelNode K ℕ))) (child before behind : ℕ) : Type 0 where
+  front : List (K × ℕ)
+  key : K
+  back : List (K × ℕ)
+  under : Under most slots leaves rows (front ++ (key, child) ∷ back)
+  front_is : length front ≡ before
+  back_is : length front + suc (length back) ≡ behind
 
-  module _ (lower : List (List (LevelNode K ℕ))) (first : K) (number : ℕ) (b : List (K × ℕ)) (u : Under most slots leaves lower ((first, number) ∷ b)) where
-    pub front_within : number < length slots
-    front_within = elim (front_step lower first number b u) [ inl s ↦ slice_get_within slots number _ s.slot_is | inr s ↦ slice_get_within slots number _ s.slot_is ]
+module _ {K V : Type 0} (most : ℕ) (slots : List (Content K V)) (leaves : List (LevelNode K V)) (lower : List (List (LevelNode K ℕ))) (a : List (K × ℕ)) (first : K) (number : ℕ) (b : List (K × ℕ)) (s : InnerUnder most slots leaves lower a first number b)
+    (content2 : Content K V) (read2 : slice_get slots number ≡ Some content2) where
+  content_is : content2 ≡ inner_content (s.at.e ∷ s.at.es)
+  content_is = some_same content2 (inner_content (s.at.e ∷ s.at.es)) (sym read2 ∙ s.slot_is)
 
-    same_inner : (c d : Content K V) → slice_get slots number ≡ Some c → slice_get slots number ≡ Some d → IsInner d → IsInner c
-    same_inner c d e f i = subst IsInner (some_same d c (sym f ∙ e)) i
+  -- what reading a child asks
+  child_asks : (index : ℕ) → index ≤ length s.at.es → IsInner content2 × (index < entry_count content2)
+  child_asks index within = (subst IsInner (sym content_is) tt, subst (λ (z : Content K V). index < entry_count z) (sym content_is) (omega (arith, within, item_count (s.at.e ∷ s.at.es))))
 
-    pub front_leaf : (content : Content K V) → slice_get slots number ≡ Some content → (IsInner content → ⊥) → LeafFront slots leaves lower number
-    front_leaf content found other = elim (front_step lower first number b u) [ inl s ↦ s | inr s ↦ absurd (other (same_inner content (inner_content (s.front.e ∷ s.front.es)) found s.slot_is tt)) ]
+  child_under : (index child : ℕ) → slice_get (children_of content2) index ≡ Some child → ChildUnder most slots leaves lower s.rows child (length (flat s.at.before) + index) (length (flat s.row))
+  child_under index child found =
+      let c = child_cut (s.at.e ∷ s.at.es) index child (ap (λ z. slice_get (children_of z) index) (sym content_is) ∙ found) in
+      let flat_is = ap flat s.at.row_is ∙ flat_parted s.at.before number (s.at.e ∷ s.at.es) c.0 (c.1, child) c.2 s.at.after c.3 in
+      record {
+        front = flat s.at.before ++ c.0;
+        key = c.1;
+        back = c.2 ++ flat s.at.after;
+        under = subst (λ (z : List (K × ℕ)). Under most slots leaves s.rows z) flat_is s.under;
+        front_is = length-append (flat s.at.before) c.0 ∙ ap (λ z. length (flat s.at.before) + z) c.4;
+        back_is = sym (ap length flat_is ∙ length-append (flat s.at.before ++ c.0) ((c.1, child) ∷ (c.2 ++ flat s.at.after)));
+      }
 
-    pub front_inner : (content : Content K V) → slice_get slots number ≡ Some content → IsInner content → InnerFront most slots leaves lower number
-    front_inner content found inner = elim (front_step lower first number b u) [ inl s ↦ absurd (same_inner (leaf_content (s.front.e ∷ s.front.es)) content s.slot_is found inner) | inr s ↦ s ]
-
-  module _ (lower : List (List (LevelNode K ℕ))) (number : ℕ) where
-    pub front_count : (s : InnerFront most slots leaves lower number) → length lower ≡ suc (length s.rows)
-    front_count s = ap length s.lower_is ∙ length-append s.rows (s.row ∷ []) ∙ omega arith
-
-    pub led_leaf : (s : LeafFront slots leaves lower number) (path indices path' indices' : List ℕ) → get_or path' 0 0 ≡ number → get_or indices' 0 0 ≡ 0 → ((i : ℕ) → i ≢ 0 → get_or path' i 0 ≡ get_or path i 0) → ((i : ℕ) → i ≢ 0 → get_or indices' i 0 ≡ get_or indices i 0) → Led leaves lower path indices path' indices'
-    led_leaf s path indices path' indices' m_is j_is nodes entries =
-        subst (λ (z : List (List (LevelNode K ℕ))). Led leaves z path indices path' indices') (sym s.lower_is) (record {
-          leaf = record {
-            before = [];
-            entries = s.front.e ∷ s.front.es;
-            after = s.front.after;
-            row_is = s.front.row_is ∙ ap (λ z. node z (s.front.e ∷ s.front.es) ∷ s.front.after) (sym m_is);
-            within = omega (arith, j_is);
-            place_is = omega (arith, j_is);
-          };
-          stands = refl;
-          nodes_above = λ i low. nodes i (λ z. omega (arith, z, low));
-          entries_above = λ i low. entries i (λ z. omega (arith, z, low));
-        })
-
-    pub led_inner : (s : InnerFront most slots leaves lower number) (path indices path' indices' path'' indices'' : List ℕ) (high : ℕ) → high ≡ suc (length s.rows) → Led leaves s.rows path indices path' indices' → get_or path'' high 0 ≡ number → get_or indices'' high 0 ≡ 0 → ((i : ℕ) → i ≢ high → get_or path'' i 0 ≡ get_or path' i 0) → ((i : ℕ) → i ≢ high → get_or indices'' i 0 ≡ get_or indices' i 0) →
-        (high ≡ length lower) × Led leaves lower path indices path'' indices''
-    led_inner s path indices path' indices' path'' indices'' high high_is d m_is j_is nodes entries =
-        let count_is = front_count s in
-        let at : IsAt s.row (get_or path'' high 0) (get_or indices'' high 0) 0 = record {
-          before = [];
-          entries = s.front.e ∷ s.front.es;
-          after = s.front.after;
-          row_is = s.front.row_is ∙ ap (λ z. node z (s.front.e ∷ s.front.es) ∷ s.front.after) (sym m_is);
-          within = omega (arith, j_is);
-          place_is = omega (arith, j_is);
-        } in
-        let m0 = nodes 0 (λ z. omega (arith, z, high_is)) in
-        let j0 = entries 0 (λ z. omega (arith, z, high_is)) in
-        let below = stands_same path' indices' path'' indices'' 1 s.rows (length d.leaf.before) 0 (λ i low. nodes i (λ z. omega (arith, z, low, high_is))) (λ i low. entries i (λ z. omega (arith, z, low, high_is))) d.stands in
-        let more = stands_more path'' indices'' 1 s.rows s.row (length d.leaf.before) 0 high below (omega (arith, high_is)) at in (
-          high_is ∙ sym count_is,
-          record {
-            leaf = record {
-              before = d.leaf.before;
-              entries = d.leaf.entries;
-              after = d.leaf.after;
-              row_is = d.leaf.row_is ∙ ap (λ z. d.leaf.before ++ node z d.leaf.entries ∷ d.leaf.after) (sym m0);
-              within = omega (arith, j0, d.leaf.within);
-              place_is = d.leaf.place_is ∙ ap (λ z. length (flat d.leaf.before) + z) (sym j0);
-            };
-            stands = subst (λ (z : List (List (LevelNode K ℕ))). StandsTo path'' indices'' 1 z (length d.leaf.before) 0) (sym s.lower_is) more;
-            nodes_above = λ i low. nodes i (λ z. omega (arith, z, low, high_is, count_is)) ∙ d.nodes_above i (omega (arith, low, count_is));
-            entries_above = λ i low. entries i (λ z. omega (arith, z, low, high_is, count_is)) ∙ d.entries_above i (omega (arith, low, count_is));
-          },
-        )
-
+module _ {K V : Type 0} (most : ℕ) (slots : List (Content K V)) where
   -- what the call one level down the first nodes is asked
-  pub record FrontBelow (lower : List (List (LevelNode K ℕ))) (child : ℕ) : Type 0 where
+  pub record FrontBelow (leaves : List (LevelNode K V)) (lower : List (List (LevelNode K ℕ))) (child : ℕ) : Type 0 where
     pub rows : List (List (LevelNode K ℕ))
     pub first : K
     pub rest : List (K × ℕ)
     pub under : Under most slots leaves rows ((first, child) ∷ rest)
     pub count_is : length lower ≡ suc (length rows)
 
-  -- what it leaves
+  -- and down the last nodes
+  pub record BackBelow (leaves : List (LevelNode K V)) (lower : List (List (LevelNode K ℕ))) (child : ℕ) : Type 0 where
+    pub rows : List (List (LevelNode K ℕ))
+    pub before : List (K × ℕ)
+    pub first : K
+    pub under : Under most slots leaves rows (before ++ (first, child) ∷ [])
+    pub count_is : length lower ≡ suc (length rows)
+
+  -- what they leave
   abbrev pub LeadsFirst : List ℕ → List ℕ → List ℕ → List ℕ → ℕ → ℕ → Type 0
   LeadsFirst path indices path1 indices1 child below =
       (leaves : List (LevelNode K V)) (lower : List (List (LevelNode K ℕ))) (first : K) (b : List (K × ℕ)) → Under most slots leaves lower ((first, child) ∷ b) → (below ≡ length lower) × Led leaves lower path indices path1 indices1
 
-  module _ (lower : List (List (LevelNode K ℕ))) (first : K) (number : ℕ) (b : List (K × ℕ)) (u : Under most slots leaves lower ((first, number) ∷ b)) (content content2 : Content K V) (read : slice_get slots number ≡ Some content) (inner : IsInner content) (read2 : slice_get slots number ≡ Some content2) where
-    s : InnerFront most slots leaves lower number
-    s = front_inner lower first number b u content read inner
+  abbrev pub LeadsLast : List ℕ → List ℕ → List ℕ → List ℕ → ℕ → ℕ → Type 0
+  LeadsLast path indices path1 indices1 child below =
+      (leaves : List (LevelNode K V)) (lower : List (List (LevelNode K ℕ))) (before : List (K × ℕ)) (first : K) → Under most slots leaves lower (before ++ (first, child) ∷ []) → (below ≡ length lower) × LedLast leaves lower (length before) path indices path1 indices1
 
-    content_is : content2 ≡ inner_content (s.front.e ∷ s.front.es)
-    content_is = some_same content2 (inner_content (s.front.e ∷ s.front.es)) (sym read2 ∙ s.slot_is)
+module _ {K V : Type 0} (most : ℕ) (one : 1 ≤ half_of most) (slots : List (Content K V)) (leaves : List (LevelNode K V)) (lower : List (List (LevelNode K ℕ))) (first : K) (number : ℕ) (b : List (K × ℕ)) where
+  -- the first node is a leaf
+  pub led_leaf : (s : LeafUnder most slots leaves lower [] first number b) (path indices path' indices' : List ℕ) → get_or path' 0 0 ≡ number → get_or indices' 0 0 ≡ 0 → SameBut 0 path path' → SameBut 0 indices indices' → Led leaves lower path indices path' indices'
+  led_leaf s path indices path' indices' m_is j_is nodes entries =
+      let l = leaf_led most slots leaves lower [] first number b path indices s path' indices' 0 0 (omega arith) (omega (arith, none_flat s.at.before s.at.before_is)) m_is j_is nodes entries in
+      record { leaf = l.leaf; stands = l.stands; nodes_above = l.nodes_above; entries_above = l.entries_above }
+
+  module _ (u : Under most slots leaves lower ((first, number) ∷ b)) (content content2 : Content K V) (read : slice_get slots number ≡ Some content) (inner : IsInner content) (read2 : slice_get slots number ≡ Some content2) where
+    abbrev front_node : InnerUnder most slots leaves lower [] first number b
+    front_node = inner_under most one slots leaves lower [] first number b u content read inner
 
     -- what reading the first child asks
     pub front_asks : IsInner content2 × (0 < entry_count content2)
-    front_asks = (subst IsInner (sym content_is) tt, (let n = ap entry_count content_is in omega (arith, n)))
+    front_asks = child_asks most slots leaves lower [] first number b front_node content2 read2 0 (omega arith)
 
     module _ (child : ℕ) (child_read : slice_get (children_of content2) 0 ≡ Some child) where
-      child_is : child ≡ s.front.e.1
-      child_is = some_same child s.front.e.1 (sym child_read ∙ ap (λ z. slice_get (children_of z) 0) content_is)
-
-      under : Under most slots leaves s.rows ((s.front.e.0, child) ∷ (s.front.es ++ flat s.front.after))
-      under = subst (λ (z : ℕ). Under most slots leaves s.rows ((s.front.e.0, z) ∷ (s.front.es ++ flat s.front.after))) (sym child_is) s.under
-
-      pub front_below : FrontBelow lower child
-      front_below = record { rows = s.rows; first = s.front.e.0; rest = s.front.es ++ flat s.front.after; under = under; count_is = front_count lower number s }
+      pub front_below : FrontBelow most slots leaves lower child
+      front_below =
+          let c = child_under most slots leaves lower [] first number b front_node content2 read2 0 child child_read in
+          let none = nil_from_length c.front (omega (arith, c.front_is, none_flat front_node.at.before front_node.at.before_is)) in
+          record { rows = front_node.rows; first = c.key; rest = c.back; under = subst (λ (z : List (K × ℕ)). Under most slots leaves front_node.rows (z ++ (c.key, child) ∷ c.back)) none c.under; count_is = front_node.count_is }
 
       -- the node's level, and the path through it
-      pub led_here : (path indices path1 indices1 : List ℕ) (below : ℕ) → LeadsFirst path indices path1 indices1 child below → (path2 indices2 : List ℕ) → get_or path2 (below + 1) 0 ≡ number → get_or indices2 (below + 1) 0 ≡ 0 → path2 ≡ set path1 (below + 1) number → indices2 ≡ set indices1 (below + 1) 0 →
+      pub led_here : (path indices path1 indices1 : List ℕ) (below : ℕ) → LeadsFirst most slots path indices path1 indices1 child below → (path2 indices2 : List ℕ) → get_or path2 (below + 1) 0 ≡ number → get_or indices2 (below + 1) 0 ≡ 0 → path2 ≡ set path1 (below + 1) number → indices2 ≡ set indices1 (below + 1) 0 →
           (below + 1 ≡ length lower) × Led leaves lower path indices path2 indices2
+      unfolding front_below
       led_here path indices path1 indices1 below leads path2 indices2 node_here entry_here path_is indices_are =
-          let r = leads leaves s.rows s.front.e.0 (s.front.es ++ flat s.front.after) under in
-          led_inner lower number s path indices path1 indices1 path2 indices2 (below + 1) (omega (arith, r.0)) r.1 node_here entry_here
-          (λ i other. ap (λ z. get_or z i 0) path_is ∙ get_or-set_other path1 (below + 1) i number 0 other)
-          (λ i other. ap (λ z. get_or z i 0) indices_are ∙ get_or-set_other indices1 (below + 1) i 0 0 other)
+          let r = leads leaves front_below.rows front_below.first front_below.rest front_below.under in
+          let l = inner_led most slots leaves lower [] first number b path indices front_node path1 indices1 path2 indices2 (below + 1) 0 0 0 (omega (arith, r.0)) (omega arith) (omega (arith, none_flat front_node.at.before front_node.at.before_is))
+          (record { leaf = r.1.leaf; stands = r.1.stands; nodes_above = r.1.nodes_above; entries_above = r.1.entries_above }) node_here entry_here (set_but path1 path2 (below + 1) number path_is) (set_but indices1 indices2 (below + 1) 0 indices_are) in
+          (omega (arith, r.0, front_node.count_is), record { leaf = l.leaf; stands = l.stands; nodes_above = l.nodes_above; entries_above = l.entries_above })
+
+module _ {K V : Type 0} (most : ℕ) (one : 1 ≤ half_of most) (slots : List (Content K V)) (leaves : List (LevelNode K V)) (lower : List (List (LevelNode K ℕ))) (a : List (K × ℕ)) (first : K) (number : ℕ) (u : Under most slots leaves lower (a ++ (first, number) ∷ [])) where
+  -- the last node is a leaf
+  pub ends_here : (content : Content K V) → slice_get slots number ≡ Some content → (IsInner content → ⊥) → (last : ℕ) → ((x : Content K V) → slice_get slots number ≡ Some x → last ≡ entry_count x - 1) →
+      (path indices path2 indices2 : List ℕ) → get_or path2 0 0 ≡ number → get_or indices2 0 0 ≡ last → path2 ≡ set path 0 number → indices2 ≡ set indices 0 last → (0 ≡ length lower) × LedLast leaves lower (length a) path indices path2 indices2
+  ends_here content read other last last_is path indices path2 indices2 node_here entry_here path_is indices_are =
+      let s = leaf_under most one slots leaves lower a first number [] u content read other in
+      let index : last ≡ length s.at.es = last_is (leaf_content (s.at.e ∷ s.at.es)) s.slot_is ∙ last_entry_is s.at.e s.at.es in
+      let l = leaf_led most slots leaves lower a first number [] path indices s path2 indices2 last (length (flat leaves) - 1) (omega (arith, index)) (omega (arith, index, last_place (half_of most) most one leaves a first number s.at)) node_here entry_here (set_but path path2 0 number path_is) (set_but indices indices2 0 last indices_are) in
+      (sym (ap length s.lower_is), record { leaf = l.leaf; stands = l.stands; nodes_above = l.nodes_above; entries_above = l.entries_above })
+
+  module _ (content content2 : Content K V) (read : slice_get slots number ≡ Some content) (inner : IsInner content) (read2 : slice_get slots number ≡ Some content2) (last : ℕ) (last_is : (x : Content K V) → slice_get slots number ≡ Some x → last ≡ entry_count x - 1) where
+    abbrev back_node : InnerUnder most slots leaves lower a first number []
+    back_node = inner_under most one slots leaves lower a first number [] u content read inner
+
+    index : last ≡ length back_node.at.es
+    index = last_is (inner_content (back_node.at.e ∷ back_node.at.es)) back_node.slot_is ∙ last_child_is V back_node.at.e back_node.at.es
+
+    -- what reading the last child asks
+    pub back_asks : IsInner content2 × (last < entry_count content2)
+    back_asks = child_asks most slots leaves lower a first number [] back_node content2 read2 last (omega (arith, index))
+
+    module _ (child : ℕ) (child_read : slice_get (children_of content2) last ≡ Some child) where
+      c : ChildUnder most slots leaves lower back_node.rows child (length (flat back_node.at.before) + last) (length (flat back_node.row))
+      c = child_under most slots leaves lower a first number [] back_node content2 read2 last child child_read
+
+      pub back_below : BackBelow most slots leaves lower child
+      back_below =
+          let none = nil_from_length c.back (omega (arith, c.front_is, c.back_is, index, last_place 4 8 (omega arith) back_node.row a first number back_node.at)) in
+          record { rows = back_node.rows; before = c.front; first = c.key; under = subst (λ (z : List (K × ℕ)). Under most slots leaves back_node.rows (c.front ++ (c.key, child) ∷ z)) none c.under; count_is = back_node.count_is }
+
+      -- the node's level, and the path through it
+      pub leads_here : (path indices path1 indices1 : List ℕ) (below : ℕ) → LeadsLast most slots path indices path1 indices1 child below → (path2 indices2 : List ℕ) → get_or path2 (below + 1) 0 ≡ number → get_or indices2 (below + 1) 0 ≡ last → path2 ≡ set path1 (below + 1) number → indices2 ≡ set indices1 (below + 1) last →
+          (below + 1 ≡ length lower) × LedLast leaves lower (length a) path indices path2 indices2
+      unfolding back_below
+      leads_here path indices path1 indices1 below leads path2 indices2 node_here entry_here path_is indices_are =
+          let r = leads leaves back_below.rows back_below.before back_below.first back_below.under in
+          let l = inner_led most slots leaves lower a first number [] path indices back_node path1 indices1 path2 indices2 (below + 1) last (length (flat leaves) - 1) (length c.front) (omega (arith, r.0)) (omega (arith, index)) c.front_is
+          (record { leaf = r.1.leaf; stands = r.1.stands; nodes_above = r.1.nodes_above; entries_above = r.1.entries_above }) node_here entry_here (set_but path1 path2 (below + 1) number path_is) (set_but indices1 indices2 (below + 1) last indices_are) in
+          (omega (arith, r.0, back_node.count_is), record { leaf = l.leaf; stands = l.stands; nodes_above = l.nodes_above; entries_above = l.entries_above })
+
+-- a path down from the root stands at the last entry
+pub last_stands : {K V : Type 0} (tree : Tree K V) (path indices path' indices' : List ℕ) (size : ℕ) → LedLast tree.leaves tree.above 0 path indices path' indices' → size ≡ suc (length tree.above) → Stands path' indices' size tree (length (flat tree.leaves) - 1)
+last_stands tree path indices path' indices' size d e = record { leaf = d.leaf; above = stands_above path' indices' 1 tree.above (length d.leaf.before) d.stands; size_is = e }

@@ -1,5 +1,6 @@
 -- What a search in a leaf's slot says of the leaf's entries.
-use Rattle.std.proofs.Common.{◌≡◌, ℕ, zero, suc, IfSome, List, [], ◌∷◌, slice_get, Option, Some, None, Ok, Err, refl, sym, ap, ◌∙◌}
+use Rattle.std.proofs.Common.{◌≡◌, ℕ, IfSome, List, slice_get, Option, Some, None, Ok, Err, refl, sym, ap, ◌∙◌}
+use Rattle.std.proofs.lemmas.Option.{slice_get-map}
 use Rattle.std.specs.declared.cmp.Ordering.{Ordering}
 use Rattle.bforest_nodes.specs.Search.{search_of}
 use Rattle.bforest_nodes.specs.Entries.{IsIncreasing, place, value_for, value_at_place}
@@ -8,9 +9,7 @@ use Rattle.bforest_nodes.proofs.Found.{search_of-keys_of, present_at, absent_at,
 
 -- the value of an entry, read in the list of the values
 pub items-read : {K X : Type 0} (es : List (K × X)) (i : ℕ) → slice_get (entry_items es) i ≡ value_at_place es i
-items-read [] i = refl
-items-read (e ∷ es) zero = refl
-items-read (e ∷ es) (suc i) = items-read es i
+items-read es i = slice_get-map (λ e. e.1) es i
 
 module _ {K V : Type 0} where
   -- what a look-up among a leaf's keys answered

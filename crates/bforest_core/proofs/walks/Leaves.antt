@@ -14,8 +14,8 @@ use Rattle.bforest_core.proofs.table.Read.{slot-is, zip-back}
 use Rattle.bforest_core.proofs.table.Stored.{some_same}
 use Rattle.bforest_core.proofs.union.Unions.{is-rooted}
 use Rattle.bforest_core.proofs.walks.Descent.{some_leaf}
-use Rattle.bforest_core.proofs.walks.Entered.{leaf_last, leaf_next, leaf_slot, over_leaves}
-use Rattle.bforest_core.proofs.walks.Leading.{front_leaf}
+use Rattle.bforest_core.proofs.walks.Entered.{first_behind, leaf_last, leaf_slot, over_leaves}
+use Rattle.bforest_core.proofs.walks.TopNode.{leaf_under}
 use Rattle.bforest_core.proofs.walks.Steps.{only}
 use Rattle.bforest_core.proofs.walks.Whole.{whole_top, whole_under}
 
@@ -41,7 +41,7 @@ root-leaf most table union root content is found other =
     let tree = tree_of table.nodes root in
     let w = is-rooted most table root union is in
     let t = whole_top most table.nodes root tree w in
-    let f = front_leaf most (some_leaf most union.1.capacity) table.nodes tree.leaves tree.above t.first root [] (whole_under most table.nodes root tree w) content found other in
+    let f = leaf_under most (some_leaf most union.1.capacity) table.nodes tree.leaves tree.above [] t.first root [] (whole_under most table.nodes root tree w) content found other in
     subst IsLeaf (sym (slot-is table.nodes root _ f.slot_is)) tt
 
 module _ {K V : Type 0} {n : ℕ} (most : ℕ) (table : Table K V) (union : IsUnion most table) where
@@ -96,6 +96,6 @@ module _ {K V : Type 0} {n : ℕ} (most : ℕ) (table : Table K V) (union : IsUn
     leaf-next moved new m nodes first above size =
         let tree = tree_of table.nodes root in
         let w = is-rooted most table root union o.on.root_is in
-        let s = leaf_next most (some_leaf most union.1.capacity) table.nodes path.node path.entry path.size tree (place + index_of path) w.fit w.inside o.on.stands moved.node moved.entry new.node new.entry m nodes first above in
+        let s = first_behind most (some_leaf most union.1.capacity) path.node path.entry path.size tree w.fit o.on.stands.size_is o.on.stands.leaf.before (leaf_of path) o.on.stands.leaf.entries o.on.stands.leaf.after o.on.stands.leaf.row_is moved.node moved.entry new.node new.entry m nodes first above in
         let on : StandsOn table root new (length (flat o.on.stands.leaf.before) + length o.on.stands.leaf.entries) = record { root_is = o.on.root_is; stands = record { leaf = s.leaf; above = s.above; size_is = size ∙ s.size_is } } in
         leaf-front root (place + length entries) new (subst (λ (z : ℕ). StandsOn table root new z) behind-leaf on) first

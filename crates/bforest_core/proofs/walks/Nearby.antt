@@ -27,10 +27,9 @@ use Rattle.bforest_core.proofs.table.Stored.{some_same}
 use Rattle.bforest_core.proofs.union.Unions.{is-rooted}
 use Rattle.bforest_core.proofs.walks.Backward.{at_end, at_entry}
 use Rattle.bforest_core.proofs.walks.Descent.{some_leaf}
-use Rattle.bforest_core.proofs.walks.Entered.{entry_is, leaf_room, leaf_slot}
-use Rattle.bforest_core.proofs.walks.Pointed.{points-stands}
+use Rattle.bforest_core.proofs.walks.Entered.{entry_read, leaf_room, leaf_slot}
 use Rattle.bforest_core.proofs.walks.Rising.{all_before, all_greater, all_less, entry_between, increasing_rest, increasing_split, place_between}
-use Rattle.bforest_core.proofs.walks.Standing.{on-within}
+use Rattle.bforest_core.proofs.walks.Standing.{on-within, points-stands}
 use Rattle.bforest_core.proofs.walks.Steps.{read}
 
 module _ {K X : Type 0} (cmp : K → K → Ordering) (es : List (K × X)) (key : K) where
@@ -52,13 +51,6 @@ upto_at : {K X : Type 0} (cmp : K → K → Ordering) (key : K) (es : List (K ×
 upto_at cmp key [] p e here t = absurd cc
 upto_at cmp key (x ∷ es) zero e here t = ap (λ (z : _). cmp z key) (some_same x.0 e.0 (ap (λ z. option_map (λ w. w.0) z) here)) ∙ t
 upto_at cmp key (x ∷ es) (suc p) e here t = upto_at cmp key es p e here t
-
--- less and equal are not greater
-equal-low : {r : Ordering} → r ≡ Equal → r ≡ Greater → ⊥
-equal-low e g = absurd (cc)
-
-less-low : {r : Ordering} → r ≡ Less → r ≡ Greater → ⊥
-less-low e g = absurd (cc)
 
 module _ {K X : Type 0} (cmp : K → K → Ordering) (o : IsTotalOrder cmp) (key : K) where
   -- one entry alone, whose key compares equal
@@ -116,7 +108,7 @@ module _ {K X : Type 0} (cmp : K → K → Ordering) (o : IsTotalOrder cmp) (key
         let same : cmp e.0 key ≡ Equal = o.antisymm e.0 key ∙ ap ordering_reverse t in
         let high = all_greater_behind cmp key o e.0 (keys_of back) (increasing_split cmp o front (e ∷ back) parted).1.0 (ap is_lt same) in
         let all : p + 0 ≡ p = omega arith in
-        subst (λ (z : ℕ). Finds cmp es key z (Some e)) all (part 0 (Some e) (λ g. equal-low same g) high (alone_equal e (tt, tt) same))
+        subst (λ (z : ℕ). Finds cmp es key z (Some e)) all (part 0 (Some e) (λ g. let bad : Equal ≡ Greater = sym same ∙ g in absurd cc) high (alone_equal e (tt, tt) same))
 
     -- behind one that is less, where the next is greater
     pub finds_behind : cmp key e.0 ≡ Greater → IsUpTo cmp back key → Finds cmp es key (suc p) None
@@ -125,7 +117,7 @@ module _ {K X : Type 0} (cmp : K → K → Ordering) (o : IsTotalOrder cmp) (key
         let behind = increasing_rest cmp o e back (increasing_split cmp o front (e ∷ back) parted).1 in
         let high = all_greater cmp o back key behind (λ y c is. subst (λ (z : List (K × X)). IsUpTo cmp z key) is up) in
         let all : p + 1 ≡ suc p = omega arith in
-        subst (λ (z : ℕ). Finds cmp es key z None) all (part 1 None (λ g. less-low less g) high (alone_less e less))
+        subst (λ (z : ℕ). Finds cmp es key z None) all (part 1 None (λ g. let bad : Less ≡ Greater = sym less ∙ g in absurd cc) high (alone_less e less))
 
 -- nodes without an entry are none
 no_nodes : {K X : Type 0} (half most : ℕ) → 1 ≤ half → (row : List (LevelNode K X)) → Solid half most row → length (flat row) ≡ 0 → row ≡ []
@@ -169,7 +161,7 @@ module _ {K V : Type 0} {n : ℕ} (table : Table K V) (root : ℕ) (path : Path 
         record {
           root_is = on.root_is;
           at = record {
-            points = points-stands path.node path.entry path.size tree 0 s;
+            points = points-stands path.node path.entry tree 0 path.size s;
             first = λ none. no_nodes (half_of n) n one s.leaf.before solid (omega (arith, s.leaf.place_is));
           };
         }
@@ -258,10 +250,9 @@ module _ {K V : Type 0} {n : ℕ} (table : Table K V) (root : ℕ) (path : Path 
   module _ (e : K × V) (read_is : (entries : List (K × V)) → slice_get table.nodes (leaf_of path) ≡ Some (leaf_content entries) → slice_get entries (index_of path) ≡ Some e) where
     -- which is the list's
     pub here-entry : slice_get (list_under table root) p ≡ Some e
-    unfolding here-leaf
     here-entry =
         let w = is-rooted n table root union on.root_is in
-        entry_is n (some_leaf n union.1.capacity) table.nodes path.node path.entry path.size (tree_of table.nodes root) p w.fit w.inside on.stands (Some e) (read_is here-leaf.0 here-leaf.1)
+        entry_read n (some_leaf n union.1.capacity) table.nodes path.node path.entry path.size (tree_of table.nodes root) p w.fit w.inside on.stands e read_is
 
     module _ (cmp : K → K → Ordering) (o : IsTotalOrder cmp) (key : K) where
       -- it is the key's

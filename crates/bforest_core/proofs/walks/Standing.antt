@@ -1,28 +1,45 @@
 -- A path at a place of the list under a root.
-use Rattle.std.proofs.Common.{◌≡◌, ◌≢◌, ℕ, zero, suc, ◌+◌, ◌==◌, ◌≤◌, ◌<◌, IsTrue, false, if◌then◌else◌, List, [], ◌∷◌, ◌++◌, get_or, length, length-append, inl, inr, refl, sym, subst, ap, ◌∙◌, arith}
+use Rattle.std.proofs.Common.{◌≡◌, ◌≢◌, ℕ, zero, suc, ◌+◌, ◌==◌, ◌≤◌, ◌<◌, ◌↔◌, Bool, IsTrue, true, false, Some, slice_get, if◌then◌else◌, List, [], ◌∷◌, ◌++◌, get_or, length, length-append, inl, inr, refl, sym, subst, ap, ◌∙◌, arith}
 use Rattle.std.specs.List.{flat_map}
+use Rattle.std.proofs.lemmas.Bool.{false≢true}
 use Rattle.std.proofs.lemmas.Bool.Decides.{eqb_tells}
 use Rattle.bforest_core.specs.declared.path.Path.{Path}
 use Rattle.bforest_core.specs.Paths.{IsPlaced, PointsTo, StandsAt, StandsOn, index_of, leaf_of, list_under, path_root, place_in, spot}
 use Rattle.bforest_nodes.specs.Content.{IsLeaf}
-use Rattle.bforest_core.specs.Change.{StandsUnder}
-use Rattle.bforest_core.specs.Descent.{Under}
-use Rattle.bforest_core.specs.Levels.{LevelNode, Tree, flat, node, numbers}
-use Rattle.bforest_core.specs.Place.{IsPathAt, Stands, count, numbers_of}
+use Rattle.bforest_core.specs.Change.{AtUnder, StandsUnder}
+use Rattle.bforest_core.specs.Descent.{IsRooted, Under}
+use Rattle.bforest_core.specs.Levels.{LevelNode, Tree, flat, half_of, heads, node, numbers}
+use Rattle.bforest_core.specs.Place.{IsPathAt, PointsAt, RowIn, Stands, count, leaf_content, numbers_of}
+use Rattle.bforest_core.specs.Steps.{Moved, Over}
 use Rattle.bforest_core.specs.Table.{Table}
 use Rattle.bforest_core.specs.Trees.{IsUnion, is_root, slot, tree_of}
 use Rattle.bforest_core.proofs.walks.Descent.{some_leaf}
-use Rattle.bforest_core.proofs.walks.Leading.{front_step, led_leaf}
+use Rattle.bforest_core.proofs.walks.Leading.{LeadsFirst, led_leaf}
+use Rattle.bforest_core.proofs.walks.TopNode.{SameBut, node_under}
 use Rattle.bforest_core.proofs.table.Read.{slot-is}
 use Rattle.bforest_core.proofs.rows.LevelRows.{flat-append}
 use Rattle.bforest_core.proofs.rows.Tops.{root-points}
-use Rattle.bforest_core.proofs.table.Tables.{count-append, count-same}
+use Rattle.bforest_core.proofs.table.Tables.{count-append, count-same, row-split}
 use Rattle.bforest_core.proofs.walks.Backward.{at_end, at_entry}
-use Rattle.bforest_core.proofs.walks.Pointed.{points-stands}
+use Rattle.bforest_core.proofs.walks.Entered.{first_behind}
+use Rattle.bforest_core.proofs.walks.Steps.{fit_full, none_behind, not_less}
 use Rattle.bforest_core.proofs.union.Unions.{is-rooted, rooted}
 use Rattle.bforest_core.proofs.walks.Whole.{led_stands, whole_top, whole_under}
 
 module _ {K V : Type 0} (path indices : List ℕ) (tree : Tree K V) (place : ℕ) where
+  -- a path on an entry points to it
+  unfoldable pub points-stands : (size : ℕ) → Stands path indices size tree place → PointsAt path indices size tree place
+  points-stands size s = record {
+    before = s.leaf.before;
+    entries = s.leaf.entries;
+    after = s.leaf.after;
+    leaves_are = s.leaf.row_is;
+    within = omega (arith, s.leaf.within);
+    place_is = s.leaf.place_is;
+    above = s.above;
+    size_is = s.size_is;
+  }
+
   -- on an entry
   pub path-on : (size : ℕ) → Stands path indices size tree place → IsPathAt path indices size tree place
   path-on zero s = absurd (omega (arith, s.size_is))
@@ -49,6 +66,13 @@ under-root most table root union is =
     let w = is-rooted most table root union is in
     record { first = (whole_top most table.nodes root (tree_of table.nodes root) w).first; under = whole_under most table.nodes root (tree_of table.nodes root) w; low = w.low }
 
+-- a path that was led from a root down to the first entry
+pub led-first : {K V : Type 0} (most : ℕ) (table : Table K V) (root : ℕ) → IsUnion most table → IsTrue (is_root table.nodes root) → (path indices path' indices' : List ℕ) (level : ℕ) → LeadsFirst most table.nodes path indices path' indices' root level → (level ≤ 16) × StandsUnder table.nodes root path' indices' (level + 1) 0
+led-first most table root union is path indices path' indices' level leads =
+    let u = under-root most table root union is in
+    let d = leads (tree_of table.nodes root).leaves (tree_of table.nodes root).above u.first [] u.under in
+    (omega (arith, d.0, u.low), record { root_is = is; stands = led_stands (tree_of table.nodes root) path indices path' indices' (level + 1) d.1 (omega (arith, d.0)) })
+
 -- a path of one level at the front of a root that is a leaf is on the first entry
 pub on-leaf : {K V : Type 0} (most : ℕ) (table : Table K V) (root : ℕ) (path indices : List ℕ) → IsUnion most table → IsTrue (is_root table.nodes root) → IsLeaf (slot table.nodes root) → get_or path 0 0 ≡ root → get_or indices 0 0 ≡ 0 → StandsUnder table.nodes root path indices 1 0
 on-leaf most table root path indices union is leaf node_is index_is =
@@ -56,10 +80,10 @@ on-leaf most table root path indices union is leaf node_is index_is =
     let tree = tree_of slots root in
     let w = is-rooted most table root union is in
     let one = some_leaf most union.1.capacity in
-    elim (front_step most one slots tree.leaves tree.above (whole_top most slots root tree w).first root [] (whole_under most slots root tree w)) [
+    elim (node_under most one slots tree.leaves tree.above [] (whole_top most slots root tree w).first root [] (whole_under most slots root tree w)) [
       | inl s ↦ record {
         root_is = is;
-        stands = led_stands tree path indices path indices 1 (led_leaf most one slots tree.leaves tree.above root s path indices path indices node_is index_is (λ i ne. refl) (λ i ne. refl)) (omega (arith, ap length s.lower_is));
+        stands = led_stands tree path indices path indices 1 (led_leaf most one slots tree.leaves tree.above _ root [] s path indices path indices node_is index_is (λ i ne. refl) (λ i ne. refl)) (omega (arith, ap length s.lower_is));
       }
       | inr s ↦ absurd (subst IsLeaf (slot-is slots root _ s.slot_is) leaf)
     ]
@@ -110,10 +134,54 @@ module _ {K V : Type 0} {n : ℕ} (table : Table K V) (root : ℕ) (path : Path 
 
   -- where a search ended, a path points to the key's place
   pub on-points : StandsOn table root path place → PointsTo table root path place
-  on-points on = record { root_is = on.root_is; points = points-stands path.node path.entry path.size (tree_of table.nodes root) place on.stands }
+  on-points on = record { root_is = on.root_is; points = points-stands path.node path.entry (tree_of table.nodes root) place path.size on.stands }
 
   pub placed-points : IsPlaced table root path place → PointsTo table root path place
   placed-points p = record { root_is = p.root_is; points = p.at.points }
+
+-- a path at an entry of a leaf, or behind a leaf's last one
+module _ {K V : Type 0} {n : ℕ} (table : Table K V) (union : IsUnion n table) (root place : ℕ) (path : Path K V n) (to : PointsTo table root path place) where
+  abbrev tree_is : IsRooted n table.nodes root (tree_of table.nodes root)
+  tree_is = is-rooted n table root union to.root_is
+
+  -- what the leaf's slot holds
+  abbrev pub pointed-leaf : (entries : List (K × V)) × (slice_get table.nodes (leaf_of path) ≡ Some (leaf_content entries))
+  pointed-leaf = (to.points.entries, (row-split leaf_content table.nodes to.points.before (node (leaf_of path) to.points.entries ∷ to.points.after) (subst (λ (z : List (LevelNode K V)). RowIn leaf_content table.nodes z) to.points.leaves_are tree_is.inside.leaves_in)).1.0)
+
+  pointed-over : Over table.nodes path.node path.entry 1 path.size (tree_of table.nodes root).above (heads (tree_of table.nodes root).leaves) (length to.points.before)
+  pointed-over = record { stacked = tree_is.fit.stacked; inside = tree_is.inside.rows_in; stands = to.points.above; height = omega (arith, to.points.size_is) }
+
+  -- the rows above the leaf
+  pub pointed-above : (path.size ≤ 17) × ((rows : List (List (LevelNode K ℕ))) × (list : List (K × ℕ)) × (at : ℕ) × Over table.nodes path.node path.entry 1 path.size rows list at)
+  pointed-above = (omega (arith, to.points.size_is, tree_is.low), ((tree_of table.nodes root).above, heads (tree_of table.nodes root).leaves, length to.points.before, pointed-over))
+
+  module _ (has : Bool) (test : (entries : List (K × V)) → slice_get table.nodes (leaf_of path) ≡ Some (leaf_content entries) → IsTrue has ↔ (index_of path < length entries)) where
+    -- at an entry of the leaf
+    pub pointed-here : has ≡ true → StandsAt table root path place
+    pointed-here is =
+        let p = to.points in
+        on-at table root path place (record { root_is = to.root_is; stands = record { leaf = record { before = p.before; entries = p.entries; after = p.after; row_is = p.leaves_are; within = (test p.entries pointed-leaf.1).0 is; place_is = p.place_is }; above = p.above; size_is = p.size_is } })
+
+    behind : has ≡ false → place ≡ length (flat to.points.before) + length to.points.entries
+    behind none = omega (arith, to.points.place_is, to.points.within, not_less (index_of path) (length to.points.entries) (λ low. false≢true (sym none ∙ (test to.points.entries pointed-leaf.1).1 low)))
+
+    -- behind the last entry, the first of the next leaf is at the same place
+    pub pointed-next : has ≡ false → (moved new : Path K V n) → ((rows : List (List (LevelNode K ℕ))) (list : List (K × ℕ)) (at : ℕ) → Over table.nodes path.node path.entry 1 path.size rows list at → Moved path.node path.entry moved.node moved.entry 0 rows list (suc at)) →
+        new.node ≡ moved.node → get_or new.entry 0 0 ≡ 0 → SameBut 0 moved.entry new.entry → new.size ≡ path.size → StandsAt table root new place
+    pointed-next none moved new goes nodes here above size =
+        let tree = tree_of table.nodes root in
+        let p = to.points in
+        let m = goes tree.above (heads tree.leaves) (length p.before) pointed-over in
+        let s = first_behind n (some_leaf n union.1.capacity) path.node path.entry path.size tree tree_is.fit p.size_is p.before (leaf_of path) p.entries p.after p.leaves_are moved.node moved.entry new.node new.entry m nodes here above in
+        on-at table root new place (record { root_is = to.root_is; stands = subst (λ (z : ℕ). Stands new.node new.entry new.size tree z) (sym (behind none)) (record { leaf = s.leaf; above = s.above; size_is = size ∙ s.size_is }) })
+
+    -- behind the last entry of all
+    pub pointed-last : has ≡ false → ((rows : List (List (LevelNode K ℕ))) (list : List (K × ℕ)) (at : ℕ) → Over table.nodes path.node path.entry 1 path.size rows list at → suc at ≡ length list) → (nodes entries : List ℕ) → AtUnder table.nodes root nodes entries 0 place
+    pointed-last none last nodes entries =
+        let tree = tree_of table.nodes root in
+        let p = to.points in
+        let end = last tree.above (heads tree.leaves) (length p.before) pointed-over in
+        record { root_is = to.root_is; at = behind none ∙ sym (none_behind tree.leaves p.before (leaf_of path) p.entries p.after p.leaves_are (end ∙ fit_full (half_of n) n (some_leaf n union.1.capacity) tree.leaves tree_is.fit.leaves_fit)) }
 
 -- in a union of trees
 module _ {K V : Type 0} {n : ℕ} (most : ℕ) (table : Table K V) (root : ℕ) (path : Path K V n) (place : ℕ) (union : IsUnion most table) where

@@ -1,6 +1,7 @@
 -- A step of a path on one row.
-use Rattle.std.proofs.Common.{◌≡◌, ◌≢◌, ℕ, zero, suc, ◌+◌, ◌≤◌, ◌<◌, List, [], ◌∷◌, ◌++◌, length, get_or, slice_get, Some, refl, sym, ap, subst, ◌∙◌, arith, append_assoc, length-append}
+use Rattle.std.proofs.Common.{◌≡◌, ◌≢◌, ℕ, suc, ◌+◌, ◌≤◌, ◌<◌, List, [], ◌∷◌, ◌++◌, length, get_or, slice_get, Some, refl, sym, ap, subst, ◌∙◌, arith, append_assoc, length-append}
 use Rattle.std.proofs.lemmas.List.{append-nil}
+use Rattle.std.proofs.lemmas.Option.{slice_get_within}
 use Rattle.std.specs.Option.{option_map}
 use Rattle.bforest_nodes.specs.Content.{Content}
 use Rattle.bforest_core.specs.Levels.{LevelNode, node, flat, heads, FitRow, Tree}
@@ -13,6 +14,7 @@ use Rattle.bforest_core.proofs.table.Lists.{slice_get-append-add, slice_get-appe
 use Rattle.bforest_core.proofs.table.Stored.{some_same, slice_get_at}
 use Rattle.bforest_core.proofs.table.Tables.{row-split}
 use Rattle.bforest_core.proofs.rows.Zipper.{cut, stands-same}
+use Rattle.bforest_core.proofs.walks.Downward.{seen}
 
 -- a fit row has no empty node
 pub fit_full : {K X : Type 0} (half most : ℕ) → 1 ≤ half → (row : List (LevelNode K X)) → FitRow half most row → length (heads row) ≡ length row
@@ -43,14 +45,11 @@ module _ {K X : Type 0} where
     pub place_is : length before ≡ place
 
   pub nth : (half most : ℕ) → 1 ≤ half → (row : List (LevelNode K X)) → FitRow half most row → (place : ℕ) (head : K × ℕ) → slice_get (heads row) place ≡ Some head → Nth row place head
-  nth half most one [] f place head h = absurd cc
-  nth half most one (node m [] ∷ ns) f place head h = absurd (omega (arith, f.0, least-pos half one ns))
-  nth half most one (node m (e ∷ es) ∷ ns) f zero head h =
-      let s = some_same (e.0, m) head h in
-      record { before = []; e = e; others = es; after = ns; row_is = ap (λ z. node z.1 (e ∷ es) ∷ ns) s; place_is = refl }
-  nth half most one (node m (e ∷ es) ∷ ns) f (suc place) head h =
-      let r = nth half most one ns f.2 place head h in
-      record { before = node m (e ∷ es) ∷ r.before; e = r.e; others = r.others; after = r.after; row_is = ap (λ z. node m (e ∷ es) ∷ z) r.row_is; place_is = ap suc r.place_is }
+  nth half most one row f place head h =
+      let c = cut (heads row) place (slice_get_within (heads row) place head h) in
+      let same : c.x ≡ head = some_same c.x head (sym (ap (λ z. slice_get z place) c.es_is ∙ slice_get_at c.l c.x c.r place c.place_is) ∙ h) in
+      let s = seen half most one row c.l head.0 head.1 c.r f (c.es_is ∙ ap (λ z. c.l ++ z ∷ c.r) same) in
+      record { before = s.before; e = s.e; others = s.es; after = s.after; row_is = s.row_is; place_is = s.before_is ∙ c.place_is }
 
   -- two nodes of a row, one behind the other
   pub next_at : (before : List (LevelNode K X)) (n : ℕ) (es : List (K × X)) (after before2 : List (LevelNode K X)) (m : ℕ) (fs : List (K × X)) (after2 : List (LevelNode K X)) → before ++ node n es ∷ after ≡ before2 ++ node m fs ∷ after2 → length before2 ≡ suc (length before) → flat before2 ≡ flat before ++ es

@@ -7,11 +7,8 @@ use Rattle.bforest_core.specs.Levels.{LevelNode, flat, heads}
 use Rattle.bforest_core.specs.Place.{inner_content, entry_items}
 use Rattle.bforest_core.specs.Steps.{Over, Moved}
 use Rattle.bforest_core.proofs.walks.Steps.{Spot, Nth, over_spot, nth, step_within, step_over, slot_over, next_place, last_place, only}
+use Rattle.bforest_core.proofs.walks.TopNode.{SameBut}
 use Rattle.bforest_core.proofs.walks.Backward.{back_place, first_place, last_child_is, some_child}
-
--- but for this level a list is as before
-abbrev pub SameBut : ℕ → List ℕ → List ℕ → Type 0
-SameBut level old new = (i : ℕ) → i ≢ level → get_or new i 0 ≡ get_or old i 0
 
 -- no level above: the only node
 pub only_first : {K V : Type 0} (slots : List (Content K V)) (path indices : List ℕ) (level up size : ℕ) (rows : List (List (LevelNode K ℕ))) (list : List (K × ℕ)) (place : ℕ) → up ≡ suc level → up ≡ size → Over slots path indices (suc level) size rows list place → place ≡ 0

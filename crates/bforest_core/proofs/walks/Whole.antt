@@ -1,5 +1,5 @@
 -- A whole tree as what lies under its root.
-use Rattle.std.proofs.Common.{◌≡◌, ◌+◌, ℕ, suc, true, List, [], ◌∷◌, length, ap, arith}
+use Rattle.std.proofs.Common.{◌≡◌, ℕ, suc, true, List, [], ◌∷◌, length, ap, arith}
 use Rattle.std.specs.declared.cmp.Ordering.{Ordering}
 use Rattle.bforest_nodes.specs.Content.{Content}
 use Rattle.bforest_nodes.specs.Entries.{place, is_present}
@@ -33,12 +33,6 @@ module _ {K V : Type 0} (most : ℕ) (slots : List (Content K V)) (root : ℕ) (
 
   pub whole_under : Under most slots tree.leaves tree.above ((whole_top.first, root) ∷ [])
   whole_under = record { leaves_fit = r.fit.leaves_fit; leaves_in = r.inside.leaves_in; stacked = whole_top.stacked; rows_in = r.inside.rows_in }
-
-  -- a path that led from the root down to the first entry
-  pub whole_led : (path indices path' indices' : List ℕ) (level : ℕ) → ((leaves : List (LevelNode K V)) (lower : List (List (LevelNode K ℕ))) (first : K) (b : List (K × ℕ)) → Under most slots leaves lower ((first, root) ∷ b) → (level ≡ length lower) × Led leaves lower path indices path' indices') → (level ≡ length tree.above) × Stands path' indices' (level + 1) tree 0
-  whole_led path indices path' indices' level led =
-      let d = led tree.leaves tree.above whole_top.first [] whole_under in
-      (d.0, led_stands tree path indices path' indices' (level + 1) d.1 (omega (arith, d.0)))
 
 pub all_through : {K : Type 0} (cmp : K → K → Ordering) (first key : K) → GoesThrough cmp [] first [] key
 all_through cmp first key = record { from = tt; upto = tt }

@@ -1,30 +1,30 @@
-use Rattle.std.proofs.Common.{rules, ◌+◌, ◌-◌, ◌<◌, length, get_or, sym, ap, ◌∙◌, arith}
-use Rattle.std.proofs.lemmas.List.{get_or-set_other}
+use Rattle.std.proofs.Common.{rules, ◌+◌, ◌-◌, ◌<◌, [], length, sym, ap, ◌∙◌, arith}
 use Rattle.std.proofs.lemmas.Bool.{false≢true}
 use Rattle.bforest_core.proofs.walks.Descent.{some_leaf}
-use Rattle.bforest_core.proofs.walks.Leading.{front_within, front_leaf, front_asks, front_below, led_leaf, led_here}
+use Rattle.bforest_core.proofs.walks.Leading.{front_asks, front_below, led_leaf, led_here}
+use Rattle.bforest_core.proofs.walks.TopNode.{node_within, leaf_under, set_but}
 use Rattle.bforest_core.proofs.path.Path.+descend_first.Goals as goal
 
 pub node-requires : goal.node-requires
 node-requires g t c =
     let w = c.requires.under in
-    (search rules, (search rules, front_within g.row.N (some_leaf _ c.requires.capacity) c.args.pool.now.nodes w.0 w.1 w.2 c.args.node w.3 w.4))
+    (search rules, (search rules, node_within g.row.N (some_leaf _ c.requires.capacity) c.args.pool.now.nodes w.0 w.1 [] w.2 c.args.node w.3 w.4))
 
 pub returns-then-not-is_inner-clause-level : goal.returns-then-not-is_inner-clause-level
 returns-then-not-is_inner-clause-level g t c = λ leaves lower first b u.
-    let s = front_leaf g.row.N (some_leaf _ c.requires.capacity) c.args.pool.now.nodes leaves lower first c.args.node b u c.node.result.now c.node.ensures.value (λ i. false≢true (sym c.if-not-is_inner.true ∙ c.is_inner.ensures.inner.1 i)) in
+    let s = leaf_under g.row.N (some_leaf _ c.requires.capacity) c.args.pool.now.nodes leaves lower [] first c.args.node b u c.node.result.now c.node.ensures.value (λ i. false≢true (sym c.if-not-is_inner.true ∙ c.is_inner.ensures.inner.1 i)) in
     let ms = c.args.self.now.node in
     let js = c.args.self.now.entry in (
       sym (ap length s.lower_is),
-      led_leaf g.row.N (some_leaf _ c.requires.capacity) c.args.pool.now.nodes leaves lower c.args.node s ms js c.set_level.new.self.node c.set_level.new.self.entry c.set_level.ensures.here.0 c.set_level.ensures.here.1
-          (λ i other. ap (λ z. get_or z i 0) c.set_level.ensures.node ∙ get_or-set_other ms 0 i c.args.node 0 other)
-          (λ i other. ap (λ z. get_or z i 0) c.set_level.ensures.entry ∙ get_or-set_other js 0 i 0 0 other),
+      led_leaf g.row.N (some_leaf _ c.requires.capacity) c.args.pool.now.nodes leaves lower first c.args.node b s ms js c.set_level.new.self.node c.set_level.new.self.entry c.set_level.ensures.here.0 c.set_level.ensures.here.1
+          (set_but ms _ 0 _ c.set_level.ensures.node)
+          (set_but js _ 0 _ c.set_level.ensures.entry),
     )
 
 pub node-requires-2 : goal.node-requires-2
 node-requires-2 g t c =
     let w = c.requires.under in
-    (search rules, (search rules, front_within g.row.N (some_leaf _ c.requires.capacity) c.args.pool.now.nodes w.0 w.1 w.2 c.args.node w.3 w.4))
+    (search rules, (search rules, node_within g.row.N (some_leaf _ c.requires.capacity) c.args.pool.now.nodes w.0 w.1 [] w.2 c.args.node w.3 w.4))
 
 pub child-child-requires : goal.child-child-requires
 child-child-requires g t c =

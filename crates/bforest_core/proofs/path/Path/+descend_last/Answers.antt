@@ -1,8 +1,8 @@
-use Rattle.std.proofs.Common.{rules, sym, ◌∙◌, arith}
+use Rattle.std.proofs.Common.{rules, ◌+◌, ◌-◌, ◌<◌, [], sym, ◌∙◌, arith}
 use Rattle.std.proofs.lemmas.Bool.{false≢true}
 use Rattle.bforest_core.proofs.walks.Descent.{some_leaf}
-use Rattle.bforest_core.proofs.walks.Trailing.{back_held}
-use Rattle.bforest_core.proofs.walks.LastDown.{node_within, ends_here, child_asks, below_asks, below_fewer, level_is, leads_here}
+use Rattle.bforest_core.proofs.walks.Leading.{ends_here, back_asks, back_below, leads_here}
+use Rattle.bforest_core.proofs.walks.TopNode.{node_held, node_within}
 use Rattle.bforest_core.proofs.path.Path.+descend_last.Goals as goal
 
 pub last_index-last-requires : goal.last_index-last-requires
@@ -10,13 +10,13 @@ last_index-last-requires g t c =
     let w = c.requires.under in
     let one = some_leaf _ c.requires.capacity in
     let slots = c.args.pool.now.nodes in
-    let h = back_held g.row.N one slots w.0 w.1 w.2 w.3 c.args.node w.4 in
+    let h = node_held g.row.N one slots w.0 w.1 w.2 w.3 c.args.node [] w.4 in
     (search rules, (h.content, h.slot_is, h.some))
 
 pub node-requires : goal.node-requires
 node-requires g t c =
     let w = c.requires.under in
-    (search rules, (search rules, node_within g.row.N (some_leaf _ c.requires.capacity) c.args.pool.now.nodes w.0 w.1 w.2 w.3 c.args.node w.4))
+    (search rules, (search rules, node_within g.row.N (some_leaf _ c.requires.capacity) c.args.pool.now.nodes w.0 w.1 w.2 w.3 c.args.node [] w.4))
 
 pub returns-then-not-is_inner-clause-level : goal.returns-then-not-is_inner-clause-level
 returns-then-not-is_inner-clause-level g t c = λ leaves lower a first u.
@@ -25,38 +25,41 @@ returns-then-not-is_inner-clause-level g t c = λ leaves lower a first u.
 pub node-requires-2 : goal.node-requires-2
 node-requires-2 g t c =
     let w = c.requires.under in
-    (search rules, (search rules, node_within g.row.N (some_leaf _ c.requires.capacity) c.args.pool.now.nodes w.0 w.1 w.2 w.3 c.args.node w.4))
+    (search rules, (search rules, node_within g.row.N (some_leaf _ c.requires.capacity) c.args.pool.now.nodes w.0 w.1 w.2 w.3 c.args.node [] w.4))
 
 pub child-child-requires : goal.child-child-requires
 child-child-requires g t c =
     let w = c.requires.under in
-    let d = child_asks g.row.N (some_leaf _ c.requires.capacity) c.args.pool.now.nodes w.0 w.1 w.2 w.3 c.args.node w.4 c.node.result.now c.node-2.result.now c.node.ensures.value (c.is_inner.ensures.inner.0 c.if-not-is_inner.false) c.node-2.ensures.value c.last_index-last.result c.last_index-last.ensures.last in
+    let d = back_asks g.row.N (some_leaf _ c.requires.capacity) c.args.pool.now.nodes w.0 w.1 w.2 w.3 c.args.node w.4 c.node.result.now c.node-2.result.now c.node.ensures.value (c.is_inner.ensures.inner.0 c.if-not-is_inner.false) c.node-2.ensures.value c.last_index-last.result c.last_index-last.ensures.last in
     (search rules, (d.0, d.1))
 
 pub descend_last-below-requires : goal.descend_last-below-requires
 descend_last-below-requires g t c κs within =
     let w = c.requires.under in
-    let d = below_asks g.row.N (some_leaf _ c.requires.capacity) c.args.pool.now.nodes w.0 w.1 w.2 w.3 c.args.node w.4 c.node.result.now c.node-2.result.now c.node.ensures.value (c.is_inner.ensures.inner.0 c.if-not-is_inner.false) c.node-2.ensures.value c.last_index-last.result c.last_index-last.ensures.last c.child-child.result c.child-child.ensures.child c.args.depth w.5 in
-    let less = below_fewer g.row.N (some_leaf _ c.requires.capacity) c.args.pool.now.nodes w.0 w.1 w.2 w.3 c.args.node w.4 c.node.result.now c.node-2.result.now c.node.ensures.value (c.is_inner.ensures.inner.0 c.if-not-is_inner.false) c.node-2.ensures.value c.last_index-last.result c.last_index-last.ensures.last c.child-child.result c.child-child.ensures.child c.args.depth t w.5 c.decreases in
-    (less, (within.0, (within.1, ((λ a m. search rules), (search rules, (search rules, (c.requires.capacity, (w.0, d.rows, d.before, d.first, d.under, d.fits))))))))
+    let d = back_below g.row.N (some_leaf _ c.requires.capacity) c.args.pool.now.nodes w.0 w.1 w.2 w.3 c.args.node w.4 c.node.result.now c.node-2.result.now c.node.ensures.value (c.is_inner.ensures.inner.0 c.if-not-is_inner.false) c.node-2.ensures.value c.last_index-last.result c.last_index-last.ensures.last c.child-child.result c.child-child.ensures.child in
+    let less : 17 - (c.args.depth + 1) < t = omega (arith, c.decreases, w.5, d.count_is) in
+    (less, (within.0, (within.1, ((λ a m. search rules), (search rules, (search rules, (c.requires.capacity, (w.0, d.rows, d.before, d.first, d.under, omega (arith, w.5, d.count_is)))))))))
 
 pub overflow_add-below : goal.overflow_add-below
 overflow_add-below g t c =
     let w = c.requires.under in
-    let e = level_is g.row.N (some_leaf _ c.requires.capacity) c.args.pool.now.nodes w.0 w.1 w.2 w.3 c.args.node w.4 c.node.result.now c.node-2.result.now c.node.ensures.value (c.is_inner.ensures.inner.0 c.if-not-is_inner.false) c.node-2.ensures.value c.last_index-last.result c.last_index-last.ensures.last c.child-child.result c.child-child.ensures.child c.args.self.now.node c.args.self.now.entry c.descend_last-below.new.self.node c.descend_last-below.new.self.entry c.descend_last-below.result c.descend_last-below.ensures.level in
-    omega (arith, e, w.5)
+    let d = back_below g.row.N (some_leaf _ c.requires.capacity) c.args.pool.now.nodes w.0 w.1 w.2 w.3 c.args.node w.4 c.node.result.now c.node-2.result.now c.node.ensures.value (c.is_inner.ensures.inner.0 c.if-not-is_inner.false) c.node-2.ensures.value c.last_index-last.result c.last_index-last.ensures.last c.child-child.result c.child-child.ensures.child in
+    let r = c.descend_last-below.ensures.level w.0 d.rows d.before d.first d.under in
+    omega (arith, r.0, d.count_is, w.5)
 
 pub set_level-requires-2 : goal.set_level-requires-2
 set_level-requires-2 g t c =
     let w = c.requires.under in
-    let e = level_is g.row.N (some_leaf _ c.requires.capacity) c.args.pool.now.nodes w.0 w.1 w.2 w.3 c.args.node w.4 c.node.result.now c.node-2.result.now c.node.ensures.value (c.is_inner.ensures.inner.0 c.if-not-is_inner.false) c.node-2.ensures.value c.last_index-last.result c.last_index-last.ensures.last c.child-child.result c.child-child.ensures.child c.args.self.now.node c.args.self.now.entry c.descend_last-below.new.self.node c.descend_last-below.new.self.entry c.descend_last-below.result c.descend_last-below.ensures.level in
-    (search rules, omega (arith, e, w.5))
+    let d = back_below g.row.N (some_leaf _ c.requires.capacity) c.args.pool.now.nodes w.0 w.1 w.2 w.3 c.args.node w.4 c.node.result.now c.node-2.result.now c.node.ensures.value (c.is_inner.ensures.inner.0 c.if-not-is_inner.false) c.node-2.ensures.value c.last_index-last.result c.last_index-last.ensures.last c.child-child.result c.child-child.ensures.child in
+    let r = c.descend_last-below.ensures.level w.0 d.rows d.before d.first d.under in
+    (search rules, omega (arith, r.0, d.count_is, w.5))
 
 pub overflow_add-result : goal.overflow_add-result
 overflow_add-result g t c =
     let w = c.requires.under in
-    let e = level_is g.row.N (some_leaf _ c.requires.capacity) c.args.pool.now.nodes w.0 w.1 w.2 w.3 c.args.node w.4 c.node.result.now c.node-2.result.now c.node.ensures.value (c.is_inner.ensures.inner.0 c.if-not-is_inner.false) c.node-2.ensures.value c.last_index-last.result c.last_index-last.ensures.last c.child-child.result c.child-child.ensures.child c.args.self.now.node c.args.self.now.entry c.descend_last-below.new.self.node c.descend_last-below.new.self.entry c.descend_last-below.result c.descend_last-below.ensures.level in
-    omega (arith, e, w.5)
+    let d = back_below g.row.N (some_leaf _ c.requires.capacity) c.args.pool.now.nodes w.0 w.1 w.2 w.3 c.args.node w.4 c.node.result.now c.node-2.result.now c.node.ensures.value (c.is_inner.ensures.inner.0 c.if-not-is_inner.false) c.node-2.ensures.value c.last_index-last.result c.last_index-last.ensures.last c.child-child.result c.child-child.ensures.child in
+    let r = c.descend_last-below.ensures.level w.0 d.rows d.before d.first d.under in
+    omega (arith, r.0, d.count_is, w.5)
 
 pub returns-clause-level : goal.returns-clause-level
 returns-clause-level g t c = λ leaves lower a first u.

@@ -1,67 +1,30 @@
-use Rattle.std.proofs.Common.{rules, ◌≡◌, suc, ◌+◌, ◌-◌, ◌<◌, length, get_or, slice_get, refl, sym, ap, ◌∙◌, arith}
-use Rattle.std.proofs.lemmas.List.{get_or_default}
-use Rattle.std.proofs.lemmas.Option.{slice_get_within}
-use Rattle.bforest_core.specs.Place.{inner_content}
-use Rattle.bforest_core.proofs.insertion.Rise.{above_from}
-use Rattle.bforest_core.proofs.rows.Needs.{floor, floor_full, floor_room, inner_full, inner_not_free, not_so, top_need}
+use Rattle.std.proofs.Common.{rules, ◌+◌, ◌-◌, ◌<◌, arith}
+use Rattle.bforest_core.proofs.rows.Needs.{level_above, level_full, level_room, level_used, level_within, top_need}
 use Rattle.bforest_core.proofs.path.Path.+needed_above.Goals as goal
 
 pub node-requires : goal.node-requires
 node-requires g t c =
     let w = c.requires.pending in
-    let ms = c.args.self.now.node in
-    let up = c.args.up in
-    let f = floor _ _ _ _ _ w.0 w.1 w.2 w.3 (omega (arith, w.3.height, c.if-up-self.false)) in
-    let here : get_or ms up c.index-self-up.result ≡ get_or ms up 0 = get_or_default ms up c.index-self-up.result 0 (omega (arith, w.3.height, c.if-up-self.false)) in
-    (search rules, omega (arith, here, slice_get_within c.args.pool.now.nodes (get_or ms up 0) (inner_content f.entries) f.slot_is))
+    (search rules, omega (arith, level_within c.args.pool.now c.args.self.now.node c.args.self.now.entry c.args.up c.args.self.now.size w.0 w.1 w.2 w.3 c.if-up-self.false (omega (arith, c.requires.height)) c.index-self-up.result))
 
 pub is_full-requires : goal.is_full-requires
 is_full-requires g t c =
     let w = c.requires.pending in
-    let ms = c.args.self.now.node in
-    let up = c.args.up in
-    let f = floor _ _ _ _ _ w.0 w.1 w.2 w.3 (omega (arith, w.3.height, c.if-up-self.false)) in
-    let here : get_or ms up c.index-self-up.result ≡ get_or ms up 0 = get_or_default ms up c.index-self-up.result 0 (omega (arith, w.3.height, c.if-up-self.false)) in
-    (search rules, inner_not_free c.node.result.now c.args.pool.now.nodes (get_or ms up 0) f.entries (ap (λ z. slice_get c.args.pool.now.nodes z) (sym here) ∙ c.node.ensures.value) f.slot_is)
+    (search rules, level_used c.args.pool.now c.args.self.now.node c.args.self.now.entry c.args.up c.args.self.now.size w.0 w.1 w.2 w.3 c.if-up-self.false (omega (arith, c.requires.height)) c.index-self-up.result c.node.result.now c.node.ensures.value)
 
 pub needed_above-requires : goal.needed_above-requires
 needed_above-requires g t c κs within =
     let w = c.requires.pending in
-    let s0 = c.args.self.now in
-    let up = c.args.up in
-    let low : up < s0.size = omega (arith, w.3.height, c.if-up-self.false) in
-    let f = floor _ _ _ _ _ w.0 w.1 w.2 w.3 low in
-    let up_is : up + 1 ≡ suc up = omega arith in
-    let above = above_from c.args.pool.now c.args.pool.now s0.node s0.node s0.entry s0.entry (suc up) (up + 1) s0.size s0.size f.rest f.list f.list (length f.before) refl refl refl up_is refl refl f.above in
-    let less : s0.size - (up + 1) < t = omega (arith, c.decreases, low) in
-    (less, (within.0, (within.1, ((λ a m. search rules), (search rules, (search rules, (c.requires.height, (f.rest, f.list, length f.before, above))))))))
+    let less : c.args.self.now.size - (c.args.up + 1) < t = omega (arith, c.decreases, w.3.height, c.if-up-self.false) in
+    (less, (within.0, (within.1, ((λ a m. search rules), (search rules, (search rules, (c.requires.height, level_above c.args.pool.now c.args.self.now.node c.args.self.now.entry c.args.up c.args.self.now.size w.0 w.1 w.2 w.3 c.if-up-self.false (omega (arith, c.requires.height)) c.index-self-up.result)))))))
 
 pub returns-then-is_full-clause-value : goal.returns-then-is_full-clause-value
 returns-then-is_full-clause-value g t c = λ rows list place p.
-    let s0 = c.args.self.now in
-    let ms = s0.node in
-    let up = c.args.up in
-    let nodes = c.args.pool.now.nodes in
-    let low : up < s0.size = omega (arith, p.height, c.if-up-self.false) in
-    let f = floor _ _ _ _ _ rows list place p low in
-    let here : get_or ms up c.index-self-up.result ≡ get_or ms up 0 = get_or_default ms up c.index-self-up.result 0 (omega arith) in
-    let full = inner_full g.row.N c.is_full.result c.node.result.now nodes (get_or ms up 0) f.entries (ap (λ z. slice_get nodes z) (sym here) ∙ c.node.ensures.value) f.slot_is c.is_full.ensures.full in
-    let up_is : up + 1 ≡ suc up = omega arith in
-    let above = above_from c.args.pool.now c.args.pool.now s0.node s0.node s0.entry s0.entry (suc up) (up + 1) s0.size s0.size f.rest f.list f.list (length f.before) refl refl refl up_is refl refl f.above in
-    omega (arith, floor_full _ _ _ _ _ rows place f (full.0 c.if-is_full.true), c.needed_above.ensures.value f.rest f.list (length f.before) above)
+    level_full c.args.pool.now c.args.self.now.node c.args.self.now.entry c.args.up c.args.self.now.size rows list place p c.if-up-self.false (omega (arith, c.requires.height)) c.index-self-up.result c.node.result.now c.node.ensures.value g.row.N c.is_full.result c.is_full.ensures.full c.if-is_full.true c.needed_above.result c.needed_above.ensures.value
 
 pub returns-else-is_full-clause-value : goal.returns-else-is_full-clause-value
 returns-else-is_full-clause-value g t c = λ rows list place p.
-    let s0 = c.args.self.now in
-    let ms = s0.node in
-    let up = c.args.up in
-    let nodes = c.args.pool.now.nodes in
-    let low : up < s0.size = omega (arith, p.height, c.if-up-self.false) in
-    let f = floor _ _ _ _ _ rows list place p low in
-    let here : get_or ms up c.index-self-up.result ≡ get_or ms up 0 = get_or_default ms up c.index-self-up.result 0 (omega arith) in
-    let full = inner_full g.row.N c.is_full.result c.node.result.now nodes (get_or ms up 0) f.entries (ap (λ z. slice_get nodes z) (sym here) ∙ c.node.ensures.value) f.slot_is c.is_full.ensures.full in
-    let other : ¬ (length f.entries ≡ 8) = not_so c.is_full.result c.if-is_full.false full in
-    sym (floor_room _ _ _ _ _ rows place f (omega (arith, other, f.most_is)))
+    level_room c.args.pool.now c.args.self.now.node c.args.self.now.entry c.args.up c.args.self.now.size rows list place p c.if-up-self.false (omega (arith, c.requires.height)) c.index-self-up.result c.node.result.now c.node.ensures.value g.row.N c.is_full.result c.is_full.ensures.full c.if-is_full.false
 
 pub returns-then-up-self-clause-value : goal.returns-then-up-self-clause-value
 returns-then-up-self-clause-value g t c = λ rows list place p. top_need place c.args.up c.args.self.now.size rows p.height c.if-up-self.true

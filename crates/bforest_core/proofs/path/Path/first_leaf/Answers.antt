@@ -1,34 +1,26 @@
 use Rattle.std.proofs.Common.{rules, [], sym, ◌+◌, ◌∙◌, arith}
 use Rattle.std.proofs.lemmas.Bool.{false≢true}
-use Rattle.bforest_core.specs.Paths.{StandsOn}
 use Rattle.bforest_core.specs.Trees.{tree_of}
-use Rattle.bforest_core.proofs.union.Unions.{is-rooted}
 use Rattle.bforest_core.proofs.walks.Descent.{some_leaf}
-use Rattle.bforest_core.proofs.walks.Leading.{front_within}
+use Rattle.bforest_core.proofs.walks.TopNode.{node_within}
 use Rattle.bforest_core.proofs.walks.Leaves.{leaf-front, root-leaf}
-use Rattle.bforest_core.proofs.walks.Whole.{whole_led}
-use Rattle.bforest_core.proofs.walks.Standing.{under-root}
-use Rattle.bforest_core.proofs.path.Path.first_leaf.Given.{Over}
+use Rattle.bforest_core.proofs.walks.Standing.{led-first, under-root}
 use Rattle.bforest_core.proofs.path.Path.first_leaf.Goals as goal
 
 pub node-requires : goal.node-requires
 node-requires g c =
     let tree = tree_of c.args.pool.now.nodes c.args.root in
     let u = under-root g.row.N c.args.pool.now c.args.root c.requires.union c.requires.root in
-    (search rules, (search rules, front_within g.row.N (some_leaf _ c.requires.union.1.capacity) c.args.pool.now.nodes tree.leaves tree.above u.first c.args.root [] u.under))
-
--- the path on the root, which is a leaf
-alone : (g : Over) (c : goal.After-set_root_node g) → StandsOn c.args.pool.now c.args.root c.set_root_node.new.self 0
-alone g c =
-    let leaf = root-leaf g.row.N c.args.pool.now c.requires.union c.args.root _ c.requires.root c.node.ensures.value (λ inner. false≢true (sym c.if-not-is_inner.true ∙ c.is_inner.ensures.inner.1 inner)) in
-    c.set_root_node.ensures.stands c.args.pool.now c.requires.union c.requires.root leaf
+    (search rules, (search rules, node_within g.row.N (some_leaf _ c.requires.union.1.capacity) c.args.pool.now.nodes tree.leaves tree.above [] u.first c.args.root [] u.under))
 
 pub returns-then-not-is_inner-clause-index : goal.returns-then-not-is_inner-clause-index
-returns-then-not-is_inner-clause-index g c = let on = alone g c in omega (arith, on.stands.leaf.place_is)
+returns-then-not-is_inner-clause-index g c =
+    let on = c.set_root_node.ensures.stands c.args.pool.now c.requires.union c.requires.root (root-leaf g.row.N c.args.pool.now c.requires.union c.args.root _ c.requires.root c.node.ensures.value (λ inner. false≢true (sym c.if-not-is_inner.true ∙ c.is_inner.ensures.inner.1 inner))) in
+    omega (arith, on.stands.leaf.place_is)
 
 pub returns-then-not-is_inner-clause-stands : goal.returns-then-not-is_inner-clause-stands
 returns-then-not-is_inner-clause-stands g c =
-    let on = alone g c in
+    let on = c.set_root_node.ensures.stands c.args.pool.now c.requires.union c.requires.root (root-leaf g.row.N c.args.pool.now c.requires.union c.args.root _ c.requires.root c.node.ensures.value (λ inner. false≢true (sym c.if-not-is_inner.true ∙ c.is_inner.ensures.inner.1 inner))) in
     leaf-front g.row.N c.args.pool.now c.requires.union c.args.root 0 c.set_root_node.new.self on (omega (arith, on.stands.leaf.place_is))
 
 pub descend_first-level-requires : goal.descend_first-level-requires
@@ -39,22 +31,16 @@ descend_first-level-requires g c =
 
 pub overflow_add-self : goal.overflow_add-self
 overflow_add-self g c =
-    let slots = c.args.pool.now.nodes in
-    let w = is-rooted g.row.N c.args.pool.now c.args.root c.requires.union c.requires.root in
-    let led = whole_led g.row.N slots c.args.root (tree_of slots c.args.root) w _ _ _ _ _ c.descend_first-level.ensures.level in
-    omega (arith, led.0, w.low)
+    let led = led-first g.row.N c.args.pool.now c.args.root c.requires.union c.requires.root _ _ _ _ _ c.descend_first-level.ensures.level in
+    omega (arith, led.0)
 
 pub returns-clause-index : goal.returns-clause-index
 returns-clause-index g c =
-    let slots = c.args.pool.now.nodes in
-    let w = is-rooted g.row.N c.args.pool.now c.args.root c.requires.union c.requires.root in
-    let led = whole_led g.row.N slots c.args.root (tree_of slots c.args.root) w _ _ _ _ _ c.descend_first-level.ensures.level in
-    omega (arith, led.1.leaf.place_is)
+    let led = led-first g.row.N c.args.pool.now c.args.root c.requires.union c.requires.root _ _ _ _ _ c.descend_first-level.ensures.level in
+    omega (arith, led.1.stands.leaf.place_is)
 
 pub returns-clause-stands : goal.returns-clause-stands
 returns-clause-stands g c =
-    let slots = c.args.pool.now.nodes in
-    let w = is-rooted g.row.N c.args.pool.now c.args.root c.requires.union c.requires.root in
     let d = c.descend_first-level in
-    let led = whole_led g.row.N slots c.args.root (tree_of slots c.args.root) w _ _ _ _ _ d.ensures.level in
-    leaf-front g.row.N c.args.pool.now c.requires.union c.args.root 0 (record d.new.self { size = d.result + 1 }) (record { root_is = c.requires.root; stands = led.1 }) (omega (arith, led.1.leaf.place_is))
+    let led = led-first g.row.N c.args.pool.now c.args.root c.requires.union c.requires.root _ _ _ _ _ c.descend_first-level.ensures.level in
+    leaf-front g.row.N c.args.pool.now c.requires.union c.args.root 0 (record d.new.self { size = d.result + 1 }) led.1 (omega (arith, led.1.stands.leaf.place_is))

@@ -6,16 +6,15 @@ use Rattle.bforest_core.specs.Place.{IsIn, Stands, entry_before}
 use Rattle.bforest_core.specs.Table.{Table}
 use Rattle.bforest_core.specs.Trees.{IsUnion, tree_of}
 use Rattle.bforest_core.proofs.union.Unions.{is-rooted}
-use Rattle.bforest_core.proofs.walks.LastDown.{Leads}
+use Rattle.bforest_core.proofs.walks.Leading.{LeadsLast, last_stands}
 use Rattle.bforest_core.proofs.walks.Standing.{under-root}
-use Rattle.bforest_core.proofs.walks.Trailing.{last_stands}
-use Rattle.bforest_core.proofs.walks.Backward.{before_is, at_entry, at_end, stay}
+use Rattle.bforest_core.proofs.walks.Backward.{before_is, at_entry, at_end}
 use Rattle.bforest_core.proofs.walks.Nearby.{here-leaf, here-entry}
 use Rattle.bforest_core.proofs.path.Path.prev.Goals as goal
 
 module _ {K V : Type 0} {n : ℕ} (table : Table K V) (union : IsUnion n table) (root : ℕ) (old new : Path K V n) (place : ℕ) (at : StandsAt table root old place) where
   -- from the end it was led to the last entry
-  led_back : (level : ℕ) → old.size ≡ 0 → Leads n table.nodes old.node old.entry new.node new.entry root level → (level ≤ 16) × (0 < place) × StandsOn table root (record new { size = level + 1 }) (place - 1)
+  led_back : (level : ℕ) → old.size ≡ 0 → LeadsLast n table.nodes old.node old.entry new.node new.entry root level → (level ≤ 16) × (0 < place) × StandsOn table root (record new { size = level + 1 }) (place - 1)
   led_back level none leads =
       let tree = tree_of table.nodes root in
       let w = is-rooted n table root union at.root_is in
@@ -45,7 +44,9 @@ module _ {K V : Type 0} {n : ℕ} (table : Table K V) (union : IsUnion n table) 
 
     -- at the first entry it stayed
     stayed : new ≡ old → place ≡ 0 → StandsOn table root new (place - 1)
-    stayed same first = record { root_is = at.root_is; stands = stay old.node old.entry old.size new.node new.entry new.size (tree_of table.nodes root) place (place - 1) (ap (λ z. z.node) same) (ap (λ z. z.entry) same) (ap (λ z. z.size) same) (omega (arith, first)) (at_entry old.node old.entry (tree_of table.nodes root) place old.size some at.at) }
+    stayed same first =
+        let here : place ≡ place - 1 = omega (arith, first) in
+        subst (λ (z : Path K V n). StandsOn table root z (place - 1)) (sym same) (record { root_is = at.root_is; stands = subst (λ (z : ℕ). Stands old.node old.entry old.size (tree_of table.nodes root) z) here (at_entry old.node old.entry (tree_of table.nodes root) place old.size some at.at) })
 
 pub descend_last-top-requires : goal.descend_last-top-requires
 descend_last-top-requires g c =

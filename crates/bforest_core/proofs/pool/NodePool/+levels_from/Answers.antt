@@ -1,18 +1,19 @@
-use Rattle.std.proofs.Common.{rules, ◌+◌, ◌-◌, ◌<◌, length, sym, ap, ◌∙◌, arith}
+use Rattle.std.proofs.Common.{rules, ◌+◌, ◌-◌, ◌<◌, [], length, sym, ap, ◌∙◌, arith}
 use Rattle.std.proofs.lemmas.Bool.{false≢true}
 use Rattle.bforest_core.proofs.walks.Descent.{some_leaf}
-use Rattle.bforest_core.proofs.walks.Leading.{front_within, front_leaf, front_asks, front_below}
+use Rattle.bforest_core.proofs.walks.Leading.{front_asks, front_below}
+use Rattle.bforest_core.proofs.walks.TopNode.{node_within, leaf_under}
 use Rattle.bforest_core.proofs.pool.NodePool.+levels_from.Goals as goal
 
 pub node-requires : goal.node-requires
 node-requires g t c =
     let w = c.requires.under in
-    (search rules, (search rules, front_within g.row.N (some_leaf _ c.requires.capacity) c.args.self.now.nodes w.0 w.1 w.2 c.args.node w.3 w.4))
+    (search rules, (search rules, node_within g.row.N (some_leaf _ c.requires.capacity) c.args.self.now.nodes w.0 w.1 [] w.2 c.args.node w.3 w.4))
 
 pub node-requires-then-is_inner : goal.node-requires-then-is_inner
 node-requires-then-is_inner g t c =
     let w = c.requires.under in
-    (search rules, (search rules, front_within g.row.N (some_leaf _ c.requires.capacity) c.args.self.now.nodes w.0 w.1 w.2 c.args.node w.3 w.4))
+    (search rules, (search rules, node_within g.row.N (some_leaf _ c.requires.capacity) c.args.self.now.nodes w.0 w.1 [] w.2 c.args.node w.3 w.4))
 
 pub child-requires : goal.child-requires
 child-requires g t c =
@@ -39,5 +40,5 @@ returns-then-is_inner g t c = λ leaves lower first b u.
 
 pub returns-else-is_inner : goal.returns-else-is_inner
 returns-else-is_inner g t c = λ leaves lower first b u.
-    let s = front_leaf g.row.N (some_leaf _ c.requires.capacity) c.args.self.now.nodes leaves lower first c.args.node b u c.node.result.now c.node.ensures.value (λ i. false≢true (sym c.if-is_inner.false ∙ c.is_inner.ensures.inner.1 i)) in
+    let s = leaf_under g.row.N (some_leaf _ c.requires.capacity) c.args.self.now.nodes leaves lower [] first c.args.node b u c.node.result.now c.node.ensures.value (λ i. false≢true (sym c.if-is_inner.false ∙ c.is_inner.ensures.inner.1 i)) in
     omega (arith, ap length s.lower_is)

@@ -18,7 +18,7 @@ pub returns-clause-ended : goal.returns-clause-ended
 returns-clause-ended g c =
     let u = under-root g.row.N c.args.self.now c.args.root c.requires.union c.requires.root in
     let all = c.free_below.ensures _ _ u.first u.under (rooted g.row.N c.args.self.now c.args.root c.requires.union c.requires.root).apart in
-    let gone = uprooted-union g.row.N c.args.self.now c.free_below.new.self c.args.root _ c.requires.union c.requires.root all.frees.chain_is all.frees.freed_are all.frees.slots_are all.counted all.frees.others in
+    let gone = uprooted-union g.row.N c.args.self.now c.free_below.new.self c.args.root _ c.requires.union c.requires.root all.frees all.counted in
     record { union = gone.0; root_gone = gone.1; others = gone.2; limit_is = all.frees.limit_is }
 
 pub returns-clause-account : goal.returns-clause-account

@@ -1,0 +1,111 @@
+-- A node at the top of some rows: a leaf where there are none of inner nodes, and else one of the highest of these.
+use Rattle.std.proofs.Common.{◌≡◌, ◌≢◌, ℕ, suc, ◌+◌, ◌≤◌, ◌<◌, ◌⊎◌, inl, inr, List, [], ◌∷◌, ◌++◌, length, get_or, set, slice_get, Some, refl, sym, ap, subst, ◌∙◌, arith, append_assoc, length-append}
+use Rattle.std.proofs.lemmas.List.{get_or-set_other, nil_from_length}
+use Rattle.std.proofs.lemmas.Option.{slice_get_within}
+use Rattle.bforest_nodes.specs.Content.{Content, IsInner, entry_count}
+use Rattle.bforest_core.specs.Levels.{LevelNode, node, flat, heads, half_of}
+use Rattle.bforest_core.specs.Place.{RowIn, RowsIn, leaf_content, inner_content, IsAt}
+use Rattle.bforest_core.specs.Descent.{StackedTo, Under}
+use Rattle.bforest_core.proofs.rows.LevelRows.{flat-append}
+use Rattle.bforest_core.proofs.table.Stored.{some_same}
+use Rattle.bforest_core.proofs.table.Tables.{row-split}
+use Rattle.bforest_core.proofs.walks.Downward.{Seen, seen, last_of, stacked_last, in_last}
+
+-- but for this level a list is as before
+abbrev pub SameBut : ℕ → List ℕ → List ℕ → Type 0
+SameBut level old new = (i : ℕ) → i ≢ level → get_or new i 0 ≡ get_or old i 0
+
+pub set_but : (old new : List ℕ) (level n : ℕ) → new ≡ set old level n → SameBut level old new
+set_but old new level n is i other = ap (λ z. get_or z i 0) is ∙ get_or-set_other old level i n 0 other
+
+-- a row of no nodes has no entries
+pub none_flat : {K X : Type 0} (row : List (LevelNode K X)) → length row ≡ 0 → length (flat row) ≡ 0
+none_flat row e = ap (λ z. length (flat z)) (nil_from_length row e)
+
+-- the entries of a row, parted within a node
+pub flat_parted : {K X : Type 0} (before : List (LevelNode K X)) (n : ℕ) (es l : List (K × X)) (x : K × X) (r : List (K × X)) (after : List (LevelNode K X)) → es ≡ l ++ x ∷ r → flat (before ++ node n es ∷ after) ≡ (flat before ++ l) ++ x ∷ (r ++ flat after)
+flat_parted before n es l x r after is =
+    flat-append before (node n es ∷ after) ∙ ap (λ z. flat before ++ (z ++ flat after)) is ∙ ap (λ z. flat before ++ z) (append_assoc l (x ∷ r) (flat after)) ∙ sym (append_assoc (flat before) l (x ∷ (r ++ flat after)))
+
+-- a place at the node
+abbrev pub seen_at : {K X : Type 0} {half most : ℕ} {row : List (LevelNode K X)} {a : List (K × ℕ)} {first : K} {number : ℕ} {b : List (K × ℕ)} (at : Seen half most row a first number b) (n j index place : ℕ) → n ≡ number → j ≡ index → index ≤ length at.es → place ≡ length (flat at.before) + index → IsAt row n j place
+seen_at at n j index place n_is j_is within place_is = record {
+  before = at.before;
+  entries = at.e ∷ at.es;
+  after = at.after;
+  row_is = at.row_is ∙ ap (λ z. at.before ++ node z (at.e ∷ at.es) ∷ at.after) (sym n_is);
+  within = omega (arith, j_is, within);
+  place_is = place_is ∙ ap (λ z. length (flat at.before) + z) (sym j_is);
+}
+
+pub record LeafUnder {K V : Type 0} (most : ℕ) (slots : List (Content K V)) (leaves : List (LevelNode K V)) (lower : List (List (LevelNode K ℕ))) (a : List (K × ℕ)) (first : K) (number : ℕ) (b : List (K × ℕ)) : Type 0 where
+  pub lower_is : lower ≡ []
+  pub at : Seen (half_of most) most leaves a first number b
+  pub slot_is : slice_get slots number ≡ Some (leaf_content (at.e ∷ at.es))
+
+pub record InnerUnder {K V : Type 0} (most : ℕ) (slots : List (Content K V)) (leaves : List (LevelNode K V)) (lower : List (List (LevelNode K ℕ))) (a : List (K × ℕ)) (first : K) (number : ℕ) (b : List (K × ℕ)) : Type 0 where
+  pub rows : List (List (LevelNode K ℕ))
+  pub row : List (LevelNode K ℕ)
+  pub lower_is : lower ≡ rows ++ row ∷ []
+  pub count_is : length lower ≡ suc (length rows)
+  pub at : Seen 4 8 row a first number b
+  pub under : Under most slots leaves rows (flat row)
+  pub slot_is : slice_get slots number ≡ Some (inner_content (at.e ∷ at.es))
+
+seen_slot : {K V X : Type 0} (content : List (K × X) → Content K V) (slots : List (Content K V)) {half most : ℕ} {row : List (LevelNode K X)} {a : List (K × ℕ)} {first : K} {number : ℕ} {b : List (K × ℕ)} (at : Seen half most row a first number b) → RowIn content slots row → slice_get slots number ≡ Some (content (at.e ∷ at.es))
+seen_slot {K} {V} {X} content slots {number = number} at i = (row-split content slots at.before (node number (at.e ∷ at.es) ∷ at.after) (subst (λ (z : List (LevelNode K X)). RowIn content slots z) at.row_is i)).1.0
+
+-- what the slot of a node with entries holds
+pub record Held {K V : Type 0} (slots : List (Content K V)) (number : ℕ) : Type 0 where
+  pub content : Content K V
+  pub slot_is : slice_get slots number ≡ Some content
+  pub some : 1 ≤ entry_count content
+
+module _ {K V : Type 0} (most : ℕ) (one : 1 ≤ half_of most) (slots : List (Content K V)) (leaves : List (LevelNode K V)) where
+  pub node_under : (lower : List (List (LevelNode K ℕ))) (a : List (K × ℕ)) (first : K) (number : ℕ) (b : List (K × ℕ)) → Under most slots leaves lower (a ++ (first, number) ∷ b) → LeafUnder most slots leaves lower a first number b ⊎ InnerUnder most slots leaves lower a first number b
+  node_under [] a first number b u =
+      let at = seen (half_of most) most one leaves a first number b u.leaves_fit u.stacked in
+      inl (record { lower_is = refl; at = at; slot_is = seen_slot leaf_content slots at u.leaves_in })
+  node_under (r ∷ rs) a first number b u =
+      let z = last_of r rs in
+      let top = a ++ (first, number) ∷ b in
+      let s = stacked_last (heads leaves) z.init z.last top (subst (λ (w : List (List (LevelNode K ℕ))). StackedTo (heads leaves) w top) z.is u.stacked) in
+      let i = in_last slots z.init z.last (subst (λ (w : List (List (LevelNode K ℕ))). RowsIn slots w) z.is u.rows_in) in
+      let at = seen 4 8 (omega arith) z.last a first number b s.1 s.2 in
+      inr (record {
+        rows = z.init;
+        row = z.last;
+        lower_is = z.is;
+        count_is = ap length z.is ∙ length-append z.init (z.last ∷ []) ∙ omega arith;
+        at = at;
+        under = record { leaves_fit = u.leaves_fit; leaves_in = u.leaves_in; stacked = s.0; rows_in = i.0 };
+        slot_is = seen_slot inner_content slots at i.1;
+      })
+
+  module _ (lower : List (List (LevelNode K ℕ))) (a : List (K × ℕ)) (first : K) (number : ℕ) (b : List (K × ℕ)) (u : Under most slots leaves lower (a ++ (first, number) ∷ b)) where
+    pub node_held : Held slots number
+    node_held = elim (node_under lower a first number b u) [
+      | inl s ↦ record { content = leaf_content (s.at.e ∷ s.at.es); slot_is = s.slot_is; some = omega arith }
+      | inr s ↦ record { content = inner_content (s.at.e ∷ s.at.es); slot_is = s.slot_is; some = omega arith }
+    ]
+
+    -- it has a slot
+    pub node_within : number < length slots
+    node_within = slice_get_within slots number node_held.content node_held.slot_is
+
+    same_inner : (c d : Content K V) → slice_get slots number ≡ Some c → slice_get slots number ≡ Some d → IsInner d → IsInner c
+    same_inner c d e f i = subst IsInner (some_same d c (sym f ∙ e)) i
+
+    -- which of the two, by what the slot holds
+    pub leaf_under : (content : Content K V) → slice_get slots number ≡ Some content → (IsInner content → ⊥) → LeafUnder most slots leaves lower a first number b
+    leaf_under content found other = elim (node_under lower a first number b u) [ inl s ↦ s | inr s ↦ absurd (other (same_inner content (inner_content (s.at.e ∷ s.at.es)) found s.slot_is tt)) ]
+
+    pub inner_under : (content : Content K V) → slice_get slots number ≡ Some content → IsInner content → InnerUnder most slots leaves lower a first number b
+    inner_under content found inner = elim (node_under lower a first number b u) [ inl s ↦ absurd (same_inner (leaf_content (s.at.e ∷ s.at.es)) content s.slot_is found inner) | inr s ↦ s ]
+
+    -- or by the rows below it
+    pub leaf_at : length lower ≡ 0 → LeafUnder most slots leaves lower a first number b
+    leaf_at none = elim (node_under lower a first number b u) [ inl s ↦ s | inr s ↦ absurd (omega (arith, none, s.count_is)) ]
+
+    pub inner_at : (length lower ≡ 0 → ⊥) → InnerUnder most slots leaves lower a first number b
+    inner_at some = elim (node_under lower a first number b u) [ inl s ↦ absurd (some (ap length s.lower_is)) | inr s ↦ s ]
