@@ -12,7 +12,7 @@ use Rattle.bforest_core.proofs.rows.Tops.{root-stands}
 use Rattle.bforest_core.proofs.removal.Collapse.{length-sizes}
 use Rattle.bforest_core.proofs.removal.Merge.{nodes_up-same}
 use Rattle.bforest_core.proofs.removal.PastEnd.{loss_half}
-use Rattle.bforest_core.proofs.removal.Shrunk.{path-at, up_to, trimmed_removed, whole_removed, kept_untrimmed, healed_untrimmed, healed_stands, joined_untrimmed, joined_stands, joined_more}
+use Rattle.bforest_core.proofs.removal.Shrunk.{path-at, up_to, trimmed_removed, whole_removed, kept_untrimmed, healed_untrimmed, healed_stands, joined_untrimmed, joined_stands}
 
 -- the numbers of a row are as many as its nodes
 length-numbers : {K X : Type 0} (row : List (LevelNode K X)) → length (numbers row) ≡ length row
@@ -54,9 +54,9 @@ module _ {K V : Type 0} where
       let n = get_or path 0 0 in
       let row : List (LevelNode K V) = l.before ++ node n l.entries ∷ l.after in
       let row2 : List (LevelNode K V) = h.before' ++ node h.number' h.entries' ∷ h.after' in
-      let u = healed_untrimmed most old mid new path indices path' indices' size tree place s l h in
+      let u = healed_untrimmed most old mid path indices size tree place s l new path' indices' h in
       let len : length row2 ≡ length l.before + suc (length l.after) = omega (arith, length-numbers row2, length-numbers row, ap length h.row_numbers, length-append l.before (node n l.entries ∷ l.after)) in
-      let st = healed_stands most old mid new path indices path' indices' size size1 tree place s l h size_is in
+      let st = healed_stands most old mid path indices size tree place s l new path' indices' h size1 size_is in
       whole_removed most old new path indices size tree place root row2 h.rest' (λ z. IsPathAt path' indices' size1 z place) s u root_is (as_many most old mid path indices size tree place l s.fit.leaves_fit row2 u.leaves_fit len) (h.rest_sizes ∙ l.rest_sizes)
       (path-at path' indices' size1 (record { leaves = row2; above = h.rest' }) place st)
 
@@ -97,7 +97,7 @@ module _ {K V : Type 0} where
   pub joined_up : (most : ℕ) (old mid mid2 new : Table K V) (path indices path1 indices1 path' indices' : List ℕ) (size size2 : ℕ) (tree : Tree K V) (place root : ℕ) → StandsIn most old path indices size tree place → root_of tree ≡ root → (d : JoinedRest most old mid mid2 new path indices path1 indices1 path' indices' size tree place) → size2 ≡ size →
       UpTo new size2 d.r.rows' (heads (joined_row d)) root
   joined_up most old mid mid2 new path indices path1 indices1 path' indices' size size2 tree place root s root_is d size_is =
-      let u = joined_untrimmed most old mid mid2 new path indices path1 indices1 path' indices' size tree place (nodes_up path 1 d.levels) s d.l d.j d.r in
+      let u = joined_untrimmed most old mid path indices size tree place s d.l mid2 path1 indices1 d.j new path' indices' (nodes_up path 1 d.levels) d.r in
       up_to most old new path indices size size2 tree place root (joined_row d) d.r.rows' (nodes_up path 0 (suc d.levels)) s u size_is root_is
 
   -- and roots with a single child went
@@ -106,9 +106,8 @@ module _ {K V : Type 0} where
       ((rows : List (List (LevelNode K ℕ))) (list : List (K × ℕ)) → UpTo new size2 rows list root → (gone : List ℕ) × Trimmed new new2 size2 size3 rows list root root' gone) → path2 ≡ path' → indices2 ≡ indices' →
       Removed most old new2 path (λ z. IsPathAt path2 indices2 size3 z place) tree place root'
   joined_removed most old mid mid2 new new2 path indices path1 indices1 path' indices' path2 indices2 size size2 size3 tree place root root' s root_is d size_is trims path_is indices_is =
-      let u = joined_untrimmed most old mid mid2 new path indices path1 indices1 path' indices' size tree place (nodes_up path 1 d.levels) s d.l d.j d.r in
+      let u = joined_untrimmed most old mid path indices size tree place s d.l mid2 path1 indices1 d.j new path' indices' (nodes_up path 1 d.levels) d.r in
       let t = trims d.r.rows' (heads (joined_row d)) (joined_up most old mid mid2 new path indices path1 indices1 path' indices' size size2 tree place root s root_is d size_is) in
-      let more = joined_more most old mid mid2 path indices path1 indices1 size tree place d.l d.j in
-      let st = joined_stands most old mid mid2 new new2 path indices path1 indices1 path' indices' path2 indices2 size tree place (nodes_up path 1 d.levels) s d.l d.j d.r size2 size3 root root' t.0 t.1 path_is indices_is more in
+      let st = joined_stands most old mid path indices size tree place s d.l mid2 path1 indices1 d.j new path' indices' (nodes_up path 1 d.levels) d.r new2 path2 indices2 size2 size3 root root' t.0 t.1 path_is indices_is in
       trimmed_removed most old new new2 path indices size tree place root (joined_row d) d.r.rows' (suc d.levels) size2 size3 root' t.0 (λ z. IsPathAt path2 indices2 size3 z place) s u root_is t.1 size_is
       (path-at path2 indices2 size3 (record { leaves = joined_row d; above = t.1.rows' }) place st)
