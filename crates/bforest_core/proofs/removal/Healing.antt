@@ -1,5 +1,5 @@
 -- The steps of settling a level, over plain values.
-use Rattle.std.proofs.Common.{◌≡◌, ℕ, suc, ◌≤◌, ◌<◌, ◌≢◌, List, [], ◌∷◌, ◌++◌, map, length, set, get_or, slice_get, Some, None, refl, sym, ap, ◌∙◌, subst, inr, length-append, arith}
+use Rattle.std.proofs.Common.{◌≡◌, suc, ◌≤◌, ◌<◌, ◌≢◌, List, ◌∷◌, ◌++◌, map, length, set, get_or, slice_get, Some, None, refl, ap, ◌∙◌, subst, inr, length-append, arith, ℕ, []}
 use Rattle.std.specs.List.{flat_map}
 use Rattle.bforest_nodes.specs.Content.{Content}
 use Rattle.bforest_core.specs.Table.{Table, IsUsed, IsUnderflowedAt, IsBalancedAt, with_freed}

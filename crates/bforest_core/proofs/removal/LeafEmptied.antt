@@ -1,5 +1,5 @@
 -- The only entry of a leaf goes, and the leaf with it: it is the right-most.
-use Rattle.std.proofs.Common.{◌≡◌, ◌≢◌, ℕ, suc, ◌+◌, ◌≤◌, Some, List, [], ◌∷◌, ◌++◌, map, length, get_or, slice_get, refl, sym, ap, ◌∙◌, subst, append_assoc, append-nil, length-append, arith}
+use Rattle.std.proofs.Common.{◌≡◌, ◌≢◌, suc, ◌+◌, ◌≤◌, Some, List, ◌∷◌, ◌++◌, map, length, get_or, slice_get, refl, sym, ap, ◌∙◌, subst, append_assoc, append-nil, length-append, arith, ℕ, []}
 use Rattle.std.specs.List.{flat_map, remove}
 use Rattle.std.proofs.lemmas.List.{get_or_default}
 use Rattle.bforest_nodes.specs.Content.{IsLeafCapacity}

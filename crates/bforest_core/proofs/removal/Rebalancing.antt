@@ -1,5 +1,5 @@
 -- Settling a level, with what the calls on the way say: each answer of `rebalance_leaf` and `rebalance_inner` is one of these.
-use Rattle.std.proofs.Common.{◌≡◌, ℕ, suc, ◌≤◌, ◌<◌, ◌≢◌, List, ◌∷◌, ◌++◌, length, set, get_or, slice_get, Some, None, Option, sym, ap, ◌∙◌, subst, inl, arith}
+use Rattle.std.proofs.Common.{◌≡◌, suc, ◌≤◌, ◌<◌, ◌≢◌, List, ◌∷◌, ◌++◌, length, set, get_or, slice_get, Some, None, Option, sym, ap, ◌∙◌, subst, inl, arith, ℕ}
 use Rattle.std.proofs.lemmas.List.{get_or_default}
 use Rattle.bforest_nodes.specs.Content.{Content, entry_count}
 use Rattle.bforest_core.specs.Table.{Table, IsUsed, IsUnderflowedAt, IsBalancedAt, with_freed}

@@ -1,5 +1,5 @@
 -- A tree after an entry went, before roots with a single child go, and after.
-use Rattle.std.proofs.Common.{◌≡◌, ℕ, zero, suc, ◌+◌, ◌≤◌, ◌<◌, Some, List, [], ◌∷◌, ◌++◌, ◌⊎◌, map, length, get_or, refl, sym, ap, ◌∙◌, subst, append_assoc, length-append, arith}
+use Rattle.std.proofs.Common.{◌≡◌, zero, suc, ◌+◌, ◌≤◌, ◌<◌, Some, List, ◌∷◌, ◌++◌, ◌⊎◌, map, length, get_or, refl, sym, ap, ◌∙◌, subst, append_assoc, length-append, arith, ℕ, []}
 use Rattle.std.specs.List.{flat_map, remove}
 use Rattle.std.proofs.lemmas.List.Concat.{flat_map-append}
 use Rattle.bforest_core.specs.Table.{Table}

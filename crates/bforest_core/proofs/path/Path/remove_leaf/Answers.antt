@@ -1,4 +1,4 @@
-use Rattle.std.proofs.Common.{rules, ◌∷◌, [], get_or, refl, arith}
+use Rattle.std.proofs.Common.{rules, get_or, refl, arith}
 use Rattle.bforest_core.specs.Levels.{heads}
 use Rattle.bforest_core.specs.Climb.{nodes_up}
 use Rattle.bforest_core.proofs.removal.Shrunk.{up_to}
