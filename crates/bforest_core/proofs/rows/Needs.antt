@@ -105,14 +105,12 @@ module _ {K V : Type 0} where
   pub inner_full : (cap : ℕ) (full : Bool) (now : Content K V) (nodes : List (Content K V)) (n : ℕ) (es : List (K × ℕ)) → slice_get nodes n ≡ Some now → slice_get nodes n ≡ Some (inner_content es) → (IsTrue full ↔ (entry_count now ≡ entry_capacity cap now)) → IsTrue full ↔ (length es ≡ 8)
   inner_full cap full now nodes n es found slot h =
       let is : now ≡ inner_content es = some_same now (inner_content es) (sym found ∙ slot) in
-      let h2 = subst (λ (z : Content K V). IsTrue full ↔ (entry_count z ≡ entry_capacity cap z)) is h in
-      subst (λ (z : ℕ). IsTrue full ↔ (z ≡ 8)) (item_count es) h2
+      rw (is, item_count es) at h
 
   pub leaf_is_full : (cap : ℕ) (full : Bool) (now : Content K V) (nodes : List (Content K V)) (n : ℕ) (es : List (K × V)) → slice_get nodes n ≡ Some now → slice_get nodes n ≡ Some (leaf_content es) → (IsTrue full ↔ (entry_count now ≡ entry_capacity cap now)) → IsTrue full ↔ (length es ≡ cap)
   leaf_is_full cap full now nodes n es found slot h =
       let is : now ≡ leaf_content es = some_same now (leaf_content es) (sym found ∙ slot) in
-      let h2 = subst (λ (z : Content K V). IsTrue full ↔ (entry_count z ≡ entry_capacity cap z)) is h in
-      subst (λ (z : ℕ). IsTrue full ↔ (z ≡ cap)) (keys_count es) h2
+      rw (is, keys_count es) at h
 
   pub inner_not_free : (now : Content K V) (nodes : List (Content K V)) (n : ℕ) (es : List (K × ℕ)) → slice_get nodes n ≡ Some now → slice_get nodes n ≡ Some (inner_content es) → ¬ IsFree now
   inner_not_free now nodes n es found slot = subst (λ (z : Content K V). ¬ IsFree z) (sym (some_same now (inner_content es) (sym found ∙ slot))) (λ free. free)
