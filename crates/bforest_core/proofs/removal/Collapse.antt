@@ -226,9 +226,7 @@ module _ {K V : Type 0} where
   pub trim_then : (t v u : Table K V) (size size1 size' : ℕ) (rows : List (List (LevelNode K ℕ))) (list : List (K × ℕ)) (root only root' : ℕ) (freed : List ℕ) → (d : OnlyChild t size rows list root) → d.x.1 ≡ only → v ≡ with_freed t root → size1 ≡ size - 1 →
       Trimmed v u size1 size' d.init list only root' freed → Trimmed t u size size' rows list root root' (freed ++ root ∷ [])
   trim_then t v u size size1 size' rows list root only root' freed d only_is is size_is r =
-      subst (λ (z : List (List (LevelNode K ℕ))). Trimmed t u size size' z list root root' (freed ++ root ∷ [])) (sym d.rows_are)
-      (trim_more t v u size size1 size' list root root' d.init d.x freed d.whole d.slot_is d.none_below is size_is
-      (subst (λ (z : ℕ). Trimmed v u size1 size' d.init list z root' freed) (sym only_is) r))
+      rw d.rows_are (trim_more t v u size size1 size' list root root' d.init d.x freed d.whole d.slot_is d.none_below is size_is (rw only_is r))
 
   -- the root's entries, as the call counts them, are one
   pub only_in : (t : Table K V) (size : ℕ) (rows : List (List (LevelNode K ℕ))) (list : List (K × ℕ)) (root n : ℕ) → UpTo t size rows list root → size ≢ 1 → ((content : Content K V) → slice_get t.nodes root ≡ Some content → n ≡ entry_count content) → n ≤ 1 → OnlyChild t size rows list root

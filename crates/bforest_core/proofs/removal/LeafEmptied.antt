@@ -1,15 +1,16 @@
 -- The only entry of a leaf goes, and the leaf with it: it is the right-most.
-use Rattle.std.proofs.Common.{◌≡◌, ◌≢◌, ℕ, suc, ◌+◌, ◌≤◌, Some, List, [], ◌∷◌, ◌++◌, map, length, get_or, slice_get, refl, sym, ap, ◌∙◌, subst, append_assoc, append-nil, length-append, arith}
+use Rattle.std.proofs.Common.{◌≡◌, ◌≢◌, suc, ◌+◌, ◌≤◌, Some, List, ◌∷◌, ◌++◌, map, length, get_or, slice_get, refl, sym, ap, ◌∙◌, subst, append_assoc, append-nil, length-append, arith, ℕ, []}
 use Rattle.std.specs.List.{flat_map, remove}
+use Rattle.std.proofs.lemmas.List.{get_or_default}
 use Rattle.bforest_nodes.specs.Content.{IsLeafCapacity}
-use Rattle.bforest_core.specs.Table.{Table, with_freed}
+use Rattle.bforest_core.specs.Table.{Table, IsUsed, with_freed}
 use Rattle.bforest_core.specs.Levels.{LevelNode, node, flat, heads, sizes, numbers, FitRow, Solid, Stacked, Topped, Tree, half_of, sizes_of}
 use Rattle.bforest_core.specs.Sizes.{loss, loss_above, shrink}
 use Rattle.bforest_core.specs.Place.{RowIn, leaf_content, count, Distinct, root_above, root_of, numbers_of, IsPathAt}
 use Rattle.bforest_core.specs.Climb.{nodes_up, Above}
 use Rattle.bforest_core.specs.Removal.{Dropped, UpTo, Trimmed, StandsIn, Removed, Emptied}
 use Rattle.bforest_core.proofs.rows.LevelRows.{flat-append, heads-append, sizes-append, Solid-full}
-use Rattle.bforest_core.proofs.table.Tables.{count-append, counts, count-same, row-split, row-same, ne_from_count}
+use Rattle.bforest_core.proofs.table.Tables.{count-append, counts, count-same, row-split, row-same, is_used, ne_from_count}
 use Rattle.bforest_core.proofs.rows.Tops.{root-stands}
 use Rattle.bforest_core.proofs.removal.Losses.{loss_at}
 use Rattle.bforest_core.proofs.removal.Frees.{freed_other, frees-one, frees-first}
@@ -67,55 +68,6 @@ module _ {K V : Type 0} where
     pub none_rows : count (get_or path 0 0) (flat_map numbers tree.above) ≡ 0
     pub none_chain : count (get_or path 0 0) t.chain ≡ 0
 
-  -- a leaf of one entry is the last
-  pub last_leaf : (most : ℕ) (t : Table K V) (path indices : List ℕ) (size : ℕ) (tree : Tree K V) (place : ℕ) (y : K × V) → IsLeafCapacity most → StandsIn most t path indices size tree place → slice_get t.nodes (get_or path 0 0) ≡ Some (leaf_content (y ∷ [])) → LastLeaf most t path indices size tree place
-  last_leaf most t path indices size tree place y capacity s slot =
-      let d = leaf_at most t path indices size tree place s in
-      let n = get_or path 0 0 in
-      let one : length (d.l ++ d.x ∷ d.r) ≡ 1 = leaf_count (d.l ++ d.x ∷ d.r) (y ∷ []) (slice_get t.nodes n) d.slot_is slot in
-      let two : 2 ≤ half_of most = omega (arith, capacity.least) in
-      let ends = one_entry d.l d.x d.r one in
-      let none = none_after (half_of most) most n (d.l ++ d.x ∷ d.r) d.after two one d.fit in
-      let es_is : d.l ++ d.x ∷ d.r ≡ d.x ∷ [] = ap (λ z. z ++ d.x ∷ d.r) ends.0 ∙ ap (λ z. d.x ∷ z) ends.1 in
-      let row_is : d.before ++ node n (d.l ++ d.x ∷ d.r) ∷ d.after ≡ d.before ++ node n (d.x ∷ []) ∷ [] = ap (λ z. d.before ++ node n z ∷ d.after) es_is ∙ ap (λ z. d.before ++ node n (d.x ∷ []) ∷ z) none in
-      record {
-        before = d.before;
-        x = d.x;
-        leaves_are = d.leaves_are ∙ row_is;
-        place_is = omega (arith, d.place_is, ap length ends.0);
-        half = d.half;
-        solid = d.solid;
-        inside = subst (λ (z : List (LevelNode K V)). RowIn leaf_content t.nodes z) row_is d.inside;
-        slot_is = d.slot_is ∙ ap (λ z. Some (leaf_content z)) es_is;
-        above = subst (λ (z : List (LevelNode K V)). Above t path indices 1 size tree.above (heads z) (length (heads d.before))) row_is d.above;
-        apart = subst (λ (z : List (LevelNode K V)). Distinct ((numbers z ++ flat_map numbers tree.above) ++ t.chain)) row_is d.apart;
-        none_before = omega (arith, d.none);
-        none_rows = d.none_rows;
-        none_chain = d.none_chain;
-      }
-
-  -- it was the only leaf
-  pub emptied_tree : (most : ℕ) (t v : Table K V) (path indices : List ℕ) (size : ℕ) (tree : Tree K V) (place : ℕ) → StandsIn most t path indices size tree place → (d : LastLeaf most t path indices size tree place) → size ≡ 1 → v ≡ with_freed t (get_or path 0 0) → Emptied most t v tree place
-  emptied_tree most t v path indices size tree place s d one is =
-      let n = get_or path 0 0 in
-      let above_is : tree.above ≡ [] = no_above tree.above (omega (arith, one, s.stands.size_is)) in
-      let seen = subst (λ (z : List (List (LevelNode K ℕ))). Stacked (heads tree.leaves) z) above_is s.fit.stacked in
-      let seen_is : length (heads tree.leaves) ≡ 1 = seen in
-      let none : d.before ≡ [] = no_before (half_of most) most d.half d.before d.solid (omega (arith, seen_is, ap (λ z. length (heads z)) d.leaves_are, ap length (heads-append d.before (node n (d.x ∷ []) ∷ [])), length-append (heads d.before) ((d.x.0, n) ∷ []))) in
-      let leaves_are : tree.leaves ≡ node n (d.x ∷ []) ∷ [] = d.leaves_are ∙ ap (λ z. z ++ node n (d.x ∷ []) ∷ []) none in
-      let levels : sizes_of tree ≡ (1 ∷ []) ∷ [] = ap (λ z. sizes z ∷ map sizes tree.above) leaves_are ∙ ap (λ z. (1 ∷ []) ∷ map sizes z) above_is in
-      let first : place ≡ 0 = d.place_is ∙ ap (λ z. length (flat z)) none in
-      let nums : (m : ℕ) → count m (n ∷ []) ≡ count m (numbers_of tree) = λ m. sym (ap (λ z. count m (numbers z ++ flat_map numbers tree.above)) leaves_are ∙ ap (λ z. count m ((n ∷ []) ++ flat_map numbers z)) above_is) in
-      record {
-        single = ap (λ z. length (flat z)) leaves_are;
-        none_left = ap (λ z. shrink most place z) levels ∙ ap (λ z. shrink most z ((1 ∷ []) ∷ [])) first;
-        levels_are = levels;
-        freed = n ∷ [];
-        freed_is = nums;
-        one = refl;
-        frees = frees-one t v n (leaf_content (d.x ∷ [])) (numbers_of tree) d.slot_is is (omega (arith, nums n, count-same n []));
-      }
-
   -- others stand before it: the rows above, after it was freed
   pub record LeafDrop (most : ℕ) (t v : Table K V) (path indices : List ℕ) (size : ℕ) (tree : Tree K V) (place : ℕ) : Type 0 where
     pub d : LastLeaf most t path indices size tree place
@@ -127,34 +79,96 @@ module _ {K V : Type 0} where
     pub above : Above v path indices 1 size tree.above (heads init ++ (w.0, number) ∷ (d.x.0, get_or path 0 0) ∷ []) (suc (length (heads init)))
     pub freed_is : v ≡ with_freed t (get_or path 0 0)
 
-  -- they are found where there is a level above
-  pub leaf_drop : (most : ℕ) (t v : Table K V) (path indices : List ℕ) (size : ℕ) (tree : Tree K V) (place : ℕ) → StandsIn most t path indices size tree place → LastLeaf most t path indices size tree place → size ≢ 1 → v ≡ with_freed t (get_or path 0 0) → LeafDrop most t v path indices size tree place
-  leaf_drop most t v path indices size tree place s d more is =
-      let n = get_or path 0 0 in
-      let low = two_leaves (heads tree.leaves) tree.above s.fit.topped (λ (e : length tree.above ≡ 0). more (omega (arith, e, s.stands.size_is))) in
-      let some : 1 ≤ length (heads d.before) = omega (arith, low, ap (λ z. length (heads z)) d.leaves_are, ap length (heads-append d.before (node n (d.x ∷ []) ∷ [])), length-append (heads d.before) ((d.x.0, n) ∷ [])) in
-      let r = last_before (half_of most) most d.half d.before d.solid some in
-      let other = freed_other t v n is in
-      let hs : heads d.before ≡ heads r.0 ++ (r.2.0, r.1) ∷ [] = ap heads r.4 ∙ heads-append r.0 (node r.1 (r.2 ∷ r.3) ∷ []) in
-      let list : heads (d.before ++ node n (d.x ∷ []) ∷ []) ≡ heads r.0 ++ (r.2.0, r.1) ∷ (d.x.0, n) ∷ [] = heads-append d.before (node n (d.x ∷ []) ∷ []) ∙ ap (λ z. z ++ (d.x.0, n) ∷ []) hs ∙ append_assoc (heads r.0) ((r.2.0, r.1) ∷ []) ((d.x.0, n) ∷ []) in
-      let len : length (heads d.before) ≡ suc (length (heads r.0)) = omega (arith, ap length hs, length-append (heads r.0) ((r.2.0, r.1) ∷ [])) in
-      let row : List (LevelNode K V) = d.before ++ node n (d.x ∷ []) ∷ [] in
-      let b = above_same t v path indices 1 size tree.above (heads row) (length (heads d.before)) (λ m here. other m (ne_from_count m n (flat_map numbers tree.above) here d.none_rows))
-      (λ m. omega (arith, d.apart m, counts m d.before n (d.x ∷ []) [] tree.above t.chain, count-append m (flat_map numbers tree.above) v.chain, ap (λ z. count m z.chain) is)) d.above in
-      record {
-        d = d;
-        init = r.0;
-        number = r.1;
-        w = r.2;
-        ws = r.3;
-        before_is = r.4;
-        above = subst (λ (z : ℕ). Above v path indices 1 size tree.above (heads r.0 ++ (r.2.0, r.1) ∷ (d.x.0, n) ∷ []) z) len (subst (λ (z : List (K × ℕ)). Above v path indices 1 size tree.above z (length (heads d.before))) list b);
-        freed_is = is;
-      }
-    where
-      two_leaves : (list : List (K × ℕ)) (rows : List (List (LevelNode K ℕ))) → Topped list rows → length rows ≢ 0 → 2 ≤ length list
-      two_leaves list [] topped ne = absurd (ne refl)
-      two_leaves list (row ∷ rows) topped ne = topped.0
+  module _ (most : ℕ) (t : Table K V) (path indices : List ℕ) (size : ℕ) (capacity : IsLeafCapacity most) (y : K × V) (slot : slice_get t.nodes (get_or path 0 0) ≡ Some (leaf_content (y ∷ []))) (r : ℕ) (wide : length path ≡ 17)
+      (tree : Tree K V) (place : ℕ) (s : StandsIn most t path indices size tree place) where
+    -- a leaf of one entry is the last
+    d : LastLeaf most t path indices size tree place
+    d =
+        let f = leaf_at most t path indices size tree place s in
+        let n = get_or path 0 0 in
+        let one : length (f.l ++ f.x ∷ f.r) ≡ 1 = leaf_count (f.l ++ f.x ∷ f.r) (y ∷ []) (slice_get t.nodes n) f.slot_is slot in
+        let two : 2 ≤ half_of most = omega (arith, capacity.least) in
+        let ends = one_entry f.l f.x f.r one in
+        let none = none_after (half_of most) most n (f.l ++ f.x ∷ f.r) f.after two one f.fit in
+        let es_is : f.l ++ f.x ∷ f.r ≡ f.x ∷ [] = ap (λ z. z ++ f.x ∷ f.r) ends.0 ∙ ap (λ z. f.x ∷ z) ends.1 in
+        let row_is : f.before ++ node n (f.l ++ f.x ∷ f.r) ∷ f.after ≡ f.before ++ node n (f.x ∷ []) ∷ [] = ap (λ z. f.before ++ node n z ∷ f.after) es_is ∙ ap (λ z. f.before ++ node n (f.x ∷ []) ∷ z) none in
+        record {
+          before = f.before;
+          x = f.x;
+          leaves_are = f.leaves_are ∙ row_is;
+          place_is = omega (arith, f.place_is, ap length ends.0);
+          half = f.half;
+          solid = f.solid;
+          inside = subst (λ (z : List (LevelNode K V)). RowIn leaf_content t.nodes z) row_is f.inside;
+          slot_is = f.slot_is ∙ ap (λ z. Some (leaf_content z)) es_is;
+          above = subst (λ (z : List (LevelNode K V)). Above t path indices 1 size tree.above (heads z) (length (heads f.before))) row_is f.above;
+          apart = subst (λ (z : List (LevelNode K V)). Distinct ((numbers z ++ flat_map numbers tree.above) ++ t.chain)) row_is f.apart;
+          none_before = omega (arith, f.none);
+          none_rows = f.none_rows;
+          none_chain = f.none_chain;
+        }
+
+    num_is : get_or path 0 r ≡ get_or path 0 0
+    num_is = get_or_default path 0 r 0 (omega (arith, wide))
+
+    freed_here : (v : Table K V) → v ≡ with_freed t (get_or path 0 r) → v ≡ with_freed t (get_or path 0 0)
+    freed_here v freed = freed ∙ ap (λ z. with_freed t z) num_is
+
+    -- what freeing it asks
+    pub free_asks : IsUsed t (get_or path 0 r)
+    free_asks = subst (λ (z : ℕ). IsUsed t z) (sym num_is) (is_used t (get_or path 0 0) (leaf_content (d.x ∷ [])) d.slot_is d.none_chain)
+
+    -- it was the only leaf
+    pub emptied_tree : (v : Table K V) → size ≡ 1 → v ≡ with_freed t (get_or path 0 r) → Emptied most t v tree place
+    emptied_tree v one freed =
+        let n = get_or path 0 0 in
+        let above_is : tree.above ≡ [] = no_above tree.above (omega (arith, one, s.stands.size_is)) in
+        let seen = subst (λ (z : List (List (LevelNode K ℕ))). Stacked (heads tree.leaves) z) above_is s.fit.stacked in
+        let seen_is : length (heads tree.leaves) ≡ 1 = seen in
+        let none : d.before ≡ [] = no_before (half_of most) most d.half d.before d.solid (omega (arith, seen_is, ap (λ z. length (heads z)) d.leaves_are, ap length (heads-append d.before (node n (d.x ∷ []) ∷ [])), length-append (heads d.before) ((d.x.0, n) ∷ []))) in
+        let leaves_are : tree.leaves ≡ node n (d.x ∷ []) ∷ [] = d.leaves_are ∙ ap (λ z. z ++ node n (d.x ∷ []) ∷ []) none in
+        let levels : sizes_of tree ≡ (1 ∷ []) ∷ [] = ap (λ z. sizes z ∷ map sizes tree.above) leaves_are ∙ ap (λ z. (1 ∷ []) ∷ map sizes z) above_is in
+        let first : place ≡ 0 = d.place_is ∙ ap (λ z. length (flat z)) none in
+        let nums : (m : ℕ) → count m (n ∷ []) ≡ count m (numbers_of tree) = λ m. sym (ap (λ z. count m (numbers z ++ flat_map numbers tree.above)) leaves_are ∙ ap (λ z. count m ((n ∷ []) ++ flat_map numbers z)) above_is) in
+        record {
+          single = ap (λ z. length (flat z)) leaves_are;
+          none_left = ap (λ z. shrink most place z) levels ∙ ap (λ z. shrink most z ((1 ∷ []) ∷ [])) first;
+          levels_are = levels;
+          freed = n ∷ [];
+          freed_is = nums;
+          one = refl;
+          frees = frees-one t v n (leaf_content (d.x ∷ [])) (numbers_of tree) d.slot_is (freed_here v freed) (omega (arith, nums n, count-same n []));
+        }
+
+    -- they are found where there is a level above
+    pub leaf_drop : (v : Table K V) → size ≢ 1 → v ≡ with_freed t (get_or path 0 r) → LeafDrop most t v path indices size tree place
+    leaf_drop v more freed =
+        let n = get_or path 0 0 in
+        let low = two_leaves (heads tree.leaves) tree.above s.fit.topped (λ (e : length tree.above ≡ 0). more (omega (arith, e, s.stands.size_is))) in
+        let some : 1 ≤ length (heads d.before) = omega (arith, low, ap (λ z. length (heads z)) d.leaves_are, ap length (heads-append d.before (node n (d.x ∷ []) ∷ [])), length-append (heads d.before) ((d.x.0, n) ∷ [])) in
+        let r = last_before (half_of most) most d.half d.before d.solid some in
+        let is = freed_here v freed in
+        let other = freed_other t v n is in
+        let hs : heads d.before ≡ heads r.0 ++ (r.2.0, r.1) ∷ [] = ap heads r.4 ∙ heads-append r.0 (node r.1 (r.2 ∷ r.3) ∷ []) in
+        let list : heads (d.before ++ node n (d.x ∷ []) ∷ []) ≡ heads r.0 ++ (r.2.0, r.1) ∷ (d.x.0, n) ∷ [] = heads-append d.before (node n (d.x ∷ []) ∷ []) ∙ ap (λ z. z ++ (d.x.0, n) ∷ []) hs ∙ append_assoc (heads r.0) ((r.2.0, r.1) ∷ []) ((d.x.0, n) ∷ []) in
+        let len : length (heads d.before) ≡ suc (length (heads r.0)) = omega (arith, ap length hs, length-append (heads r.0) ((r.2.0, r.1) ∷ [])) in
+        let row : List (LevelNode K V) = d.before ++ node n (d.x ∷ []) ∷ [] in
+        let b = above_same t v path indices 1 size tree.above (heads row) (length (heads d.before)) (λ m here. other m (ne_from_count m n (flat_map numbers tree.above) here d.none_rows))
+        (λ m. omega (arith, d.apart m, counts m d.before n (d.x ∷ []) [] tree.above t.chain, count-append m (flat_map numbers tree.above) v.chain, ap (λ z. count m z.chain) is)) d.above in
+        record {
+          d = d;
+          init = r.0;
+          number = r.1;
+          w = r.2;
+          ws = r.3;
+          before_is = r.4;
+          above = subst (λ (z : ℕ). Above v path indices 1 size tree.above (heads r.0 ++ (r.2.0, r.1) ∷ (d.x.0, n) ∷ []) z) len (subst (λ (z : List (K × ℕ)). Above v path indices 1 size tree.above z (length (heads d.before))) list b);
+          freed_is = is;
+        }
+      where
+        two_leaves : (list : List (K × ℕ)) (rows : List (List (LevelNode K ℕ))) → Topped list rows → length rows ≢ 0 → 2 ≤ length list
+        two_leaves list [] topped ne = absurd (ne refl)
+        two_leaves list (row ∷ rows) topped ne = topped.0
 
   -- and after its entry is out of them
   pub drop_untrimmed : (most : ℕ) (t v u : Table K V) (path indices : List ℕ) (size : ℕ) (tree : Tree K V) (place : ℕ) (freed : List ℕ) → StandsIn most t path indices size tree place → (c : LeafDrop most t v path indices size tree place) →

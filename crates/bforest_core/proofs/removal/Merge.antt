@@ -110,5 +110,4 @@ module _ {K V : Type 0} where
   merge_again t u w v path indices path1 indices1 path' indices' up size up' size' rows hs p l j up_is size_is levels r =
       let same = nodes_up-same path path1 (suc up) levels (λ i above. j.nodes_above i (omega (arith, above))) in
       let rest = rw (up_is, size_is) at r in
-      merge_joined t u w v path indices path1 indices1 path' indices' up size rows hs p (nodes_up path (suc up) levels) l j
-      (subst (λ (z : List ℕ). Rebuilt w v path1 indices1 path' indices' (suc up) size l.rest (heads l.before ++ (j.first.0, j.right) ∷ heads j.after') (length (heads l.before)) (loss_above (Some (length (heads l.before))) (map sizes l.rest)) z) same rest)
+      merge_joined t u w v path indices path1 indices1 path' indices' up size rows hs p (nodes_up path (suc up) levels) l j (rw same at rest)

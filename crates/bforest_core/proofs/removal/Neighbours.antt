@@ -141,8 +141,7 @@ module _ {K V : Type 0} where
   rekey_same t u path indices up size rows a x k n b key d more u_is =
       let q = d.q in
       let w = rekey_of t u path indices up size q.before q.l x q.r q.after q.rest (k, n) b key d.whole q.b_is q.entry_is q.stands more u_is in
-      subst (λ (z : List (List (LevelNode K ℕ))). Rebuilt t u path indices path indices up size z (a ++ x ∷ (key, n) ∷ b) (length a) (map sizes z) []) (sym q.rows_are)
-      (subst (λ (z : List (K × ℕ)). Rebuilt t u path indices path indices up size ((q.before ++ node (get_or path up 0) (q.l ++ x ∷ q.r) ∷ q.after) ∷ q.rest) (z ++ x ∷ (key, n) ∷ b) (length z) (map sizes ((q.before ++ node (get_or path up 0) (q.l ++ x ∷ q.r) ∷ q.after) ∷ q.rest)) []) (sym q.a_is) w)
+      rw (q.rows_are, q.a_is) w
 
   -- or between two parents, whose key has been renewed above
   rekey_past : (t u : Table K V) (path indices : List ℕ) (up size : ℕ) (before : List (LevelNode K ℕ)) (z : K × ℕ) (l : List (K × ℕ)) (x : K × ℕ) (q : ℕ) (y : K × ℕ) (ys : List (K × ℕ)) (after : List (LevelNode K ℕ)) (rest : List (List (LevelNode K ℕ))) (key : K) →

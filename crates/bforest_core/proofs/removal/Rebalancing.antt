@@ -1,5 +1,5 @@
 -- Settling a level, with what the calls on the way say: each answer of `rebalance_leaf` and `rebalance_inner` is one of these.
-use Rattle.std.proofs.Common.{◌≡◌, ℕ, suc, ◌≤◌, ◌<◌, ◌≢◌, List, ◌∷◌, ◌++◌, length, set, get_or, slice_get, Some, None, Option, sym, ap, ◌∙◌, subst, inl, arith}
+use Rattle.std.proofs.Common.{◌≡◌, suc, ◌≤◌, ◌<◌, ◌≢◌, List, ◌∷◌, ◌++◌, length, set, get_or, slice_get, Some, None, Option, sym, ap, ◌∙◌, subst, inl, arith, ℕ}
 use Rattle.std.proofs.lemmas.List.{get_or_default}
 use Rattle.bforest_nodes.specs.Content.{Content, entry_count}
 use Rattle.bforest_core.specs.Table.{Table, IsUsed, IsUnderflowedAt, IsBalancedAt, with_freed}
@@ -47,7 +47,7 @@ module _ {K V X : Type 0} (content : List (K × X) → Content K V) (half most c
       let cnt = count_read m value in
       let d = near_past content half most hm t path indices up size before n es after rest p (past ∙ cnt) in
       let ab = near_above content half most hm t path indices up size before n es after rest d.k d.q d.near in
-      settle_past content half most hm t path indices path' indices' up size before n es after rest d.k d.q d.near (subst (λ (z : ℕ). half ≤ z) cnt healthy) (past ∙ cnt) (moved rest (heads before) (d.near.e.0, n) (d.near.f.0, d.q) (heads d.near.after') ab) first mb eb tb
+      settle_past content half most hm t path indices up size before n es after rest d.k d.q d.near path' indices' (subst (λ (z : ℕ). half ≤ z) cnt healthy) (past ∙ cnt) (moved rest (heads before) (d.near.e.0, n) (d.near.f.0, d.q) (heads d.near.after') ab) first mb eb tb
 
   -- a healthy node in which the path stands
   pub stay_heals : (m : ℕ) → ((x : Content K V) → slice_get t.nodes (get_or path up r) ≡ Some x → m ≡ entry_count x) → half ≤ m → get_or indices up 0 ≢ m →
@@ -57,7 +57,7 @@ module _ {K V X : Type 0} (content : List (K × X) → Content K V) (half most c
       settle_stay content half most hm t path indices up size before n es after rest p (inl (subst (λ (z : ℕ). half ≤ z) cnt healthy)) (omega (arith, cnt, p.entry_was, inside))
 
   -- the level above names the node
-  named : Headed content half most hm t path indices up size before n after rest
+  named : Headed content half most hm t path indices up size before n es after rest
   named = headed content half most hm t path indices up size before n es after rest p
 
   above_high : Above t path indices high size rest (heads before ++ (named.k, n) ∷ heads after) (length (heads before))
@@ -82,13 +82,13 @@ module _ {K V X : Type 0} (content : List (K × X) → Content K V) (half most c
     near_is : Near content half most hm t path indices up size before n es after rest next.0 next.1
     near_is =
         let nx = subst (λ (z : Option (K × ℕ)). NextIs z (heads after)) is (next_is o beside) in
-        near_next content half most hm t path indices up size before n es after rest next.0 next.1 nx.0 p nx.1
+        near_next content half most hm t path indices up size before n es after rest p next.0 next.1 nx.0 nx.1
 
     -- what balancing asks
     pub balance_asks : IsUsed t (get_or path up r) × (IsUsed t next.1 × ((get_or path up r ≢ next.1) × IsUnderflowedAt cap t.nodes (get_or path up r) next.1))
     balance_asks =
         let e = sym num_is in
-        let w = underflowed content half most hm cap s t path indices up size before n es after rest next.0 next.1 near_is under_is in (
+        let w = underflowed content half most hm t path indices up size before n es after rest next.0 next.1 near_is cap s under_is in (
           subst (λ (z : ℕ). IsUsed t z) e (used_here content half most hm t path indices up size before n es after rest p),
           (w.0, (subst (λ (z : ℕ). z ≢ next.1) e w.1, subst (λ (z : ℕ). IsUnderflowedAt cap t.nodes z next.1) e w.2)),
         )
@@ -99,10 +99,10 @@ module _ {K V X : Type 0} (content : List (K × X) → Content K V) (half most c
         spread : Spread content t u most n next.1 (near_is.e ∷ near_is.es') (near_is.f ∷ near_is.fs) key
         spread =
             let b = subst (λ (z : Option K). IsBalancedAt cap t n next.0 next.1 z u) got_is (subst (λ (z : ℕ). IsBalancedAt cap t z next.0 next.1 got u) num_is balanced) in
-            near_spread content half most hm cap s t u path indices up size before n es after rest next.0 next.1 key near_is b
+            near_spread content half most hm t path indices up size before n es after rest next.0 next.1 near_is u cap s key b
 
         above_is : Above u path indices (suc up) size rest (heads before ++ (near_is.e.0, n) ∷ (near_is.f.0, next.1) ∷ heads near_is.after') (length (heads before))
-        above_is = spread_above content half most hm t u path indices up size before n es after rest next.0 next.1 (content (spread.x ∷ spread.xs)) (content (spread.y ∷ spread.ys)) near_is spread.two
+        above_is = spread_above content half most hm t path indices up size before n es after rest next.0 next.1 near_is u (content (spread.x ∷ spread.xs)) (content (spread.y ∷ spread.ys)) spread.two
 
         -- what it asks
         pub rekey_asks : TwoAbove u path indices high size
@@ -115,14 +115,14 @@ module _ {K V X : Type 0} (content : List (K × X) → Content K V) (half most c
         rekey_heals v rekeys =
             let d = near_is in
             let rk = subst (λ (z : ℕ). Rekeys u v path indices z size key) high_is rekeys in
-            heal_spread content half most hm t u v path indices up size before n es after rest next.0 next.1 key d under_is spread (rk rest (heads before) (d.e.0, n) d.f.0 next.1 (heads d.after') above_is)
+            heal_spread content half most hm t path indices up size before n es after rest next.0 next.1 d u v key under_is spread (rk rest (heads before) (d.e.0, n) d.f.0 next.1 (heads d.after') above_is)
 
       -- freeing the emptied node
       module _ (got_is : got ≡ None) where
         all_right : AllRight content t u most n next.1 (near_is.e ∷ near_is.es') (near_is.f ∷ near_is.fs)
         all_right =
             let b = subst (λ (z : Option K). IsBalancedAt cap t n next.0 next.1 z u) got_is (subst (λ (z : ℕ). IsBalancedAt cap t z next.0 next.1 got u) num_is balanced) in
-            near_right content half most hm cap s t u path indices up size before n es after rest next.0 next.1 near_is b
+            near_right content half most hm t path indices up size before n es after rest next.0 next.1 near_is u cap s b
 
         -- what it asks
         pub free_asks : IsUsed u (get_or path up r)
@@ -132,4 +132,4 @@ module _ {K V X : Type 0} (content : List (K × X) → Content K V) (half most c
 
         -- what it leaves
         pub free_joins : (v : Table K V) → v ≡ with_freed u (get_or path up r) → Joined content half most t v path indices (set path up next.1) indices up size before n es after rest
-        free_joins v freed = join_right content half most hm t u v path indices up size before n es after rest next.0 next.1 near_is under_is all_right (freed ∙ ap (λ z. with_freed u z) num_is) low
+        free_joins v freed = join_right content half most hm t path indices up size before n es after rest next.0 next.1 near_is u v under_is all_right (freed ∙ ap (λ z. with_freed u z) num_is) low

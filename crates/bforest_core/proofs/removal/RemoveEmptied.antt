@@ -192,7 +192,4 @@ module _ {K V : Type 0} where
       Dropped v u path size m.rest (heads m.init ++ (m.w.0, m.q) ∷ []) (loss_above (Some (suc (length (heads m.init)))) (map sizes m.rest)) freed → Dropped t u path size rows a (loss_above (Some (length a)) (map sizes rows)) (freed ++ get_or path up 0 ∷ [])
   drop_empty t v u path indices up size rows a x freed m v_is r =
       let w = drop_empty_at t v u path indices up size m.init m.q m.w m.ws x m.rest freed m.whole v_is m.full m.entry_is r in
-      let rows_are = m.rows_are in
-      let a_is = m.a_is in
-      subst (λ (z : List (List (LevelNode K ℕ))). Dropped t u path size z a (loss_above (Some (length a)) (map sizes z)) (freed ++ get_or path up 0 ∷ [])) (sym rows_are)
-      (subst (λ (z : List (K × ℕ)). Dropped t u path size (((m.init ++ node m.q (m.w ∷ m.ws) ∷ []) ++ node (get_or path up 0) (x ∷ []) ∷ []) ∷ m.rest) z (loss_above (Some (length z)) (map sizes (((m.init ++ node m.q (m.w ∷ m.ws) ∷ []) ++ node (get_or path up 0) (x ∷ []) ∷ []) ∷ m.rest))) (freed ++ get_or path up 0 ∷ [])) (sym a_is) w)
+      rw (m.rows_are, m.a_is) w

@@ -68,8 +68,7 @@ module _ {K V : Type 0} where
   take_same t s u path indices up size rows a k m k2 n b key d more kk s_is u_is =
       let q = d.q in
       let w = take_same_at t s u path indices up size q.before q.l (k, m) q.r q.after q.rest (k2, n) b key d.whole q.b_is q.entry_is q.stands more kk s_is u_is in
-      subst (λ (z : List (List (LevelNode K ℕ))). Loosened t u path indices up size z (a ++ (k, n) ∷ b) (length a)) (sym q.rows_are)
-      (subst (λ (z : List (K × ℕ)). Loosened t u path indices up size ((q.before ++ node (get_or path up 0) (q.l ++ (k, m) ∷ q.r) ∷ q.after) ∷ q.rest) (z ++ (k, n) ∷ b) (length z)) (sym q.a_is) w)
+      rw (q.rows_are, q.a_is) w
 
   -- where the node is the last of its parent, the neighbour is the first of the next
   pub across : (t : Table K V) (path indices : List ℕ) (up size : ℕ) (rows : List (List (LevelNode K ℕ))) (a : List (K × ℕ)) (x y : K × ℕ) (b : List (K × ℕ)) → (d : Spot t path indices up size rows a x (y ∷ b)) → length (d.q.l ++ x ∷ d.q.r) ≤ get_or indices up 0 + 1 → Across d.q.l d.q.r d.q.after y b
@@ -80,10 +79,7 @@ module _ {K V : Type 0} where
   pub across_cut : (t : Table K V) (path indices : List ℕ) (up size : ℕ) (rows : List (List (LevelNode K ℕ))) (a : List (K × ℕ)) (x y : K × ℕ) (b : List (K × ℕ)) → (d : Spot t path indices up size rows a x (y ∷ b)) → (o : Across d.q.l d.q.r d.q.after y b) →
       Cut_above t path indices up size d.q.before (get_or path up 0) (o.z ∷ o.zs) x [] (node o.q (y ∷ o.ys) ∷ o.rest) d.q.rest
   across_cut t path indices up size rows a x y b d o =
-      let q = d.q in
-      let s1 = subst (λ (z : List (K × ℕ)). Cut_above t path indices up size q.before (get_or path up 0) z x q.r q.after q.rest) o.l_is d.whole in
-      let s2 = subst (λ (z : List (K × ℕ)). Cut_above t path indices up size q.before (get_or path up 0) (o.z ∷ o.zs) x z q.after q.rest) o.r_is s1 in
-      subst (λ (z : List (LevelNode K ℕ)). Cut_above t path indices up size q.before (get_or path up 0) (o.z ∷ o.zs) x [] z q.rest) o.after_is s2
+      rw (o.l_is, o.r_is, o.after_is) at d.whole
 
   -- the rows one level up, where the two parents are neighbours
   pub across_above : (t : Table K V) (path indices : List ℕ) (up size : ℕ) (before : List (LevelNode K ℕ)) (z : K × ℕ) (zs : List (K × ℕ)) (x : K × ℕ) (q : ℕ) (y : K × ℕ) (ys : List (K × ℕ)) (after : List (LevelNode K ℕ)) (rest : List (List (LevelNode K ℕ))) →

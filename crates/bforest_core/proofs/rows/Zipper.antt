@@ -108,9 +108,7 @@ module _ {K V : Type 0} where
   pub cut_above : (t : Table K V) (ms js : List ℕ) (up size : ℕ) (rows : List (List (LevelNode K ℕ))) (a : List (K × ℕ)) (x : K × ℕ) (b : List (K × ℕ)) → Above t ms js up size rows (a ++ x ∷ b) (length a) → (q : Parent ms js up rows a x b) →
       Cut_above t ms js up size q.before (get_or ms up 0) q.l x q.r q.after q.rest
   cut_above t ms js up size rows a x b p q =
-      let s1 = subst (λ (z : List (List (LevelNode K ℕ))). Above t ms js up size z (a ++ x ∷ b) (length a)) q.rows_are p in
-      let s2 = subst (λ (z : List (K × ℕ)). Above t ms js up size ((q.before ++ node (get_or ms up 0) (q.l ++ x ∷ q.r) ∷ q.after) ∷ q.rest) (z ++ x ∷ b) (length z)) q.a_is s1 in
-      subst (λ (z : List (K × ℕ)). Above t ms js up size ((q.before ++ node (get_or ms up 0) (q.l ++ x ∷ q.r) ∷ q.after) ∷ q.rest) ((flat q.before ++ q.l) ++ x ∷ z) (length (flat q.before ++ q.l))) q.b_is s2
+      rw (q.rows_are, q.a_is, q.b_is) at p
 
   -- what is known there
   pub record Facts (t : Table K V) (ms js : List ℕ) (up size : ℕ) (before : List (LevelNode K ℕ)) (n : ℕ) (l : List (K × ℕ)) (x : K × ℕ) (r : List (K × ℕ)) (after : List (LevelNode K ℕ)) (rest : List (List (LevelNode K ℕ))) : Type 0 where

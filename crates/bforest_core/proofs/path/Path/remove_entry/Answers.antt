@@ -1,7 +1,6 @@
 use Rattle.std.proofs.Common.{rules, get_or, ◌∙◌, arith}
-use Rattle.bforest_core.specs.Levels.{heads}
 use Rattle.bforest_core.proofs.removal.PastEnd.{on_leaf}
-use Rattle.bforest_core.proofs.removal.Removing.{stands_root, past_removed, healed_removed, joined_above, joined_rest, joined_row, joined_up, joined_removed}
+use Rattle.bforest_core.proofs.removal.Removing.{stands_root, past_removed, healed_removed, merge_asks, collapse_asks, joined_removed}
 use Rattle.bforest_core.proofs.path.Path.remove_entry.Goals as goal
 
 pub is_past_end-requires : goal.is_past_end-requires
@@ -15,7 +14,7 @@ returns-then-is_past_end g c = λ tree place s.
     let s1 = c.requires.stands in
     let l = c.take_entry.ensures tree place s in
     let past = c.is_past_end.ensures.past c.if-is_past_end.true c.args.pool.now tree place l in
-    past_removed _ _ c.take_entry.new.pool _ _ _ tree place c.args.root s (stands_root _ _ _ _ _ tree s1.0 place s1.1 c.args.root s s1.2 s1.3) l past.0 past.1
+    past_removed _ _ c.take_entry.new.pool _ _ _ tree place s l c.args.root (stands_root _ _ _ _ _ tree s1.0 place s1.1 c.args.root s s1.2 s1.3) past.0 past.1
 
 pub rebalance_leaf-requires : goal.rebalance_leaf-requires
 rebalance_leaf-requires g c =
@@ -30,8 +29,7 @@ merge_above-requires g c =
     let l = c.take_entry.ensures s.0 s.1 s.2 in
     let within = c.is_past_end.ensures.within c.if-is_past_end.false c.args.pool.now s.0 s.1 l in
     let j = c.rebalance_leaf.ensures.joined c.if-rebalance_leaf.true l.before (get_or c.args.self.now.node 0 0) l.entries l.after l.rest (on_leaf _ _ _ _ _ _ s.0 s.1 l within) in
-    let above = joined_above _ _ _ _ _ _ _ _ _ c.rebalance_leaf.new.self.size s.0 s.1 l j c.rebalance_leaf.ensures.size in
-    (search rules, (search rules, (omega (arith, s.2.low, s.2.stands.size_is, c.rebalance_leaf.ensures.size), (l.rest, heads l.before, j.first.0, get_or c.args.self.now.node 0 0, j.key, j.right, heads j.after', above))))
+    (search rules, (search rules, (omega (arith, s.2.low, s.2.stands.size_is, c.rebalance_leaf.ensures.size), merge_asks _ _ _ _ _ _ s.0 s.1 s.2 l c.args.root s.3 c.rebalance_leaf.new.pool _ _ c.rebalance_leaf.new.self.size c.rebalance_leaf.ensures.size j)))
 
 pub collapse_root-requires : goal.collapse_root-requires
 collapse_root-requires g c =
@@ -39,10 +37,8 @@ collapse_root-requires g c =
     let l = c.take_entry.ensures s.0 s.1 s.2 in
     let within = c.is_past_end.ensures.within c.if-is_past_end.false c.args.pool.now s.0 s.1 l in
     let j = c.rebalance_leaf.ensures.joined c.if-rebalance_leaf.true l.before (get_or c.args.self.now.node 0 0) l.entries l.after l.rest (on_leaf _ _ _ _ _ _ s.0 s.1 l within) in
-    let d = joined_rest _ _ _ c.rebalance_leaf.new.pool c.merge_above.new.pool _ _ c.rebalance_leaf.new.self.node c.rebalance_leaf.new.self.entry c.merge_above.new.self.node c.merge_above.new.self.entry _ c.rebalance_leaf.new.self.size s.0 s.1 l j c.rebalance_leaf.ensures.size c.merge_above.ensures.merged in
     let size_is = c.merge_above.ensures.size ∙ c.rebalance_leaf.ensures.size in
-    let up = joined_up _ _ _ _ _ _ _ _ _ _ _ _ c.merge_above.new.self.size s.0 s.1 c.args.root s.2 s.3 d size_is in
-    (search rules, (search rules, (omega (arith, s.2.low, s.2.stands.size_is, size_is), (d.r.rows', heads (joined_row d), up))))
+    (search rules, (search rules, (omega (arith, s.2.low, s.2.stands.size_is, size_is), collapse_asks _ _ _ _ _ _ s.0 s.1 s.2 l c.args.root s.3 c.rebalance_leaf.new.pool _ _ c.rebalance_leaf.new.self.size c.rebalance_leaf.ensures.size j c.merge_above.new.pool _ _ c.merge_above.ensures.merged c.merge_above.new.self.size size_is)))
 
 pub returns-then-rebalance_leaf : goal.returns-then-rebalance_leaf
 returns-then-rebalance_leaf g c = λ tree place s.
@@ -50,8 +46,8 @@ returns-then-rebalance_leaf g c = λ tree place s.
     let l = c.take_entry.ensures tree place s in
     let within = c.is_past_end.ensures.within c.if-is_past_end.false c.args.pool.now tree place l in
     let j = c.rebalance_leaf.ensures.joined c.if-rebalance_leaf.true l.before (get_or c.args.self.now.node 0 0) l.entries l.after l.rest (on_leaf _ _ _ _ _ _ tree place l within) in
-    let d = joined_rest _ _ _ c.rebalance_leaf.new.pool c.merge_above.new.pool _ _ c.rebalance_leaf.new.self.node c.rebalance_leaf.new.self.entry c.merge_above.new.self.node c.merge_above.new.self.entry _ c.rebalance_leaf.new.self.size tree place l j c.rebalance_leaf.ensures.size c.merge_above.ensures.merged in
-    joined_removed _ _ _ _ _ c.collapse_root.new.pool _ _ _ _ _ _ _ _ _ c.merge_above.new.self.size c.collapse_root.new.self.size tree place c.args.root c.collapse_root.result s (stands_root _ _ _ _ _ tree s1.0 place s1.1 c.args.root s s1.2 s1.3) d (c.merge_above.ensures.size ∙ c.rebalance_leaf.ensures.size) c.collapse_root.ensures.trimmed c.collapse_root.ensures.nodes c.collapse_root.ensures.entries
+    let size_is = c.merge_above.ensures.size ∙ c.rebalance_leaf.ensures.size in
+    joined_removed _ _ _ _ _ _ tree place s l c.args.root (stands_root _ _ _ _ _ tree s1.0 place s1.1 c.args.root s s1.2 s1.3) c.rebalance_leaf.new.pool _ _ c.rebalance_leaf.new.self.size c.rebalance_leaf.ensures.size j c.merge_above.new.pool _ _ c.merge_above.ensures.merged c.merge_above.new.self.size size_is c.collapse_root.new.pool _ _ c.collapse_root.new.self.size c.collapse_root.result c.collapse_root.ensures.trimmed c.collapse_root.ensures.nodes c.collapse_root.ensures.entries
 
 pub returns-else-rebalance_leaf : goal.returns-else-rebalance_leaf
 returns-else-rebalance_leaf g c = λ tree place s.
@@ -59,4 +55,4 @@ returns-else-rebalance_leaf g c = λ tree place s.
     let l = c.take_entry.ensures tree place s in
     let within = c.is_past_end.ensures.within c.if-is_past_end.false c.args.pool.now tree place l in
     let h = c.rebalance_leaf.ensures.healed c.if-rebalance_leaf.false l.before (get_or c.args.self.now.node 0 0) l.entries l.after l.rest (on_leaf _ _ _ _ _ _ tree place l within) in
-    healed_removed _ _ _ c.rebalance_leaf.new.pool _ _ _ _ _ c.rebalance_leaf.new.self.size tree place c.args.root s (stands_root _ _ _ _ _ tree s1.0 place s1.1 c.args.root s s1.2 s1.3) l h c.rebalance_leaf.ensures.size
+    healed_removed _ _ _ _ _ _ tree place s l c.args.root (stands_root _ _ _ _ _ tree s1.0 place s1.1 c.args.root s s1.2 s1.3) c.rebalance_leaf.new.pool _ _ c.rebalance_leaf.new.self.size h c.rebalance_leaf.ensures.size

@@ -1,4 +1,4 @@
-use Rattle.std.proofs.Common.{rules, ◌≡◌, ◌≢◌, ◌≤◌, ◌<◌, ◌+◌, ◌/◌, ℕ, suc, Some, length, sym, ◌∙◌, inl, arith}
+use Rattle.std.proofs.Common.{rules, ◌≡◌, ◌≢◌, ◌≤◌, ◌<◌, ◌+◌, ◌/◌, suc, Some, length, sym, ◌∙◌, inl, arith, ℕ}
 use Rattle.bforest_core.specs.Levels.{half_of}
 use Rattle.bforest_core.specs.Trees.{tree_of}
 use Rattle.bforest_core.specs.Change.{StandsUnder}
@@ -43,7 +43,7 @@ left g c root place u =
     let l = c.take_entry.ensures tree place s in
     let half : half_of g.row.N ≤ length l.entries = over_half g.row.N c.entries.result (length l.entries) c.if-entries.true (left_is _ _ _ _ _ tree place s c.index-self-0.result (omega arith) c.entries.result c.entries.ensures.value c.take_entry.new.pool l) in
     said _ _ _ _ root place _ (Some c.root.result)
-    (removal _ _ _ root place _ _ _ _ c.root.result c.requires.union u (kept_removed _ _ c.take_entry.new.pool _ _ _ tree place c.root.result (λ z. Unit) s (root-stands g.row.N tree path _ _ place s.fit s.stands ∙ sym c.root.ensures) l (inl half) tt))
+    (removal _ _ _ root place _ _ _ _ c.root.result c.requires.union u (kept_removed _ _ c.take_entry.new.pool _ _ _ tree place s l c.root.result (root-stands g.row.N tree path _ _ place s.fit s.stands ∙ sym c.root.ensures) (λ z. Unit) (inl half) tt))
 
 pub returns-then-entries-clause-removed : goal.returns-then-entries-clause-removed
 returns-then-entries-clause-removed g c = λ at. (left g c at.root at.place at.on).some.changes
