@@ -1,5 +1,5 @@
 -- Putting an entry into the path's leaf, or halving the leaf and putting it into one half: each answer of `put_here` and of `halve_leaf` is one of these.
-use Rattle.std.proofs.Common.{◌≡◌, ℕ, ◌+◌, ◌-◌, ◌/◌, nat_le, ◌≤◌, ◌<◌, IsTrue, ◌↔◌, true, false, Bool, if◌then◌else◌, List, ◌∷◌, ◌++◌, length, set, get_or, slice_get, Some, refl, sym, ap, ◌∙◌, subst, arith, length-append}
+use Rattle.std.proofs.Common.{◌≡◌, ℕ, ◌+◌, ◌-◌, ◌/◌, nat_le, ◌≤◌, ◌<◌, IsTrue, ◌↔◌, true, false, Bool, if◌then◌else◌, List, [], ◌∷◌, ◌++◌, length, set, get_or, slice_get, Some, refl, sym, ap, ◌∙◌, subst, arith, append_assoc, length-append}
 use Rattle.std.proofs.lemmas.List.{get_or_default, get_or-set_same, get_or-set_other}
 use Rattle.std.proofs.lemmas.Bool.{false≢true}
 use Rattle.bforest_nodes.specs.Content.{Content, Leaf, IsLeafCapacity, with_entry}
@@ -11,7 +11,7 @@ use Rattle.bforest_core.specs.Climb.{Placed, Inserted, LeafHalved}
 use Rattle.bforest_core.proofs.table.Tables.{is_used, puts, with_node_here}
 use Rattle.bforest_core.proofs.table.Stored.{with_entry_is}
 use Rattle.bforest_core.proofs.insertion.LeafSpot.{LeafSpot, leaf_spot, put_leaf, keys_count}
-use Rattle.bforest_core.proofs.insertion.Halving.{Odd, odd, Split, leaf_full_is, leaf_parts, counted, split_at, stay_low, stay_high, left_used, leaf_halves_early, leaf_halves_late}
+use Rattle.bforest_core.proofs.insertion.Halving.{Odd, odd, Split, leaf_full_is, leaf_parts, counted, split_at, stay_low, stay_high, left_used, into_left, into_right, middle_key}
 use Rattle.bforest_core.proofs.insertion.LeafParted.{leaf_parted_early, leaf_parted_late}
 
 -- what was written where there was room
@@ -130,7 +130,9 @@ module _ {K V : Type 0} where
               let room = (has (entry_keys zs) (entry_items zs) low_slot).1 (omega (arith, keys_count zs, low_cut.count_is)) in
               let written = put_done put s u (get_or ms 0 r) (get_or ms 0 0) (with_entry (leaf_content zs) (get_or js 0 0) key value) (leaf_content zs) num_is room (puts (entry_keys zs) (entry_items zs) low_slot) in
               leaf_parted_early cap t u ms js size tree place (key, value) parts.crit_key right o p d f low
-              (leaf_halves_early cap t s u (get_or ms 0 0) right parts.lhs_entries (get_or js 0 0) d.l d.r parts.crit_key key value o d.index_is f low_cut low q written)
+              (into_left leaf_content t s u (get_or ms 0 0) right parts.lhs_entries (d.l ++ d.r) (d.l ++ (key, value) ∷ d.r) parts.crit_key low_cut (λ v. with_entry v (get_or js 0 0) key value) (half_of cap) (half_of cap)
+              d.l (d.l ++ (key, value) ∷ []) d.r refl (sym (append_assoc d.l ((key, value) ∷ []) d.r)) (omega (arith, length-append d.l ((key, value) ∷ []))) (omega (arith, d.index_is, low, q)) (omega (arith, q, o.low_is, o.high_is)) (omega (arith, q, f, o.low_is, o.high_is, o.cap_is))
+              (λ mid. with_entry_is V d.l mid key value (get_or js 0 0) d.index_is ∙ ap leaf_content (sym (append_assoc d.l ((key, value) ∷ []) mid))) written)
 
         module _ (high : cap / 2 < get_or js 0 0) where
           high_is : parts.lhs_entries ≡ half_of cap
@@ -166,5 +168,10 @@ module _ {K V : Type 0} where
               let room = (has (entry_keys rights) (entry_items rights) high_cut.two.there).1 (omega (arith, keys_count rights, ap length high_cut.es_is, length-append high_cut.zs rights, high_cut.count_is, o.high_is)) in
               let written = put_done put s u right right (with_entry (leaf_content rights) behind key value) (leaf_content rights) refl room (puts (entry_keys rights) (entry_items rights) high_cut.two.there) in
               leaf_parted_late cap t u ms js (set ms 0 right) (set js 0 behind) size tree place (key, value) first right parts.lhs_entries o p d f high q
-              (leaf_halves_late cap t s u (get_or ms 0 0) right parts.lhs_entries (get_or js 0 0) d.l d.r parts.crit_key key value o d.index_is f high_cut first high q zero more written)
+              (into_right leaf_content t s u (get_or ms 0 0) right parts.lhs_entries (d.l ++ d.r) (d.l ++ (key, value) ∷ d.r) parts.crit_key high_cut (λ v. with_entry v behind key value) (half_of cap) (half_of cap)
+              first d.l d.r ((key, value) ∷ d.r) refl refl refl (omega (arith, d.index_is, late_within)) (omega (arith, q, o.high_is)) q (omega (arith, q, f, o.high_is, o.cap_is))
+              (λ mid is. (let mid_is : length mid ≡ behind = is ∙ ap (λ z. z - parts.lhs_entries) d.index_is in (
+                with_entry_is V mid d.r key value behind mid_is,
+                λ rest. middle_key right mid (key, value) d.r high_cut.y high_cut.ys first rest (λ none. zero (sym mid_is ∙ none)) (λ few. more (omega (arith, few, mid_is)) ∙ high_cut.key_is),
+              ))) written)
               (λ i other. get_or-set_other ms 0 i right 0 other) (get_or-set_same ms 0 right 0 (omega arith)) (λ i other. get_or-set_other js 0 i behind 0 other) (get_or-set_same js 0 behind 0 (omega arith))

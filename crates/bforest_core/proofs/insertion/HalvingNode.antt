@@ -1,18 +1,19 @@
 -- Putting a child into the path's inner node, or halving the node and putting it into one half: each answer of `insert_here` and of `split_here` is one of these.
-use Rattle.std.proofs.Common.{◌≡◌, ℕ, suc, ◌-◌, ◌≤◌, ◌<◌, IsTrue, ◌↔◌, true, false, Bool, if◌then◌else◌, List, [], ◌∷◌, ◌++◌, map, drop, length, set, get_or, slice_get, Some, refl, sym, ap, ◌∙◌, subst, arith}
+use Rattle.std.proofs.Common.{◌≡◌, ℕ, suc, ◌-◌, ◌≤◌, ◌<◌, IsTrue, ◌↔◌, true, false, Bool, if◌then◌else◌, List, [], ◌∷◌, ◌++◌, map, drop, length, set, get_or, slice_get, Some, refl, sym, ap, ◌∙◌, subst, append_assoc, length-append, arith}
 use Rattle.std.proofs.lemmas.List.{get_or_default, get_or-set_same, get_or-set_other}
 use Rattle.std.proofs.lemmas.Bool.{false≢true}
 use Rattle.bforest_nodes.specs.Content.{Inner, with_child}
 use Rattle.bforest_nodes.specs.declared.node.SplitOff.{SplitOff}
 use Rattle.bforest_core.specs.Table.{Table, IsUsed, IsFullAt, IsSplitAt, front_of, with_node}
-use Rattle.bforest_core.specs.Levels.{LevelNode, sizes}
+use Rattle.bforest_core.specs.Levels.{LevelNode, head_of, sizes}
 use Rattle.bforest_core.specs.Sizes.{need_above, gain_above}
 use Rattle.bforest_core.specs.Place.{inner_content, entry_keys, entry_items}
 use Rattle.bforest_core.specs.Climb.{Above, Grown, Halved}
 use Rattle.bforest_core.proofs.table.Tables.{is_used, puts, with_node_here}
 use Rattle.bforest_core.proofs.rows.Zipper.{Spot, spot}
 use Rattle.bforest_core.proofs.table.Stored.{item_count, key_count, with_child_is}
-use Rattle.bforest_core.proofs.insertion.Halving.{Split, full_is, inner_parts, counted, split_at, left_used, right_four, halves_early, halves_late}
+use Rattle.bforest_core.proofs.insertion.Halving.{Split, full_is, inner_parts, counted, split_at, left_used, into_left, into_right}
+use Rattle.bforest_core.proofs.insertion.Grow.{head-grown}
 use Rattle.bforest_core.proofs.insertion.Room.{settle_room}
 use Rattle.bforest_core.proofs.insertion.Parted.{parted_early, parted_late}
 use Rattle.bforest_core.proofs.insertion.HalvingLeaf.{FullAt, put_done}
@@ -115,12 +116,15 @@ module _ {K V : Type 0} where
             let f = four in
             let room = (has (drop 1 (entry_keys cut.zs)) (entry_items cut.zs) left_slot).1 (omega (arith, item_count cut.zs, cut.count_is)) in
             let written = put_done put s u (get_or ms up r) (get_or ms up 0) (with_child (inner_content cut.zs) (get_or js up 0) key child) (inner_content cut.zs) num_is room (puts (drop 1 (entry_keys cut.zs)) (entry_items cut.zs) left_slot) in
-            let h = halves_early t s u (get_or ms up 0) right parts.lhs_entries (get_or js up 0) d.q.l x d.q.r parts.crit_key key child d.q.entry_is eight f cut early written in
+            let new : K × ℕ = (key, child) in
+            let h = into_left inner_content t s u (get_or ms up 0) right parts.lhs_entries (d.q.l ++ x ∷ d.q.r) (d.q.l ++ x ∷ new ∷ d.q.r) parts.crit_key cut (λ v. with_child v (get_or js up 0) key child) 5 4
+            (d.q.l ++ x ∷ []) (d.q.l ++ x ∷ new ∷ []) d.q.r (sym (append_assoc d.q.l (x ∷ []) d.q.r)) (sym (append_assoc d.q.l (x ∷ new ∷ []) d.q.r)) (omega (arith, length-append d.q.l (x ∷ []), length-append d.q.l (x ∷ new ∷ []))) (omega (arith, length-append d.q.l (x ∷ []), d.q.entry_is, early, f)) (omega (arith, f)) (omega (arith, f, eight))
+            (λ mid. ap (λ z. with_child (inner_content z) (get_or js up 0) key child) (append_assoc d.q.l (x ∷ []) mid) ∙ with_child_is V d.q.l x mid key child (get_or js up 0) d.q.entry_is ∙ ap inner_content (sym (append_assoc d.q.l (x ∷ new ∷ []) mid))) written in
             parted_early t u ms js ms (set js up index) up size rows a x (key, child) b parts.crit_key right moved d eight early h
             (λ i. refl) (λ i other. get_or-set_other js up i index 0 other) (get_or-set_same js up index 0 low_js ∙ index_is)
 
         right_is : length (cut.y ∷ cut.ys) ≡ 4
-        right_is = right_four t s s (get_or ms up 0) right parts.lhs_entries (get_or js up 0) d.q.l x d.q.r parts.crit_key x.0 0 d.q.entry_is eight four cut
+        right_is = omega (arith, eight, ap length cut.es_is, length-append cut.zs (cut.y ∷ cut.ys), cut.count_is, four)
 
         pub late_asks : RoomAt s right (get_or js up 0 - 4)
         late_asks = record { used = used; keys = drop 1 (entry_keys (cut.y ∷ cut.ys)); children = entry_items (cut.y ∷ cut.ys); slot = cut.two.there; within = (let small = index_small in let f = right_is in omega (arith, key_count (cut.y ∷ cut.ys))) }
@@ -132,6 +136,11 @@ module _ {K V : Type 0} where
             let f = right_is in
             let room = (has (drop 1 (entry_keys rights)) (entry_items rights) cut.two.there).1 (omega (arith, item_count rights)) in
             let written = put_done put s u right right (with_child (inner_content rights) (get_or js up 0 - 4) key child) (inner_content rights) refl room (puts (drop 1 (entry_keys rights)) (entry_items rights) cut.two.there) in
-            let h = halves_late t s u (get_or ms up 0) right parts.lhs_entries (get_or js up 0) d.q.l x d.q.r parts.crit_key key child d.q.entry_is eight four cut late written in
+            let h = into_right inner_content t s u (get_or ms up 0) right parts.lhs_entries (d.q.l ++ x ∷ d.q.r) (d.q.l ++ x ∷ (key, child) ∷ d.q.r) parts.crit_key cut (λ v. with_child v (get_or js up 0 - 4) key child) 4 5
+            parts.crit_key d.q.l (x ∷ d.q.r) (x ∷ (key, child) ∷ d.q.r) refl refl refl (omega (arith, d.q.entry_is, late, four)) (omega (arith, four)) four (omega (arith, four, eight))
+            (λ mid is. (
+              with_child_is V mid x d.q.r key child (get_or js up 0 - 4) (omega (arith, is, d.q.entry_is, four)),
+              λ rest. head-grown right mid x ((key, child) ∷ d.q.r) d.q.r ∙ ap (λ v. head_of right v) (sym rest) ∙ ap (λ v. (v, right) ∷ []) (sym cut.key_is),
+            )) written in
             parted_late t u ms js (set ms up right) (set js up index) up size rows a x (key, child) b parts.crit_key right moved d eight late h
             (λ i other. get_or-set_other ms up i right 0 other) (get_or-set_same ms up right 0 low) (λ i other. get_or-set_other js up i index 0 other) (get_or-set_same js up index 0 low_js ∙ index_is)
