@@ -5,14 +5,16 @@ use Rattle.std.proofs.lemmas.Bool.{false≢true}
 use Rattle.bforest_nodes.specs.Content.{Content, Leaf, IsLeafCapacity, with_entry}
 use Rattle.bforest_nodes.specs.declared.node.SplitOff.{SplitOff}
 use Rattle.bforest_core.specs.Table.{Table, IsUsed, IsFullAt, IsSplitAt, front_of, with_node}
-use Rattle.bforest_core.specs.Levels.{Tree, half_of}
+use Rattle.bforest_core.specs.Levels.{Tree, heads, half_of}
 use Rattle.bforest_core.specs.Place.{leaf_content, entry_keys, entry_items}
 use Rattle.bforest_core.specs.Climb.{Placed, Inserted, LeafHalved}
+use Rattle.bforest_core.proofs.rows.LevelRows.{Solid-full}
 use Rattle.bforest_core.proofs.table.Tables.{is_used, puts, with_node_here}
 use Rattle.bforest_core.proofs.table.Stored.{with_entry_is}
+use Rattle.bforest_core.proofs.insertion.Grow.{in_left, in_right}
 use Rattle.bforest_core.proofs.insertion.LeafSpot.{LeafSpot, leaf_spot, put_leaf, keys_count}
 use Rattle.bforest_core.proofs.insertion.Halving.{Odd, odd, Split, leaf_full_is, leaf_parts, counted, split_at, stay_low, stay_high, left_used, into_left, into_right, middle_key}
-use Rattle.bforest_core.proofs.insertion.LeafParted.{leaf_parted_early, leaf_parted_late}
+use Rattle.bforest_core.proofs.insertion.LeafParted.{leaf_parted}
 
 -- what was written where there was room
 pub put_done : {K V : Type 0} (put : Bool) (t u : Table K V) (n m : ℕ) (c d : Content K V) → n ≡ m → put ≡ true → u ≡ with_node t n (if put then c else d) → u ≡ with_node t m c
@@ -91,6 +93,9 @@ module _ {K V : Type 0} where
         o : Odd cap
         o = odd cap capacity
 
+        seen : length (heads d.before) ≡ length d.before
+        seen = Solid-full (half_of cap) cap (omega (arith, o.high_is)) d.before d.solid
+
         here_split : IsSplitAt cap t (get_or ms 0 0) (get_or js 0 0) parts s
         here_split = subst (λ (z : ℕ). IsSplitAt cap t z (get_or js 0 0) parts s) num_is split
 
@@ -129,10 +134,11 @@ module _ {K V : Type 0} where
               let zs = low_cut.zs in
               let room = (has (entry_keys zs) (entry_items zs) low_slot).1 (omega (arith, keys_count zs, low_cut.count_is)) in
               let written = put_done put s u (get_or ms 0 r) (get_or ms 0 0) (with_entry (leaf_content zs) (get_or js 0 0) key value) (leaf_content zs) num_is room (puts (entry_keys zs) (entry_items zs) low_slot) in
-              leaf_parted_early cap t u ms js size tree place (key, value) parts.crit_key right o p d f low
-              (into_left leaf_content t s u (get_or ms 0 0) right parts.lhs_entries (d.l ++ d.r) (d.l ++ (key, value) ∷ d.r) parts.crit_key low_cut (λ v. with_entry v (get_or js 0 0) key value) (half_of cap) (half_of cap)
+              let h = into_left leaf_content t s u (get_or ms 0 0) right parts.lhs_entries (d.l ++ d.r) (d.l ++ (key, value) ∷ d.r) parts.crit_key low_cut (λ v. with_entry v (get_or js 0 0) key value) (half_of cap) (half_of cap)
               d.l (d.l ++ (key, value) ∷ []) d.r refl (sym (append_assoc d.l ((key, value) ∷ []) d.r)) (omega (arith, length-append d.l ((key, value) ∷ []))) (omega (arith, d.index_is, low, q)) (omega (arith, q, o.low_is, o.high_is)) (omega (arith, q, f, o.low_is, o.high_is, o.cap_is))
-              (λ mid. with_entry_is V d.l mid key value (get_or js 0 0) d.index_is ∙ ap leaf_content (sym (append_assoc d.l ((key, value) ∷ []) mid))) written)
+              (λ mid. with_entry_is V d.l mid key value (get_or js 0 0) d.index_is ∙ ap leaf_content (sym (append_assoc d.l ((key, value) ∷ []) mid))) written in
+              leaf_parted cap t u ms js ms js size tree place (key, value) parts.crit_key right false o p d f h (λ i other. refl) (λ i other. refl) seen
+              (in_left d.before d.after (get_or ms 0 0) right (h.z ∷ h.xs) (h.y ∷ h.ys) (get_or js 0 0) place seen (omega (arith, low, h.left_is, o.low_is, o.high_is)) (omega (arith, d.place_is, d.index_is)))
 
         module _ (high : cap / 2 < get_or js 0 0) where
           high_is : parts.lhs_entries ≡ half_of cap
@@ -167,11 +173,13 @@ module _ {K V : Type 0} where
               let behind = get_or js 0 0 - parts.lhs_entries in
               let room = (has (entry_keys rights) (entry_items rights) high_cut.two.there).1 (omega (arith, keys_count rights, ap length high_cut.es_is, length-append high_cut.zs rights, high_cut.count_is, o.high_is)) in
               let written = put_done put s u right right (with_entry (leaf_content rights) behind key value) (leaf_content rights) refl room (puts (entry_keys rights) (entry_items rights) high_cut.two.there) in
-              leaf_parted_late cap t u ms js (set ms 0 right) (set js 0 behind) size tree place (key, value) first right parts.lhs_entries o p d f high q
-              (into_right leaf_content t s u (get_or ms 0 0) right parts.lhs_entries (d.l ++ d.r) (d.l ++ (key, value) ∷ d.r) parts.crit_key high_cut (λ v. with_entry v behind key value) (half_of cap) (half_of cap)
+              let h = into_right leaf_content t s u (get_or ms 0 0) right parts.lhs_entries (d.l ++ d.r) (d.l ++ (key, value) ∷ d.r) parts.crit_key high_cut (λ v. with_entry v behind key value) (half_of cap) (half_of cap)
               first d.l d.r ((key, value) ∷ d.r) refl refl refl (omega (arith, d.index_is, late_within)) (omega (arith, q, o.high_is)) q (omega (arith, q, f, o.high_is, o.cap_is))
               (λ mid is. (let mid_is : length mid ≡ behind = is ∙ ap (λ z. z - parts.lhs_entries) d.index_is in (
                 with_entry_is V mid d.r key value behind mid_is,
                 λ rest. middle_key right mid (key, value) d.r high_cut.y high_cut.ys first rest (λ none. zero (sym mid_is ∙ none)) (λ few. more (omega (arith, few, mid_is)) ∙ high_cut.key_is),
-              ))) written)
-              (λ i other. get_or-set_other ms 0 i right 0 other) (get_or-set_same ms 0 right 0 (omega arith)) (λ i other. get_or-set_other js 0 i behind 0 other) (get_or-set_same js 0 behind 0 (omega arith))
+              ))) written in
+              let j_is = get_or-set_same js 0 behind 0 (omega arith) in
+              leaf_parted cap t u ms js (set ms 0 right) (set js 0 behind) size tree place (key, value) first right true o p d f h (λ i other. get_or-set_other ms 0 i right 0 other) (λ i other. get_or-set_other js 0 i behind 0 other) seen
+              (in_right d.before d.after (get_or ms 0 0) right (h.z ∷ h.xs) (h.y ∷ h.ys) (get_or (set ms 0 right) 0 0) (get_or (set js 0 behind) 0 0) place seen (get_or-set_same ms 0 right 0 (omega arith))
+              (omega (arith, j_is, h.right_is, f, d.index_is, length-append d.l d.r, o.cap_is, o.high_is, q)) (omega (arith, j_is, d.place_is, d.index_is, h.left_is, q, late_within)))

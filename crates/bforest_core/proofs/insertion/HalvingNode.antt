@@ -5,17 +5,18 @@ use Rattle.std.proofs.lemmas.Bool.{false≢true}
 use Rattle.bforest_nodes.specs.Content.{Inner, with_child}
 use Rattle.bforest_nodes.specs.declared.node.SplitOff.{SplitOff}
 use Rattle.bforest_core.specs.Table.{Table, IsUsed, IsFullAt, IsSplitAt, front_of, with_node}
-use Rattle.bforest_core.specs.Levels.{LevelNode, head_of, sizes}
+use Rattle.bforest_core.specs.Levels.{LevelNode, flat, head_of, heads, sizes}
 use Rattle.bforest_core.specs.Sizes.{need_above, gain_above}
 use Rattle.bforest_core.specs.Place.{inner_content, entry_keys, entry_items}
 use Rattle.bforest_core.specs.Climb.{Above, Grown, Halved}
 use Rattle.bforest_core.proofs.table.Tables.{is_used, puts, with_node_here}
+use Rattle.bforest_core.proofs.rows.LevelRows.{Solid-full}
 use Rattle.bforest_core.proofs.rows.Zipper.{Spot, spot}
 use Rattle.bforest_core.proofs.table.Stored.{item_count, key_count, with_child_is}
 use Rattle.bforest_core.proofs.insertion.Halving.{Split, full_is, inner_parts, counted, split_at, left_used, into_left, into_right}
-use Rattle.bforest_core.proofs.insertion.Grow.{head-grown}
-use Rattle.bforest_core.proofs.insertion.Room.{settle_room}
-use Rattle.bforest_core.proofs.insertion.Parted.{parted_early, parted_late}
+use Rattle.bforest_core.proofs.insertion.Grow.{head-grown, halves_left, halves_right, in_left, in_right}
+use Rattle.bforest_core.proofs.insertion.Room.{settle_room, step_is, step_most}
+use Rattle.bforest_core.proofs.insertion.Parted.{parted}
 use Rattle.bforest_core.proofs.insertion.HalvingLeaf.{FullAt, put_done}
 
 module _ {K V : Type 0} where
@@ -88,6 +89,9 @@ module _ {K V : Type 0} where
       eight : length (d.q.l ++ x ∷ d.q.r) ≡ 8
       eight = full_is cap t.nodes (get_or ms up 0) (d.q.l ++ x ∷ d.q.r) d.f.slot_is full
 
+      seen : length (heads d.q.before) ≡ length d.q.before
+      seen = Solid-full 4 8 (omega arith) d.q.before d.f.solid
+
       module _ (right : ℕ) (parts : SplitOff K) (front : front_of t.chain ≡ Some right) (used : IsUsed s right) (split : IsSplitAt cap t (get_or ms up r) (get_or js up 0) parts s) where
         here_split : IsSplitAt cap t (get_or ms up 0) (get_or js up 0) parts s
         here_split = subst (λ (z : ℕ). IsSplitAt cap t z (get_or js up 0) parts s) num_is split
@@ -120,8 +124,10 @@ module _ {K V : Type 0} where
             let h = into_left inner_content t s u (get_or ms up 0) right parts.lhs_entries (d.q.l ++ x ∷ d.q.r) (d.q.l ++ x ∷ new ∷ d.q.r) parts.crit_key cut (λ v. with_child v (get_or js up 0) key child) 5 4
             (d.q.l ++ x ∷ []) (d.q.l ++ x ∷ new ∷ []) d.q.r (sym (append_assoc d.q.l (x ∷ []) d.q.r)) (sym (append_assoc d.q.l (x ∷ new ∷ []) d.q.r)) (omega (arith, length-append d.q.l (x ∷ []), length-append d.q.l (x ∷ new ∷ []))) (omega (arith, length-append d.q.l (x ∷ []), d.q.entry_is, early, f)) (omega (arith, f)) (omega (arith, f, eight))
             (λ mid. ap (λ z. with_child (inner_content z) (get_or js up 0) key child) (append_assoc d.q.l (x ∷ []) mid) ∙ with_child_is V d.q.l x mid key child (get_or js up 0) d.q.entry_is ∙ ap inner_content (sym (append_assoc d.q.l (x ∷ new ∷ []) mid))) written in
-            parted_early t u ms js ms (set js up index) up size rows a x (key, child) b parts.crit_key right moved d eight early h
-            (λ i. refl) (λ i other. get_or-set_other js up i index 0 other) (get_or-set_same js up index 0 low_js ∙ index_is)
+            let j_is = get_or-set_same js up index 0 low_js ∙ index_is ∙ step_is moved (get_or js up 0) in
+            parted t u ms js ms (set js up index) up size rows a x new b parts.crit_key right (if moved then suc (length a) else length a) false 5 4 (omega arith, omega arith, omega arith, omega arith) (λ after. halves_left (get_or js up 0) 5 4 after early refl refl) d eight h
+            (λ i other. refl) (λ i other. get_or-set_other js up i index 0 other) seen
+            (in_left d.q.before d.q.after (get_or ms up 0) right (h.z ∷ h.xs) (h.y ∷ h.ys) (get_or (set js up index) up 0) (if moved then suc (length a) else length a) seen (omega (arith, j_is, step_most moved, h.left_is, early)) (step_is moved (length a) ∙ omega (arith, j_is, ap length d.q.a_is, length-append (flat d.q.before) d.q.l, d.q.entry_is)))
 
         right_is : length (cut.y ∷ cut.ys) ≡ 4
         right_is = omega (arith, eight, ap length cut.es_is, length-append cut.zs (cut.y ∷ cut.ys), cut.count_is, four)
@@ -142,5 +148,8 @@ module _ {K V : Type 0} where
               with_child_is V mid x d.q.r key child (get_or js up 0 - 4) (omega (arith, is, d.q.entry_is, four)),
               λ rest. head-grown right mid x ((key, child) ∷ d.q.r) d.q.r ∙ ap (λ v. head_of right v) (sym rest) ∙ ap (λ v. (v, right) ∷ []) (sym cut.key_is),
             )) written in
-            parted_late t u ms js (set ms up right) (set js up index) up size rows a x (key, child) b parts.crit_key right moved d eight late h
-            (λ i other. get_or-set_other ms up i right 0 other) (get_or-set_same ms up right 0 low) (λ i other. get_or-set_other js up i index 0 other) (get_or-set_same js up index 0 low_js ∙ index_is)
+            let j_is = get_or-set_same js up index 0 low_js ∙ index_is ∙ step_is moved (get_or js up 0 - 4) in
+            let small = index_small in
+            parted t u ms js (set ms up right) (set js up index) up size rows a x (key, child) b parts.crit_key right (if moved then suc (length a) else length a) true 4 5 (omega arith, omega arith, omega arith, omega arith) (λ after. halves_right (get_or js up 0) 4 5 after late refl refl) d eight h
+            (λ i other. get_or-set_other ms up i right 0 other) (λ i other. get_or-set_other js up i index 0 other) seen
+            (in_right d.q.before d.q.after (get_or ms up 0) right (h.z ∷ h.xs) (h.y ∷ h.ys) (get_or (set ms up right) up 0) (get_or (set js up index) up 0) (if moved then suc (length a) else length a) seen (get_or-set_same ms up right 0 low) (omega (arith, j_is, step_most moved, h.right_is, small)) (step_is moved (length a) ∙ omega (arith, j_is, ap length d.q.a_is, length-append (flat d.q.before) d.q.l, d.q.entry_is, h.left_is, late)))

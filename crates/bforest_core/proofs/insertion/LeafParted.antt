@@ -1,18 +1,18 @@
 -- The leaves after one of them was halved, and the tree after the levels above took the right half in.
-use Rattle.std.proofs.Common.{◌≡◌, ℕ, suc, ◌+◌, ◌-◌, ◌/◌, ◌≤◌, ◌<◌, ◌≢◌, Bool, true, false, if◌then◌else◌, List, [], ◌∷◌, ◌++◌, map, length, insert, get_or, slice_get, Some, refl, sym, ap, ◌∙◌, subst, append_assoc, length-append, arith}
+use Rattle.std.proofs.Common.{◌≡◌, ℕ, suc, ◌+◌, ◌-◌, ◌≤◌, ◌<◌, ◌≢◌, Bool, if◌then◌else◌, List, ◌∷◌, ◌++◌, map, length, insert, get_or, slice_get, Some, sym, ap, ◌∙◌, subst, length-append, arith}
 use Rattle.std.specs.List.{flat_map}
-use Rattle.std.proofs.lemmas.List.{append-nil, length-map}
+use Rattle.std.proofs.lemmas.List.{length-map}
 use Rattle.bforest_core.specs.Table.{Table}
 use Rattle.bforest_core.specs.Levels.{LevelNode, node, flat, head_of, heads, sizes, numbers, Stacked, Topped, Tree, IsFit, half_of}
 use Rattle.bforest_core.specs.Sizes.{leaf_gain, gain_above, need_above}
 use Rattle.bforest_core.specs.Place.{leaf_content, count, IsAt, StandsAbove, Stands}
 use Rattle.bforest_core.specs.Climb.{Placed, LeafHalved, Inserted, Grown}
-use Rattle.bforest_core.proofs.rows.LevelRows.{flat-append, heads-append, sizes-append, FitRow-split, Solid-full}
+use Rattle.bforest_core.proofs.rows.LevelRows.{heads-append, sizes-append, FitRow-split}
 use Rattle.bforest_core.proofs.table.Tables.{count-append, count-same, count-row, row-same, row-halved, rows-same, ne_from_count, absent_ne}
 use Rattle.bforest_core.proofs.rows.Zipper.{stands-same}
 use Rattle.bforest_core.proofs.rows.Tops.{root-stands, root-points}
 use Rattle.bforest_core.proofs.insertion.Rise.{gain-some}
-use Rattle.bforest_core.proofs.insertion.Grow.{flat-halved, heads-halved, FitRow-halved, leaf_full}
+use Rattle.bforest_core.proofs.insertion.Grow.{InHalf, flat-halved, heads-halved, FitRow-halved, leaf_full}
 use Rattle.bforest_core.proofs.insertion.LeafSpot.{LeafSpot, renewed, insert_flat, rows_count}
 use Rattle.bforest_core.proofs.insertion.Halving.{Halves, Odd}
 
@@ -25,12 +25,12 @@ module _ {K V : Type 0} where
       ∙ leaf_full most d.before (length (d.l ++ d.r)) (length d.l) (sizes d.after) (omega (arith, length-append d.l d.r)) d.first full
 
   -- all but where the path stands
-  leaf_parted : (most : ℕ) (t u : Table K V) (ms js ms' js' : List ℕ) (size : ℕ) (tree : Tree K V) (place : ℕ) (entry : K × V) (middle : K) (right : ℕ) (moved : Bool) → Odd most → Placed most t ms js size tree place → (d : LeafSpot most t ms js tree place) → length (d.l ++ d.r) ≡ most →
+  pub leaf_parted : (most : ℕ) (t u : Table K V) (ms js ms' js' : List ℕ) (size : ℕ) (tree : Tree K V) (place : ℕ) (entry : K × V) (middle : K) (right : ℕ) (moved : Bool) → Odd most → Placed most t ms js size tree place → (d : LeafSpot most t ms js tree place) → length (d.l ++ d.r) ≡ most →
       (h : Halves leaf_content t u (get_or ms 0 0) right middle (d.l ++ entry ∷ d.r) (half_of most) (half_of most)) →
       ((i : ℕ) → i ≢ 0 → get_or ms' i 0 ≡ get_or ms i 0) → ((i : ℕ) → i ≢ 0 → get_or js' i 0 ≡ get_or js i 0) →
-      (at : IsAt (d.before ++ node (get_or ms 0 0) (h.z ∷ h.xs) ∷ node right (h.y ∷ h.ys) ∷ d.after) (get_or ms' 0 0) (get_or js' 0 0) place) → length at.before ≡ (if moved then suc (length (heads d.before)) else length (heads d.before)) →
+      length (heads d.before) ≡ length d.before → InHalf d.before (get_or ms 0 0) right (h.z ∷ h.xs) (h.y ∷ h.ys) d.after (get_or ms' 0 0) (get_or js' 0 0) place moved →
       LeafHalved most t u ms ms' js' size tree place entry middle right moved
-  leaf_parted most t u ms js ms' js' size tree place entry middle right moved o p d full h far_m far_j at at_is =
+  leaf_parted most t u ms js ms' js' size tree place entry middle right moved o p d full h far_m far_j solid_full stands =
       let n = get_or ms 0 0 in
       let es : List (K × V) = d.l ++ d.r in
       let row : List (LevelNode K V) = d.before ++ node n es ∷ d.after in
@@ -50,7 +50,6 @@ module _ {K V : Type 0} where
       let none_rows : count n (flat_map numbers up.rows') ≡ 0 = nums n ∙ d.none_rows in
       let hs0 : heads (d.before ++ node n (d.l ++ entry ∷ d.r) ∷ d.after) ≡ heads d.before ++ (h.z.0, n) ∷ heads d.after =
       heads-append d.before _ ∙ ap (λ z. heads d.before ++ (head_of n z ++ heads d.after)) h.grown_is in
-      let solid_full : length (heads d.before) ≡ length d.before = Solid-full (half_of most) most one d.before d.solid in
       record {
         before = d.before;
         entries = es;
@@ -81,58 +80,14 @@ module _ {K V : Type 0} where
         topped = subst (λ (z : List (K × ℕ)). Topped z up.rows') hs0 up.topped;
         sizes_above = up.sizes_are;
         numbers_above = up.numbers_are;
-        at = at;
-        at_is = at_is;
+        at = stands.0;
+        at_is = stands.1;
         slots_same = h.two.same;
         chain_is = h.two.chain_is;
         slots_are = h.two.slots_are;
         limit_is = h.two.limit_is;
         nodes_above = λ i high. far_m i (λ (e : i ≡ 0). omega (arith, e, high));
       }
-
-  -- the path goes to the left half
-  pub leaf_parted_early : (most : ℕ) (t u : Table K V) (ms js : List ℕ) (size : ℕ) (tree : Tree K V) (place : ℕ) (entry : K × V) (middle : K) (right : ℕ) → Odd most → Placed most t ms js size tree place → (d : LeafSpot most t ms js tree place) → length (d.l ++ d.r) ≡ most → get_or js 0 0 ≤ most / 2 →
-      Halves leaf_content t u (get_or ms 0 0) right middle (d.l ++ entry ∷ d.r) (half_of most) (half_of most) → LeafHalved most t u ms ms js size tree place entry middle right false
-  leaf_parted_early most t u ms js size tree place entry middle right o p d full low h =
-      let n = get_or ms 0 0 in
-      let one : 1 ≤ half_of most = omega (arith, o.high_is) in
-      let solid_full : length (heads d.before) ≡ length d.before = Solid-full (half_of most) most one d.before d.solid in
-      let at : IsAt (d.before ++ node n (h.z ∷ h.xs) ∷ node right (h.y ∷ h.ys) ∷ d.after) n (get_or js 0 0) place = record {
-        before = d.before;
-        entries = h.z ∷ h.xs;
-        after = node right (h.y ∷ h.ys) ∷ d.after;
-        row_is = refl;
-        within = omega (arith, low, h.left_is, o.low_is, o.high_is);
-        place_is = omega (arith, d.place_is, d.index_is);
-      } in
-      leaf_parted most t u ms js ms js size tree place entry middle right false o p d full h (λ i other. refl) (λ i other. refl) at (sym solid_full)
-
-  -- or to the right one
-  pub leaf_parted_late : (most : ℕ) (t u : Table K V) (ms js ms' js' : List ℕ) (size : ℕ) (tree : Tree K V) (place : ℕ) (entry : K × V) (middle : K) (right q : ℕ) → Odd most → Placed most t ms js size tree place → (d : LeafSpot most t ms js tree place) → length (d.l ++ d.r) ≡ most → most / 2 < get_or js 0 0 → q ≡ half_of most →
-      Halves leaf_content t u (get_or ms 0 0) right middle (d.l ++ entry ∷ d.r) (half_of most) (half_of most) →
-      ((i : ℕ) → i ≢ 0 → get_or ms' i 0 ≡ get_or ms i 0) → get_or ms' 0 0 ≡ right → ((i : ℕ) → i ≢ 0 → get_or js' i 0 ≡ get_or js i 0) → get_or js' 0 0 ≡ get_or js 0 0 - q →
-      LeafHalved most t u ms ms' js' size tree place entry middle right true
-  leaf_parted_late most t u ms js ms' js' size tree place entry middle right q o p d full high q_is h far_m m_is far_j j_is =
-      let n = get_or ms 0 0 in
-      let one : 1 ≤ half_of most = omega (arith, o.high_is) in
-      let solid_full : length (heads d.before) ≡ length d.before = Solid-full (half_of most) most one d.before d.solid in
-      let front : List (LevelNode K V) = d.before ++ node n (h.z ∷ h.xs) ∷ [] in
-      let q2 : q ≡ suc o.half = q_is ∙ o.high_is in
-      let left2 : length (h.z ∷ h.xs) ≡ q = h.left_is ∙ sym q_is in
-      let right2 : length (h.y ∷ h.ys) ≡ q = h.right_is ∙ sym q_is in
-      let high2 : q ≤ get_or js 0 0 = omega (arith, high, o.low_is, q2) in
-      let most2 : get_or js 0 0 ≤ most = omega (arith, full, d.index_is, length-append d.l d.r) in
-      let flat_front : length (flat front) ≡ length (flat d.before) + q = ap length (flat-append d.before (node n (h.z ∷ h.xs) ∷ [])) ∙ length-append (flat d.before) _ ∙ ap (λ z. length (flat d.before) + z) (ap length (append-nil (h.z ∷ h.xs)) ∙ left2) in
-      let at : IsAt (d.before ++ node n (h.z ∷ h.xs) ∷ node right (h.y ∷ h.ys) ∷ d.after) (get_or ms' 0 0) (get_or js' 0 0) place = record {
-        before = front;
-        entries = h.y ∷ h.ys;
-        after = d.after;
-        row_is = sym (append_assoc d.before (node n (h.z ∷ h.xs) ∷ []) (node right (h.y ∷ h.ys) ∷ d.after)) ∙ ap (λ z. front ++ node z (h.y ∷ h.ys) ∷ d.after) (sym m_is);
-        within = omega (arith, j_is, right2, most2, o.cap_is, q2);
-        place_is = omega (arith, j_is, d.place_is, d.index_is, flat_front, high2);
-      } in
-      let at_is : length front ≡ suc (length (heads d.before)) = length-append d.before (node n (h.z ∷ h.xs) ∷ []) ∙ omega (arith, solid_full) in
-      leaf_parted most t u ms js ms' js' size tree place entry middle right true o p d full h far_m far_j at at_is
 
   -- the need where the leaf becomes two
   pub need_leaf : (most : ℕ) (t u : Table K V) (ms ms' js' : List ℕ) (size : ℕ) (tree : Tree K V) (place : ℕ) (entry : K × V) (key : K) (right : ℕ) (moved : Bool) → (h : LeafHalved most t u ms ms' js' size tree place entry key right moved) →

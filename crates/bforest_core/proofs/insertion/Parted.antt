@@ -1,27 +1,25 @@
 -- A level of which one node was halved, and the path on it.
-use Rattle.std.proofs.Common.{◌≡◌, ℕ, suc, ◌+◌, ◌-◌, ◌≤◌, ◌<◌, ◌≢◌, Bool, true, false, if◌then◌else◌, List, [], ◌∷◌, ◌++◌, length, get_or, nat_lt, Some, refl, sym, ap, ◌∙◌, subst, append_assoc, length-append, arith}
+use Rattle.std.proofs.Common.{◌≡◌, ℕ, suc, ◌+◌, ◌≤◌, ◌<◌, ◌≢◌, Bool, if◌then◌else◌, List, [], ◌∷◌, ◌++◌, length, get_or, nat_lt, Some, sym, ap, ◌∙◌, subst, append_assoc, length-append, arith}
 use Rattle.std.specs.List.{flat_map}
-use Rattle.std.proofs.lemmas.List.{append-nil}
 use Rattle.bforest_core.specs.Table.{Table}
 use Rattle.bforest_core.specs.Levels.{LevelNode, node, flat, head_of, heads, sizes, numbers, Stacked}
 use Rattle.bforest_core.specs.Sizes.{inner_gain}
-use Rattle.bforest_core.specs.Place.{inner_content, count, IsAt}
+use Rattle.bforest_core.specs.Place.{inner_content, count}
 use Rattle.bforest_core.specs.Climb.{Halved}
-use Rattle.bforest_core.proofs.rows.LevelRows.{flat-append, heads-append, sizes-append, Solid-full}
+use Rattle.bforest_core.proofs.rows.LevelRows.{heads-append, sizes-append}
 use Rattle.bforest_core.proofs.table.Tables.{count-append, count-same, count-row, row-halved, rows-same, ne_from_count}
 use Rattle.bforest_core.proofs.rows.Zipper.{Spot, stands-same}
-use Rattle.bforest_core.proofs.insertion.Grow.{flat-halved, FitRow-halved, gain_full, halves_left, halves_right, head-grown}
-use Rattle.bforest_core.proofs.insertion.Room.{step_is, step_most}
+use Rattle.bforest_core.proofs.insertion.Grow.{InHalf, flat-halved, FitRow-halved, gain_full, head-grown}
 use Rattle.bforest_core.proofs.insertion.Halving.{Halves}
 
 module _ {K V : Type 0} where
   -- all but where the path stands
-  parted : (t u : Table K V) (ms js ms' js' : List ℕ) (up size : ℕ) (rows : List (List (LevelNode K ℕ))) (a : List (K × ℕ)) (x y : K × ℕ) (b : List (K × ℕ)) (middle : K) (right p : ℕ) (moved : Bool) (big small : ℕ) → (4 ≤ big) × (big ≤ 8) × (4 ≤ small) × (small ≤ 8) → ((after : List ℕ) → (if nat_lt (get_or js up 0) 4 then 5 ∷ 4 ∷ after else 4 ∷ 5 ∷ after) ≡ big ∷ small ∷ after) → (d : Spot t ms js up size rows a x b) → length (d.q.l ++ x ∷ d.q.r) ≡ 8 →
+  pub parted : (t u : Table K V) (ms js ms' js' : List ℕ) (up size : ℕ) (rows : List (List (LevelNode K ℕ))) (a : List (K × ℕ)) (x y : K × ℕ) (b : List (K × ℕ)) (middle : K) (right p : ℕ) (moved : Bool) (big small : ℕ) → (4 ≤ big) × (big ≤ 8) × (4 ≤ small) × (small ≤ 8) → ((after : List ℕ) → (if nat_lt (get_or js up 0) 4 then 5 ∷ 4 ∷ after else 4 ∷ 5 ∷ after) ≡ big ∷ small ∷ after) → (d : Spot t ms js up size rows a x b) → length (d.q.l ++ x ∷ d.q.r) ≡ 8 →
       (h : Halves inner_content t u (get_or ms up 0) right middle (d.q.l ++ x ∷ y ∷ d.q.r) big small) →
       ((i : ℕ) → i ≢ up → get_or ms' i 0 ≡ get_or ms i 0) → ((i : ℕ) → i ≢ up → get_or js' i 0 ≡ get_or js i 0) →
-      (at : IsAt (d.q.before ++ node (get_or ms up 0) (h.z ∷ h.xs) ∷ node right (h.y ∷ h.ys) ∷ d.q.after) (get_or ms' up 0) (get_or js' up 0) p) → length at.before ≡ (if moved then suc (length (heads d.q.before)) else length (heads d.q.before)) →
+      length (heads d.q.before) ≡ length d.q.before → InHalf d.q.before (get_or ms up 0) right (h.z ∷ h.xs) (h.y ∷ h.ys) d.q.after (get_or ms' up 0) (get_or js' up 0) p moved →
       Halved t u ms js ms' js' up size rows (a ++ x ∷ y ∷ b) (length a) p middle right moved
-  parted t u ms js ms' js' up size rows a x y b middle right p moved big small sides counts d eight h far_m far_j at at_is =
+  parted t u ms js ms' js' up size rows a x y b middle right p moved big small sides counts d eight h far_m far_j full at =
       let q = d.q in
       let n = get_or ms up 0 in
       let es : List (K × ℕ) = q.l ++ x ∷ q.r in
@@ -39,7 +37,6 @@ module _ {K V : Type 0} where
       let low : length q.l < length es = omega (arith, length-append q.l (x ∷ q.r)) in
       let first_is : head_of n es ≡ (h.z.0, n) ∷ [] = head-grown n q.l x q.r (y ∷ q.r) ∙ ap (λ z. head_of n z) h.grown_is in
       let hs0 : heads row ≡ heads q.before ++ (h.z.0, n) ∷ heads q.after = heads-append q.before _ ∙ ap (λ z. heads q.before ++ (z ++ heads q.after)) first_is in
-      let full : length (heads q.before) ≡ length q.before = Solid-full 4 8 (omega arith) q.before d.f.solid in
       record {
         before = q.before;
         entries = es;
@@ -67,8 +64,8 @@ module _ {K V : Type 0} where
           height = omega (arith, ab.height);
           apart = λ m. omega (arith, ab.apart m, c m, c2 m, c4 m, c5 m);
         };
-        at = at;
-        at_is = at_is;
+        at = at.0;
+        at_is = at.1;
         slots_same = h.two.same;
         chain_is = h.two.chain_is;
         slots_are = h.two.slots_are;
@@ -77,47 +74,3 @@ module _ {K V : Type 0} where
         entries_below = λ i low_i. far_j i (λ (e : i ≡ up). omega (arith, e, low_i));
         nodes_above = λ i high. far_m i (λ (e : i ≡ up). omega (arith, e, high));
       }
-
-  -- the path goes to the left half
-  pub parted_early : (t u : Table K V) (ms js ms' js' : List ℕ) (up size : ℕ) (rows : List (List (LevelNode K ℕ))) (a : List (K × ℕ)) (x y : K × ℕ) (b : List (K × ℕ)) (middle : K) (right : ℕ) (on : Bool) → (d : Spot t ms js up size rows a x b) → length (d.q.l ++ x ∷ d.q.r) ≡ 8 → get_or js up 0 < 4 →
-      (h : Halves inner_content t u (get_or ms up 0) right middle (d.q.l ++ x ∷ y ∷ d.q.r) 5 4) →
-      ((i : ℕ) → get_or ms' i 0 ≡ get_or ms i 0) → ((i : ℕ) → i ≢ up → get_or js' i 0 ≡ get_or js i 0) → get_or js' up 0 ≡ (if on then suc (get_or js up 0) else get_or js up 0) →
-      Halved t u ms js ms' js' up size rows (a ++ x ∷ y ∷ b) (length a) (if on then suc (length a) else length a) middle right false
-  parted_early t u ms js ms' js' up size rows a x y b middle right on d eight low h same_m far_j j_is =
-      let q = d.q in
-      let n = get_or ms up 0 in
-      let full : length (heads q.before) ≡ length q.before = Solid-full 4 8 (omega arith) q.before d.f.solid in
-      let j2 = j_is ∙ step_is on (get_or js up 0) in
-      let at : IsAt (q.before ++ node n (h.z ∷ h.xs) ∷ node right (h.y ∷ h.ys) ∷ q.after) (get_or ms' up 0) (get_or js' up 0) (if on then suc (length a) else length a) = record {
-        before = q.before;
-        entries = h.z ∷ h.xs;
-        after = node right (h.y ∷ h.ys) ∷ q.after;
-        row_is = ap (λ z. q.before ++ node z (h.z ∷ h.xs) ∷ node right (h.y ∷ h.ys) ∷ q.after) (sym (same_m up));
-        within = omega (arith, j2, step_most on, h.left_is, low);
-        place_is = step_is on (length a) ∙ omega (arith, j2, ap length q.a_is, length-append (flat q.before) q.l, q.entry_is);
-      } in
-      parted t u ms js ms' js' up size rows a x y b middle right (if on then suc (length a) else length a) false 5 4 (omega arith, omega arith, omega arith, omega arith) (λ after. halves_left (get_or js up 0) 5 4 after low refl refl) d eight h (λ i other. same_m i) far_j at (sym full)
-
-  -- or to the right one
-  pub parted_late : (t u : Table K V) (ms js ms' js' : List ℕ) (up size : ℕ) (rows : List (List (LevelNode K ℕ))) (a : List (K × ℕ)) (x y : K × ℕ) (b : List (K × ℕ)) (middle : K) (right : ℕ) (on : Bool) → (d : Spot t ms js up size rows a x b) → length (d.q.l ++ x ∷ d.q.r) ≡ 8 → 4 ≤ get_or js up 0 →
-      (h : Halves inner_content t u (get_or ms up 0) right middle (d.q.l ++ x ∷ y ∷ d.q.r) 4 5) →
-      ((i : ℕ) → i ≢ up → get_or ms' i 0 ≡ get_or ms i 0) → get_or ms' up 0 ≡ right → ((i : ℕ) → i ≢ up → get_or js' i 0 ≡ get_or js i 0) → get_or js' up 0 ≡ (if on then suc (get_or js up 0 - 4) else get_or js up 0 - 4) →
-      Halved t u ms js ms' js' up size rows (a ++ x ∷ y ∷ b) (length a) (if on then suc (length a) else length a) middle right true
-  parted_late t u ms js ms' js' up size rows a x y b middle right on d eight high h far_m m_is far_j j_is =
-      let q = d.q in
-      let n = get_or ms up 0 in
-      let full : length (heads q.before) ≡ length q.before = Solid-full 4 8 (omega arith) q.before d.f.solid in
-      let j2 = j_is ∙ step_is on (get_or js up 0 - 4) in
-      let front : List (LevelNode K ℕ) = q.before ++ node n (h.z ∷ h.xs) ∷ [] in
-      let in_node : get_or js up 0 < 8 = omega (arith, d.count_is, eight) in
-      let flat_front : length (flat front) ≡ length (flat q.before) + 4 = ap length (flat-append q.before (node n (h.z ∷ h.xs) ∷ [])) ∙ length-append (flat q.before) _ ∙ ap (λ z. length (flat q.before) + z) (ap length (append-nil (h.z ∷ h.xs)) ∙ h.left_is) in
-      let at : IsAt (q.before ++ node n (h.z ∷ h.xs) ∷ node right (h.y ∷ h.ys) ∷ q.after) (get_or ms' up 0) (get_or js' up 0) (if on then suc (length a) else length a) = record {
-        before = front;
-        entries = h.y ∷ h.ys;
-        after = q.after;
-        row_is = sym (append_assoc q.before (node n (h.z ∷ h.xs) ∷ []) (node right (h.y ∷ h.ys) ∷ q.after)) ∙ ap (λ z. front ++ node z (h.y ∷ h.ys) ∷ q.after) (sym m_is);
-        within = omega (arith, j2, step_most on, h.right_is, in_node);
-        place_is = step_is on (length a) ∙ omega (arith, j2, ap length q.a_is, length-append (flat q.before) q.l, q.entry_is, flat_front, high);
-      } in
-      let at_is : length front ≡ suc (length (heads q.before)) = length-append q.before (node n (h.z ∷ h.xs) ∷ []) ∙ omega (arith, full) in
-      parted t u ms js ms' js' up size rows a x y b middle right (if on then suc (length a) else length a) true 4 5 (omega arith, omega arith, omega arith, omega arith) (λ after. halves_right (get_or js up 0) 4 5 after high refl refl) d eight h far_m far_j at at_is
