@@ -222,8 +222,7 @@ module _ {K V : Type 0} where
   -- by equations of tables and of paths
   pub put-from : (most : ℕ) (old new new1 : Table K V) (root place : ℕ) (entry : K × V) (most1 : ℕ) (at at1 : Path K V most1) → new1 ≡ new → at1 ≡ at → Put most old new root place entry at.node at.entry at.size → Put most old new1 root place entry at1.node at1.entry at1.size
   put-from most old new new1 root place entry most1 at at1 e1 e2 p =
-      subst (λ (z : Table K V). Put most old z root place entry at1.node at1.entry at1.size) (sym e1)
-      (subst (λ (z : Path K V most1). Put most old new root place entry z.node z.entry z.size) (sym e2) p)
+      rw (e1, e2) p
 
 -- errors of two calls that are one are one as the first call answers them
 pub err-same : {A B E : Type 0} (x : Result A E) (e f : E) (y z : Result B E) → x ≡ Err e → x ≡ Err f → y ≡ Err e → z ≡ Err f → y ≡ z

@@ -8,7 +8,7 @@ use Rattle.bforest_core.specs.Sizes.{leaf_gain, gain_above, need_above}
 use Rattle.bforest_core.specs.Place.{leaf_content, count, IsAt, StandsAbove, Stands}
 use Rattle.bforest_core.specs.Climb.{Placed, LeafHalved, Inserted, Grown}
 use Rattle.bforest_core.proofs.rows.LevelRows.{heads-append, sizes-append, FitRow-split}
-use Rattle.bforest_core.proofs.table.Tables.{count-append, count-same, count-row, row-same, row-halved, rows-same, ne_from_count, absent_ne}
+use Rattle.bforest_core.proofs.table.Tables.{counts, count-append, count-same, row-same, row-halved, rows-same, ne_from_count, absent_ne}
 use Rattle.bforest_core.proofs.rows.Zipper.{stands-same}
 use Rattle.bforest_core.proofs.rows.Tops.{root-stands, root-points}
 use Rattle.bforest_core.proofs.insertion.Rise.{gain-some}
@@ -39,14 +39,12 @@ module _ {K V : Type 0} where
       let one : 1 ≤ half_of most = omega (arith, o.high_is) in
       let few : half_of most ≤ most = omega (arith, o.high_is, o.cap_is, o.some) in
       let nums = λ (m : ℕ). ap (λ z. count m z) up.numbers_are in
-      let c = λ (m : ℕ). count-append m (numbers row ++ flat_map numbers tree.above) t.chain in
-      let c2 = λ (m : ℕ). count-append m (numbers row) (flat_map numbers tree.above) in
-      let c3 = λ (m : ℕ). count-row m d.before n es d.after in
+      let c = λ (m : ℕ). counts m d.before n es d.after tree.above t.chain in
       let c4 = λ (m : ℕ). ap (λ z. count m z) h.two.chain_is in
       let c5 = λ (m : ℕ). count-append m (flat_map numbers up.rows') u.chain in
       let same_right = count-same right u.chain in
-      let none_right : count right (numbers d.before) + count right (numbers d.after) ≡ 0 = omega (arith, d.apart right, c right, c2 right, c3 right, c4 right, same_right) in
-      let none_right_rows : count right (flat_map numbers up.rows') ≡ 0 = omega (arith, d.apart right, c right, c2 right, c3 right, c4 right, same_right, nums right) in
+      let none_right : count right (numbers d.before) + count right (numbers d.after) ≡ 0 = omega (arith, d.apart right, c right, c4 right, same_right) in
+      let none_right_rows : count right (flat_map numbers up.rows') ≡ 0 = omega (arith, d.apart right, c right, c4 right, same_right, nums right) in
       let none_rows : count n (flat_map numbers up.rows') ≡ 0 = nums n ∙ d.none_rows in
       let hs0 : heads (d.before ++ node n (d.l ++ entry ∷ d.r) ∷ d.after) ≡ heads d.before ++ (h.z.0, n) ∷ heads d.after =
       heads-append d.before _ ∙ ap (λ z. heads d.before ++ (head_of n z ++ heads d.after)) h.grown_is in
@@ -75,7 +73,7 @@ module _ {K V : Type 0} where
           stands = stands-same ms js ms' js' 1 up.rows' (length (heads d.before)) (λ i high. far_m i (λ (e : i ≡ 0). omega (arith, e, high))) (λ i high. far_j i (λ (e : i ≡ 0). omega (arith, e, high)))
               (subst (λ (z : ℕ). StandsAbove ms js 1 up.rows' z) (sym solid_full) (up.stands (length d.before) d.stands));
           height = omega (arith, p.at.points.size_is, rows_count tree.above up.rows' up.sizes_are);
-          apart = λ m. omega (arith, d.apart m, c m, c2 m, c4 m, c5 m, nums m);
+          apart = λ m. omega (arith, d.apart m, c m, c4 m, c5 m, nums m);
         };
         topped = subst (λ (z : List (K × ℕ)). Topped z up.rows') hs0 up.topped;
         sizes_above = up.sizes_are;
@@ -110,14 +108,11 @@ module _ {K V : Type 0} where
       let n = get_or ms 0 0 in
       let row : List (LevelNode K V) = h.before ++ node n h.entries ∷ h.after in
       let row2 : List (LevelNode K V) = h.before ++ node n (h.first ∷ h.others) ∷ node right (h.next ∷ h.more) ∷ h.after in
-      let d = λ (m : ℕ). p.apart m in
-      let leaves_m = λ (m : ℕ). ap (λ z. count m (numbers z)) h.leaves_were in
+      let leaves_m = λ (m : ℕ). ap (λ z. count m (numbers z ++ flat_map numbers tree.above)) h.leaves_were in
       let rows_m = λ (m : ℕ). ap (λ z. count m z) h.numbers_above in
       let c = λ (m : ℕ). count-append m (numbers tree.leaves ++ flat_map numbers tree.above) t.chain in
-      let c2 = λ (m : ℕ). count-append m (numbers tree.leaves) (flat_map numbers tree.above) in
-      let c3 = λ (m : ℕ). count-row m h.before n h.entries h.after in
-      let c4 = λ (m : ℕ). count-row m h.before n (h.first ∷ h.others) (node right (h.next ∷ h.more) ∷ h.after) in
-      let c5 = λ (m : ℕ). count-append m (numbers row2) (flat_map numbers g.rows') in
+      let c2 = λ (m : ℕ). counts m h.before n h.entries h.after tree.above t.chain in
+      let c4 = λ (m : ℕ). counts m h.before n (h.first ∷ h.others) (node right (h.next ∷ h.more) ∷ h.after) g.rows' v.chain in
       let chain_is : t.chain ≡ right ∷ (taken ++ v.chain) = h.chain_is ∙ ap (λ z. right ∷ z) g.chain_is in
       let c7 = λ (m : ℕ). ap (λ z. count m z) chain_is in
       let c8 = λ (m : ℕ). count-append m taken v.chain in
@@ -126,7 +121,7 @@ module _ {K V : Type 0} where
       let one : List (K × ℕ) = heads h.before ++ (h.first.0, n) ∷ heads h.after in
       let longer : length one ≤ length (heads h.before ++ (h.first.0, n) ∷ (key, right) ∷ heads h.after) =
       omega (arith, length-append (heads h.before) ((h.first.0, n) ∷ heads h.after), length-append (heads h.before) ((h.first.0, n) ∷ (key, right) ∷ heads h.after)) in
-      let quiet : (m : ℕ) → 0 < count m (numbers row2) → slice_get v.nodes m ≡ slice_get u.nodes m = λ m some. g.others m (omega (arith, some, d m, leaves_m m, rows_m m, c m, c2 m, c3 m, c4 m, c7 m, c8 m)) in
+      let quiet : (m : ℕ) → 0 < count m (numbers row2) → slice_get v.nodes m ≡ slice_get u.nodes m = λ m some. g.others m (omega (arith, some, p.apart m, leaves_m m, rows_m m, c m, c2 m, c4 m, c7 m, c8 m)) in
       let here_m = g.nodes_below 0 (omega arith) in
       let here_j = g.entries_below 0 (omega arith) in
       let at2 : IsAt row2 (get_or ms'' 0 0) (get_or js'' 0 0) place = record { before = h.at.before; entries = h.at.entries; after = h.at.after; row_is = rw here_m h.at.row_is; within = rw here_j h.at.within; place_is = rw here_j h.at.place_is } in
@@ -151,9 +146,9 @@ module _ {K V : Type 0} where
         fit = fit';
         inside = record { leaves_in = row-same leaf_content u.nodes v.nodes row2 quiet h.inside; rows_in = g.above.inside };
         stands = stands;
-        numbers_are = λ m. omega (arith, leaves_m m, rows_m m, c2 m, c3 m, c4 m, c5 m, g.numbers_are m);
+        numbers_are = λ m. omega (arith, leaves_m m, rows_m m, c2 m, c4 m, g.numbers_are m);
         taken_is = needs ∙ sym (need_leaf most t u ms ms' js' size tree place entry key right moved h);
-        others = λ m z. g.others m (omega (arith, z, rows_m m, c2 m)) ∙ h.slots_same m (absent_ne m n (numbers h.after) (omega (arith, z, leaves_m m, c2 m, c3 m))) (absent_ne m right taken (omega (arith, z)));
+        others = λ m z. g.others m (omega (arith, z, leaves_m m, rows_m m, c2 m)) ∙ h.slots_same m (absent_ne m n (numbers h.after) (omega (arith, z, leaves_m m, c2 m))) (absent_ne m right taken (omega (arith, z)));
         chain_is = chain_is;
         slots_are = g.slots_are ∙ h.slots_are;
         limit_is = g.limit_is ∙ h.limit_is;

@@ -9,7 +9,7 @@ use Rattle.bforest_core.specs.Sizes.{leaf_gain, gain_above, need_above}
 use Rattle.bforest_core.specs.Place.{RowIn, leaf_content, entry_keys, count, Distinct, StandsAbove, Stands}
 use Rattle.bforest_core.specs.Climb.{Placed, Inserted}
 use Rattle.bforest_core.proofs.rows.LevelRows.{flat-append, sizes-append, FitRow-split}
-use Rattle.bforest_core.proofs.table.Tables.{count-append, count-row, row-split, row-put, rows-same, ne_from_count, absent_ne, Puts}
+use Rattle.bforest_core.proofs.table.Tables.{counts, row-split, row-put, rows-same, ne_from_count, absent_ne, Puts}
 use Rattle.bforest_core.proofs.rows.Zipper.{apart_here}
 use Rattle.bforest_core.proofs.insertion.Grow.{FitRow-put, leaf_room}
 use Rattle.bforest_core.proofs.rows.Tops.{root-stands, root-points}
@@ -140,12 +140,10 @@ module _ {K V : Type 0} where
       let above = renewed most t ms js size tree place entry (omega (arith, room)) p d in
       let len : length es ≡ suc (length old) = omega (arith, length-append d.l (entry ∷ d.r), length-append d.l d.r) in
       let none2 : count n (flat_map numbers above.rows') ≡ 0 = ap (λ z. count n z) above.numbers_are ∙ d.none_rows in
-      let c0 = λ (m : ℕ). ap (λ z. count m (numbers z)) d.leaves_are in
+      let c0 = λ (m : ℕ). ap (λ z. count m (numbers z ++ flat_map numbers tree.above)) d.leaves_are in
       let c1 = λ (m : ℕ). ap (λ z. count m z) above.numbers_are in
-      let c2 = λ (m : ℕ). count-row m d.before n old d.after in
-      let c3 = λ (m : ℕ). count-row m d.before n es d.after in
-      let c4 = λ (m : ℕ). count-append m (numbers tree.leaves) (flat_map numbers tree.above) in
-      let c5 = λ (m : ℕ). count-append m (numbers row2) (flat_map numbers above.rows') in
+      let c2 = λ (m : ℕ). counts m d.before n old d.after tree.above t.chain in
+      let c3 = λ (m : ℕ). counts m d.before n es d.after above.rows' u.chain in
       let g = room_gain most t ms js tree place d room in
       let fit' : IsFit most (record { leaves = row2; above = above.rows' }) = record { leaves_fit = FitRow-put (half_of most) most d.before d.after n old es len room d.fit; stacked = above.stacked; topped = above.topped } in
       let stands : Stands ms js size (record { leaves = row2; above = above.rows' }) place = record {
@@ -165,9 +163,9 @@ module _ {K V : Type 0} where
           rows_in = rows-same t.nodes u.nodes above.rows' (λ m some. w.same m (ne_from_count m n (flat_map numbers above.rows') some none2)) above.inside;
         };
         stands = stands;
-        numbers_are = λ m. omega (arith, c0 m, c1 m, c2 m, c3 m, c4 m, c5 m);
+        numbers_are = λ m. omega (arith, c0 m, c1 m, c2 m, c3 m);
         taken_is = sym (ap (λ z. need_above z.0 (map sizes tree.above)) g);
-        others = λ m z. w.same m (absent_ne m n (numbers d.after) (omega (arith, z, c0 m, c2 m, c4 m)));
+        others = λ m z. w.same m (absent_ne m n (numbers d.after) (omega (arith, z, c0 m, c2 m)));
         chain_is = sym w.chain_is;
         slots_are = w.slots_are;
         limit_is = w.limit_is;

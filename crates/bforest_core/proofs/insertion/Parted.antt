@@ -7,7 +7,7 @@ use Rattle.bforest_core.specs.Sizes.{inner_gain}
 use Rattle.bforest_core.specs.Place.{inner_content, count}
 use Rattle.bforest_core.specs.Climb.{Halved}
 use Rattle.bforest_core.proofs.rows.LevelRows.{heads-append, sizes-append}
-use Rattle.bforest_core.proofs.table.Tables.{count-append, count-same, count-row, row-halved, rows-same, ne_from_count}
+use Rattle.bforest_core.proofs.table.Tables.{counts, count-append, count-same, row-halved, rows-same, ne_from_count}
 use Rattle.bforest_core.proofs.rows.Zipper.{Spot, stands-same}
 use Rattle.bforest_core.proofs.insertion.Grow.{InHalf, flat-halved, FitRow-halved, gain_full, head-grown}
 use Rattle.bforest_core.proofs.insertion.Halving.{Halves}
@@ -19,21 +19,19 @@ module _ {K V : Type 0} where
       ((i : ℕ) → i ≢ up → get_or ms' i 0 ≡ get_or ms i 0) → ((i : ℕ) → i ≢ up → get_or js' i 0 ≡ get_or js i 0) →
       length (heads d.q.before) ≡ length d.q.before → InHalf d.q.before (get_or ms up 0) right (h.z ∷ h.xs) (h.y ∷ h.ys) d.q.after (get_or ms' up 0) (get_or js' up 0) p moved →
       Halved t u ms js ms' js' up size rows (a ++ x ∷ y ∷ b) (length a) p middle right moved
-  parted t u ms js ms' js' up size rows a x y b middle right p moved big small sides counts d eight h far_m far_j full at =
+  parted t u ms js ms' js' up size rows a x y b middle right p moved big small sides halves_are d eight h far_m far_j full at =
       let q = d.q in
       let n = get_or ms up 0 in
       let es : List (K × ℕ) = q.l ++ x ∷ q.r in
       let row : List (LevelNode K ℕ) = q.before ++ node n es ∷ q.after in
       let row2 : List (LevelNode K ℕ) = q.before ++ node n (h.z ∷ h.xs) ∷ node right (h.y ∷ h.ys) ∷ q.after in
       let ab = d.whole in
-      let c = λ (m : ℕ). count-append m (numbers row ++ flat_map numbers q.rest) t.chain in
-      let c2 = λ (m : ℕ). count-append m (numbers row) (flat_map numbers q.rest) in
-      let c3 = λ (m : ℕ). count-row m q.before n es q.after in
+      let c = λ (m : ℕ). counts m q.before n es q.after q.rest t.chain in
       let c4 = λ (m : ℕ). ap (λ z. count m z) h.two.chain_is in
       let c5 = λ (m : ℕ). count-append m (flat_map numbers q.rest) u.chain in
       let same_right = count-same right u.chain in
-      let none_right : count right (numbers q.before) + count right (numbers q.after) ≡ 0 = omega (arith, ab.apart right, c right, c2 right, c3 right, c4 right, same_right) in
-      let none_right_rest : count right (flat_map numbers q.rest) ≡ 0 = omega (arith, ab.apart right, c right, c2 right, c3 right, c4 right, same_right) in
+      let none_right : count right (numbers q.before) + count right (numbers q.after) ≡ 0 = omega (arith, ab.apart right, c right, c4 right, same_right) in
+      let none_right_rest : count right (flat_map numbers q.rest) ≡ 0 = omega (arith, ab.apart right, c right, c4 right, same_right) in
       let low : length q.l < length es = omega (arith, length-append q.l (x ∷ q.r)) in
       let first_is : head_of n es ≡ (h.z.0, n) ∷ [] = head-grown n q.l x q.r (y ∷ q.r) ∙ ap (λ z. head_of n z) h.grown_is in
       let hs0 : heads row ≡ heads q.before ++ (h.z.0, n) ∷ heads q.after = heads-append q.before _ ∙ ap (λ z. heads q.before ++ (z ++ heads q.after)) first_is in
@@ -55,14 +53,14 @@ module _ {K V : Type 0} where
         inside = row-halved inner_content t.nodes u.nodes q.before n right es (h.z ∷ h.xs) (h.y ∷ h.ys) q.after d.f.inside h.two.same h.two.here h.two.there d.f.none none_right;
         gain_is = ap (λ z. inner_gain (length z) (sizes row)) q.a_is ∙ ap (λ z. inner_gain z (sizes row)) (length-append (flat q.before) q.l) ∙ ap (λ z. inner_gain (length (flat q.before) + length q.l) z) (sizes-append q.before (node n es ∷ q.after))
             ∙ ap (λ z. inner_gain (length (flat q.before) + z) (sizes q.before ++ length es ∷ sizes q.after)) q.entry_is
-            ∙ gain_full q.before (length es) (get_or js up 0) (length (h.z ∷ h.xs)) (length (h.y ∷ h.ys)) (sizes q.after) (omega (arith, low, q.entry_is)) eight (counts (sizes q.after) ∙ ap (λ z. z ∷ small ∷ sizes q.after) (sym h.left_is) ∙ ap (λ z. length (h.z ∷ h.xs) ∷ z ∷ sizes q.after) (sym h.right_is))
+            ∙ gain_full q.before (length es) (get_or js up 0) (length (h.z ∷ h.xs)) (length (h.y ∷ h.ys)) (sizes q.after) (omega (arith, low, q.entry_is)) eight (halves_are (sizes q.after) ∙ ap (λ z. z ∷ small ∷ sizes q.after) (sym h.left_is) ∙ ap (λ z. length (h.z ∷ h.xs) ∷ z ∷ sizes q.after) (sym h.right_is))
             ∙ ap (λ z. (Some z, sizes q.before ++ length (h.z ∷ h.xs) ∷ length (h.y ∷ h.ys) ∷ sizes q.after)) (sym full) ∙ ap (λ z. (Some (length (heads q.before)), z)) (sym (sizes-append q.before (node n (h.z ∷ h.xs) ∷ node right (h.y ∷ h.ys) ∷ q.after)));
         above = record {
           stacked = subst (λ (z : List (K × ℕ)). Stacked z q.rest) hs0 ab.stacked.2;
           inside = rows-same t.nodes u.nodes q.rest (λ m some. h.two.same m (ne_from_count m n (flat_map numbers q.rest) some d.f.none_rest) (ne_from_count m right (flat_map numbers q.rest) some none_right_rest)) ab.inside.1;
           stands = stands-same ms js ms' js' (suc up) q.rest (length (heads q.before)) (λ i high. far_m i (λ (e : i ≡ up). omega (arith, e, high))) (λ i high. far_j i (λ (e : i ≡ up). omega (arith, e, high))) q.stands;
           height = omega (arith, ab.height);
-          apart = λ m. omega (arith, ab.apart m, c m, c2 m, c4 m, c5 m);
+          apart = λ m. omega (arith, ab.apart m, c m, c4 m, c5 m);
         };
         at = at.0;
         at_is = at.1;

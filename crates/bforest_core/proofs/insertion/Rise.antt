@@ -9,7 +9,7 @@ use Rattle.bforest_core.specs.Sizes.{inner_gain, gain_above, need_above}
 use Rattle.bforest_core.specs.Place.{inner_content, count, Distinct, IsAt, StandsAbove}
 use Rattle.bforest_core.specs.Climb.{Above, Grown, Halved}
 use Rattle.bforest_core.proofs.rows.LevelRows.{heads-append, sizes-append}
-use Rattle.bforest_core.proofs.table.Tables.{count-append, count-same, count-row, row-same, absent_ne, Takes}
+use Rattle.bforest_core.proofs.table.Tables.{counts, count-append, count-same, row-same, absent_ne, Takes}
 use Rattle.bforest_core.proofs.rows.Zipper.{Spot}
 use Rattle.bforest_core.proofs.insertion.Grow.{heads-halved, gain_some}
 use Rattle.bforest_core.proofs.insertion.Room.{step_is, step_most}
@@ -41,12 +41,8 @@ module _ {K V : Type 0} where
       let n = get_or ms up 0 in
       let row : List (LevelNode K ℕ) = h.before ++ node n h.entries ∷ h.after in
       let row2 : List (LevelNode K ℕ) = h.before ++ node n (h.first ∷ h.others) ∷ node right (h.next ∷ h.more) ∷ h.after in
-      let c = λ (m : ℕ). count-append m (numbers row ++ flat_map numbers h.rest) t.chain in
-      let c2 = λ (m : ℕ). count-append m (numbers row) (flat_map numbers h.rest) in
-      let c3 = λ (m : ℕ). count-row m h.before n h.entries h.after in
-      let c4 = λ (m : ℕ). count-row m h.before n (h.first ∷ h.others) (node right (h.next ∷ h.more) ∷ h.after) in
-      let c5 = λ (m : ℕ). count-append m (numbers row2) (flat_map numbers g.rows') in
-      let c6 = λ (m : ℕ). count-append m (numbers row2 ++ flat_map numbers g.rows') v.chain in
+      let c = λ (m : ℕ). counts m h.before n h.entries h.after h.rest t.chain in
+      let c2 = λ (m : ℕ). counts m h.before n (h.first ∷ h.others) (node right (h.next ∷ h.more) ∷ h.after) g.rows' v.chain in
       let chain_is : t.chain ≡ right ∷ (taken ++ v.chain) = h.chain_is ∙ ap (λ z. right ∷ z) g.chain_is in
       let c7 = λ (m : ℕ). ap (λ z. count m z) chain_is in
       let c8 = λ (m : ℕ). count-append m taken v.chain in
@@ -56,7 +52,7 @@ module _ {K V : Type 0} where
       let hs0 : heads row ≡ heads h.before ++ (h.first.0, n) ∷ heads h.after = heads-append h.before _ ∙ ap (λ z. heads h.before ++ (z ++ heads h.after)) h.head_is in
       let longer : length (heads row) ≤ length (heads h.before ++ (h.first.0, n) ∷ (key, right) ∷ heads h.after) =
       omega (arith, ap length hs0, length-append (heads h.before) ((h.first.0, n) ∷ heads h.after), length-append (heads h.before) ((h.first.0, n) ∷ (key, right) ∷ heads h.after)) in
-      let quiet : (m : ℕ) → 0 < count m (numbers row2) → slice_get v.nodes m ≡ slice_get u.nodes m = λ m some. g.others m (omega (arith, some, d m, c m, c2 m, c3 m, c4 m, c7 m, c8 m)) in
+      let quiet : (m : ℕ) → 0 < count m (numbers row2) → slice_get v.nodes m ≡ slice_get u.nodes m = λ m some. g.others m (omega (arith, some, d m, c m, c2 m, c7 m, c8 m)) in
       let here_m = g.nodes_below up (omega arith) in
       let here_j = g.entries_below up (omega arith) in
       let at2 : IsAt row2 (get_or ms'' up 0) (get_or js'' up 0) p = record { before = h.at.before; entries = h.at.entries; after = h.at.after; row_is = rw here_m h.at.row_is; within = rw here_j h.at.within; place_is = rw here_j h.at.place_is } in
@@ -67,15 +63,15 @@ module _ {K V : Type 0} where
           inside = (row-same inner_content u.nodes v.nodes row2 quiet h.inside, g.above.inside);
           stands = (at2, subst (λ (z : ℕ). StandsAbove ms'' js'' (suc up) g.rows' z) (sym h.at_is) g.above.stands);
           height = omega (arith, g.above.height);
-          apart = λ m. omega (arith, d m, c m, c2 m, c3 m, c4 m, c5 m, c6 m, c7 m, c8 m, g.numbers_are m);
+          apart = λ m. omega (arith, d m, c m, c2 m, c7 m, c8 m, g.numbers_are m);
         };
         topped = λ old le top. (
           omega (arith, le, (tops old top).0),
           subst (λ (z : List (K × ℕ)). Topped z g.rows') (sym hs) (g.topped (heads row) longer (tops old top).1),
         );
         sizes_are = ap (λ z. sizes row2 ∷ z) g.sizes_are ∙ sym (ap (λ z. gain_above (Some was) (map sizes z)) h.rows_were ∙ ap (λ z. z.1 ∷ gain_above z.0 (map sizes h.rest)) h.gain_is);
-        numbers_are = λ m. omega (arith, nums_m m, c2 m, c3 m, c4 m, c5 m, g.numbers_are m);
-        others = λ m z. g.others m (omega (arith, z, nums_m m, c2 m)) ∙ h.slots_same m (absent_ne m n (numbers h.after) (omega (arith, z, nums_m m, c2 m, c3 m))) (absent_ne m right taken (omega (arith, z)));
+        numbers_are = λ m. omega (arith, nums_m m, c m, c2 m, g.numbers_are m);
+        others = λ m z. g.others m (omega (arith, z, nums_m m, c m)) ∙ h.slots_same m (absent_ne m n (numbers h.after) (omega (arith, z, nums_m m, c m))) (absent_ne m right taken (omega (arith, z)));
         chain_is = chain_is;
         slots_are = g.slots_are ∙ h.slots_are;
         limit_is = g.limit_is ∙ h.limit_is;
@@ -136,22 +132,12 @@ module _ {K V : Type 0} where
   -- the same rows, by equations
   pub above_from : (t t1 : Table K V) (ms ms1 js js1 : List ℕ) (up up1 size size1 : ℕ) (rows : List (List (LevelNode K ℕ))) (hs hs1 : List (K × ℕ)) (p : ℕ) → t1 ≡ t → ms1 ≡ ms → js1 ≡ js → up1 ≡ up → size1 ≡ size → hs1 ≡ hs → Above t ms js up size rows hs p → Above t1 ms1 js1 up1 size1 rows hs1 p
   above_from t t1 ms ms1 js js1 up up1 size size1 rows hs hs1 p et em ej eu es eh ab =
-      subst (λ (z : Table K V). Above z ms1 js1 up1 size1 rows hs1 p) (sym et)
-      (subst (λ (z : List ℕ). Above t z js1 up1 size1 rows hs1 p) (sym em)
-      (subst (λ (z : List ℕ). Above t ms z up1 size1 rows hs1 p) (sym ej)
-      (subst (λ (z : ℕ). Above t ms js z size1 rows hs1 p) (sym eu)
-      (subst (λ (z : ℕ). Above t ms js up z rows hs1 p) (sym es)
-      (subst (λ (z : List (K × ℕ)). Above t ms js up size rows z p) (sym eh) ab)))))
+      rw (et, em, ej, eu, es, eh) ab
 
   pub grown_from : (t t1 u : Table K V) (ms ms1 js js1 ms' js' : List ℕ) (up up1 size size1 size' : ℕ) (rows : List (List (LevelNode K ℕ))) (hs hs1 : List (K × ℕ)) (p : ℕ) (ss : List (List ℕ)) (taken : List ℕ) → t1 ≡ t → ms1 ≡ ms → js1 ≡ js → up1 ≡ up → size1 ≡ size → hs1 ≡ hs →
       Grown t u ms js ms' js' up size size' rows hs p ss taken → Grown t1 u ms1 js1 ms' js' up1 size1 size' rows hs1 p ss taken
   grown_from t t1 u ms ms1 js js1 ms' js' up up1 size size1 size' rows hs hs1 p ss taken et em ej eu es eh g =
-      subst (λ (z : Table K V). Grown z u ms1 js1 ms' js' up1 size1 size' rows hs1 p ss taken) (sym et)
-      (subst (λ (z : List ℕ). Grown t u z js1 ms' js' up1 size1 size' rows hs1 p ss taken) (sym em)
-      (subst (λ (z : List ℕ). Grown t u ms z ms' js' up1 size1 size' rows hs1 p ss taken) (sym ej)
-      (subst (λ (z : ℕ). Grown t u ms js ms' js' z size1 size' rows hs1 p ss taken) (sym eu)
-      (subst (λ (z : ℕ). Grown t u ms js ms' js' up z size' rows hs1 p ss taken) (sym es)
-      (subst (λ (z : List (K × ℕ)). Grown t u ms js ms' js' up size size' rows z p ss taken) (sym eh) g)))))
+      rw (et, em, ej, eu, es, eh) g
 
 -- the top level needs a new root too
 pub need_top : {K : Type 0} (p : ℕ) (rows : List (List (LevelNode K ℕ))) → length rows ≡ 0 → need_above (Some p) (map sizes rows) ≡ 2

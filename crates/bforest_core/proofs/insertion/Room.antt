@@ -7,7 +7,7 @@ use Rattle.bforest_core.specs.Sizes.{inner_gain, gain_above, need_above}
 use Rattle.bforest_core.specs.Place.{inner_content, count, StandsAbove}
 use Rattle.bforest_core.specs.Climb.{Grown}
 use Rattle.bforest_core.proofs.rows.LevelRows.{flat-append, heads-append, sizes-append}
-use Rattle.bforest_core.proofs.table.Tables.{count-append, count-row, row-put, rows-same, ne_from_count, absent_ne, Puts}
+use Rattle.bforest_core.proofs.table.Tables.{counts, row-put, rows-same, ne_from_count, absent_ne, Puts}
 use Rattle.bforest_core.proofs.rows.Zipper.{Cut_above, facts, Spot, stands_here, stands-same}
 use Rattle.bforest_core.proofs.insertion.Grow.{head-grown, FitRow-put, gain_room}
 
@@ -43,12 +43,8 @@ module _ {K V : Type 0} where
       let f = facts t ms js up size before n l x r after rest ab in
       let len : length es ≡ suc (length old) = omega (arith, length-append l (x ∷ y ∷ r), length-append l (x ∷ r)) in
       let len2 : length es ≡ length l + suc (suc (length r)) = length-append l (x ∷ y ∷ r) in
-      let c = λ (m : ℕ). count-row m before n old after in
-      let c2 = λ (m : ℕ). count-row m before n es after in
-      let c3 = λ (m : ℕ). count-append m (numbers (before ++ node n old ∷ after) ++ flat_map numbers rest) t.chain in
-      let c4 = λ (m : ℕ). count-append m (numbers (before ++ node n old ∷ after)) (flat_map numbers rest) in
-      let c5 = λ (m : ℕ). count-append m (numbers (before ++ node n es ∷ after)) (flat_map numbers rest) in
-      let c6 = λ (m : ℕ). count-append m (numbers (before ++ node n es ∷ after) ++ flat_map numbers rest) u.chain in
+      let c = λ (m : ℕ). counts m before n old after rest t.chain in
+      let c2 = λ (m : ℕ). counts m before n es after rest u.chain in
       let c8 = λ (m : ℕ). ap (λ z. count m z) w.chain_is in
       let hs : heads (before ++ node n old ∷ after) ≡ heads (before ++ node n es ∷ after) =
       heads-append before _ ∙ ap (λ z. heads before ++ (z ++ heads after)) (head-grown n l x r (y ∷ r)) ∙ sym (heads-append before _) in
@@ -69,15 +65,15 @@ module _ {K V : Type 0} where
           );
           stands = stands_here ms js' up (before ++ node n es ∷ after) before n (k + length l) es after rest p f.solid refl refl j_is (omega (arith, len2, most)) (omega (arith, p_is, length-append (flat before) l)) st2;
           height = ab.height;
-          apart = λ m. omega (arith, ab.apart m, c m, c2 m, c3 m, c4 m, c5 m, c6 m, c8 m);
+          apart = λ m. omega (arith, ab.apart m, c m, c2 m, c8 m);
         };
         topped = λ old_list le top. (
           omega (arith, le, top.0),
           subst (λ (z : List (K × ℕ)). Topped z rest) hs top.1,
         );
         sizes_are = ap (λ z. z ∷ map sizes rest) (sizes-append before (node n es ∷ after) ∙ ap (λ z. sizes before ++ z ∷ sizes after) len);
-        numbers_are = λ m. omega (arith, c m, c2 m, c4 m, c5 m);
-        others = λ m z. w.same m (absent_ne m n (numbers after) (omega (arith, z, c m, c4 m)));
+        numbers_are = λ m. omega (arith, c m, c2 m);
+        others = λ m z. w.same m (absent_ne m n (numbers after) (omega (arith, z, c m)));
         chain_is = sym w.chain_is;
         slots_are = w.slots_are;
         limit_is = w.limit_is;
