@@ -1,5 +1,5 @@
 -- The leaves after one of them was halved, and the tree after the levels above took the right half in.
-use Rattle.std.proofs.Common.{◌≡◌, ℕ, suc, ◌+◌, ◌-◌, ◌≤◌, ◌<◌, ◌≢◌, Bool, if◌then◌else◌, List, ◌∷◌, ◌++◌, map, length, insert, get_or, slice_get, Some, sym, ap, ◌∙◌, subst, length-append, arith}
+use Rattle.std.proofs.Common.{◌≡◌, ℕ, suc, ◌+◌, ◌-◌, ◌≤◌, ◌<◌, ◌≢◌, Bool, if◌then◌else◌, List, ◌∷◌, ◌++◌, map, length, insert, get_or, slice_get, Option, Some, sym, ap, ◌∙◌, subst, length-append, arith}
 use Rattle.std.specs.List.{flat_map}
 use Rattle.std.proofs.lemmas.List.{length-map}
 use Rattle.bforest_core.specs.Table.{Table}
@@ -87,17 +87,11 @@ module _ {K V : Type 0} where
         nodes_above = λ i high. far_m i (λ (e : i ≡ 0). omega (arith, e, high));
       }
 
-  -- the need where the leaf becomes two
-  pub need_leaf : (most : ℕ) (t u : Table K V) (ms ms' js' : List ℕ) (size : ℕ) (tree : Tree K V) (place : ℕ) (entry : K × V) (key : K) (right : ℕ) (moved : Bool) → (h : LeafHalved most t u ms ms' js' size tree place entry key right moved) →
-      need_above (leaf_gain most place (sizes tree.leaves)).0 (map sizes tree.above) ≡ need_above (Some (length (heads h.before))) (map sizes h.rows)
-  need_leaf most t u ms ms' js' size tree place entry key right moved h =
-      ap (λ z. need_above z.0 (map sizes tree.above)) h.gain_is ∙ ap (λ z. need_above (Some (length (heads h.before))) z) (sym h.sizes_above)
-
-  -- and the sizes above
-  pub gain_leaf : (most : ℕ) (t u : Table K V) (ms ms' js' : List ℕ) (size : ℕ) (tree : Tree K V) (place : ℕ) (entry : K × V) (key : K) (right : ℕ) (moved : Bool) → (h : LeafHalved most t u ms ms' js' size tree place entry key right moved) →
-      gain_above (leaf_gain most place (sizes tree.leaves)).0 (map sizes tree.above) ≡ gain_above (Some (length (heads h.before))) (map sizes h.rows)
-  gain_leaf most t u ms ms' js' size tree place entry key right moved h =
-      ap (λ z. gain_above z.0 (map sizes tree.above)) h.gain_is ∙ ap (λ z. gain_above (Some (length (heads h.before))) z) (sym h.sizes_above)
+  -- the need, or the sizes above, where the leaf becomes two
+  pub above_leaf : {X : Type 0} (change : Option ℕ → List (List ℕ) → X) (most : ℕ) (t u : Table K V) (ms ms' js' : List ℕ) (size : ℕ) (tree : Tree K V) (place : ℕ) (entry : K × V) (key : K) (right : ℕ) (moved : Bool) → (h : LeafHalved most t u ms ms' js' size tree place entry key right moved) →
+      change (leaf_gain most place (sizes tree.leaves)).0 (map sizes tree.above) ≡ change (Some (length (heads h.before))) (map sizes h.rows)
+  above_leaf change most t u ms ms' js' size tree place entry key right moved h =
+      ap (λ z. change z.0 (map sizes tree.above)) h.gain_is ∙ ap (λ z. change (Some (length (heads h.before))) z) (sym h.sizes_above)
 
   -- the levels above took the right half in
   pub inserted : (most : ℕ) (t u v : Table K V) (ms js ms' js' ms'' js'' : List ℕ) (size size' : ℕ) (tree : Tree K V) (place : ℕ) (entry : K × V) (key : K) (right : ℕ) (moved : Bool) (taken : List ℕ) → Placed most t ms js size tree place → (h : LeafHalved most t u ms ms' js' size tree place entry key right moved) →
@@ -142,12 +136,12 @@ module _ {K V : Type 0} where
         tree' = record { leaves = row2; above = g.rows' };
         taken = right ∷ taken;
         flat_is = h.flat_is;
-        sizes_are = ap (λ z. sizes row2 ∷ z) (g.sizes_are ∙ sym (gain_leaf most t u ms ms' js' size tree place entry key right moved h)) ∙ sym (ap (λ z. z.1 ∷ gain_above (leaf_gain most place (sizes tree.leaves)).0 (map sizes tree.above)) h.gain_is);
+        sizes_are = ap (λ z. sizes row2 ∷ z) (g.sizes_are ∙ sym (above_leaf gain_above most t u ms ms' js' size tree place entry key right moved h)) ∙ sym (ap (λ z. z.1 ∷ gain_above (leaf_gain most place (sizes tree.leaves)).0 (map sizes tree.above)) h.gain_is);
         fit = fit';
         inside = record { leaves_in = row-same leaf_content u.nodes v.nodes row2 quiet h.inside; rows_in = g.above.inside };
         stands = stands;
         numbers_are = λ m. omega (arith, leaves_m m, rows_m m, c2 m, c4 m, g.numbers_are m);
-        taken_is = needs ∙ sym (need_leaf most t u ms ms' js' size tree place entry key right moved h);
+        taken_is = needs ∙ sym (above_leaf need_above most t u ms ms' js' size tree place entry key right moved h);
         others = λ m z. g.others m (omega (arith, z, leaves_m m, rows_m m, c2 m)) ∙ h.slots_same m (absent_ne m n (numbers h.after) (omega (arith, z, leaves_m m, c2 m))) (absent_ne m right taken (omega (arith, z)));
         chain_is = chain_is;
         slots_are = g.slots_are ∙ h.slots_are;

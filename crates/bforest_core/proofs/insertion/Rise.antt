@@ -20,17 +20,13 @@ gain-some p [] = omega arith
 gain-some p (level ∷ levels) = omega arith
 
 module _ {K V : Type 0} where
-  -- the need of a level whose node becomes two
-  pub need_halved : (t u : Table K V) (ms js ms' js' : List ℕ) (up size : ℕ) (rows : List (List (LevelNode K ℕ))) (list : List (K × ℕ)) (was p : ℕ) (key : K) (right : ℕ) (moved : Bool) → (h : Halved t u ms js ms' js' up size rows list was p key right moved) →
-      need_above (Some was) (map sizes rows) ≡ suc (need_above (Some (length (heads h.before))) (map sizes h.rest))
-  need_halved t u ms js ms' js' up size rows list was p key right moved h =
-      ap (λ z. need_above (Some was) (map sizes z)) h.rows_were ∙ ap (λ z. suc (need_above z.0 (map sizes h.rest))) h.gain_is
-
-  -- and the sizes that it gets
-  pub gain_halved : (t u : Table K V) (ms js ms' js' : List ℕ) (up size : ℕ) (rows : List (List (LevelNode K ℕ))) (list : List (K × ℕ)) (was p : ℕ) (key : K) (right : ℕ) (moved : Bool) → (h : Halved t u ms js ms' js' up size rows list was p key right moved) →
-      length (gain_above (Some was) (map sizes rows)) ≡ suc (length (gain_above (Some (length (heads h.before))) (map sizes h.rest)))
-  gain_halved t u ms js ms' js' up size rows list was p key right moved h =
-      ap (λ z. length (gain_above (Some was) (map sizes z))) h.rows_were ∙ ap (λ z. suc (length (gain_above z.0 (map sizes h.rest)))) h.gain_is
+  -- the need of a level whose node becomes two, and how many levels stand above it then
+  pub sizes_halved : (t u : Table K V) (ms js ms' js' : List ℕ) (up size : ℕ) (rows : List (List (LevelNode K ℕ))) (list : List (K × ℕ)) (was p : ℕ) (key : K) (right : ℕ) (moved : Bool) → (h : Halved t u ms js ms' js' up size rows list was p key right moved) →
+      (need_above (Some was) (map sizes rows) ≡ suc (need_above (Some (length (heads h.before))) (map sizes h.rest))) × (length (gain_above (Some was) (map sizes rows)) ≡ suc (length (gain_above (Some (length (heads h.before))) (map sizes h.rest))))
+  sizes_halved t u ms js ms' js' up size rows list was p key right moved h = (
+    ap (λ z. need_above (Some was) (map sizes z)) h.rows_were ∙ ap (λ z. suc (need_above z.0 (map sizes h.rest))) h.gain_is,
+    ap (λ z. length (gain_above (Some was) (map sizes z))) h.rows_were ∙ ap (λ z. suc (length (gain_above z.0 (map sizes h.rest)))) h.gain_is,
+  )
 
   rise_at : (t u v : Table K V) (ms js ms' js' ms'' js'' : List ℕ) (up size size' : ℕ) (rows : List (List (LevelNode K ℕ))) (list : List (K × ℕ)) (was p : ℕ) (key : K) (right : ℕ) (moved : Bool) (taken : List ℕ) → (h : Halved t u ms js ms' js' up size rows list was p key right moved) →
       Distinct (flat_map numbers ((h.before ++ node (get_or ms up 0) h.entries ∷ h.after) ∷ h.rest) ++ t.chain) →

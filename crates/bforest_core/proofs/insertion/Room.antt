@@ -91,16 +91,11 @@ module _ {K V : Type 0} where
       let n = get_or ms up 0 in
       let row : List (LevelNode K ℕ) = q.before ++ node n (q.l ++ x ∷ q.r) ∷ q.after in
       let g = gain_at q.before n q.l x q.r q.after room in
-      let w1 = room_at t u ms js js' up size q.before q.l x y q.r q.after q.rest (step moved) (if moved then suc (length a) else length a) d.whole q.entry_is q.stands room w (step_most moved)
-      (j_is ∙ step_is moved (get_or js up 0) ∙ ap (λ z. step moved + z) (sym q.entry_is)) (step_is moved (length a) ∙ ap (λ z. step moved + length z) q.a_is) far in
+      let w1 = room_at t u ms js js' up size q.before q.l x y q.r q.after q.rest (step moved) (if moved then suc (length (flat q.before ++ q.l)) else length (flat q.before ++ q.l)) d.whole q.entry_is q.stands room w (step_most moved)
+      (j_is ∙ step_is moved (get_or js up 0) ∙ ap (λ z. step moved + z) (sym q.entry_is)) (step_is moved (length (flat q.before ++ q.l))) far in
       let gains : gain_above (Some (length (flat q.before ++ q.l))) (map sizes (row ∷ q.rest)) ≡ (sizes q.before ++ suc (length (q.l ++ x ∷ q.r)) ∷ sizes q.after) ∷ map sizes q.rest = ap (λ z. z.1 ∷ gain_above z.0 (map sizes q.rest)) g in
       let needs : need_above (Some (length (flat q.before ++ q.l))) (map sizes (row ∷ q.rest)) ≡ 1 = ap (λ z. suc (need_above z.0 (map sizes q.rest))) g in
-      let gains2 : gain_above (Some (length a)) (map sizes rows) ≡ (sizes q.before ++ suc (length (q.l ++ x ∷ q.r)) ∷ sizes q.after) ∷ map sizes q.rest =
-      ap (λ z. gain_above (Some (length z)) (map sizes rows)) q.a_is ∙ ap (λ z. gain_above (Some (length (flat q.before ++ q.l))) (map sizes z)) q.rows_are ∙ gains in
-      let needs2 : need_above (Some (length a)) (map sizes rows) ≡ 1 =
-      ap (λ z. need_above (Some (length z)) (map sizes rows)) q.a_is ∙ ap (λ z. need_above (Some (length (flat q.before ++ q.l))) (map sizes z)) q.rows_are ∙ needs in
-      let list : (flat q.before ++ q.l) ++ x ∷ y ∷ (q.r ++ flat q.after) ≡ a ++ x ∷ y ∷ b = sym (ap (λ z. z ++ x ∷ y ∷ b) q.a_is ∙ ap (λ z. (flat q.before ++ q.l) ++ x ∷ y ∷ z) q.b_is) in
-      let place = if moved then suc (length a) else length a in
-      let w2 = subst (λ (z : List (K × ℕ)). Grown t u ms js ms js' up size size (row ∷ q.rest) z place ((sizes q.before ++ suc (length (q.l ++ x ∷ q.r)) ∷ sizes q.after) ∷ map sizes q.rest) []) list w1 in
-      let w3 = subst (λ (z : List (List (LevelNode K ℕ))). Grown t u ms js ms js' up size size z (a ++ x ∷ y ∷ b) place ((sizes q.before ++ suc (length (q.l ++ x ∷ q.r)) ∷ sizes q.after) ∷ map sizes q.rest) []) (sym q.rows_are) w2 in
-      (sym needs2, subst (λ (z : List (List ℕ)). Grown t u ms js ms js' up size size rows (a ++ x ∷ y ∷ b) place z []) (sym gains2) w3)
+      rw (q.a_is, q.b_is, q.rows_are) (
+        sym needs,
+        subst (λ (z : List (List ℕ)). Grown t u ms js ms js' up size size (row ∷ q.rest) ((flat q.before ++ q.l) ++ x ∷ y ∷ (q.r ++ flat q.after)) (if moved then suc (length (flat q.before ++ q.l)) else length (flat q.before ++ q.l)) z []) (sym gains) w1,
+      )
