@@ -28,21 +28,22 @@ module _ {K V : Type 0} where
     ap (λ z. length (gain_above (Some was) (map sizes z))) h.rows_were ∙ ap (λ z. suc (length (gain_above z.0 (map sizes h.rest)))) h.gain_is,
   )
 
-  rise_at : (t u v : Table K V) (ms js ms' js' ms'' js'' : List ℕ) (up size size' : ℕ) (rows : List (List (LevelNode K ℕ))) (list : List (K × ℕ)) (was p : ℕ) (key : K) (right : ℕ) (moved : Bool) (taken : List ℕ) → (h : Halved t u ms js ms' js' up size rows list was p key right moved) →
-      Distinct (flat_map numbers ((h.before ++ node (get_or ms up 0) h.entries ∷ h.after) ∷ h.rest) ++ t.chain) →
-      ((old : List (K × ℕ)) → Topped old rows → Topped old ((h.before ++ node (get_or ms up 0) h.entries ∷ h.after) ∷ h.rest)) → flat_map numbers rows ≡ flat_map numbers ((h.before ++ node (get_or ms up 0) h.entries ∷ h.after) ∷ h.rest) →
+  -- the levels above took the right half in
+  pub rise : (t u v : Table K V) (ms js ms' js' ms'' js'' : List ℕ) (up size size' : ℕ) (rows : List (List (LevelNode K ℕ))) (hs list : List (K × ℕ)) (q was p : ℕ) (key : K) (right : ℕ) (moved : Bool) (taken : List ℕ) → Above t ms js up size rows hs q → (h : Halved t u ms js ms' js' up size rows list was p key right moved) →
       Grown u v ms' js' ms'' js'' (suc up) size size' h.rest (heads h.before ++ (h.first.0, get_or ms up 0) ∷ (key, right) ∷ heads h.after) (if moved then suc (length (heads h.before)) else length (heads h.before)) (gain_above (Some (length (heads h.before))) (map sizes h.rest)) taken →
       Grown t v ms js ms'' js'' up size size' rows list p (gain_above (Some was) (map sizes rows)) (right ∷ taken)
-  rise_at t u v ms js ms' js' ms'' js'' up size size' rows list was p key right moved taken h d tops nums g =
+  rise t u v ms js ms' js' ms'' js'' up size size' rows hs list q was p key right moved taken ab h g =
       let n = get_or ms up 0 in
       let row : List (LevelNode K ℕ) = h.before ++ node n h.entries ∷ h.after in
       let row2 : List (LevelNode K ℕ) = h.before ++ node n (h.first ∷ h.others) ∷ node right (h.next ∷ h.more) ∷ h.after in
+      let d = subst (λ (z : List (List (LevelNode K ℕ))). Distinct (flat_map numbers z ++ t.chain)) h.rows_were ab.apart in
+      let tops = λ (old : List (K × ℕ)) (top : Topped old rows). subst (λ (z : List (List (LevelNode K ℕ))). Topped old z) h.rows_were top in
       let c = λ (m : ℕ). counts m h.before n h.entries h.after h.rest t.chain in
       let c2 = λ (m : ℕ). counts m h.before n (h.first ∷ h.others) (node right (h.next ∷ h.more) ∷ h.after) g.rows' v.chain in
       let chain_is : t.chain ≡ right ∷ (taken ++ v.chain) = h.chain_is ∙ ap (λ z. right ∷ z) g.chain_is in
       let c7 = λ (m : ℕ). ap (λ z. count m z) chain_is in
       let c8 = λ (m : ℕ). count-append m taken v.chain in
-      let nums_m = λ (m : ℕ). ap (λ z. count m z) nums in
+      let nums_m = λ (m : ℕ). ap (λ z. count m (flat_map numbers z)) h.rows_were in
       let hs : heads row2 ≡ heads h.before ++ (h.first.0, n) ∷ (key, right) ∷ heads h.after =
       heads-halved h.before h.after n right h.first h.others h.next h.more ∙ ap (λ z. heads h.before ++ (h.first.0, n) ∷ (z, right) ∷ heads h.after) (sym h.key_is) in
       let hs0 : heads row ≡ heads h.before ++ (h.first.0, n) ∷ heads h.after = heads-append h.before _ ∙ ap (λ z. heads h.before ++ (z ++ heads h.after)) h.head_is in
@@ -76,16 +77,6 @@ module _ {K V : Type 0} where
         same_top = λ same. g.same_top same ∙ h.nodes_above (size - 1) (omega (arith, same, g.above.height, ap length g.sizes_are, length-map g.rows' sizes, gain-some (length (heads h.before)) (map sizes h.rest)));
         new_top = λ other. omega (arith, g.new_top other);
       }
-
-  -- the levels above took the right half in
-  pub rise : (t u v : Table K V) (ms js ms' js' ms'' js'' : List ℕ) (up size size' : ℕ) (rows : List (List (LevelNode K ℕ))) (hs list : List (K × ℕ)) (q was p : ℕ) (key : K) (right : ℕ) (moved : Bool) (taken : List ℕ) → Above t ms js up size rows hs q → (h : Halved t u ms js ms' js' up size rows list was p key right moved) →
-      Grown u v ms' js' ms'' js'' (suc up) size size' h.rest (heads h.before ++ (h.first.0, get_or ms up 0) ∷ (key, right) ∷ heads h.after) (if moved then suc (length (heads h.before)) else length (heads h.before)) (gain_above (Some (length (heads h.before))) (map sizes h.rest)) taken →
-      Grown t v ms js ms'' js'' up size size' rows list p (gain_above (Some was) (map sizes rows)) (right ∷ taken)
-  rise t u v ms js ms' js' ms'' js'' up size size' rows hs list q was p key right moved taken ab h g =
-      rise_at t u v ms js ms' js' ms'' js'' up size size' rows list was p key right moved taken h
-      (subst (λ (z : List (List (LevelNode K ℕ))). Distinct (flat_map numbers z ++ t.chain)) h.rows_were ab.apart)
-      (λ old top. subst (λ (z : List (List (LevelNode K ℕ))). Topped old z) h.rows_were top)
-      (ap (λ z. flat_map numbers z) h.rows_were) g
 
   -- a root that became two gets a new root
   pub settle_root : (t u : Table K V) (ms js ms' js' : List ℕ) (size size' left root : ℕ) (rows : List (List (LevelNode K ℕ))) (a : List (K × ℕ)) (first : K) (b : List (K × ℕ)) (key : K) (child : ℕ) (moved : Bool) → Above t ms js size size rows (a ++ (first, left) ∷ b) (length a) → Takes t u root (Inner (key ∷ []) (left ∷ child ∷ [])) →
