@@ -83,18 +83,15 @@ module _ {K V : Type 0} where
 
           pub early_asks : PutAsks Leaf s (get_or ms 0 r) (get_or js 0 0)
           early_asks =
-              let q = low_is in
-              asks_put Leaf s _ _ num_is _ _ low_cut.two.here (get_or js 0 0) (left_used leaf_content t s s (get_or ms 0 0) right low_cut.zs (low_cut.y ∷ low_cut.ys) low_cut.two d.none_chain) (omega (arith, keys_count low_cut.zs, low_cut.count_is))
+              asks_put Leaf s _ _ num_is _ _ low_cut.two.here (get_or js 0 0) (left_used leaf_content t s s (get_or ms 0 0) right low_cut.zs (low_cut.y ∷ low_cut.ys) low_cut.two d.none_chain) (omega (arith, keys_count low_cut.zs, low_cut.count_is, low_is))
 
           pub early_halves : (u : Table K V) (key : K) (value : V) (put : Bool) → HasRoom Leaf (λ keys vals. length keys) cap s (get_or ms 0 r) put → Puts Leaf (λ z. with_entry z (get_or js 0 0) key value) s u (get_or ms 0 r) put → LeafHalved cap t u ms ms js size tree place (key, value) parts.crit_key right false
           early_halves u key value put has puts =
-              let q = low_is in
-              let f = full_is in
-              let written = put_in Leaf s _ _ num_is _ _ low_cut.two.here u (λ keys vals. length keys) cap (λ z. with_entry z (get_or js 0 0) key value) put has puts (omega (arith, keys_count low_cut.zs, low_cut.count_is)) in
+              let written = put_in Leaf s _ _ num_is _ _ low_cut.two.here u (λ keys vals. length keys) cap (λ z. with_entry z (get_or js 0 0) key value) put has puts (omega (arith, keys_count low_cut.zs, low_cut.count_is, low_is, full_is, o.low_is, o.cap_is)) in
               let h = into_left leaf_content t s u (get_or ms 0 0) right parts.lhs_entries (d.l ++ d.r) (d.l ++ (key, value) ∷ d.r) parts.crit_key low_cut (λ v. with_entry v (get_or js 0 0) key value) (half_of cap) (half_of cap)
-              d.l (d.l ++ (key, value) ∷ []) d.r refl (sym (append_assoc d.l ((key, value) ∷ []) d.r)) (omega (arith, length-append d.l ((key, value) ∷ []))) (omega (arith, d.index_is, low, q)) (omega (arith, q, o.low_is, o.high_is)) (omega (arith, q, f, o.low_is, o.high_is, o.cap_is))
+              d.l (d.l ++ (key, value) ∷ []) d.r refl (sym (append_assoc d.l ((key, value) ∷ []) d.r)) (omega (arith, length-append d.l ((key, value) ∷ []))) (omega (arith, d.index_is, low, low_is)) (omega (arith, low_is, o.low_is, o.high_is)) (omega (arith, low_is, full_is, o.low_is, o.high_is, o.cap_is))
               (λ mid. with_entry_is V d.l mid key value (get_or js 0 0) d.index_is ∙ ap leaf_content (sym (append_assoc d.l ((key, value) ∷ []) mid))) written in
-              leaf_parted cap t u ms js ms js size tree place (key, value) parts.crit_key right false o p d f h (λ i other. refl) (λ i other. refl) seen
+              leaf_parted cap t u ms js ms js size tree place (key, value) parts.crit_key right false o p d full_is h (λ i other. refl) (λ i other. refl) seen
               (in_left d.before d.after (get_or ms 0 0) right (h.z ∷ h.xs) (h.y ∷ h.ys) (get_or js 0 0) place seen (omega (arith, low, h.left_is, o.low_is, o.high_is)) (omega (arith, d.place_is, d.index_is)))
 
         module _ (high : cap / 2 < get_or js 0 0) where
@@ -109,24 +106,21 @@ module _ {K V : Type 0} where
 
           pub late_asks : PutAsks Leaf s right (get_or js 0 0 - parts.lhs_entries)
           late_asks =
-              let most : get_or js 0 0 ≤ length (d.l ++ d.r) = omega (arith, d.index_is, length-append d.l d.r) in
-              asks_put Leaf s right right refl _ _ high_cut.two.there (get_or js 0 0 - parts.lhs_entries) used (omega (arith, keys_count (high_cut.y ∷ high_cut.ys), ap length high_cut.es_is, length-append high_cut.zs (high_cut.y ∷ high_cut.ys), high_cut.count_is))
+              asks_put Leaf s right right refl _ _ high_cut.two.there (get_or js 0 0 - parts.lhs_entries) used (omega (arith, keys_count (high_cut.y ∷ high_cut.ys), ap length high_cut.es_is, length-append high_cut.zs (high_cut.y ∷ high_cut.ys), high_cut.count_is, d.index_is, length-append d.l d.r))
 
           pub late_halves : (u : Table K V) (key first : K) (value : V) (put : Bool) → HasRoom Leaf (λ keys vals. length keys) cap s right put → Puts Leaf (λ z. with_entry z (get_or js 0 0 - parts.lhs_entries) key value) s u right put → (get_or js 0 0 - parts.lhs_entries ≡ 0 → first ≡ key) → (0 < get_or js 0 0 - parts.lhs_entries → first ≡ parts.crit_key) →
               1 ≤ length js → LeafHalved cap t u ms (set ms 0 right) (set js 0 (get_or js 0 0 - parts.lhs_entries)) size tree place (key, value) first right true
           late_halves u key first value put has puts zero more some =
-              let q = high_is in
-              let f = full_is in
               let rights = high_cut.y ∷ high_cut.ys in
               let behind = get_or js 0 0 - parts.lhs_entries in
-              let written = put_in Leaf s right right refl _ _ high_cut.two.there u (λ keys vals. length keys) cap (λ z. with_entry z behind key value) put has puts (omega (arith, keys_count rights, ap length high_cut.es_is, length-append high_cut.zs rights, high_cut.count_is, o.high_is)) in
+              let written = put_in Leaf s right right refl _ _ high_cut.two.there u (λ keys vals. length keys) cap (λ z. with_entry z behind key value) put has puts (omega (arith, keys_count rights, ap length high_cut.es_is, length-append high_cut.zs rights, high_cut.count_is, o.high_is, high_is, full_is, o.cap_is)) in
               let h = into_right leaf_content t s u (get_or ms 0 0) right parts.lhs_entries (d.l ++ d.r) (d.l ++ (key, value) ∷ d.r) parts.crit_key high_cut (λ v. with_entry v behind key value) (half_of cap) (half_of cap)
-              first d.l d.r ((key, value) ∷ d.r) refl refl refl (omega (arith, d.index_is, late_within)) (omega (arith, q, o.high_is)) q (omega (arith, q, f, o.high_is, o.cap_is))
+              first d.l d.r ((key, value) ∷ d.r) refl refl refl (omega (arith, d.index_is, late_within)) (omega (arith, high_is, o.high_is)) high_is (omega (arith, high_is, full_is, o.high_is, o.cap_is))
               (λ mid is. (let mid_is : length mid ≡ behind = is ∙ ap (λ z. z - parts.lhs_entries) d.index_is in (
                 with_entry_is V mid d.r key value behind mid_is,
                 λ rest. middle_key right mid (key, value) d.r high_cut.y high_cut.ys first rest (λ none. zero (sym mid_is ∙ none)) (λ few. more (omega (arith, few, mid_is)) ∙ high_cut.key_is),
               ))) written in
               let j_is = get_or-set_same js 0 behind 0 (omega arith) in
-              leaf_parted cap t u ms js (set ms 0 right) (set js 0 behind) size tree place (key, value) first right true o p d f h (λ i other. get_or-set_other ms 0 i right 0 other) (λ i other. get_or-set_other js 0 i behind 0 other) seen
+              leaf_parted cap t u ms js (set ms 0 right) (set js 0 behind) size tree place (key, value) first right true o p d full_is h (λ i other. get_or-set_other ms 0 i right 0 other) (λ i other. get_or-set_other js 0 i behind 0 other) seen
               (in_right d.before d.after (get_or ms 0 0) right (h.z ∷ h.xs) (h.y ∷ h.ys) (get_or (set ms 0 right) 0 0) (get_or (set js 0 behind) 0 0) place seen (get_or-set_same ms 0 right 0 (omega arith))
-              (omega (arith, j_is, h.right_is, f, d.index_is, length-append d.l d.r, o.cap_is, o.high_is, q)) (omega (arith, j_is, d.place_is, d.index_is, h.left_is, q, late_within)))
+              (omega (arith, j_is, h.right_is, full_is, d.index_is, length-append d.l d.r, o.cap_is, o.high_is, high_is)) (omega (arith, j_is, d.place_is, d.index_is, h.left_is, high_is, late_within)))

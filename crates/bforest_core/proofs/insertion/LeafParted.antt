@@ -34,7 +34,6 @@ module _ {K V : Type 0} where
       let n = get_or ms 0 0 in
       let es : List (K × V) = d.l ++ d.r in
       let row : List (LevelNode K V) = d.before ++ node n es ∷ d.after in
-      let row2 : List (LevelNode K V) = d.before ++ node n (h.z ∷ h.xs) ∷ node right (h.y ∷ h.ys) ∷ d.after in
       let up = renewed most t ms js size tree place entry (omega (arith, o.cap_is)) p d in
       let one : 1 ≤ half_of most = omega (arith, o.high_is) in
       let few : half_of most ≤ most = omega (arith, o.high_is, o.cap_is, o.some) in
@@ -100,7 +99,6 @@ module _ {K V : Type 0} where
       Inserted most t v ms'' js'' size' tree place entry
   inserted most t u v ms js ms' js' ms'' js'' size size' tree place entry key right moved taken p h needs g =
       let n = get_or ms 0 0 in
-      let row : List (LevelNode K V) = h.before ++ node n h.entries ∷ h.after in
       let row2 : List (LevelNode K V) = h.before ++ node n (h.first ∷ h.others) ∷ node right (h.next ∷ h.more) ∷ h.after in
       let leaves_m = λ (m : ℕ). ap (λ z. count m (numbers z ++ flat_map numbers tree.above)) h.leaves_were in
       let rows_m = λ (m : ℕ). ap (λ z. count m z) h.numbers_above in

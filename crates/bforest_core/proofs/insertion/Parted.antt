@@ -24,7 +24,6 @@ module _ {K V : Type 0} where
       let n = get_or ms up 0 in
       let es : List (K × ℕ) = q.l ++ x ∷ q.r in
       let row : List (LevelNode K ℕ) = q.before ++ node n es ∷ q.after in
-      let row2 : List (LevelNode K ℕ) = q.before ++ node n (h.z ∷ h.xs) ∷ node right (h.y ∷ h.ys) ∷ q.after in
       let ab = d.whole in
       let c = λ (m : ℕ). counts m q.before n es q.after q.rest t.chain in
       let c4 = λ (m : ℕ). ap (λ z. count m z) h.two.chain_is in
