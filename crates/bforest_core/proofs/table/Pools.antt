@@ -76,13 +76,13 @@ module _ {K V : Type 0} where
       omega (arith, free_within n _ _ _ _ freed.0, length-set nodes at (Free first))
 
   -- new slots, all in front
-  pub IsPool-grown : (n : ℕ) (nodes : List (Content K V)) (first : Option ℕ) (free limit count : ℕ) → length nodes + count ≤ limit → IsPool n nodes first free limit → IsPool n (nodes ++ fresh_nodes (length nodes) count first) (front_of_new (length nodes) count first) (count + free) limit × (chain_from (nodes ++ fresh_nodes (length nodes) count first) (count + free) (front_of_new (length nodes) count first) ≡ down_from (length nodes) count ++ chain_from nodes free first)
-  IsPool-grown n nodes first free limit count within pool =
+  pub IsPool-grown : (n : ℕ) (nodes : List (Content K V)) (first : Option ℕ) (free limit count total : ℕ) → total ≡ count + free → length nodes + count ≤ limit → IsPool n nodes first free limit → IsPool n (nodes ++ fresh_nodes (length nodes) count first) (front_of_new (length nodes) count first) total limit × (chain_from (nodes ++ fresh_nodes (length nodes) count first) total (front_of_new (length nodes) count first) ≡ down_from (length nodes) count ++ chain_from nodes free first)
+  IsPool-grown n nodes first free limit count total total_is within pool =
       let chain = down_from (length nodes) count ++ chain_from nodes free first in
       let linked = IsChain-fresh nodes (chain_from nodes free first) first count pool.linked in
-      let counted : length chain ≡ count + free = omega (arith, length-append (down_from (length nodes) count) (chain_from nodes free first), length-down_from (length nodes) count, pool.counted) in
+      let counted : length chain ≡ total = omega (arith, total_is, length-append (down_from (length nodes) count) (chain_from nodes free first), length-down_from (length nodes) count, pool.counted) in
       let is = chain_from-is (nodes ++ fresh_nodes (length nodes) count first) chain (front_of_new (length nodes) count first) linked in
-      (IsPool-made n _ chain _ (count + free) limit pool.capacity linked counted (IsDistinct-fresh nodes _ first count pool.linked pool.distinct) (omega (arith, length-append nodes (fresh_nodes (length nodes) count first), length-fresh_nodes K V (length nodes) count first)) pool.limit_within, rw counted at is)
+      (IsPool-made n _ chain _ total limit pool.capacity linked counted (IsDistinct-fresh nodes _ first count pool.linked pool.distinct) (omega (arith, length-append nodes (fresh_nodes (length nodes) count first), length-fresh_nodes K V (length nodes) count first)) pool.limit_within, rw counted at is)
 
   -- where nodes lie free, there is a first
   pub first_some : (n : ℕ) (nodes : List (Content K V)) (first : Option ℕ) (free limit : ℕ) → 0 < free → IsPool n nodes first free limit → IsSome first

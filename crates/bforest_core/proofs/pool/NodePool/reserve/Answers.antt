@@ -1,4 +1,4 @@
-use Rattle.std.proofs.Common.{◌≡◌, ◌+◌, ◌-◌, length, vec_len, arith, refl, sym}
+use Rattle.std.proofs.Common.{◌≡◌, ◌-◌, length, vec_len, arith, refl, sym}
 use Rattle.bforest_core.proofs.table.Allocating.{ok_not_err, full_not_memory, has_room, lacks_room, finds_room, needs_growth, not_enough, stays_reserved, few_slots}
 use Rattle.bforest_core.proofs.table.Pools.{IsPool-grown}
 use Rattle.bforest_core.proofs.table.Chains.{front_of-is}
@@ -8,16 +8,14 @@ use Rattle.bforest_core.proofs.pool.NodePool.reserve.Goals as goal
 pub invariant_of-self : goal.invariant_of-self
 invariant_of-self g c =
     let size : vec_len c.self.inside.nodes ≡ length c.self.inside.nodes.items = omega arith in
-    let all : c.args.n - c.self.inside.free + c.self.inside.free ≡ c.args.n = omega arith in
-    let grown = IsPool-grown _ _ _ _ _ (c.args.n - c.self.inside.free) (omega arith) c.self.invariant in
-    rw (c.in-Ok.ensures.ok, c.in-Ok.ensures.first, size) (rw all at grown.0)
+    let grown = IsPool-grown _ _ _ _ _ (c.args.n - c.self.inside.free) c.args.n (omega arith) (omega arith) c.self.invariant in
+    rw (c.in-Ok.ensures.ok, c.in-Ok.ensures.first, size) grown.0
 
 pub returns-in-Ok-clause-ok : goal.returns-in-Ok-clause-ok
 returns-in-Ok-clause-ok g c =
     let size : vec_len c.self.inside.nodes ≡ length c.self.inside.nodes.items = omega arith in
-    let all : c.args.n - c.self.inside.free + c.self.inside.free ≡ c.args.n = omega arith in
-    let grown = IsPool-grown _ _ _ _ _ (c.args.n - c.self.inside.free) (omega arith) c.self.invariant in
-    rw (← c.self.view_is, c.in-Ok.ensures.ok, c.in-Ok.ensures.first, size, c.self.invariant.counted, front_of-is _ _ _ c.self.invariant.linked, rw all at grown.1)
+    let grown = IsPool-grown _ _ _ _ _ (c.args.n - c.self.inside.free) c.args.n (omega arith) (omega arith) c.self.invariant in
+    rw (← c.self.view_is, c.in-Ok.ensures.ok, c.in-Ok.ensures.first, size, c.self.invariant.counted, front_of-is _ _ _ c.self.invariant.linked, grown.1)
 
 pub returns-then-n-self-clause-full : goal.returns-then-n-self-clause-full
 returns-then-n-self-clause-full g c =
