@@ -6,7 +6,7 @@ use Rattle.bforest_core.specs.Levels.{LevelNode, node, flat, head_of, heads, siz
 use Rattle.bforest_core.specs.Sizes.{inner_gain, past, leaf_gain}
 use Rattle.bforest_core.specs.Place.{IsAt}
 use Rattle.bforest_core.proofs.rows.Bounds.{below_lt, above_lt}
-use Rattle.bforest_core.proofs.rows.LevelRows.{flat-append, heads-append, FitRow-split, FitRow-join}
+use Rattle.bforest_core.proofs.rows.LevelRows.{flat-append, FitRow-split, FitRow-join}
 
 module _ {K X : Type 0} where
   -- a node's head is that of its first entry
@@ -24,9 +24,6 @@ module _ {K X : Type 0} where
   pub flat-halved : (before after : List (LevelNode K X)) (m n : ℕ) (xs ys : List (K × X)) → flat (before ++ node m xs ∷ node n ys ∷ after) ≡ flat before ++ ((xs ++ ys) ++ flat after)
   flat-halved before after m n xs ys =
       flat-append before _ ∙ ap (λ z. flat before ++ z) (sym (append_assoc xs ys (flat after)))
-
-  pub heads-halved : (before after : List (LevelNode K X)) (m n : ℕ) (x : K × X) (xs : List (K × X)) (y : K × X) (ys : List (K × X)) → heads (before ++ node m (x ∷ xs) ∷ node n (y ∷ ys) ∷ after) ≡ heads before ++ (x.0, m) ∷ (y.0, n) ∷ heads after
-  heads-halved before after m n x xs y ys = heads-append before _
 
   pub FitRow-halved : (half most : ℕ) (before after : List (LevelNode K X)) (m n : ℕ) (es xs ys : List (K × X)) → 1 ≤ half → FitRow half most (before ++ node m es ∷ after) → half ≤ length xs → length xs ≤ most → half ≤ length ys → length ys ≤ most → FitRow half most (before ++ node m xs ∷ node n ys ∷ after)
   FitRow-halved half most before [] m n es xs ys one f hx mx hy my =

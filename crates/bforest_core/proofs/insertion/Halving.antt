@@ -1,9 +1,9 @@
 -- A full node that is halved, with a new entry in one half.
 use Rattle.std.proofs.Common.{◌≡◌, ℕ, suc, ◌+◌, ◌-◌, ◌/◌, ◌≤◌, ◌<◌, ◌≢◌, nat_le, true, false, if◌then◌else◌, List, [], ◌∷◌, ◌++◌, length, slice_get, Some, refl, sym, ap, ◌∙◌, subst, append_assoc, length-append, length-set, arith}
 use Rattle.bforest_nodes.specs.declared.node.SplitOff.{SplitOff}
-use Rattle.bforest_nodes.specs.Content.{Content, IsCut, IsLeafCapacity, left_half}
+use Rattle.bforest_nodes.specs.Content.{Content, IsCut, left_half}
 use Rattle.bforest_core.specs.Table.{Table, with_node, with_front, front_of, IsUsed, IsFullAt, IsSplitAt}
-use Rattle.bforest_core.specs.Levels.{half_of, head_of}
+use Rattle.bforest_core.specs.Levels.{head_of}
 use Rattle.bforest_core.specs.Place.{inner_content, leaf_content, count}
 use Rattle.bforest_core.proofs.table.Tables.{Puts, count-same, is_used, puts, takes, length-with_front}
 use Rattle.bforest_core.proofs.table.Stored.{Parts, inner_cuts, leaf_cuts, some_same, item_count}
@@ -34,26 +34,6 @@ stay_low cap e h = let a : nat_le e (cap / 2) ≡ true = grind arith in rw a ref
 
 pub stay_high : (cap e : ℕ) → cap / 2 < e → (if nat_le e (cap / 2) then cap / 2 else (cap + 1) / 2) ≡ (cap + 1) / 2
 stay_high cap e h = let a : nat_le e (cap / 2) ≡ false = grind arith in rw a refl
-
--- halves of an odd capacity
-pub record Odd (cap : ℕ) : Type 0 where
-  pub half : ℕ
-  pub some : 1 ≤ half
-  pub cap_is : cap ≡ half + suc half
-  pub low_is : cap / 2 ≡ half
-  pub high_is : half_of cap ≡ suc half
-
-pub odd : (cap : ℕ) → IsLeafCapacity cap → Odd cap
-odd cap c =
-    let least = c.least in
-    let one = c.odd in
-    record {
-      half = cap / 2;
-      some = omega (arith, least);
-      cap_is = omega (arith, one);
-      low_is = refl;
-      high_is = omega (arith, one);
-    }
 
 module _ {K V X : Type 0} (content : List (K × X) → Content K V) where
   -- two nodes, of which the right one is in what was the front of the chain

@@ -12,7 +12,7 @@ use Rattle.bforest_core.proofs.table.Tables.{is_used, puts}
 use Rattle.bforest_core.proofs.table.Stored.{with_entry_is}
 use Rattle.bforest_core.proofs.insertion.Grow.{in_left, in_right}
 use Rattle.bforest_core.proofs.insertion.LeafSpot.{LeafSpot, leaf_spot, put_leaf, keys_count}
-use Rattle.bforest_core.proofs.insertion.Halving.{Odd, odd, Split, leaf_full_is, leaf_parts, counted, split_at, stay_low, stay_high, left_used, into_left, into_right, middle_key}
+use Rattle.bforest_core.proofs.insertion.Halving.{Split, leaf_full_is, leaf_parts, counted, split_at, stay_low, stay_high, left_used, into_left, into_right, middle_key}
 use Rattle.bforest_core.proofs.insertion.Putting.{PutAsks, HasRoom, Puts, asks_put, put_fewer, put_in, put_past, put_kept}
 use Rattle.bforest_core.proofs.insertion.LeafParted.{leaf_parted}
 
@@ -59,11 +59,8 @@ module _ {K V : Type 0} where
       full_is = leaf_full_is cap t.nodes (get_or ms 0 0) (d.l ++ d.r) d.slot_is full
 
       module _ (capacity : IsLeafCapacity cap) (right : ℕ) (parts : SplitOff K) (front : front_of t.chain ≡ Some right) (used : IsUsed s right) (split : IsSplitAt cap t (get_or ms 0 r) (get_or js 0 0) parts s) where
-        o : Odd cap
-        o = odd cap capacity
-
         seen : length (heads d.before) ≡ length d.before
-        seen = Solid-full (half_of cap) cap (omega (arith, o.high_is)) d.before d.solid
+        seen = Solid-full (half_of cap) cap (omega (arith, capacity.least, capacity.odd)) d.before d.solid
 
         here_split : IsSplitAt cap t (get_or ms 0 0) (get_or js 0 0) parts s
         here_split = subst (λ (z : ℕ). IsSplitAt cap t z (get_or js 0 0) parts s) num_is split
@@ -79,7 +76,7 @@ module _ {K V : Type 0} where
           low_is = left_count ∙ stay_low cap (get_or js 0 0) low
 
           low_cut : Split leaf_content t s (get_or ms 0 0) right parts.lhs_entries (d.l ++ d.r) parts.crit_key
-          low_cut = let q = low_is in let f = full_is in cut (omega (arith, o.low_is, o.cap_is))
+          low_cut = let q = low_is in let f = full_is in cut (omega (arith, capacity.least, capacity.odd))
 
           pub early_asks : PutAsks Leaf s (get_or ms 0 r) (get_or js 0 0)
           early_asks =
@@ -87,22 +84,22 @@ module _ {K V : Type 0} where
 
           pub early_halves : (u : Table K V) (key : K) (value : V) (put : Bool) → HasRoom Leaf (λ keys vals. length keys) cap s (get_or ms 0 r) put → Puts Leaf (λ z. with_entry z (get_or js 0 0) key value) s u (get_or ms 0 r) put → LeafHalved cap t u ms ms js size tree place (key, value) parts.crit_key right false
           early_halves u key value put has puts =
-              let written = put_in Leaf s _ _ num_is _ _ low_cut.two.here u (λ keys vals. length keys) cap (λ z. with_entry z (get_or js 0 0) key value) put has puts (omega (arith, keys_count low_cut.zs, low_cut.count_is, low_is, full_is, o.low_is, o.cap_is)) in
+              let written = put_in Leaf s _ _ num_is _ _ low_cut.two.here u (λ keys vals. length keys) cap (λ z. with_entry z (get_or js 0 0) key value) put has puts (omega (arith, keys_count low_cut.zs, low_cut.count_is, low_is, full_is, capacity.least, capacity.odd)) in
               let h = into_left leaf_content t s u (get_or ms 0 0) right parts.lhs_entries (d.l ++ d.r) (d.l ++ (key, value) ∷ d.r) parts.crit_key low_cut (λ v. with_entry v (get_or js 0 0) key value) (half_of cap) (half_of cap)
-              d.l (d.l ++ (key, value) ∷ []) d.r refl (sym (append_assoc d.l ((key, value) ∷ []) d.r)) (omega (arith, length-append d.l ((key, value) ∷ []))) (omega (arith, d.index_is, low, low_is)) (omega (arith, low_is, o.low_is, o.high_is)) (omega (arith, low_is, full_is, o.low_is, o.high_is, o.cap_is))
+              d.l (d.l ++ (key, value) ∷ []) d.r refl (sym (append_assoc d.l ((key, value) ∷ []) d.r)) (omega (arith, length-append d.l ((key, value) ∷ []))) (omega (arith, d.index_is, low, low_is)) (omega (arith, low_is, capacity.least, capacity.odd)) (omega (arith, low_is, full_is, capacity.least, capacity.odd))
               (λ mid. with_entry_is V d.l mid key value (get_or js 0 0) d.index_is ∙ ap leaf_content (sym (append_assoc d.l ((key, value) ∷ []) mid))) written in
-              leaf_parted cap t u ms js ms js size tree place (key, value) parts.crit_key right false o p d full_is h (λ i other. refl) (λ i other. refl) seen
-              (in_left d.before d.after (get_or ms 0 0) right (h.z ∷ h.xs) (h.y ∷ h.ys) (get_or js 0 0) place seen (omega (arith, low, h.left_is, o.low_is, o.high_is)) (omega (arith, d.place_is, d.index_is)))
+              leaf_parted cap t u ms js ms js size tree place (key, value) parts.crit_key right false capacity p d full_is h (λ i other. refl) (λ i other. refl) seen
+              (in_left d.before d.after (get_or ms 0 0) right (h.z ∷ h.xs) (h.y ∷ h.ys) (get_or js 0 0) place seen (omega (arith, low, h.left_is, capacity.least, capacity.odd)) (omega (arith, d.place_is, d.index_is)))
 
         module _ (high : cap / 2 < get_or js 0 0) where
           high_is : parts.lhs_entries ≡ half_of cap
           high_is = left_count ∙ stay_high cap (get_or js 0 0) high
 
           pub late_within : parts.lhs_entries ≤ get_or js 0 0
-          late_within = let q = high_is in omega (arith, o.high_is, o.low_is)
+          late_within = let q = high_is in omega (arith, capacity.least, capacity.odd)
 
           high_cut : Split leaf_content t s (get_or ms 0 0) right parts.lhs_entries (d.l ++ d.r) parts.crit_key
-          high_cut = let q = high_is in let f = full_is in cut (omega (arith, o.high_is, o.cap_is, o.some))
+          high_cut = let q = high_is in let f = full_is in cut (omega (arith, capacity.least, capacity.odd))
 
           pub late_asks : PutAsks Leaf s right (get_or js 0 0 - parts.lhs_entries)
           late_asks =
@@ -113,14 +110,14 @@ module _ {K V : Type 0} where
           late_halves u key first value put has puts zero more some =
               let rights = high_cut.y ∷ high_cut.ys in
               let behind = get_or js 0 0 - parts.lhs_entries in
-              let written = put_in Leaf s right right refl _ _ high_cut.two.there u (λ keys vals. length keys) cap (λ z. with_entry z behind key value) put has puts (omega (arith, keys_count rights, ap length high_cut.es_is, length-append high_cut.zs rights, high_cut.count_is, o.high_is, high_is, full_is, o.cap_is)) in
+              let written = put_in Leaf s right right refl _ _ high_cut.two.there u (λ keys vals. length keys) cap (λ z. with_entry z behind key value) put has puts (omega (arith, keys_count rights, ap length high_cut.es_is, length-append high_cut.zs rights, high_cut.count_is, high_is, full_is, capacity.least, capacity.odd)) in
               let h = into_right leaf_content t s u (get_or ms 0 0) right parts.lhs_entries (d.l ++ d.r) (d.l ++ (key, value) ∷ d.r) parts.crit_key high_cut (λ v. with_entry v behind key value) (half_of cap) (half_of cap)
-              first d.l d.r ((key, value) ∷ d.r) refl refl refl (omega (arith, d.index_is, late_within)) (omega (arith, high_is, o.high_is)) high_is (omega (arith, high_is, full_is, o.high_is, o.cap_is))
+              first d.l d.r ((key, value) ∷ d.r) refl refl refl (omega (arith, d.index_is, late_within)) (omega (arith, high_is, capacity.least, capacity.odd)) high_is (omega (arith, high_is, full_is, capacity.least, capacity.odd))
               (λ mid is. (let mid_is : length mid ≡ behind = is ∙ ap (λ z. z - parts.lhs_entries) d.index_is in (
                 with_entry_is V mid d.r key value behind mid_is,
                 λ rest. middle_key right mid (key, value) d.r high_cut.y high_cut.ys first rest (λ none. zero (sym mid_is ∙ none)) (λ few. more (omega (arith, few, mid_is)) ∙ high_cut.key_is),
               ))) written in
               let j_is = get_or-set_same js 0 behind 0 (omega arith) in
-              leaf_parted cap t u ms js (set ms 0 right) (set js 0 behind) size tree place (key, value) first right true o p d full_is h (λ i other. get_or-set_other ms 0 i right 0 other) (λ i other. get_or-set_other js 0 i behind 0 other) seen
+              leaf_parted cap t u ms js (set ms 0 right) (set js 0 behind) size tree place (key, value) first right true capacity p d full_is h (λ i other. get_or-set_other ms 0 i right 0 other) (λ i other. get_or-set_other js 0 i behind 0 other) seen
               (in_right d.before d.after (get_or ms 0 0) right (h.z ∷ h.xs) (h.y ∷ h.ys) (get_or (set ms 0 right) 0 0) (get_or (set js 0 behind) 0 0) place seen (get_or-set_same ms 0 right 0 (omega arith))
-              (omega (arith, j_is, h.right_is, full_is, d.index_is, length-append d.l d.r, o.cap_is, o.high_is, high_is)) (omega (arith, j_is, d.place_is, d.index_is, h.left_is, high_is, late_within)))
+              (omega (arith, j_is, h.right_is, full_is, d.index_is, length-append d.l d.r, high_is, capacity.least, capacity.odd)) (omega (arith, j_is, d.place_is, d.index_is, h.left_is, high_is, late_within)))

@@ -2,6 +2,7 @@
 use Rattle.std.proofs.Common.{◌≡◌, ℕ, suc, ◌+◌, ◌-◌, ◌≤◌, ◌<◌, ◌≢◌, Bool, if◌then◌else◌, List, ◌∷◌, ◌++◌, map, length, insert, get_or, slice_get, Option, Some, sym, ap, ◌∙◌, subst, length-append, arith}
 use Rattle.std.specs.List.{flat_map}
 use Rattle.std.proofs.lemmas.List.{length-map}
+use Rattle.bforest_nodes.specs.Content.{IsLeafCapacity}
 use Rattle.bforest_core.specs.Table.{Table}
 use Rattle.bforest_core.specs.Levels.{LevelNode, node, flat, head_of, heads, sizes, numbers, Stacked, Topped, Tree, IsFit, half_of}
 use Rattle.bforest_core.specs.Sizes.{leaf_gain, gain_above, need_above}
@@ -12,9 +13,9 @@ use Rattle.bforest_core.proofs.table.Tables.{counts, count-append, count-same, r
 use Rattle.bforest_core.proofs.rows.Zipper.{stands-same}
 use Rattle.bforest_core.proofs.rows.Tops.{root-stands, root-points}
 use Rattle.bforest_core.proofs.insertion.Rise.{gain-some}
-use Rattle.bforest_core.proofs.insertion.Grow.{InHalf, flat-halved, heads-halved, FitRow-halved, leaf_full}
+use Rattle.bforest_core.proofs.insertion.Grow.{InHalf, flat-halved, FitRow-halved, leaf_full}
 use Rattle.bforest_core.proofs.insertion.LeafSpot.{LeafSpot, renewed, insert_flat, rows_count}
-use Rattle.bforest_core.proofs.insertion.Halving.{Halves, Odd}
+use Rattle.bforest_core.proofs.insertion.Halving.{Halves}
 
 module _ {K V : Type 0} where
   pub full_gain : (most : ℕ) (t : Table K V) (ms js : List ℕ) (tree : Tree K V) (place : ℕ) → (d : LeafSpot most t ms js tree place) → length (d.l ++ d.r) ≡ most →
@@ -25,18 +26,18 @@ module _ {K V : Type 0} where
       ∙ leaf_full most d.before (length (d.l ++ d.r)) (length d.l) (sizes d.after) (omega (arith, length-append d.l d.r)) d.first full
 
   -- all but where the path stands
-  pub leaf_parted : (most : ℕ) (t u : Table K V) (ms js ms' js' : List ℕ) (size : ℕ) (tree : Tree K V) (place : ℕ) (entry : K × V) (middle : K) (right : ℕ) (moved : Bool) → Odd most → Placed most t ms js size tree place → (d : LeafSpot most t ms js tree place) → length (d.l ++ d.r) ≡ most →
+  pub leaf_parted : (most : ℕ) (t u : Table K V) (ms js ms' js' : List ℕ) (size : ℕ) (tree : Tree K V) (place : ℕ) (entry : K × V) (middle : K) (right : ℕ) (moved : Bool) → IsLeafCapacity most → Placed most t ms js size tree place → (d : LeafSpot most t ms js tree place) → length (d.l ++ d.r) ≡ most →
       (h : Halves leaf_content t u (get_or ms 0 0) right middle (d.l ++ entry ∷ d.r) (half_of most) (half_of most)) →
       ((i : ℕ) → i ≢ 0 → get_or ms' i 0 ≡ get_or ms i 0) → ((i : ℕ) → i ≢ 0 → get_or js' i 0 ≡ get_or js i 0) →
       length (heads d.before) ≡ length d.before → InHalf d.before (get_or ms 0 0) right (h.z ∷ h.xs) (h.y ∷ h.ys) d.after (get_or ms' 0 0) (get_or js' 0 0) place moved →
       LeafHalved most t u ms ms' js' size tree place entry middle right moved
-  leaf_parted most t u ms js ms' js' size tree place entry middle right moved o p d full h far_m far_j solid_full stands =
+  leaf_parted most t u ms js ms' js' size tree place entry middle right moved capacity p d full h far_m far_j solid_full stands =
       let n = get_or ms 0 0 in
       let es : List (K × V) = d.l ++ d.r in
       let row : List (LevelNode K V) = d.before ++ node n es ∷ d.after in
-      let up = renewed most t ms js size tree place entry (omega (arith, o.cap_is)) p d in
-      let one : 1 ≤ half_of most = omega (arith, o.high_is) in
-      let few : half_of most ≤ most = omega (arith, o.high_is, o.cap_is, o.some) in
+      let up = renewed most t ms js size tree place entry (omega (arith, capacity.least, capacity.odd)) p d in
+      let one : 1 ≤ half_of most = omega (arith, capacity.least, capacity.odd) in
+      let few : half_of most ≤ most = omega (arith, capacity.least, capacity.odd) in
       let nums = λ (m : ℕ). ap (λ z. count m z) up.numbers_are in
       let c = λ (m : ℕ). counts m d.before n es d.after tree.above t.chain in
       let c4 = λ (m : ℕ). ap (λ z. count m z) h.two.chain_is in
@@ -109,7 +110,7 @@ module _ {K V : Type 0} where
       let c7 = λ (m : ℕ). ap (λ z. count m z) chain_is in
       let c8 = λ (m : ℕ). count-append m taken v.chain in
       let hs : heads row2 ≡ heads h.before ++ (h.first.0, n) ∷ (key, right) ∷ heads h.after =
-      heads-halved h.before h.after n right h.first h.others h.next h.more ∙ ap (λ z. heads h.before ++ (h.first.0, n) ∷ (z, right) ∷ heads h.after) (sym h.key_is) in
+      heads-append h.before _ ∙ ap (λ z. heads h.before ++ (h.first.0, n) ∷ (z, right) ∷ heads h.after) (sym h.key_is) in
       let one : List (K × ℕ) = heads h.before ++ (h.first.0, n) ∷ heads h.after in
       let longer : length one ≤ length (heads h.before ++ (h.first.0, n) ∷ (key, right) ∷ heads h.after) =
       omega (arith, length-append (heads h.before) ((h.first.0, n) ∷ heads h.after), length-append (heads h.before) ((h.first.0, n) ∷ (key, right) ∷ heads h.after)) in

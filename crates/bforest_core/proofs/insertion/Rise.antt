@@ -11,7 +11,7 @@ use Rattle.bforest_core.specs.Climb.{Above, Grown, Halved}
 use Rattle.bforest_core.proofs.rows.LevelRows.{heads-append, sizes-append}
 use Rattle.bforest_core.proofs.table.Tables.{counts, count-append, count-same, row-same, absent_ne, Takes}
 use Rattle.bforest_core.proofs.rows.Zipper.{Spot}
-use Rattle.bforest_core.proofs.insertion.Grow.{heads-halved, gain_some}
+use Rattle.bforest_core.proofs.insertion.Grow.{gain_some}
 use Rattle.bforest_core.proofs.insertion.Room.{step_is, step_most}
 
 -- a level whose node became two has a level above it
@@ -45,7 +45,7 @@ module _ {K V : Type 0} where
       let c8 = λ (m : ℕ). count-append m taken v.chain in
       let nums_m = λ (m : ℕ). ap (λ z. count m (flat_map numbers z)) h.rows_were in
       let hs : heads row2 ≡ heads h.before ++ (h.first.0, n) ∷ (key, right) ∷ heads h.after =
-      heads-halved h.before h.after n right h.first h.others h.next h.more ∙ ap (λ z. heads h.before ++ (h.first.0, n) ∷ (z, right) ∷ heads h.after) (sym h.key_is) in
+      heads-append h.before _ ∙ ap (λ z. heads h.before ++ (h.first.0, n) ∷ (z, right) ∷ heads h.after) (sym h.key_is) in
       let hs0 : heads row ≡ heads h.before ++ (h.first.0, n) ∷ heads h.after = heads-append h.before _ ∙ ap (λ z. heads h.before ++ (z ++ heads h.after)) h.head_is in
       let longer : length (heads row) ≤ length (heads h.before ++ (h.first.0, n) ∷ (key, right) ∷ heads h.after) =
       omega (arith, ap length hs0, length-append (heads h.before) ((h.first.0, n) ∷ heads h.after), length-append (heads h.before) ((h.first.0, n) ∷ (key, right) ∷ heads h.after)) in
