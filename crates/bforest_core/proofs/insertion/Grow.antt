@@ -6,7 +6,7 @@ use Rattle.bforest_core.specs.Levels.{LevelNode, node, flat, head_of, heads, siz
 use Rattle.bforest_core.specs.Sizes.{inner_gain, past, leaf_gain}
 use Rattle.bforest_core.specs.Place.{IsAt}
 use Rattle.bforest_core.proofs.rows.Bounds.{below_lt, above_lt}
-use Rattle.bforest_core.proofs.rows.LevelRows.{flat-append, FitRow-split, FitRow-join}
+use Rattle.bforest_core.proofs.rows.LevelRows.{flat-append, sizes-append, FitRow-split, FitRow-join}
 
 module _ {K X : Type 0} where
   -- a node's head is that of its first entry
@@ -81,6 +81,10 @@ module _ {K X : Type 0} where
       let a = above_lt (length es + (length (flat before) + e)) (length es) (omega arith) in
       let d : length es + (length (flat before) + e) - length es ≡ length (flat before) + e = omega arith in
       rw (len, a, d) (ap (λ z. past (length es) z) (gain_behind before s e after low))
+
+  -- an entry behind these nodes, and these entries of the next one
+  pub gain_spot : (before : List (LevelNode K X)) (n : ℕ) (es l : List (K × X)) (after : List (LevelNode K X)) → inner_gain (length (flat before ++ l)) (sizes (before ++ node n es ∷ after)) ≡ inner_gain (length (flat before) + length l) (sizes before ++ length es ∷ sizes after)
+  gain_spot before n es l after = ap (λ z. inner_gain z (sizes (before ++ node n es ∷ after))) (length-append (flat before) l) ∙ ap (λ z. inner_gain (length (flat before) + length l) z) (sizes-append before (node n es ∷ after))
 
   -- the sizes of a level with one more entry, in a node with room
   pub gain_room : (before : List (LevelNode K X)) (s e : ℕ) (after : List ℕ) → e < s → s < 8 → inner_gain (length (flat before) + e) (sizes before ++ s ∷ after) ≡ (None, sizes before ++ suc s ∷ after)

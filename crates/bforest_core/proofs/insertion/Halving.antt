@@ -6,7 +6,7 @@ use Rattle.bforest_core.specs.Table.{Table, with_node, with_front, front_of, IsU
 use Rattle.bforest_core.specs.Levels.{head_of}
 use Rattle.bforest_core.specs.Place.{inner_content, leaf_content, count}
 use Rattle.bforest_core.proofs.table.Tables.{Puts, count-same, is_used, puts, takes, length-with_front}
-use Rattle.bforest_core.proofs.table.Stored.{Parts, inner_cuts, leaf_cuts, some_same, item_count}
+use Rattle.bforest_core.proofs.table.Stored.{Parts, inner_cuts, some_same, item_count}
 use Rattle.bforest_core.proofs.rows.Zipper.{cut}
 use Rattle.bforest_core.proofs.insertion.LeafSpot.{keys_count}
 
@@ -174,10 +174,7 @@ module _ {K V : Type 0} where
   pub full_is : (cap : ℕ) (nodes : List (Content K V)) (n : ℕ) (es : List (K × ℕ)) → slice_get nodes n ≡ Some (inner_content es) → IsFullAt cap nodes n → length es ≡ 8
   full_is cap nodes n es was full = let w = rw was at full in sym (item_count es) ∙ w.1
 
-  -- how a leaf is cut, and an inner node
-  pub leaf_parts : (q : ℕ) → Cuts {K = K} {V = V} leaf_content q
-  leaf_parts q zs y ys left right key e c = leaf_cuts V zs y ys q left right key e c
-
+  -- how an inner node is cut
   pub inner_parts : (q : ℕ) → 1 ≤ q → Cuts {K = K} {V = V} inner_content q
   inner_parts q some [] y ys left right key e c = absurd (omega (arith, e, some))
   inner_parts q some (z ∷ zs) y ys left right key e c = inner_cuts V z zs y ys q left right key e c

@@ -9,10 +9,10 @@ use Rattle.bforest_core.specs.Place.{leaf_content, entry_keys}
 use Rattle.bforest_core.specs.Climb.{Placed, Inserted, LeafHalved}
 use Rattle.bforest_core.proofs.rows.LevelRows.{Solid-full}
 use Rattle.bforest_core.proofs.table.Tables.{is_used, puts}
-use Rattle.bforest_core.proofs.table.Stored.{with_entry_is}
+use Rattle.bforest_core.proofs.table.Stored.{leaf_cuts, with_entry_is}
 use Rattle.bforest_core.proofs.insertion.Grow.{in_left, in_right}
 use Rattle.bforest_core.proofs.insertion.LeafSpot.{LeafSpot, leaf_spot, put_leaf, keys_count}
-use Rattle.bforest_core.proofs.insertion.Halving.{Split, leaf_full_is, leaf_parts, counted, split_at, stay_low, stay_high, left_used, into_left, into_right, middle_key}
+use Rattle.bforest_core.proofs.insertion.Halving.{Split, leaf_full_is, counted, split_at, stay_low, stay_high, left_used, into_left, into_right, middle_key}
 use Rattle.bforest_core.proofs.insertion.Putting.{PutAsks, HasRoom, Puts, asks_put, put_fewer, put_in, put_past, put_kept}
 use Rattle.bforest_core.proofs.insertion.LeafParted.{leaf_parted}
 
@@ -69,7 +69,7 @@ module _ {K V : Type 0} where
         left_count = counted leaf_content cap t s (get_or ms 0 0) (get_or js 0 0) (d.l ++ d.r) parts d.slot_is here_split
 
         cut : parts.lhs_entries < length (d.l ++ d.r) → Split leaf_content t s (get_or ms 0 0) right parts.lhs_entries (d.l ++ d.r) parts.crit_key
-        cut less = split_at leaf_content cap t s (get_or ms 0 0) (get_or js 0 0) (d.l ++ d.r) parts d.slot_is here_split right (leaf_parts parts.lhs_entries) less d.none_chain front used.within
+        cut less = split_at leaf_content cap t s (get_or ms 0 0) (get_or js 0 0) (d.l ++ d.r) parts d.slot_is here_split right (λ zs y ys left right2 key is c. leaf_cuts V zs y ys parts.lhs_entries left right2 key is c) less d.none_chain front used.within
 
         module _ (low : get_or js 0 0 ≤ cap / 2) where
           low_is : parts.lhs_entries ≡ cap / 2

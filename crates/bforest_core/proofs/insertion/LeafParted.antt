@@ -36,7 +36,6 @@ module _ {K V : Type 0} where
       let es : List (K × V) = d.l ++ d.r in
       let row : List (LevelNode K V) = d.before ++ node n es ∷ d.after in
       let up = renewed most t ms js size tree place entry (omega (arith, capacity.least, capacity.odd)) p d in
-      let one : 1 ≤ half_of most = omega (arith, capacity.least, capacity.odd) in
       let few : half_of most ≤ most = omega (arith, capacity.least, capacity.odd) in
       let nums = λ (m : ℕ). ap (λ z. count m z) up.numbers_are in
       let c = λ (m : ℕ). counts m d.before n es d.after tree.above t.chain in
@@ -61,7 +60,7 @@ module _ {K V : Type 0} where
         key_is = h.middle_is;
         flat_is = flat-halved d.before d.after n right (h.z ∷ h.xs) (h.y ∷ h.ys) ∙ ap (λ z. flat d.before ++ (z ++ flat d.after)) (sym h.grown_is)
             ∙ sym (insert_flat d.before n d.l d.r d.after entry) ∙ ap (λ z. insert (flat row) z entry) (sym d.place_is) ∙ ap (λ z. insert (flat z) place entry) (sym d.leaves_are);
-        fit = FitRow-halved (half_of most) most d.before d.after n right es (h.z ∷ h.xs) (h.y ∷ h.ys) one d.fit (omega (arith, h.left_is)) (omega (arith, h.left_is, few)) (omega (arith, h.right_is)) (omega (arith, h.right_is, few));
+        fit = FitRow-halved (half_of most) most d.before d.after n right es (h.z ∷ h.xs) (h.y ∷ h.ys) (omega (arith, capacity.least)) d.fit (omega (arith, h.left_is)) (omega (arith, h.left_is, few)) (omega (arith, h.right_is)) (omega (arith, h.right_is, few));
         inside = row-halved leaf_content t.nodes u.nodes d.before n right es (h.z ∷ h.xs) (h.y ∷ h.ys) d.after d.inside h.two.same h.two.here h.two.there d.none none_right;
         gain_is = full_gain most t ms js tree place d full ∙ ap (λ z. (Some z, sizes d.before ++ half_of most ∷ half_of most ∷ sizes d.after)) (sym solid_full)
             ∙ ap (λ z. (Some (length (heads d.before)), sizes d.before ++ z ∷ half_of most ∷ sizes d.after)) (sym h.left_is)

@@ -9,7 +9,7 @@ use Rattle.bforest_core.specs.Climb.{Halved}
 use Rattle.bforest_core.proofs.rows.LevelRows.{heads-append, sizes-append}
 use Rattle.bforest_core.proofs.table.Tables.{counts, count-append, count-same, row-halved, rows-same, ne_from_count}
 use Rattle.bforest_core.proofs.rows.Zipper.{Spot, stands-same}
-use Rattle.bforest_core.proofs.insertion.Grow.{InHalf, flat-halved, FitRow-halved, gain_full, head-grown}
+use Rattle.bforest_core.proofs.insertion.Grow.{InHalf, flat-halved, FitRow-halved, gain_spot, gain_full, head-grown}
 use Rattle.bforest_core.proofs.insertion.Halving.{Halves}
 
 module _ {K V : Type 0} where
@@ -50,7 +50,7 @@ module _ {K V : Type 0} where
             ∙ sym (ap (λ z. z ++ x ∷ y ∷ b) q.a_is ∙ ap (λ z. (flat q.before ++ q.l) ++ x ∷ y ∷ z) q.b_is);
         fit = FitRow-halved 4 8 q.before q.after n right es (h.z ∷ h.xs) (h.y ∷ h.ys) (omega arith) ab.stacked.1 (omega (arith, h.left_is, sides.0)) (omega (arith, h.left_is, sides.1)) (omega (arith, h.right_is, sides.2)) (omega (arith, h.right_is, sides.3));
         inside = row-halved inner_content t.nodes u.nodes q.before n right es (h.z ∷ h.xs) (h.y ∷ h.ys) q.after d.f.inside h.two.same h.two.here h.two.there d.f.none none_right;
-        gain_is = ap (λ z. inner_gain (length z) (sizes row)) q.a_is ∙ ap (λ z. inner_gain z (sizes row)) (length-append (flat q.before) q.l) ∙ ap (λ z. inner_gain (length (flat q.before) + length q.l) z) (sizes-append q.before (node n es ∷ q.after))
+        gain_is = ap (λ z. inner_gain (length z) (sizes row)) q.a_is ∙ gain_spot q.before n es q.l q.after
             ∙ ap (λ z. inner_gain (length (flat q.before) + z) (sizes q.before ++ length es ∷ sizes q.after)) q.entry_is
             ∙ gain_full q.before (length es) (get_or js up 0) (length (h.z ∷ h.xs)) (length (h.y ∷ h.ys)) (sizes q.after) (omega (arith, low, q.entry_is)) eight (halves_are (sizes q.after) ∙ ap (λ z. z ∷ small ∷ sizes q.after) (sym h.left_is) ∙ ap (λ z. length (h.z ∷ h.xs) ∷ z ∷ sizes q.after) (sym h.right_is))
             ∙ ap (λ z. (Some z, sizes q.before ++ length (h.z ∷ h.xs) ∷ length (h.y ∷ h.ys) ∷ sizes q.after)) (sym full) ∙ ap (λ z. (Some (length (heads q.before)), z)) (sym (sizes-append q.before (node n (h.z ∷ h.xs) ∷ node right (h.y ∷ h.ys) ∷ q.after)));

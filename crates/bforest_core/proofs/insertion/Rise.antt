@@ -8,10 +8,10 @@ use Rattle.bforest_core.specs.Levels.{LevelNode, node, flat, heads, sizes, numbe
 use Rattle.bforest_core.specs.Sizes.{inner_gain, gain_above, need_above}
 use Rattle.bforest_core.specs.Place.{inner_content, count, Distinct, IsAt, StandsAbove}
 use Rattle.bforest_core.specs.Climb.{Above, Grown, Halved}
-use Rattle.bforest_core.proofs.rows.LevelRows.{heads-append, sizes-append}
+use Rattle.bforest_core.proofs.rows.LevelRows.{heads-append}
 use Rattle.bforest_core.proofs.table.Tables.{counts, count-append, count-same, row-same, absent_ne, Takes}
 use Rattle.bforest_core.proofs.rows.Zipper.{Spot}
-use Rattle.bforest_core.proofs.insertion.Grow.{gain_some}
+use Rattle.bforest_core.proofs.insertion.Grow.{gain_spot, gain_some}
 use Rattle.bforest_core.proofs.insertion.Room.{step_is, step_most}
 
 -- a level whose node became two has a level above it
@@ -145,7 +145,7 @@ module _ {K V : Type 0} where
       let es : List (K × ℕ) = q.l ++ x ∷ q.r in
       let low : length q.l < length es = omega (arith, length-append q.l (x ∷ q.r)) in
       let some : (inner_gain (length (flat q.before ++ q.l)) (sizes (q.before ++ node n es ∷ q.after))).0 ≡ Some (length q.before) =
-      ap (λ z. (inner_gain z (sizes (q.before ++ node n es ∷ q.after))).0) (length-append (flat q.before) q.l) ∙ ap (λ z. (inner_gain (length (flat q.before) + length q.l) z).0) (sizes-append q.before (node n es ∷ q.after)) ∙ gain_some q.before (length es) (length q.l) (sizes q.after) low eight in
+      ap (λ z. z.0) (gain_spot q.before n es q.l q.after) ∙ gain_some q.before (length es) (length q.l) (sizes q.after) low eight in
       let needs : need_above (Some (length a)) (map sizes rows) ≡ suc (need_above (Some (length q.before)) (map sizes q.rest)) =
       ap (λ z. need_above (Some (length z)) (map sizes rows)) q.a_is ∙ ap (λ z. need_above (Some (length (flat q.before ++ q.l))) (map sizes z)) q.rows_are ∙ ap (λ z. suc (need_above z (map sizes q.rest))) some in
       omega (arith, needs, need_some (length q.before) (map sizes q.rest))

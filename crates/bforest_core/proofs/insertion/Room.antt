@@ -1,15 +1,15 @@
 -- A new child in a node with room.
-use Rattle.std.proofs.Common.{◌≡◌, ℕ, suc, ◌+◌, ◌≤◌, ◌<◌, ◌≢◌, Bool, true, false, if◌then◌else◌, List, [], ◌∷◌, ◌++◌, map, length, get_or, Some, None, refl, sym, ap, ◌∙◌, subst, append_assoc, length-append, arith}
+use Rattle.std.proofs.Common.{◌≡◌, ℕ, suc, ◌+◌, ◌≤◌, ◌<◌, ◌≢◌, Bool, true, false, if◌then◌else◌, List, [], ◌∷◌, ◌++◌, map, length, get_or, Some, refl, sym, ap, ◌∙◌, subst, append_assoc, length-append, arith}
 use Rattle.std.specs.List.{flat_map}
 use Rattle.bforest_core.specs.Table.{Table}
 use Rattle.bforest_core.specs.Levels.{LevelNode, node, flat, heads, sizes, numbers, Stacked, Topped}
-use Rattle.bforest_core.specs.Sizes.{inner_gain, gain_above, need_above}
+use Rattle.bforest_core.specs.Sizes.{gain_above, need_above}
 use Rattle.bforest_core.specs.Place.{inner_content, count, StandsAbove}
 use Rattle.bforest_core.specs.Climb.{Grown}
 use Rattle.bforest_core.proofs.rows.LevelRows.{flat-append, heads-append, sizes-append}
 use Rattle.bforest_core.proofs.table.Tables.{counts, row-put, rows-same, ne_from_count, absent_ne, Puts}
 use Rattle.bforest_core.proofs.rows.Zipper.{Cut_above, facts, Spot, stands_here, stands-same}
-use Rattle.bforest_core.proofs.insertion.Grow.{head-grown, FitRow-put, gain_room}
+use Rattle.bforest_core.proofs.insertion.Grow.{head-grown, FitRow-put, gain_spot, gain_room}
 
 -- one where the path moved on
 abbrev pub step : Bool → ℕ
@@ -22,14 +22,6 @@ step_is false n = omega arith
 pub step_most : (moved : Bool) → step moved ≤ 1
 step_most true = omega arith
 step_most false = omega arith
-
--- the sizes and the need then
-gain_at : {K : Type 0} → (before : List (LevelNode K ℕ)) (n : ℕ) (l : List (K × ℕ)) (x : K × ℕ) (r : List (K × ℕ)) (after : List (LevelNode K ℕ)) → length (l ++ x ∷ r) < 8 →
-    inner_gain (length (flat before ++ l)) (sizes (before ++ node n (l ++ x ∷ r) ∷ after)) ≡ (None, sizes before ++ suc (length (l ++ x ∷ r)) ∷ sizes after)
-gain_at before n l x r after room =
-    ap (λ z. inner_gain z (sizes (before ++ node n (l ++ x ∷ r) ∷ after))) (length-append (flat before) l)
-    ∙ ap (λ z. inner_gain (length (flat before) + length l) z) (sizes-append before (node n (l ++ x ∷ r) ∷ after))
-    ∙ gain_room before (length (l ++ x ∷ r)) (length l) (sizes after) (omega (arith, length-append l (x ∷ r))) room
 
 module _ {K V : Type 0} where
   room_at : (t u : Table K V) (ms js js' : List ℕ) (up size : ℕ) (before : List (LevelNode K ℕ)) (l : List (K × ℕ)) (x y : K × ℕ) (r : List (K × ℕ)) (after : List (LevelNode K ℕ)) (rest : List (List (LevelNode K ℕ))) (k p : ℕ) →
@@ -90,7 +82,7 @@ module _ {K V : Type 0} where
       let q = d.q in
       let n = get_or ms up 0 in
       let row : List (LevelNode K ℕ) = q.before ++ node n (q.l ++ x ∷ q.r) ∷ q.after in
-      let g = gain_at q.before n q.l x q.r q.after room in
+      let g = gain_spot q.before n (q.l ++ x ∷ q.r) q.l q.after ∙ gain_room q.before (length (q.l ++ x ∷ q.r)) (length q.l) (sizes q.after) (omega (arith, length-append q.l (x ∷ q.r))) room in
       let w1 = room_at t u ms js js' up size q.before q.l x y q.r q.after q.rest (step moved) (if moved then suc (length (flat q.before ++ q.l)) else length (flat q.before ++ q.l)) d.whole q.entry_is q.stands room w (step_most moved)
       (j_is ∙ step_is moved (get_or js up 0) ∙ ap (λ z. step moved + z) (sym q.entry_is)) (step_is moved (length (flat q.before ++ q.l))) far in
       let gains : gain_above (Some (length (flat q.before ++ q.l))) (map sizes (row ∷ q.rest)) ≡ (sizes q.before ++ suc (length (q.l ++ x ∷ q.r)) ∷ sizes q.after) ∷ map sizes q.rest = ap (λ z. z.1 ∷ gain_above z.0 (map sizes q.rest)) g in
