@@ -6,7 +6,7 @@ use Rattle.bforest_core.specs.Levels.{LevelNode, node, flat, head_of, heads, siz
 use Rattle.bforest_core.specs.Sizes.{inner_gain, past, leaf_gain}
 use Rattle.bforest_core.specs.Place.{IsAt}
 use Rattle.bforest_core.proofs.rows.Bounds.{below_lt, above_lt}
-use Rattle.bforest_core.proofs.rows.LevelRows.{flat-append, sizes-append, FitRow-split, FitRow-join}
+use Rattle.bforest_core.proofs.rows.LevelRows.{flat-append, sizes-append, least-le, FitRow-split, FitRow-join}
 
 module _ {K X : Type 0} where
   -- a node's head is that of its first entry
@@ -26,12 +26,9 @@ module _ {K X : Type 0} where
       flat-append before _ ∙ ap (λ z. flat before ++ z) (sym (append_assoc xs ys (flat after)))
 
   pub FitRow-halved : (half most : ℕ) (before after : List (LevelNode K X)) (m n : ℕ) (es xs ys : List (K × X)) → 1 ≤ half → FitRow half most (before ++ node m es ∷ after) → half ≤ length xs → length xs ≤ most → half ≤ length ys → length ys ≤ most → FitRow half most (before ++ node m xs ∷ node n ys ∷ after)
-  FitRow-halved half most before [] m n es xs ys one f hx mx hy my =
-      let s = FitRow-split half most before (node m es) [] f in
-      FitRow-join half most before (node m xs) (node n ys ∷ []) s.0 (hx, mx, (omega arith, my, tt))
-  FitRow-halved half most before (z ∷ after) m n es xs ys one f hx mx hy my =
-      let s = FitRow-split half most before (node m es) (z ∷ after) f in
-      FitRow-join half most before (node m xs) (node n ys ∷ z ∷ after) s.0 (hx, mx, (hy, my, s.1.2))
+  FitRow-halved half most before after m n es xs ys one f hx mx hy my =
+      let s = FitRow-split half most before (node m es) after f in
+      FitRow-join half most before (node m xs) (node n ys ∷ after) s.0 (hx, mx, (omega (arith, hy, least-le half one after), my, s.1.2))
 
 module _ {K X : Type 0} where
   -- where a path stands in a row of which one node became two: in the left half or in the right one

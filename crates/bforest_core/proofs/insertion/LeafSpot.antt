@@ -30,10 +30,7 @@ insert_flat before n l r after x =
 
 -- as many rows
 pub rows_count : {K : Type 0} (xs ys : List (List (LevelNode K ℕ))) → map sizes ys ≡ map sizes xs → length ys ≡ length xs
-rows_count [] [] e = refl
-rows_count [] (y ∷ ys) e = absurd cc
-rows_count (x ∷ xs) [] e = absurd cc
-rows_count (x ∷ xs) (y ∷ ys) e = ap suc (rows_count xs ys (let h : map sizes ys ≡ map sizes xs = cc in h))
+rows_count xs ys e = omega (arith, ap length e, length-map xs sizes, length-map ys sizes)
 
 module _ {K V : Type 0} where
   -- the tree, cut at the place in its leaf

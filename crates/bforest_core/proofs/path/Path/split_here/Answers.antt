@@ -23,8 +23,7 @@ put_child-room-requires-else-entry-lt-MIN_CHILDREN g c =
 pub index_behind-requires-else-entry-lt-MIN_CHILDREN : goal.index_behind-requires-else-entry-lt-MIN_CHILDREN
 index_behind-requires-else-entry-lt-MIN_CHILDREN g c =
     let w = c.requires.pending in
-    let small = index_small c.args.pool.now c.args.self.now.node c.args.self.now.entry c.args.up c.args.self.now.size w.0 w.1 w.2 w.3 w.4 c.index-self-up.result c.requires.within (omega arith) in
-    omega (arith, small)
+    omega (arith, index_small c.args.pool.now c.args.self.now.node c.args.self.now.entry c.args.up c.args.self.now.size w.0 w.1 w.2 w.3 w.4 c.index-self-up.result c.requires.within (omega arith))
 
 pub returns-then-entry-lt-MIN_CHILDREN-clause-halved : goal.returns-then-entry-lt-MIN_CHILDREN-clause-halved
 returns-then-entry-lt-MIN_CHILDREN-clause-halved g c = λ rows a x b p.

@@ -6,8 +6,7 @@ use Rattle.bforest_core.proofs.pool.NodePool.free_node.Goals as goal
 pub overflow_add-self : goal.overflow_add-self
 overflow_add-self g c =
     let used = used_inside _ _ _ c.number.result c.self.view_is c.number.ensures.value c.requires.used in
-    let below = free_below _ _ _ _ _ c.number.result used.within used.off_chain c.self.invariant in
-    omega (arith, below, c.self.invariant.slots_within, c.self.invariant.limit_within)
+    omega (arith, free_below _ _ _ _ _ c.number.result used.within used.off_chain c.self.invariant, c.self.invariant.slots_within, c.self.invariant.limit_within)
 
 pub invariant_of-self : goal.invariant_of-self
 invariant_of-self g c =

@@ -11,8 +11,7 @@ unwrap-node-requires g c =
 
 pub index-requires : goal.index-requires
 index-requires g c =
-    let low = within _ c.self.inside.nodes.items c.self.inside.first c.self.inside.free c.self.inside.limit c.self.invariant _ c.self.view_is c.requires.room c.number.result _ _ c.expand.ensures.value c.unwrap-node.ensures c.number.ensures.value in
-    omega (arith, low)
+    omega (arith, within _ c.self.inside.nodes.items c.self.inside.first c.self.inside.free c.self.inside.limit c.self.invariant _ c.self.view_is c.requires.room c.number.result _ _ c.expand.ensures.value c.unwrap-node.ensures c.number.ensures.value)
 
 pub next_free-self-inside-requires : goal.next_free-self-inside-requires
 next_free-self-inside-requires g c =
@@ -20,8 +19,7 @@ next_free-self-inside-requires g c =
 
 pub overflow_sub-self : goal.overflow_sub-self
 overflow_sub-self g c =
-    let lies_free = some _ c.self.inside.nodes.items c.self.inside.first c.self.inside.free c.self.inside.limit c.self.invariant _ c.self.view_is c.requires.room in
-    omega (arith, lies_free)
+    omega (arith, some _ c.self.inside.nodes.items c.self.inside.first c.self.inside.free c.self.inside.limit c.self.invariant _ c.self.view_is c.requires.room)
 
 pub returns-clause-node : goal.returns-clause-node
 returns-clause-node g c = rw (← c.self.view_is) (front_of-is _ _ _ c.self.invariant.linked ∙ sym c.expand.ensures.value ∙ c.unwrap-node.ensures)
