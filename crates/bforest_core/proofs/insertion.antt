@@ -4,6 +4,7 @@ pub mod Room
 pub mod Rise
 pub mod Halving
 pub mod Parted
+pub mod Putting
 pub mod Insertion
 pub mod Renew
 pub mod LeafSpot

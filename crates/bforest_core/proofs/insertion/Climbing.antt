@@ -7,7 +7,7 @@ use Rattle.bforest_core.specs.Sizes.{need_above, gain_above}
 use Rattle.bforest_core.specs.Climb.{Above, Grown, Halved}
 use Rattle.bforest_core.proofs.rows.Zipper.{spot}
 use Rattle.bforest_core.proofs.insertion.Halving.{full_is}
-use Rattle.bforest_core.proofs.insertion.Rise.{rise, need_halved, gain_halved, need_full, above_from, grown_from}
+use Rattle.bforest_core.proofs.insertion.Rise.{rise, sizes_halved, need_full, above_from, grown_from}
 
 module _ {K V : Type 0} where
   -- what the call leaves
@@ -56,16 +56,15 @@ module _ {K V : Type 0} where
       -- what the call one level up asks
       pub next_asks : need_above (Some (length a)) (map sizes rows) ≤ suc (length t0.chain) → up + length (gain_above (Some (length a)) (map sizes rows)) ≤ 17 → Asks t2 ms2 js2 high size2 (get_or ms1 up r)
       next_asks enough few =
-          let gains = gain_halved _ _ _ _ _ _ _ _ _ _ _ _ _ _ _ h in
-          let needs = need_halved _ _ _ _ _ _ _ _ _ _ _ _ _ _ _ h in
+          let n = sizes_halved _ _ _ _ _ _ _ _ _ _ _ _ _ _ _ h in
           record {
             rows = h.rest;
             before = heads h.before;
             first = h.first.0;
             after = heads h.after;
             above = above_next;
-            needs = omega (arith, needs, ap (λ z. length z.chain) pool_is, ap length h.chain_is);
-            gains = omega (arith, gains);
+            needs = omega (arith, n.0, ap (λ z. length z.chain) pool_is, ap length h.chain_is);
+            gains = omega (arith, n.1);
           }
 
       -- fewer levels are left
@@ -77,9 +76,9 @@ module _ {K V : Type 0} where
           ((rows2 : List (List (LevelNode K ℕ))) (a2 : List (K × ℕ)) (first2 : K) (b2 : List (K × ℕ)) → Above t2 ms2 js2 high size2 rows2 (a2 ++ (first2, get_or ms1 up r) ∷ b2) (length a2) → Takes t2 t3 ms2 js2 ms3 js3 high size2 size3 rows2 a2 first2 (get_or ms1 up r) key2 right b2 moved2) →
           Takes t0 t3 ms0 js0 ms3 js3 up size0 size3 rows a first left key child b moved
       next_takes t3 ms3 js3 size3 takes =
-          let needs = need_halved _ _ _ _ _ _ _ _ _ _ _ _ _ _ _ h in
+          let n = sizes_halved _ _ _ _ _ _ _ _ _ _ _ _ _ _ _ h in
           let w = takes h.rest (heads h.before) h.first.0 (heads h.after) above_next in
           let g2 = grown_from t2 t2 t3 ms2 ms2 js2 js2 ms3 js3 high (suc up) size2 size1 size3 h.rest _ _ _ _ w.0 refl refl refl (sym high_is) (sym size2_is)
           (ap (λ z. heads h.before ++ (h.first.0, z) ∷ (key2, right) ∷ heads h.after) (sym num_is)) w.2 in
           let g3 = rise t1 t2 t3 ms1 js1 ms2 js2 ms3 js3 up size1 size3 rows _ _ (length a) (length a) _ _ _ _ w.0 above_then h g2 in
-          (right ∷ w.0, omega (arith, needs, w.1), grown_from t1 t0 t3 ms1 ms0 js1 js0 ms3 js3 up up size1 size0 size3 rows _ _ _ _ _ (sym pool_is) (sym node_is) (sym entry_is) refl (sym size_is) refl g3)
+          (right ∷ w.0, omega (arith, n.0, w.1), grown_from t1 t0 t3 ms1 ms0 js1 js0 ms3 js3 up up size1 size0 size3 rows _ _ _ _ _ (sym pool_is) (sym node_is) (sym entry_is) refl (sym size_is) refl g3)

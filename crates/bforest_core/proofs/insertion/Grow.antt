@@ -1,10 +1,12 @@
 -- One entry more in a row: where its node has room, and where it is halved.
-use Rattle.std.proofs.Common.{◌≡◌, ◌⊎◌, nat_le, ◌/◌, ℕ, suc, ◌+◌, ◌-◌, ◌≤◌, ◌<◌, nat_lt, if◌then◌else◌, true, false, Option, Some, None, List, [], ◌∷◌, ◌++◌, length, refl, sym, ap, ◌∙◌, inl, inr, append_assoc, length-append, arith}
+use Rattle.std.proofs.Common.{◌≡◌, ◌⊎◌, nat_le, ◌/◌, ℕ, suc, ◌+◌, ◌-◌, ◌≤◌, ◌<◌, nat_lt, if◌then◌else◌, Bool, true, false, Option, Some, None, List, [], ◌∷◌, ◌++◌, length, refl, sym, ap, ◌∙◌, inl, inr, append_assoc, length-append, arith}
 use Rattle.std.proofs.lemmas.Bool.{cases_lt}
+use Rattle.std.proofs.lemmas.List.{append-nil}
 use Rattle.bforest_core.specs.Levels.{LevelNode, node, flat, head_of, heads, sizes, FitRow}
 use Rattle.bforest_core.specs.Sizes.{inner_gain, past, leaf_gain}
+use Rattle.bforest_core.specs.Place.{IsAt}
 use Rattle.bforest_core.proofs.rows.Bounds.{below_lt, above_lt}
-use Rattle.bforest_core.proofs.rows.LevelRows.{flat-append, heads-append, FitRow-split, FitRow-join}
+use Rattle.bforest_core.proofs.rows.LevelRows.{flat-append, sizes-append, least-le, FitRow-split, FitRow-join}
 
 module _ {K X : Type 0} where
   -- a node's head is that of its first entry
@@ -23,16 +25,37 @@ module _ {K X : Type 0} where
   flat-halved before after m n xs ys =
       flat-append before _ ∙ ap (λ z. flat before ++ z) (sym (append_assoc xs ys (flat after)))
 
-  pub heads-halved : (before after : List (LevelNode K X)) (m n : ℕ) (x : K × X) (xs : List (K × X)) (y : K × X) (ys : List (K × X)) → heads (before ++ node m (x ∷ xs) ∷ node n (y ∷ ys) ∷ after) ≡ heads before ++ (x.0, m) ∷ (y.0, n) ∷ heads after
-  heads-halved before after m n x xs y ys = heads-append before _
-
   pub FitRow-halved : (half most : ℕ) (before after : List (LevelNode K X)) (m n : ℕ) (es xs ys : List (K × X)) → 1 ≤ half → FitRow half most (before ++ node m es ∷ after) → half ≤ length xs → length xs ≤ most → half ≤ length ys → length ys ≤ most → FitRow half most (before ++ node m xs ∷ node n ys ∷ after)
-  FitRow-halved half most before [] m n es xs ys one f hx mx hy my =
-      let s = FitRow-split half most before (node m es) [] f in
-      FitRow-join half most before (node m xs) (node n ys ∷ []) s.0 (hx, mx, (omega arith, my, tt))
-  FitRow-halved half most before (z ∷ after) m n es xs ys one f hx mx hy my =
-      let s = FitRow-split half most before (node m es) (z ∷ after) f in
-      FitRow-join half most before (node m xs) (node n ys ∷ z ∷ after) s.0 (hx, mx, (hy, my, s.1.2))
+  FitRow-halved half most before after m n es xs ys one f hx mx hy my =
+      let s = FitRow-split half most before (node m es) after f in
+      FitRow-join half most before (node m xs) (node n ys ∷ after) s.0 (hx, mx, (omega (arith, hy, least-le half one after), my, s.1.2))
+
+module _ {K X : Type 0} where
+  -- where a path stands in a row of which one node became two: in the left half or in the right one
+  abbrev pub InHalf : List (LevelNode K X) → ℕ → ℕ → List (K × X) → List (K × X) → List (LevelNode K X) → ℕ → ℕ → ℕ → Bool → Type 0
+  InHalf before n right xs ys after m j p moved =
+      (at : IsAt (before ++ node n xs ∷ node right ys ∷ after) m j p) × (length at.before ≡ (if moved then suc (length (heads before)) else length (heads before)))
+
+  pub in_left : (before after : List (LevelNode K X)) (n right : ℕ) (xs ys : List (K × X)) (j p : ℕ) → length (heads before) ≡ length before → j < length xs → p ≡ length (flat before) + j → InHalf before n right xs ys after n j p false
+  in_left before after n right xs ys j p seen within place = (
+    record { before = before; entries = xs; after = node right ys ∷ after; row_is = refl; within = within; place_is = place },
+    sym seen,
+  )
+
+  pub in_right : (before after : List (LevelNode K X)) (n right : ℕ) (xs ys : List (K × X)) (m j p : ℕ) → length (heads before) ≡ length before → m ≡ right → j < length ys → p ≡ length (flat before) + (length xs + j) → InHalf before n right xs ys after m j p true
+  in_right before after n right xs ys m j p seen here within place =
+      let front : List (LevelNode K X) = before ++ node n xs ∷ [] in
+      let flat_front : length (flat front) ≡ length (flat before) + length xs = ap length (flat-append before (node n xs ∷ [])) ∙ length-append (flat before) _ ∙ ap (λ z. length (flat before) + length z) (append-nil xs) in (
+        record {
+          before = front;
+          entries = ys;
+          after = after;
+          row_is = sym (append_assoc before (node n xs ∷ []) (node right ys ∷ after)) ∙ ap (λ z. front ++ node z ys ∷ after) (sym here);
+          within = within;
+          place_is = omega (arith, place, flat_front);
+        },
+        length-append before (node n xs ∷ []) ∙ omega (arith, seen),
+      )
 
 -- a change of a level behind these nodes
 abbrev behind : {K X : Type 0} → List (LevelNode K X) → Option ℕ × List ℕ → Option ℕ × List ℕ
@@ -55,6 +78,10 @@ module _ {K X : Type 0} where
       let a = above_lt (length es + (length (flat before) + e)) (length es) (omega arith) in
       let d : length es + (length (flat before) + e) - length es ≡ length (flat before) + e = omega arith in
       rw (len, a, d) (ap (λ z. past (length es) z) (gain_behind before s e after low))
+
+  -- an entry behind these nodes, and these entries of the next one
+  pub gain_spot : (before : List (LevelNode K X)) (n : ℕ) (es l : List (K × X)) (after : List (LevelNode K X)) → inner_gain (length (flat before ++ l)) (sizes (before ++ node n es ∷ after)) ≡ inner_gain (length (flat before) + length l) (sizes before ++ length es ∷ sizes after)
+  gain_spot before n es l after = ap (λ z. inner_gain z (sizes (before ++ node n es ∷ after))) (length-append (flat before) l) ∙ ap (λ z. inner_gain (length (flat before) + length l) z) (sizes-append before (node n es ∷ after))
 
   -- the sizes of a level with one more entry, in a node with room
   pub gain_room : (before : List (LevelNode K X)) (s e : ℕ) (after : List ℕ) → e < s → s < 8 → inner_gain (length (flat before) + e) (sizes before ++ s ∷ after) ≡ (None, sizes before ++ suc s ∷ after)

@@ -1,14 +1,13 @@
 -- A full node that is halved, with a new entry in one half.
 use Rattle.std.proofs.Common.{◌≡◌, ℕ, suc, ◌+◌, ◌-◌, ◌/◌, ◌≤◌, ◌<◌, ◌≢◌, nat_le, true, false, if◌then◌else◌, List, [], ◌∷◌, ◌++◌, length, slice_get, Some, refl, sym, ap, ◌∙◌, subst, append_assoc, length-append, length-set, arith}
 use Rattle.bforest_nodes.specs.declared.node.SplitOff.{SplitOff}
-use Rattle.bforest_nodes.specs.Content.{Content, IsCut, IsLeafCapacity, left_half, with_child, with_entry}
+use Rattle.bforest_nodes.specs.Content.{Content, IsCut, left_half}
 use Rattle.bforest_core.specs.Table.{Table, with_node, with_front, front_of, IsUsed, IsFullAt, IsSplitAt}
-use Rattle.bforest_core.specs.Levels.{half_of, head_of}
+use Rattle.bforest_core.specs.Levels.{head_of}
 use Rattle.bforest_core.specs.Place.{inner_content, leaf_content, count}
-use Rattle.bforest_core.proofs.table.Tables.{count-same, is_used, puts, takes, length-with_front}
-use Rattle.bforest_core.proofs.table.Stored.{Parts, inner_cuts, leaf_cuts, some_same, with_child_is, with_entry_is, item_count}
+use Rattle.bforest_core.proofs.table.Tables.{Puts, count-same, is_used, puts, takes, length-with_front}
+use Rattle.bforest_core.proofs.table.Stored.{Parts, inner_cuts, some_same, item_count}
 use Rattle.bforest_core.proofs.rows.Zipper.{cut}
-use Rattle.bforest_core.proofs.insertion.Grow.{head-grown}
 use Rattle.bforest_core.proofs.insertion.LeafSpot.{keys_count}
 
 -- two ways to cut one list
@@ -35,26 +34,6 @@ stay_low cap e h = let a : nat_le e (cap / 2) ≡ true = grind arith in rw a ref
 
 pub stay_high : (cap e : ℕ) → cap / 2 < e → (if nat_le e (cap / 2) then cap / 2 else (cap + 1) / 2) ≡ (cap + 1) / 2
 stay_high cap e h = let a : nat_le e (cap / 2) ≡ false = grind arith in rw a refl
-
--- halves of an odd capacity
-pub record Odd (cap : ℕ) : Type 0 where
-  pub half : ℕ
-  pub some : 1 ≤ half
-  pub cap_is : cap ≡ half + suc half
-  pub low_is : cap / 2 ≡ half
-  pub high_is : half_of cap ≡ suc half
-
-pub odd : (cap : ℕ) → IsLeafCapacity cap → Odd cap
-odd cap c =
-    let least = c.least in
-    let one = c.odd in
-    record {
-      half = cap / 2;
-      some = omega (arith, least);
-      cap_is = omega (arith, one);
-      low_is = refl;
-      high_is = omega (arith, one);
-    }
 
 module _ {K V X : Type 0} (content : List (K × X) → Content K V) where
   -- two nodes, of which the right one is in what was the front of the chain
@@ -134,33 +113,27 @@ module _ {K V X : Type 0} (content : List (K × X) → Content K V) where
     pub left_used : count n t.chain ≡ 0 → IsUsed s n
     left_used none = is_used s n (content lefts) w.here (omega (arith, none, ap (λ k. count n k) w.chain_is))
 
-    -- it was written
+    -- one of them was written
+    two_put : (m : ℕ) (c : Content K V) (xs ys : List (K × X)) → Puts s u m c → slice_get u.nodes n ≡ Some (content xs) → slice_get u.nodes right ≡ Some (content ys) → ((k : ℕ) → k ≢ n → k ≢ right → k ≢ m) → Two t u n right xs ys
+    two_put m c xs ys put here there apart = record {
+      ne = w.ne;
+      here = here;
+      there = there;
+      same = λ k a b. put.same k (apart k a b) ∙ w.same k a b;
+      chain_is = w.chain_is ∙ ap (λ v. right ∷ v) (sym put.chain_is);
+      slots_are = put.slots_are ∙ w.slots_are;
+      limit_is = put.limit_is ∙ w.limit_is;
+    }
+
     left_put : (more : List (K × X)) → u ≡ with_node s n (content more) → Two t u n right more rights
     left_put more after =
         let put = puts s u n (content more) (content lefts) w.here after in
-        record {
-          ne = w.ne;
-          here = put.here;
-          there = put.same right (λ (v : right ≡ n). w.ne (sym v)) ∙ w.there;
-          same = λ m a b. put.same m a ∙ w.same m a b;
-          chain_is = w.chain_is ∙ ap (λ v. right ∷ v) (sym put.chain_is);
-          slots_are = put.slots_are ∙ w.slots_are;
-          limit_is = put.limit_is ∙ w.limit_is;
-        }
+        two_put n (content more) more rights put put.here (put.same right (λ (v : right ≡ n). w.ne (sym v)) ∙ w.there) (λ k a b. a)
 
-    -- or the right one
     right_put : (more : List (K × X)) → u ≡ with_node s right (content more) → Two t u n right lefts more
     right_put more after =
         let put = puts s u right (content more) (content rights) w.there after in
-        record {
-          ne = w.ne;
-          here = put.same n w.ne ∙ w.here;
-          there = put.here;
-          same = λ m a b. put.same m b ∙ w.same m a b;
-          chain_is = w.chain_is ∙ ap (λ v. right ∷ v) (sym put.chain_is);
-          slots_are = put.slots_are ∙ w.slots_are;
-          limit_is = put.limit_is ∙ w.limit_is;
-        }
+        two_put right (content more) lefts more put (put.same n w.ne ∙ w.here) put.here (λ k a b. b)
 
   -- two nodes as halves
   halves : (t u : Table K V) (n right : ℕ) (middle : K) (grown lefts rights : List (K × X)) (left_count right_count : ℕ) → grown ≡ lefts ++ rights → length lefts ≡ left_count → length rights ≡ right_count → 1 ≤ left_count → head_of right rights ≡ (middle, right) ∷ [] → Two t u n right lefts rights → Halves t u n right middle grown left_count right_count
@@ -168,6 +141,29 @@ module _ {K V X : Type 0} (content : List (K × X) → Content K V) where
   halves t u n right middle grown (z ∷ xs) [] left_count right_count is left_is right_is some head w = absurd cc
   halves t u n right middle grown (z ∷ xs) (y ∷ ys) left_count right_count is left_is right_is some head w =
       record { z = z; xs = xs; y = y; ys = ys; grown_is = is; left_is = left_is; right_is = right_is; middle_is = ap (λ v. v.0) (sym (same_head (y.0, right) (middle, right) [] [] head)); two = w }
+
+  module _ (t s u : Table K V) (n right q : ℕ) (es grown : List (K × X)) (middle : K) (sp : Split t s n right q es middle) (write : Content K V → Content K V) (left_count right_count : ℕ) where
+    -- the entry went into the left half
+    pub into_left : (l l2 r : List (K × X)) → es ≡ l ++ r → grown ≡ l2 ++ r → length l2 ≡ suc (length l) → length l ≤ q → suc q ≡ left_count → q + right_count ≡ length es →
+        ((mid : List (K × X)) → write (content (l ++ mid)) ≡ content (l2 ++ mid)) → u ≡ with_node s n (write (content sp.zs)) → Halves t u n right middle grown left_count right_count
+    into_left l l2 r es_is grown_is more low left_is right_is wrote after =
+        let w = between sp.zs (sp.y ∷ sp.ys) l r (sym sp.es_is ∙ es_is) (omega (arith, low, sp.count_is)) in
+        halves t u n right middle grown (l2 ++ w.mid) (sp.y ∷ sp.ys) left_count right_count (grown_is ∙ ap (λ v. l2 ++ v) w.r_is ∙ sym (append_assoc l2 w.mid (sp.y ∷ sp.ys)))
+        (omega (arith, length-append l2 w.mid, length-append l w.mid, more, ap length w.p_is, sp.count_is, left_is))
+        (omega (arith, ap length sp.es_is, length-append sp.zs (sp.y ∷ sp.ys), sp.count_is, right_is)) (omega (arith, left_is)) (ap (λ v. (v, right) ∷ []) (sym sp.key_is))
+        (left_put t s u n right sp.zs (sp.y ∷ sp.ys) sp.two (l2 ++ w.mid) (after ∙ ap (λ v. with_node s n (write (content v))) w.p_is ∙ ap (λ v. with_node s n v) (wrote w.mid)))
+
+    -- or into the right one
+    pub into_right : (first : K) (l r r2 : List (K × X)) → es ≡ l ++ r → grown ≡ l ++ r2 → length r2 ≡ suc (length r) → q ≤ length l → 1 ≤ q → q ≡ left_count → q + right_count ≡ suc (length es) →
+        ((mid : List (K × X)) → length mid ≡ length l - q → (write (content (mid ++ r)) ≡ content (mid ++ r2)) × (sp.y ∷ sp.ys ≡ mid ++ r → head_of right (mid ++ r2) ≡ (first, right) ∷ [])) →
+        u ≡ with_node s right (write (content (sp.y ∷ sp.ys))) → Halves t u n right first grown left_count right_count
+    into_right first l r r2 es_is grown_is more high some left_is right_is wrote after =
+        let w = between l r sp.zs (sp.y ∷ sp.ys) (sym es_is ∙ sp.es_is) (omega (arith, high, sp.count_is)) in
+        let there = wrote w.mid (omega (arith, ap length w.p_is, length-append sp.zs w.mid, sp.count_is)) in
+        halves t u n right first grown sp.zs (w.mid ++ r2) left_count right_count (grown_is ∙ ap (λ v. v ++ r2) w.p_is ∙ append_assoc sp.zs w.mid r2) (sp.count_is ∙ left_is)
+        (omega (arith, length-append w.mid r2, length-append w.mid r, more, ap length w.r_is, ap length sp.es_is, length-append sp.zs (sp.y ∷ sp.ys), sp.count_is, right_is))
+        (omega (arith, some, left_is)) (there.1 w.r_is)
+        (right_put t s u n right sp.zs (sp.y ∷ sp.ys) sp.two (w.mid ++ r2) (after ∙ ap (λ v. with_node s right (write (content v))) w.r_is ∙ ap (λ v. with_node s right v) there.0))
 
 module _ {K V : Type 0} where
   -- a full leaf has so many entries
@@ -178,71 +174,12 @@ module _ {K V : Type 0} where
   pub full_is : (cap : ℕ) (nodes : List (Content K V)) (n : ℕ) (es : List (K × ℕ)) → slice_get nodes n ≡ Some (inner_content es) → IsFullAt cap nodes n → length es ≡ 8
   full_is cap nodes n es was full = let w = rw was at full in sym (item_count es) ∙ w.1
 
-  -- how a leaf is cut, and an inner node
-  pub leaf_parts : (q : ℕ) → Cuts {K = K} {V = V} leaf_content q
-  leaf_parts q zs y ys left right key e c = leaf_cuts V zs y ys q left right key e c
-
+  -- how an inner node is cut
   pub inner_parts : (q : ℕ) → 1 ≤ q → Cuts {K = K} {V = V} inner_content q
   inner_parts q some [] y ys left right key e c = absurd (omega (arith, e, some))
   inner_parts q some (z ∷ zs) y ys left right key e c = inner_cuts V z zs y ys q left right key e c
 
   -- the first key of the right half, with the entry
-  middle_key : (right : ℕ) (mid : List (K × V)) (entry : K × V) (r : List (K × V)) (y : K × V) (ys : List (K × V)) (first : K) → y ∷ ys ≡ mid ++ r → (length mid ≡ 0 → first ≡ entry.0) → (0 < length mid → first ≡ y.0) → head_of right (mid ++ entry ∷ r) ≡ (first, right) ∷ []
+  pub middle_key : (right : ℕ) (mid : List (K × V)) (entry : K × V) (r : List (K × V)) (y : K × V) (ys : List (K × V)) (first : K) → y ∷ ys ≡ mid ++ r → (length mid ≡ 0 → first ≡ entry.0) → (0 < length mid → first ≡ y.0) → head_of right (mid ++ entry ∷ r) ≡ (first, right) ∷ []
   middle_key right [] entry r y ys first q_is zero more = ap (λ v. (v, right) ∷ []) (sym (zero refl))
   middle_key right (m ∷ mid) entry r y ys first q_is zero more = ap (λ v. (v, right) ∷ []) (sym (more (omega arith) ∙ ap (λ v. v.0) (same_head y m ys (mid ++ r) q_is)))
-
-  module _ (cap : ℕ) (t s u : Table K V) (n right q e : ℕ) (l r : List (K × V)) (middle key : K) (value : V) (o : Odd cap) (l_is : length l ≡ e) (full : length (l ++ r) ≡ cap) (sp : Split leaf_content t s n right q (l ++ r) middle) where
-    -- the entry went into the leaf's left half
-    pub leaf_halves_early : e ≤ cap / 2 → q ≡ cap / 2 → u ≡ with_node s n (with_entry (leaf_content sp.zs) e key value) → Halves leaf_content t u n right middle (l ++ (key, value) ∷ r) (half_of cap) (half_of cap)
-    leaf_halves_early low q_is after =
-        let w = between sp.zs (sp.y ∷ sp.ys) l r (sym sp.es_is) (omega (arith, l_is, low, sp.count_is, q_is)) in
-        let lefts : List (K × V) = l ++ (key, value) ∷ w.mid in
-        let half_is : length sp.zs ≡ o.half = sp.count_is ∙ q_is ∙ o.low_is in
-        let after2 : u ≡ with_node s n (leaf_content lefts) = after ∙ ap (λ v. with_node s n (with_entry (leaf_content v) e key value)) w.p_is ∙ ap (λ v. with_node s n v) (with_entry_is V l w.mid key value e l_is) in
-        halves leaf_content t u n right middle (l ++ (key, value) ∷ r) lefts (sp.y ∷ sp.ys) (half_of cap) (half_of cap)
-        (ap (λ v. l ++ (key, value) ∷ v) w.r_is ∙ sym (append_assoc l ((key, value) ∷ w.mid) (sp.y ∷ sp.ys)))
-        (omega (arith, length-append l ((key, value) ∷ w.mid), length-append l w.mid, ap length w.p_is, half_is, o.high_is))
-        (omega (arith, full, o.cap_is, ap length sp.es_is, length-append sp.zs (sp.y ∷ sp.ys), half_is, o.high_is))
-        (omega (arith, o.high_is)) (ap (λ v. (v, right) ∷ []) (sym sp.key_is)) (left_put leaf_content t s u n right sp.zs (sp.y ∷ sp.ys) sp.two lefts after2)
-
-    -- or into the right one
-    pub leaf_halves_late : (first : K) → cap / 2 < e → q ≡ half_of cap → (e - q ≡ 0 → first ≡ key) → (0 < e - q → first ≡ middle) → u ≡ with_node s right (with_entry (leaf_content (sp.y ∷ sp.ys)) (e - q) key value) → Halves leaf_content t u n right first (l ++ (key, value) ∷ r) (half_of cap) (half_of cap)
-    leaf_halves_late first high q_is zero more after =
-        let half_is : length sp.zs ≡ suc o.half = sp.count_is ∙ q_is ∙ o.high_is in
-        let w = between l r sp.zs (sp.y ∷ sp.ys) sp.es_is (omega (arith, l_is, high, half_is, o.low_is)) in
-        let rights : List (K × V) = w.mid ++ (key, value) ∷ r in
-        let mid_is : length w.mid ≡ e - q = omega (arith, l_is, ap length w.p_is, length-append sp.zs w.mid, sp.count_is) in
-        let after2 : u ≡ with_node s right (leaf_content rights) = after ∙ ap (λ v. with_node s right (with_entry (leaf_content v) (e - q) key value)) w.r_is ∙ ap (λ v. with_node s right v) (with_entry_is V w.mid r key value (e - q) mid_is) in
-        halves leaf_content t u n right first (l ++ (key, value) ∷ r) sp.zs rights (half_of cap) (half_of cap)
-        (ap (λ v. v ++ (key, value) ∷ r) w.p_is ∙ append_assoc sp.zs w.mid ((key, value) ∷ r)) (half_is ∙ sym o.high_is)
-        (omega (arith, length-append w.mid ((key, value) ∷ r), length-append w.mid r, ap length w.r_is, full, o.cap_is, ap length sp.es_is, length-append sp.zs (sp.y ∷ sp.ys), half_is, o.high_is))
-        (omega (arith, o.high_is)) (middle_key right w.mid (key, value) r sp.y sp.ys first w.r_is (λ none. zero (sym mid_is ∙ none)) (λ some. more (omega (arith, some, mid_is)) ∙ sp.key_is)) (right_put leaf_content t s u n right sp.zs (sp.y ∷ sp.ys) sp.two rights after2)
-
-  module _ (t s u : Table K V) (n right q e : ℕ) (l : List (K × ℕ)) (x : K × ℕ) (r : List (K × ℕ)) (middle key : K) (child : ℕ) (l_is : length l ≡ e) (eight : length (l ++ x ∷ r) ≡ 8) (four : q ≡ 4) (sp : Split {V = V} inner_content t s n right q (l ++ x ∷ r) middle) where
-    -- the right half has 4 children, too
-    pub right_four : length (sp.y ∷ sp.ys) ≡ 4
-    right_four = omega (arith, eight, ap length sp.es_is, length-append sp.zs (sp.y ∷ sp.ys), sp.count_is, four)
-
-    -- the child went into the inner node's left half
-    pub halves_early : e < 4 → u ≡ with_node s n (with_child (inner_content sp.zs) e key child) → Halves inner_content t u n right middle (l ++ x ∷ (key, child) ∷ r) 5 4
-    halves_early low after =
-        let w = between sp.zs (sp.y ∷ sp.ys) (l ++ x ∷ []) r (sym sp.es_is ∙ sym (append_assoc l (x ∷ []) r)) (omega (arith, l_is, low, sp.count_is, four, length-append l (x ∷ []))) in
-        let lefts : List (K × ℕ) = l ++ x ∷ (key, child) ∷ w.mid in
-        let zs_are : sp.zs ≡ l ++ x ∷ w.mid = w.p_is ∙ append_assoc l (x ∷ []) w.mid in
-        let after2 : u ≡ with_node s n (inner_content lefts) = after ∙ ap (λ v. with_node s n (with_child (inner_content v) e key child)) zs_are ∙ ap (λ v. with_node s n v) (with_child_is V l x w.mid key child e l_is) in
-        halves inner_content t u n right middle (l ++ x ∷ (key, child) ∷ r) lefts (sp.y ∷ sp.ys) 5 4
-        (ap (λ v. l ++ x ∷ (key, child) ∷ v) w.r_is ∙ sym (append_assoc l (x ∷ (key, child) ∷ w.mid) (sp.y ∷ sp.ys)))
-        (omega (arith, length-append l (x ∷ (key, child) ∷ w.mid), length-append l (x ∷ w.mid), ap length zs_are, sp.count_is, four))
-        right_four (omega arith) (ap (λ v. (v, right) ∷ []) (sym sp.key_is)) (left_put inner_content t s u n right sp.zs (sp.y ∷ sp.ys) sp.two lefts after2)
-
-    -- or into the right one
-    pub halves_late : 4 ≤ e → u ≡ with_node s right (with_child (inner_content (sp.y ∷ sp.ys)) (e - 4) key child) → Halves inner_content t u n right middle (l ++ x ∷ (key, child) ∷ r) 4 5
-    halves_late high after =
-        let w = between l (x ∷ r) sp.zs (sp.y ∷ sp.ys) sp.es_is (omega (arith, l_is, high, sp.count_is, four)) in
-        let rights : List (K × ℕ) = w.mid ++ x ∷ (key, child) ∷ r in
-        let mid_is : length w.mid ≡ e - 4 = omega (arith, l_is, ap length w.p_is, length-append sp.zs w.mid, sp.count_is, four) in
-        let after2 : u ≡ with_node s right (inner_content rights) = after ∙ ap (λ v. with_node s right (with_child (inner_content v) (e - 4) key child)) w.r_is ∙ ap (λ v. with_node s right v) (with_child_is V w.mid x r key child (e - 4) mid_is) in
-        halves inner_content t u n right middle (l ++ x ∷ (key, child) ∷ r) sp.zs rights 4 5
-        (ap (λ v. v ++ x ∷ (key, child) ∷ r) w.p_is ∙ append_assoc sp.zs w.mid (x ∷ (key, child) ∷ r)) (sp.count_is ∙ four)
-        (omega (arith, length-append w.mid (x ∷ (key, child) ∷ r), length-append w.mid (x ∷ r), ap length w.r_is, right_four))
-        (omega arith) (head-grown right w.mid x ((key, child) ∷ r) r ∙ ap (λ v. head_of right v) (sym w.r_is) ∙ ap (λ v. (v, right) ∷ []) (sym sp.key_is)) (right_put inner_content t s u n right sp.zs (sp.y ∷ sp.ys) sp.two rights after2)

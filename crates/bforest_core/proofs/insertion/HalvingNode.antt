@@ -1,39 +1,25 @@
 -- Putting a child into the path's inner node, or halving the node and putting it into one half: each answer of `insert_here` and of `split_here` is one of these.
-use Rattle.std.proofs.Common.{◌≡◌, ℕ, suc, ◌-◌, ◌≤◌, ◌<◌, IsTrue, ◌↔◌, true, false, Bool, if◌then◌else◌, List, [], ◌∷◌, ◌++◌, map, drop, length, set, get_or, slice_get, Some, refl, sym, ap, ◌∙◌, subst, arith}
+use Rattle.std.proofs.Common.{◌≡◌, ℕ, suc, ◌-◌, ◌≤◌, ◌<◌, true, false, Bool, if◌then◌else◌, List, [], ◌∷◌, ◌++◌, map, length, set, get_or, Some, refl, sym, ap, ◌∙◌, subst, append_assoc, length-append, arith}
 use Rattle.std.proofs.lemmas.List.{get_or_default, get_or-set_same, get_or-set_other}
-use Rattle.std.proofs.lemmas.Bool.{false≢true}
 use Rattle.bforest_nodes.specs.Content.{Inner, with_child}
 use Rattle.bforest_nodes.specs.declared.node.SplitOff.{SplitOff}
 use Rattle.bforest_core.specs.Table.{Table, IsUsed, IsFullAt, IsSplitAt, front_of, with_node}
-use Rattle.bforest_core.specs.Levels.{LevelNode, sizes}
+use Rattle.bforest_core.specs.Levels.{LevelNode, flat, head_of, heads, sizes}
 use Rattle.bforest_core.specs.Sizes.{need_above, gain_above}
-use Rattle.bforest_core.specs.Place.{inner_content, entry_keys, entry_items}
+use Rattle.bforest_core.specs.Place.{inner_content, entry_items}
 use Rattle.bforest_core.specs.Climb.{Above, Grown, Halved}
-use Rattle.bforest_core.proofs.table.Tables.{is_used, puts, with_node_here}
+use Rattle.bforest_core.proofs.table.Tables.{is_used, puts}
+use Rattle.bforest_core.proofs.rows.LevelRows.{Solid-full}
 use Rattle.bforest_core.proofs.rows.Zipper.{Spot, spot}
 use Rattle.bforest_core.proofs.table.Stored.{item_count, key_count, with_child_is}
-use Rattle.bforest_core.proofs.insertion.Halving.{Split, full_is, inner_parts, counted, split_at, left_used, right_four, halves_early, halves_late}
-use Rattle.bforest_core.proofs.insertion.Room.{settle_room}
-use Rattle.bforest_core.proofs.insertion.Parted.{parted_early, parted_late}
-use Rattle.bforest_core.proofs.insertion.HalvingLeaf.{FullAt, put_done}
+use Rattle.bforest_core.proofs.insertion.Halving.{Split, full_is, inner_parts, counted, split_at, left_used, into_left, into_right}
+use Rattle.bforest_core.proofs.insertion.Grow.{head-grown, halves_left, halves_right, in_left, in_right}
+use Rattle.bforest_core.proofs.insertion.Room.{settle_room, step_is, step_most}
+use Rattle.bforest_core.proofs.insertion.Parted.{parted}
+use Rattle.bforest_core.proofs.insertion.Putting.{PutAsks, HasRoom, Puts, asks_put, put_fewer, put_in, put_past, put_kept}
+use Rattle.bforest_core.proofs.insertion.HalvingLeaf.{FullAt}
 
 module _ {K V : Type 0} where
-  -- what putting a child in asks
-  pub record RoomAt (t : Table K V) (number index : ℕ) : Type 0 where
-    pub used : IsUsed t number
-    pub keys : List K
-    pub children : List ℕ
-    pub slot : slice_get t.nodes number ≡ Some (Inner keys children)
-    pub within : index ≤ length keys
-
-  -- whether there was room
-  abbrev pub HasRoom : Table K V → ℕ → Bool → Type 0
-  HasRoom t number put = (keys : List K) (children : List ℕ) → slice_get t.nodes number ≡ Some (Inner keys children) → IsTrue put ↔ (length children < 8)
-
-  -- what putting it in leaves
-  abbrev pub Puts : Table K V → Table K V → ℕ → ℕ → K → ℕ → Bool → Type 0
-  Puts t u number index key child put = (keys : List K) (children : List ℕ) → slice_get t.nodes number ≡ Some (Inner keys children) → u ≡ with_node t number (if put then with_child (Inner keys children) index key child else Inner keys children)
-
   module _ (t : Table K V) (ms js : List ℕ) (up size : ℕ) (rows : List (List (LevelNode K ℕ))) (a : List (K × ℕ)) (x : K × ℕ) (b : List (K × ℕ)) (p : Above t ms js up size rows (a ++ x ∷ b) (length a)) (r : ℕ) (within : up < size) (low : up < length ms) where
     d : Spot t ms js up size rows a x b
     d = spot t ms js up size rows a x b p within
@@ -41,51 +27,42 @@ module _ {K V : Type 0} where
     num_is : get_or ms up r ≡ get_or ms up 0
     num_is = get_or_default ms up r 0 low
 
-    used_is : IsUsed t (get_or ms up r)
-    used_is = subst (λ (z : ℕ). IsUsed t z) (sym num_is) (is_used t (get_or ms up 0) (inner_content (d.q.l ++ x ∷ d.q.r)) d.f.slot_is d.f.none_chain)
-
-    slot_is : slice_get t.nodes (get_or ms up r) ≡ Some (inner_content (d.q.l ++ x ∷ d.q.r))
-    slot_is = ap (λ z. slice_get t.nodes z) num_is ∙ d.f.slot_is
-
     pub index_small : get_or js up 0 < 8
     index_small = omega (arith, d.count_is, d.most_is)
 
     -- what putting the child in asks
-    pub put_asks : RoomAt t (get_or ms up r) (get_or js up 0)
-    put_asks = record { used = used_is; keys = drop 1 (entry_keys (d.q.l ++ x ∷ d.q.r)); children = entry_items (d.q.l ++ x ∷ d.q.r); slot = slot_is; within = omega (arith, key_count (d.q.l ++ x ∷ d.q.r), d.count_is) }
+    pub put_asks : PutAsks Inner t (get_or ms up r) (get_or js up 0)
+    put_asks = asks_put Inner t _ _ num_is _ _ d.f.slot_is (get_or js up 0) (is_used t (get_or ms up 0) (inner_content (d.q.l ++ x ∷ d.q.r)) d.f.slot_is d.f.none_chain) (omega (arith, key_count (d.q.l ++ x ∷ d.q.r), d.count_is))
 
-    module _ (u : Table K V) (key : K) (child : ℕ) (put : Bool) (has : HasRoom t (get_or ms up r) put) (wrote : Puts t u (get_or ms up r) (get_or js up 0) key child put) where
-      room_is : IsTrue put ↔ (length (entry_items (d.q.l ++ x ∷ d.q.r)) < 8)
-      room_is = has (drop 1 (entry_keys (d.q.l ++ x ∷ d.q.r))) (entry_items (d.q.l ++ x ∷ d.q.r)) slot_is
-
-      written : u ≡ with_node t (get_or ms up r) (if put then with_child (inner_content (d.q.l ++ x ∷ d.q.r)) (get_or js up 0) key child else inner_content (d.q.l ++ x ∷ d.q.r))
-      written = wrote (drop 1 (entry_keys (d.q.l ++ x ∷ d.q.r))) (entry_items (d.q.l ++ x ∷ d.q.r)) slot_is
-
+    module _ (u : Table K V) (key : K) (child : ℕ) (put : Bool) (has : HasRoom Inner (λ keys children. length children) 8 t (get_or ms up r) put) (wrote : Puts Inner (λ z. with_child z (get_or js up 0) key child) t u (get_or ms up r) put) where
       -- it came in
       pub put_grows : put ≡ true → (moved : Bool) (index : ℕ) → index ≡ (if moved then suc (get_or js up 0) else get_or js up 0) → up < length js →
           (1 ≡ need_above (Some (length a)) (map sizes rows)) × Grown t u ms js ms (set js up index) up size size rows (a ++ x ∷ (key, child) ∷ b) (if moved then suc (length a) else length a) (gain_above (Some (length a)) (map sizes rows)) []
       put_grows done moved index index_is low_js =
           let es : List (K × ℕ) = d.q.l ++ x ∷ d.q.r in
-          let fewer = room_is.0 done in
-          let after = put_done put t u (get_or ms up r) (get_or ms up 0) (with_child (inner_content es) (get_or js up 0) key child) (inner_content es) num_is done written ∙ ap (λ z. with_node t (get_or ms up 0) z) (with_child_is V d.q.l x d.q.r key child (get_or js up 0) d.q.entry_is) in
+          let fewer : length (entry_items es) < 8 = put_fewer Inner t _ _ num_is _ _ d.f.slot_is u (λ keys children. length children) 8 (λ z. with_child z (get_or js up 0) key child) put has wrote done in
+          let after = put_in Inner t _ _ num_is _ _ d.f.slot_is u (λ keys children. length children) 8 (λ z. with_child z (get_or js up 0) key child) put has wrote fewer ∙ ap (λ z. with_node t (get_or ms up 0) z) (with_child_is V d.q.l x d.q.r key child (get_or js up 0) d.q.entry_is) in
           settle_room t u ms js (set js up index) up size rows a x (key, child) b moved d (omega (arith, item_count es)) (puts t u (get_or ms up 0) (inner_content (d.q.l ++ x ∷ (key, child) ∷ d.q.r)) (inner_content es) d.f.slot_is after)
           (get_or-set_same js up index 0 low_js ∙ index_is) (λ i other. get_or-set_other js up i index 0 other)
 
       -- there was no room
       pub put_full : (cap : ℕ) → put ≡ false → IsFullAt cap t.nodes (get_or ms up 0)
       put_full cap none =
-          let full : ¬ (length (entry_items (d.q.l ++ x ∷ d.q.r)) < 8) = λ fewer. false≢true (sym none ∙ room_is.1 fewer) in
+          let full : ¬ (length (entry_items (d.q.l ++ x ∷ d.q.r)) < 8) = put_past Inner t _ _ num_is _ _ d.f.slot_is u (λ keys children. length children) 8 (λ z. with_child z (get_or js up 0) key child) put has wrote none in
           rw d.f.slot_is (λ free. free, omega (arith, full, item_count (d.q.l ++ x ∷ d.q.r), d.most_is))
 
       pub put_none : put ≡ false → u ≡ t
-      put_none none = (rw none at written) ∙ with_node_here t (get_or ms up r) (inner_content (d.q.l ++ x ∷ d.q.r)) slot_is
+      put_none none = put_kept Inner t _ _ num_is _ _ d.f.slot_is u (λ keys children. length children) 8 (λ z. with_child z (get_or js up 0) key child) put has wrote none
 
     module _ (cap : ℕ) (s : Table K V) (full : IsFullAt cap t.nodes (get_or ms up 0)) where
       pub full_asks : FullAt cap t (get_or ms up r)
-      full_asks = record { used = used_is; full = subst (λ (z : ℕ). IsFullAt cap t.nodes z) (sym num_is) full }
+      full_asks = record { used = put_asks.used; full = subst (λ (z : ℕ). IsFullAt cap t.nodes z) (sym num_is) full }
 
       eight : length (d.q.l ++ x ∷ d.q.r) ≡ 8
       eight = full_is cap t.nodes (get_or ms up 0) (d.q.l ++ x ∷ d.q.r) d.f.slot_is full
+
+      seen : length (heads d.q.before) ≡ length d.q.before
+      seen = Solid-full 4 8 (omega arith) d.q.before d.f.solid
 
       module _ (right : ℕ) (parts : SplitOff K) (front : front_of t.chain ≡ Some right) (used : IsUsed s right) (split : IsSplitAt cap t (get_or ms up r) (get_or js up 0) parts s) where
         here_split : IsSplitAt cap t (get_or ms up 0) (get_or js up 0) parts s
@@ -97,41 +74,41 @@ module _ {K V : Type 0} where
         cut : Split {V = V} inner_content t s (get_or ms up 0) right parts.lhs_entries (d.q.l ++ x ∷ d.q.r) parts.crit_key
         cut = let f = four in let e = eight in split_at inner_content cap t s (get_or ms up 0) (get_or js up 0) (d.q.l ++ x ∷ d.q.r) parts d.f.slot_is here_split right (inner_parts parts.lhs_entries (omega arith)) (omega arith) d.f.none_chain front used.within
 
-        left_slot : slice_get s.nodes (get_or ms up r) ≡ Some (inner_content cut.zs)
-        left_slot = ap (λ z. slice_get s.nodes z) num_is ∙ cut.two.here
+        pub early_asks : get_or js up 0 < 4 → PutAsks Inner s (get_or ms up r) (get_or js up 0)
+        early_asks early =
+            asks_put Inner s _ _ num_is _ _ cut.two.here (get_or js up 0) (left_used inner_content t s s (get_or ms up 0) right cut.zs (cut.y ∷ cut.ys) cut.two d.f.none_chain) (omega (arith, key_count cut.zs, cut.count_is, early, four))
 
-        pub early_asks : get_or js up 0 < 4 → RoomAt s (get_or ms up r) (get_or js up 0)
-        early_asks early = record {
-          used = subst (λ (z : ℕ). IsUsed s z) (sym num_is) (left_used inner_content t s s (get_or ms up 0) right cut.zs (cut.y ∷ cut.ys) cut.two d.f.none_chain);
-          keys = drop 1 (entry_keys cut.zs);
-          children = entry_items cut.zs;
-          slot = left_slot;
-          within = (let f = four in omega (arith, key_count cut.zs, cut.count_is, early));
-        }
-
-        pub early_halves : (u : Table K V) (key : K) (child : ℕ) (moved put : Bool) (index : ℕ) → get_or js up 0 < 4 → HasRoom s (get_or ms up r) put → Puts s u (get_or ms up r) (get_or js up 0) key child put → index ≡ (if moved then suc (get_or js up 0) else get_or js up 0) → up < length js →
+        pub early_halves : (u : Table K V) (key : K) (child : ℕ) (moved put : Bool) (index : ℕ) → get_or js up 0 < 4 → HasRoom Inner (λ keys children. length children) 8 s (get_or ms up r) put → Puts Inner (λ z. with_child z (get_or js up 0) key child) s u (get_or ms up r) put → index ≡ (if moved then suc (get_or js up 0) else get_or js up 0) → up < length js →
             Halved t u ms js ms (set js up index) up size rows (a ++ x ∷ (key, child) ∷ b) (length a) (if moved then suc (length a) else length a) parts.crit_key right false
         early_halves u key child moved put index early has puts index_is low_js =
-            let f = four in
-            let room = (has (drop 1 (entry_keys cut.zs)) (entry_items cut.zs) left_slot).1 (omega (arith, item_count cut.zs, cut.count_is)) in
-            let written = put_done put s u (get_or ms up r) (get_or ms up 0) (with_child (inner_content cut.zs) (get_or js up 0) key child) (inner_content cut.zs) num_is room (puts (drop 1 (entry_keys cut.zs)) (entry_items cut.zs) left_slot) in
-            let h = halves_early t s u (get_or ms up 0) right parts.lhs_entries (get_or js up 0) d.q.l x d.q.r parts.crit_key key child d.q.entry_is eight f cut early written in
-            parted_early t u ms js ms (set js up index) up size rows a x (key, child) b parts.crit_key right moved d eight early h
-            (λ i. refl) (λ i other. get_or-set_other js up i index 0 other) (get_or-set_same js up index 0 low_js ∙ index_is)
+            let written = put_in Inner s _ _ num_is _ _ cut.two.here u (λ keys children. length children) 8 (λ z. with_child z (get_or js up 0) key child) put has puts (omega (arith, item_count cut.zs, cut.count_is, four)) in
+            let new : K × ℕ = (key, child) in
+            let h = into_left inner_content t s u (get_or ms up 0) right parts.lhs_entries (d.q.l ++ x ∷ d.q.r) (d.q.l ++ x ∷ new ∷ d.q.r) parts.crit_key cut (λ v. with_child v (get_or js up 0) key child) 5 4
+            (d.q.l ++ x ∷ []) (d.q.l ++ x ∷ new ∷ []) d.q.r (sym (append_assoc d.q.l (x ∷ []) d.q.r)) (sym (append_assoc d.q.l (x ∷ new ∷ []) d.q.r)) (omega (arith, length-append d.q.l (x ∷ []), length-append d.q.l (x ∷ new ∷ []))) (omega (arith, length-append d.q.l (x ∷ []), d.q.entry_is, early, four)) (omega (arith, four)) (omega (arith, four, eight))
+            (λ mid. ap (λ z. with_child (inner_content z) (get_or js up 0) key child) (append_assoc d.q.l (x ∷ []) mid) ∙ with_child_is V d.q.l x mid key child (get_or js up 0) d.q.entry_is ∙ ap inner_content (sym (append_assoc d.q.l (x ∷ new ∷ []) mid))) written in
+            let j_is = get_or-set_same js up index 0 low_js ∙ index_is ∙ step_is moved (get_or js up 0) in
+            parted t u ms js ms (set js up index) up size rows a x new b parts.crit_key right (if moved then suc (length a) else length a) false 5 4 (omega arith, omega arith, omega arith, omega arith) (λ after. halves_left (get_or js up 0) 5 4 after early refl refl) d eight h
+            (λ i other. refl) (λ i other. get_or-set_other js up i index 0 other) seen
+            (in_left d.q.before d.q.after (get_or ms up 0) right (h.z ∷ h.xs) (h.y ∷ h.ys) (get_or (set js up index) up 0) (if moved then suc (length a) else length a) seen (omega (arith, j_is, step_most moved, h.left_is, early)) (step_is moved (length a) ∙ omega (arith, j_is, ap length d.q.a_is, length-append (flat d.q.before) d.q.l, d.q.entry_is)))
 
         right_is : length (cut.y ∷ cut.ys) ≡ 4
-        right_is = right_four t s s (get_or ms up 0) right parts.lhs_entries (get_or js up 0) d.q.l x d.q.r parts.crit_key x.0 0 d.q.entry_is eight four cut
+        right_is = omega (arith, eight, ap length cut.es_is, length-append cut.zs (cut.y ∷ cut.ys), cut.count_is, four)
 
-        pub late_asks : RoomAt s right (get_or js up 0 - 4)
-        late_asks = record { used = used; keys = drop 1 (entry_keys (cut.y ∷ cut.ys)); children = entry_items (cut.y ∷ cut.ys); slot = cut.two.there; within = (let small = index_small in let f = right_is in omega (arith, key_count (cut.y ∷ cut.ys))) }
+        pub late_asks : PutAsks Inner s right (get_or js up 0 - 4)
+        late_asks =
+            asks_put Inner s right right refl _ _ cut.two.there (get_or js up 0 - 4) used (omega (arith, key_count (cut.y ∷ cut.ys), index_small, right_is))
 
-        pub late_halves : (u : Table K V) (key : K) (child : ℕ) (moved put : Bool) (index : ℕ) → 4 ≤ get_or js up 0 → HasRoom s right put → Puts s u right (get_or js up 0 - 4) key child put → index ≡ (if moved then suc (get_or js up 0 - 4) else get_or js up 0 - 4) → up < length js →
+        pub late_halves : (u : Table K V) (key : K) (child : ℕ) (moved put : Bool) (index : ℕ) → 4 ≤ get_or js up 0 → HasRoom Inner (λ keys children. length children) 8 s right put → Puts Inner (λ z. with_child z (get_or js up 0 - 4) key child) s u right put → index ≡ (if moved then suc (get_or js up 0 - 4) else get_or js up 0 - 4) → up < length js →
             Halved t u ms js (set ms up right) (set js up index) up size rows (a ++ x ∷ (key, child) ∷ b) (length a) (if moved then suc (length a) else length a) parts.crit_key right true
         late_halves u key child moved put index late has puts index_is low_js =
-            let rights = cut.y ∷ cut.ys in
-            let f = right_is in
-            let room = (has (drop 1 (entry_keys rights)) (entry_items rights) cut.two.there).1 (omega (arith, item_count rights)) in
-            let written = put_done put s u right right (with_child (inner_content rights) (get_or js up 0 - 4) key child) (inner_content rights) refl room (puts (drop 1 (entry_keys rights)) (entry_items rights) cut.two.there) in
-            let h = halves_late t s u (get_or ms up 0) right parts.lhs_entries (get_or js up 0) d.q.l x d.q.r parts.crit_key key child d.q.entry_is eight four cut late written in
-            parted_late t u ms js (set ms up right) (set js up index) up size rows a x (key, child) b parts.crit_key right moved d eight late h
-            (λ i other. get_or-set_other ms up i right 0 other) (get_or-set_same ms up right 0 low) (λ i other. get_or-set_other js up i index 0 other) (get_or-set_same js up index 0 low_js ∙ index_is)
+            let written = put_in Inner s right right refl _ _ cut.two.there u (λ keys children. length children) 8 (λ z. with_child z (get_or js up 0 - 4) key child) put has puts (omega (arith, item_count (cut.y ∷ cut.ys), right_is)) in
+            let h = into_right inner_content t s u (get_or ms up 0) right parts.lhs_entries (d.q.l ++ x ∷ d.q.r) (d.q.l ++ x ∷ (key, child) ∷ d.q.r) parts.crit_key cut (λ v. with_child v (get_or js up 0 - 4) key child) 4 5
+            parts.crit_key d.q.l (x ∷ d.q.r) (x ∷ (key, child) ∷ d.q.r) refl refl refl (omega (arith, d.q.entry_is, late, four)) (omega (arith, four)) four (omega (arith, four, eight))
+            (λ mid is. (
+              with_child_is V mid x d.q.r key child (get_or js up 0 - 4) (omega (arith, is, d.q.entry_is, four)),
+              λ rest. head-grown right mid x ((key, child) ∷ d.q.r) d.q.r ∙ ap (λ v. head_of right v) (sym rest) ∙ ap (λ v. (v, right) ∷ []) (sym cut.key_is),
+            )) written in
+            let j_is = get_or-set_same js up index 0 low_js ∙ index_is ∙ step_is moved (get_or js up 0 - 4) in
+            parted t u ms js (set ms up right) (set js up index) up size rows a x (key, child) b parts.crit_key right (if moved then suc (length a) else length a) true 4 5 (omega arith, omega arith, omega arith, omega arith) (λ after. halves_right (get_or js up 0) 4 5 after late refl refl) d eight h
+            (λ i other. get_or-set_other ms up i right 0 other) (λ i other. get_or-set_other js up i index 0 other) seen
+            (in_right d.q.before d.q.after (get_or ms up 0) right (h.z ∷ h.xs) (h.y ∷ h.ys) (get_or (set ms up right) up 0) (get_or (set js up index) up 0) (if moved then suc (length a) else length a) seen (get_or-set_same ms up right 0 low) (omega (arith, j_is, step_most moved, h.right_is, index_small)) (step_is moved (length a) ∙ omega (arith, j_is, ap length d.q.a_is, length-append (flat d.q.before) d.q.l, d.q.entry_is, h.left_is, late)))

@@ -78,14 +78,6 @@ module _ {K V : Type 0} where
       let r = rooted most table root union p.root_is in
       (omega (arith, p.at.points.size_is), omega (arith, p.at.points.size_is, r.low))
 
-  -- the same after nodes were made free
-  placed-reserved : (most : ℕ) (table : Table K V) (n root place : ℕ) (path indices : List ℕ) (size : ℕ) → IsUnion most table → PlacedUnder table.nodes root path indices size place → Placed most (reserved table n) path indices size (tree_of table.nodes root) place
-  placed-reserved most table n root place path indices size union p =
-      let same = reserved-roots most table n union root in
-      let r = rooted most (reserved table n) root (reserved-union most table n union) (same.0 ∙ p.root_is) in
-      let s = subst (λ (z : Tree K V). Rooted most (reserved table n) root z) (same.1 p.root_is) r in
-      record { fit = s.fit; inside = s.inside; apart = s.apart; at = p.at }
-
   -- so many lie free then
   pub reserved-free : (table : Table K V) (n : ℕ) → length (reserved table n).chain ≡ (n - free_count table) + free_count table
   reserved-free table n = omega (arith, length-append (down_from (slot_count table) (n - free_count table)) table.chain, length-down_from (slot_count table) (n - free_count table))
@@ -113,10 +105,10 @@ module _ {K V : Type 0} where
       let among = subst (λ (z : ℕ). 0 < count z (numbers_of tree)) (r.root_is ∙ sym same) (root-among most table.nodes tree r.fit r.inside r.some) in
       omega (arith, among, some, r.apart root', count-append root' (numbers_of tree) table.chain, ap (λ z. count root' z) chain_is, count-append root' taken new.chain)
 
-  -- under the number of its tree's root
-  inserted_root : (most : ℕ) (old new : Table K V) (root place : ℕ) (path' indices' : List ℕ) (size' : ℕ) (entry : K × V) → IsUnion most old → IsTrue (is_root old.nodes root) → size' ≤ 17 →
-      (i : Inserted most (reserved old (need most place (sizes_of (tree_of old.nodes root)))) new path' indices' size' (tree_of old.nodes root) place entry) → Insertion most old new root (root_of i.tree') place entry path' indices' size'
-  inserted_root most old new root place path' indices' size' entry union is low i =
+  -- an entry came into the tree under a root, after as many nodes were made free as it needs
+  pub insertion : (most : ℕ) (old new : Table K V) (root place : ℕ) (path' indices' : List ℕ) (size' : ℕ) (entry : K × V) → IsUnion most old → IsTrue (is_root old.nodes root) → size' ≤ 17 →
+      Inserted most (reserved old (need most place (sizes_of (tree_of old.nodes root)))) new path' indices' size' (tree_of old.nodes root) place entry → Insertion most old new root (top_of path' size') place entry path' indices' size'
+  insertion most old new root place path' indices' size' entry union is low i =
       let tree = tree_of old.nodes root in
       let n = need most place (sizes_of tree) in
       let mid = reserved old n in
@@ -130,7 +122,7 @@ module _ {K V : Type 0} where
       let e = exchanged most mid new root i.tree' i.taken union_mid (roots.0 ∙ is) planted i.chain_is i.slots_are (λ m. omega (arith, i.numbers_are m, nums m)) (λ m none. i.others m (omega (arith, none, nums m))) in
       let levels : length (growth most place (sizes_of tree)) ≡ suc (length i.tree'.above) = omega (arith, ap length i.sizes_are, length-map i.tree'.above sizes) in
       let levels_were : length (sizes_of tree) ≡ suc (length tree.above) = omega (arith, length-map tree.above sizes) in
-      record {
+      subst (λ (z : ℕ). Insertion most old new root z place entry path' indices' size') (root-stands most i.tree' path' indices' size' place i.fit i.stands) (record {
         changes = record {
           union = e.union;
           root_is = e.root_is;
@@ -154,14 +146,7 @@ module _ {K V : Type 0} where
           ],
           λ same_levels. i.same_root (omega (arith, levels, levels_were, same_levels)) ∙ r.root_is,
         );
-      }
-
-  -- an entry came into the tree under a root, after as many nodes were made free as it needs
-  pub insertion : (most : ℕ) (old new : Table K V) (root place : ℕ) (path' indices' : List ℕ) (size' : ℕ) (entry : K × V) → IsUnion most old → IsTrue (is_root old.nodes root) → size' ≤ 17 →
-      Inserted most (reserved old (need most place (sizes_of (tree_of old.nodes root)))) new path' indices' size' (tree_of old.nodes root) place entry → Insertion most old new root (top_of path' size') place entry path' indices' size'
-  insertion most old new root place path' indices' size' entry union is low i =
-      subst (λ (z : ℕ). Insertion most old new root z place entry path' indices' size') (root-stands most i.tree' path' indices' size' place i.fit i.stands)
-      (inserted_root most old new root place path' indices' size' entry union is low i)
+      })
 
   -- an entry came in, with or without new nodes, and the path has as many levels as it can
   pub record Put (most : ℕ) (old new : Table K V) (root place : ℕ) (entry : K × V) (path' indices' : List ℕ) (size' : ℕ) : Type 0 where
@@ -195,7 +180,10 @@ module _ {K V : Type 0} where
   -- and the path is at the place still
   pub placed-mid : (most : ℕ) (old mid : Table K V) (root place : ℕ) (path indices : List ℕ) (size n : ℕ) → IsUnion most old → PlacedUnder old.nodes root path indices size place → mid ≡ reserved old n → Placed most mid path indices size (tree_of old.nodes root) place
   placed-mid most old mid root place path indices size n union p mid_is =
-      placed_from most (reserved old n) mid path indices size (tree_of old.nodes root) place mid_is (placed-reserved most old n root place path indices size union p)
+      let same = reserved-roots most old n union root in
+      let r = rooted most (reserved old n) root (reserved-union most old n union) (same.0 ∙ p.root_is) in
+      let s = subst (λ (z : Tree K V). Rooted most (reserved old n) root z) (same.1 p.root_is) r in
+      placed_from most (reserved old n) mid path indices size (tree_of old.nodes root) place mid_is (record { fit = s.fit; inside = s.inside; apart = s.apart; at = p.at })
 
   -- where the leaf became two, after so many nodes were made free
   pub put-split : (most : ℕ) (old was mid new : Table K V) (root place : ℕ) (path indices : List ℕ) (size n : ℕ) (path' indices' : List ℕ) (size' : ℕ) (entry : K × V) → IsUnion most old → PlacedUnder old.nodes root path indices size place → was ≡ old → slot_count was ≤ 4294967295 →
@@ -223,8 +211,7 @@ module _ {K V : Type 0} where
   -- by equations of tables and of paths
   pub put-from : (most : ℕ) (old new new1 : Table K V) (root place : ℕ) (entry : K × V) (most1 : ℕ) (at at1 : Path K V most1) → new1 ≡ new → at1 ≡ at → Put most old new root place entry at.node at.entry at.size → Put most old new1 root place entry at1.node at1.entry at1.size
   put-from most old new new1 root place entry most1 at at1 e1 e2 p =
-      subst (λ (z : Table K V). Put most old z root place entry at1.node at1.entry at1.size) (sym e1)
-      (subst (λ (z : Path K V most1). Put most old new root place entry z.node z.entry z.size) (sym e2) p)
+      rw (e1, e2) p
 
 -- errors of two calls that are one are one as the first call answers them
 pub err-same : {A B E : Type 0} (x : Result A E) (e f : E) (y z : Result B E) → x ≡ Err e → x ≡ Err f → y ≡ Err e → z ≡ Err f → y ≡ z

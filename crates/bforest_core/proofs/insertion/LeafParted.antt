@@ -1,20 +1,21 @@
 -- The leaves after one of them was halved, and the tree after the levels above took the right half in.
-use Rattle.std.proofs.Common.{◌≡◌, ℕ, suc, ◌+◌, ◌-◌, ◌/◌, ◌≤◌, ◌<◌, ◌≢◌, Bool, true, false, if◌then◌else◌, List, [], ◌∷◌, ◌++◌, map, length, insert, get_or, slice_get, Some, refl, sym, ap, ◌∙◌, subst, append_assoc, length-append, arith}
+use Rattle.std.proofs.Common.{◌≡◌, ℕ, suc, ◌+◌, ◌-◌, ◌≤◌, ◌<◌, ◌≢◌, Bool, if◌then◌else◌, List, ◌∷◌, ◌++◌, map, length, insert, get_or, slice_get, Option, Some, sym, ap, ◌∙◌, subst, length-append, arith}
 use Rattle.std.specs.List.{flat_map}
-use Rattle.std.proofs.lemmas.List.{append-nil, length-map}
+use Rattle.std.proofs.lemmas.List.{length-map}
+use Rattle.bforest_nodes.specs.Content.{IsLeafCapacity}
 use Rattle.bforest_core.specs.Table.{Table}
 use Rattle.bforest_core.specs.Levels.{LevelNode, node, flat, head_of, heads, sizes, numbers, Stacked, Topped, Tree, IsFit, half_of}
 use Rattle.bforest_core.specs.Sizes.{leaf_gain, gain_above, need_above}
 use Rattle.bforest_core.specs.Place.{leaf_content, count, IsAt, StandsAbove, Stands}
 use Rattle.bforest_core.specs.Climb.{Placed, LeafHalved, Inserted, Grown}
-use Rattle.bforest_core.proofs.rows.LevelRows.{flat-append, heads-append, sizes-append, FitRow-split, Solid-full}
-use Rattle.bforest_core.proofs.table.Tables.{count-append, count-same, count-row, row-same, row-halved, rows-same, ne_from_count, absent_ne}
+use Rattle.bforest_core.proofs.rows.LevelRows.{heads-append, sizes-append, FitRow-split}
+use Rattle.bforest_core.proofs.table.Tables.{counts, count-append, count-same, row-same, row-halved, rows-same, ne_from_count, absent_ne}
 use Rattle.bforest_core.proofs.rows.Zipper.{stands-same}
 use Rattle.bforest_core.proofs.rows.Tops.{root-stands, root-points}
 use Rattle.bforest_core.proofs.insertion.Rise.{gain-some}
-use Rattle.bforest_core.proofs.insertion.Grow.{flat-halved, heads-halved, FitRow-halved, leaf_full}
+use Rattle.bforest_core.proofs.insertion.Grow.{InHalf, flat-halved, FitRow-halved, leaf_full}
 use Rattle.bforest_core.proofs.insertion.LeafSpot.{LeafSpot, renewed, insert_flat, rows_count}
-use Rattle.bforest_core.proofs.insertion.Halving.{Halves, Odd}
+use Rattle.bforest_core.proofs.insertion.Halving.{Halves}
 
 module _ {K V : Type 0} where
   pub full_gain : (most : ℕ) (t : Table K V) (ms js : List ℕ) (tree : Tree K V) (place : ℕ) → (d : LeafSpot most t ms js tree place) → length (d.l ++ d.r) ≡ most →
@@ -25,32 +26,27 @@ module _ {K V : Type 0} where
       ∙ leaf_full most d.before (length (d.l ++ d.r)) (length d.l) (sizes d.after) (omega (arith, length-append d.l d.r)) d.first full
 
   -- all but where the path stands
-  leaf_parted : (most : ℕ) (t u : Table K V) (ms js ms' js' : List ℕ) (size : ℕ) (tree : Tree K V) (place : ℕ) (entry : K × V) (middle : K) (right : ℕ) (moved : Bool) → Odd most → Placed most t ms js size tree place → (d : LeafSpot most t ms js tree place) → length (d.l ++ d.r) ≡ most →
+  pub leaf_parted : (most : ℕ) (t u : Table K V) (ms js ms' js' : List ℕ) (size : ℕ) (tree : Tree K V) (place : ℕ) (entry : K × V) (middle : K) (right : ℕ) (moved : Bool) → IsLeafCapacity most → Placed most t ms js size tree place → (d : LeafSpot most t ms js tree place) → length (d.l ++ d.r) ≡ most →
       (h : Halves leaf_content t u (get_or ms 0 0) right middle (d.l ++ entry ∷ d.r) (half_of most) (half_of most)) →
       ((i : ℕ) → i ≢ 0 → get_or ms' i 0 ≡ get_or ms i 0) → ((i : ℕ) → i ≢ 0 → get_or js' i 0 ≡ get_or js i 0) →
-      (at : IsAt (d.before ++ node (get_or ms 0 0) (h.z ∷ h.xs) ∷ node right (h.y ∷ h.ys) ∷ d.after) (get_or ms' 0 0) (get_or js' 0 0) place) → length at.before ≡ (if moved then suc (length (heads d.before)) else length (heads d.before)) →
+      length (heads d.before) ≡ length d.before → InHalf d.before (get_or ms 0 0) right (h.z ∷ h.xs) (h.y ∷ h.ys) d.after (get_or ms' 0 0) (get_or js' 0 0) place moved →
       LeafHalved most t u ms ms' js' size tree place entry middle right moved
-  leaf_parted most t u ms js ms' js' size tree place entry middle right moved o p d full h far_m far_j at at_is =
+  leaf_parted most t u ms js ms' js' size tree place entry middle right moved capacity p d full h far_m far_j solid_full stands =
       let n = get_or ms 0 0 in
       let es : List (K × V) = d.l ++ d.r in
       let row : List (LevelNode K V) = d.before ++ node n es ∷ d.after in
-      let row2 : List (LevelNode K V) = d.before ++ node n (h.z ∷ h.xs) ∷ node right (h.y ∷ h.ys) ∷ d.after in
-      let up = renewed most t ms js size tree place entry (omega (arith, o.cap_is)) p d in
-      let one : 1 ≤ half_of most = omega (arith, o.high_is) in
-      let few : half_of most ≤ most = omega (arith, o.high_is, o.cap_is, o.some) in
+      let up = renewed most t ms js size tree place entry (omega (arith, capacity.least, capacity.odd)) p d in
+      let few : half_of most ≤ most = omega (arith, capacity.least, capacity.odd) in
       let nums = λ (m : ℕ). ap (λ z. count m z) up.numbers_are in
-      let c = λ (m : ℕ). count-append m (numbers row ++ flat_map numbers tree.above) t.chain in
-      let c2 = λ (m : ℕ). count-append m (numbers row) (flat_map numbers tree.above) in
-      let c3 = λ (m : ℕ). count-row m d.before n es d.after in
+      let c = λ (m : ℕ). counts m d.before n es d.after tree.above t.chain in
       let c4 = λ (m : ℕ). ap (λ z. count m z) h.two.chain_is in
       let c5 = λ (m : ℕ). count-append m (flat_map numbers up.rows') u.chain in
       let same_right = count-same right u.chain in
-      let none_right : count right (numbers d.before) + count right (numbers d.after) ≡ 0 = omega (arith, d.apart right, c right, c2 right, c3 right, c4 right, same_right) in
-      let none_right_rows : count right (flat_map numbers up.rows') ≡ 0 = omega (arith, d.apart right, c right, c2 right, c3 right, c4 right, same_right, nums right) in
+      let none_right : count right (numbers d.before) + count right (numbers d.after) ≡ 0 = omega (arith, d.apart right, c right, c4 right, same_right) in
+      let none_right_rows : count right (flat_map numbers up.rows') ≡ 0 = omega (arith, d.apart right, c right, c4 right, same_right, nums right) in
       let none_rows : count n (flat_map numbers up.rows') ≡ 0 = nums n ∙ d.none_rows in
       let hs0 : heads (d.before ++ node n (d.l ++ entry ∷ d.r) ∷ d.after) ≡ heads d.before ++ (h.z.0, n) ∷ heads d.after =
       heads-append d.before _ ∙ ap (λ z. heads d.before ++ (head_of n z ++ heads d.after)) h.grown_is in
-      let solid_full : length (heads d.before) ≡ length d.before = Solid-full (half_of most) most one d.before d.solid in
       record {
         before = d.before;
         entries = es;
@@ -64,7 +60,7 @@ module _ {K V : Type 0} where
         key_is = h.middle_is;
         flat_is = flat-halved d.before d.after n right (h.z ∷ h.xs) (h.y ∷ h.ys) ∙ ap (λ z. flat d.before ++ (z ++ flat d.after)) (sym h.grown_is)
             ∙ sym (insert_flat d.before n d.l d.r d.after entry) ∙ ap (λ z. insert (flat row) z entry) (sym d.place_is) ∙ ap (λ z. insert (flat z) place entry) (sym d.leaves_are);
-        fit = FitRow-halved (half_of most) most d.before d.after n right es (h.z ∷ h.xs) (h.y ∷ h.ys) one d.fit (omega (arith, h.left_is)) (omega (arith, h.left_is, few)) (omega (arith, h.right_is)) (omega (arith, h.right_is, few));
+        fit = FitRow-halved (half_of most) most d.before d.after n right es (h.z ∷ h.xs) (h.y ∷ h.ys) (omega (arith, capacity.least)) d.fit (omega (arith, h.left_is)) (omega (arith, h.left_is, few)) (omega (arith, h.right_is)) (omega (arith, h.right_is, few));
         inside = row-halved leaf_content t.nodes u.nodes d.before n right es (h.z ∷ h.xs) (h.y ∷ h.ys) d.after d.inside h.two.same h.two.here h.two.there d.none none_right;
         gain_is = full_gain most t ms js tree place d full ∙ ap (λ z. (Some z, sizes d.before ++ half_of most ∷ half_of most ∷ sizes d.after)) (sym solid_full)
             ∙ ap (λ z. (Some (length (heads d.before)), sizes d.before ++ z ∷ half_of most ∷ sizes d.after)) (sym h.left_is)
@@ -76,13 +72,13 @@ module _ {K V : Type 0} where
           stands = stands-same ms js ms' js' 1 up.rows' (length (heads d.before)) (λ i high. far_m i (λ (e : i ≡ 0). omega (arith, e, high))) (λ i high. far_j i (λ (e : i ≡ 0). omega (arith, e, high)))
               (subst (λ (z : ℕ). StandsAbove ms js 1 up.rows' z) (sym solid_full) (up.stands (length d.before) d.stands));
           height = omega (arith, p.at.points.size_is, rows_count tree.above up.rows' up.sizes_are);
-          apart = λ m. omega (arith, d.apart m, c m, c2 m, c4 m, c5 m, nums m);
+          apart = λ m. omega (arith, d.apart m, c m, c4 m, c5 m, nums m);
         };
         topped = subst (λ (z : List (K × ℕ)). Topped z up.rows') hs0 up.topped;
         sizes_above = up.sizes_are;
         numbers_above = up.numbers_are;
-        at = at;
-        at_is = at_is;
+        at = stands.0;
+        at_is = stands.1;
         slots_same = h.two.same;
         chain_is = h.two.chain_is;
         slots_are = h.two.slots_are;
@@ -90,61 +86,11 @@ module _ {K V : Type 0} where
         nodes_above = λ i high. far_m i (λ (e : i ≡ 0). omega (arith, e, high));
       }
 
-  -- the path goes to the left half
-  pub leaf_parted_early : (most : ℕ) (t u : Table K V) (ms js : List ℕ) (size : ℕ) (tree : Tree K V) (place : ℕ) (entry : K × V) (middle : K) (right : ℕ) → Odd most → Placed most t ms js size tree place → (d : LeafSpot most t ms js tree place) → length (d.l ++ d.r) ≡ most → get_or js 0 0 ≤ most / 2 →
-      Halves leaf_content t u (get_or ms 0 0) right middle (d.l ++ entry ∷ d.r) (half_of most) (half_of most) → LeafHalved most t u ms ms js size tree place entry middle right false
-  leaf_parted_early most t u ms js size tree place entry middle right o p d full low h =
-      let n = get_or ms 0 0 in
-      let one : 1 ≤ half_of most = omega (arith, o.high_is) in
-      let solid_full : length (heads d.before) ≡ length d.before = Solid-full (half_of most) most one d.before d.solid in
-      let at : IsAt (d.before ++ node n (h.z ∷ h.xs) ∷ node right (h.y ∷ h.ys) ∷ d.after) n (get_or js 0 0) place = record {
-        before = d.before;
-        entries = h.z ∷ h.xs;
-        after = node right (h.y ∷ h.ys) ∷ d.after;
-        row_is = refl;
-        within = omega (arith, low, h.left_is, o.low_is, o.high_is);
-        place_is = omega (arith, d.place_is, d.index_is);
-      } in
-      leaf_parted most t u ms js ms js size tree place entry middle right false o p d full h (λ i other. refl) (λ i other. refl) at (sym solid_full)
-
-  -- or to the right one
-  pub leaf_parted_late : (most : ℕ) (t u : Table K V) (ms js ms' js' : List ℕ) (size : ℕ) (tree : Tree K V) (place : ℕ) (entry : K × V) (middle : K) (right q : ℕ) → Odd most → Placed most t ms js size tree place → (d : LeafSpot most t ms js tree place) → length (d.l ++ d.r) ≡ most → most / 2 < get_or js 0 0 → q ≡ half_of most →
-      Halves leaf_content t u (get_or ms 0 0) right middle (d.l ++ entry ∷ d.r) (half_of most) (half_of most) →
-      ((i : ℕ) → i ≢ 0 → get_or ms' i 0 ≡ get_or ms i 0) → get_or ms' 0 0 ≡ right → ((i : ℕ) → i ≢ 0 → get_or js' i 0 ≡ get_or js i 0) → get_or js' 0 0 ≡ get_or js 0 0 - q →
-      LeafHalved most t u ms ms' js' size tree place entry middle right true
-  leaf_parted_late most t u ms js ms' js' size tree place entry middle right q o p d full high q_is h far_m m_is far_j j_is =
-      let n = get_or ms 0 0 in
-      let one : 1 ≤ half_of most = omega (arith, o.high_is) in
-      let solid_full : length (heads d.before) ≡ length d.before = Solid-full (half_of most) most one d.before d.solid in
-      let front : List (LevelNode K V) = d.before ++ node n (h.z ∷ h.xs) ∷ [] in
-      let q2 : q ≡ suc o.half = q_is ∙ o.high_is in
-      let left2 : length (h.z ∷ h.xs) ≡ q = h.left_is ∙ sym q_is in
-      let right2 : length (h.y ∷ h.ys) ≡ q = h.right_is ∙ sym q_is in
-      let high2 : q ≤ get_or js 0 0 = omega (arith, high, o.low_is, q2) in
-      let most2 : get_or js 0 0 ≤ most = omega (arith, full, d.index_is, length-append d.l d.r) in
-      let flat_front : length (flat front) ≡ length (flat d.before) + q = ap length (flat-append d.before (node n (h.z ∷ h.xs) ∷ [])) ∙ length-append (flat d.before) _ ∙ ap (λ z. length (flat d.before) + z) (ap length (append-nil (h.z ∷ h.xs)) ∙ left2) in
-      let at : IsAt (d.before ++ node n (h.z ∷ h.xs) ∷ node right (h.y ∷ h.ys) ∷ d.after) (get_or ms' 0 0) (get_or js' 0 0) place = record {
-        before = front;
-        entries = h.y ∷ h.ys;
-        after = d.after;
-        row_is = sym (append_assoc d.before (node n (h.z ∷ h.xs) ∷ []) (node right (h.y ∷ h.ys) ∷ d.after)) ∙ ap (λ z. front ++ node z (h.y ∷ h.ys) ∷ d.after) (sym m_is);
-        within = omega (arith, j_is, right2, most2, o.cap_is, q2);
-        place_is = omega (arith, j_is, d.place_is, d.index_is, flat_front, high2);
-      } in
-      let at_is : length front ≡ suc (length (heads d.before)) = length-append d.before (node n (h.z ∷ h.xs) ∷ []) ∙ omega (arith, solid_full) in
-      leaf_parted most t u ms js ms' js' size tree place entry middle right true o p d full h far_m far_j at at_is
-
-  -- the need where the leaf becomes two
-  pub need_leaf : (most : ℕ) (t u : Table K V) (ms ms' js' : List ℕ) (size : ℕ) (tree : Tree K V) (place : ℕ) (entry : K × V) (key : K) (right : ℕ) (moved : Bool) → (h : LeafHalved most t u ms ms' js' size tree place entry key right moved) →
-      need_above (leaf_gain most place (sizes tree.leaves)).0 (map sizes tree.above) ≡ need_above (Some (length (heads h.before))) (map sizes h.rows)
-  need_leaf most t u ms ms' js' size tree place entry key right moved h =
-      ap (λ z. need_above z.0 (map sizes tree.above)) h.gain_is ∙ ap (λ z. need_above (Some (length (heads h.before))) z) (sym h.sizes_above)
-
-  -- and the sizes above
-  pub gain_leaf : (most : ℕ) (t u : Table K V) (ms ms' js' : List ℕ) (size : ℕ) (tree : Tree K V) (place : ℕ) (entry : K × V) (key : K) (right : ℕ) (moved : Bool) → (h : LeafHalved most t u ms ms' js' size tree place entry key right moved) →
-      gain_above (leaf_gain most place (sizes tree.leaves)).0 (map sizes tree.above) ≡ gain_above (Some (length (heads h.before))) (map sizes h.rows)
-  gain_leaf most t u ms ms' js' size tree place entry key right moved h =
-      ap (λ z. gain_above z.0 (map sizes tree.above)) h.gain_is ∙ ap (λ z. gain_above (Some (length (heads h.before))) z) (sym h.sizes_above)
+  -- the need, or the sizes above, where the leaf becomes two
+  pub above_leaf : {X : Type 0} (change : Option ℕ → List (List ℕ) → X) (most : ℕ) (t u : Table K V) (ms ms' js' : List ℕ) (size : ℕ) (tree : Tree K V) (place : ℕ) (entry : K × V) (key : K) (right : ℕ) (moved : Bool) → (h : LeafHalved most t u ms ms' js' size tree place entry key right moved) →
+      change (leaf_gain most place (sizes tree.leaves)).0 (map sizes tree.above) ≡ change (Some (length (heads h.before))) (map sizes h.rows)
+  above_leaf change most t u ms ms' js' size tree place entry key right moved h =
+      ap (λ z. change z.0 (map sizes tree.above)) h.gain_is ∙ ap (λ z. change (Some (length (heads h.before))) z) (sym h.sizes_above)
 
   -- the levels above took the right half in
   pub inserted : (most : ℕ) (t u v : Table K V) (ms js ms' js' ms'' js'' : List ℕ) (size size' : ℕ) (tree : Tree K V) (place : ℕ) (entry : K × V) (key : K) (right : ℕ) (moved : Bool) (taken : List ℕ) → Placed most t ms js size tree place → (h : LeafHalved most t u ms ms' js' size tree place entry key right moved) →
@@ -153,25 +99,21 @@ module _ {K V : Type 0} where
       Inserted most t v ms'' js'' size' tree place entry
   inserted most t u v ms js ms' js' ms'' js'' size size' tree place entry key right moved taken p h needs g =
       let n = get_or ms 0 0 in
-      let row : List (LevelNode K V) = h.before ++ node n h.entries ∷ h.after in
       let row2 : List (LevelNode K V) = h.before ++ node n (h.first ∷ h.others) ∷ node right (h.next ∷ h.more) ∷ h.after in
-      let d = λ (m : ℕ). p.apart m in
-      let leaves_m = λ (m : ℕ). ap (λ z. count m (numbers z)) h.leaves_were in
+      let leaves_m = λ (m : ℕ). ap (λ z. count m (numbers z ++ flat_map numbers tree.above)) h.leaves_were in
       let rows_m = λ (m : ℕ). ap (λ z. count m z) h.numbers_above in
       let c = λ (m : ℕ). count-append m (numbers tree.leaves ++ flat_map numbers tree.above) t.chain in
-      let c2 = λ (m : ℕ). count-append m (numbers tree.leaves) (flat_map numbers tree.above) in
-      let c3 = λ (m : ℕ). count-row m h.before n h.entries h.after in
-      let c4 = λ (m : ℕ). count-row m h.before n (h.first ∷ h.others) (node right (h.next ∷ h.more) ∷ h.after) in
-      let c5 = λ (m : ℕ). count-append m (numbers row2) (flat_map numbers g.rows') in
+      let c2 = λ (m : ℕ). counts m h.before n h.entries h.after tree.above t.chain in
+      let c4 = λ (m : ℕ). counts m h.before n (h.first ∷ h.others) (node right (h.next ∷ h.more) ∷ h.after) g.rows' v.chain in
       let chain_is : t.chain ≡ right ∷ (taken ++ v.chain) = h.chain_is ∙ ap (λ z. right ∷ z) g.chain_is in
       let c7 = λ (m : ℕ). ap (λ z. count m z) chain_is in
       let c8 = λ (m : ℕ). count-append m taken v.chain in
       let hs : heads row2 ≡ heads h.before ++ (h.first.0, n) ∷ (key, right) ∷ heads h.after =
-      heads-halved h.before h.after n right h.first h.others h.next h.more ∙ ap (λ z. heads h.before ++ (h.first.0, n) ∷ (z, right) ∷ heads h.after) (sym h.key_is) in
+      heads-append h.before _ ∙ ap (λ z. heads h.before ++ (h.first.0, n) ∷ (z, right) ∷ heads h.after) (sym h.key_is) in
       let one : List (K × ℕ) = heads h.before ++ (h.first.0, n) ∷ heads h.after in
       let longer : length one ≤ length (heads h.before ++ (h.first.0, n) ∷ (key, right) ∷ heads h.after) =
       omega (arith, length-append (heads h.before) ((h.first.0, n) ∷ heads h.after), length-append (heads h.before) ((h.first.0, n) ∷ (key, right) ∷ heads h.after)) in
-      let quiet : (m : ℕ) → 0 < count m (numbers row2) → slice_get v.nodes m ≡ slice_get u.nodes m = λ m some. g.others m (omega (arith, some, d m, leaves_m m, rows_m m, c m, c2 m, c3 m, c4 m, c7 m, c8 m)) in
+      let quiet : (m : ℕ) → 0 < count m (numbers row2) → slice_get v.nodes m ≡ slice_get u.nodes m = λ m some. g.others m (omega (arith, some, p.apart m, leaves_m m, rows_m m, c m, c2 m, c4 m, c7 m, c8 m)) in
       let here_m = g.nodes_below 0 (omega arith) in
       let here_j = g.entries_below 0 (omega arith) in
       let at2 : IsAt row2 (get_or ms'' 0 0) (get_or js'' 0 0) place = record { before = h.at.before; entries = h.at.entries; after = h.at.after; row_is = rw here_m h.at.row_is; within = rw here_j h.at.within; place_is = rw here_j h.at.place_is } in
@@ -192,13 +134,13 @@ module _ {K V : Type 0} where
         tree' = record { leaves = row2; above = g.rows' };
         taken = right ∷ taken;
         flat_is = h.flat_is;
-        sizes_are = ap (λ z. sizes row2 ∷ z) (g.sizes_are ∙ sym (gain_leaf most t u ms ms' js' size tree place entry key right moved h)) ∙ sym (ap (λ z. z.1 ∷ gain_above (leaf_gain most place (sizes tree.leaves)).0 (map sizes tree.above)) h.gain_is);
+        sizes_are = ap (λ z. sizes row2 ∷ z) (g.sizes_are ∙ sym (above_leaf gain_above most t u ms ms' js' size tree place entry key right moved h)) ∙ sym (ap (λ z. z.1 ∷ gain_above (leaf_gain most place (sizes tree.leaves)).0 (map sizes tree.above)) h.gain_is);
         fit = fit';
         inside = record { leaves_in = row-same leaf_content u.nodes v.nodes row2 quiet h.inside; rows_in = g.above.inside };
         stands = stands;
-        numbers_are = λ m. omega (arith, leaves_m m, rows_m m, c2 m, c3 m, c4 m, c5 m, g.numbers_are m);
-        taken_is = needs ∙ sym (need_leaf most t u ms ms' js' size tree place entry key right moved h);
-        others = λ m z. g.others m (omega (arith, z, rows_m m, c2 m)) ∙ h.slots_same m (absent_ne m n (numbers h.after) (omega (arith, z, leaves_m m, c2 m, c3 m))) (absent_ne m right taken (omega (arith, z)));
+        numbers_are = λ m. omega (arith, leaves_m m, rows_m m, c2 m, c4 m, g.numbers_are m);
+        taken_is = needs ∙ sym (above_leaf need_above most t u ms ms' js' size tree place entry key right moved h);
+        others = λ m z. g.others m (omega (arith, z, leaves_m m, rows_m m, c2 m)) ∙ h.slots_same m (absent_ne m n (numbers h.after) (omega (arith, z, leaves_m m, c2 m))) (absent_ne m right taken (omega (arith, z)));
         chain_is = chain_is;
         slots_are = g.slots_are ∙ h.slots_are;
         limit_is = g.limit_is ∙ h.limit_is;

@@ -1,5 +1,5 @@
 -- The leaf of a place for an entry, and the entry put in where there is room.
-use Rattle.std.proofs.Common.{◌≡◌, ◌⊎◌, ℕ, zero, suc, ◌+◌, ◌≤◌, ◌<◌, List, [], ◌∷◌, ◌++◌, map, length, insert, get_or, slice_get, Some, None, inl, inr, refl, sym, ap, ◌∙◌, subst, append_assoc, length-append, arith}
+use Rattle.std.proofs.Common.{◌≡◌, ◌⊎◌, ℕ, suc, ◌+◌, ◌≤◌, ◌<◌, List, [], ◌∷◌, ◌++◌, map, length, take, drop, insert, get_or, slice_get, Some, None, inl, inr, refl, sym, ap, ◌∙◌, subst, append_assoc, length-append, length-take-le, take-append-drop, arith}
 use Rattle.std.specs.List.{flat_map}
 use Rattle.std.proofs.lemmas.Bool.{cases_lt}
 use Rattle.std.proofs.lemmas.List.{length-map}
@@ -8,26 +8,12 @@ use Rattle.bforest_core.specs.Levels.{LevelNode, node, flat, heads, sizes, numbe
 use Rattle.bforest_core.specs.Sizes.{leaf_gain, gain_above, need_above}
 use Rattle.bforest_core.specs.Place.{RowIn, leaf_content, entry_keys, count, Distinct, StandsAbove, Stands}
 use Rattle.bforest_core.specs.Climb.{Placed, Inserted}
-use Rattle.bforest_core.proofs.rows.LevelRows.{flat-append, sizes-append, FitRow-split}
-use Rattle.bforest_core.proofs.table.Tables.{count-append, count-row, row-split, row-put, rows-same, ne_from_count, absent_ne, Puts}
+use Rattle.bforest_core.proofs.rows.LevelRows.{flat-append, least-pos, sizes-append, FitRow-split}
+use Rattle.bforest_core.proofs.table.Tables.{counts, row-split, row-put, rows-same, ne_from_count, absent_ne, Puts}
 use Rattle.bforest_core.proofs.rows.Zipper.{apart_here}
 use Rattle.bforest_core.proofs.insertion.Grow.{FitRow-put, leaf_room}
 use Rattle.bforest_core.proofs.rows.Tops.{root-stands, root-points}
 use Rattle.bforest_core.proofs.insertion.Renew.{Renewed, renew}
-
--- a list cut behind its first so many
-pub record Pieces {A : Type 0} (es : List A) (j : ℕ) : Type 0 where
-  pub l : List A
-  pub r : List A
-  pub es_is : es ≡ l ++ r
-  pub place_is : length l ≡ j
-
-pub pieces : {A : Type 0} (es : List A) (j : ℕ) → j ≤ length es → Pieces es j
-pieces es zero h = record { l = []; r = es; es_is = refl; place_is = refl }
-pieces [] (suc j) h = absurd (omega arith)
-pieces (e ∷ es) (suc j) h =
-    let c = pieces es j (omega arith) in
-    record { l = e ∷ c.l; r = c.r; es_is = ap (λ z. e ∷ z) c.es_is; place_is = ap suc c.place_is }
 
 insert_between : {A : Type 0} (p s : List A) (x : A) → insert (p ++ s) (length p) x ≡ p ++ x ∷ s
 insert_between [] s x = refl
@@ -44,10 +30,7 @@ insert_flat before n l r after x =
 
 -- as many rows
 pub rows_count : {K : Type 0} (xs ys : List (List (LevelNode K ℕ))) → map sizes ys ≡ map sizes xs → length ys ≡ length xs
-rows_count [] [] e = refl
-rows_count [] (y ∷ ys) e = absurd cc
-rows_count (x ∷ xs) [] e = absurd cc
-rows_count (x ∷ xs) (y ∷ ys) e = ap suc (rows_count xs ys (let h : map sizes ys ≡ map sizes xs = cc in h))
+rows_count xs ys e = omega (arith, ap length e, length-map xs sizes, length-map ys sizes)
 
 module _ {K V : Type 0} where
   -- the tree, cut at the place in its leaf
@@ -73,39 +56,34 @@ module _ {K V : Type 0} where
     pub none_rows : count (get_or ms 0 0) (flat_map numbers tree.above) ≡ 0
     pub none_chain : count (get_or ms 0 0) t.chain ≡ 0
 
-  leaf_some : (most : ℕ) (m : ℕ) (es : List (K × V)) (after : List (LevelNode K V)) → 1 ≤ most → FitRow (half_of most) most (node m es ∷ after) → 1 ≤ length es
-  leaf_some most m es [] one f = f.0
-  leaf_some most m es (y ∷ after) one f = omega (arith, f.0, one)
-
-  first_of : (j : ℕ) (before : List (LevelNode K V)) (l : List (K × V)) → length l ≡ j → (j ≡ 0 → before ≡ []) → (before ≡ []) ⊎ (1 ≤ length l)
-  first_of j before l is h = elim (cases_lt 0 j) [ inl lt ↦ inr (omega (arith, is, lt)) | inr ge ↦ inl (h (omega (arith, ge))) ]
-
   pub leaf_spot : (most : ℕ) (t : Table K V) (ms js : List ℕ) (size : ℕ) (tree : Tree K V) (place : ℕ) → Placed most t ms js size tree place → LeafSpot most t ms js tree place
   leaf_spot most t ms js size tree place p =
       let at = p.at.points in
       let n = get_or ms 0 0 in
-      let c = pieces at.entries (get_or js 0 0) at.within in
-      let row : List (LevelNode K V) = at.before ++ node n (c.l ++ c.r) ∷ at.after in
-      let is : tree.leaves ≡ row = at.leaves_are ∙ ap (λ z. at.before ++ node n z ∷ at.after) c.es_is in
+      let l = take (get_or js 0 0) at.entries in
+      let r = drop (get_or js 0 0) at.entries in
+      let l_is = length-take-le (get_or js 0 0) at.entries at.within in
+      let row : List (LevelNode K V) = at.before ++ node n (l ++ r) ∷ at.after in
+      let is : tree.leaves ≡ row = at.leaves_are ∙ ap (λ z. at.before ++ node n z ∷ at.after) (sym (take-append-drop (get_or js 0 0) at.entries)) in
       let fit : FitRow (half_of most) most row = subst (λ (z : List (LevelNode K V)). FitRow (half_of most) most z) is p.fit.leaves_fit in
       let inside : RowIn leaf_content t.nodes row = subst (λ (z : List (LevelNode K V)). RowIn leaf_content t.nodes z) is p.inside.leaves_in in
       let apart : Distinct ((numbers row ++ flat_map numbers tree.above) ++ t.chain) = subst (λ (z : List (LevelNode K V)). Distinct ((numbers z ++ flat_map numbers tree.above) ++ t.chain)) is p.apart in
-      let f = FitRow-split (half_of most) most at.before (node n (c.l ++ c.r)) at.after fit in
-      let d = apart_here n at.before (c.l ++ c.r) at.after (flat_map numbers tree.above) t.chain apart in
+      let f = FitRow-split (half_of most) most at.before (node n (l ++ r)) at.after fit in
+      let d = apart_here n at.before (l ++ r) at.after (flat_map numbers tree.above) t.chain apart in
       record {
         before = at.before;
-        l = c.l;
-        r = c.r;
+        l = l;
+        r = r;
         after = at.after;
         leaves_are = is;
-        index_is = c.place_is;
-        place_is = omega (arith, at.place_is, c.place_is);
-        first = first_of (get_or js 0 0) at.before c.l c.place_is p.at.first;
+        index_is = l_is;
+        place_is = omega (arith, at.place_is, l_is);
+        first = elim (cases_lt 0 (get_or js 0 0)) [ inl lt ↦ inr (omega (arith, l_is, lt)) | inr ge ↦ inl (p.at.first (omega (arith, ge))) ];
         fit = fit;
         solid = f.0;
         most_is = f.1.1;
         inside = inside;
-        slot_is = (row-split leaf_content t.nodes at.before (node n (c.l ++ c.r) ∷ at.after) inside).1.0;
+        slot_is = (row-split leaf_content t.nodes at.before (node n (l ++ r) ∷ at.after) inside).1.0;
         stacked = subst (λ (z : List (LevelNode K V)). Stacked (heads z) tree.above) is p.fit.stacked;
         topped = subst (λ (z : List (LevelNode K V)). Topped (heads z) tree.above) is p.fit.topped;
         stands = at.above;
@@ -120,7 +98,7 @@ module _ {K V : Type 0} where
       Renewed t.nodes ms js tree.above (heads (d.before ++ node (get_or ms 0 0) (d.l ++ entry ∷ d.r) ∷ d.after))
   renewed most t ms js size tree place entry one p d =
       let f = FitRow-split (half_of most) most d.before (node (get_or ms 0 0) (d.l ++ d.r)) d.after d.fit in
-      renew t.nodes ms js tree.above d.before (get_or ms 0 0) d.l entry d.r d.after d.first (leaf_some most (get_or ms 0 0) (d.l ++ d.r) d.after one f.1) d.stacked d.topped p.inside.rows_in
+      renew t.nodes ms js tree.above d.before (get_or ms 0 0) d.l entry d.r d.after d.first (omega (arith, f.1.0, least-pos (half_of most) (omega (arith, one)) d.after)) d.stacked d.topped p.inside.rows_in
 
   -- where the leaf has room
   pub room_gain : (most : ℕ) (t : Table K V) (ms js : List ℕ) (tree : Tree K V) (place : ℕ) → (d : LeafSpot most t ms js tree place) → length (d.l ++ d.r) < most → leaf_gain most place (sizes tree.leaves) ≡ (None, sizes d.before ++ suc (length (d.l ++ d.r)) ∷ sizes d.after)
@@ -140,12 +118,10 @@ module _ {K V : Type 0} where
       let above = renewed most t ms js size tree place entry (omega (arith, room)) p d in
       let len : length es ≡ suc (length old) = omega (arith, length-append d.l (entry ∷ d.r), length-append d.l d.r) in
       let none2 : count n (flat_map numbers above.rows') ≡ 0 = ap (λ z. count n z) above.numbers_are ∙ d.none_rows in
-      let c0 = λ (m : ℕ). ap (λ z. count m (numbers z)) d.leaves_are in
+      let c0 = λ (m : ℕ). ap (λ z. count m (numbers z ++ flat_map numbers tree.above)) d.leaves_are in
       let c1 = λ (m : ℕ). ap (λ z. count m z) above.numbers_are in
-      let c2 = λ (m : ℕ). count-row m d.before n old d.after in
-      let c3 = λ (m : ℕ). count-row m d.before n es d.after in
-      let c4 = λ (m : ℕ). count-append m (numbers tree.leaves) (flat_map numbers tree.above) in
-      let c5 = λ (m : ℕ). count-append m (numbers row2) (flat_map numbers above.rows') in
+      let c2 = λ (m : ℕ). counts m d.before n old d.after tree.above t.chain in
+      let c3 = λ (m : ℕ). counts m d.before n es d.after above.rows' u.chain in
       let g = room_gain most t ms js tree place d room in
       let fit' : IsFit most (record { leaves = row2; above = above.rows' }) = record { leaves_fit = FitRow-put (half_of most) most d.before d.after n old es len room d.fit; stacked = above.stacked; topped = above.topped } in
       let stands : Stands ms js size (record { leaves = row2; above = above.rows' }) place = record {
@@ -165,9 +141,9 @@ module _ {K V : Type 0} where
           rows_in = rows-same t.nodes u.nodes above.rows' (λ m some. w.same m (ne_from_count m n (flat_map numbers above.rows') some none2)) above.inside;
         };
         stands = stands;
-        numbers_are = λ m. omega (arith, c0 m, c1 m, c2 m, c3 m, c4 m, c5 m);
+        numbers_are = λ m. omega (arith, c0 m, c1 m, c2 m, c3 m);
         taken_is = sym (ap (λ z. need_above z.0 (map sizes tree.above)) g);
-        others = λ m z. w.same m (absent_ne m n (numbers d.after) (omega (arith, z, c0 m, c2 m, c4 m)));
+        others = λ m z. w.same m (absent_ne m n (numbers d.after) (omega (arith, z, c0 m, c2 m)));
         chain_is = sym w.chain_is;
         slots_are = w.slots_are;
         limit_is = w.limit_is;

@@ -1,45 +1,39 @@
 -- A level of which one node was halved, and the path on it.
-use Rattle.std.proofs.Common.{◌≡◌, ℕ, suc, ◌+◌, ◌-◌, ◌≤◌, ◌<◌, ◌≢◌, Bool, true, false, if◌then◌else◌, List, [], ◌∷◌, ◌++◌, length, get_or, nat_lt, Some, refl, sym, ap, ◌∙◌, subst, append_assoc, length-append, arith}
+use Rattle.std.proofs.Common.{◌≡◌, ℕ, suc, ◌+◌, ◌≤◌, ◌<◌, ◌≢◌, Bool, if◌then◌else◌, List, [], ◌∷◌, ◌++◌, length, get_or, nat_lt, Some, sym, ap, ◌∙◌, subst, append_assoc, length-append, arith}
 use Rattle.std.specs.List.{flat_map}
-use Rattle.std.proofs.lemmas.List.{append-nil}
 use Rattle.bforest_core.specs.Table.{Table}
 use Rattle.bforest_core.specs.Levels.{LevelNode, node, flat, head_of, heads, sizes, numbers, Stacked}
 use Rattle.bforest_core.specs.Sizes.{inner_gain}
-use Rattle.bforest_core.specs.Place.{inner_content, count, IsAt}
+use Rattle.bforest_core.specs.Place.{inner_content, count}
 use Rattle.bforest_core.specs.Climb.{Halved}
-use Rattle.bforest_core.proofs.rows.LevelRows.{flat-append, heads-append, sizes-append, Solid-full}
-use Rattle.bforest_core.proofs.table.Tables.{count-append, count-same, count-row, row-halved, rows-same, ne_from_count}
+use Rattle.bforest_core.proofs.rows.LevelRows.{heads-append, sizes-append}
+use Rattle.bforest_core.proofs.table.Tables.{counts, count-append, count-same, row-halved, rows-same, ne_from_count}
 use Rattle.bforest_core.proofs.rows.Zipper.{Spot, stands-same}
-use Rattle.bforest_core.proofs.insertion.Grow.{flat-halved, FitRow-halved, gain_full, halves_left, halves_right, head-grown}
-use Rattle.bforest_core.proofs.insertion.Room.{step_is, step_most}
+use Rattle.bforest_core.proofs.insertion.Grow.{InHalf, flat-halved, FitRow-halved, gain_spot, gain_full, head-grown}
 use Rattle.bforest_core.proofs.insertion.Halving.{Halves}
 
 module _ {K V : Type 0} where
   -- all but where the path stands
-  parted : (t u : Table K V) (ms js ms' js' : List ℕ) (up size : ℕ) (rows : List (List (LevelNode K ℕ))) (a : List (K × ℕ)) (x y : K × ℕ) (b : List (K × ℕ)) (middle : K) (right p : ℕ) (moved : Bool) (big small : ℕ) → (4 ≤ big) × (big ≤ 8) × (4 ≤ small) × (small ≤ 8) → ((after : List ℕ) → (if nat_lt (get_or js up 0) 4 then 5 ∷ 4 ∷ after else 4 ∷ 5 ∷ after) ≡ big ∷ small ∷ after) → (d : Spot t ms js up size rows a x b) → length (d.q.l ++ x ∷ d.q.r) ≡ 8 →
+  pub parted : (t u : Table K V) (ms js ms' js' : List ℕ) (up size : ℕ) (rows : List (List (LevelNode K ℕ))) (a : List (K × ℕ)) (x y : K × ℕ) (b : List (K × ℕ)) (middle : K) (right p : ℕ) (moved : Bool) (big small : ℕ) → (4 ≤ big) × (big ≤ 8) × (4 ≤ small) × (small ≤ 8) → ((after : List ℕ) → (if nat_lt (get_or js up 0) 4 then 5 ∷ 4 ∷ after else 4 ∷ 5 ∷ after) ≡ big ∷ small ∷ after) → (d : Spot t ms js up size rows a x b) → length (d.q.l ++ x ∷ d.q.r) ≡ 8 →
       (h : Halves inner_content t u (get_or ms up 0) right middle (d.q.l ++ x ∷ y ∷ d.q.r) big small) →
       ((i : ℕ) → i ≢ up → get_or ms' i 0 ≡ get_or ms i 0) → ((i : ℕ) → i ≢ up → get_or js' i 0 ≡ get_or js i 0) →
-      (at : IsAt (d.q.before ++ node (get_or ms up 0) (h.z ∷ h.xs) ∷ node right (h.y ∷ h.ys) ∷ d.q.after) (get_or ms' up 0) (get_or js' up 0) p) → length at.before ≡ (if moved then suc (length (heads d.q.before)) else length (heads d.q.before)) →
+      length (heads d.q.before) ≡ length d.q.before → InHalf d.q.before (get_or ms up 0) right (h.z ∷ h.xs) (h.y ∷ h.ys) d.q.after (get_or ms' up 0) (get_or js' up 0) p moved →
       Halved t u ms js ms' js' up size rows (a ++ x ∷ y ∷ b) (length a) p middle right moved
-  parted t u ms js ms' js' up size rows a x y b middle right p moved big small sides counts d eight h far_m far_j at at_is =
+  parted t u ms js ms' js' up size rows a x y b middle right p moved big small sides halves_are d eight h far_m far_j full at =
       let q = d.q in
       let n = get_or ms up 0 in
       let es : List (K × ℕ) = q.l ++ x ∷ q.r in
       let row : List (LevelNode K ℕ) = q.before ++ node n es ∷ q.after in
-      let row2 : List (LevelNode K ℕ) = q.before ++ node n (h.z ∷ h.xs) ∷ node right (h.y ∷ h.ys) ∷ q.after in
       let ab = d.whole in
-      let c = λ (m : ℕ). count-append m (numbers row ++ flat_map numbers q.rest) t.chain in
-      let c2 = λ (m : ℕ). count-append m (numbers row) (flat_map numbers q.rest) in
-      let c3 = λ (m : ℕ). count-row m q.before n es q.after in
+      let c = λ (m : ℕ). counts m q.before n es q.after q.rest t.chain in
       let c4 = λ (m : ℕ). ap (λ z. count m z) h.two.chain_is in
       let c5 = λ (m : ℕ). count-append m (flat_map numbers q.rest) u.chain in
       let same_right = count-same right u.chain in
-      let none_right : count right (numbers q.before) + count right (numbers q.after) ≡ 0 = omega (arith, ab.apart right, c right, c2 right, c3 right, c4 right, same_right) in
-      let none_right_rest : count right (flat_map numbers q.rest) ≡ 0 = omega (arith, ab.apart right, c right, c2 right, c3 right, c4 right, same_right) in
+      let none_right : count right (numbers q.before) + count right (numbers q.after) ≡ 0 = omega (arith, ab.apart right, c right, c4 right, same_right) in
+      let none_right_rest : count right (flat_map numbers q.rest) ≡ 0 = omega (arith, ab.apart right, c right, c4 right, same_right) in
       let low : length q.l < length es = omega (arith, length-append q.l (x ∷ q.r)) in
       let first_is : head_of n es ≡ (h.z.0, n) ∷ [] = head-grown n q.l x q.r (y ∷ q.r) ∙ ap (λ z. head_of n z) h.grown_is in
       let hs0 : heads row ≡ heads q.before ++ (h.z.0, n) ∷ heads q.after = heads-append q.before _ ∙ ap (λ z. heads q.before ++ (z ++ heads q.after)) first_is in
-      let full : length (heads q.before) ≡ length q.before = Solid-full 4 8 (omega arith) q.before d.f.solid in
       record {
         before = q.before;
         entries = es;
@@ -56,19 +50,19 @@ module _ {K V : Type 0} where
             ∙ sym (ap (λ z. z ++ x ∷ y ∷ b) q.a_is ∙ ap (λ z. (flat q.before ++ q.l) ++ x ∷ y ∷ z) q.b_is);
         fit = FitRow-halved 4 8 q.before q.after n right es (h.z ∷ h.xs) (h.y ∷ h.ys) (omega arith) ab.stacked.1 (omega (arith, h.left_is, sides.0)) (omega (arith, h.left_is, sides.1)) (omega (arith, h.right_is, sides.2)) (omega (arith, h.right_is, sides.3));
         inside = row-halved inner_content t.nodes u.nodes q.before n right es (h.z ∷ h.xs) (h.y ∷ h.ys) q.after d.f.inside h.two.same h.two.here h.two.there d.f.none none_right;
-        gain_is = ap (λ z. inner_gain (length z) (sizes row)) q.a_is ∙ ap (λ z. inner_gain z (sizes row)) (length-append (flat q.before) q.l) ∙ ap (λ z. inner_gain (length (flat q.before) + length q.l) z) (sizes-append q.before (node n es ∷ q.after))
+        gain_is = ap (λ z. inner_gain (length z) (sizes row)) q.a_is ∙ gain_spot q.before n es q.l q.after
             ∙ ap (λ z. inner_gain (length (flat q.before) + z) (sizes q.before ++ length es ∷ sizes q.after)) q.entry_is
-            ∙ gain_full q.before (length es) (get_or js up 0) (length (h.z ∷ h.xs)) (length (h.y ∷ h.ys)) (sizes q.after) (omega (arith, low, q.entry_is)) eight (counts (sizes q.after) ∙ ap (λ z. z ∷ small ∷ sizes q.after) (sym h.left_is) ∙ ap (λ z. length (h.z ∷ h.xs) ∷ z ∷ sizes q.after) (sym h.right_is))
+            ∙ gain_full q.before (length es) (get_or js up 0) (length (h.z ∷ h.xs)) (length (h.y ∷ h.ys)) (sizes q.after) (omega (arith, low, q.entry_is)) eight (halves_are (sizes q.after) ∙ ap (λ z. z ∷ small ∷ sizes q.after) (sym h.left_is) ∙ ap (λ z. length (h.z ∷ h.xs) ∷ z ∷ sizes q.after) (sym h.right_is))
             ∙ ap (λ z. (Some z, sizes q.before ++ length (h.z ∷ h.xs) ∷ length (h.y ∷ h.ys) ∷ sizes q.after)) (sym full) ∙ ap (λ z. (Some (length (heads q.before)), z)) (sym (sizes-append q.before (node n (h.z ∷ h.xs) ∷ node right (h.y ∷ h.ys) ∷ q.after)));
         above = record {
           stacked = subst (λ (z : List (K × ℕ)). Stacked z q.rest) hs0 ab.stacked.2;
           inside = rows-same t.nodes u.nodes q.rest (λ m some. h.two.same m (ne_from_count m n (flat_map numbers q.rest) some d.f.none_rest) (ne_from_count m right (flat_map numbers q.rest) some none_right_rest)) ab.inside.1;
           stands = stands-same ms js ms' js' (suc up) q.rest (length (heads q.before)) (λ i high. far_m i (λ (e : i ≡ up). omega (arith, e, high))) (λ i high. far_j i (λ (e : i ≡ up). omega (arith, e, high))) q.stands;
           height = omega (arith, ab.height);
-          apart = λ m. omega (arith, ab.apart m, c m, c2 m, c4 m, c5 m);
+          apart = λ m. omega (arith, ab.apart m, c m, c4 m, c5 m);
         };
-        at = at;
-        at_is = at_is;
+        at = at.0;
+        at_is = at.1;
         slots_same = h.two.same;
         chain_is = h.two.chain_is;
         slots_are = h.two.slots_are;
@@ -77,47 +71,3 @@ module _ {K V : Type 0} where
         entries_below = λ i low_i. far_j i (λ (e : i ≡ up). omega (arith, e, low_i));
         nodes_above = λ i high. far_m i (λ (e : i ≡ up). omega (arith, e, high));
       }
-
-  -- the path goes to the left half
-  pub parted_early : (t u : Table K V) (ms js ms' js' : List ℕ) (up size : ℕ) (rows : List (List (LevelNode K ℕ))) (a : List (K × ℕ)) (x y : K × ℕ) (b : List (K × ℕ)) (middle : K) (right : ℕ) (on : Bool) → (d : Spot t ms js up size rows a x b) → length (d.q.l ++ x ∷ d.q.r) ≡ 8 → get_or js up 0 < 4 →
-      (h : Halves inner_content t u (get_or ms up 0) right middle (d.q.l ++ x ∷ y ∷ d.q.r) 5 4) →
-      ((i : ℕ) → get_or ms' i 0 ≡ get_or ms i 0) → ((i : ℕ) → i ≢ up → get_or js' i 0 ≡ get_or js i 0) → get_or js' up 0 ≡ (if on then suc (get_or js up 0) else get_or js up 0) →
-      Halved t u ms js ms' js' up size rows (a ++ x ∷ y ∷ b) (length a) (if on then suc (length a) else length a) middle right false
-  parted_early t u ms js ms' js' up size rows a x y b middle right on d eight low h same_m far_j j_is =
-      let q = d.q in
-      let n = get_or ms up 0 in
-      let full : length (heads q.before) ≡ length q.before = Solid-full 4 8 (omega arith) q.before d.f.solid in
-      let j2 = j_is ∙ step_is on (get_or js up 0) in
-      let at : IsAt (q.before ++ node n (h.z ∷ h.xs) ∷ node right (h.y ∷ h.ys) ∷ q.after) (get_or ms' up 0) (get_or js' up 0) (if on then suc (length a) else length a) = record {
-        before = q.before;
-        entries = h.z ∷ h.xs;
-        after = node right (h.y ∷ h.ys) ∷ q.after;
-        row_is = ap (λ z. q.before ++ node z (h.z ∷ h.xs) ∷ node right (h.y ∷ h.ys) ∷ q.after) (sym (same_m up));
-        within = omega (arith, j2, step_most on, h.left_is, low);
-        place_is = step_is on (length a) ∙ omega (arith, j2, ap length q.a_is, length-append (flat q.before) q.l, q.entry_is);
-      } in
-      parted t u ms js ms' js' up size rows a x y b middle right (if on then suc (length a) else length a) false 5 4 (omega arith, omega arith, omega arith, omega arith) (λ after. halves_left (get_or js up 0) 5 4 after low refl refl) d eight h (λ i other. same_m i) far_j at (sym full)
-
-  -- or to the right one
-  pub parted_late : (t u : Table K V) (ms js ms' js' : List ℕ) (up size : ℕ) (rows : List (List (LevelNode K ℕ))) (a : List (K × ℕ)) (x y : K × ℕ) (b : List (K × ℕ)) (middle : K) (right : ℕ) (on : Bool) → (d : Spot t ms js up size rows a x b) → length (d.q.l ++ x ∷ d.q.r) ≡ 8 → 4 ≤ get_or js up 0 →
-      (h : Halves inner_content t u (get_or ms up 0) right middle (d.q.l ++ x ∷ y ∷ d.q.r) 4 5) →
-      ((i : ℕ) → i ≢ up → get_or ms' i 0 ≡ get_or ms i 0) → get_or ms' up 0 ≡ right → ((i : ℕ) → i ≢ up → get_or js' i 0 ≡ get_or js i 0) → get_or js' up 0 ≡ (if on then suc (get_or js up 0 - 4) else get_or js up 0 - 4) →
-      Halved t u ms js ms' js' up size rows (a ++ x ∷ y ∷ b) (length a) (if on then suc (length a) else length a) middle right true
-  parted_late t u ms js ms' js' up size rows a x y b middle right on d eight high h far_m m_is far_j j_is =
-      let q = d.q in
-      let n = get_or ms up 0 in
-      let full : length (heads q.before) ≡ length q.before = Solid-full 4 8 (omega arith) q.before d.f.solid in
-      let j2 = j_is ∙ step_is on (get_or js up 0 - 4) in
-      let front : List (LevelNode K ℕ) = q.before ++ node n (h.z ∷ h.xs) ∷ [] in
-      let in_node : get_or js up 0 < 8 = omega (arith, d.count_is, eight) in
-      let flat_front : length (flat front) ≡ length (flat q.before) + 4 = ap length (flat-append q.before (node n (h.z ∷ h.xs) ∷ [])) ∙ length-append (flat q.before) _ ∙ ap (λ z. length (flat q.before) + z) (ap length (append-nil (h.z ∷ h.xs)) ∙ h.left_is) in
-      let at : IsAt (q.before ++ node n (h.z ∷ h.xs) ∷ node right (h.y ∷ h.ys) ∷ q.after) (get_or ms' up 0) (get_or js' up 0) (if on then suc (length a) else length a) = record {
-        before = front;
-        entries = h.y ∷ h.ys;
-        after = q.after;
-        row_is = sym (append_assoc q.before (node n (h.z ∷ h.xs) ∷ []) (node right (h.y ∷ h.ys) ∷ q.after)) ∙ ap (λ z. front ++ node z (h.y ∷ h.ys) ∷ q.after) (sym m_is);
-        within = omega (arith, j2, step_most on, h.right_is, in_node);
-        place_is = step_is on (length a) ∙ omega (arith, j2, ap length q.a_is, length-append (flat q.before) q.l, q.entry_is, flat_front, high);
-      } in
-      let at_is : length front ≡ suc (length (heads q.before)) = length-append q.before (node n (h.z ∷ h.xs) ∷ []) ∙ omega (arith, full) in
-      parted t u ms js ms' js' up size rows a x y b middle right (if on then suc (length a) else length a) true 4 5 (omega arith, omega arith, omega arith, omega arith) (λ after. halves_right (get_or js up 0) 4 5 after high refl refl) d eight h far_m far_j at at_is

@@ -26,20 +26,11 @@ module _ {K : Type 0} where
   length_rekey key [] = refl
   length_rekey key (e ∷ es) = refl
 
-  flat_rekey : (key : K) (row : List (LevelNode K ℕ)) → FitRow 4 8 row → flat (rekey_row key row) ≡ rekey key (flat row)
-  flat_rekey key [] f = refl
-  flat_rekey key (node n [] ∷ row) f = absurd (omega (arith, f.0, least-pos 4 (omega arith) row))
-  flat_rekey key (node n (e ∷ es) ∷ row) f = refl
-
-  heads_rekey : (key : K) (row : List (LevelNode K ℕ)) → FitRow 4 8 row → heads (rekey_row key row) ≡ rekey key (heads row)
-  heads_rekey key [] f = refl
-  heads_rekey key (node n [] ∷ row) f = absurd (omega (arith, f.0, least-pos 4 (omega arith) row))
-  heads_rekey key (node n (e ∷ es) ∷ row) f = refl
-
-  FitRow_rekey : (key : K) (row : List (LevelNode K ℕ)) → FitRow 4 8 row → FitRow 4 8 (rekey_row key row)
-  FitRow_rekey key [] f = f
-  FitRow_rekey key (node n [] ∷ row) f = f
-  FitRow_rekey key (node n (e ∷ es) ∷ row) f = f
+  -- what it is seen as, and that it is as full
+  fit_rekey : (key : K) (row : List (LevelNode K ℕ)) → FitRow 4 8 row → (flat (rekey_row key row) ≡ rekey key (flat row)) × (heads (rekey_row key row) ≡ rekey key (heads row)) × FitRow 4 8 (rekey_row key row)
+  fit_rekey key [] f = (refl, refl, f)
+  fit_rekey key (node n [] ∷ row) f = absurd (omega (arith, f.0, least-pos 4 (omega arith) row))
+  fit_rekey key (node n (e ∷ es) ∷ row) f = (refl, refl, f)
 
   sizes_rekey : (key : K) (row : List (LevelNode K ℕ)) → sizes (rekey_row key row) ≡ sizes row
   sizes_rekey key [] = refl
@@ -60,16 +51,16 @@ module _ {K : Type 0} where
   stacked_rekey : (key : K) (list : List (K × ℕ)) (rows : List (List (LevelNode K ℕ))) → Stacked list rows → Stacked (rekey key list) (rekey_rows key rows)
   stacked_rekey key list [] s = length_rekey key list ∙ s
   stacked_rekey key list (row ∷ rows) s = (
-    flat_rekey key row s.1 ∙ ap (λ z. rekey key z) s.0,
-    FitRow_rekey key row s.1,
-    subst (λ (z : List (K × ℕ)). Stacked z (rekey_rows key rows)) (sym (heads_rekey key row s.1)) (stacked_rekey key (heads row) rows s.2),
+    (fit_rekey key row s.1).0 ∙ ap (λ z. rekey key z) s.0,
+    (fit_rekey key row s.1).2,
+    subst (λ (z : List (K × ℕ)). Stacked z (rekey_rows key rows)) (sym (fit_rekey key row s.1).1) (stacked_rekey key (heads row) rows s.2),
   )
 
   topped_rekey : (key : K) (list : List (K × ℕ)) (rows : List (List (LevelNode K ℕ))) → Stacked list rows → Topped list rows → Topped (rekey key list) (rekey_rows key rows)
   topped_rekey key list [] s t = t
   topped_rekey key list (row ∷ rows) s t = (
     omega (arith, t.0, length_rekey key list),
-    subst (λ (z : List (K × ℕ)). Topped z (rekey_rows key rows)) (sym (heads_rekey key row s.1)) (topped_rekey key (heads row) rows s.2 t.1),
+    subst (λ (z : List (K × ℕ)). Topped z (rekey_rows key rows)) (sym (fit_rekey key row s.1).1) (topped_rekey key (heads row) rows s.2 t.1),
   )
 
   row_rekey : {V : Type 0} (slots : List (Content K V)) (key : K) (row : List (LevelNode K ℕ)) → RowIn inner_content slots row → RowIn inner_content slots (rekey_row key row)

@@ -8,10 +8,10 @@ use Rattle.bforest_core.specs.Levels.{LevelNode, node, flat, heads, sizes, numbe
 use Rattle.bforest_core.specs.Sizes.{inner_gain, gain_above, need_above}
 use Rattle.bforest_core.specs.Place.{inner_content, count, Distinct, IsAt, StandsAbove}
 use Rattle.bforest_core.specs.Climb.{Above, Grown, Halved}
-use Rattle.bforest_core.proofs.rows.LevelRows.{heads-append, sizes-append}
-use Rattle.bforest_core.proofs.table.Tables.{count-append, count-same, count-row, row-same, absent_ne, Takes}
+use Rattle.bforest_core.proofs.rows.LevelRows.{heads-append}
+use Rattle.bforest_core.proofs.table.Tables.{counts, count-append, count-same, row-same, absent_ne, Takes}
 use Rattle.bforest_core.proofs.rows.Zipper.{Spot}
-use Rattle.bforest_core.proofs.insertion.Grow.{heads-halved, gain_some}
+use Rattle.bforest_core.proofs.insertion.Grow.{gain_spot, gain_some}
 use Rattle.bforest_core.proofs.insertion.Room.{step_is, step_most}
 
 -- a level whose node became two has a level above it
@@ -20,43 +20,36 @@ gain-some p [] = omega arith
 gain-some p (level ∷ levels) = omega arith
 
 module _ {K V : Type 0} where
-  -- the need of a level whose node becomes two
-  pub need_halved : (t u : Table K V) (ms js ms' js' : List ℕ) (up size : ℕ) (rows : List (List (LevelNode K ℕ))) (list : List (K × ℕ)) (was p : ℕ) (key : K) (right : ℕ) (moved : Bool) → (h : Halved t u ms js ms' js' up size rows list was p key right moved) →
-      need_above (Some was) (map sizes rows) ≡ suc (need_above (Some (length (heads h.before))) (map sizes h.rest))
-  need_halved t u ms js ms' js' up size rows list was p key right moved h =
-      ap (λ z. need_above (Some was) (map sizes z)) h.rows_were ∙ ap (λ z. suc (need_above z.0 (map sizes h.rest))) h.gain_is
+  -- the need of a level whose node becomes two, and how many levels stand above it then
+  pub sizes_halved : (t u : Table K V) (ms js ms' js' : List ℕ) (up size : ℕ) (rows : List (List (LevelNode K ℕ))) (list : List (K × ℕ)) (was p : ℕ) (key : K) (right : ℕ) (moved : Bool) → (h : Halved t u ms js ms' js' up size rows list was p key right moved) →
+      (need_above (Some was) (map sizes rows) ≡ suc (need_above (Some (length (heads h.before))) (map sizes h.rest))) × (length (gain_above (Some was) (map sizes rows)) ≡ suc (length (gain_above (Some (length (heads h.before))) (map sizes h.rest))))
+  sizes_halved t u ms js ms' js' up size rows list was p key right moved h = (
+    ap (λ z. need_above (Some was) (map sizes z)) h.rows_were ∙ ap (λ z. suc (need_above z.0 (map sizes h.rest))) h.gain_is,
+    ap (λ z. length (gain_above (Some was) (map sizes z))) h.rows_were ∙ ap (λ z. suc (length (gain_above z.0 (map sizes h.rest)))) h.gain_is,
+  )
 
-  -- and the sizes that it gets
-  pub gain_halved : (t u : Table K V) (ms js ms' js' : List ℕ) (up size : ℕ) (rows : List (List (LevelNode K ℕ))) (list : List (K × ℕ)) (was p : ℕ) (key : K) (right : ℕ) (moved : Bool) → (h : Halved t u ms js ms' js' up size rows list was p key right moved) →
-      length (gain_above (Some was) (map sizes rows)) ≡ suc (length (gain_above (Some (length (heads h.before))) (map sizes h.rest)))
-  gain_halved t u ms js ms' js' up size rows list was p key right moved h =
-      ap (λ z. length (gain_above (Some was) (map sizes z))) h.rows_were ∙ ap (λ z. suc (length (gain_above z.0 (map sizes h.rest)))) h.gain_is
-
-  rise_at : (t u v : Table K V) (ms js ms' js' ms'' js'' : List ℕ) (up size size' : ℕ) (rows : List (List (LevelNode K ℕ))) (list : List (K × ℕ)) (was p : ℕ) (key : K) (right : ℕ) (moved : Bool) (taken : List ℕ) → (h : Halved t u ms js ms' js' up size rows list was p key right moved) →
-      Distinct (flat_map numbers ((h.before ++ node (get_or ms up 0) h.entries ∷ h.after) ∷ h.rest) ++ t.chain) →
-      ((old : List (K × ℕ)) → Topped old rows → Topped old ((h.before ++ node (get_or ms up 0) h.entries ∷ h.after) ∷ h.rest)) → flat_map numbers rows ≡ flat_map numbers ((h.before ++ node (get_or ms up 0) h.entries ∷ h.after) ∷ h.rest) →
+  -- the levels above took the right half in
+  pub rise : (t u v : Table K V) (ms js ms' js' ms'' js'' : List ℕ) (up size size' : ℕ) (rows : List (List (LevelNode K ℕ))) (hs list : List (K × ℕ)) (q was p : ℕ) (key : K) (right : ℕ) (moved : Bool) (taken : List ℕ) → Above t ms js up size rows hs q → (h : Halved t u ms js ms' js' up size rows list was p key right moved) →
       Grown u v ms' js' ms'' js'' (suc up) size size' h.rest (heads h.before ++ (h.first.0, get_or ms up 0) ∷ (key, right) ∷ heads h.after) (if moved then suc (length (heads h.before)) else length (heads h.before)) (gain_above (Some (length (heads h.before))) (map sizes h.rest)) taken →
       Grown t v ms js ms'' js'' up size size' rows list p (gain_above (Some was) (map sizes rows)) (right ∷ taken)
-  rise_at t u v ms js ms' js' ms'' js'' up size size' rows list was p key right moved taken h d tops nums g =
+  rise t u v ms js ms' js' ms'' js'' up size size' rows hs list q was p key right moved taken ab h g =
       let n = get_or ms up 0 in
       let row : List (LevelNode K ℕ) = h.before ++ node n h.entries ∷ h.after in
       let row2 : List (LevelNode K ℕ) = h.before ++ node n (h.first ∷ h.others) ∷ node right (h.next ∷ h.more) ∷ h.after in
-      let c = λ (m : ℕ). count-append m (numbers row ++ flat_map numbers h.rest) t.chain in
-      let c2 = λ (m : ℕ). count-append m (numbers row) (flat_map numbers h.rest) in
-      let c3 = λ (m : ℕ). count-row m h.before n h.entries h.after in
-      let c4 = λ (m : ℕ). count-row m h.before n (h.first ∷ h.others) (node right (h.next ∷ h.more) ∷ h.after) in
-      let c5 = λ (m : ℕ). count-append m (numbers row2) (flat_map numbers g.rows') in
-      let c6 = λ (m : ℕ). count-append m (numbers row2 ++ flat_map numbers g.rows') v.chain in
+      let d = subst (λ (z : List (List (LevelNode K ℕ))). Distinct (flat_map numbers z ++ t.chain)) h.rows_were ab.apart in
+      let tops = λ (old : List (K × ℕ)) (top : Topped old rows). subst (λ (z : List (List (LevelNode K ℕ))). Topped old z) h.rows_were top in
+      let c = λ (m : ℕ). counts m h.before n h.entries h.after h.rest t.chain in
+      let c2 = λ (m : ℕ). counts m h.before n (h.first ∷ h.others) (node right (h.next ∷ h.more) ∷ h.after) g.rows' v.chain in
       let chain_is : t.chain ≡ right ∷ (taken ++ v.chain) = h.chain_is ∙ ap (λ z. right ∷ z) g.chain_is in
       let c7 = λ (m : ℕ). ap (λ z. count m z) chain_is in
       let c8 = λ (m : ℕ). count-append m taken v.chain in
-      let nums_m = λ (m : ℕ). ap (λ z. count m z) nums in
+      let nums_m = λ (m : ℕ). ap (λ z. count m (flat_map numbers z)) h.rows_were in
       let hs : heads row2 ≡ heads h.before ++ (h.first.0, n) ∷ (key, right) ∷ heads h.after =
-      heads-halved h.before h.after n right h.first h.others h.next h.more ∙ ap (λ z. heads h.before ++ (h.first.0, n) ∷ (z, right) ∷ heads h.after) (sym h.key_is) in
+      heads-append h.before _ ∙ ap (λ z. heads h.before ++ (h.first.0, n) ∷ (z, right) ∷ heads h.after) (sym h.key_is) in
       let hs0 : heads row ≡ heads h.before ++ (h.first.0, n) ∷ heads h.after = heads-append h.before _ ∙ ap (λ z. heads h.before ++ (z ++ heads h.after)) h.head_is in
       let longer : length (heads row) ≤ length (heads h.before ++ (h.first.0, n) ∷ (key, right) ∷ heads h.after) =
       omega (arith, ap length hs0, length-append (heads h.before) ((h.first.0, n) ∷ heads h.after), length-append (heads h.before) ((h.first.0, n) ∷ (key, right) ∷ heads h.after)) in
-      let quiet : (m : ℕ) → 0 < count m (numbers row2) → slice_get v.nodes m ≡ slice_get u.nodes m = λ m some. g.others m (omega (arith, some, d m, c m, c2 m, c3 m, c4 m, c7 m, c8 m)) in
+      let quiet : (m : ℕ) → 0 < count m (numbers row2) → slice_get v.nodes m ≡ slice_get u.nodes m = λ m some. g.others m (omega (arith, some, d m, c m, c2 m, c7 m, c8 m)) in
       let here_m = g.nodes_below up (omega arith) in
       let here_j = g.entries_below up (omega arith) in
       let at2 : IsAt row2 (get_or ms'' up 0) (get_or js'' up 0) p = record { before = h.at.before; entries = h.at.entries; after = h.at.after; row_is = rw here_m h.at.row_is; within = rw here_j h.at.within; place_is = rw here_j h.at.place_is } in
@@ -67,15 +60,15 @@ module _ {K V : Type 0} where
           inside = (row-same inner_content u.nodes v.nodes row2 quiet h.inside, g.above.inside);
           stands = (at2, subst (λ (z : ℕ). StandsAbove ms'' js'' (suc up) g.rows' z) (sym h.at_is) g.above.stands);
           height = omega (arith, g.above.height);
-          apart = λ m. omega (arith, d m, c m, c2 m, c3 m, c4 m, c5 m, c6 m, c7 m, c8 m, g.numbers_are m);
+          apart = λ m. omega (arith, d m, c m, c2 m, c7 m, c8 m, g.numbers_are m);
         };
         topped = λ old le top. (
           omega (arith, le, (tops old top).0),
           subst (λ (z : List (K × ℕ)). Topped z g.rows') (sym hs) (g.topped (heads row) longer (tops old top).1),
         );
         sizes_are = ap (λ z. sizes row2 ∷ z) g.sizes_are ∙ sym (ap (λ z. gain_above (Some was) (map sizes z)) h.rows_were ∙ ap (λ z. z.1 ∷ gain_above z.0 (map sizes h.rest)) h.gain_is);
-        numbers_are = λ m. omega (arith, nums_m m, c2 m, c3 m, c4 m, c5 m, g.numbers_are m);
-        others = λ m z. g.others m (omega (arith, z, nums_m m, c2 m)) ∙ h.slots_same m (absent_ne m n (numbers h.after) (omega (arith, z, nums_m m, c2 m, c3 m))) (absent_ne m right taken (omega (arith, z)));
+        numbers_are = λ m. omega (arith, nums_m m, c m, c2 m, g.numbers_are m);
+        others = λ m z. g.others m (omega (arith, z, nums_m m, c m)) ∙ h.slots_same m (absent_ne m n (numbers h.after) (omega (arith, z, nums_m m, c m))) (absent_ne m right taken (omega (arith, z)));
         chain_is = chain_is;
         slots_are = g.slots_are ∙ h.slots_are;
         limit_is = g.limit_is ∙ h.limit_is;
@@ -84,16 +77,6 @@ module _ {K V : Type 0} where
         same_top = λ same. g.same_top same ∙ h.nodes_above (size - 1) (omega (arith, same, g.above.height, ap length g.sizes_are, length-map g.rows' sizes, gain-some (length (heads h.before)) (map sizes h.rest)));
         new_top = λ other. omega (arith, g.new_top other);
       }
-
-  -- the levels above took the right half in
-  pub rise : (t u v : Table K V) (ms js ms' js' ms'' js'' : List ℕ) (up size size' : ℕ) (rows : List (List (LevelNode K ℕ))) (hs list : List (K × ℕ)) (q was p : ℕ) (key : K) (right : ℕ) (moved : Bool) (taken : List ℕ) → Above t ms js up size rows hs q → (h : Halved t u ms js ms' js' up size rows list was p key right moved) →
-      Grown u v ms' js' ms'' js'' (suc up) size size' h.rest (heads h.before ++ (h.first.0, get_or ms up 0) ∷ (key, right) ∷ heads h.after) (if moved then suc (length (heads h.before)) else length (heads h.before)) (gain_above (Some (length (heads h.before))) (map sizes h.rest)) taken →
-      Grown t v ms js ms'' js'' up size size' rows list p (gain_above (Some was) (map sizes rows)) (right ∷ taken)
-  rise t u v ms js ms' js' ms'' js'' up size size' rows hs list q was p key right moved taken ab h g =
-      rise_at t u v ms js ms' js' ms'' js'' up size size' rows list was p key right moved taken h
-      (subst (λ (z : List (List (LevelNode K ℕ))). Distinct (flat_map numbers z ++ t.chain)) h.rows_were ab.apart)
-      (λ old top. subst (λ (z : List (List (LevelNode K ℕ))). Topped old z) h.rows_were top)
-      (ap (λ z. flat_map numbers z) h.rows_were) g
 
   -- a root that became two gets a new root
   pub settle_root : (t u : Table K V) (ms js ms' js' : List ℕ) (size size' left root : ℕ) (rows : List (List (LevelNode K ℕ))) (a : List (K × ℕ)) (first : K) (b : List (K × ℕ)) (key : K) (child : ℕ) (moved : Bool) → Above t ms js size size rows (a ++ (first, left) ∷ b) (length a) → Takes t u root (Inner (key ∷ []) (left ∷ child ∷ [])) →
@@ -136,22 +119,12 @@ module _ {K V : Type 0} where
   -- the same rows, by equations
   pub above_from : (t t1 : Table K V) (ms ms1 js js1 : List ℕ) (up up1 size size1 : ℕ) (rows : List (List (LevelNode K ℕ))) (hs hs1 : List (K × ℕ)) (p : ℕ) → t1 ≡ t → ms1 ≡ ms → js1 ≡ js → up1 ≡ up → size1 ≡ size → hs1 ≡ hs → Above t ms js up size rows hs p → Above t1 ms1 js1 up1 size1 rows hs1 p
   above_from t t1 ms ms1 js js1 up up1 size size1 rows hs hs1 p et em ej eu es eh ab =
-      subst (λ (z : Table K V). Above z ms1 js1 up1 size1 rows hs1 p) (sym et)
-      (subst (λ (z : List ℕ). Above t z js1 up1 size1 rows hs1 p) (sym em)
-      (subst (λ (z : List ℕ). Above t ms z up1 size1 rows hs1 p) (sym ej)
-      (subst (λ (z : ℕ). Above t ms js z size1 rows hs1 p) (sym eu)
-      (subst (λ (z : ℕ). Above t ms js up z rows hs1 p) (sym es)
-      (subst (λ (z : List (K × ℕ)). Above t ms js up size rows z p) (sym eh) ab)))))
+      rw (et, em, ej, eu, es, eh) ab
 
   pub grown_from : (t t1 u : Table K V) (ms ms1 js js1 ms' js' : List ℕ) (up up1 size size1 size' : ℕ) (rows : List (List (LevelNode K ℕ))) (hs hs1 : List (K × ℕ)) (p : ℕ) (ss : List (List ℕ)) (taken : List ℕ) → t1 ≡ t → ms1 ≡ ms → js1 ≡ js → up1 ≡ up → size1 ≡ size → hs1 ≡ hs →
       Grown t u ms js ms' js' up size size' rows hs p ss taken → Grown t1 u ms1 js1 ms' js' up1 size1 size' rows hs1 p ss taken
   grown_from t t1 u ms ms1 js js1 ms' js' up up1 size size1 size' rows hs hs1 p ss taken et em ej eu es eh g =
-      subst (λ (z : Table K V). Grown z u ms1 js1 ms' js' up1 size1 size' rows hs1 p ss taken) (sym et)
-      (subst (λ (z : List ℕ). Grown t u z js1 ms' js' up1 size1 size' rows hs1 p ss taken) (sym em)
-      (subst (λ (z : List ℕ). Grown t u ms z ms' js' up1 size1 size' rows hs1 p ss taken) (sym ej)
-      (subst (λ (z : ℕ). Grown t u ms js ms' js' z size1 size' rows hs1 p ss taken) (sym eu)
-      (subst (λ (z : ℕ). Grown t u ms js ms' js' up z size' rows hs1 p ss taken) (sym es)
-      (subst (λ (z : List (K × ℕ)). Grown t u ms js ms' js' up size size' rows z p ss taken) (sym eh) g)))))
+      rw (et, em, ej, eu, es, eh) g
 
 -- the top level needs a new root too
 pub need_top : {K : Type 0} (p : ℕ) (rows : List (List (LevelNode K ℕ))) → length rows ≡ 0 → need_above (Some p) (map sizes rows) ≡ 2
@@ -172,7 +145,7 @@ module _ {K V : Type 0} where
       let es : List (K × ℕ) = q.l ++ x ∷ q.r in
       let low : length q.l < length es = omega (arith, length-append q.l (x ∷ q.r)) in
       let some : (inner_gain (length (flat q.before ++ q.l)) (sizes (q.before ++ node n es ∷ q.after))).0 ≡ Some (length q.before) =
-      ap (λ z. (inner_gain z (sizes (q.before ++ node n es ∷ q.after))).0) (length-append (flat q.before) q.l) ∙ ap (λ z. (inner_gain (length (flat q.before) + length q.l) z).0) (sizes-append q.before (node n es ∷ q.after)) ∙ gain_some q.before (length es) (length q.l) (sizes q.after) low eight in
+      ap (λ z. z.0) (gain_spot q.before n es q.l q.after) ∙ gain_some q.before (length es) (length q.l) (sizes q.after) low eight in
       let needs : need_above (Some (length a)) (map sizes rows) ≡ suc (need_above (Some (length q.before)) (map sizes q.rest)) =
       ap (λ z. need_above (Some (length z)) (map sizes rows)) q.a_is ∙ ap (λ z. need_above (Some (length (flat q.before ++ q.l))) (map sizes z)) q.rows_are ∙ ap (λ z. suc (need_above z (map sizes q.rest))) some in
       omega (arith, needs, need_some (length q.before) (map sizes q.rest))

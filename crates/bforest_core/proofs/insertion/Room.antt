@@ -1,15 +1,15 @@
 -- A new child in a node with room.
-use Rattle.std.proofs.Common.{◌≡◌, ℕ, suc, ◌+◌, ◌≤◌, ◌<◌, ◌≢◌, Bool, true, false, if◌then◌else◌, List, [], ◌∷◌, ◌++◌, map, length, get_or, Some, None, refl, sym, ap, ◌∙◌, subst, append_assoc, length-append, arith}
+use Rattle.std.proofs.Common.{◌≡◌, ℕ, suc, ◌+◌, ◌≤◌, ◌<◌, ◌≢◌, Bool, true, false, if◌then◌else◌, List, [], ◌∷◌, ◌++◌, map, length, get_or, Some, refl, sym, ap, ◌∙◌, subst, append_assoc, length-append, arith}
 use Rattle.std.specs.List.{flat_map}
 use Rattle.bforest_core.specs.Table.{Table}
 use Rattle.bforest_core.specs.Levels.{LevelNode, node, flat, heads, sizes, numbers, Stacked, Topped}
-use Rattle.bforest_core.specs.Sizes.{inner_gain, gain_above, need_above}
+use Rattle.bforest_core.specs.Sizes.{gain_above, need_above}
 use Rattle.bforest_core.specs.Place.{inner_content, count, StandsAbove}
 use Rattle.bforest_core.specs.Climb.{Grown}
 use Rattle.bforest_core.proofs.rows.LevelRows.{flat-append, heads-append, sizes-append}
-use Rattle.bforest_core.proofs.table.Tables.{count-append, count-row, row-put, rows-same, ne_from_count, absent_ne, Puts}
+use Rattle.bforest_core.proofs.table.Tables.{counts, row-put, rows-same, ne_from_count, absent_ne, Puts}
 use Rattle.bforest_core.proofs.rows.Zipper.{Cut_above, facts, Spot, stands_here, stands-same}
-use Rattle.bforest_core.proofs.insertion.Grow.{head-grown, FitRow-put, gain_room}
+use Rattle.bforest_core.proofs.insertion.Grow.{head-grown, FitRow-put, gain_spot, gain_room}
 
 -- one where the path moved on
 abbrev pub step : Bool → ℕ
@@ -23,14 +23,6 @@ pub step_most : (moved : Bool) → step moved ≤ 1
 step_most true = omega arith
 step_most false = omega arith
 
--- the sizes and the need then
-gain_at : {K : Type 0} → (before : List (LevelNode K ℕ)) (n : ℕ) (l : List (K × ℕ)) (x : K × ℕ) (r : List (K × ℕ)) (after : List (LevelNode K ℕ)) → length (l ++ x ∷ r) < 8 →
-    inner_gain (length (flat before ++ l)) (sizes (before ++ node n (l ++ x ∷ r) ∷ after)) ≡ (None, sizes before ++ suc (length (l ++ x ∷ r)) ∷ sizes after)
-gain_at before n l x r after room =
-    ap (λ z. inner_gain z (sizes (before ++ node n (l ++ x ∷ r) ∷ after))) (length-append (flat before) l)
-    ∙ ap (λ z. inner_gain (length (flat before) + length l) z) (sizes-append before (node n (l ++ x ∷ r) ∷ after))
-    ∙ gain_room before (length (l ++ x ∷ r)) (length l) (sizes after) (omega (arith, length-append l (x ∷ r))) room
-
 module _ {K V : Type 0} where
   room_at : (t u : Table K V) (ms js js' : List ℕ) (up size : ℕ) (before : List (LevelNode K ℕ)) (l : List (K × ℕ)) (x y : K × ℕ) (r : List (K × ℕ)) (after : List (LevelNode K ℕ)) (rest : List (List (LevelNode K ℕ))) (k p : ℕ) →
       Cut_above t ms js up size before (get_or ms up 0) l x r after rest → length l ≡ get_or js up 0 → StandsAbove ms js (suc up) rest (length (heads before)) → length (l ++ x ∷ r) < 8 → Puts t u (get_or ms up 0) (inner_content (l ++ x ∷ y ∷ r)) →
@@ -43,12 +35,8 @@ module _ {K V : Type 0} where
       let f = facts t ms js up size before n l x r after rest ab in
       let len : length es ≡ suc (length old) = omega (arith, length-append l (x ∷ y ∷ r), length-append l (x ∷ r)) in
       let len2 : length es ≡ length l + suc (suc (length r)) = length-append l (x ∷ y ∷ r) in
-      let c = λ (m : ℕ). count-row m before n old after in
-      let c2 = λ (m : ℕ). count-row m before n es after in
-      let c3 = λ (m : ℕ). count-append m (numbers (before ++ node n old ∷ after) ++ flat_map numbers rest) t.chain in
-      let c4 = λ (m : ℕ). count-append m (numbers (before ++ node n old ∷ after)) (flat_map numbers rest) in
-      let c5 = λ (m : ℕ). count-append m (numbers (before ++ node n es ∷ after)) (flat_map numbers rest) in
-      let c6 = λ (m : ℕ). count-append m (numbers (before ++ node n es ∷ after) ++ flat_map numbers rest) u.chain in
+      let c = λ (m : ℕ). counts m before n old after rest t.chain in
+      let c2 = λ (m : ℕ). counts m before n es after rest u.chain in
       let c8 = λ (m : ℕ). ap (λ z. count m z) w.chain_is in
       let hs : heads (before ++ node n old ∷ after) ≡ heads (before ++ node n es ∷ after) =
       heads-append before _ ∙ ap (λ z. heads before ++ (z ++ heads after)) (head-grown n l x r (y ∷ r)) ∙ sym (heads-append before _) in
@@ -69,15 +57,15 @@ module _ {K V : Type 0} where
           );
           stands = stands_here ms js' up (before ++ node n es ∷ after) before n (k + length l) es after rest p f.solid refl refl j_is (omega (arith, len2, most)) (omega (arith, p_is, length-append (flat before) l)) st2;
           height = ab.height;
-          apart = λ m. omega (arith, ab.apart m, c m, c2 m, c3 m, c4 m, c5 m, c6 m, c8 m);
+          apart = λ m. omega (arith, ab.apart m, c m, c2 m, c8 m);
         };
         topped = λ old_list le top. (
           omega (arith, le, top.0),
           subst (λ (z : List (K × ℕ)). Topped z rest) hs top.1,
         );
         sizes_are = ap (λ z. z ∷ map sizes rest) (sizes-append before (node n es ∷ after) ∙ ap (λ z. sizes before ++ z ∷ sizes after) len);
-        numbers_are = λ m. omega (arith, c m, c2 m, c4 m, c5 m);
-        others = λ m z. w.same m (absent_ne m n (numbers after) (omega (arith, z, c m, c4 m)));
+        numbers_are = λ m. omega (arith, c m, c2 m);
+        others = λ m z. w.same m (absent_ne m n (numbers after) (omega (arith, z, c m)));
         chain_is = sym w.chain_is;
         slots_are = w.slots_are;
         limit_is = w.limit_is;
@@ -94,17 +82,12 @@ module _ {K V : Type 0} where
       let q = d.q in
       let n = get_or ms up 0 in
       let row : List (LevelNode K ℕ) = q.before ++ node n (q.l ++ x ∷ q.r) ∷ q.after in
-      let g = gain_at q.before n q.l x q.r q.after room in
-      let w1 = room_at t u ms js js' up size q.before q.l x y q.r q.after q.rest (step moved) (if moved then suc (length a) else length a) d.whole q.entry_is q.stands room w (step_most moved)
-      (j_is ∙ step_is moved (get_or js up 0) ∙ ap (λ z. step moved + z) (sym q.entry_is)) (step_is moved (length a) ∙ ap (λ z. step moved + length z) q.a_is) far in
+      let g = gain_spot q.before n (q.l ++ x ∷ q.r) q.l q.after ∙ gain_room q.before (length (q.l ++ x ∷ q.r)) (length q.l) (sizes q.after) (omega (arith, length-append q.l (x ∷ q.r))) room in
+      let w1 = room_at t u ms js js' up size q.before q.l x y q.r q.after q.rest (step moved) (if moved then suc (length (flat q.before ++ q.l)) else length (flat q.before ++ q.l)) d.whole q.entry_is q.stands room w (step_most moved)
+      (j_is ∙ step_is moved (get_or js up 0) ∙ ap (λ z. step moved + z) (sym q.entry_is)) (step_is moved (length (flat q.before ++ q.l))) far in
       let gains : gain_above (Some (length (flat q.before ++ q.l))) (map sizes (row ∷ q.rest)) ≡ (sizes q.before ++ suc (length (q.l ++ x ∷ q.r)) ∷ sizes q.after) ∷ map sizes q.rest = ap (λ z. z.1 ∷ gain_above z.0 (map sizes q.rest)) g in
       let needs : need_above (Some (length (flat q.before ++ q.l))) (map sizes (row ∷ q.rest)) ≡ 1 = ap (λ z. suc (need_above z.0 (map sizes q.rest))) g in
-      let gains2 : gain_above (Some (length a)) (map sizes rows) ≡ (sizes q.before ++ suc (length (q.l ++ x ∷ q.r)) ∷ sizes q.after) ∷ map sizes q.rest =
-      ap (λ z. gain_above (Some (length z)) (map sizes rows)) q.a_is ∙ ap (λ z. gain_above (Some (length (flat q.before ++ q.l))) (map sizes z)) q.rows_are ∙ gains in
-      let needs2 : need_above (Some (length a)) (map sizes rows) ≡ 1 =
-      ap (λ z. need_above (Some (length z)) (map sizes rows)) q.a_is ∙ ap (λ z. need_above (Some (length (flat q.before ++ q.l))) (map sizes z)) q.rows_are ∙ needs in
-      let list : (flat q.before ++ q.l) ++ x ∷ y ∷ (q.r ++ flat q.after) ≡ a ++ x ∷ y ∷ b = sym (ap (λ z. z ++ x ∷ y ∷ b) q.a_is ∙ ap (λ z. (flat q.before ++ q.l) ++ x ∷ y ∷ z) q.b_is) in
-      let place = if moved then suc (length a) else length a in
-      let w2 = subst (λ (z : List (K × ℕ)). Grown t u ms js ms js' up size size (row ∷ q.rest) z place ((sizes q.before ++ suc (length (q.l ++ x ∷ q.r)) ∷ sizes q.after) ∷ map sizes q.rest) []) list w1 in
-      let w3 = subst (λ (z : List (List (LevelNode K ℕ))). Grown t u ms js ms js' up size size z (a ++ x ∷ y ∷ b) place ((sizes q.before ++ suc (length (q.l ++ x ∷ q.r)) ∷ sizes q.after) ∷ map sizes q.rest) []) (sym q.rows_are) w2 in
-      (sym needs2, subst (λ (z : List (List ℕ)). Grown t u ms js ms js' up size size rows (a ++ x ∷ y ∷ b) place z []) (sym gains2) w3)
+      rw (q.a_is, q.b_is, q.rows_are) (
+        sym needs,
+        subst (λ (z : List (List ℕ)). Grown t u ms js ms js' up size size (row ∷ q.rest) ((flat q.before ++ q.l) ++ x ∷ y ∷ (q.r ++ flat q.after)) (if moved then suc (length (flat q.before ++ q.l)) else length (flat q.before ++ q.l)) z []) (sym gains) w1,
+      )

@@ -1,10 +1,15 @@
 -- Taking a free node, and making sure that there are some, over plain values.
-use Rattle.std.proofs.Common.{◌≡◌, ℕ, zero, suc, ◌-◌, ◌≤◌, ◌<◌, List, length, length-set, append-nil, Some, Result, Ok, Err, sym, ap, ◌∙◌, arith}
+use Rattle.std.proofs.Common.{◌≡◌, ℕ, zero, suc, ◌-◌, ◌≤◌, ◌<◌, List, length, length-set, append-nil, Some, Result, Ok, Err, IsErrAnd, sym, ap, ◌∙◌, arith}
+use Rattle.std.proofs.lemmas.Result.{err_from_is_err_and}
 use Rattle.bforest_nodes.specs.Content.{Content}
 use Rattle.bforest_core.specs.declared.pool.OutOfMemory.{OutOfMemory}
 use Rattle.bforest_core.specs.declared.pool.OutOfMemory.TheVariants.{Full, Memory}
 use Rattle.bforest_core.specs.Table.{Table, IsUsed, NeedsGrowth, room, reserved, with_slots, front_of, with_node, with_front, without_front}
 use Rattle.bforest_core.proofs.table.Fronts.{with_front-is}
+
+-- what the exit of a `?` returns
+pub err_is : {T E : Type 0} (r : Result T E) (y : E) → IsErrAnd r (λ e. e ≡ y) → r ≡ Err y
+err_is r y h = let e = err_from_is_err_and r h in e.1 ∙ ap Err e.2
 
 -- an answer is no error
 pub ok_not_err : {A E : Type 0} (x : A) (e : E) → Ok x ≡ Err e → ⊥
@@ -31,37 +36,38 @@ module _ {K V : Type 0} where
   record_is t zero none = ap (λ z. record t { nodes = z }) (sym (append-nil t.nodes))
   record_is t (suc m) none = absurd (omega arith)
 
-  -- what the fields of a pool say of its table
-  pub record Sees (t : Table K V) (free limit len : ℕ) : Type 0 where
-    pub free_is : length t.chain ≡ free
-    pub limit_is : t.limit ≡ limit
-    pub len_is : length t.nodes ≡ len
+  module _ (t : Table K V) (nodes : List (Content K V)) (chain : List ℕ) (free limit len n : ℕ) (view : record { nodes = nodes; chain = chain; limit = limit } ≡ t) (counted : length chain ≡ free) (len_is : len ≡ length nodes) where
+    -- what the fields of a pool say of its table
+    free_is : length t.chain ≡ free
+    free_is = ap (λ z. length z.chain) (sym view) ∙ counted
 
-  pub sees : (t : Table K V) (nodes : List (Content K V)) (chain : List ℕ) (free limit len : ℕ) → record { nodes = nodes; chain = chain; limit = limit } ≡ t → length chain ≡ free → len ≡ length nodes → Sees t free limit len
-  sees t nodes chain free limit len view counted len_is = record { free_is = ap (λ z. length z.chain) (sym view) ∙ counted; limit_is = ap (λ z. z.limit) (sym view); len_is = ap (λ z. length z.nodes) (sym view) ∙ sym len_is }
+    limit_is : t.limit ≡ limit
+    limit_is = ap (λ z. z.limit) (sym view)
 
-  module _ (t : Table K V) (free limit len n : ℕ) (s : Sees t free limit len) where
+    slots_are : length t.nodes ≡ len
+    slots_are = ap (λ z. length z.nodes) (sym view) ∙ sym len_is
+
     -- enough lie free
     pub has_room : n ≤ free → room t < n → ⊥
-    has_room enough short = omega (arith, s.free_is)
+    has_room enough short = omega (arith, free_is)
 
     -- too few slots are allowed
     pub lacks_room : free < n → limit - len < n - free → room t < n
-    lacks_room scarce more = omega (arith, s.free_is, s.limit_is, s.len_is)
+    lacks_room scarce more = omega (arith, free_is, limit_is, slots_are)
 
     -- enough are
     pub finds_room : n - free ≤ limit - len → room t < n → ⊥
-    finds_room allowed short = omega (arith, s.free_is, s.limit_is, s.len_is)
+    finds_room allowed short = omega (arith, free_is, limit_is, slots_are)
 
     pub needs_growth : free < n → n - free ≤ limit - len → NeedsGrowth n t
-    needs_growth scarce allowed = record { scarce = omega (arith, s.free_is); allowed = omega (arith, s.free_is, s.limit_is, s.len_is) }
+    needs_growth scarce allowed = record { scarce = omega (arith, free_is); allowed = omega (arith, free_is, limit_is, slots_are) }
 
     pub not_enough : free < n → n ≤ length t.chain → ⊥
-    not_enough scarce enough = omega (arith, s.free_is)
+    not_enough scarce enough = omega (arith, free_is)
 
     pub stays_reserved : n ≤ free → t ≡ reserved t n
     stays_reserved enough =
-        let none : n - length t.chain ≡ 0 = omega (arith, s.free_is) in
+        let none : n - length t.chain ≡ 0 = omega (arith, free_is) in
         record_is t (n - length t.chain) none
 
   -- so few slots can be numbered

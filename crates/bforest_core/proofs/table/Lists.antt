@@ -1,5 +1,5 @@
 -- Lists that are read, written and cut: no word of nodes.
-use Rattle.std.proofs.Common.{◌≡◌, ◌≢◌, ℕ, ◌+◌, ◌-◌, ◌<◌, ◌≤◌, List, [], ◌∷◌, ◌++◌, zero, suc, length, set, take, drop, remove, slice_get, get_or, None, Some, refl, sym, ap, ◌∙◌, arith, length-set}
+use Rattle.std.proofs.Common.{◌≡◌, ◌≢◌, ℕ, ◌+◌, ◌-◌, ◌<◌, ◌≤◌, List, [], ◌∷◌, ◌++◌, zero, suc, length, set, take, drop, remove, slice_get, slice_set, get_or, None, Some, refl, sym, ap, ◌∙◌, arith, length-set}
 use Rattle.std.proofs.lemmas.List.{length-append, get_or-set_same, get_or-set_other, get_or_append_left, set-append_left, set-append_right, drop_all, take_all, append-nil}
 use Rattle.std.proofs.lemmas.Option.{slice_get_within, slice_get-get_or, get_or_from_slice_get, slice_get_read}
 
@@ -63,9 +63,13 @@ module _ {X : Type 0} where
       ap (λ zs. slice_get zs high) is ∙ ap (slice_get (front ++ back)) place ∙ slice_get-append-add front back 0 ∙ slice_get_read back (length back) 0 x refl some read
 
   -- as many elements written over all of a list
-  pub refilled : (xs ys : List X) (n : ℕ) → length ys ≡ length xs → n ≡ length xs → take n (ys ++ drop (length ys) xs) ≡ ys
+  refilled : (xs ys : List X) (n : ℕ) → length ys ≡ length xs → n ≡ length xs → take n (ys ++ drop (length ys) xs) ≡ ys
   refilled xs ys n same size =
       ap (λ zs. take n (ys ++ zs)) (drop_all (length ys) xs (omega arith)) ∙ ap (take n) (append-nil ys) ∙ take_all n ys (omega arith)
+
+  -- two elements written over one list
+  pub refilled_two : (xs : List X) (i j : ℕ) (x y : X) (n : ℕ) → n ≡ length xs → take n (slice_set (slice_set xs i x) j y ++ drop (length (slice_set (slice_set xs i x) j y)) xs) ≡ slice_set (slice_set xs i x) j y
+  refilled_two xs i j x y n size = refilled xs (slice_set (slice_set xs i x) j y) n (length-set (slice_set xs i x) j y ∙ length-set xs i x) size
 
   -- the rest of a list from an element on
   pub drop-read : (xs : List X) (p : ℕ) (x : X) → slice_get xs p ≡ Some x → drop p xs ≡ x ∷ drop (suc p) xs

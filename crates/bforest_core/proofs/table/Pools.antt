@@ -7,7 +7,7 @@ use Rattle.std.proofs.lemmas.Map.Keys.{IsDistinct-tail, IsDistinct-head}
 use Rattle.std.proofs.lemmas.Map.Steps.{length-le_from_distinct_below}
 use Rattle.bforest_nodes.specs.Content.{Content, Free, IsLeafCapacity}
 use Rattle.bforest_core.specs.Chain.{next_of, chain_from, IsChain, IsPool}
-use Rattle.bforest_core.specs.Table.{down_from, front_of_new, fresh_nodes}
+use Rattle.bforest_core.specs.Table.{Table, IsUsed, down_from, front_of_new, fresh_nodes}
 use Rattle.bforest_core.proofs.table.Chains.{none_apart, IsDistinct-front, length-fresh_nodes, length-down_from, chain_from-is, length-chain_from-none, IsChain-set, IsChain-below, IsChain-fresh, IsChain-freed, IsDistinct-fresh}
 
 module _ {K V : Type 0} where
@@ -40,14 +40,20 @@ module _ {K V : Type 0} where
       let is = chain_from-is (set nodes at content) (chain_from nodes free first) first (IsChain-set nodes _ first at content off pool.linked) in
       rw pool.counted at is
 
-  -- writes at two slots that are not on the chain
-  pub IsPool-set_two : (n : ℕ) (nodes : List (Content K V)) (first : Option ℕ) (free limit left right : ℕ) (l r : Content K V) → list_any (nat_eq left) (chain_from nodes free first) ≡ false → list_any (nat_eq right) (chain_from nodes free first) ≡ false → IsPool n nodes first free limit
-      → IsPool n (set (set nodes left l) right r) first free limit × (chain_from (set (set nodes left l) right r) free first ≡ chain_from nodes free first)
-  IsPool-set_two n nodes first free limit left right l r off_left off_right pool =
+  -- writes at two slots that are not on the chain of the table that the fields show
+  pub IsPool-set_two : (n : ℕ) (nodes : List (Content K V)) (first : Option ℕ) (free limit left right : ℕ) (l r : Content K V) (t : Table K V) (a b : ℕ) → record { nodes = nodes; chain = chain_from nodes free first; limit = limit } ≡ t → left ≡ a → right ≡ b →
+      list_any (nat_eq a) t.chain ≡ false → list_any (nat_eq b) t.chain ≡ false → IsPool n nodes first free limit → IsPool n (set (set nodes left l) right r) first free limit × (chain_from (set (set nodes left l) right r) free first ≡ chain_from nodes free first)
+  IsPool-set_two n nodes first free limit left right l r t a b view left_is right_is off_a off_b pool =
+      let off_left = rw (← view, ← left_is) at off_a in
+      let off_right = rw (← view, ← right_is) at off_b in
       let once = IsPool-set n nodes first free limit left l off_left pool in
       let same = chain_from-set n nodes first free limit left l off_left pool in
       let off : list_any (nat_eq right) (chain_from (set nodes left l) free first) ≡ false = ap (list_any (nat_eq right)) same ∙ off_right in
       (IsPool-set n (set nodes left l) first free limit right r off once, chain_from-set n (set nodes left l) first free limit right r off once ∙ same)
+
+  -- a used node by the number that a pool's fields are asked at
+  pub used_inside : (t u : Table K V) (node number : ℕ) → u ≡ t → number ≡ node → IsUsed t node → IsUsed u number
+  used_inside t u node number same number_is used = rw (same, number_is) used
 
   -- as many nodes lie free as there are slots, at most
   pub free_within : (n : ℕ) (nodes : List (Content K V)) (first : Option ℕ) (free limit : ℕ) → IsPool n nodes first free limit → free ≤ length nodes
@@ -70,13 +76,13 @@ module _ {K V : Type 0} where
       omega (arith, free_within n _ _ _ _ freed.0, length-set nodes at (Free first))
 
   -- new slots, all in front
-  pub IsPool-grown : (n : ℕ) (nodes : List (Content K V)) (first : Option ℕ) (free limit count : ℕ) → length nodes + count ≤ limit → IsPool n nodes first free limit → IsPool n (nodes ++ fresh_nodes (length nodes) count first) (front_of_new (length nodes) count first) (count + free) limit × (chain_from (nodes ++ fresh_nodes (length nodes) count first) (count + free) (front_of_new (length nodes) count first) ≡ down_from (length nodes) count ++ chain_from nodes free first)
-  IsPool-grown n nodes first free limit count within pool =
+  pub IsPool-grown : (n : ℕ) (nodes : List (Content K V)) (first : Option ℕ) (free limit count total : ℕ) → total ≡ count + free → length nodes + count ≤ limit → IsPool n nodes first free limit → IsPool n (nodes ++ fresh_nodes (length nodes) count first) (front_of_new (length nodes) count first) total limit × (chain_from (nodes ++ fresh_nodes (length nodes) count first) total (front_of_new (length nodes) count first) ≡ down_from (length nodes) count ++ chain_from nodes free first)
+  IsPool-grown n nodes first free limit count total total_is within pool =
       let chain = down_from (length nodes) count ++ chain_from nodes free first in
       let linked = IsChain-fresh nodes (chain_from nodes free first) first count pool.linked in
-      let counted : length chain ≡ count + free = omega (arith, length-append (down_from (length nodes) count) (chain_from nodes free first), length-down_from (length nodes) count, pool.counted) in
+      let counted : length chain ≡ total = omega (arith, total_is, length-append (down_from (length nodes) count) (chain_from nodes free first), length-down_from (length nodes) count, pool.counted) in
       let is = chain_from-is (nodes ++ fresh_nodes (length nodes) count first) chain (front_of_new (length nodes) count first) linked in
-      (IsPool-made n _ chain _ (count + free) limit pool.capacity linked counted (IsDistinct-fresh nodes _ first count pool.linked pool.distinct) (omega (arith, length-append nodes (fresh_nodes (length nodes) count first), length-fresh_nodes K V (length nodes) count first)) pool.limit_within, rw counted at is)
+      (IsPool-made n _ chain _ total limit pool.capacity linked counted (IsDistinct-fresh nodes _ first count pool.linked pool.distinct) (omega (arith, length-append nodes (fresh_nodes (length nodes) count first), length-fresh_nodes K V (length nodes) count first)) pool.limit_within, rw counted at is)
 
   -- where nodes lie free, there is a first
   pub first_some : (n : ℕ) (nodes : List (Content K V)) (first : Option ℕ) (free limit : ℕ) → 0 < free → IsPool n nodes first free limit → IsSome first

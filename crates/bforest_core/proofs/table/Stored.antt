@@ -1,5 +1,5 @@
 -- Nodes as their slots hold them: with one child or entry more, and cut.
-use Rattle.std.proofs.Common.{◌≡◌, ℕ, zero, suc, ◌+◌, ◌-◌, ◌≤◌, List, [], ◌∷◌, ◌++◌, map, length, take, drop, insert, slice_get, Some, refl, sym, ap, ◌∙◌, append_assoc, length-append, arith}
+use Rattle.std.proofs.Common.{◌≡◌, ℕ, zero, suc, ◌+◌, ◌-◌, ◌≤◌, List, [], ◌∷◌, ◌++◌, map, length, take, drop, insert, slice_get, Some, refl, sym, ap, ◌∙◌, subst, append_assoc, length-append, arith}
 use Rattle.std.proofs.lemmas.List.{length-map, map-append, take_at, drop_at, length-drop}
 use Rattle.bforest_nodes.specs.Content.{Content, Inner, Leaf, Free, IsFree, IsInner, IsCut, children_of, entry_count, with_child, with_entry}
 use Rattle.bforest_core.specs.Place.{inner_content, leaf_content, entry_keys, entry_items}
@@ -10,6 +10,10 @@ some_same x y e = cc
 -- two readings of a slot agree
 pub read_same : {A : Type 0} → (list : List A) (n : ℕ) (x y : A) → slice_get list n ≡ Some x → slice_get list n ≡ Some y → y ≡ x
 read_same list n x y first second = some_same y x (sym second ∙ first)
+
+-- what is said of the one is said of the other
+pub read_as : {A : Type 0} {x y : A} (list : List A) (n : ℕ) → slice_get list n ≡ Some x → slice_get list n ≡ Some y → (P : A → Type 0) → P x → P y
+read_as list n first second P said = subst P (sym (some_same _ _ (sym second ∙ first))) said
 
 pub slice_get_at : {A : Type 0} → (p : List A) (y : A) (ys : List A) (n : ℕ) → length p ≡ n → slice_get (p ++ y ∷ ys) n ≡ Some y
 slice_get_at [] y ys zero e = refl

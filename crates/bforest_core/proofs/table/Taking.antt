@@ -3,15 +3,23 @@ use Rattle.std.proofs.Common.{◌≡◌, ℕ, ◌-◌, ◌<◌, false, List, ◌
 use Rattle.std.specs.List.{list_any}
 use Rattle.std.proofs.lemmas.Option.{slice_get_within}
 use Rattle.bforest_nodes.specs.Content.{Content, Free, IsFree}
+use Rattle.bforest_core.specs.Table.{Table}
 use Rattle.bforest_core.specs.Chain.{chain_from, IsPool}
 use Rattle.bforest_core.proofs.table.Stored.{read_same}
 use Rattle.bforest_core.proofs.table.Pools.{front_is_free, IsPool-taken}
 
-module _ {K V : Type 0} (n : ℕ) (nodes : List (Content K V)) (first : Option ℕ) (free limit : ℕ) (pool : IsPool n nodes first free limit) (lies : 0 < length (chain_from nodes free first)) where
-  pub some : 0 < free
-  some = omega (arith, lies, pool.counted)
+module _ {K V : Type 0} (n : ℕ) (nodes : List (Content K V)) (first : Option ℕ) (free limit : ℕ) (pool : IsPool n nodes first free limit)
+    (t : Table K V) (view : record { nodes = nodes; chain = chain_from nodes free first; limit = limit } ≡ t) (room : 0 < length t.chain) where
+  lies : 0 < length (chain_from nodes free first)
+  lies = subst (λ (z : Table K V). 0 < length z.chain) (sym view) room
 
-  module _ (number : ℕ) (first_is : first ≡ Some number) where
+  pub some : 0 < free
+  some = let l = lies in omega (arith, pool.counted)
+
+  module _ (number node : ℕ) (front_is : Option ℕ) (reads_first : front_is ≡ first) (unwraps : front_is ≡ Some node) (number_is : number ≡ node) where
+    first_is : first ≡ Some number
+    first_is = sym reads_first ∙ unwraps ∙ ap Some (sym number_is)
+
     here : IsPool n nodes (Some number) free limit
     here = subst (λ (z : Option ℕ). IsPool n nodes z free limit) first_is pool
 

@@ -1,7 +1,7 @@
-use Rattle.std.proofs.Common.{rules, slice_get, sym, ap, subst, ◌<◌, ◌∙◌}
+use Rattle.std.proofs.Common.{rules, ◌≡◌, Some, slice_get, ◌<◌}
 use Rattle.std.proofs.lemmas.Option.{slice_get_within}
 use Rattle.bforest_nodes.specs.Content.{Inner, IsInner, children_of, entry_count}
-use Rattle.bforest_core.proofs.table.Stored.{read_same}
+use Rattle.bforest_core.proofs.table.Stored.{read_as}
 use Rattle.bforest_core.proofs.access.child.Goals as goal
 
 pub node-requires : goal.node-requires
@@ -10,10 +10,8 @@ node-requires g c = (search rules, (search rules, slice_get_within c.args.pool.n
 pub child-requires : goal.child-requires
 child-requires g c =
     let w = c.requires in
-    let is = read_same c.args.pool.now.nodes c.args.node (Inner w.0 w.1) c.node.result.now w.2 c.node.ensures.value in
-    (search rules, (subst IsInner (sym is) tt, subst (λ z. c.args.index < entry_count z) (sym is) w.3))
+    (search rules, read_as c.args.pool.now.nodes c.args.node w.2 c.node.ensures.value (λ z. IsInner z × (c.args.index < entry_count z)) (tt, w.3))
 
 pub returns : goal.returns
 returns g c = λ keys children slot.
-    let is = read_same c.args.pool.now.nodes c.args.node (Inner keys children) c.node.result.now slot c.node.ensures.value in
-    ap (λ z. slice_get (children_of z) c.args.index) (sym is) ∙ c.child.ensures.child
+    read_as c.args.pool.now.nodes c.args.node c.node.ensures.value slot (λ z. slice_get (children_of z) c.args.index ≡ Some c.child.result) c.child.ensures.child

@@ -1,7 +1,7 @@
-use Rattle.std.proofs.Common.{rules, ap, subst, ◌∙◌}
+use Rattle.std.proofs.Common.{rules, ap, ◌∙◌}
 use Rattle.std.proofs.lemmas.Option.{slice_get_within}
 use Rattle.bforest_nodes.specs.Content.{IsFree, entry_count}
-use Rattle.bforest_core.proofs.table.Stored.{read_same}
+use Rattle.bforest_core.proofs.table.Stored.{read_as, read_same}
 use Rattle.bforest_core.proofs.access.entries.Goals as goal
 
 pub node-requires : goal.node-requires
@@ -9,9 +9,7 @@ node-requires g c = (search rules, (search rules, slice_get_within c.args.pool.n
 
 pub entries-requires : goal.entries-requires
 entries-requires g c =
-    let w = c.requires in
-    let is = read_same c.args.pool.now.nodes c.args.node w.0 c.node.result.now w.1 c.node.ensures.value in
-    (search rules, λ free. w.2 (subst IsFree is free))
+    (search rules, read_as c.args.pool.now.nodes c.args.node c.requires.1 c.node.ensures.value (λ z. ¬ IsFree z) c.requires.2)
 
 pub returns-clause-value : goal.returns-clause-value
 returns-clause-value g c = λ content slot.

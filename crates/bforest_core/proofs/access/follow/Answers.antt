@@ -1,10 +1,10 @@
-use Rattle.std.proofs.Common.{rules, ◌≡◌, subst, sym}
+use Rattle.std.proofs.Common.{rules, ◌≡◌}
 use Rattle.std.proofs.lemmas.Option.{slice_get_within}
 use Rattle.std.specs.List.Sorted.{IsStrictlySortedBy}
 use Rattle.std.specs.Prelude.{Some, slice_get}
-use Rattle.bforest_nodes.specs.Content.{Content, Inner, IsInner, children_of, keys_of}
+use Rattle.bforest_nodes.specs.Content.{Inner, IsInner, children_of, keys_of}
 use Rattle.bforest_nodes.specs.Search.{count_up_to}
-use Rattle.bforest_core.proofs.table.Stored.{read_same}
+use Rattle.bforest_core.proofs.table.Stored.{read_as}
 use Rattle.bforest_core.proofs.access.follow.Goals as goal
 
 pub node-requires : goal.node-requires
@@ -13,15 +13,12 @@ node-requires g c = (search rules, (search rules, slice_get_within c.args.pool.n
 pub follow-requires : goal.follow-requires
 follow-requires g c =
     let w = c.requires.inner in
-    let is = read_same c.args.pool.now.nodes c.args.node (Inner w.0 w.1) c.node.result.now w.2 c.node.ensures.value in
-    (search rules, (subst IsInner (sym is) tt, subst (λ (z : Content g.row.K.Denot g.row.V.Denot). IsStrictlySortedBy (g.C.Comparator.order c.args.comp.now) (keys_of z)) (sym is) w.3))
+    (search rules, read_as c.args.pool.now.nodes c.args.node w.2 c.node.ensures.value (λ z. IsInner z × IsStrictlySortedBy (g.C.Comparator.order c.args.comp.now) (keys_of z)) (tt, w.3))
 
 pub returns-clause-index : goal.returns-clause-index
 returns-clause-index g c = λ keys children slot.
-    let is = read_same c.args.pool.now.nodes c.args.node (Inner keys children) c.node.result.now slot c.node.ensures.value in
-    subst (λ (z : Content g.row.K.Denot g.row.V.Denot). c.follow.result.0 ≡ count_up_to (g.C.Comparator.order c.args.comp.now) (keys_of z) c.args.key) is c.follow.ensures.index
+    read_as c.args.pool.now.nodes c.args.node c.node.ensures.value slot (λ z. c.follow.result.0 ≡ count_up_to (g.C.Comparator.order c.args.comp.now) (keys_of z) c.args.key) c.follow.ensures.index
 
 pub returns-clause-child : goal.returns-clause-child
 returns-clause-child g c = λ keys children slot.
-    let is = read_same c.args.pool.now.nodes c.args.node (Inner keys children) c.node.result.now slot c.node.ensures.value in
-    subst (λ (z : Content g.row.K.Denot g.row.V.Denot). slice_get (children_of z) c.follow.result.0 ≡ Some c.follow.result.1) is c.follow.ensures.child
+    read_as c.args.pool.now.nodes c.args.node c.node.ensures.value slot (λ z. slice_get (children_of z) c.follow.result.0 ≡ Some c.follow.result.1) c.follow.ensures.child

@@ -1,7 +1,7 @@
-use Rattle.std.proofs.Common.{rules, ap, subst, ◌-◌, ◌∙◌, arith}
+use Rattle.std.proofs.Common.{rules, ap, ◌-◌, ◌∙◌, arith}
 use Rattle.std.proofs.lemmas.Option.{slice_get_within}
 use Rattle.bforest_nodes.specs.Content.{IsFree, entry_count}
-use Rattle.bforest_core.proofs.table.Stored.{read_same, not_free}
+use Rattle.bforest_core.proofs.table.Stored.{read_as, read_same, not_free}
 use Rattle.bforest_core.proofs.access.last_index.Goals as goal
 
 pub node-requires : goal.node-requires
@@ -10,8 +10,7 @@ node-requires g c = (search rules, (search rules, slice_get_within c.args.pool.n
 pub entries-requires : goal.entries-requires
 entries-requires g c =
     let w = c.requires.some in
-    let is = read_same c.args.pool.now.nodes c.args.node w.0 c.node.result.now w.1 c.node.ensures.value in
-    (search rules, λ free. not_free w.0 w.2 (subst IsFree is free))
+    (search rules, read_as c.args.pool.now.nodes c.args.node w.1 c.node.ensures.value (λ z. ¬ IsFree z) (not_free w.0 w.2))
 
 pub overflow_sub-result : goal.overflow_sub-result
 overflow_sub-result g c =

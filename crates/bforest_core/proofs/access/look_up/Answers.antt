@@ -1,12 +1,12 @@
-use Rattle.std.proofs.Common.{rules, ◌≡◌, subst, sym}
+use Rattle.std.proofs.Common.{rules, ◌≡◌}
 use Rattle.std.proofs.lemmas.Option.{slice_get_within}
 use Rattle.std.specs.List.Sorted.{IsStrictlySortedBy}
 use Rattle.std.specs.Prelude.{Err, IfSome, List, None, Ok, Some, slice_get}
-use Rattle.bforest_nodes.specs.Content.{Content, IsLeaf, keys_of, vals_of}
+use Rattle.bforest_nodes.specs.Content.{IsLeaf, keys_of, vals_of}
 use Rattle.bforest_nodes.specs.Entries.{IsIncreasing, place, value_for}
 use Rattle.bforest_nodes.specs.Search.{search_of}
 use Rattle.bforest_core.specs.Place.{leaf_content}
-use Rattle.bforest_core.proofs.table.Stored.{read_same}
+use Rattle.bforest_core.proofs.table.Stored.{read_as}
 use Rattle.bforest_core.proofs.walks.LeafSearch.{looked}
 use Rattle.bforest_core.proofs.access.look_up.Given.{Over}
 use Rattle.bforest_core.proofs.access.look_up.Goals.{After-look_up}
@@ -18,8 +18,7 @@ node-requires g c = (search rules, (search rules, slice_get_within c.args.pool.n
 pub look_up-requires : goal.look_up-requires
 look_up-requires g c =
     let w = c.requires.leaf in
-    let is = read_same c.args.pool.now.nodes c.args.node (leaf_content w.0) c.node.result.now w.1 c.node.ensures.value in
-    (search rules, (subst IsLeaf (sym is) tt, subst (λ (z : Content g.row.K.Denot g.row.V.Denot). IsStrictlySortedBy (g.C.Comparator.order c.args.comp.now) (keys_of z)) (sym is) w.2))
+    (search rules, read_as c.args.pool.now.nodes c.args.node w.1 c.node.ensures.value (λ z. IsLeaf z × IsStrictlySortedBy (g.C.Comparator.order c.args.comp.now) (keys_of z)) (tt, w.2))
 
 -- what the node answered, of any entries that its slot holds
 told : (g : Over) (c : After-look_up g) (es : List (g.row.K.Denot × g.row.V.Denot)) → slice_get c.args.pool.now.nodes c.args.node ≡ Some (leaf_content es) →
@@ -27,13 +26,11 @@ told : (g : Over) (c : After-look_up g) (es : List (g.row.K.Denot × g.row.V.Den
 told g c es slot =
     let order = g.C.Comparator.order c.args.comp.now in
     let w = c.requires.leaf in
-    let was = read_same c.args.pool.now.nodes c.args.node (leaf_content w.0) c.node.result.now w.1 c.node.ensures.value in
-    let is = read_same c.args.pool.now.nodes c.args.node (leaf_content es) c.node.result.now slot c.node.ensures.value in
-    let up : IsIncreasing order es = subst (λ (z : Content g.row.K.Denot g.row.V.Denot). IsStrictlySortedBy order (keys_of z)) is (subst (λ (z : Content g.row.K.Denot g.row.V.Denot). IsStrictlySortedBy order (keys_of z)) (sym was) w.2) in
+    let up : IsIncreasing order es = read_as c.args.pool.now.nodes c.args.node w.1 slot (λ z. IsStrictlySortedBy order (keys_of z)) w.2 in
     looked order es c.args.key up c.look_up.result.1 c.look_up.result.0
-    (subst (λ (z : Content g.row.K.Denot g.row.V.Denot). IfSome c.look_up.result.1 (λ v. search_of order (keys_of z) c.args.key ≡ Ok c.look_up.result.0)) is c.look_up.ensures.found)
-    (subst (λ (z : Content g.row.K.Denot g.row.V.Denot). IfSome c.look_up.result.1 (λ v. slice_get (vals_of z) c.look_up.result.0 ≡ Some v)) is c.look_up.ensures.value)
-    (subst (λ (z : Content g.row.K.Denot g.row.V.Denot). c.look_up.result.1 ≡ None → search_of order (keys_of z) c.args.key ≡ Err c.look_up.result.0) is c.look_up.ensures.absent)
+    (read_as c.args.pool.now.nodes c.args.node c.node.ensures.value slot (λ z. IfSome c.look_up.result.1 (λ v. search_of order (keys_of z) c.args.key ≡ Ok c.look_up.result.0)) c.look_up.ensures.found)
+    (read_as c.args.pool.now.nodes c.args.node c.node.ensures.value slot (λ z. IfSome c.look_up.result.1 (λ v. slice_get (vals_of z) c.look_up.result.0 ≡ Some v)) c.look_up.ensures.value)
+    (read_as c.args.pool.now.nodes c.args.node c.node.ensures.value slot (λ z. c.look_up.result.1 ≡ None → search_of order (keys_of z) c.args.key ≡ Err c.look_up.result.0) c.look_up.ensures.absent)
 
 pub returns-clause-place : goal.returns-clause-place
 returns-clause-place g c = λ es slot. (told g c es slot).0

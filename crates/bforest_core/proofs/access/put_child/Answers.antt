@@ -1,7 +1,7 @@
-use Rattle.std.proofs.Common.{rules, length, if◌then◌else◌, IsTrue, sym, ap, subst, ◌↔◌, ◌<◌, ◌≤◌, ◌∙◌}
-use Rattle.bforest_nodes.specs.Content.{Inner, IsInner, entry_count, keys_of, with_child}
+use Rattle.std.proofs.Common.{rules, length, if◌then◌else◌, IsTrue, ap, ◌↔◌, ◌<◌, ◌≤◌, ◌∙◌}
+use Rattle.bforest_nodes.specs.Content.{IsInner, entry_count, keys_of, with_child}
 use Rattle.bforest_core.specs.Table.{with_node}
-use Rattle.bforest_core.proofs.table.Stored.{read_same}
+use Rattle.bforest_core.proofs.table.Stored.{read_as, read_same}
 use Rattle.bforest_core.proofs.access.put_child.Goals as goal
 
 pub node_mut-requires : goal.node_mut-requires
@@ -10,15 +10,12 @@ node_mut-requires g c = (search rules, (search rules, c.requires.used))
 pub try_inner_insert-requires : goal.try_inner_insert-requires
 try_inner_insert-requires g c =
     let w = c.requires.inner in
-    let is = read_same c.args.pool.now.nodes c.args.node (Inner w.0 w.1) c.node_mut.result.now w.2 c.node_mut.ensures.value in
-    (search rules, (subst IsInner (sym is) tt, subst (λ z. c.args.index ≤ length (keys_of z)) (sym is) w.3))
+    (search rules, read_as c.args.pool.now.nodes c.args.node w.2 c.node_mut.ensures.value (λ z. IsInner z × (c.args.index ≤ length (keys_of z))) (tt, w.3))
 
 pub returns-clause-room : goal.returns-clause-room
 returns-clause-room g c = λ keys children slot.
-    let is = read_same c.args.pool.now.nodes c.args.node (Inner keys children) c.node_mut.result.now slot c.node_mut.ensures.value in
-    subst (λ z. IsTrue c.try_inner_insert.result ↔ (entry_count z < 8)) is c.try_inner_insert.ensures.room
+    read_as c.args.pool.now.nodes c.args.node c.node_mut.ensures.value slot (λ z. IsTrue c.try_inner_insert.result ↔ (entry_count z < 8)) c.try_inner_insert.ensures.room
 
 pub returns-clause-node : goal.returns-clause-node
 returns-clause-node g c = λ keys children slot.
-    let is = read_same c.args.pool.now.nodes c.args.node (Inner keys children) c.node_mut.result.now slot c.node_mut.ensures.value in
-    ap (λ z. with_node c.args.pool.now c.args.node z) (c.try_inner_insert.ensures.node ∙ ap (λ z. if c.try_inner_insert.result then with_child z c.args.index c.args.key c.args.child else z) is)
+    ap (λ z. with_node c.args.pool.now c.args.node z) (c.try_inner_insert.ensures.node ∙ ap (λ z. if c.try_inner_insert.result then with_child z c.args.index c.args.key c.args.child else z) (read_same c.args.pool.now.nodes c.args.node _ _ slot c.node_mut.ensures.value))

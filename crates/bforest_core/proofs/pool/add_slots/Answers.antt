@@ -1,13 +1,6 @@
-use Rattle.std.proofs.Common.{◌≡◌, ◌+◌, Some, vec_len, arith, ap, ◌∙◌, append_assoc, add-one, Err, rules}
-use Rattle.std.proofs.lemmas.Result.{err_from_is_err_and}
-use Rattle.bforest_core.proofs.pool.add_slots.Given.{Over}
+use Rattle.std.proofs.Common.{◌≡◌, ◌+◌, Some, vec_len, arith, ap, ◌∙◌, append_assoc, add-one, rules}
+use Rattle.bforest_core.proofs.table.Allocating.{err_is}
 use Rattle.bforest_core.proofs.pool.add_slots.Goals as goal
-
--- the error is that of the reservation
-err_at : (g : Over) (c : goal.After-from_residual g) → c.from_residual.result ≡ Err c.in_err-reserve.field-0.0
-err_at g c =
-    let e = err_from_is_err_and c.from_residual.result c.from_residual.ensures.1 in
-    e.1 ∙ ap Err e.2
 
 pub loop-added-preserved : goal.loop-added-preserved
 loop-added-preserved g c =
@@ -25,10 +18,10 @@ returns-clause-ok g c =
     rw (c.loop-added.invariant.nodes, all, c.reserve.ensures.items, c.reserve.ensures.len)
 
 pub returns-in_err-reserve-clause-ok : goal.returns-in_err-reserve-clause-ok
-returns-in_err-reserve-clause-ok g c = let e = err_at g c in rw e tt
+returns-in_err-reserve-clause-ok g c = let e = err_is _ _ c.from_residual.ensures.1 in rw e tt
 
 pub returns-in_err-reserve-clause-first : goal.returns-in_err-reserve-clause-first
-returns-in_err-reserve-clause-first g c = let e = err_at g c in rw e tt
+returns-in_err-reserve-clause-first g c = let e = err_is _ _ c.from_residual.ensures.1 in rw e tt
 
 pub new-requires : goal.new-requires
 new-requires g c = (search rules, c.requires.capacity)
@@ -37,7 +30,7 @@ pub new-requires-in-loop-added : goal.new-requires-in-loop-added
 new-requires-in-loop-added g c = record { below = omega arith }
 
 pub returns-in_err-reserve-clause-err : goal.returns-in_err-reserve-clause-err
-returns-in_err-reserve-clause-err g c = let e = err_at g c in rw e c.reserve.ensures.items
+returns-in_err-reserve-clause-err g c = let e = err_is _ _ c.from_residual.ensures.1 in rw e c.reserve.ensures.items
 
 pub returns-clause-first : goal.returns-clause-first
 returns-clause-first g c =

@@ -1,4 +1,4 @@
-use Rattle.std.proofs.Common.{rules, ◌+◌, ◌-◌, ◌<◌, [], length, sym, ap, ◌∙◌, arith}
+use Rattle.std.proofs.Common.{rules, ◌+◌, ◌-◌, ◌<◌, [], length, get_or, sym, ap, ◌∙◌, arith}
 use Rattle.std.proofs.lemmas.Bool.{false≢true}
 use Rattle.bforest_core.proofs.walks.Descent.{some_leaf}
 use Rattle.bforest_core.proofs.walks.Leading.{front_asks, front_below, led_leaf, led_here}
@@ -35,8 +35,7 @@ pub descend_first-below-requires : goal.descend_first-below-requires
 descend_first-below-requires g t c κs within =
     let w = c.requires.under in
     let b = front_below g.row.N (some_leaf _ c.requires.capacity) c.args.pool.now.nodes w.0 w.1 w.2 c.args.node w.3 w.4 c.node.result.now c.node-2.result.now c.node.ensures.value (c.is_inner.ensures.inner.0 c.if-not-is_inner.false) c.node-2.ensures.value c.child-child.result c.child-child.ensures.child in
-    let less : 17 - (c.args.depth + 1) < t = omega (arith, c.decreases, w.5, b.count_is) in
-    (less, (within.0, (within.1, ((λ a m. search rules), (search rules, (search rules, (c.requires.capacity, (w.0, b.rows, b.first, b.rest, b.under, omega (arith, w.5, b.count_is)))))))))
+    (omega (arith, c.decreases, w.5, b.count_is), (within.0, (within.1, ((λ a m. search rules), (search rules, (search rules, (c.requires.capacity, (w.0, b.rows, b.first, b.rest, b.under, omega (arith, w.5, b.count_is)))))))))
 
 pub overflow_add-below : goal.overflow_add-below
 overflow_add-below g t c =

@@ -33,8 +33,7 @@ pub returns-then-not-insert_here : goal.returns-then-not-insert_here
 returns-then-not-insert_here g t c = λ rows a first b p.
     let pool_is = c.insert_here.ensures.pool c.if-not-insert_here.true in
     let path_is = c.insert_here.ensures.path c.if-not-insert_here.true in
-    let wide : length c.insert_here.new.self.node ≡ 17 = omega arith in
-    next_takes g.row.N c.args.pool.now c.insert_here.new.pool c.args.self.now.node c.args.self.now.entry c.insert_here.new.self.node c.insert_here.new.self.entry c.args.up c.args.self.now.size c.insert_here.new.self.size rows a first c.args.left b p c.if-up-self.false pool_is (ap (λ z. z.node) path_is) (ap (λ z. z.entry) path_is) (ap (λ z. z.size) path_is) c.split_here-next.new.pool c.split_here-next.new.self.node c.split_here-next.new.self.entry c.split_here-next.new.self.size c.args.half.key c.args.half.node c.args.half.moved c.split_here-next.result.key c.split_here-next.result.node c.split_here-next.result.moved (c.split_here-next.ensures.halved rows a (first, c.args.left) b (above_then g.row.N c.args.pool.now c.insert_here.new.pool c.args.self.now.node c.args.self.now.entry c.insert_here.new.self.node c.insert_here.new.self.entry c.args.up c.args.self.now.size c.insert_here.new.self.size rows a first c.args.left b p c.if-up-self.false pool_is (ap (λ z. z.node) path_is) (ap (λ z. z.entry) path_is) (ap (λ z. z.size) path_is))) c.index-self-up.result (c.args.up + 1) wide c.requires.height c.split_here-next.ensures.size (add-one c.args.up) c.insert_above.new.pool c.insert_above.new.self.node c.insert_above.new.self.entry c.insert_above.new.self.size c.insert_above.ensures
+    next_takes g.row.N c.args.pool.now c.insert_here.new.pool c.args.self.now.node c.args.self.now.entry c.insert_here.new.self.node c.insert_here.new.self.entry c.args.up c.args.self.now.size c.insert_here.new.self.size rows a first c.args.left b p c.if-up-self.false pool_is (ap (λ z. z.node) path_is) (ap (λ z. z.entry) path_is) (ap (λ z. z.size) path_is) c.split_here-next.new.pool c.split_here-next.new.self.node c.split_here-next.new.self.entry c.split_here-next.new.self.size c.args.half.key c.args.half.node c.args.half.moved c.split_here-next.result.key c.split_here-next.result.node c.split_here-next.result.moved (c.split_here-next.ensures.halved rows a (first, c.args.left) b (above_then g.row.N c.args.pool.now c.insert_here.new.pool c.args.self.now.node c.args.self.now.entry c.insert_here.new.self.node c.insert_here.new.self.entry c.args.up c.args.self.now.size c.insert_here.new.self.size rows a first c.args.left b p c.if-up-self.false pool_is (ap (λ z. z.node) path_is) (ap (λ z. z.entry) path_is) (ap (λ z. z.size) path_is))) c.index-self-up.result (c.args.up + 1) (omega arith) c.requires.height c.split_here-next.ensures.size (add-one c.args.up) c.insert_above.new.pool c.insert_above.new.self.node c.insert_above.new.self.entry c.insert_above.new.self.size c.insert_above.ensures
 
 pub returns-then-up-self : goal.returns-then-up-self
 returns-then-up-self g t c = λ rows a first b p.

@@ -1,4 +1,4 @@
-use Rattle.std.proofs.Common.{rules, ◌+◌, ◌<◌, length, sym, ◌∙◌, arith, add-one}
+use Rattle.std.proofs.Common.{rules, ◌+◌, sym, ◌∙◌, arith, add-one}
 use Rattle.std.proofs.lemmas.Bool.{false≢true}
 use Rattle.bforest_core.proofs.walks.Turns.{only_first, above_asks, above_fewer, before_asks, before_moves, last_asks, last_child_asks, last_child_moves, first_moves}
 use Rattle.bforest_core.proofs.path.Path.+prev_node.Goals as goal
@@ -40,21 +40,18 @@ prev_node-moved-requires g t c κs within =
 pub last_index-last-requires : goal.last_index-last-requires
 last_index-last-requires g t c =
     let w = c.requires.over in
-    let low : c.args.level + 1 < length c.prev_node-moved.new.self.node = omega (arith, c.requires.height, c.requires.over.3.height, c.if-level-self.false) in
-    let d = last_asks c.args.pool.now.nodes c.args.self.now.node c.args.self.now.entry c.args.level (c.args.level + 1) c.args.self.now.size w.0 w.1 w.2 w.3 (add-one c.args.level) c.if-level-self.false c.requires.height c.prev_node-moved.new.self.node c.prev_node-moved.new.self.entry (c.prev_node-moved.ensures.moved c.if-moved.true) c.index-self-level.result low in
+    let d = last_asks c.args.pool.now.nodes c.args.self.now.node c.args.self.now.entry c.args.level (c.args.level + 1) c.args.self.now.size w.0 w.1 w.2 w.3 (add-one c.args.level) c.if-level-self.false c.requires.height c.prev_node-moved.new.self.node c.prev_node-moved.new.self.entry (c.prev_node-moved.ensures.moved c.if-moved.true) c.index-self-level.result (omega (arith, c.requires.height, c.requires.over.3.height, c.if-level-self.false)) in
     (search rules, (d.content, d.slot, d.some))
 
 pub go_to_child-requires-then-moved : goal.go_to_child-requires-then-moved
 go_to_child-requires-then-moved g t c =
     let w = c.requires.over in
-    let low : c.args.level + 1 < length c.prev_node-moved.new.self.node = omega (arith, c.requires.height, c.requires.over.3.height, c.if-level-self.false) in
-    let d = last_child_asks c.args.pool.now.nodes c.args.self.now.node c.args.self.now.entry c.args.level (c.args.level + 1) c.args.self.now.size w.0 w.1 w.2 w.3 (add-one c.args.level) c.if-level-self.false c.requires.height c.prev_node-moved.new.self.node c.prev_node-moved.new.self.entry (c.prev_node-moved.ensures.moved c.if-moved.true) c.index-self-level.result low c.last_index-last.result c.last_index-last.ensures.last c.last_index-last.ensures.most in
+    let d = last_child_asks c.args.pool.now.nodes c.args.self.now.node c.args.self.now.entry c.args.level (c.args.level + 1) c.args.self.now.size w.0 w.1 w.2 w.3 (add-one c.args.level) c.if-level-self.false c.requires.height c.prev_node-moved.new.self.node c.prev_node-moved.new.self.entry (c.prev_node-moved.ensures.moved c.if-moved.true) c.index-self-level.result (omega (arith, c.requires.height, c.requires.over.3.height, c.if-level-self.false)) c.last_index-last.result c.last_index-last.ensures.last c.last_index-last.ensures.most in
     (search rules, (search rules, (d.low, (d.most, (d.entries, d.slot, d.within)))))
 
 pub returns-then-moved-clause-moved : goal.returns-then-moved-clause-moved
 returns-then-moved-clause-moved g t c = λ yes rows list place p.
-    let low : c.args.level + 1 < length c.prev_node-moved.new.self.node = omega (arith, c.requires.height, c.requires.over.3.height, c.if-level-self.false) in
-    last_child_moves c.args.pool.now.nodes c.args.self.now.node c.args.self.now.entry c.args.level (c.args.level + 1) c.args.self.now.size rows list place p (add-one c.args.level) c.if-level-self.false c.requires.height c.prev_node-moved.new.self.node c.prev_node-moved.new.self.entry (c.prev_node-moved.ensures.moved c.if-moved.true) c.index-self-level.result low c.last_index-last.result c.last_index-last.ensures.last c.go_to_child-then-moved.new.self.node c.go_to_child-then-moved.new.self.entry c.if-entry-gt0.false c.go_to_child-then-moved.ensures.child c.go_to_child-then-moved.ensures.nodes c.go_to_child-then-moved.ensures.entry c.go_to_child-then-moved.ensures.entries
+    last_child_moves c.args.pool.now.nodes c.args.self.now.node c.args.self.now.entry c.args.level (c.args.level + 1) c.args.self.now.size rows list place p (add-one c.args.level) c.if-level-self.false c.requires.height c.prev_node-moved.new.self.node c.prev_node-moved.new.self.entry (c.prev_node-moved.ensures.moved c.if-moved.true) c.index-self-level.result (omega (arith, c.requires.height, c.requires.over.3.height, c.if-level-self.false)) c.last_index-last.result c.last_index-last.ensures.last c.go_to_child-then-moved.new.self.node c.go_to_child-then-moved.new.self.entry c.if-entry-gt0.false c.go_to_child-then-moved.ensures.child c.go_to_child-then-moved.ensures.nodes c.go_to_child-then-moved.ensures.entry c.go_to_child-then-moved.ensures.entries
 
 pub returns-then-moved-clause-first : goal.returns-then-moved-clause-first
 returns-then-moved-clause-first g t c = λ no. absurd (false≢true (sym no ∙ c.if-moved.true))

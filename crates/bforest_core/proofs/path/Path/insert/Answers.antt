@@ -1,11 +1,11 @@
-use Rattle.std.proofs.Common.{rules, ◌≡◌, ℕ, ◌<◌, ◌≤◌, ◌++◌, Err, length, get_or, refl, sym, ap, ◌∙◌, subst, arith}
-use Rattle.std.proofs.lemmas.Result.{err_from_is_err_and}
+use Rattle.std.proofs.Common.{rules, ◌≡◌, ℕ, ◌<◌, ◌≤◌, ◌++◌, length, get_or, refl, sym, ap, ◌∙◌, subst, arith}
 use Rattle.bforest_core.specs.Table.{Table, NeedsGrowth, room}
 use Rattle.bforest_core.specs.Levels.{sizes_of}
 use Rattle.bforest_core.specs.Sizes.{need}
 use Rattle.bforest_core.specs.Place.{leaf_content}
 use Rattle.bforest_core.specs.Change.{PlacedUnder}
 use Rattle.bforest_core.specs.Trees.{tree_of}
+use Rattle.bforest_core.proofs.table.Allocating.{err_is}
 use Rattle.bforest_core.proofs.insertion.LeafSpot.{leaf_spot, placed_from}
 use Rattle.bforest_core.proofs.insertion.Insertion.{placed-under, under-low, growth-low, mid-is, placed-mid, reserved-free, full-reserved, Put, put-here, put-split, put-from, err-same, err-back}
 use Rattle.bforest_core.proofs.path.Path.insert.Goals.{then-not-put_here+in_ok-reserve, else-not-put_here}
@@ -86,27 +86,21 @@ need_at g c root place p =
     let tree = tree_of t0.nodes root in
     c.needed_here.ensures.value tree place (placed_from _ t0 c.put_here.new.pool _ _ _ tree place (c.put_here.ensures.pool c.if-not-put_here.true) (placed-under g.row.N t0 root place _ _ _ c.requires.union p))
 
--- the error is that of the reservation
-err_at : (g : Over) (c : goal.After-from_residual g) → c.from_residual.result ≡ Err c.in_err-reserve.field-0.0
-err_at g c =
-    let e = err_from_is_err_and c.from_residual.result c.from_residual.ensures.1 in
-    e.1 ∙ ap Err e.2
-
 pub returns-in_err-reserve-clause-full : goal.returns-in_err-reserve-clause-full
 returns-in_err-reserve-clause-full g c = λ at.
     let full = c.in_err-reserve.ensures.full in
     let n_is = need_at g c at.root at.place at.placed in
     let pool_is = c.put_here.ensures.pool c.if-not-put_here.true in
     let room_is = ap (λ z. room z) pool_is in (
-      λ is. less_same _ _ _ _ n_is room_is (full.0 (err-same c.from_residual.result c.in_err-reserve.field-0.0 _ _ _ (err_at g c) is refl refl)),
-      λ short. err-back c.from_residual.result c.in_err-reserve.field-0.0 _ _ _ (err_at g c) refl refl (full.1 (less_same _ _ _ _ (sym n_is) (sym room_is) short)),
+      λ is. less_same _ _ _ _ n_is room_is (full.0 (err-same c.from_residual.result c.in_err-reserve.field-0.0 _ _ _ (err_is _ _ c.from_residual.ensures.1) is refl refl)),
+      λ short. err-back c.from_residual.result c.in_err-reserve.field-0.0 _ _ _ (err_is _ _ c.from_residual.ensures.1) refl refl (full.1 (less_same _ _ _ _ (sym n_is) (sym room_is) short)),
     )
 
 pub returns-in_err-reserve-clause-memory : goal.returns-in_err-reserve-clause-memory
 returns-in_err-reserve-clause-memory g c = λ at is.
     let n_is = need_at g c at.root at.place at.placed in
     let pool_is = c.put_here.ensures.pool c.if-not-put_here.true in
-    let grows = c.in_err-reserve.ensures.memory (err-same c.from_residual.result c.in_err-reserve.field-0.0 _ _ _ (err_at g c) is refl refl) in
+    let grows = c.in_err-reserve.ensures.memory (err-same c.from_residual.result c.in_err-reserve.field-0.0 _ _ _ (err_is _ _ c.from_residual.ensures.1) is refl refl) in
     subst (λ (z : ℕ). NeedsGrowth z c.args.pool.now) n_is (subst (λ (z : Table g.row.K.Denot g.row.V.Denot). NeedsGrowth c.needed_here.result z) pool_is grows)
 
 pub returns-in_err-reserve-clause-enough : goal.returns-in_err-reserve-clause-enough
@@ -118,7 +112,7 @@ returns-in_err-reserve-clause-enough g c = λ at enough.
 
 pub returns-in_err-reserve-clause-refused_pool : goal.returns-in_err-reserve-clause-refused_pool
 returns-in_err-reserve-clause-refused_pool g c =
-    let e = err_at g c in
+    let e = err_is _ _ c.from_residual.ensures.1 in
     rw e (c.in_err-reserve.ensures.err ∙ c.put_here.ensures.pool c.if-not-put_here.true)
 
 pub returns-clause-inserted : goal.returns-clause-inserted

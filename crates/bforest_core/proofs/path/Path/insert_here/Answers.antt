@@ -6,13 +6,12 @@ pub put_child-requires : goal.put_child-requires
 put_child-requires g c =
     let w = c.requires.pending in
     let d = put_asks c.args.pool.now c.args.self.now.node c.args.self.now.entry c.args.up c.args.self.now.size w.0 w.1 w.2 w.3 w.4 c.index-self-up.result c.requires.within (omega arith) in
-    (search rules, (d.used, (d.keys, d.children, d.slot, d.within)))
+    (search rules, (d.used, (d.keys, d.items, d.slot, d.within)))
 
 pub index_behind-requires : goal.index_behind-requires
 index_behind-requires g c =
     let w = c.requires.pending in
-    let small = index_small c.args.pool.now c.args.self.now.node c.args.self.now.entry c.args.up c.args.self.now.size w.0 w.1 w.2 w.3 w.4 c.index-self-up.result c.requires.within (omega arith) in
-    omega (arith, small)
+    omega (arith, index_small c.args.pool.now c.args.self.now.node c.args.self.now.entry c.args.up c.args.self.now.size w.0 w.1 w.2 w.3 w.4 c.index-self-up.result c.requires.within (omega arith))
 
 pub returns-then-put_child-clause-grown : goal.returns-then-put_child-clause-grown
 returns-then-put_child-clause-grown g c = λ done rows a x b p.

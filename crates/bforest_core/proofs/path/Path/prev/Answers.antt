@@ -57,8 +57,7 @@ descend_last-top-requires g c =
 pub overflow_add-self : goal.overflow_add-self
 overflow_add-self g c =
     let t = c.requires.stands in
-    let low = (led_back c.args.pool.now c.requires.union c.args.root c.args.self.now c.descend_last-top.new.self t.place t.at c.descend_last-top.result c.if-self-eq0.true c.descend_last-top.ensures.level).0 in
-    omega (arith, low)
+    omega (arith, (led_back c.args.pool.now c.requires.union c.args.root c.args.self.now c.descend_last-top.new.self t.place t.at c.descend_last-top.result c.if-self-eq0.true c.descend_last-top.ensures.level).0)
 
 pub entry_here-requires : goal.entry_here-requires
 entry_here-requires g c =

@@ -6,7 +6,7 @@ pub put_entry-requires : goal.put_entry-requires
 put_entry-requires g c =
     let w = c.requires.placed in
     let d = put_asks g.row.N c.args.pool.now c.args.self.now.node c.args.self.now.entry c.args.self.now.size w.0 w.1 w.2 c.index-self-0.result (omega arith) in
-    (search rules, (d.used, (d.keys, d.vals, d.slot, d.within)))
+    (search rules, (d.used, (d.keys, d.items, d.slot, d.within)))
 
 pub returns-clause-inserted : goal.returns-clause-inserted
 returns-clause-inserted g c = λ done tree place p.

@@ -1,10 +1,11 @@
 use Rattle.std.proofs.Common.{rules, ◌≡◌, ◌∷◌, ◌++◌, map, length, get_or, refl, sym, ap, arith}
 use Rattle.std.proofs.lemmas.List.{get_or_default}
 use Rattle.bforest_core.specs.Levels.{heads, sizes}
+use Rattle.bforest_core.specs.Sizes.{need_above, gain_above}
 use Rattle.bforest_core.proofs.insertion.Rise.{need_some, above_from, grown_from}
 use Rattle.bforest_core.proofs.insertion.LeafSpot.{leaf_spot}
 use Rattle.bforest_core.proofs.insertion.Halving.{leaf_full_is}
-use Rattle.bforest_core.proofs.insertion.LeafParted.{need_leaf, gain_leaf, inserted}
+use Rattle.bforest_core.proofs.insertion.LeafParted.{above_leaf, inserted}
 use Rattle.bforest_core.proofs.rows.Needs.{leaf_need_full}
 use Rattle.bforest_core.proofs.path.Path.split_leaf.Goals as goal
 
@@ -14,8 +15,7 @@ halve_leaf-half-requires g c =
     let ms = c.args.self.now.node in
     let d = leaf_spot _ _ _ _ _ w.0 w.1 w.2 in
     let full = leaf_full_is _ _ (get_or ms 0 0) (d.l ++ d.r) d.slot_is c.requires.full in
-    let needs = leaf_need_full _ _ _ _ w.0 w.1 d full in
-    (search rules, (search rules, (omega (arith, w.3, needs, need_some (length d.before) (map sizes w.0.above)), (c.requires.full, (w.0, w.1, w.2)))))
+    (search rules, (search rules, (omega (arith, w.3, leaf_need_full _ _ _ _ w.0 w.1 d full, need_some (length d.before) (map sizes w.0.above)), (c.requires.full, (w.0, w.1, w.2)))))
 
 pub insert_above-requires : goal.insert_above-requires
 insert_above-requires g c =
@@ -26,9 +26,7 @@ insert_above-requires g c =
     let h = c.halve_leaf-half.ensures.halved w.0 w.1 w.2 in
     let here : get_or s0.node 0 c.index-self-0.result ≡ get_or s0.node 0 0 = get_or_default s0.node 0 c.index-self-0.result 0 (omega (arith)) in
     let above = above_from t1 t1 s1.node s1.node s1.entry s1.entry 1 1 s0.size s1.size h.rows _ _ (length (heads h.before)) refl refl refl refl c.halve_leaf-half.ensures.size (ap (λ z. heads h.before ++ (h.first.0, z) ∷ heads h.after) here) h.above in
-    let needs = need_leaf _ _ _ _ _ _ _ _ _ _ _ _ _ h in
-    let gains = gain_leaf _ _ _ _ _ _ _ _ _ _ _ _ _ h in
-    (search rules, (search rules, (omega (arith, c.requires.height, c.halve_leaf-half.ensures.size), (h.rows, heads h.before, h.first.0, heads h.after, above, omega (arith, needs, w.3, ap length h.chain_is), omega (arith, ap length gains, w.4)))))
+    (search rules, (search rules, (omega (arith, c.requires.height, c.halve_leaf-half.ensures.size), (h.rows, heads h.before, h.first.0, heads h.after, above, omega (arith, above_leaf need_above _ _ _ _ _ _ _ _ _ _ _ _ _ h, w.3, ap length h.chain_is), omega (arith, ap length (above_leaf gain_above _ _ _ _ _ _ _ _ _ _ _ _ _ h), w.4)))))
 
 pub returns : goal.returns
 returns g c = record {

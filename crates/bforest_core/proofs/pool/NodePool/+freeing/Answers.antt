@@ -1,5 +1,5 @@
 use Rattle.std.proofs.lemmas.Bool.{false≢true}
-use Rattle.std.proofs.Common.{rules, ◌≡◌, ℕ, ◌+◌, ◌-◌, ◌*◌, ◌<◌, [], ◌∷◌, length, slice_get, suc, ◌≤◌, sym, ap, subst, ◌∙◌, arith}
+use Rattle.std.proofs.Common.{rules, ◌≡◌, ℕ, ◌+◌, [], ◌∷◌, length, slice_get, suc, ◌≤◌, sym, ap, subst, ◌∙◌, arith}
 use Rattle.std.proofs.lemmas.List.{length-map}
 use Rattle.std.proofs.lemmas.Option.{slice_get_within}
 use Rattle.bforest_nodes.specs.Content.{IsInner, children_of, entry_count}
@@ -20,8 +20,7 @@ free_below-node-requires g t c =
 
 pub free_below-free_under-requires : goal.free_below-free_under-requires
 free_below-free_under-requires g t c κs within =
-    let less : 2 * (17 - c.args.depth) < t = omega (arith, c.decreases) in
-    (less, (within.0, (within.1, ((λ a m. search rules), (search rules, (c.requires.capacity, c.requires.under))))))
+    (omega (arith, c.decreases), (within.0, (within.1, ((λ a m. search rules), (search rules, (c.requires.capacity, c.requires.under))))))
 
 pub free_below-free_node-requires : goal.free_below-free_node-requires
 free_below-free_node-requires g t c =
@@ -77,8 +76,7 @@ free_under-free_below-requires g t c κs within =
     let high = s.opened.height (omega (arith, x.2)) in
     let low : suc (c.args.depth + length x.3.cut.lower_left) ≤ 16 = omega (arith, w.5, high, x.3.cut.left_height, x.3.swept.height) in
     let under = subst (λ (z : ℕ). Under g.row.N c.loop-index.self.nodes x.3.cut.leaves_left x.3.cut.lower_left ((x.0.0, z) ∷ [])) x.1 x.3.under in
-    let less : 2 * (17 - (c.args.depth + 1)) + 1 < t = omega (arith, c.decreases, low) in
-    (less, (within.0, (within.1, ((λ a m. search rules), (search rules, (c.requires.capacity, (x.3.cut.leaves_left, x.3.cut.lower_left, x.0.0, under, x.3.apart, omega (arith, low))))))))
+    (omega (arith, c.decreases, low), (within.0, (within.1, ((λ a m. search rules), (search rules, (c.requires.capacity, (x.3.cut.leaves_left, x.3.cut.lower_left, x.0.0, under, x.3.apart, omega (arith, low))))))))
 
 pub free_under-loop-index-preserved : goal.free_under-loop-index-preserved
 free_under-loop-index-preserved g t c = λ leaves lower apart o.

@@ -1,7 +1,7 @@
-use Rattle.std.proofs.Common.{rules, arith, ◌∙◌, ◌≡◌, ◌<◌, ◌*◌, ℕ, List, Some, sym, slice_get, length, length-set, vec_len, slice_set}
+use Rattle.std.proofs.Common.{rules, arith, ◌∙◌, ◌≡◌, ◌<◌, ◌*◌, ℕ, List, Some, sym, slice_get, vec_len}
 use Rattle.bforest_nodes.specs.Content.{Content, IsSameKind, entry_count, entry_capacity}
 use Rattle.bforest_core.specs.Table.{IsUnderflowedAt}
-use Rattle.bforest_core.proofs.table.Lists.{refilled}
+use Rattle.bforest_core.proofs.table.Lists.{refilled_two}
 use Rattle.bforest_core.proofs.table.Stored.{read_same}
 use Rattle.bforest_core.proofs.table.Pools.{IsPool-set_two}
 use Rattle.bforest_core.proofs.pool.NodePool.balance_nodes.Goals as goal
@@ -36,33 +36,21 @@ balance-requires g c =
 
 pub invariant_of-self : goal.invariant_of-self
 invariant_of-self g c =
-    let off_left = rw (← c.self.view_is, ← c.number.ensures.value) at c.requires.left.off_chain in
-    let off_right = rw (← c.self.view_is, ← c.number-2.ensures.value) at c.requires.right.off_chain in
-    let room : vec_len c.self.inside.nodes ≡ length c.self.inside.nodes.items = omega arith in
-    let items = c.as_mut_slice.ensures.value in
-    let pair = IsPool-set_two _ _ _ _ _ c.number.result c.number-2.result c.balance.new.self c.balance.new.rhs off_left off_right c.self.invariant in
-    let size : length (slice_set (slice_set c.self.inside.nodes.items c.number.result c.balance.new.self) c.number-2.result c.balance.new.rhs) ≡ length c.self.inside.nodes.items =
-    length-set (slice_set c.self.inside.nodes.items c.number.result c.balance.new.self) c.number-2.result c.balance.new.rhs ∙ length-set c.self.inside.nodes.items c.number.result c.balance.new.self in
-    rw (items, refilled c.self.inside.nodes.items (slice_set (slice_set c.self.inside.nodes.items c.number.result c.balance.new.self) c.number-2.result c.balance.new.rhs) (vec_len c.self.inside.nodes) size room) pair.0
+    let pair = IsPool-set_two _ _ _ _ _ c.number.result c.number-2.result c.balance.new.self c.balance.new.rhs _ _ _ c.self.view_is c.number.ensures.value c.number-2.ensures.value c.requires.left.off_chain c.requires.right.off_chain c.self.invariant in
+    rw (c.as_mut_slice.ensures.value, refilled_two c.self.inside.nodes.items c.number.result c.number-2.result c.balance.new.self c.balance.new.rhs (vec_len c.self.inside.nodes) (omega arith)) pair.0
 
 pub returns : goal.returns
 returns g c =
-    let off_left = rw (← c.self.view_is, ← c.number.ensures.value) at c.requires.left.off_chain in
-    let off_right = rw (← c.self.view_is, ← c.number-2.ensures.value) at c.requires.right.off_chain in
-    let room : vec_len c.self.inside.nodes ≡ length c.self.inside.nodes.items = omega arith in
-    let items = c.as_mut_slice.ensures.value in
-    let pair = IsPool-set_two _ _ _ _ _ c.number.result c.number-2.result c.balance.new.self c.balance.new.rhs off_left off_right c.self.invariant in
-    let size : length (slice_set (slice_set c.self.inside.nodes.items c.number.result c.balance.new.self) c.number-2.result c.balance.new.rhs) ≡ length c.self.inside.nodes.items =
-    length-set (slice_set c.self.inside.nodes.items c.number.result c.balance.new.self) c.number-2.result c.balance.new.rhs ∙ length-set c.self.inside.nodes.items c.number.result c.balance.new.self in
+    let pair = IsPool-set_two _ _ _ _ _ c.number.result c.number-2.result c.balance.new.self c.balance.new.rhs _ _ _ c.self.view_is c.number.ensures.value c.number-2.ensures.value c.requires.left.off_chain c.requires.right.off_chain c.self.invariant in
     record {
       balanced = record {
         under = c.two_nodes-lhs.result.0.now;
         neighbour = c.two_nodes-lhs.result.1.now;
-        left_was = rw (← c.self.view_is, ← c.number.ensures.value, ← items) c.two_nodes-lhs.ensures.left;
-        right_was = rw (← c.self.view_is, ← c.number-2.ensures.value, ← items) c.two_nodes-lhs.ensures.right;
+        left_was = rw (← c.self.view_is, ← c.number.ensures.value, ← c.as_mut_slice.ensures.value) c.two_nodes-lhs.ensures.left;
+        right_was = rw (← c.self.view_is, ← c.number-2.ensures.value, ← c.as_mut_slice.ensures.value) c.two_nodes-lhs.ensures.right;
         new_left = c.balance.new.self;
         new_right = c.balance.new.rhs;
         balances = c.balance.ensures.balanced;
-        after = rw (items, refilled c.self.inside.nodes.items (slice_set (slice_set c.self.inside.nodes.items c.number.result c.balance.new.self) c.number-2.result c.balance.new.rhs) (vec_len c.self.inside.nodes) size room, pair.1, ← c.self.view_is, c.number.ensures.value, c.number-2.ensures.value);
+        after = rw (c.as_mut_slice.ensures.value, refilled_two c.self.inside.nodes.items c.number.result c.number-2.result c.balance.new.self c.balance.new.rhs (vec_len c.self.inside.nodes) (omega arith), pair.1, ← c.self.view_is, c.number.ensures.value, c.number-2.ensures.value);
       };
     }

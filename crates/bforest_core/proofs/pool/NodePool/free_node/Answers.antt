@@ -1,26 +1,22 @@
-use Rattle.std.proofs.Common.{arith, ◌<◌, length}
-use Rattle.bforest_core.proofs.table.Pools.{IsPool-freed, free_below}
+use Rattle.std.proofs.Common.{arith}
+use Rattle.bforest_core.proofs.table.Pools.{IsPool-freed, free_below, used_inside}
 use Rattle.bforest_core.proofs.table.Chains.{front_of-is}
 use Rattle.bforest_core.proofs.pool.NodePool.free_node.Goals as goal
 
 pub overflow_add-self : goal.overflow_add-self
 overflow_add-self g c =
-    let off = rw (← c.self.view_is, ← c.number.ensures.value) at c.requires.used.off_chain in
-    let within : c.number.result < length c.self.inside.nodes.items = rw (← c.self.view_is, ← c.number.ensures.value) at c.requires.used.within in
-    let below = free_below _ _ _ _ _ c.number.result within off c.self.invariant in
-    omega (arith, below, c.self.invariant.slots_within, c.self.invariant.limit_within)
+    let used = used_inside _ _ _ c.number.result c.self.view_is c.number.ensures.value c.requires.used in
+    omega (arith, free_below _ _ _ _ _ c.number.result used.within used.off_chain c.self.invariant, c.self.invariant.slots_within, c.self.invariant.limit_within)
 
 pub invariant_of-self : goal.invariant_of-self
 invariant_of-self g c =
-    let off = rw (← c.self.view_is, ← c.number.ensures.value) at c.requires.used.off_chain in
-    let within : c.number.result < length c.self.inside.nodes.items = rw (← c.self.view_is, ← c.number.ensures.value) at c.requires.used.within in
-    rw (c.make_free.ensures, c.some-self-inside.ensures.node, ← c.number.ensures.value) (IsPool-freed _ _ _ _ _ c.number.result within off c.self.invariant).0
+    let used = used_inside _ _ _ c.number.result c.self.view_is c.number.ensures.value c.requires.used in
+    rw (c.make_free.ensures, c.some-self-inside.ensures.node, ← c.number.ensures.value) (IsPool-freed _ _ _ _ _ c.number.result used.within used.off_chain c.self.invariant).0
 
 pub returns : goal.returns
 returns g c =
-    let off = rw (← c.self.view_is, ← c.number.ensures.value) at c.requires.used.off_chain in
-    let within : c.number.result < length c.self.inside.nodes.items = rw (← c.self.view_is, ← c.number.ensures.value) at c.requires.used.within in
-    let freed = IsPool-freed _ _ _ _ _ c.number.result within off c.self.invariant in
+    let used = used_inside _ _ _ c.number.result c.self.view_is c.number.ensures.value c.requires.used in
+    let freed = IsPool-freed _ _ _ _ _ c.number.result used.within used.off_chain c.self.invariant in
     record {
       freed = rw (← c.self.view_is, c.make_free.ensures, c.some-self-inside.ensures.node, ← c.number.ensures.value, freed.1, front_of-is _ _ _ c.self.invariant.linked);
     }

@@ -1,7 +1,6 @@
-use Rattle.std.proofs.Common.{◌≡◌, ℕ, ◌<◌, ◌≤◌, ◌↔◌, IsTrue, Bool, true, false, not, nat_eq, nat_lt, List, length, slice_get, Some, None, refl, sym, ap, ◌∙◌, inl, inr, arith}
+use Rattle.std.proofs.Common.{◌≡◌, ℕ, zero, suc, ◌<◌, ◌≤◌, ◌↔◌, IsTrue, Bool, true, false, not, nat_eq, nat_lt, List, length, slice_get, Some, None, refl, sym, ap, ◌∙◌, arith}
 use Rattle.std.specs.List.{flat_map}
-use Rattle.std.proofs.lemmas.Bool.{cases_lt, false≢true}
-use Rattle.std.proofs.lemmas.Bool.Decides.{eqb_tells}
+use Rattle.std.proofs.lemmas.Bool.{false≢true, false_from_ne_true, not_from_false, not_from_true}
 use Rattle.std.proofs.lemmas.List.{get_or_past}
 use Rattle.bforest_nodes.specs.Content.{Content, Inner, Leaf, Free, IsFree, children_of}
 use Rattle.bforest_core.specs.Place.{count}
@@ -12,17 +11,14 @@ use Rattle.bforest_core.proofs.pool.NodePool.is_root.Goals.{then-number-slots, e
 
 -- how often it is named, as a test
 none_named : (n : ℕ) (child : Bool) → (IsTrue child ↔ (0 < n)) → nat_eq n 0 ≡ not child
-none_named n true h = elim (eqb_tells n 0) [ inl w ↦ absurd (omega (arith, w.1, h.0 refl)) | inr w ↦ w.0 ]
-none_named n false h = elim (eqb_tells n 0) [ inl w ↦ w.0 | inr w ↦ absurd (elim (cases_lt 0 n) [ inl some ↦ false≢true (h.1 some) | inr past ↦ w.1 (omega (arith, past)) ]) ]
+none_named zero child h = sym (not_from_false child (false_from_ne_true child (λ yes. absurd (omega (arith, h.0 yes)))))
+none_named (suc n) child h = let some : nat_eq (suc n) 0 ≡ false = grind arith in some ∙ sym (not_from_true child (h.1 (omega arith)))
 
 module _ {K V : Type 0} where
   used_of : (content : Content K V) (free : Bool) → (IsTrue free ↔ IsFree content) → is_used content ≡ not free
-  used_of (Inner keys children) true h = absurd (h.0 refl)
-  used_of (Inner keys children) false h = refl
-  used_of (Leaf keys vals) true h = absurd (h.0 refl)
-  used_of (Leaf keys vals) false h = refl
-  used_of (Free next) true h = refl
-  used_of (Free next) false h = absurd (false≢true (h.1 tt))
+  used_of (Inner keys children) free h = sym (not_from_false free (false_from_ne_true free h.0))
+  used_of (Leaf keys vals) free h = sym (not_from_false free (false_from_ne_true free h.0))
+  used_of (Free next) free h = sym (not_from_true free (h.1 tt))
 
   -- a used slot that none names
   root_if : (slots : List (Content K V)) (n : ℕ) (content : Content K V) (free child : Bool) → slice_get slots n ≡ Some content → (IsTrue free ↔ IsFree content) → (IsTrue child ↔ (0 < count n (flat_map children_of slots))) → not free ≡ true → not child ≡ is_root slots n

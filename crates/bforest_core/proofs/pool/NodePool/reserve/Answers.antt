@@ -1,5 +1,5 @@
-use Rattle.std.proofs.Common.{◌≡◌, ◌+◌, ◌-◌, length, vec_len, arith, refl, sym}
-use Rattle.bforest_core.proofs.table.Allocating.{ok_not_err, full_not_memory, sees, has_room, lacks_room, finds_room, needs_growth, not_enough, stays_reserved, few_slots}
+use Rattle.std.proofs.Common.{◌≡◌, ◌-◌, length, vec_len, arith, refl, sym}
+use Rattle.bforest_core.proofs.table.Allocating.{ok_not_err, full_not_memory, has_room, lacks_room, finds_room, needs_growth, not_enough, stays_reserved, few_slots}
 use Rattle.bforest_core.proofs.table.Pools.{IsPool-grown}
 use Rattle.bforest_core.proofs.table.Chains.{front_of-is}
 use Rattle.bforest_core.proofs.union.Reserved.{reserved-frees, reserved-keeps, same-keeps}
@@ -8,65 +8,55 @@ use Rattle.bforest_core.proofs.pool.NodePool.reserve.Goals as goal
 pub invariant_of-self : goal.invariant_of-self
 invariant_of-self g c =
     let size : vec_len c.self.inside.nodes ≡ length c.self.inside.nodes.items = omega arith in
-    let all : c.args.n - c.self.inside.free + c.self.inside.free ≡ c.args.n = omega arith in
-    let grown = IsPool-grown _ _ _ _ _ (c.args.n - c.self.inside.free) (omega arith) c.self.invariant in
-    rw (c.in-Ok.ensures.ok, c.in-Ok.ensures.first, size) (rw all at grown.0)
+    let grown = IsPool-grown _ _ _ _ _ (c.args.n - c.self.inside.free) c.args.n (omega arith) (omega arith) c.self.invariant in
+    rw (c.in-Ok.ensures.ok, c.in-Ok.ensures.first, size) grown.0
 
 pub returns-in-Ok-clause-ok : goal.returns-in-Ok-clause-ok
 returns-in-Ok-clause-ok g c =
     let size : vec_len c.self.inside.nodes ≡ length c.self.inside.nodes.items = omega arith in
-    let all : c.args.n - c.self.inside.free + c.self.inside.free ≡ c.args.n = omega arith in
-    let grown = IsPool-grown _ _ _ _ _ (c.args.n - c.self.inside.free) (omega arith) c.self.invariant in
-    rw (← c.self.view_is, c.in-Ok.ensures.ok, c.in-Ok.ensures.first, size, c.self.invariant.counted, front_of-is _ _ _ c.self.invariant.linked, rw all at grown.1)
+    let grown = IsPool-grown _ _ _ _ _ (c.args.n - c.self.inside.free) c.args.n (omega arith) (omega arith) c.self.invariant in
+    rw (← c.self.view_is, c.in-Ok.ensures.ok, c.in-Ok.ensures.first, size, c.self.invariant.counted, front_of-is _ _ _ c.self.invariant.linked, grown.1)
 
 pub returns-then-n-self-clause-full : goal.returns-then-n-self-clause-full
 returns-then-n-self-clause-full g c =
-    let s = sees _ _ _ _ _ _ c.self.view_is c.self.invariant.counted refl in
-    (λ is. absurd (ok_not_err _ _ is), λ short. absurd (has_room _ _ _ _ c.args.n s c.if-n-self.true short))
+    (λ is. absurd (ok_not_err _ _ is), λ short. absurd (has_room _ _ _ _ _ _ c.args.n c.self.view_is c.self.invariant.counted refl c.if-n-self.true short))
 
 pub returns-then-n-self-clause-memory : goal.returns-then-n-self-clause-memory
 returns-then-n-self-clause-memory g c = λ is. absurd (ok_not_err _ _ is)
 
 pub returns-then-missing-self-clause-full : goal.returns-then-missing-self-clause-full
 returns-then-missing-self-clause-full g c =
-    let s = sees _ _ _ _ _ c.len.result c.self.view_is c.self.invariant.counted (omega arith) in
-    (λ is. lacks_room _ _ _ _ c.args.n s c.if-n-self.false c.if-missing-self.true, λ short. refl)
+    (λ is. lacks_room _ _ _ _ _ _ c.args.n c.self.view_is c.self.invariant.counted (omega arith) c.if-n-self.false c.if-missing-self.true, λ short. refl)
 
 pub returns-then-missing-self-clause-memory : goal.returns-then-missing-self-clause-memory
 returns-then-missing-self-clause-memory g c = λ is. absurd (full_not_memory is)
 
 pub returns-then-missing-self-clause-enough : goal.returns-then-missing-self-clause-enough
 returns-then-missing-self-clause-enough g c =
-    let s = sees _ _ _ _ _ c.len.result c.self.view_is c.self.invariant.counted (omega arith) in
-    λ enough. absurd (not_enough _ _ _ _ c.args.n s c.if-n-self.false enough)
+    λ enough. absurd (not_enough _ _ _ _ _ _ c.args.n c.self.view_is c.self.invariant.counted refl c.if-n-self.false enough)
 
 pub returns-in-Err-clause-full : goal.returns-in-Err-clause-full
 returns-in-Err-clause-full g c =
-    let s = sees _ _ _ _ _ c.len.result c.self.view_is c.self.invariant.counted (omega arith) in
-    (λ is. absurd (full_not_memory (sym is)), λ short. absurd (finds_room _ _ _ _ c.args.n s c.if-missing-self.false short))
+    (λ is. absurd (full_not_memory (sym is)), λ short. absurd (finds_room _ _ _ _ _ _ c.args.n c.self.view_is c.self.invariant.counted (omega arith) c.if-missing-self.false short))
 
 pub returns-in-Err-clause-memory : goal.returns-in-Err-clause-memory
 returns-in-Err-clause-memory g c =
-    let s = sees _ _ _ _ _ c.len.result c.self.view_is c.self.invariant.counted (omega arith) in
-    λ is. needs_growth _ _ _ _ c.args.n s c.if-n-self.false c.if-missing-self.false
+    λ is. needs_growth _ _ _ _ _ _ c.args.n c.self.view_is c.self.invariant.counted (omega arith) c.if-n-self.false c.if-missing-self.false
 
 pub returns-in-Err-clause-enough : goal.returns-in-Err-clause-enough
 returns-in-Err-clause-enough g c =
-    let s = sees _ _ _ _ _ c.len.result c.self.view_is c.self.invariant.counted (omega arith) in
-    λ enough. absurd (not_enough _ _ _ _ c.args.n s c.if-n-self.false enough)
+    λ enough. absurd (not_enough _ _ _ _ _ _ c.args.n c.self.view_is c.self.invariant.counted refl c.if-n-self.false enough)
 
 pub returns-in-Ok-clause-full : goal.returns-in-Ok-clause-full
 returns-in-Ok-clause-full g c =
-    let s = sees _ _ _ _ _ c.len.result c.self.view_is c.self.invariant.counted (omega arith) in
-    (λ is. absurd (ok_not_err _ _ is), λ short. absurd (finds_room _ _ _ _ c.args.n s c.if-missing-self.false short))
+    (λ is. absurd (ok_not_err _ _ is), λ short. absurd (finds_room _ _ _ _ _ _ c.args.n c.self.view_is c.self.invariant.counted (omega arith) c.if-missing-self.false short))
 
 pub returns-in-Ok-clause-memory : goal.returns-in-Ok-clause-memory
 returns-in-Ok-clause-memory g c = λ is. absurd (ok_not_err _ _ is)
 
 pub returns-then-n-self-clause-ok : goal.returns-then-n-self-clause-ok
 returns-then-n-self-clause-ok g c =
-    let s = sees _ _ _ _ _ _ c.self.view_is c.self.invariant.counted refl in
-    stays_reserved _ _ _ _ c.args.n s c.if-n-self.true
+    stays_reserved _ _ _ _ _ _ c.args.n c.self.view_is c.self.invariant.counted refl c.if-n-self.true
 
 pub returns-then-n-self-clause-numbers : goal.returns-then-n-self-clause-numbers
 returns-then-n-self-clause-numbers g c = few_slots _ _ _ _ c.self.view_is c.self.invariant.slots_within c.self.invariant.limit_within

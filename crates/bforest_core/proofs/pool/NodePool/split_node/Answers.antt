@@ -1,12 +1,12 @@
-use Rattle.std.proofs.Common.{rules, slice_get, Some, arith, refl, ◌∙◌, ◌≡◌, ℕ, ◌<◌, length, length-set, vec_len, slice_set, sym}
-use Rattle.bforest_core.proofs.table.Lists.{refilled}
+use Rattle.std.proofs.Common.{rules, slice_get, Some, arith, refl, ◌∙◌, ◌≡◌, ℕ, ◌<◌, List, length, length-set, vec_len, slice_set, sym}
+use Rattle.bforest_core.proofs.table.Lists.{refilled_two}
 use Rattle.bforest_core.proofs.table.Fronts.{nodes-without_front, off-without_front, with_front-is, apart_front}
 use Rattle.bforest_core.proofs.table.Pools.{IsPool-set_two}
 use Rattle.bforest_core.proofs.pool.NodePool.split_node.Goals as goal
 
--- a number within the slots is within as many
-still_within : (n was now : ℕ) → now ≡ was → n < was → n < now
-still_within n was now same within = omega (arith, same, within)
+-- a number within a list is within it after two writes
+still_within : {X : Type 0} (xs : List X) (i j : ℕ) (x y : X) (n : ℕ) → n < length xs → n < length (slice_set (slice_set xs i x) j y)
+still_within xs i j x y n within = omega (arith, length-set (slice_set xs i x) j y, length-set xs i x, within)
 
 pub split-requires : goal.split-requires
 split-requires g c =
@@ -16,51 +16,33 @@ split-requires g c =
 
 pub invariant_of-self : goal.invariant_of-self
 invariant_of-self g c =
-    let used_left = off-without_front c.args.self.now c.args.self.now.chain c.args.left refl c.requires.used.off_chain in
-    let off_left = rw (← c.take_slot-right.ensures.table, ← c.self.view_is, ← c.number-2.ensures.value) at used_left in
-    let off_right = rw (← c.self.view_is, ← c.number.ensures.value) at c.take_slot-right.ensures.used.off_chain in
-    let room : vec_len c.self.inside.nodes ≡ length c.self.inside.nodes.items = omega arith in
-    let items = c.as_mut_slice.ensures.value in
-    let pair = IsPool-set_two _ _ _ _ _ c.number.result c.number-2.result c.split.new.rhs c.split.new.self off_right off_left c.self.invariant in
-    let size : length (slice_set (slice_set c.self.inside.nodes.items c.number.result c.split.new.rhs) c.number-2.result c.split.new.self) ≡ length c.self.inside.nodes.items =
-    length-set (slice_set c.self.inside.nodes.items c.number.result c.split.new.rhs) c.number-2.result c.split.new.self ∙ length-set c.self.inside.nodes.items c.number.result c.split.new.rhs in
-    rw (items, refilled c.self.inside.nodes.items (slice_set (slice_set c.self.inside.nodes.items c.number.result c.split.new.rhs) c.number-2.result c.split.new.self) (vec_len c.self.inside.nodes) size room) pair.0
+    let off_left = rw (← c.take_slot-right.ensures.table) at (off-without_front c.args.self.now c.args.self.now.chain c.args.left refl c.requires.used.off_chain) in
+    let pair = IsPool-set_two _ _ _ _ _ c.number.result c.number-2.result c.split.new.rhs c.split.new.self _ _ _ c.self.view_is c.number.ensures.value c.number-2.ensures.value c.take_slot-right.ensures.used.off_chain off_left c.self.invariant in
+    rw (c.as_mut_slice.ensures.value, refilled_two c.self.inside.nodes.items c.number.result c.number-2.result c.split.new.rhs c.split.new.self (vec_len c.self.inside.nodes) (omega arith)) pair.0
 
 pub returns-clause-split : goal.returns-clause-split
 returns-clause-split g c =
-    let used_left = off-without_front c.args.self.now c.args.self.now.chain c.args.left refl c.requires.used.off_chain in
-    let off_left = rw (← c.take_slot-right.ensures.table, ← c.self.view_is, ← c.number-2.ensures.value) at used_left in
-    let off_right = rw (← c.self.view_is, ← c.number.ensures.value) at c.take_slot-right.ensures.used.off_chain in
-    let room : vec_len c.self.inside.nodes ≡ length c.self.inside.nodes.items = omega arith in
-    let items = c.as_mut_slice.ensures.value in
-    let pair = IsPool-set_two _ _ _ _ _ c.number.result c.number-2.result c.split.new.rhs c.split.new.self off_right off_left c.self.invariant in
-    let size : length (slice_set (slice_set c.self.inside.nodes.items c.number.result c.split.new.rhs) c.number-2.result c.split.new.self) ≡ length c.self.inside.nodes.items =
-    length-set (slice_set c.self.inside.nodes.items c.number.result c.split.new.rhs) c.number-2.result c.split.new.self ∙ length-set c.self.inside.nodes.items c.number.result c.split.new.rhs in
+    let off_left = rw (← c.take_slot-right.ensures.table) at (off-without_front c.args.self.now c.args.self.now.chain c.args.left refl c.requires.used.off_chain) in
+    let pair = IsPool-set_two _ _ _ _ _ c.number.result c.number-2.result c.split.new.rhs c.split.new.self _ _ _ c.self.view_is c.number.ensures.value c.number-2.ensures.value c.take_slot-right.ensures.used.off_chain off_left c.self.invariant in
     record {
       whole = c.two_nodes-rhs.result.1.now;
-      was = rw (← nodes-without_front c.args.self.now c.args.self.now.chain, ← c.take_slot-right.ensures.table, ← c.self.view_is, ← c.number-2.ensures.value, ← items) c.two_nodes-rhs.ensures.right;
+      was = rw (← nodes-without_front c.args.self.now c.args.self.now.chain, ← c.take_slot-right.ensures.table, ← c.self.view_is, ← c.number-2.ensures.value, ← c.as_mut_slice.ensures.value) c.two_nodes-rhs.ensures.right;
       left_half_is = c.split.new.self;
       right_half_is = c.split.new.rhs;
       counted = c.split.ensures.left_entries;
       all = c.split.ensures.all_entries;
       cut = c.split.ensures.cut;
-      after = rw (with_front-is c.args.self.now c.args.self.now.chain c.take_slot-right.result c.split.new.rhs c.take_slot-right.ensures.node, ← c.take_slot-right.ensures.table, items, refilled c.self.inside.nodes.items (slice_set (slice_set c.self.inside.nodes.items c.number.result c.split.new.rhs) c.number-2.result c.split.new.self) (vec_len c.self.inside.nodes) size room, pair.1, ← c.self.view_is, c.number.ensures.value, c.number-2.ensures.value);
+      after = rw (with_front-is c.args.self.now c.args.self.now.chain c.take_slot-right.result c.split.new.rhs c.take_slot-right.ensures.node, ← c.take_slot-right.ensures.table, c.as_mut_slice.ensures.value, refilled_two c.self.inside.nodes.items c.number.result c.number-2.result c.split.new.rhs c.split.new.self (vec_len c.self.inside.nodes) (omega arith), pair.1, ← c.self.view_is, c.number.ensures.value, c.number-2.ensures.value);
     }
 
 pub returns-clause-used : goal.returns-clause-used
 returns-clause-used g c =
-    let used_left = off-without_front c.args.self.now c.args.self.now.chain c.args.left refl c.requires.used.off_chain in
-    let off_left = rw (← c.take_slot-right.ensures.table, ← c.self.view_is, ← c.number-2.ensures.value) at used_left in
-    let off_right = rw (← c.self.view_is, ← c.number.ensures.value) at c.take_slot-right.ensures.used.off_chain in
-    let room : vec_len c.self.inside.nodes ≡ length c.self.inside.nodes.items = omega arith in
-    let items = c.as_mut_slice.ensures.value in
-    let pair = IsPool-set_two _ _ _ _ _ c.number.result c.number-2.result c.split.new.rhs c.split.new.self off_right off_left c.self.invariant in
-    let size : length (slice_set (slice_set c.self.inside.nodes.items c.number.result c.split.new.rhs) c.number-2.result c.split.new.self) ≡ length c.self.inside.nodes.items =
-    length-set (slice_set c.self.inside.nodes.items c.number.result c.split.new.rhs) c.number-2.result c.split.new.self ∙ length-set c.self.inside.nodes.items c.number.result c.split.new.rhs in
+    let off_left = rw (← c.take_slot-right.ensures.table) at (off-without_front c.args.self.now c.args.self.now.chain c.args.left refl c.requires.used.off_chain) in
+    let pair = IsPool-set_two _ _ _ _ _ c.number.result c.number-2.result c.split.new.rhs c.split.new.self _ _ _ c.self.view_is c.number.ensures.value c.number-2.ensures.value c.take_slot-right.ensures.used.off_chain off_left c.self.invariant in
     let within = rw (← c.self.view_is) at c.take_slot-right.ensures.used.within in
     let off = rw (← c.self.view_is) at c.take_slot-right.ensures.used.off_chain in
-    rw (items, refilled c.self.inside.nodes.items (slice_set (slice_set c.self.inside.nodes.items c.number.result c.split.new.rhs) c.number-2.result c.split.new.self) (vec_len c.self.inside.nodes) size room)
-    (record { within = still_within _ _ _ size within; off_chain = rw pair.1 off })
+    rw (c.as_mut_slice.ensures.value, refilled_two c.self.inside.nodes.items c.number.result c.number-2.result c.split.new.rhs c.split.new.self (vec_len c.self.inside.nodes) (omega arith))
+    (record { within = still_within c.self.inside.nodes.items c.number.result c.number-2.result c.split.new.rhs c.split.new.self _ within; off_chain = rw pair.1 off })
 
 pub two_nodes-rhs-requires-clause-apart : goal.two_nodes-rhs-requires-clause-apart
 two_nodes-rhs-requires-clause-apart g c = λ same. apart_front c.args.self.now.chain c.args.left c.take_slot-right.result c.take_slot-right.ensures.node c.requires.used.off_chain (sym c.number.ensures.value ∙ same ∙ c.number-2.ensures.value)
