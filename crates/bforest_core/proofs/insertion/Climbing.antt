@@ -1,10 +1,6 @@
 -- A new child goes up through full nodes: each answer of `insert_above` on that way is one of these.
 use Rattle.std.proofs.Common.{◌≡◌, ◌≢◌, ℕ, suc, ◌+◌, ◌-◌, ◌≤◌, ◌<◌, Bool, if◌then◌else◌, List, ◌∷◌, ◌++◌, map, length, get_or, Some, refl, sym, ap, arith}
-use Rattle.std.proofs.lemmas.List.{get_or_default}
-use Rattle.bforest_core.specs.Table.{Table, IsFullAt}
-use Rattle.bforest_core.specs.Levels.{LevelNode, heads, sizes}
-use Rattle.bforest_core.specs.Sizes.{need_above, gain_above}
-use Rattle.bforest_core.specs.Climb.{Above, Grown, Halved}
+use Rattle.bforest_core.proofs.Words.{get_or_default, Table, IsFullAt, LevelNode, heads, sizes, need_above, gain_above, Above, Grown, Halved}
 use Rattle.bforest_core.proofs.rows.Zipper.{spot}
 use Rattle.bforest_core.proofs.insertion.Halving.{full_is}
 use Rattle.bforest_core.proofs.insertion.Rise.{rise, sizes_halved, need_full, above_from, grown_from}

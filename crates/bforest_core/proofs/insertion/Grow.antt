@@ -1,10 +1,6 @@
 -- One entry more in a row: where its node has room, and where it is halved.
 use Rattle.std.proofs.Common.{◌≡◌, ◌⊎◌, nat_le, ◌/◌, ℕ, suc, ◌+◌, ◌-◌, ◌≤◌, ◌<◌, nat_lt, if◌then◌else◌, Bool, true, false, Option, Some, None, List, [], ◌∷◌, ◌++◌, length, refl, sym, ap, ◌∙◌, inl, inr, append_assoc, length-append, arith}
-use Rattle.std.proofs.lemmas.Bool.{cases_lt}
-use Rattle.std.proofs.lemmas.List.{append-nil}
-use Rattle.bforest_core.specs.Levels.{LevelNode, node, flat, head_of, heads, sizes, FitRow}
-use Rattle.bforest_core.specs.Sizes.{inner_gain, past, leaf_gain}
-use Rattle.bforest_core.specs.Place.{IsAt}
+use Rattle.bforest_core.proofs.Words.{cases_lt, append-nil, LevelNode, node, flat, head_of, heads, sizes, FitRow, inner_gain, past, leaf_gain, IsAt}
 use Rattle.bforest_core.proofs.rows.Bounds.{below_lt, above_lt}
 use Rattle.bforest_core.proofs.rows.LevelRows.{flat-append, sizes-append, least-le, FitRow-split, FitRow-join}
 

@@ -1,10 +1,7 @@
 -- A full node that is halved, with a new entry in one half.
 use Rattle.std.proofs.Common.{◌≡◌, ℕ, suc, ◌+◌, ◌-◌, ◌/◌, ◌≤◌, ◌<◌, ◌≢◌, nat_le, true, false, if◌then◌else◌, List, [], ◌∷◌, ◌++◌, length, slice_get, Some, refl, sym, ap, ◌∙◌, subst, append_assoc, length-append, length-set, arith}
 use Rattle.bforest_nodes.specs.declared.node.SplitOff.{SplitOff}
-use Rattle.bforest_nodes.specs.Content.{Content, IsCut, left_half}
-use Rattle.bforest_core.specs.Table.{Table, with_node, with_front, front_of, IsUsed, IsFullAt, IsSplitAt}
-use Rattle.bforest_core.specs.Levels.{head_of}
-use Rattle.bforest_core.specs.Place.{inner_content, leaf_content, count}
+use Rattle.bforest_core.proofs.Words.{Content, IsCut, left_half, Table, with_node, with_front, front_of, IsUsed, IsFullAt, IsSplitAt, head_of, inner_content, leaf_content, count}
 use Rattle.bforest_core.proofs.table.Tables.{Puts, count-same, is_used, puts, takes, length-with_front}
 use Rattle.bforest_core.proofs.table.Stored.{Parts, inner_cuts, some_same, item_count}
 use Rattle.bforest_core.proofs.rows.Zipper.{cut}

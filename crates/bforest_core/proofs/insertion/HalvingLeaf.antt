@@ -1,12 +1,8 @@
 -- Putting an entry into the path's leaf, or halving the leaf and putting it into one half: each answer of `put_here` and of `halve_leaf` is one of these.
 use Rattle.std.proofs.Common.{◌≡◌, ℕ, ◌+◌, ◌-◌, ◌/◌, nat_le, ◌≤◌, ◌<◌, true, false, Bool, if◌then◌else◌, List, [], ◌∷◌, ◌++◌, length, set, get_or, Some, refl, sym, ap, ◌∙◌, subst, arith, append_assoc, length-append}
-use Rattle.std.proofs.lemmas.List.{get_or_default, get_or-set_same, get_or-set_other}
-use Rattle.bforest_nodes.specs.Content.{Leaf, IsLeafCapacity, with_entry}
+use Rattle.bforest_core.proofs.Words.{get_or_default, get_or-set_same, get_or-set_other, Leaf, IsLeafCapacity, with_entry, Table, IsUsed, IsFullAt, IsSplitAt, front_of, with_node, Tree, heads, half_of, leaf_content, entry_keys, Placed}
+use Rattle.bforest_core.proofs.Words.{Inserted, LeafHalved}
 use Rattle.bforest_nodes.specs.declared.node.SplitOff.{SplitOff}
-use Rattle.bforest_core.specs.Table.{Table, IsUsed, IsFullAt, IsSplitAt, front_of, with_node}
-use Rattle.bforest_core.specs.Levels.{Tree, heads, half_of}
-use Rattle.bforest_core.specs.Place.{leaf_content, entry_keys}
-use Rattle.bforest_core.specs.Climb.{Placed, Inserted, LeafHalved}
 use Rattle.bforest_core.proofs.rows.LevelRows.{Solid-full}
 use Rattle.bforest_core.proofs.table.Tables.{is_used, puts}
 use Rattle.bforest_core.proofs.table.Stored.{leaf_cuts, with_entry_is}

@@ -1,13 +1,8 @@
 -- Putting a child into the path's inner node, or halving the node and putting it into one half: each answer of `insert_here` and of `split_here` is one of these.
 use Rattle.std.proofs.Common.{◌≡◌, ℕ, suc, ◌-◌, ◌≤◌, ◌<◌, true, false, Bool, if◌then◌else◌, List, [], ◌∷◌, ◌++◌, map, length, set, get_or, Some, refl, sym, ap, ◌∙◌, subst, append_assoc, length-append, arith}
-use Rattle.std.proofs.lemmas.List.{get_or_default, get_or-set_same, get_or-set_other}
-use Rattle.bforest_nodes.specs.Content.{Inner, with_child}
+use Rattle.bforest_core.proofs.Words.{get_or_default, get_or-set_same, get_or-set_other, Inner, with_child, Table, IsUsed, IsFullAt, IsSplitAt, front_of, with_node, LevelNode, flat, head_of, heads, sizes, need_above, gain_above}
+use Rattle.bforest_core.proofs.Words.{inner_content, entry_items, Above, Grown, Halved}
 use Rattle.bforest_nodes.specs.declared.node.SplitOff.{SplitOff}
-use Rattle.bforest_core.specs.Table.{Table, IsUsed, IsFullAt, IsSplitAt, front_of, with_node}
-use Rattle.bforest_core.specs.Levels.{LevelNode, flat, head_of, heads, sizes}
-use Rattle.bforest_core.specs.Sizes.{need_above, gain_above}
-use Rattle.bforest_core.specs.Place.{inner_content, entry_items}
-use Rattle.bforest_core.specs.Climb.{Above, Grown, Halved}
 use Rattle.bforest_core.proofs.table.Tables.{is_used, puts}
 use Rattle.bforest_core.proofs.rows.LevelRows.{Solid-full}
 use Rattle.bforest_core.proofs.rows.Zipper.{Spot, spot}

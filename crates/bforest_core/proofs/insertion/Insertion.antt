@@ -1,19 +1,9 @@
 -- What an insertion into the tree under a root says of the table, where nodes were made free for it before.
 use Rattle.std.proofs.Common.{◌≡◌, ℕ, suc, ◌+◌, ◌-◌, ◌^◌, ◌≤◌, ◌<◌, ◌≢◌, ◌↔◌, IsTrue, Option, Some, None, Result, Err, List, [], ◌∷◌, ◌++◌, drop, map, length, insert, slice_get, sym, ap, ◌∙◌, subst, inl, inr, append-nil, length-append, arith}
-use Rattle.std.specs.List.{flat_map}
-use Rattle.std.proofs.lemmas.Bool.{cases_lt}
-use Rattle.std.proofs.lemmas.Bool.Decides.{eqb_tells}
-use Rattle.std.proofs.lemmas.List.{length-map}
+use Rattle.bforest_core.proofs.Words.{flat_map, cases_lt, eqb_tells, length-map, Path, Content, Table, down_from, fresh_nodes, front_of, free_count, slot_count, room, reserved, IsFullAt, LevelNode, node, flat, heads, sizes, numbers}
+use Rattle.bforest_core.proofs.Words.{Stacked, Topped, Tree, sizes_of, leaf_gain, gain_above, growth, need, IsAt, Stands, count, root_of, numbers_of, top_of, Placed, Inserted, tree_of, is_root, IsUnion, Changes, TakesNodes, PlacedUnder}
+use Rattle.bforest_core.proofs.Words.{StandsUnder}
 use Rattle.std.proofs.Math.Seq.{drop-append_seam}
-use Rattle.bforest_core.specs.declared.path.Path.{Path}
-use Rattle.bforest_nodes.specs.Content.{Content}
-use Rattle.bforest_core.specs.Table.{Table, down_from, fresh_nodes, front_of, free_count, slot_count, room, reserved, IsFullAt}
-use Rattle.bforest_core.specs.Levels.{LevelNode, node, flat, heads, sizes, numbers, Stacked, Topped, Tree, sizes_of}
-use Rattle.bforest_core.specs.Sizes.{leaf_gain, gain_above, growth, need}
-use Rattle.bforest_core.specs.Place.{IsAt, Stands, count, root_of, numbers_of}
-use Rattle.bforest_core.specs.Climb.{top_of, Placed, Inserted}
-use Rattle.bforest_core.specs.Trees.{tree_of, is_root, IsUnion}
-use Rattle.bforest_core.specs.Change.{Changes, TakesNodes, PlacedUnder, StandsUnder}
 use Rattle.bforest_core.proofs.rows.LevelRows.{flat-append}
 use Rattle.bforest_core.proofs.table.Tables.{count-append}
 use Rattle.bforest_core.proofs.table.Lists.{slice_get-append_left}

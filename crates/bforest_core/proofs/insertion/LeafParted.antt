@@ -1,13 +1,7 @@
 -- The leaves after one of them was halved, and the tree after the levels above took the right half in.
 use Rattle.std.proofs.Common.{◌≡◌, ℕ, suc, ◌+◌, ◌-◌, ◌≤◌, ◌<◌, ◌≢◌, Bool, if◌then◌else◌, List, ◌∷◌, ◌++◌, map, length, insert, get_or, slice_get, Option, Some, sym, ap, ◌∙◌, subst, length-append, arith}
-use Rattle.std.specs.List.{flat_map}
-use Rattle.std.proofs.lemmas.List.{length-map}
-use Rattle.bforest_nodes.specs.Content.{IsLeafCapacity}
-use Rattle.bforest_core.specs.Table.{Table}
-use Rattle.bforest_core.specs.Levels.{LevelNode, node, flat, head_of, heads, sizes, numbers, Stacked, Topped, Tree, IsFit, half_of}
-use Rattle.bforest_core.specs.Sizes.{leaf_gain, gain_above, need_above}
-use Rattle.bforest_core.specs.Place.{leaf_content, count, IsAt, StandsAbove, Stands}
-use Rattle.bforest_core.specs.Climb.{Placed, LeafHalved, Inserted, Grown}
+use Rattle.bforest_core.proofs.Words.{flat_map, length-map, IsLeafCapacity, Table, LevelNode, node, flat, head_of, heads, sizes, numbers, Stacked, Topped, Tree, IsFit, half_of, leaf_gain, gain_above, need_above, leaf_content, count, IsAt}
+use Rattle.bforest_core.proofs.Words.{StandsAbove, Stands, Placed, LeafHalved, Inserted, Grown}
 use Rattle.bforest_core.proofs.rows.LevelRows.{heads-append, sizes-append, FitRow-split}
 use Rattle.bforest_core.proofs.table.Tables.{counts, count-append, count-same, row-same, row-halved, rows-same, ne_from_count, absent_ne}
 use Rattle.bforest_core.proofs.rows.Zipper.{stands-same}

@@ -1,13 +1,7 @@
 -- The leaf of a place for an entry, and the entry put in where there is room.
 use Rattle.std.proofs.Common.{◌≡◌, ◌⊎◌, ℕ, suc, ◌+◌, ◌≤◌, ◌<◌, List, [], ◌∷◌, ◌++◌, map, length, take, drop, insert, get_or, slice_get, Some, None, inl, inr, refl, sym, ap, ◌∙◌, subst, append_assoc, length-append, length-take-le, take-append-drop, arith}
-use Rattle.std.specs.List.{flat_map}
-use Rattle.std.proofs.lemmas.Bool.{cases_lt}
-use Rattle.std.proofs.lemmas.List.{length-map}
-use Rattle.bforest_core.specs.Table.{Table}
-use Rattle.bforest_core.specs.Levels.{LevelNode, node, flat, heads, sizes, numbers, FitRow, Solid, Stacked, Topped, Tree, IsFit, half_of}
-use Rattle.bforest_core.specs.Sizes.{leaf_gain, gain_above, need_above}
-use Rattle.bforest_core.specs.Place.{RowIn, leaf_content, entry_keys, count, Distinct, StandsAbove, Stands}
-use Rattle.bforest_core.specs.Climb.{Placed, Inserted}
+use Rattle.bforest_core.proofs.Words.{flat_map, cases_lt, length-map, Table, LevelNode, node, flat, heads, sizes, numbers, FitRow, Solid, Stacked, Topped, Tree, IsFit, half_of, leaf_gain, gain_above, need_above, RowIn, leaf_content}
+use Rattle.bforest_core.proofs.Words.{entry_keys, count, Distinct, StandsAbove, Stands, Placed, Inserted}
 use Rattle.bforest_core.proofs.rows.LevelRows.{flat-append, least-pos, sizes-append, FitRow-split}
 use Rattle.bforest_core.proofs.table.Tables.{counts, row-split, row-put, rows-same, ne_from_count, absent_ne, Puts}
 use Rattle.bforest_core.proofs.rows.Zipper.{apart_here}

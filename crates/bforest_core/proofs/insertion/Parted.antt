@@ -1,11 +1,6 @@
 -- A level of which one node was halved, and the path on it.
 use Rattle.std.proofs.Common.{◌≡◌, ℕ, suc, ◌+◌, ◌≤◌, ◌<◌, ◌≢◌, Bool, if◌then◌else◌, List, [], ◌∷◌, ◌++◌, length, get_or, nat_lt, Some, sym, ap, ◌∙◌, subst, append_assoc, length-append, arith}
-use Rattle.std.specs.List.{flat_map}
-use Rattle.bforest_core.specs.Table.{Table}
-use Rattle.bforest_core.specs.Levels.{LevelNode, node, flat, head_of, heads, sizes, numbers, Stacked}
-use Rattle.bforest_core.specs.Sizes.{inner_gain}
-use Rattle.bforest_core.specs.Place.{inner_content, count}
-use Rattle.bforest_core.specs.Climb.{Halved}
+use Rattle.bforest_core.proofs.Words.{flat_map, Table, LevelNode, node, flat, head_of, heads, sizes, numbers, Stacked, inner_gain, inner_content, count, Halved}
 use Rattle.bforest_core.proofs.rows.LevelRows.{heads-append, sizes-append}
 use Rattle.bforest_core.proofs.table.Tables.{counts, count-append, count-same, row-halved, rows-same, ne_from_count}
 use Rattle.bforest_core.proofs.rows.Zipper.{Spot, stands-same}

@@ -1,8 +1,6 @@
 -- Putting an entry into a leaf, or a child into an inner node, where there is room: what the call asks, and what it leaves.
 use Rattle.std.proofs.Common.{◌≡◌, ℕ, ◌≤◌, ◌<◌, IsTrue, ◌↔◌, true, false, Bool, if◌then◌else◌, List, length, slice_get, Some, sym, ap, ◌∙◌, subst}
-use Rattle.std.proofs.lemmas.Bool.{false≢true}
-use Rattle.bforest_nodes.specs.Content.{Content}
-use Rattle.bforest_core.specs.Table.{Table, IsUsed, with_node}
+use Rattle.bforest_core.proofs.Words.{false≢true, Content, Table, IsUsed, with_node}
 use Rattle.bforest_core.proofs.table.Tables.{with_node_here}
 
 -- nodes of one kind, by their keys and their values or children

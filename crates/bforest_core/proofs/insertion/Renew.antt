@@ -1,9 +1,6 @@
 -- The rows above a level under another first key: it is the first of every row, and stored in no slot.
 use Rattle.std.proofs.Common.{◌≡◌, ◌⊎◌, ℕ, suc, ◌+◌, ◌≤◌, ◌<◌, List, [], ◌∷◌, ◌++◌, map, length, inl, inr, refl, sym, ap, ◌∙◌, subst, length-append, arith}
-use Rattle.std.specs.List.{flat_map}
-use Rattle.bforest_nodes.specs.Content.{Content}
-use Rattle.bforest_core.specs.Levels.{LevelNode, node, flat, heads, sizes, numbers, FitRow, Stacked, Topped}
-use Rattle.bforest_core.specs.Place.{RowIn, RowsIn, inner_content, IsAt, StandsAbove}
+use Rattle.bforest_core.proofs.Words.{flat_map, Content, LevelNode, node, flat, heads, sizes, numbers, FitRow, Stacked, Topped, RowIn, RowsIn, inner_content, IsAt, StandsAbove}
 use Rattle.bforest_core.proofs.rows.LevelRows.{heads-append, least-pos}
 
 module _ {K : Type 0} where

@@ -1,13 +1,7 @@
 -- A level whose node became two, and the levels above it.
 use Rattle.std.proofs.Common.{◌≡◌, ℕ, suc, ◌+◌, ◌-◌, ◌≤◌, ◌<◌, ◌≢◌, Bool, if◌then◌else◌, List, [], ◌∷◌, ◌++◌, map, length, get_or, slice_get, Some, refl, sym, ap, ◌∙◌, subst, length-append, arith}
-use Rattle.std.specs.List.{flat_map}
-use Rattle.std.proofs.lemmas.List.{length-map}
-use Rattle.bforest_nodes.specs.Content.{Inner}
-use Rattle.bforest_core.specs.Table.{Table}
-use Rattle.bforest_core.specs.Levels.{LevelNode, node, flat, heads, sizes, numbers, Stacked, Topped}
-use Rattle.bforest_core.specs.Sizes.{inner_gain, gain_above, need_above}
-use Rattle.bforest_core.specs.Place.{inner_content, count, Distinct, IsAt, StandsAbove}
-use Rattle.bforest_core.specs.Climb.{Above, Grown, Halved}
+use Rattle.bforest_core.proofs.Words.{flat_map, length-map, Inner, Table, LevelNode, node, flat, heads, sizes, numbers, Stacked, Topped, inner_gain, gain_above, need_above, inner_content, count, Distinct, IsAt, StandsAbove, Above, Grown}
+use Rattle.bforest_core.proofs.Words.{Halved}
 use Rattle.bforest_core.proofs.rows.LevelRows.{heads-append}
 use Rattle.bforest_core.proofs.table.Tables.{counts, count-append, count-same, row-same, absent_ne, Takes}
 use Rattle.bforest_core.proofs.rows.Zipper.{Spot}

@@ -1,11 +1,6 @@
 -- A new child in a node with room.
 use Rattle.std.proofs.Common.{◌≡◌, ℕ, suc, ◌+◌, ◌≤◌, ◌<◌, ◌≢◌, Bool, true, false, if◌then◌else◌, List, [], ◌∷◌, ◌++◌, map, length, get_or, Some, refl, sym, ap, ◌∙◌, subst, append_assoc, length-append, arith}
-use Rattle.std.specs.List.{flat_map}
-use Rattle.bforest_core.specs.Table.{Table}
-use Rattle.bforest_core.specs.Levels.{LevelNode, node, flat, heads, sizes, numbers, Stacked, Topped}
-use Rattle.bforest_core.specs.Sizes.{gain_above, need_above}
-use Rattle.bforest_core.specs.Place.{inner_content, count, StandsAbove}
-use Rattle.bforest_core.specs.Climb.{Grown}
+use Rattle.bforest_core.proofs.Words.{flat_map, Table, LevelNode, node, flat, heads, sizes, numbers, Stacked, Topped, gain_above, need_above, inner_content, count, StandsAbove, Grown}
 use Rattle.bforest_core.proofs.rows.LevelRows.{flat-append, heads-append, sizes-append}
 use Rattle.bforest_core.proofs.table.Tables.{counts, row-put, rows-same, ne_from_count, absent_ne, Puts}
 use Rattle.bforest_core.proofs.rows.Zipper.{Cut_above, facts, Spot, stands_here, stands-same}

@@ -1,10 +1,6 @@
 -- What the calls on the nodes of a path and on the rows above a level ask, in the form in which they ask it, and what they leave.
 use Rattle.std.proofs.Common.{◌≡◌, ℕ, suc, ◌<◌, Option, Some, List, [], ◌∷◌, ◌++◌, map, length, get_or, slice_get}
-use Rattle.bforest_nodes.specs.Content.{Content, Inner, IsFree, with_key, without_child}
-use Rattle.bforest_core.specs.Table.{Table, with_node}
-use Rattle.bforest_core.specs.Levels.{LevelNode, sizes}
-use Rattle.bforest_core.specs.Climb.{Above, NextIs}
-use Rattle.bforest_core.specs.Removal.{Rebuilt}
+use Rattle.bforest_core.proofs.Words.{Content, Inner, IsFree, with_key, without_child, Table, with_node, LevelNode, sizes, Above, NextIs, Rebuilt}
 use Rattle.bforest_core.proofs.rows.Zipper.{above_two}
 
 module _ {K V : Type 0} where

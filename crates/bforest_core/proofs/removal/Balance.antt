@@ -1,13 +1,9 @@
 -- Leaves and inner nodes as stored, for the calls on two neighbours.
 use Rattle.std.proofs.Common.{◌≡◌, ℕ, suc, ◌+◌, ◌-◌, ◌/◌, ◌≤◌, ◌<◌, ◌≢◌, List, [], ◌∷◌, ◌++◌, length, set, slice_get, Some, None, refl, sym, ap, ◌∙◌, subst, inl, inr, length-append, arith}
-use Rattle.std.proofs.lemmas.List.{length-map, map-append}
-use Rattle.std.proofs.lemmas.Bool.{cases_lt}
-use Rattle.bforest_nodes.specs.Content.{Content, Inner, Leaf, IsFree, IsSameKind, entry_count, entry_capacity, joined, IsCut, Balances, left_share}
-use Rattle.bforest_core.specs.Table.{Table, with_node, IsBalancedAt}
+use Rattle.bforest_core.proofs.Words.{length-map, map-append, cases_lt, Content, Inner, Leaf, IsFree, IsSameKind, entry_count, entry_capacity, joined, IsCut, Balances, left_share, Table, with_node, IsBalancedAt, slice_get_within}
+use Rattle.bforest_core.proofs.Words.{inner_content, leaf_content, entry_keys, entry_items}
 use Rattle.bforest_core.proofs.table.Lists.{slice_get-set_same}
-use Rattle.std.proofs.lemmas.Option.{slice_get_within}
 use Rattle.std.proofs.Common.{length-set}
-use Rattle.bforest_core.specs.Place.{inner_content, leaf_content, entry_keys, entry_items}
 use Rattle.bforest_core.proofs.table.Stored.{some_same, Parts, inner_cuts, leaf_cuts}
 use Rattle.bforest_core.proofs.table.Tables.{slice_get-set_apart}
 use Rattle.bforest_core.proofs.rows.Zipper.{Cut, cut}

@@ -1,13 +1,7 @@
 -- Roots with a single child, which go: from the root down, and in the sizes from the leaves up.
 use Rattle.std.proofs.Common.{◌≡◌, ◌≢◌, ℕ, suc, ◌+◌, ◌-◌, ◌≤◌, ◌<◌, Some, List, [], ◌∷◌, ◌++◌, map, length, get_or, slice_get, refl, sym, ap, ◌∙◌, subst, append_assoc, append-nil, length-append, arith}
-use Rattle.std.specs.List.{flat_map}
-use Rattle.std.proofs.lemmas.List.Concat.{flat_map-append}
-use Rattle.bforest_nodes.specs.Content.{Content, entry_count}
-use Rattle.bforest_core.specs.Table.{Table, with_freed}
-use Rattle.bforest_core.specs.Levels.{LevelNode, node, flat, heads, sizes, numbers, Stacked, Topped}
-use Rattle.bforest_core.specs.Sizes.{trimmed}
-use Rattle.bforest_core.specs.Place.{RowsIn, inner_content, count, root_above, first_number, StandsAbove}
-use Rattle.bforest_core.specs.Removal.{UpTo, Trimmed}
+use Rattle.bforest_core.proofs.Words.{flat_map, flat_map-append, Content, entry_count, Table, with_freed, LevelNode, node, flat, heads, sizes, numbers, Stacked, Topped, trimmed, RowsIn, inner_content, count, root_above, first_number}
+use Rattle.bforest_core.proofs.Words.{StandsAbove, UpTo, Trimmed}
 use Rattle.bforest_core.proofs.rows.LevelRows.{least-pos}
 use Rattle.bforest_core.proofs.walks.Steps.{fit_full}
 use Rattle.bforest_core.proofs.table.Tables.{count-append, count-same, ne_from_count, rows-same}

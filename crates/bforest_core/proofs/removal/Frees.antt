@@ -1,12 +1,6 @@
 -- Changes of some numbers of a table, of which some are freed: none, one after another, and of more numbers.
 use Rattle.std.proofs.Common.{◌≡◌, ◌≢◌, ℕ, ◌<◌, List, [], ◌∷◌, ◌++◌, length, slice_get, Some, refl, sym, ap, ◌∙◌, subst, inl, inr, append_assoc, length-set, arith}
-use Rattle.std.proofs.lemmas.Bool.Decides.{eqb_tells}
-use Rattle.std.proofs.lemmas.Option.{slice_get_within}
-use Rattle.bforest_nodes.specs.Content.{Content, Free, IsFree}
-use Rattle.bforest_core.specs.Table.{Table, with_freed, front_of}
-use Rattle.bforest_core.specs.Place.{count}
-use Rattle.bforest_core.specs.Removal.{Frees}
-use Rattle.bforest_core.specs.Trees.{slot, Every}
+use Rattle.bforest_core.proofs.Words.{eqb_tells, slice_get_within, Content, Free, IsFree, Table, with_freed, front_of, count, Frees, slot, Every}
 use Rattle.bforest_core.proofs.table.Tables.{Puts, count-other, slice_get-set_apart}
 use Rattle.bforest_core.proofs.union.Forests.{every-join}
 use Rattle.bforest_core.proofs.union.FreeSlots.{free-same, freed-slot}

@@ -1,12 +1,7 @@
 -- The steps of settling a level, over plain values.
 use Rattle.std.proofs.Common.{◌≡◌, suc, ◌≤◌, ◌<◌, ◌≢◌, List, ◌∷◌, ◌++◌, map, length, set, get_or, slice_get, Some, None, refl, ap, ◌∙◌, subst, inr, length-append, arith, ℕ, []}
-use Rattle.std.specs.List.{flat_map}
-use Rattle.bforest_nodes.specs.Content.{Content}
-use Rattle.bforest_core.specs.Table.{Table, IsUsed, IsUnderflowedAt, IsBalancedAt, with_freed}
-use Rattle.bforest_core.specs.Levels.{LevelNode, node, flat, heads, head_of, sizes, numbers, FitRow}
-use Rattle.bforest_core.specs.Place.{RowIn, count}
-use Rattle.bforest_core.specs.Climb.{Above, SameBelow, top_of}
-use Rattle.bforest_core.specs.Removal.{Rebuilt, OnLevel, Healed, Joined}
+use Rattle.bforest_core.proofs.Words.{flat_map, Content, Table, IsUsed, IsUnderflowedAt, IsBalancedAt, with_freed, LevelNode, node, flat, heads, head_of, sizes, numbers, FitRow, RowIn, count, Above, SameBelow, top_of, Rebuilt, OnLevel}
+use Rattle.bforest_core.proofs.Words.{Healed, Joined}
 use Rattle.bforest_core.proofs.rows.LevelRows.{heads-append, least-pos, head-is}
 use Rattle.bforest_core.proofs.table.Tables.{count-append, row-split, is_used, ne_from_count}
 use Rattle.bforest_core.proofs.rows.Zipper.{apart_here}

@@ -1,14 +1,7 @@
 -- The only entry of a leaf goes, and the leaf with it: it is the right-most.
 use Rattle.std.proofs.Common.{◌≡◌, ◌≢◌, suc, ◌+◌, ◌≤◌, Some, List, ◌∷◌, ◌++◌, map, length, get_or, slice_get, refl, sym, ap, ◌∙◌, subst, append_assoc, append-nil, length-append, arith, ℕ, []}
-use Rattle.std.specs.List.{flat_map, remove}
-use Rattle.std.proofs.lemmas.List.{get_or_default}
-use Rattle.bforest_nodes.specs.Content.{IsLeafCapacity}
-use Rattle.bforest_core.specs.Table.{Table, IsUsed, with_freed}
-use Rattle.bforest_core.specs.Levels.{LevelNode, node, flat, heads, sizes, numbers, FitRow, Solid, Stacked, Topped, Tree, half_of, sizes_of}
-use Rattle.bforest_core.specs.Sizes.{loss, loss_above, shrink}
-use Rattle.bforest_core.specs.Place.{RowIn, leaf_content, count, Distinct, root_above, root_of, numbers_of, IsPathAt}
-use Rattle.bforest_core.specs.Climb.{nodes_up, Above}
-use Rattle.bforest_core.specs.Removal.{Dropped, UpTo, Trimmed, StandsIn, Removed, Emptied}
+use Rattle.bforest_core.proofs.Words.{flat_map, remove, get_or_default, IsLeafCapacity, Table, IsUsed, with_freed, LevelNode, node, flat, heads, sizes, numbers, FitRow, Solid, Stacked, Topped, Tree, half_of, sizes_of, loss, loss_above}
+use Rattle.bforest_core.proofs.Words.{shrink, RowIn, leaf_content, count, Distinct, root_above, root_of, numbers_of, IsPathAt, nodes_up, Above, Dropped, UpTo, Trimmed, StandsIn, Removed, Emptied}
 use Rattle.bforest_core.proofs.rows.LevelRows.{flat-append, heads-append, sizes-append, Solid-full}
 use Rattle.bforest_core.proofs.table.Tables.{count-append, counts, count-same, row-split, row-same, is_used, ne_from_count}
 use Rattle.bforest_core.proofs.rows.Tops.{root-stands}

@@ -1,13 +1,7 @@
 -- The entry where a path stands, taken out of its leaf, which has others.
 use Rattle.std.proofs.Common.{◌≡◌, ℕ, suc, ◌+◌, ◌≤◌, ◌<◌, Some, Option, List, [], ◌∷◌, ◌++◌, map, length, get_or, slice_get, refl, sym, ap, ◌∙◌, subst, append_assoc, length-append, arith}
-use Rattle.std.specs.List.{flat_map, remove}
-use Rattle.std.proofs.lemmas.List.{length-map}
-use Rattle.bforest_nodes.specs.Content.{Content, Leaf, without_entry}
-use Rattle.bforest_core.specs.Table.{Table}
-use Rattle.bforest_core.specs.Levels.{LevelNode, node, flat, heads, sizes, numbers, FitRow, Solid, Stacked, Tree, half_of}
-use Rattle.bforest_core.specs.Place.{RowIn, leaf_content, entry_keys, count, Distinct, numbers_of}
-use Rattle.bforest_core.specs.Climb.{Above}
-use Rattle.bforest_core.specs.Removal.{Rebuilt, StandsIn, LeafLoss}
+use Rattle.bforest_core.proofs.Words.{flat_map, remove, length-map, Content, Leaf, without_entry, Table, LevelNode, node, flat, heads, sizes, numbers, FitRow, Solid, Stacked, Tree, half_of, RowIn, leaf_content, entry_keys, count, Distinct}
+use Rattle.bforest_core.proofs.Words.{numbers_of, Above, Rebuilt, StandsIn, LeafLoss}
 use Rattle.bforest_core.proofs.rows.LevelRows.{flat-append, sizes-append, FitRow-split, Solid-full, least-pos}
 use Rattle.bforest_core.proofs.table.Tables.{count-append, counts, count-same, row-split, row-put, row-same, Puts}
 use Rattle.bforest_core.proofs.rows.Zipper.{cut, apart_here}

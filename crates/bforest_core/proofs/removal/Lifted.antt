@@ -1,12 +1,6 @@
 -- The rows above a level: in another table, and under a row whose keys were written.
 use Rattle.std.proofs.Common.{◌≡◌, ℕ, suc, ◌+◌, ◌<◌, ◌≤◌, List, [], ◌∷◌, ◌++◌, map, length, get_or, slice_get, refl, sym, ap, ◌∙◌, subst, length-append, arith}
-use Rattle.std.specs.List.{flat_map}
-use Rattle.bforest_nodes.specs.Content.{Content}
-use Rattle.bforest_core.specs.Table.{Table}
-use Rattle.bforest_core.specs.Levels.{LevelNode, node, flat, heads, head_of, sizes, numbers, FitRow, Stacked}
-use Rattle.bforest_core.specs.Place.{RowIn, inner_content, count, StandsAbove, Distinct}
-use Rattle.bforest_core.specs.Climb.{Above}
-use Rattle.bforest_core.specs.Removal.{Rebuilt, Frees}
+use Rattle.bforest_core.proofs.Words.{flat_map, Content, Table, LevelNode, node, flat, heads, head_of, sizes, numbers, FitRow, Stacked, RowIn, inner_content, count, StandsAbove, Distinct, Above, Rebuilt, Frees}
 use Rattle.bforest_core.proofs.rows.LevelRows.{least-pos, heads-append, sizes-append, FitRow-join}
 use Rattle.bforest_core.proofs.table.Tables.{count-append, count-same, counts, row-put, rows-same, ne_from_count, Puts}
 use Rattle.bforest_core.proofs.rows.Zipper.{Cut_above, facts, stands_here}

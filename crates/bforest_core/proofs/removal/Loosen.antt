@@ -1,11 +1,6 @@
 -- An entry taken out of the row above a level.
 use Rattle.std.proofs.Common.{◌≡◌, ℕ, suc, ◌+◌, ◌≤◌, List, [], ◌∷◌, ◌++◌, map, length, get_or, refl, sym, ap, ◌∙◌, subst, append_assoc, length-append, arith}
-use Rattle.std.specs.List.{flat_map}
-use Rattle.bforest_core.specs.Table.{Table}
-use Rattle.bforest_core.specs.Levels.{LevelNode, node, flat, heads, sizes, numbers}
-use Rattle.bforest_core.specs.Place.{RowIn, inner_content, count, StandsAbove}
-use Rattle.bforest_core.specs.Climb.{Above}
-use Rattle.bforest_core.specs.Removal.{Rebuilt, Loosened}
+use Rattle.bforest_core.proofs.Words.{flat_map, Table, LevelNode, node, flat, heads, sizes, numbers, RowIn, inner_content, count, StandsAbove, Above, Rebuilt, Loosened}
 use Rattle.bforest_core.proofs.rows.LevelRows.{flat-append, heads-append, sizes-append, least-pos}
 use Rattle.bforest_core.proofs.table.Tables.{counts, count-same, count-row, row-split, row-join, row-same, row-put, Puts}
 use Rattle.bforest_core.proofs.removal.Frees.{frees-puts, frees-then, frees-wider}

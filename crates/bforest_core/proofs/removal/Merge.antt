@@ -1,12 +1,6 @@
 -- An entry out of the rows above a level: its row rebalanced, then those above.
 use Rattle.std.proofs.Common.{◌≡◌, ℕ, zero, suc, ◌+◌, ◌≤◌, List, [], ◌∷◌, ◌++◌, map, length, get_or, Some, refl, sym, ap, ◌∙◌, subst, append_assoc, length-append, arith}
-use Rattle.std.specs.List.{flat_map}
-use Rattle.bforest_core.specs.Table.{Table}
-use Rattle.bforest_core.specs.Levels.{LevelNode, node, flat, heads, head_of, sizes, numbers, FitRow, Stacked}
-use Rattle.bforest_core.specs.Sizes.{rebalanced, loss_above}
-use Rattle.bforest_core.specs.Place.{RowIn, inner_content, count}
-use Rattle.bforest_core.specs.Climb.{nodes_up}
-use Rattle.bforest_core.specs.Removal.{Rebuilt, Loosened, Healed, Joined}
+use Rattle.bforest_core.proofs.Words.{flat_map, Table, LevelNode, node, flat, heads, head_of, sizes, numbers, FitRow, Stacked, rebalanced, loss_above, RowIn, inner_content, count, nodes_up, Rebuilt, Loosened, Healed, Joined}
 use Rattle.bforest_core.proofs.rows.LevelRows.{flat-append, heads-append, sizes-append, FitRow-split, Solid-full, least-pos}
 use Rattle.bforest_core.proofs.table.Tables.{count-append, count-same, counts, row-same}
 use Rattle.bforest_core.proofs.rows.Zipper.{stands_here}

@@ -1,11 +1,6 @@
 -- Looking for the right neighbour: each answer of `right_sibling` on a level is one of these.
 use Rattle.std.proofs.Common.{◌≡◌, ◌≢◌, ℕ, ◌+◌, ◌-◌, ◌≤◌, ◌<◌, Option, List, ◌∷◌, ◌++◌, length, drop, get_or, slice_get, Some, None, ap, ◌∙◌, arith, add-one}
-use Rattle.std.proofs.lemmas.List.{get_or_default}
-use Rattle.bforest_nodes.specs.Content.{Content, Inner, entry_count}
-use Rattle.bforest_core.specs.Table.{Table}
-use Rattle.bforest_core.specs.Levels.{LevelNode, heads}
-use Rattle.bforest_core.specs.Place.{inner_content, entry_keys, entry_items}
-use Rattle.bforest_core.specs.Climb.{Above, NextIs}
+use Rattle.bforest_core.proofs.Words.{get_or_default, Content, Inner, entry_count, Table, LevelNode, heads, inner_content, entry_keys, entry_items, Above, NextIs}
 use Rattle.bforest_core.proofs.rows.Zipper.{Spot, spot}
 use Rattle.bforest_core.proofs.table.Stored.{key_count, item_count}
 use Rattle.bforest_core.proofs.removal.Asked.{NodeAt, KeyAt, ChildAt, ReadsKey, ReadsChild, OneAbove, Beside}

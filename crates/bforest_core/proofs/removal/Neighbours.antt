@@ -1,12 +1,7 @@
 -- The right neighbour of a node, under the same parent or another; its key renewed; the path moved to it.
 use Rattle.std.proofs.Common.{◌≡◌, ℕ, suc, ◌+◌, ◌≤◌, ◌<◌, true, false, List, [], ◌∷◌, ◌++◌, map, length, drop, set, get_or, slice_get, Some, refl, sym, ap, ◌∙◌, subst, append_assoc, length-append, arith}
-use Rattle.std.specs.List.{flat_map}
-use Rattle.bforest_nodes.specs.Content.{Inner, with_key}
-use Rattle.bforest_core.specs.Table.{Table, with_node}
-use Rattle.bforest_core.specs.Levels.{LevelNode, node, flat, heads, head_of, sizes, numbers, FitRow}
-use Rattle.bforest_core.specs.Place.{RowIn, inner_content, StandsAbove, entry_keys, entry_items}
-use Rattle.bforest_core.specs.Climb.{Above, NextIs}
-use Rattle.bforest_core.specs.Removal.{Rebuilt}
+use Rattle.bforest_core.proofs.Words.{flat_map, Inner, with_key, Table, with_node, LevelNode, node, flat, heads, head_of, sizes, numbers, FitRow, RowIn, inner_content, StandsAbove, entry_keys, entry_items, Above, NextIs, Rebuilt, Bool}
+use Rattle.bforest_core.proofs.Words.{false, Over, Moved}
 use Rattle.bforest_core.proofs.rows.LevelRows.{flat-append, heads-append, head-is}
 use Rattle.bforest_core.proofs.table.Tables.{count-row, counts, row-split, row-join, row-same, Puts, puts}
 use Rattle.bforest_core.proofs.removal.Frees.{frees-wider}
@@ -16,8 +11,6 @@ use Rattle.bforest_core.proofs.removal.RemoveMerged.{Across, across_cut}
 use Rattle.bforest_core.proofs.removal.LeafLoss.{no_nodes}
 use Rattle.bforest_core.proofs.removal.Lifted.{NextNode, rows_above, lifted, renamed}
 use Rattle.bforest_core.proofs.rows.Zipper.{stands-same}
-use Rattle.std.specs.Prelude.{Bool, false}
-use Rattle.bforest_core.specs.Steps.{Over, Moved}
 use Rattle.bforest_core.proofs.table.Stored.{slice_get_at, some_same}
 
 second : {X Y : Type 0} (f : X → Y) (l : List X) (x y : X) (r : List X) → slice_get (map f (l ++ x ∷ y ∷ r)) (suc (length l)) ≡ Some (f y)

@@ -1,15 +1,8 @@
 -- After an entry went out of its leaf: whether the path is behind all entries, and the leaf as a level that may need healing.
 use Rattle.std.proofs.Common.{◌≡◌, ℕ, ◌≤◌, ◌<◌, Some, None, Option, Bool, true, false, not, List, [], ◌∷◌, ◌++◌, length, get_or, slice_get, refl, ap, ◌∙◌, subst, length-append, arith}
-use Rattle.std.specs.Option.{is_some}
-use Rattle.bforest_core.specs.Table.{Table}
-use Rattle.bforest_core.specs.Levels.{node, flat, head_of, heads, Tree, half_of}
-use Rattle.bforest_core.specs.Place.{leaf_content}
-use Rattle.bforest_core.specs.Climb.{Above, NextIs}
-use Rattle.bforest_core.specs.Removal.{LeafLoss, OnLevel}
+use Rattle.bforest_core.proofs.Words.{is_some, Table, node, flat, head_of, heads, Tree, half_of, leaf_content, Above, NextIs, LeafLoss, OnLevel, get_or_default, Content, entry_count}
 use Rattle.bforest_core.proofs.rows.LevelRows.{heads-append, HeadIs, head-is}
 use Rattle.bforest_core.proofs.table.Tables.{row-split}
-use Rattle.std.proofs.lemmas.List.{get_or_default}
-use Rattle.bforest_nodes.specs.Content.{Content, entry_count}
 use Rattle.bforest_core.proofs.removal.Asked.{NodeAt, OneAbove, Beside}
 use Rattle.bforest_core.proofs.removal.LeafLoss.{no_nodes, leaf_keys}
 use Rattle.bforest_core.proofs.removal.Collapse.{heads-flat}

@@ -1,14 +1,7 @@
 -- A node that lost an entry: it stays, or is balanced with its right neighbour.
 use Rattle.std.proofs.Common.{◌≡◌, ℕ, zero, suc, ◌+◌, ◌-◌, ◌*◌, ◌/◌, ◌≤◌, ◌<◌, ◌≢◌, ◌⊎◌, true, false, nat_le, List, [], ◌∷◌, ◌++◌, map, length, set, get_or, slice_get, Some, refl, sym, ap, ◌∙◌, subst, inl, inr, append_assoc, length-append, length-set, arith}
-use Rattle.std.specs.List.{flat_map}
-use Rattle.std.proofs.lemmas.List.{append-nil, get_or-set_other, get_or-set_same}
-use Rattle.bforest_nodes.specs.Content.{Content, Free}
-use Rattle.bforest_core.specs.Table.{Table, with_freed, front_of}
-use Rattle.bforest_core.specs.Levels.{LevelNode, node, flat, heads, head_of, sizes, numbers, FitRow, Stacked, least}
-use Rattle.bforest_core.specs.Sizes.{rebalanced}
-use Rattle.bforest_core.specs.Place.{RowIn, count, Distinct}
-use Rattle.bforest_core.specs.Climb.{Above, SameBelow, top_of}
-use Rattle.bforest_core.specs.Removal.{Rebuilt, OnLevel, Healed, Joined}
+use Rattle.bforest_core.proofs.Words.{flat_map, append-nil, get_or-set_other, get_or-set_same, Content, Free, Table, with_freed, front_of, LevelNode, node, flat, heads, head_of, sizes, numbers, FitRow, Stacked, least, rebalanced, RowIn}
+use Rattle.bforest_core.proofs.Words.{count, Distinct, Above, SameBelow, top_of, Rebuilt, OnLevel, Healed, Joined}
 use Rattle.bforest_core.proofs.rows.LevelRows.{flat-append, heads-append, sizes-append, numbers-append, FitRow-join, least-le, Solid-more}
 use Rattle.bforest_core.proofs.table.Tables.{count-append, counts, count-same, count-row, row-same, row-put_two, row-drop_put, rows-same, ne_from_count, absent_ne, slice_get-set_apart}
 use Rattle.bforest_core.proofs.removal.Frees.{frees-refl}

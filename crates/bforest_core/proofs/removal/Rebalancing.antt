@@ -1,12 +1,6 @@
 -- Settling a level, with what the calls on the way say: each answer of `rebalance_leaf` and `rebalance_inner` is one of these.
 use Rattle.std.proofs.Common.{◌≡◌, suc, ◌≤◌, ◌<◌, ◌≢◌, List, ◌∷◌, ◌++◌, length, set, get_or, slice_get, Some, None, Option, sym, ap, ◌∙◌, subst, inl, arith, ℕ}
-use Rattle.std.proofs.lemmas.List.{get_or_default}
-use Rattle.bforest_nodes.specs.Content.{Content, entry_count}
-use Rattle.bforest_core.specs.Table.{Table, IsUsed, IsUnderflowedAt, IsBalancedAt, with_freed}
-use Rattle.bforest_core.specs.Levels.{LevelNode, heads}
-use Rattle.bforest_core.specs.Place.{count}
-use Rattle.bforest_core.specs.Climb.{Above, NextIs, SameBelow, top_of}
-use Rattle.bforest_core.specs.Removal.{OnLevel, Healed, Joined}
+use Rattle.bforest_core.proofs.Words.{get_or_default, Content, entry_count, Table, IsUsed, IsUnderflowedAt, IsBalancedAt, with_freed, LevelNode, heads, count, Above, NextIs, SameBelow, top_of, OnLevel, Healed, Joined}
 use Rattle.bforest_core.proofs.table.Tables.{is_used}
 use Rattle.bforest_core.proofs.removal.Balance.{IsHalf, IsStored, AllRight, Spread}
 use Rattle.bforest_core.proofs.removal.Asked.{NodeAt, OneAbove, NextAbove, TwoAbove, Beside, Rekeys, Enters}

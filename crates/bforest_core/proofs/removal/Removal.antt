@@ -1,17 +1,7 @@
 -- What a removal from the tree under a root says of the table.
 use Rattle.std.proofs.Common.{◌≡◌, ◌≢◌, ℕ, zero, suc, ◌+◌, ◌≤◌, ◌<◌, ◌↔◌, Option, Some, None, IfSome, List, [], ◌∷◌, ◌++◌, length, get_or, refl, sym, ap, ◌∙◌, subst, inl, inr, append_assoc, length-append, arith}
-use Rattle.std.specs.List.{remove}
-use Rattle.std.proofs.lemmas.Bool.Decides.{eqb_tells}
-use Rattle.std.proofs.lemmas.List.{length-map}
-use Rattle.bforest_nodes.specs.Content.{Content}
-use Rattle.bforest_core.specs.Table.{Table}
-use Rattle.bforest_core.specs.Levels.{node, flat, sizes, Tree, sizes_of}
-use Rattle.bforest_core.specs.Climb.{nodes_up}
-use Rattle.bforest_core.specs.Sizes.{shrink}
-use Rattle.bforest_core.specs.Place.{leaf_content, count, root_of, numbers_of, Stands}
-use Rattle.bforest_core.specs.Trees.{tree_of, IsUnion}
-use Rattle.bforest_core.specs.Change.{Changes, Ends, GivesInOrder, GivesNodes, StandsUnder, node_count}
-use Rattle.bforest_core.specs.Removal.{StandsIn, Removed, Emptied}
+use Rattle.bforest_core.proofs.Words.{remove, eqb_tells, length-map, Content, Table, node, flat, sizes, Tree, sizes_of, nodes_up, shrink, leaf_content, count, root_of, numbers_of, Stands, tree_of, IsUnion, Changes, Ends, GivesInOrder}
+use Rattle.bforest_core.proofs.Words.{GivesNodes, StandsUnder, node_count, StandsIn, Removed, Emptied}
 use Rattle.bforest_core.proofs.rows.LevelRows.{flat-append}
 use Rattle.bforest_core.proofs.table.Tables.{count-append}
 use Rattle.bforest_core.proofs.union.Forests.{root-among}

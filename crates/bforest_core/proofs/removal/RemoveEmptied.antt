@@ -1,14 +1,7 @@
 -- The right-most node of a level went: its entry goes, and the nodes that this leaves empty.
 use Rattle.std.proofs.Common.{◌≡◌, ℕ, suc, ◌+◌, ◌-◌, ◌≤◌, ◌≢◌, List, [], ◌∷◌, ◌++◌, map, length, get_or, Some, refl, sym, ap, ◌∙◌, subst, append_assoc, length-append, arith}
-use Rattle.std.specs.List.{flat_map}
-use Rattle.std.proofs.lemmas.List.{append-nil}
-use Rattle.bforest_nodes.specs.Content.{without_child}
-use Rattle.bforest_core.specs.Table.{Table, with_node, with_freed}
-use Rattle.bforest_core.specs.Levels.{LevelNode, node, flat, heads, sizes, numbers, FitRow, Solid, Stacked}
-use Rattle.bforest_core.specs.Sizes.{loss_above}
-use Rattle.bforest_core.specs.Place.{RowIn, inner_content, count, StandsAbove, root_above}
-use Rattle.bforest_core.specs.Climb.{Above, top_of}
-use Rattle.bforest_core.specs.Removal.{Dropped}
+use Rattle.bforest_core.proofs.Words.{flat_map, append-nil, without_child, Table, with_node, with_freed, LevelNode, node, flat, heads, sizes, numbers, FitRow, Solid, Stacked, loss_above, RowIn, inner_content, count, StandsAbove, root_above}
+use Rattle.bforest_core.proofs.Words.{Above, top_of, Dropped}
 use Rattle.bforest_core.proofs.rows.LevelRows.{flat-append, heads-append, sizes-append, FitRow-join, FitRow-split, Solid-full, least-pos}
 use Rattle.bforest_core.proofs.table.Tables.{count-append, counts, count-same, row-split, row-put, row-same, rows-same, ne_from_count, puts}
 use Rattle.bforest_core.proofs.removal.Frees.{frees-puts, freed_other, frees-first}

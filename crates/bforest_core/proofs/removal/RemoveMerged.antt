@@ -1,11 +1,6 @@
 -- The steps of `remove_merged`, over plain values.
 use Rattle.std.proofs.Common.{◌≡◌, ℕ, suc, ◌+◌, ◌-◌, ◌≤◌, ◌<◌, List, [], ◌∷◌, ◌++◌, map, length, drop, set, get_or, slice_get, Some, refl, sym, ap, ◌∙◌, subst, length-append, arith}
-use Rattle.bforest_nodes.specs.Content.{Inner, without_child}
-use Rattle.bforest_core.specs.Table.{Table, with_node}
-use Rattle.bforest_core.specs.Levels.{LevelNode, node, flat, heads, sizes, FitRow}
-use Rattle.bforest_core.specs.Place.{inner_content, StandsAbove, entry_keys, entry_items}
-use Rattle.bforest_core.specs.Climb.{Above}
-use Rattle.bforest_core.specs.Removal.{Rebuilt, Loosened}
+use Rattle.bforest_core.proofs.Words.{Inner, without_child, Table, with_node, LevelNode, node, flat, heads, sizes, FitRow, inner_content, StandsAbove, entry_keys, entry_items, Above, Rebuilt, Loosened}
 use Rattle.bforest_core.proofs.rows.LevelRows.{heads-append, least-pos}
 use Rattle.bforest_core.proofs.table.Tables.{puts, puts-then}
 use Rattle.bforest_core.proofs.rows.Zipper.{Cut_above, facts, Spot}

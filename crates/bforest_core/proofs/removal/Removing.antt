@@ -1,11 +1,7 @@
 -- An entry out of a tree, put together from the calls that take it out.
 use Rattle.std.proofs.Common.{◌≡◌, suc, ◌+◌, Some, List, ◌∷◌, ◌++◌, ◌≤◌, ◌⊎◌, inr, map, length, get_or, refl, sym, ap, ◌∙◌, subst, length-append, arith, ℕ, []}
-use Rattle.bforest_core.specs.Table.{Table}
-use Rattle.bforest_core.specs.Levels.{LevelNode, node, flat, heads, sizes, numbers, FitRow, Tree, half_of}
-use Rattle.bforest_core.specs.Sizes.{loss_above}
-use Rattle.bforest_core.specs.Place.{leaf_content, root_of, IsPathAt}
-use Rattle.bforest_core.specs.Climb.{nodes_up, Above}
-use Rattle.bforest_core.specs.Removal.{Rebuilt, Healed, Joined, UpTo, Trimmed, StandsIn, LeafLoss, Removed}
+use Rattle.bforest_core.proofs.Words.{Table, LevelNode, node, flat, heads, sizes, numbers, FitRow, Tree, half_of, loss_above, leaf_content, root_of, IsPathAt, nodes_up, Above, Rebuilt, Healed, Joined, UpTo, Trimmed, StandsIn, LeafLoss}
+use Rattle.bforest_core.proofs.Words.{Removed}
 use Rattle.bforest_core.proofs.rows.LevelRows.{flat-append}
 use Rattle.bforest_core.proofs.walks.Steps.{fit_full}
 use Rattle.bforest_core.proofs.rows.Tops.{root-stands}

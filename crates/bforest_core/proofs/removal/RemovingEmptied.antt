@@ -1,13 +1,6 @@
 -- The right-most node of a row goes: each answer of `remove_emptied` is one of these.
 use Rattle.std.proofs.Common.{◌≡◌, ◌≢◌, ℕ, suc, ◌-◌, ◌≤◌, ◌<◌, List, [], ◌∷◌, ◌++◌, map, length, drop, get_or, slice_get, Some, sym, ap, ◌∙◌, subst, arith, length-append}
-use Rattle.std.proofs.lemmas.List.{get_or_default}
-use Rattle.bforest_nodes.specs.Content.{Content, entry_count}
-use Rattle.bforest_core.specs.Table.{Table, IsUsed, with_freed}
-use Rattle.bforest_core.specs.Levels.{LevelNode, heads, sizes}
-use Rattle.bforest_core.specs.Place.{inner_content, entry_keys, entry_items}
-use Rattle.bforest_core.specs.Sizes.{loss_above}
-use Rattle.bforest_core.specs.Climb.{nodes_up, Above}
-use Rattle.bforest_core.specs.Removal.{Dropped}
+use Rattle.bforest_core.proofs.Words.{get_or_default, Content, entry_count, Table, IsUsed, with_freed, LevelNode, heads, sizes, inner_content, entry_keys, entry_items, loss_above, nodes_up, Above, Dropped}
 use Rattle.bforest_core.proofs.table.Tables.{is_used}
 use Rattle.bforest_core.proofs.rows.Zipper.{Spot, spot, above_two}
 use Rattle.bforest_core.proofs.table.Stored.{item_count}

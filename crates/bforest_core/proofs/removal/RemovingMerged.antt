@@ -1,12 +1,6 @@
 -- Taking an entry out of a row, and giving the next one its key: each answer of `remove_merged` is one of these.
 use Rattle.std.proofs.Common.{◌≡◌, ℕ, suc, ◌+◌, ◌-◌, ◌≤◌, ◌<◌, List, [], ◌∷◌, ◌++◌, map, length, drop, set, get_or, slice_get, Some, refl, sym, ap, ◌∙◌, subst, arith}
-use Rattle.std.proofs.lemmas.List.{get_or_default}
-use Rattle.bforest_nodes.specs.Content.{Content, entry_count, with_key}
-use Rattle.bforest_core.specs.Table.{Table, IsUsed, with_node}
-use Rattle.bforest_core.specs.Levels.{LevelNode, heads, sizes}
-use Rattle.bforest_core.specs.Place.{inner_content, entry_keys, entry_items, count}
-use Rattle.bforest_core.specs.Climb.{Above}
-use Rattle.bforest_core.specs.Removal.{Rebuilt, Loosened}
+use Rattle.bforest_core.proofs.Words.{get_or_default, Content, entry_count, with_key, Table, IsUsed, with_node, LevelNode, heads, sizes, inner_content, entry_keys, entry_items, count, Above, Rebuilt, Loosened}
 use Rattle.bforest_core.proofs.table.Tables.{Puts, is_used, puts}
 use Rattle.bforest_core.proofs.rows.Zipper.{Spot, spot, above_two}
 use Rattle.bforest_core.proofs.table.Stored.{key_count, item_count}

@@ -1,12 +1,6 @@
 -- Renewing the key between two neighbours: each answer of `update_next_separator` is one of these.
 use Rattle.std.proofs.Common.{◌≡◌, ℕ, ◌+◌, ◌-◌, ◌≤◌, ◌<◌, List, [], ◌∷◌, ◌++◌, map, length, drop, get_or, slice_get, Some, sym, ap, ◌∙◌, subst, arith, add-one}
-use Rattle.std.proofs.lemmas.List.{get_or_default}
-use Rattle.bforest_nodes.specs.Content.{Content, entry_count, with_key}
-use Rattle.bforest_core.specs.Table.{Table, IsUsed, with_node}
-use Rattle.bforest_core.specs.Levels.{LevelNode, heads, sizes}
-use Rattle.bforest_core.specs.Place.{inner_content, entry_keys, entry_items}
-use Rattle.bforest_core.specs.Climb.{Above}
-use Rattle.bforest_core.specs.Removal.{Rebuilt}
+use Rattle.bforest_core.proofs.Words.{get_or_default, Content, entry_count, with_key, Table, IsUsed, with_node, LevelNode, heads, sizes, inner_content, entry_keys, entry_items, Above, Rebuilt}
 use Rattle.bforest_core.proofs.table.Tables.{is_used}
 use Rattle.bforest_core.proofs.rows.Zipper.{Spot, spot, above_two}
 use Rattle.bforest_core.proofs.table.Stored.{key_count, item_count}

@@ -1,12 +1,6 @@
 -- The first key of a node renewed in the rows above its level.
 use Rattle.std.proofs.Common.{◌≡◌, ℕ, suc, ◌-◌, ◌≤◌, ◌<◌, List, [], ◌∷◌, ◌++◌, map, length, drop, set, get_or, refl, sym, ap, ◌∙◌, subst, append_assoc, length-append, arith}
-use Rattle.std.specs.List.{flat_map}
-use Rattle.bforest_nodes.specs.Content.{Inner, with_key}
-use Rattle.bforest_core.specs.Table.{Table, with_node}
-use Rattle.bforest_core.specs.Levels.{LevelNode, node, flat, heads, sizes, numbers}
-use Rattle.bforest_core.specs.Place.{RowIn, inner_content, StandsAbove, entry_keys, entry_items}
-use Rattle.bforest_core.specs.Climb.{Above}
-use Rattle.bforest_core.specs.Removal.{Rebuilt}
+use Rattle.bforest_core.proofs.Words.{flat_map, Inner, with_key, Table, with_node, LevelNode, node, flat, heads, sizes, numbers, RowIn, inner_content, StandsAbove, entry_keys, entry_items, Above, Rebuilt}
 use Rattle.bforest_core.proofs.rows.LevelRows.{flat-append, heads-append}
 use Rattle.bforest_core.proofs.table.Tables.{count-row, counts, row-split, row-join, row-same, puts}
 use Rattle.bforest_core.proofs.removal.Frees.{frees-refl, frees-wider}

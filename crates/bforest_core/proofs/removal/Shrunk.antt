@@ -1,13 +1,7 @@
 -- A tree after an entry went, before roots with a single child go, and after.
 use Rattle.std.proofs.Common.{◌≡◌, zero, suc, ◌+◌, ◌≤◌, ◌<◌, Some, List, ◌∷◌, ◌++◌, ◌⊎◌, map, length, get_or, refl, sym, ap, ◌∙◌, subst, append_assoc, length-append, arith, ℕ, []}
-use Rattle.std.specs.List.{flat_map, remove}
-use Rattle.std.proofs.lemmas.List.Concat.{flat_map-append}
-use Rattle.bforest_core.specs.Table.{Table}
-use Rattle.bforest_core.specs.Levels.{LevelNode, node, flat, head_of, heads, sizes, numbers, FitRow, Stacked, Tree, half_of}
-use Rattle.bforest_core.specs.Sizes.{rebalanced, loss, loss_above, trimmed}
-use Rattle.bforest_core.specs.Place.{RowIn, RowsIn, leaf_content, count, root_above, root_of, numbers_of, StandsAbove, Stands, IsPathAt}
-use Rattle.bforest_core.specs.Climb.{nodes_up}
-use Rattle.bforest_core.specs.Removal.{Frees, Rebuilt, Healed, Joined, UpTo, Trimmed, StandsIn, LeafLoss, Removed}
+use Rattle.bforest_core.proofs.Words.{flat_map, remove, flat_map-append, Table, LevelNode, node, flat, head_of, heads, sizes, numbers, FitRow, Stacked, Tree, half_of, rebalanced, loss, loss_above, trimmed, RowIn, RowsIn, leaf_content}
+use Rattle.bforest_core.proofs.Words.{count, root_above, root_of, numbers_of, StandsAbove, Stands, IsPathAt, nodes_up, Frees, Rebuilt, Healed, Joined, UpTo, Trimmed, StandsIn, LeafLoss, Removed}
 use Rattle.bforest_core.proofs.rows.LevelRows.{flat-append, heads-append, sizes-append, FitRow-split, FitRow-join, Solid-full, least-pos}
 use Rattle.bforest_core.proofs.walks.Steps.{fit_full}
 use Rattle.bforest_core.proofs.table.Tables.{count-append, count-same, counts, row-same, rows-same}

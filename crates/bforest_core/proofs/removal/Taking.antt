@@ -1,12 +1,7 @@
 -- The leaf where a path stands, as the code reads it, and its entry taken out: the answers of `remove`, `remove_only` and `take_entry` are these.
 use Rattle.std.proofs.Common.{◌≡◌, ◌≢◌, ℕ, suc, ◌≤◌, ◌<◌, Some, List, [], ◌∷◌, ◌++◌, map, length, get_or, slice_get, refl, sym, ap, ◌∙◌, subst, length-append, arith}
-use Rattle.std.proofs.lemmas.List.{get_or_default}
-use Rattle.bforest_nodes.specs.Content.{Content, Leaf, entry_count, without_entry}
-use Rattle.bforest_core.specs.Table.{Table, IsUsed, with_node}
-use Rattle.bforest_core.specs.Levels.{LevelNode, node, heads, head_of, sizes, Tree}
-use Rattle.bforest_core.specs.Place.{leaf_content, entry_keys, entry_items}
-use Rattle.bforest_core.specs.Climb.{Above}
-use Rattle.bforest_core.specs.Removal.{Rebuilt, StandsIn, LeafLoss}
+use Rattle.bforest_core.proofs.Words.{get_or_default, Content, Leaf, entry_count, without_entry, Table, IsUsed, with_node, LevelNode, node, heads, head_of, sizes, Tree, leaf_content, entry_keys, entry_items, Above, Rebuilt, StandsIn}
+use Rattle.bforest_core.proofs.Words.{LeafLoss}
 use Rattle.bforest_core.proofs.table.Stored.{some_same}
 use Rattle.bforest_core.proofs.table.Tables.{is_used, Puts, puts}
 use Rattle.bforest_core.proofs.removal.Asked.{NodeAt}

@@ -1,10 +1,7 @@
 -- Bounds on leaves, on levels and on nodes.
 use Rattle.std.proofs.Common.{◌≡◌, ℕ, suc, ◌+◌, ◌*◌, ◌^◌, ◌≤◌, ◌<◌, ◌-◌, nat_lt, true, false, Option, Some, None, List, [], ◌∷◌, ◌++◌, map, length, refl, sym, ap, ◌∙◌, inl, inr, subst, length-append, arith}
-use Rattle.std.proofs.lemmas.Bool.{cases_lt}
+use Rattle.bforest_core.proofs.Words.{cases_lt, length-map, LevelNode, node, flat, heads, sizes, FitRow, Stacked, Topped, inner_gain, gain_above}
 use Rattle.std.proofs.Math.Nat.{mul-le-mul_left, pow-succ'}
-use Rattle.std.proofs.lemmas.List.{length-map}
-use Rattle.bforest_core.specs.Levels.{LevelNode, node, flat, heads, sizes, FitRow, Stacked, Topped}
-use Rattle.bforest_core.specs.Sizes.{inner_gain, gain_above}
 use Rattle.bforest_core.proofs.walks.Steps.{fit_full}
 
 -- a row has more entries than its nodes but the last would have at half

@@ -1,10 +1,6 @@
 -- What an inner node holds after a child was taken out.
 use Rattle.std.proofs.Common.{◌≡◌, ℕ, zero, suc, ◌-◌, ◌≤◌, List, [], ◌∷◌, ◌++◌, length, drop, set, slice_get, Some, refl, sym, ap, ◌∙◌, inl, inr, append_assoc, length-append, arith}
-use Rattle.std.specs.List.{remove}
-use Rattle.std.proofs.lemmas.List.{append-nil, length-map, map-append, set_at}
-use Rattle.std.proofs.lemmas.Bool.Decides.{eqb_tells}
-use Rattle.bforest_nodes.specs.Content.{Inner, without_child}
-use Rattle.bforest_core.specs.Place.{inner_content, entry_keys, entry_items}
+use Rattle.bforest_core.proofs.Words.{remove, append-nil, length-map, map-append, set_at, eqb_tells, Inner, without_child, inner_content, entry_keys, entry_items}
 use Rattle.bforest_core.proofs.table.Stored.{slice_get_at, some_same}
 
 -- an item taken out between two lists

@@ -1,15 +1,6 @@
 -- Counting numbers: lists in which each number stands as often, and what the slots of a table name.
 use Rattle.std.proofs.Common.{◌≡◌, ℕ, zero, suc, ◌+◌, ◌≤◌, ◌<◌, ◌↔◌, IsTrue, nat_eq, nat_lt, if◌then◌else◌, true, false, List, [], ◌∷◌, ◌++◌, length, take, drop, slice_get, Some, None, refl, sym, ap, ◌∙◌, inl, inr, length-append, arith}
-use Rattle.std.specs.List.{flat_map, list_any, sum_by}
-use Rattle.std.proofs.lemmas.List.Sums.{sum_by-cons, sum_by-append}
-use Rattle.std.proofs.lemmas.List.{take_all}
-use Rattle.std.proofs.lemmas.List.Concat.{flat_map-append}
-use Rattle.std.proofs.lemmas.Bool.{cases_lt}
-use Rattle.std.proofs.lemmas.Bool.Decides.{eqb_tells}
-use Rattle.std.proofs.lemmas.Option.{slice_get-get_or}
-use Rattle.bforest_nodes.specs.Content.{Content, Free, children_of}
-use Rattle.bforest_core.specs.Place.{count}
-use Rattle.bforest_core.specs.Trees.{slot}
+use Rattle.bforest_core.proofs.Words.{flat_map, list_any, sum_by, sum_by-cons, sum_by-append, take_all, flat_map-append, cases_lt, eqb_tells, slice_get-get_or, Content, Free, children_of, count, slot}
 use Rattle.bforest_nodes.proofs.Seams.{around, last_taken}
 use Rattle.bforest_core.proofs.table.Tables.{count-append, count-same, count-other}
 

@@ -1,15 +1,7 @@
 -- How many nodes an insertion needs, counted from the leaf upwards.
 use Rattle.std.proofs.Common.{◌≡◌, ℕ, suc, ◌+◌, ◌≤◌, ◌<◌, ◌≢◌, IsTrue, true, false, Bool, add-one, ◌↔◌, List, [], ◌∷◌, ◌++◌, map, length, get_or, slice_get, Some, None, refl, sym, ap, ◌∙◌, subst, arith}
-use Rattle.std.specs.List.{flat_map}
-use Rattle.std.proofs.lemmas.Bool.{false≢true}
-use Rattle.std.proofs.lemmas.List.{get_or_default}
-use Rattle.std.proofs.lemmas.Option.{slice_get_within}
-use Rattle.bforest_nodes.specs.Content.{Content, IsFree, entry_count, entry_capacity}
-use Rattle.bforest_core.specs.Table.{Table}
-use Rattle.bforest_core.specs.Levels.{LevelNode, node, flat, heads, sizes, sizes_of, numbers, Tree}
-use Rattle.bforest_core.specs.Sizes.{inner_gain, leaf_gain, need, need_above}
-use Rattle.bforest_core.specs.Place.{count, inner_content, leaf_content}
-use Rattle.bforest_core.specs.Climb.{Above, Placed}
+use Rattle.bforest_core.proofs.Words.{flat_map, false≢true, get_or_default, slice_get_within, Content, IsFree, entry_count, entry_capacity, Table, LevelNode, node, flat, heads, sizes, sizes_of, numbers, Tree, inner_gain, leaf_gain, need}
+use Rattle.bforest_core.proofs.Words.{need_above, count, inner_content, leaf_content, Above, Placed}
 use Rattle.bforest_core.proofs.rows.LevelRows.{sizes-append}
 use Rattle.bforest_core.proofs.table.Tables.{count-append}
 use Rattle.bforest_core.proofs.insertion.Grow.{gain_some, gain_room}

@@ -1,9 +1,6 @@
 -- The node on the top level of a path that stands in a tree is the tree's root.
 use Rattle.std.proofs.Common.{◌≡◌, ℕ, suc, ◌+◌, ◌-◌, ◌≤◌, ◌<◌, List, [], ◌∷◌, ◌++◌, length, get_or, refl, sym, ap, ◌∙◌, subst, length-append, arith}
-use Rattle.bforest_core.specs.Table.{Table}
-use Rattle.bforest_core.specs.Levels.{LevelNode, node, heads, FitRow, Stacked, Tree, IsFit, half_of}
-use Rattle.bforest_core.specs.Place.{first_number, root_above, root_of, StandsAbove, Stands, PointsAt}
-use Rattle.bforest_core.specs.Climb.{Above, top_of}
+use Rattle.bforest_core.proofs.Words.{Table, LevelNode, node, heads, FitRow, Stacked, Tree, IsFit, half_of, first_number, root_above, root_of, StandsAbove, Stands, PointsAt, Above, top_of}
 use Rattle.bforest_core.proofs.rows.LevelRows.{heads-append, FitRow-split, least-pos}
 
 -- a level of one node

@@ -1,10 +1,6 @@
 -- The parent of a level's entry on the path: the rows above the level, cut there.
 use Rattle.std.proofs.Common.{◌≡◌, ℕ, zero, suc, ◌+◌, ◌≤◌, ◌<◌, List, [], ◌∷◌, ◌++◌, length, get_or, slice_get, Some, refl, sym, ap, ◌∙◌, subst, append_assoc, length-append, arith}
-use Rattle.std.specs.List.{flat_map}
-use Rattle.bforest_core.specs.Table.{Table}
-use Rattle.bforest_core.specs.Levels.{LevelNode, node, flat, heads, numbers, FitRow, Solid}
-use Rattle.bforest_core.specs.Place.{RowIn, inner_content, count, Distinct, StandsAbove}
-use Rattle.bforest_core.specs.Climb.{Above}
+use Rattle.bforest_core.proofs.Words.{flat_map, Table, LevelNode, node, flat, heads, numbers, FitRow, Solid, RowIn, inner_content, count, Distinct, StandsAbove, Above}
 use Rattle.bforest_core.proofs.rows.LevelRows.{flat-append, FitRow-split, Solid-full}
 use Rattle.bforest_core.proofs.table.Tables.{count-append, count-same, count-row, row-split}
 

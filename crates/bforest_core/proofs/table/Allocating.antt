@@ -1,10 +1,8 @@
 -- Taking a free node, and making sure that there are some, over plain values.
 use Rattle.std.proofs.Common.{◌≡◌, ℕ, zero, suc, ◌-◌, ◌≤◌, ◌<◌, List, length, length-set, append-nil, Some, Result, Ok, Err, IsErrAnd, sym, ap, ◌∙◌, arith}
-use Rattle.std.proofs.lemmas.Result.{err_from_is_err_and}
-use Rattle.bforest_nodes.specs.Content.{Content}
+use Rattle.bforest_core.proofs.Words.{err_from_is_err_and, Content, Table, IsUsed, NeedsGrowth, room, reserved, with_slots, front_of, with_node, with_front, without_front}
 use Rattle.bforest_core.specs.declared.pool.OutOfMemory.{OutOfMemory}
 use Rattle.bforest_core.specs.declared.pool.OutOfMemory.TheVariants.{Full, Memory}
-use Rattle.bforest_core.specs.Table.{Table, IsUsed, NeedsGrowth, room, reserved, with_slots, front_of, with_node, with_front, without_front}
 use Rattle.bforest_core.proofs.table.Fronts.{with_front-is}
 
 -- what the exit of a `?` returns

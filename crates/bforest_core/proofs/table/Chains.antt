@@ -1,14 +1,7 @@
 -- Chains of free nodes: how each change of the slots keeps them.
 use Rattle.std.proofs.Common.{◌≡◌, ◌≢◌, inl, inr, ℕ, ◌+◌, ◌<◌, ◌≤◌, ◌==◌, zero, suc, true, false, List, [], ◌∷◌, ◌++◌, length, set, nat_eq, Some, None, Option, refl, slice_get, sym, ap, ◌∙◌, subst, arith, append_assoc, append-nil}
-use Rattle.std.specs.List.{list_any, IsDistinct, AllByRecursion}
-use Rattle.std.proofs.lemmas.List.{length-append, length_push}
-use Rattle.std.proofs.lemmas.Option.{slice_get_within}
-use Rattle.std.proofs.lemmas.Bool.{or_parts}
-use Rattle.std.proofs.lemmas.Bool.Decides.{Decides-eqb, not_from_Decides, eqb_tells}
-use Rattle.std.proofs.lemmas.Map.Keys.{IsDistinct-cons}
-use Rattle.bforest_nodes.specs.Content.{Content, Free}
-use Rattle.bforest_core.specs.Chain.{chain_from, IsChain}
-use Rattle.bforest_core.specs.Table.{IsFreeAt, front_of, down_from, front_of_new, fresh_nodes}
+use Rattle.bforest_core.proofs.Words.{list_any, IsDistinct, AllByRecursion, length-append, length_push, slice_get_within, or_parts, Decides-eqb, not_from_Decides, eqb_tells, IsDistinct-cons, Content, Free, chain_from, IsChain, IsFreeAt}
+use Rattle.bforest_core.proofs.Words.{front_of, down_from, front_of_new, fresh_nodes}
 use Rattle.bforest_core.proofs.table.Lists.{slice_get-append_left, slice_get-push, slice_get-set_other, slice_get-set_same}
 
 -- numbers that are not equal are apart

@@ -1,9 +1,6 @@
 -- Tables whose front left the chain, and a table with no slots.
 use Rattle.std.proofs.Common.{◌≡◌, ℕ, false, List, [], ◌∷◌, nat_eq, Some, refl, ◌∙◌, arith}
-use Rattle.std.specs.List.{list_any}
-use Rattle.std.proofs.lemmas.Bool.{or_parts}
-use Rattle.bforest_nodes.specs.Content.{Content}
-use Rattle.bforest_core.specs.Table.{Table, front_of, with_node, without_front, with_front}
+use Rattle.bforest_core.proofs.Words.{list_any, or_parts, Content, Table, front_of, with_node, without_front, with_front}
 
 module _ {K V : Type 0} where
   -- the slots are as before

@@ -1,7 +1,7 @@
 -- Lists that are read, written and cut: no word of nodes.
 use Rattle.std.proofs.Common.{◌≡◌, ◌≢◌, ℕ, ◌+◌, ◌-◌, ◌<◌, ◌≤◌, List, [], ◌∷◌, ◌++◌, zero, suc, length, set, take, drop, remove, slice_get, slice_set, get_or, None, Some, refl, sym, ap, ◌∙◌, arith, length-set}
-use Rattle.std.proofs.lemmas.List.{length-append, get_or-set_same, get_or-set_other, get_or_append_left, set-append_left, set-append_right, drop_all, take_all, append-nil}
-use Rattle.std.proofs.lemmas.Option.{slice_get_within, slice_get-get_or, get_or_from_slice_get, slice_get_read}
+use Rattle.bforest_core.proofs.Words.{length-append, get_or-set_same, get_or-set_other, get_or_append_left, set-append_left, set-append_right, drop_all, take_all, append-nil, slice_get_within, slice_get-get_or, get_or_from_slice_get}
+use Rattle.bforest_core.proofs.Words.{slice_get_read}
 
 module _ {X : Type 0} where
   -- an element after the first list

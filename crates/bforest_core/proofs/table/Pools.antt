@@ -1,13 +1,7 @@
 -- What a `NodePool` keeps of its slots: how each change of them keeps it.
 use Rattle.std.proofs.Common.{◌≡◌, ℕ, ◌+◌, ◌-◌, ◌<◌, ◌≤◌, zero, suc, false, List, [], ◌∷◌, ◌++◌, length, set, slice_get, nat_eq, Some, None, Option, refl, ap, ◌∙◌, subst, arith, length-set}
-use Rattle.std.specs.List.{list_any, IsDistinct}
-use Rattle.std.specs.Option.{IsSome}
-use Rattle.std.proofs.lemmas.List.{length-append}
-use Rattle.std.proofs.lemmas.Map.Keys.{IsDistinct-tail, IsDistinct-head}
-use Rattle.std.proofs.lemmas.Map.Steps.{length-le_from_distinct_below}
-use Rattle.bforest_nodes.specs.Content.{Content, Free, IsLeafCapacity}
-use Rattle.bforest_core.specs.Chain.{next_of, chain_from, IsChain, IsPool}
-use Rattle.bforest_core.specs.Table.{Table, IsUsed, down_from, front_of_new, fresh_nodes}
+use Rattle.bforest_core.proofs.Words.{list_any, IsDistinct, IsSome, length-append, IsDistinct-tail, IsDistinct-head, length-le_from_distinct_below, Content, Free, IsLeafCapacity, next_of, chain_from, IsChain, IsPool, Table, IsUsed}
+use Rattle.bforest_core.proofs.Words.{down_from, front_of_new, fresh_nodes}
 use Rattle.bforest_core.proofs.table.Chains.{none_apart, IsDistinct-front, length-fresh_nodes, length-down_from, chain_from-is, length-chain_from-none, IsChain-set, IsChain-below, IsChain-fresh, IsChain-freed, IsDistinct-fresh}
 
 module _ {K V : Type 0} where

@@ -1,12 +1,7 @@
 -- A tree that lies in a table is the one that is computed from the table at its root.
 use Rattle.std.proofs.Common.{◌≡◌, ℕ, suc, ◌+◌, ◌-◌, ◌≤◌, List, [], ◌∷◌, ◌++◌, map, length, take, drop, slice_get, Some, None, refl, sym, ap, ◌∙◌, arith}
-use Rattle.std.specs.List.{flat_map, zip}
-use Rattle.std.proofs.lemmas.List.{length-map, map-append, take_at, drop_at}
-use Rattle.std.proofs.lemmas.Option.{get_or_from_slice_get}
-use Rattle.bforest_nodes.specs.Content.{Content, Free, children_of}
-use Rattle.bforest_core.specs.Levels.{LevelNode, node, flat, heads, numbers, FitRow, Stacked, Tree, IsFit, half_of}
-use Rattle.bforest_core.specs.Place.{RowIn, RowsIn, IsIn, leaf_content, inner_content, entry_keys, entry_items, root_above, root_of}
-use Rattle.bforest_core.specs.Trees.{slot, entries_of, levels_below, leaf_row, inner_row, inner_rows, tree_of}
+use Rattle.bforest_core.proofs.Words.{flat_map, zip, length-map, map-append, take_at, drop_at, get_or_from_slice_get, Content, Free, children_of, LevelNode, node, flat, heads, numbers, FitRow, Stacked, Tree, IsFit, half_of, RowIn, RowsIn}
+use Rattle.bforest_core.proofs.Words.{IsIn, leaf_content, inner_content, entry_keys, entry_items, root_above, root_of, slot, entries_of, levels_below, leaf_row, inner_row, inner_rows, tree_of}
 use Rattle.bforest_core.proofs.rows.LevelRows.{least-pos}
 
 -- the heads of a row have its numbers

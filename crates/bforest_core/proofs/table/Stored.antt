@@ -1,8 +1,7 @@
 -- Nodes as their slots hold them: with one child or entry more, and cut.
 use Rattle.std.proofs.Common.{◌≡◌, ℕ, zero, suc, ◌+◌, ◌-◌, ◌≤◌, List, [], ◌∷◌, ◌++◌, map, length, take, drop, insert, slice_get, Some, refl, sym, ap, ◌∙◌, subst, append_assoc, length-append, arith}
-use Rattle.std.proofs.lemmas.List.{length-map, map-append, take_at, drop_at, length-drop}
-use Rattle.bforest_nodes.specs.Content.{Content, Inner, Leaf, Free, IsFree, IsInner, IsCut, children_of, entry_count, with_child, with_entry}
-use Rattle.bforest_core.specs.Place.{inner_content, leaf_content, entry_keys, entry_items}
+use Rattle.bforest_core.proofs.Words.{length-map, map-append, take_at, drop_at, length-drop, Content, Inner, Leaf, Free, IsFree, IsInner, IsCut, children_of, entry_count, with_child, with_entry, inner_content, leaf_content, entry_keys}
+use Rattle.bforest_core.proofs.Words.{entry_items}
 
 pub some_same : {A : Type 0} → (x y : A) → Some x ≡ Some y → x ≡ y
 some_same x y e = cc

@@ -1,13 +1,7 @@
 -- Counting numbers, and rows that a change of the table leaves as they are.
 use Rattle.std.proofs.Common.{◌≡◌, ℕ, zero, suc, ◌+◌, ◌<◌, ◌≢◌, false, nat_eq, List, [], ◌∷◌, ◌++◌, length, set, slice_get, Some, refl, sym, ap, ◌∙◌, inl, inr, length-set, arith}
-use Rattle.std.specs.List.{flat_map, list_any}
-use Rattle.std.proofs.lemmas.Bool.Decides.{eqb_tells}
-use Rattle.bforest_nodes.specs.Content.{Content}
-use Rattle.bforest_core.specs.Table.{Table, with_node, with_front, front_of, IsUsed}
+use Rattle.bforest_core.proofs.Words.{flat_map, list_any, eqb_tells, Content, Table, with_node, with_front, front_of, IsUsed, slice_get_within, LevelNode, node, numbers, RowIn, RowsIn, inner_content, count}
 use Rattle.bforest_core.proofs.table.Lists.{slice_get-set_same}
-use Rattle.std.proofs.lemmas.Option.{slice_get_within}
-use Rattle.bforest_core.specs.Levels.{LevelNode, node, numbers}
-use Rattle.bforest_core.specs.Place.{RowIn, RowsIn, inner_content, count}
 use Rattle.bforest_core.proofs.rows.LevelRows.{numbers-append}
 
 pub count-append : (n : ℕ) (xs ys : List ℕ) → count n (xs ++ ys) ≡ count n xs + count n ys

@@ -1,10 +1,6 @@
 -- Taking the front of the chain: each answer of `take_slot` is one of these.
 use Rattle.std.proofs.Common.{◌≡◌, ℕ, ◌-◌, ◌<◌, false, List, ◌∷◌, length, slice_get, nat_eq, Option, Some, sym, ap, ◌∙◌, subst, arith}
-use Rattle.std.specs.List.{list_any}
-use Rattle.std.proofs.lemmas.Option.{slice_get_within}
-use Rattle.bforest_nodes.specs.Content.{Content, Free, IsFree}
-use Rattle.bforest_core.specs.Table.{Table}
-use Rattle.bforest_core.specs.Chain.{chain_from, IsPool}
+use Rattle.bforest_core.proofs.Words.{list_any, slice_get_within, Content, Free, IsFree, Table, chain_from, IsPool}
 use Rattle.bforest_core.proofs.table.Stored.{read_same}
 use Rattle.bforest_core.proofs.table.Pools.{front_is_free, IsPool-taken}
 

@@ -1,15 +1,7 @@
 -- Free nodes and the nodes of all trees add up to the slots.
 use Rattle.std.proofs.Common.{◌≡◌, ℕ, zero, suc, ◌+◌, ◌<◌, ◌≢◌, ◌&&◌, None, if◌then◌else◌, nat_eq, Bool, true, false, List, [], ◌∷◌, ◌++◌, map, length, refl, sym, ap, ◌∙◌, subst, inl, inr, length-append, append_assoc, arith}
-use Rattle.std.specs.List.{flat_map, sum_by}
-use Rattle.std.proofs.lemmas.Bool.{cases_lt, false≢true}
-use Rattle.std.proofs.lemmas.List.{get_or_past}
-use Rattle.std.proofs.lemmas.Bool.Decides.{eqb_tells}
-use Rattle.std.proofs.lemmas.List.Sums.{sum_by-cons}
-use Rattle.bforest_nodes.specs.Content.{Content, Free, children_of}
-use Rattle.bforest_core.specs.Table.{Table}
-use Rattle.bforest_core.specs.Levels.{LevelNode, node, sizes, numbers, sizes_of, Tree}
-use Rattle.bforest_core.specs.Place.{count, root_of, numbers_of}
-use Rattle.bforest_core.specs.Trees.{slot, is_used, tree_of, is_root, IsForest, IsUnion}
+use Rattle.bforest_core.proofs.Words.{flat_map, sum_by, cases_lt, false≢true, get_or_past, eqb_tells, sum_by-cons, Content, Free, children_of, Table, LevelNode, node, sizes, numbers, sizes_of, Tree, count, root_of, numbers_of, slot}
+use Rattle.bforest_core.proofs.Words.{is_used, tree_of, is_root, IsForest, IsUnion}
 use Rattle.bforest_core.proofs.table.Tables.{count-other}
 use Rattle.bforest_core.proofs.rows.Counts.{once_below, below-one, sum-same, upto, count-upto}
 use Rattle.bforest_core.proofs.union.Forests.{root-counts, roots-once, tree-back}

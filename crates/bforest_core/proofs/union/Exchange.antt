@@ -1,15 +1,7 @@
 -- Some trees of a table exchanged for others, with what the chain gives or takes: all other roots keep their trees.
 use Rattle.std.proofs.Common.{◌≡◌, ℕ, ◌+◌, ◌≤◌, ◌<◌, ◌↔◌, IsTrue, List, [], ◌∷◌, ◌++◌, map, length, slice_get, sym, ap, ◌∙◌, subst, inl, inr, append_assoc, arith}
-use Rattle.std.specs.List.{flat_map}
-use Rattle.std.proofs.lemmas.List.{map-append}
-use Rattle.std.proofs.lemmas.List.Concat.{flat_map-append}
-use Rattle.std.proofs.lemmas.Bool.{cases_lt}
-use Rattle.bforest_nodes.specs.Content.{Content, IsFree}
-use Rattle.bforest_core.specs.Table.{Table}
-use Rattle.bforest_core.specs.Levels.{flat, numbers, Tree, IsFit}
-use Rattle.bforest_core.specs.Place.{IsIn, Distinct, leaf_content, count, root_of, numbers_of}
-use Rattle.bforest_core.specs.Removal.{Frees}
-use Rattle.bforest_core.specs.Trees.{slot, tree_of, is_root, Every, IsForest}
+use Rattle.bforest_core.proofs.Words.{flat_map, map-append, flat_map-append, cases_lt, Content, IsFree, Table, flat, numbers, Tree, IsFit, IsIn, Distinct, leaf_content, count, root_of, numbers_of, Frees, slot, tree_of, is_root, Every}
+use Rattle.bforest_core.proofs.Words.{IsForest}
 use Rattle.bforest_core.proofs.table.Tables.{count-append, row-same, rows-same}
 use Rattle.bforest_core.proofs.union.FreeSlots.{free-same}
 use Rattle.bforest_core.proofs.rows.Counts.{once_below, at-most-one}

@@ -1,12 +1,6 @@
 -- Slots that are free: those of a list, of a node that was freed, and those that a change leaves free.
 use Rattle.std.proofs.Common.{◌≡◌, ℕ, ◌<◌, List, [], ◌∷◌, slice_get, None, sym, ap, ◌∙◌, subst, inl, inr, arith}
-use Rattle.std.specs.Option.{unwrap_or}
-use Rattle.std.proofs.lemmas.Bool.Decides.{eqb_tells}
-use Rattle.std.proofs.lemmas.Option.{unwrap_or-slice_get}
-use Rattle.bforest_nodes.specs.Content.{Content, Free, IsFree}
-use Rattle.bforest_core.specs.Table.{Table, front_of, slot_count, with_freed}
-use Rattle.bforest_core.specs.Place.{count}
-use Rattle.bforest_core.specs.Trees.{slot, Every}
+use Rattle.bforest_core.proofs.Words.{unwrap_or, eqb_tells, unwrap_or-slice_get, Content, Free, IsFree, Table, front_of, slot_count, with_freed, count, slot, Every}
 use Rattle.bforest_core.proofs.table.Lists.{slice_get-set_same}
 use Rattle.bforest_core.proofs.table.Tables.{count-same, count-other}
 use Rattle.bforest_core.proofs.table.Read.{slot-is}

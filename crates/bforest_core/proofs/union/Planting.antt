@@ -1,13 +1,6 @@
 -- A table of no tree, a first entry of a tree, and what a tree under a root has.
 use Rattle.std.proofs.Common.{◌≡◌, ℕ, ◌-◌, ◌≤◌, ◌<◌, IsTrue, Some, List, [], ◌∷◌, drop, length, refl, sym, ap, ◌∙◌, inl, inr, length-append, arith}
-use Rattle.std.specs.List.{flat_map}
-use Rattle.std.proofs.lemmas.Bool.{cases_lt}
-use Rattle.bforest_nodes.specs.Content.{IsLeafCapacity, Leaf}
-use Rattle.bforest_core.specs.Table.{Table, front_of, free_count, slot_count, fresh_nodes, down_from, with_front, reserved}
-use Rattle.bforest_core.specs.Levels.{node, flat, sizes_of, Tree}
-use Rattle.bforest_core.specs.Place.{count, numbers_of}
-use Rattle.bforest_core.specs.Trees.{is_root, IsUnion}
-use Rattle.bforest_core.specs.Change.{Plants}
+use Rattle.bforest_core.proofs.Words.{flat_map, cases_lt, IsLeafCapacity, Leaf, Table, front_of, free_count, slot_count, fresh_nodes, down_from, with_front, reserved, node, flat, sizes_of, Tree, count, numbers_of, is_root, IsUnion, Plants}
 use Rattle.bforest_core.proofs.table.Tables.{count-append, count-same, absent_ne, takes}
 use Rattle.bforest_core.proofs.table.Chains.{length-fresh_nodes, length-down_from}
 use Rattle.bforest_core.proofs.rows.Counts.{past-none}

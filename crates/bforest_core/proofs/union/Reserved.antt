@@ -1,15 +1,7 @@
 -- New slots in front of the chain leave the trees of a table as they are.
 use Rattle.std.proofs.Common.{◌≡◌, ℕ, zero, suc, ◌+◌, ◌-◌, ◌≤◌, ◌<◌, IsTrue, Bool, true, false, Option, None, List, [], ◌∷◌, ◌++◌, length, get_or, slice_get, refl, sym, ap, ◌∙◌, inl, inr, subst, length-append, arith}
-use Rattle.std.specs.List.{flat_map}
-use Rattle.std.proofs.lemmas.Bool.{cases_lt}
-use Rattle.std.proofs.lemmas.List.{get_or-append_right}
-use Rattle.std.proofs.lemmas.Option.{slice_get-get_or}
-use Rattle.bforest_nodes.specs.Content.{Content, Free, IsFree}
-use Rattle.bforest_core.specs.Table.{Table, down_from, fresh_nodes, front_of, front_of_new, free_count, slot_count, with_slots, reserved}
-use Rattle.bforest_core.specs.Change.{KeepsTrees}
-use Rattle.bforest_core.specs.Levels.{Tree}
-use Rattle.bforest_core.specs.Place.{count, numbers_of}
-use Rattle.bforest_core.specs.Trees.{slot, tree_of, is_root, Every, IsForest, IsUnion, OthersKeep}
+use Rattle.bforest_core.proofs.Words.{flat_map, cases_lt, get_or-append_right, slice_get-get_or, Content, Free, IsFree, Table, down_from, fresh_nodes, front_of, front_of_new, free_count, slot_count, with_slots, reserved, KeepsTrees, Tree}
+use Rattle.bforest_core.proofs.Words.{count, numbers_of, slot, tree_of, is_root, Every, IsForest, IsUnion, OthersKeep}
 use Rattle.bforest_core.proofs.table.Tables.{count-append}
 use Rattle.bforest_core.proofs.table.Lists.{slice_get-append_left}
 use Rattle.bforest_core.proofs.table.Chains.{length-down_from, length-fresh_nodes}

@@ -1,11 +1,6 @@
 -- What a change of the tree under a root says to a caller who has no witness: of roots, and of the trees computed from them.
 use Rattle.std.proofs.Common.{◌≡◌, ℕ, ◌+◌, ◌<◌, ◌≢◌, IsTrue, List, [], ◌∷◌, ◌++◌, length, slice_get, refl, sym, subst, append-nil, arith}
-use Rattle.std.specs.List.{flat_map}
-use Rattle.bforest_core.specs.Table.{Table}
-use Rattle.bforest_core.specs.Levels.{Tree}
-use Rattle.bforest_core.specs.Place.{count, root_of, numbers_of}
-use Rattle.bforest_core.specs.Trees.{tree_of, is_root, IsUnion, OthersKeep}
-use Rattle.bforest_core.specs.Removal.{Frees}
+use Rattle.bforest_core.proofs.Words.{flat_map, Table, Tree, count, root_of, numbers_of, tree_of, is_root, IsUnion, OthersKeep, Frees}
 use Rattle.bforest_core.proofs.table.Tables.{count-same, count-other}
 use Rattle.bforest_core.proofs.union.Forests.{once, tree-back}
 use Rattle.bforest_core.proofs.union.Exchange.{IsPlanted, Traded, traded-taken, traded-freed, exchange-trees, others-keep, roots-gone}

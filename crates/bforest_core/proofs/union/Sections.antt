@@ -1,11 +1,6 @@
 -- A stack of rows cut in two between two nodes of its top.
 use Rattle.std.proofs.Common.{◌≡◌, ℕ, suc, ◌+◌, ◌≤◌, List, [], ◌∷◌, ◌++◌, length, refl, sym, ap, subst, ◌∙◌, arith}
-use Rattle.std.specs.List.{flat_map}
-use Rattle.bforest_nodes.specs.Content.{Content}
-use Rattle.bforest_core.specs.Levels.{LevelNode, node, flat, heads, numbers, FitRow, half_of}
-use Rattle.bforest_core.specs.Place.{RowIn, RowsIn, leaf_content, inner_content, count}
-use Rattle.bforest_core.specs.Descent.{StackedTo, Under}
-use Rattle.bforest_core.specs.Removal.{numbers_under}
+use Rattle.bforest_core.proofs.Words.{flat_map, Content, LevelNode, node, flat, heads, numbers, FitRow, half_of, RowIn, RowsIn, leaf_content, inner_content, count, StackedTo, Under, numbers_under}
 use Rattle.bforest_core.proofs.rows.LevelRows.{flat-append, numbers-append, least-pos}
 use Rattle.bforest_core.proofs.table.Tables.{count-append, row-split}
 use Rattle.bforest_core.proofs.walks.Downward.{cons_same}

@@ -1,21 +1,11 @@
 -- Freeing all that is below a node, child by child.
 use Rattle.std.proofs.Common.{◌≡◌, ℕ, zero, suc, ◌+◌, ◌≤◌, ◌<◌, List, [], ◌∷◌, ◌++◌, length, drop, take, reverse, slice_get, Some, append-nil, refl, sym, ap, subst, ◌∙◌, inl, inr, arith}
-use Rattle.std.specs.List.{flat_map}
-use Rattle.std.proofs.lemmas.Bool.{cases_lt}
-use Rattle.std.proofs.lemmas.List.Concat.{flat_map-append}
-use Rattle.bforest_nodes.specs.Content.{Content, Inner, Leaf, Free, IsInner, children_of, entry_count}
-use Rattle.bforest_core.specs.Table.{Table, with_freed}
-use Rattle.bforest_core.specs.Levels.{LevelNode, node, flat, heads, numbers, half_of}
-use Rattle.bforest_core.specs.Place.{leaf_content, inner_content, entry_items, count, Distinct}
-use Rattle.bforest_core.specs.Descent.{StackedTo, Under}
-use Rattle.bforest_core.specs.Trees.{numbers_down, slot}
-use Rattle.bforest_core.specs.Removal.{Frees, GivesAll, numbers_under}
+use Rattle.bforest_core.proofs.Words.{flat_map, cases_lt, flat_map-append, Content, Inner, Leaf, Free, IsInner, children_of, entry_count, Table, with_freed, LevelNode, node, flat, heads, numbers, half_of, leaf_content, inner_content}
+use Rattle.bforest_core.proofs.Words.{entry_items, count, Distinct, StackedTo, Under, numbers_down, slot, Frees, GivesAll, numbers_under, drop_all, length-map, nil_from_length, reverse-append, take_all, slice_get_within}
 use Rattle.bforest_core.proofs.union.FreeSlots.{slot_same}
 use Rattle.bforest_core.proofs.removal.Frees.{frees-one, frees-refl, frees-then, frees-wider, only_here}
 use Rattle.bforest_core.proofs.walks.Downward.{Seen, no_heads}
 use Rattle.bforest_core.proofs.walks.TopNode.{LeafUnder, InnerUnder, node_under}
-use Rattle.std.proofs.lemmas.List.{drop_all, length-map, nil_from_length, reverse-append, take_all}
-use Rattle.std.proofs.lemmas.Option.{slice_get_within}
 use Rattle.bforest_core.proofs.table.Stored.{some_same}
 use Rattle.bforest_core.proofs.table.Read.{slot-is}
 use Rattle.bforest_core.proofs.table.Lists.{drop-read}

@@ -1,12 +1,6 @@
 -- A tree of a union of trees, under its root.
 use Rattle.std.proofs.Common.{◌≡◌, ℕ, ◌≤◌, ◌<◌, IsTrue, List, [], ◌∷◌, ◌++◌, length, refl, sym, ap, subst, inl, inr, arith}
-use Rattle.std.specs.List.{flat_map}
-use Rattle.std.proofs.lemmas.Bool.{cases_lt}
-use Rattle.bforest_core.specs.Table.{Table}
-use Rattle.bforest_core.specs.Levels.{flat, Tree, IsFit}
-use Rattle.bforest_core.specs.Place.{IsIn, count, Distinct, root_of, numbers_of}
-use Rattle.bforest_core.specs.Descent.{IsRooted}
-use Rattle.bforest_core.specs.Trees.{tree_of, is_root, IsForest, IsUnion}
+use Rattle.bforest_core.proofs.Words.{flat_map, cases_lt, Table, flat, Tree, IsFit, IsIn, count, Distinct, root_of, numbers_of, IsRooted, tree_of, is_root, IsForest, IsUnion}
 use Rattle.bforest_core.proofs.table.Tables.{count-append}
 use Rattle.bforest_core.proofs.rows.Counts.{past-none}
 use Rattle.bforest_core.proofs.union.Forests.{every-append, once, root-tree, tree-back}

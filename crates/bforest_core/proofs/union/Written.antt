@@ -1,13 +1,9 @@
 -- A value written at an entry of a tree: the same nodes, under the same keys.
 use Rattle.std.proofs.Common.{◌≡◌, ℕ, zero, suc, ◌+◌, ◌<◌, IsTrue, List, [], ◌∷◌, ◌++◌, map, length, get_or, set, slice_get, option_map, option_and_then, Some, refl, sym, ap, ◌∙◌, subst, arith}
-use Rattle.std.specs.List.{flat_map}
-use Rattle.bforest_nodes.specs.Content.{Leaf, vals_of, with_value as content_with}
-use Rattle.bforest_core.specs.Table.{Table, IsUsed, IsEntryAt, value_at, with_node, with_value_at}
-use Rattle.bforest_nodes.specs.Entries.{with_value, value_at_place}
-use Rattle.bforest_core.specs.Levels.{LevelNode, node, flat, head_of, heads, sizes, sizes_of, numbers, FitRow, Stacked, Topped, Tree, half_of}
-use Rattle.bforest_core.specs.Place.{RowIn, leaf_content, entry_keys, entry_items, count, numbers_of, root_of, root_above, Stands}
-use Rattle.bforest_core.specs.Trees.{tree_of, is_root, IsUnion, OthersKeep}
-use Rattle.bforest_core.specs.Change.{Changes, StandsUnder}
+use Rattle.bforest_core.proofs.Words.{flat_map, Leaf, vals_of, Table, IsUsed, IsEntryAt, value_at, with_node, with_value_at, value_at_place, LevelNode, node, flat, head_of, heads, sizes, sizes_of, numbers, FitRow, Stacked, Topped, Tree}
+use Rattle.bforest_core.proofs.Words.{half_of, RowIn, leaf_content, entry_keys, entry_items, count, numbers_of, root_of, root_above, Stands, tree_of, is_root, IsUnion, OthersKeep, Changes, StandsUnder}
+use Rattle.bforest_nodes.specs.Content.{with_value as content_with}
+use Rattle.bforest_nodes.specs.Entries.{with_value}
 use Rattle.bforest_core.proofs.rows.LevelRows.{flat-append, heads-append, sizes-append, numbers-append, FitRow-split, FitRow-join}
 use Rattle.bforest_core.proofs.table.Tables.{count-append, count-same, count-row, row-put, rows-same, row-split, ne_from_count, is_used, Puts, puts}
 use Rattle.bforest_core.proofs.walks.LeafSearch.{items-read}

@@ -1,10 +1,6 @@
 -- A step of a path to the node or the entry before.
 use Rattle.std.proofs.Common.{◌≡◌, ◌≢◌, ℕ, zero, suc, ◌+◌, ◌-◌, ◌≤◌, ◌<◌, List, ◌∷◌, length, get_or, slice_get, Some, refl, sym, ap, subst, ◌∙◌, arith, length-append}
-use Rattle.std.proofs.lemmas.List.{length-map, get_or_default}
-use Rattle.bforest_nodes.specs.Content.{Content, entry_count}
-use Rattle.bforest_core.specs.Levels.{LevelNode, node, flat, heads, Tree, IsFit, half_of}
-use Rattle.bforest_core.specs.Place.{RowIn, leaf_content, inner_content, Stands, IsIn, IsPathAt, entry_before}
-use Rattle.bforest_core.specs.Steps.{Moved, Over}
+use Rattle.bforest_core.proofs.Words.{length-map, get_or_default, Content, entry_count, LevelNode, node, flat, heads, Tree, IsFit, half_of, RowIn, leaf_content, inner_content, Stands, IsIn, IsPathAt, entry_before, Moved, Over}
 use Rattle.bforest_core.proofs.walks.Entered.{over_leaves}
 use Rattle.bforest_core.proofs.walks.Steps.{Spot, Nth, nth, next_at, stands_in}
 use Rattle.bforest_core.proofs.walks.TopNode.{none_flat}

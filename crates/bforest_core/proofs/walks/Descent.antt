@@ -1,19 +1,11 @@
 -- The way down of a search: one level of it, and its end in a leaf.
 use Rattle.std.proofs.Common.{◌≡◌, ◌≢◌, ℕ, suc, ◌+◌, ◌≤◌, ◌⊎◌, inl, inr, List, [], ◌∷◌, ◌++◌, length, get_or, slice_get, Some, refl, sym, ap, subst, ◌∙◌, arith, append_assoc, length-append}
-use Rattle.std.proofs.lemmas.List.{nil_from_length}
-use Rattle.std.proofs.lemmas.Option.{slice_get_within}
-use Rattle.std.specs.Cmp.{IsTotalOrder}
-use Rattle.std.specs.List.Sorted.{IsStrictlySortedBy}
-use Rattle.std.specs.List.{AllByRecursion}
+use Rattle.bforest_core.proofs.Words.{nil_from_length, slice_get_within, IsTotalOrder, IsStrictlySortedBy, AllByRecursion, is_some, option_map, Content, Inner, IsLeafCapacity, IsIncreasing, place, is_present, value_for, LevelNode, node}
+use Rattle.bforest_core.proofs.Words.{flat, heads, half_of, entry_keys, entry_items, StandsTo, child_index, IsFrom, IsUpTo, GoesThrough, Under, Descended}
 use Rattle.std.specs.Map.{keys_of}
-use Rattle.std.specs.Option.{is_some, option_map}
 use Rattle.std.specs.declared.cmp.Ordering.{Ordering}
 use Rattle.std.specs.declared.cmp.Ordering.TheVariants.{Less, Greater}
-use Rattle.bforest_nodes.specs.Content.{Content, Inner, IsLeafCapacity}
-use Rattle.bforest_nodes.specs.Entries.{IsIncreasing, place, is_present, value_for}
-use Rattle.bforest_core.specs.Levels.{LevelNode, node, flat, heads, half_of}
-use Rattle.bforest_core.specs.Place.{entry_keys, entry_items}
-use Rattle.bforest_core.specs.Descent.{StandsTo, child_index, IsFrom, IsUpTo, GoesThrough, Under, IsPlaced, Descended}
+use Rattle.bforest_core.specs.Descent.{IsPlaced}
 use Rattle.bforest_nodes.proofs.Found.{place-present}
 use Rattle.bforest_core.proofs.walks.LeafSearch.{items-read}
 use Rattle.bforest_core.proofs.rows.LevelRows.{flat-append}

@@ -1,16 +1,9 @@
 -- Rows seen from the top: the highest of them, and the node of a row that is seen from above.
 use Rattle.std.proofs.Common.{◌≡◌, ℕ, suc, ◌+◌, ◌≤◌, ◌<◌, List, [], ◌∷◌, ◌++◌, length, get_or, refl, sym, ap, subst, ◌∙◌, arith}
-use Rattle.std.specs.Cmp.{IsTotalOrder}
-use Rattle.std.specs.List.Sorted.{IsStrictlySortedBy}
-use Rattle.std.specs.List.{AllByRecursion}
+use Rattle.bforest_core.proofs.Words.{IsTotalOrder, IsStrictlySortedBy, AllByRecursion, Content, IsIncreasing, LevelNode, node, flat, heads, FitRow, RowIn, RowsIn, inner_content, IsAt, StackedTo, StandsTo, IsUpTo}
 use Rattle.std.specs.Map.{keys_of}
 use Rattle.std.specs.declared.cmp.Ordering.{Ordering}
 use Rattle.std.specs.declared.cmp.Ordering.TheVariants.{Less}
-use Rattle.bforest_nodes.specs.Content.{Content}
-use Rattle.bforest_nodes.specs.Entries.{IsIncreasing}
-use Rattle.bforest_core.specs.Levels.{LevelNode, node, flat, heads, FitRow}
-use Rattle.bforest_core.specs.Place.{RowIn, RowsIn, inner_content, IsAt}
-use Rattle.bforest_core.specs.Descent.{StackedTo, StandsTo, IsUpTo}
 use Rattle.bforest_core.proofs.rows.LevelRows.{least-pos}
 use Rattle.bforest_core.proofs.walks.Rising.{all_split, increasing_split}
 

@@ -1,10 +1,6 @@
 -- A step of a path from entry to entry of a tree.
 use Rattle.std.proofs.Common.{◌≡◌, ℕ, zero, suc, ◌+◌, ◌≤◌, List, [], ◌∷◌, ◌++◌, length, get_or, slice_get, Option, None, Some, refl, sym, ap, option_map, subst, ◌∙◌, arith, length-append}
-use Rattle.std.proofs.lemmas.Option.{slice_get_within}
-use Rattle.bforest_nodes.specs.Content.{Content}
-use Rattle.bforest_core.specs.Levels.{LevelNode, node, flat, heads, FitRow, Tree, IsFit, half_of}
-use Rattle.bforest_core.specs.Place.{RowIn, leaf_content, entry_keys, entry_items, Stands, IsIn}
-use Rattle.bforest_core.specs.Steps.{Over, Moved}
+use Rattle.bforest_core.proofs.Words.{slice_get_within, Content, LevelNode, node, flat, heads, FitRow, Tree, IsFit, half_of, RowIn, leaf_content, entry_keys, entry_items, Stands, IsIn, Over, Moved}
 use Rattle.bforest_core.proofs.rows.LevelRows.{FitRow-split}
 use Rattle.bforest_core.proofs.walks.Steps.{fit_full, entry_at, read, nth, next_at, none_behind, stands_in}
 use Rattle.bforest_core.proofs.walks.TopNode.{SameBut}

@@ -1,10 +1,6 @@
 -- The way down to the first entry, and to the last: each answer of `descend_first` and `descend_last` is one of these.
 use Rattle.std.proofs.Common.{◌≡◌, ℕ, zero, suc, ◌+◌, ◌-◌, ◌≤◌, ◌<◌, List, [], ◌∷◌, ◌++◌, length, get_or, set, slice_get, Some, refl, sym, ap, subst, ◌∙◌, arith, length-append}
-use Rattle.std.proofs.lemmas.List.{nil_from_length}
-use Rattle.bforest_nodes.specs.Content.{Content, IsInner, entry_count, children_of}
-use Rattle.bforest_core.specs.Levels.{LevelNode, node, flat, Tree, half_of}
-use Rattle.bforest_core.specs.Place.{leaf_content, inner_content, entry_items, IsAt, Stands}
-use Rattle.bforest_core.specs.Descent.{StandsTo, SameAbove, Under, Led, LedLast}
+use Rattle.bforest_core.proofs.Words.{nil_from_length, Content, IsInner, entry_count, children_of, LevelNode, node, flat, Tree, half_of, leaf_content, inner_content, entry_items, IsAt, Stands, StandsTo, SameAbove, Under, Led, LedLast}
 use Rattle.bforest_core.proofs.rows.LevelRows.{flat-append}
 use Rattle.bforest_core.proofs.table.Stored.{some_same, item_count}
 use Rattle.bforest_core.proofs.walks.Backward.{last_child_is, last_entry_is}

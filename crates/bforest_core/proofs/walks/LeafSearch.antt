@@ -1,10 +1,7 @@
 -- What a search in a leaf's slot says of the leaf's entries.
 use Rattle.std.proofs.Common.{◌≡◌, ℕ, IfSome, List, slice_get, Option, Some, None, Ok, Err, refl, sym, ap, ◌∙◌}
-use Rattle.std.proofs.lemmas.Option.{slice_get-map}
+use Rattle.bforest_core.proofs.Words.{slice_get-map, search_of, IsIncreasing, place, value_for, value_at_place, entry_keys, entry_items}
 use Rattle.std.specs.declared.cmp.Ordering.{Ordering}
-use Rattle.bforest_nodes.specs.Search.{search_of}
-use Rattle.bforest_nodes.specs.Entries.{IsIncreasing, place, value_for, value_at_place}
-use Rattle.bforest_core.specs.Place.{entry_keys, entry_items}
 use Rattle.bforest_nodes.proofs.Found.{search_of-keys_of, present_at, absent_at, value_for-present, value_for-absent}
 
 -- the value of an entry, read in the list of the values

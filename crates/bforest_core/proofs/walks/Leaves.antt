@@ -1,14 +1,6 @@
 -- The leaf in which a path stands: its entries in the list, and the step to the next leaf.
 use Rattle.std.proofs.Common.{◌≡◌, ◌≢◌, ℕ, suc, ◌+◌, ◌<◌, IsTrue, List, [], ◌∷◌, ◌++◌, drop, length, get_or, slice_get, Some, refl, sym, ap, subst, ◌∙◌, arith, append_assoc, length-append}
-use Rattle.std.proofs.lemmas.List.{drop_at}
-use Rattle.bforest_nodes.specs.Content.{Content, IsInner, IsLeaf}
-use Rattle.bforest_core.specs.declared.path.Path.{Path}
-use Rattle.bforest_core.specs.Levels.{Tree, flat, heads, node}
-use Rattle.bforest_core.specs.Paths.{OnLeaf, StandsOn, index_of, leaf_of, list_under}
-use Rattle.bforest_core.specs.Place.{Stands, leaf_content}
-use Rattle.bforest_core.specs.Steps.{Moved, Over}
-use Rattle.bforest_core.specs.Table.{Table}
-use Rattle.bforest_core.specs.Trees.{IsUnion, entries_of, is_root, slot, tree_of}
+use Rattle.bforest_core.proofs.Words.{drop_at, Content, IsInner, IsLeaf, Path, Tree, flat, heads, node, OnLeaf, StandsOn, index_of, leaf_of, list_under, Stands, leaf_content, Moved, Over, Table, IsUnion, entries_of, is_root, slot, tree_of}
 use Rattle.bforest_core.proofs.rows.LevelRows.{flat-append}
 use Rattle.bforest_core.proofs.table.Read.{slot-is, zip-back}
 use Rattle.bforest_core.proofs.table.Stored.{some_same}

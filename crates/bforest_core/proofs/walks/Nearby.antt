@@ -1,23 +1,11 @@
 -- A key beside the entry where a path stands.
 use Rattle.std.proofs.Common.{◌≡◌, ◌≢◌, ℕ, zero, suc, ◌+◌, ◌-◌, ◌≤◌, ◌<◌, true, false, if◌then◌else◌, List, [], ◌∷◌, ◌++◌, get_or, length, length-append, take, drop, slice_get, Option, Some, None, refl, sym, subst, ap, ◌∙◌, arith}
-use Rattle.std.specs.Cmp.{IsTotalOrder}
-use Rattle.std.specs.List.Sorted.{IsStrictlySortedBy}
-use Rattle.std.specs.List.{AllByRecursion}
+use Rattle.bforest_core.proofs.Words.{IsTotalOrder, IsStrictlySortedBy, AllByRecursion, is_some, option_and_then, option_map, is_eq, is_lt, ordering_reverse, drop_all, length-take-le, slice_get_within, Path, IsUpTo, FitRow, LevelNode}
+use Rattle.bforest_core.proofs.Words.{Solid, flat, half_of, node, StandsAt, StandsOn, index_of, leaf_of, list_under, entry_before, leaf_content, Table, IsUnion, tree_of, IsIncreasing, entry_for, is_present, place, value_for}
 use Rattle.std.specs.Map.{keys_of}
-use Rattle.std.specs.Option.{is_some, option_and_then, option_map}
-use Rattle.std.specs.Ordering.{is_eq, is_lt, ordering_reverse}
 use Rattle.std.specs.declared.cmp.Ordering.{Ordering}
 use Rattle.std.specs.declared.cmp.Ordering.TheVariants.{Less, Equal, Greater}
-use Rattle.std.proofs.lemmas.List.{drop_all, length-take-le}
-use Rattle.std.proofs.lemmas.Option.{slice_get_within}
-use Rattle.bforest_core.specs.declared.path.Path.{Path}
-use Rattle.bforest_core.specs.Descent.{IsUpTo}
-use Rattle.bforest_core.specs.Levels.{FitRow, LevelNode, Solid, flat, half_of, node}
-use Rattle.bforest_core.specs.Paths.{IsPlaced, StandsAt, StandsOn, index_of, leaf_of, list_under}
-use Rattle.bforest_core.specs.Place.{entry_before, leaf_content}
-use Rattle.bforest_core.specs.Table.{Table}
-use Rattle.bforest_core.specs.Trees.{IsUnion, tree_of}
-use Rattle.bforest_nodes.specs.Entries.{IsIncreasing, entry_for, is_present, place, value_for}
+use Rattle.bforest_core.specs.Paths.{IsPlaced}
 use Rattle.bforest_nodes.proofs.Ordered.{place-here, place-later}
 use Rattle.bforest_nodes.proofs.Searched.{all_greater_behind}
 use Rattle.bforest_nodes.proofs.Seams.{around}

@@ -1,12 +1,7 @@
 -- A path where a search ended, as the place that an insertion asks for and the entry that it found.
 use Rattle.std.proofs.Common.{◌≡◌, ℕ, IsTrue, true, false, List}
 use Rattle.std.specs.declared.cmp.Ordering.{Ordering}
-use Rattle.bforest_nodes.specs.Content.{Content}
-use Rattle.bforest_nodes.specs.Entries.{place, is_present}
-use Rattle.bforest_core.specs.Levels.{flat}
-use Rattle.bforest_core.specs.Descent.{StandsFor}
-use Rattle.bforest_core.specs.Trees.{tree_of, is_root}
-use Rattle.bforest_core.specs.Change.{StandsUnder, PlacedUnder}
+use Rattle.bforest_core.proofs.Words.{Content, place, is_present, flat, StandsFor, tree_of, is_root, StandsUnder, PlacedUnder}
 use Rattle.bforest_core.proofs.walks.Whole.{stands_at}
 
 module _ {K V : Type 0} (cmp : K → K → Ordering) (slots : List (Content K V)) (root : ℕ) (path indices : List ℕ) (size : ℕ) (key : K) where

@@ -1,18 +1,8 @@
 -- A path at a place of the list under a root.
 use Rattle.std.proofs.Common.{◌≡◌, ◌≢◌, ℕ, zero, suc, ◌+◌, ◌==◌, ◌≤◌, ◌<◌, ◌↔◌, Bool, IsTrue, true, false, Some, slice_get, if◌then◌else◌, List, [], ◌∷◌, ◌++◌, get_or, length, length-append, inl, inr, refl, sym, subst, ap, ◌∙◌, arith}
-use Rattle.std.specs.List.{flat_map}
-use Rattle.std.proofs.lemmas.Bool.{false≢true}
-use Rattle.std.proofs.lemmas.Bool.Decides.{eqb_tells}
-use Rattle.bforest_core.specs.declared.path.Path.{Path}
-use Rattle.bforest_core.specs.Paths.{IsPlaced, PointsTo, StandsAt, StandsOn, index_of, leaf_of, list_under, path_root, place_in, spot}
-use Rattle.bforest_nodes.specs.Content.{IsLeaf}
-use Rattle.bforest_core.specs.Change.{AtUnder, StandsUnder}
-use Rattle.bforest_core.specs.Descent.{IsRooted, Under}
-use Rattle.bforest_core.specs.Levels.{LevelNode, Tree, flat, half_of, heads, node, numbers}
-use Rattle.bforest_core.specs.Place.{IsPathAt, PointsAt, RowIn, Stands, count, leaf_content, numbers_of}
-use Rattle.bforest_core.specs.Steps.{Moved, Over}
-use Rattle.bforest_core.specs.Table.{Table}
-use Rattle.bforest_core.specs.Trees.{IsUnion, is_root, slot, tree_of}
+use Rattle.bforest_core.proofs.Words.{flat_map, false≢true, eqb_tells, Path, PointsTo, StandsAt, StandsOn, index_of, leaf_of, list_under, path_root, place_in, spot, IsLeaf, AtUnder, StandsUnder, IsRooted, Under, LevelNode, Tree, flat}
+use Rattle.bforest_core.proofs.Words.{half_of, heads, node, numbers, IsPathAt, PointsAt, RowIn, Stands, count, leaf_content, numbers_of, Moved, Over, Table, IsUnion, is_root, slot, tree_of}
+use Rattle.bforest_core.specs.Paths.{IsPlaced}
 use Rattle.bforest_core.proofs.walks.Descent.{some_leaf}
 use Rattle.bforest_core.proofs.walks.Leading.{LeadsFirst, led_leaf}
 use Rattle.bforest_core.proofs.walks.TopNode.{SameBut, node_under}

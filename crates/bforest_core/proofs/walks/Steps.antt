@@ -1,13 +1,6 @@
 -- A step of a path on one row.
 use Rattle.std.proofs.Common.{◌≡◌, ◌≢◌, ℕ, suc, ◌+◌, ◌≤◌, ◌<◌, List, [], ◌∷◌, ◌++◌, length, get_or, slice_get, Some, refl, sym, ap, subst, ◌∙◌, arith, append_assoc, length-append}
-use Rattle.std.proofs.lemmas.List.{append-nil}
-use Rattle.std.proofs.lemmas.Option.{slice_get_within}
-use Rattle.std.specs.Option.{option_map}
-use Rattle.bforest_nodes.specs.Content.{Content}
-use Rattle.bforest_core.specs.Levels.{LevelNode, node, flat, heads, FitRow, Tree}
-use Rattle.bforest_core.specs.Place.{RowIn, inner_content, entry_items, StandsAbove, Stands}
-use Rattle.bforest_core.specs.Climb.{SameBelow}
-use Rattle.bforest_core.specs.Steps.{Over, Moved}
+use Rattle.bforest_core.proofs.Words.{append-nil, slice_get_within, option_map, Content, LevelNode, node, flat, heads, FitRow, Tree, RowIn, inner_content, entry_items, StandsAbove, Stands, SameBelow, Over, Moved}
 use Rattle.bforest_core.proofs.rows.LevelRows.{flat-append, least-pos, FitRow-split}
 use Rattle.bforest_core.proofs.walks.LeafSearch.{items-read}
 use Rattle.bforest_core.proofs.table.Lists.{slice_get-append-add, slice_get-append_left}

@@ -1,11 +1,6 @@
 -- A node at the top of some rows: a leaf where there are none of inner nodes, and else one of the highest of these.
 use Rattle.std.proofs.Common.{◌≡◌, ◌≢◌, ℕ, suc, ◌+◌, ◌≤◌, ◌<◌, ◌⊎◌, inl, inr, List, [], ◌∷◌, ◌++◌, length, get_or, set, slice_get, Some, refl, sym, ap, subst, ◌∙◌, arith, append_assoc, length-append}
-use Rattle.std.proofs.lemmas.List.{get_or-set_other, nil_from_length}
-use Rattle.std.proofs.lemmas.Option.{slice_get_within}
-use Rattle.bforest_nodes.specs.Content.{Content, IsInner, entry_count}
-use Rattle.bforest_core.specs.Levels.{LevelNode, node, flat, heads, half_of}
-use Rattle.bforest_core.specs.Place.{RowIn, RowsIn, leaf_content, inner_content, IsAt}
-use Rattle.bforest_core.specs.Descent.{StackedTo, Under}
+use Rattle.bforest_core.proofs.Words.{get_or-set_other, nil_from_length, slice_get_within, Content, IsInner, entry_count, LevelNode, node, flat, heads, half_of, RowIn, RowsIn, leaf_content, inner_content, IsAt, StackedTo, Under}
 use Rattle.bforest_core.proofs.rows.LevelRows.{flat-append}
 use Rattle.bforest_core.proofs.table.Stored.{some_same}
 use Rattle.bforest_core.proofs.table.Tables.{row-split}

@@ -1,11 +1,6 @@
 -- A path's node goes to the next one of its level, or to the one before: each answer of `next_node` and `prev_node` is one of these.
 use Rattle.std.proofs.Common.{◌≡◌, ◌≢◌, ℕ, suc, ◌+◌, ◌-◌, ◌≤◌, ◌<◌, List, ◌∷◌, length, get_or, slice_get, Some, Bool, true, false, IsTrue, ◌↔◌, sym, ap, ◌∙◌, arith}
-use Rattle.std.proofs.lemmas.List.{get_or_default}
-use Rattle.std.proofs.lemmas.Bool.{false≢true}
-use Rattle.bforest_nodes.specs.Content.{Content, entry_count}
-use Rattle.bforest_core.specs.Levels.{LevelNode, flat, heads}
-use Rattle.bforest_core.specs.Place.{inner_content, entry_items}
-use Rattle.bforest_core.specs.Steps.{Over, Moved}
+use Rattle.bforest_core.proofs.Words.{get_or_default, false≢true, Content, entry_count, LevelNode, flat, heads, inner_content, entry_items, Over, Moved}
 use Rattle.bforest_core.proofs.walks.Steps.{Spot, Nth, over_spot, nth, step_within, step_over, slot_over, next_place, last_place, only}
 use Rattle.bforest_core.proofs.walks.TopNode.{SameBut}
 use Rattle.bforest_core.proofs.walks.Backward.{back_place, first_place, last_child_is, some_child}

@@ -1,11 +1,7 @@
 -- A whole tree as what lies under its root.
 use Rattle.std.proofs.Common.{◌≡◌, ℕ, suc, true, List, [], ◌∷◌, length, ap, arith}
 use Rattle.std.specs.declared.cmp.Ordering.{Ordering}
-use Rattle.bforest_nodes.specs.Content.{Content}
-use Rattle.bforest_nodes.specs.Entries.{place, is_present}
-use Rattle.bforest_core.specs.Levels.{LevelNode, flat, heads, Stacked, Tree}
-use Rattle.bforest_core.specs.Place.{StandsAbove, Stands, root_above}
-use Rattle.bforest_core.specs.Descent.{StackedTo, StandsTo, Under, GoesThrough, Descended, Led, IsRooted, StandsFor}
+use Rattle.bforest_core.proofs.Words.{Content, place, is_present, LevelNode, flat, heads, Stacked, Tree, StandsAbove, Stands, root_above, StackedTo, StandsTo, Under, GoesThrough, Descended, Led, IsRooted, StandsFor}
 
 module _ {K : Type 0} where
   -- the root alone is the top

@@ -1,9 +1,6 @@
 use Rattle.std.proofs.Common.{rules, ◌≡◌}
-use Rattle.std.proofs.lemmas.Option.{slice_get_within}
-use Rattle.std.specs.List.Sorted.{IsStrictlySortedBy}
-use Rattle.std.specs.Prelude.{Some, slice_get}
-use Rattle.bforest_nodes.specs.Content.{Inner, IsInner, children_of, keys_of}
-use Rattle.bforest_nodes.specs.Search.{count_up_to}
+use Rattle.bforest_core.proofs.Words.{slice_get_within, IsStrictlySortedBy, Some, slice_get, Inner, IsInner, children_of, count_up_to}
+use Rattle.bforest_nodes.specs.Content.{keys_of}
 use Rattle.bforest_core.proofs.table.Stored.{read_as}
 use Rattle.bforest_core.proofs.access.follow.Goals as goal
 

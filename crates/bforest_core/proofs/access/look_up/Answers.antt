@@ -1,11 +1,6 @@
 use Rattle.std.proofs.Common.{rules, ◌≡◌}
-use Rattle.std.proofs.lemmas.Option.{slice_get_within}
-use Rattle.std.specs.List.Sorted.{IsStrictlySortedBy}
-use Rattle.std.specs.Prelude.{Err, IfSome, List, None, Ok, Some, slice_get}
-use Rattle.bforest_nodes.specs.Content.{IsLeaf, keys_of, vals_of}
-use Rattle.bforest_nodes.specs.Entries.{IsIncreasing, place, value_for}
-use Rattle.bforest_nodes.specs.Search.{search_of}
-use Rattle.bforest_core.specs.Place.{leaf_content}
+use Rattle.bforest_core.proofs.Words.{slice_get_within, IsStrictlySortedBy, Err, IfSome, List, None, Ok, Some, slice_get, IsLeaf, vals_of, IsIncreasing, place, value_for, search_of, leaf_content}
+use Rattle.bforest_nodes.specs.Content.{keys_of}
 use Rattle.bforest_core.proofs.table.Stored.{read_as}
 use Rattle.bforest_core.proofs.walks.LeafSearch.{looked}
 use Rattle.bforest_core.proofs.access.look_up.Given.{Over}

@@ -1,6 +1,6 @@
 use Rattle.std.proofs.Common.{rules, length, if◌then◌else◌, IsTrue, ap, ◌↔◌, ◌<◌, ◌≤◌, ◌∙◌}
-use Rattle.bforest_nodes.specs.Content.{IsInner, entry_count, keys_of, with_child}
-use Rattle.bforest_core.specs.Table.{with_node}
+use Rattle.bforest_core.proofs.Words.{IsInner, entry_count, with_child, with_node}
+use Rattle.bforest_nodes.specs.Content.{keys_of}
 use Rattle.bforest_core.proofs.table.Stored.{read_as, read_same}
 use Rattle.bforest_core.proofs.access.put_child.Goals as goal
 

@@ -1,6 +1,6 @@
 use Rattle.std.proofs.Common.{rules, ◌≡◌, length, Some, slice_get, ◌<◌}
-use Rattle.std.proofs.lemmas.Option.{slice_get_within}
-use Rattle.bforest_nodes.specs.Content.{Inner, IsInner, keys_of}
+use Rattle.bforest_core.proofs.Words.{slice_get_within, Inner, IsInner}
+use Rattle.bforest_nodes.specs.Content.{keys_of}
 use Rattle.bforest_core.proofs.table.Stored.{read_as}
 use Rattle.bforest_core.proofs.access.separator.Goals as goal
 

@@ -1,6 +1,5 @@
 use Rattle.std.proofs.Common.{rules, ◌-◌, ◌<◌, ◌∷◌, get_or, sym, ap, ◌∙◌, arith}
-use Rattle.std.proofs.lemmas.List.{get_or-set_same}
-use Rattle.bforest_nodes.specs.Entries.{place}
+use Rattle.bforest_core.proofs.Words.{get_or-set_same, place}
 use Rattle.bforest_core.proofs.walks.Descent.{some_leaf, leaf_step, inner_step, follow_asks, below, leaf_value, landed, passed}
 use Rattle.bforest_core.proofs.walks.TopNode.{leaf_at, inner_at, set_but}
 use Rattle.bforest_core.proofs.path.Path.+descend.Goals as goal

@@ -1,7 +1,5 @@
 use Rattle.std.proofs.Common.{rules, ◌+◌, ◌-◌, ◌<◌, ◌∷◌, ◌++◌, get_or, drop, arith, add-one}
-use Rattle.std.proofs.lemmas.List.{get_or_default}
-use Rattle.bforest_core.specs.Levels.{heads}
-use Rattle.bforest_core.specs.Place.{inner_content, entry_keys, entry_items}
+use Rattle.bforest_core.proofs.Words.{get_or_default, heads, inner_content, entry_keys, entry_items}
 use Rattle.bforest_core.proofs.table.Tables.{is_used}
 use Rattle.bforest_core.proofs.rows.Zipper.{spot}
 use Rattle.bforest_core.proofs.table.Stored.{key_count}

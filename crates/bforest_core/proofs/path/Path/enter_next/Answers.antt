@@ -1,8 +1,5 @@
 use Rattle.std.proofs.Common.{rules, ℕ, suc, List, ◌∷◌, ◌++◌, length, set, refl, ◌∙◌, arith}
-use Rattle.std.proofs.lemmas.List.{get_or-set_same, get_or-set_other}
-use Rattle.bforest_core.specs.Levels.{LevelNode}
-use Rattle.bforest_core.specs.Climb.{Above}
-use Rattle.bforest_core.specs.Steps.{Moved}
+use Rattle.bforest_core.proofs.Words.{get_or-set_same, get_or-set_other, LevelNode, Above, Moved}
 use Rattle.bforest_core.proofs.removal.Neighbours.{over-above, must_move, entered_next}
 use Rattle.bforest_core.proofs.rows.Zipper.{above_two}
 use Rattle.bforest_core.proofs.rows.Tops.{top-same}

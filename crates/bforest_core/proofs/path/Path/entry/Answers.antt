@@ -1,7 +1,5 @@
 use Rattle.std.proofs.Common.{rules, sym, arith}
-use Rattle.std.proofs.lemmas.Option.{slice_get_past}
-use Rattle.bforest_core.specs.Paths.{list_under}
-use Rattle.bforest_core.specs.Trees.{tree_of}
+use Rattle.bforest_core.proofs.Words.{slice_get_past, list_under, tree_of}
 use Rattle.bforest_core.proofs.walks.Backward.{at_end}
 use Rattle.bforest_core.proofs.walks.Nearby.{here-entry, here-leaf, some-on}
 use Rattle.bforest_core.proofs.path.Path.entry.Goals as goal

@@ -1,8 +1,6 @@
 use Rattle.std.proofs.Common.{rules, ◌≡◌, ◌<◌, subst, get_or, slice_get, sym, ap, ◌∙◌, arith}
-use Rattle.std.proofs.lemmas.List.{get_or_default, length-map}
-use Rattle.std.proofs.lemmas.Option.{slice_get_within}
-use Rattle.bforest_nodes.specs.Content.{IsLeaf, entry_count, keys_of, vals_of}
-use Rattle.bforest_core.specs.Place.{leaf_content}
+use Rattle.bforest_core.proofs.Words.{get_or_default, length-map, slice_get_within, IsLeaf, entry_count, vals_of, leaf_content}
+use Rattle.bforest_nodes.specs.Content.{keys_of}
 use Rattle.bforest_core.proofs.walks.Entered.{leaf_is, pair_read}
 use Rattle.bforest_core.proofs.path.Path.entry_here.Goals as goal
 

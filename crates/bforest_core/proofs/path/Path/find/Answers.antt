@@ -1,9 +1,5 @@
 use Rattle.std.proofs.Common.{rules, ◌≡◌, ℕ, suc, ◌-◌, [], length, arith}
-use Rattle.std.proofs.lemmas.List.{length-map}
-use Rattle.bforest_nodes.specs.Entries.{value_for}
-use Rattle.bforest_core.specs.Descent.{Descended}
-use Rattle.bforest_core.specs.Levels.{Tree, flat, sizes, sizes_of}
-use Rattle.bforest_core.specs.Trees.{tree_of}
+use Rattle.bforest_core.proofs.Words.{length-map, value_for, Descended, Tree, flat, sizes, sizes_of, tree_of}
 use Rattle.bforest_core.proofs.walks.Sought.{placed-for, stands-under}
 use Rattle.bforest_core.proofs.walks.Whole.{all_through, stands_for}
 use Rattle.bforest_core.proofs.walks.Standing.{under-root}

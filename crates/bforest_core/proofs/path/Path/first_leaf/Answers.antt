@@ -1,6 +1,5 @@
 use Rattle.std.proofs.Common.{rules, [], sym, ◌+◌, ◌∙◌, arith}
-use Rattle.std.proofs.lemmas.Bool.{false≢true}
-use Rattle.bforest_core.specs.Trees.{tree_of}
+use Rattle.bforest_core.proofs.Words.{false≢true, tree_of}
 use Rattle.bforest_core.proofs.walks.Descent.{some_leaf}
 use Rattle.bforest_core.proofs.walks.TopNode.{node_within}
 use Rattle.bforest_core.proofs.walks.Leaves.{leaf-front, root-leaf}

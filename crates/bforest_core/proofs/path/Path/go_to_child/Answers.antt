@@ -1,6 +1,5 @@
 use Rattle.std.proofs.Common.{rules, ◌≡◌, suc, ◌+◌, ◌<◌, drop, get_or, Some, sym, subst, ap, ◌∙◌, arith, add-one, set}
-use Rattle.std.proofs.lemmas.List.{get_or_default, get_or-set_same, get_or-set_other}
-use Rattle.bforest_core.specs.Place.{entry_items, entry_keys}
+use Rattle.bforest_core.proofs.Words.{get_or_default, get_or-set_same, get_or-set_other, entry_items, entry_keys}
 use Rattle.bforest_core.proofs.table.Stored.{item_count}
 use Rattle.bforest_core.proofs.path.Path.go_to_child.Goals as goal
 

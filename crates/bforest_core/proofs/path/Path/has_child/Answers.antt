@@ -1,7 +1,5 @@
 use Rattle.std.proofs.Common.{rules, ◌≡◌, length, get_or, ◌∙◌, arith}
-use Rattle.std.proofs.lemmas.Bool.{lt-ltb, ltb-true}
-use Rattle.std.proofs.lemmas.List.{get_or_default}
-use Rattle.bforest_core.specs.Place.{inner_content}
+use Rattle.bforest_core.proofs.Words.{lt-ltb, ltb-true, get_or_default, inner_content}
 use Rattle.bforest_core.proofs.table.Stored.{item_count}
 use Rattle.bforest_core.proofs.path.Path.has_child.Goals as goal
 

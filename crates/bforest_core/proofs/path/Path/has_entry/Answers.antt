@@ -1,7 +1,5 @@
 use Rattle.std.proofs.Common.{rules, ◌≡◌, length, get_or, ◌∙◌, arith}
-use Rattle.std.proofs.lemmas.Bool.{lt-ltb, ltb-true}
-use Rattle.std.proofs.lemmas.List.{get_or_default, length-map}
-use Rattle.bforest_core.specs.Place.{leaf_content}
+use Rattle.bforest_core.proofs.Words.{lt-ltb, ltb-true, get_or_default, length-map, leaf_content}
 use Rattle.bforest_core.proofs.path.Path.has_entry.Goals as goal
 
 pub entries-requires : goal.entries-requires

@@ -1,10 +1,5 @@
 use Rattle.std.proofs.Common.{rules, ◌≡◌, ℕ, ◌<◌, ◌≤◌, ◌++◌, length, get_or, refl, sym, ap, ◌∙◌, subst, arith}
-use Rattle.bforest_core.specs.Table.{Table, NeedsGrowth, room}
-use Rattle.bforest_core.specs.Levels.{sizes_of}
-use Rattle.bforest_core.specs.Sizes.{need}
-use Rattle.bforest_core.specs.Place.{leaf_content}
-use Rattle.bforest_core.specs.Change.{PlacedUnder}
-use Rattle.bforest_core.specs.Trees.{tree_of}
+use Rattle.bforest_core.proofs.Words.{Table, NeedsGrowth, room, sizes_of, need, leaf_content, PlacedUnder, tree_of}
 use Rattle.bforest_core.proofs.table.Allocating.{err_is}
 use Rattle.bforest_core.proofs.insertion.LeafSpot.{leaf_spot, placed_from}
 use Rattle.bforest_core.proofs.insertion.Insertion.{placed-under, under-low, growth-low, mid-is, placed-mid, reserved-free, full-reserved, Put, put-here, put-split, put-from, err-same, err-back}

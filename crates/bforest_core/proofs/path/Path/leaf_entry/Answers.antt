@@ -1,8 +1,6 @@
 use Rattle.std.proofs.Common.{rules, ◌≡◌, get_or, slice_get, subst, sym, ap, ◌∙◌, arith}
-use Rattle.std.proofs.lemmas.List.{get_or_default}
-use Rattle.std.proofs.lemmas.Option.{slice_get_within}
-use Rattle.bforest_nodes.specs.Content.{IsLeaf, keys_of, vals_of}
-use Rattle.bforest_core.specs.Place.{leaf_content}
+use Rattle.bforest_core.proofs.Words.{get_or_default, slice_get_within, IsLeaf, vals_of, leaf_content}
+use Rattle.bforest_nodes.specs.Content.{keys_of}
 use Rattle.bforest_core.proofs.walks.Entered.{leaf_is, pair_answer}
 use Rattle.bforest_core.proofs.path.Path.leaf_entry.Goals as goal
 

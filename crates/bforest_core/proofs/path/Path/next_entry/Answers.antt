@@ -1,6 +1,5 @@
 use Rattle.std.proofs.Common.{rules, ◌≤◌, suc, length, sym, arith}
-use Rattle.std.proofs.lemmas.Option.{slice_get_past}
-use Rattle.bforest_core.specs.Levels.{flat, heads}
+use Rattle.bforest_core.proofs.Words.{slice_get_past, flat, heads}
 use Rattle.bforest_core.proofs.walks.Descent.{some_leaf}
 use Rattle.bforest_core.proofs.walks.Entered.{entry_read, leaf_room, leaf_slot, next_last, next_over, next_read, next_within, over_leaves}
 use Rattle.bforest_core.proofs.path.Path.next_entry.Goals as goal

@@ -1,6 +1,5 @@
 use Rattle.std.proofs.Common.{rules, length, arith}
-use Rattle.bforest_core.specs.Levels.{heads}
-use Rattle.bforest_core.specs.Trees.{tree_of}
+use Rattle.bforest_core.proofs.Words.{heads, tree_of}
 use Rattle.bforest_core.proofs.union.Unions.{is-rooted}
 use Rattle.bforest_core.proofs.walks.Descent.{some_leaf}
 use Rattle.bforest_core.proofs.walks.Entered.{over_leaves}

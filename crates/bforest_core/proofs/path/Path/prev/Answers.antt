@@ -1,10 +1,5 @@
 use Rattle.std.proofs.Common.{rules, ◌≡◌, ◌≢◌, ℕ, ◌+◌, ◌-◌, ◌≤◌, ◌<◌, [], sym, ap, subst, ◌∙◌, arith}
-use Rattle.bforest_core.specs.declared.path.Path.{Path}
-use Rattle.bforest_core.specs.Levels.{Tree, IsFit}
-use Rattle.bforest_core.specs.Paths.{StandsAt, StandsOn, list_under}
-use Rattle.bforest_core.specs.Place.{IsIn, Stands, entry_before}
-use Rattle.bforest_core.specs.Table.{Table}
-use Rattle.bforest_core.specs.Trees.{IsUnion, tree_of}
+use Rattle.bforest_core.proofs.Words.{Path, Tree, IsFit, StandsAt, StandsOn, list_under, IsIn, Stands, entry_before, Table, IsUnion, tree_of}
 use Rattle.bforest_core.proofs.union.Unions.{is-rooted}
 use Rattle.bforest_core.proofs.walks.Leading.{LeadsLast, last_stands}
 use Rattle.bforest_core.proofs.walks.Standing.{under-root}

@@ -1,6 +1,5 @@
 use Rattle.std.proofs.Common.{rules, length, ◌∙◌, arith, sym}
-use Rattle.std.proofs.lemmas.Bool.{false≢true}
-use Rattle.bforest_core.specs.Levels.{heads}
+use Rattle.bforest_core.proofs.Words.{false≢true, heads}
 use Rattle.bforest_core.proofs.walks.Descent.{some_leaf}
 use Rattle.bforest_core.proofs.walks.Entered.{over_leaves}
 use Rattle.bforest_core.proofs.walks.Backward.{back_within, back_asks, back_over, back_first}

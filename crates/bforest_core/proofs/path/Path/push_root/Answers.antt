@@ -1,6 +1,5 @@
 use Rattle.std.proofs.Common.{◌+◌, ◌<◌, [], ◌∷◌, length, set, ap, ◌∙◌, arith}
-use Rattle.std.proofs.lemmas.List.{get_or-set_same, get_or-set_other}
-use Rattle.bforest_nodes.specs.Content.{Inner}
+use Rattle.bforest_core.proofs.Words.{get_or-set_same, get_or-set_other, Inner}
 use Rattle.bforest_core.proofs.table.Tables.{takes, length-with_front}
 use Rattle.bforest_core.proofs.insertion.Rise.{settle_root}
 use Rattle.bforest_core.proofs.path.Path.push_root.Goals as goal

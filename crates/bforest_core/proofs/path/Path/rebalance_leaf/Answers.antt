@@ -1,7 +1,5 @@
 use Rattle.std.proofs.Common.{rules, ℕ, ◌≤◌, ◌<◌, ◌/◌, refl, arith}
-use Rattle.bforest_nodes.specs.Content.{IsLeafCapacity}
-use Rattle.bforest_core.specs.Levels.{half_of}
-use Rattle.bforest_core.specs.Place.{leaf_content}
+use Rattle.bforest_core.proofs.Words.{IsLeafCapacity, half_of, leaf_content}
 use Rattle.bforest_core.proofs.removal.Balance.{IsHalf, leaf_stored}
 use Rattle.bforest_core.proofs.removal.Rebalancing.{counted_asks, past_asks, past_heals, stay_heals, beside_asks, last_heals, balance_asks, rekey_asks, rekey_heals, free_asks, free_joins}
 use Rattle.bforest_core.proofs.path.Path.rebalance_leaf.Goals as goal

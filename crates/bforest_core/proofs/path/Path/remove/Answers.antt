@@ -1,7 +1,5 @@
 use Rattle.std.proofs.Common.{rules, ℕ, Some, sym, ◌∙◌, arith}
-use Rattle.bforest_core.specs.Place.{IsPathAt}
-use Rattle.bforest_core.specs.Trees.{tree_of}
-use Rattle.bforest_core.specs.Change.{StandsUnder}
+use Rattle.bforest_core.proofs.Words.{IsPathAt, tree_of, StandsUnder}
 use Rattle.bforest_core.proofs.rows.Tops.{root-stands}
 use Rattle.bforest_core.proofs.removal.Taking.{counted_asks, single, others}
 use Rattle.bforest_core.proofs.removal.Removal.{stands_in, removal, Said, outcome, said, if_some}

@@ -1,6 +1,5 @@
 use Rattle.std.proofs.Common.{rules, get_or, refl, arith}
-use Rattle.bforest_core.specs.Levels.{heads}
-use Rattle.bforest_core.specs.Climb.{nodes_up}
+use Rattle.bforest_core.proofs.Words.{heads, nodes_up}
 use Rattle.bforest_core.proofs.removal.Shrunk.{up_to}
 use Rattle.bforest_core.proofs.removal.Removing.{stands_root}
 use Rattle.bforest_core.proofs.removal.LeafEmptied.{free_asks, emptied_tree, leaf_drop, drop_untrimmed, drop_removed}

@@ -1,7 +1,5 @@
 use Rattle.std.proofs.Common.{rules, ◌≡◌, ◌≢◌, ◌≤◌, ◌<◌, ◌+◌, ◌/◌, suc, Some, length, sym, ◌∙◌, inl, arith, ℕ}
-use Rattle.bforest_core.specs.Levels.{half_of}
-use Rattle.bforest_core.specs.Trees.{tree_of}
-use Rattle.bforest_core.specs.Change.{StandsUnder}
+use Rattle.bforest_core.proofs.Words.{half_of, tree_of, StandsUnder}
 use Rattle.bforest_core.proofs.rows.Tops.{root-stands}
 use Rattle.bforest_core.proofs.removal.Taking.{counted_asks, others, left_is}
 use Rattle.bforest_core.proofs.removal.Removing.{kept_removed}

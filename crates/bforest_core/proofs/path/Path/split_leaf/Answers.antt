@@ -1,7 +1,5 @@
 use Rattle.std.proofs.Common.{rules, ◌≡◌, ◌∷◌, ◌++◌, map, length, get_or, refl, sym, ap, arith}
-use Rattle.std.proofs.lemmas.List.{get_or_default}
-use Rattle.bforest_core.specs.Levels.{heads, sizes}
-use Rattle.bforest_core.specs.Sizes.{need_above, gain_above}
+use Rattle.bforest_core.proofs.Words.{get_or_default, heads, sizes, need_above, gain_above}
 use Rattle.bforest_core.proofs.insertion.Rise.{need_some, above_from, grown_from}
 use Rattle.bforest_core.proofs.insertion.LeafSpot.{leaf_spot}
 use Rattle.bforest_core.proofs.insertion.Halving.{leaf_full_is}

@@ -1,11 +1,5 @@
-use Rattle.std.proofs.lemmas.Bool.{false≢true}
+use Rattle.bforest_core.proofs.Words.{false≢true, length-map, slice_get_within, IsInner, children_of, entry_count, numbers_down, Under, GivesAll, numbers_under}
 use Rattle.std.proofs.Common.{rules, ◌≡◌, ℕ, ◌+◌, [], ◌∷◌, length, slice_get, suc, ◌≤◌, sym, ap, subst, ◌∙◌, arith}
-use Rattle.std.proofs.lemmas.List.{length-map}
-use Rattle.std.proofs.lemmas.Option.{slice_get_within}
-use Rattle.bforest_nodes.specs.Content.{IsInner, children_of, entry_count}
-use Rattle.bforest_core.specs.Trees.{numbers_down}
-use Rattle.bforest_core.specs.Descent.{Under}
-use Rattle.bforest_core.specs.Removal.{GivesAll, numbers_under}
 use Rattle.bforest_core.proofs.walks.Descent.{some_leaf}
 use Rattle.bforest_core.proofs.table.Stored.{some_same}
 use Rattle.bforest_core.proofs.union.Sweep.{Sweeping, child_turn, gives-down, gives-leaf, inner-children, sweep-first, sweep-last, sweep-next, sweeping, under-open}

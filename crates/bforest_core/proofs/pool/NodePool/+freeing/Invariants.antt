@@ -1,7 +1,5 @@
 use Rattle.std.proofs.Common.{ℕ, ◌+◌, ◌-◌, ◌*◌, List, ◌++◌}
-use Rattle.bforest_core.specs.Levels.{LevelNode}
-use Rattle.bforest_core.specs.Place.{Distinct}
-use Rattle.bforest_core.specs.Removal.{numbers_under}
+use Rattle.bforest_core.proofs.Words.{LevelNode, Distinct, numbers_under}
 use Rattle.bforest_core.proofs.union.Sweep.{Opened, Sweeping}
 use Rattle.bforest_core.proofs.pool.NodePool.+freeing.Given as goal
 

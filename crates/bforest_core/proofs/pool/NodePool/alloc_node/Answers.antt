@@ -1,7 +1,5 @@
 use Rattle.std.proofs.Common.{rules, [], ◌∷◌, refl, ap, ◌∙◌, length, sym, arith}
-use Rattle.std.proofs.lemmas.Bool.{false≢true}
-use Rattle.bforest_nodes.specs.Content.{Leaf}
-use Rattle.bforest_core.specs.Table.{front_of}
+use Rattle.bforest_core.proofs.Words.{false≢true, Leaf, front_of}
 use Rattle.bforest_core.proofs.table.Allocating.{err_is, ok_not_err, reserved_taken_is, used_written}
 use Rattle.bforest_core.proofs.insertion.Insertion.{err-same, err-back, reserved-free}
 use Rattle.bforest_core.proofs.union.Planting.{planted-alloc}

@@ -1,6 +1,5 @@
 use Rattle.std.proofs.Common.{rules, arith, ◌∙◌, ◌≡◌, ◌<◌, ◌*◌, ℕ, List, Some, sym, slice_get, vec_len}
-use Rattle.bforest_nodes.specs.Content.{Content, IsSameKind, entry_count, entry_capacity}
-use Rattle.bforest_core.specs.Table.{IsUnderflowedAt}
+use Rattle.bforest_core.proofs.Words.{Content, IsSameKind, entry_count, entry_capacity, IsUnderflowedAt}
 use Rattle.bforest_core.proofs.table.Lists.{refilled_two}
 use Rattle.bforest_core.proofs.table.Stored.{read_same}
 use Rattle.bforest_core.proofs.table.Pools.{IsPool-set_two}

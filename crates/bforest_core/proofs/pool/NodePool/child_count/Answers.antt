@@ -1,6 +1,5 @@
 use Rattle.std.proofs.Common.{rules, length, sym, ap, ◌∙◌}
-use Rattle.std.proofs.lemmas.Bool.{false≢true}
-use Rattle.bforest_nodes.specs.Content.{children_of}
+use Rattle.bforest_core.proofs.Words.{false≢true, children_of}
 use Rattle.bforest_core.proofs.table.Stored.{read_same, inner_used, inner_entries, childless}
 use Rattle.bforest_core.proofs.pool.NodePool.child_count.Goals as goal
 

@@ -1,6 +1,5 @@
 use Rattle.std.proofs.Common.{rules, length, arith}
-use Rattle.bforest_core.specs.Place.{numbers_of}
-use Rattle.bforest_core.specs.Trees.{numbers_down, tree_of}
+use Rattle.bforest_core.proofs.Words.{numbers_of, numbers_down, tree_of}
 use Rattle.bforest_core.proofs.union.Account.{length-same, nodes-count}
 use Rattle.bforest_core.proofs.union.Roots.{uprooted-union}
 use Rattle.bforest_core.proofs.union.Unions.{rooted}

@@ -1,8 +1,5 @@
 use Rattle.std.proofs.Common.{◌≡◌, suc, ◌+◌, take, slice_get, Some, refl, sym, ap, ◌∙◌, inl, inr, arith}
-use Rattle.std.specs.List.{flat_map}
-use Rattle.std.proofs.lemmas.Bool.{cases_lt, false≢true}
-use Rattle.bforest_nodes.specs.Content.{children_of}
-use Rattle.bforest_core.specs.Place.{count}
+use Rattle.bforest_core.proofs.Words.{flat_map, cases_lt, false≢true, children_of, count}
 use Rattle.bforest_core.proofs.rows.Counts.{named-more, named-slot}
 use Rattle.bforest_core.proofs.pool.NodePool.is_child.Goals as goal
 

@@ -1,10 +1,5 @@
 use Rattle.std.proofs.Common.{◌≡◌, ℕ, zero, suc, ◌<◌, ◌≤◌, ◌↔◌, IsTrue, Bool, true, false, not, nat_eq, nat_lt, List, length, slice_get, Some, None, refl, sym, ap, ◌∙◌, arith}
-use Rattle.std.specs.List.{flat_map}
-use Rattle.std.proofs.lemmas.Bool.{false≢true, false_from_ne_true, not_from_false, not_from_true}
-use Rattle.std.proofs.lemmas.List.{get_or_past}
-use Rattle.bforest_nodes.specs.Content.{Content, Inner, Leaf, Free, IsFree, children_of}
-use Rattle.bforest_core.specs.Place.{count}
-use Rattle.bforest_core.specs.Trees.{slot, is_used, is_root}
+use Rattle.bforest_core.proofs.Words.{flat_map, false≢true, false_from_ne_true, not_from_false, not_from_true, get_or_past, Content, Inner, Leaf, Free, IsFree, children_of, count, slot, is_used, is_root}
 use Rattle.bforest_core.proofs.table.Read.{slot-is}
 use Rattle.bforest_core.proofs.pool.NodePool.is_root.Goals as goal
 use Rattle.bforest_core.proofs.pool.NodePool.is_root.Goals.{then-number-slots, else-number-slots}

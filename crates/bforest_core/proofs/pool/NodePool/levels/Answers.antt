@@ -1,8 +1,6 @@
 use Rattle.std.proofs.Common.{rules, ◌≡◌, ℕ, ◌+◌, ◌-◌, ◌*◌, ◌^◌, ◌<◌, ◌≤◌, [], length, subst, arith}
-use Rattle.std.proofs.lemmas.List.{length-map}
+use Rattle.bforest_core.proofs.Words.{length-map, Tree, flat, sizes, sizes_of, half_of, tree_of}
 use Rattle.std.proofs.Math.Nat.{le-div_iff_mul-le, mul_comm}
-use Rattle.bforest_core.specs.Levels.{Tree, flat, sizes, sizes_of, half_of}
-use Rattle.bforest_core.specs.Trees.{tree_of}
 use Rattle.bforest_core.proofs.rows.Bounds.{leaves-few, depth}
 use Rattle.bforest_core.proofs.walks.Descent.{some_leaf}
 use Rattle.bforest_core.proofs.union.Unions.{is-rooted}
