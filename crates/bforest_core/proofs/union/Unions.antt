@@ -1,5 +1,5 @@
 -- A tree of a union of trees, under its root.
-use Rattle.std.proofs.Common.{◌≡◌, ℕ, ◌≤◌, ◌<◌, IsTrue, List, [], ◌∷◌, ◌++◌, length, refl, sym, ap, subst, inl, inr, arith}
+use Rattle.std.proofs.Common.{◌≡◌, ℕ, ◌≤◌, ◌<◌, IsTrue, List, [], ◌∷◌, ◌++◌, length, refl, sym, subst, inl, inr, arith}
 use Rattle.bforest_core.proofs.Words.{flat_map, cases_lt, Table, flat, Tree, IsFit, IsIn, count, Distinct, root_of, numbers_of, IsRooted, tree_of, is_root, IsForest, IsUnion}
 use Rattle.bforest_core.proofs.table.Tables.{count-append}
 use Rattle.bforest_core.proofs.rows.Counts.{past-none}
