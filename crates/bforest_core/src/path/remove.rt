@@ -106,8 +106,8 @@ impl<K: Copy, V: Copy, const N: usize> Path<K, V, N> {
         requires single { (x : K × V) × (slice_get pool.old.nodes (get_or self.old.node 0 0)
             ≡ Some (leaf_content (x ∷ []))) }
         ensures removed { (tree : Tree K V) (place : ℕ) → StandsIn N pool.old self.old.node self.old.entry
-            self.old.size tree place → IfSome result (λ root'. Removed N pool.old pool.new
-            self.old.node (λ now. IsPathAt self.new.node self.new.entry self.new.size now place) tree place root') }
+            self.old.size tree place → IfSome result (λ root'. Removed N pool.old pool.new self.old.node
+            (λ now. IsPathAt self.new.node self.new.entry self.new.size now place) tree place root') }
         ensures emptied { result ≡ None → (tree : Tree K V) (place : ℕ) → StandsIn N pool.old self.old.node
             self.old.entry self.old.size tree place → Emptied N pool.old pool.new tree place }
         ensures end { self.new.size ≡ 0 }
@@ -131,8 +131,8 @@ impl<K: Copy, V: Copy, const N: usize> Path<K, V, N> {
         requires others { (x y : K × V) × (es : List (K × V))
             × (slice_get pool.old.nodes (get_or self.old.node 0 0) ≡ Some (leaf_content (x ∷ y ∷ es))) }
         ensures { (tree : Tree K V) (place : ℕ) → StandsIn N pool.old self.old.node self.old.entry
-            self.old.size tree place → Removed N pool.old pool.new
-            self.old.node (λ now. IsPathAt self.new.node self.new.entry self.new.size now place) tree place result }
+            self.old.size tree place → Removed N pool.old pool.new self.old.node
+            (λ now. IsPathAt self.new.node self.new.entry self.new.size now place) tree place result }
     {
         self.take_entry(pool);
         if self.is_past_end(pool) {
