@@ -51,17 +51,6 @@ pub(crate) fn get<C: Comparator<u32>>(
     map.get(key, forest, comp)
 }
 
-/// What `increases` answers.
-pub(crate) fn increases<C: Comparator<u32>>(
-    rt: &impl Abort,
-    map: &Numbers,
-    forest: &NumberForest,
-    comp: &C,
-) -> bool {
-    assert!(rt; forest.holds(map));
-    map.increases(forest, comp)
-}
-
 /// What `iter` gives.
 pub(crate) fn entries(
     rt: &impl Abort,
@@ -71,23 +60,4 @@ pub(crate) fn entries(
 ) -> Result<Vec<(u32, u32)>, AllocError> {
     assert!(rt; forest.holds(map));
     map.iter(forest).collect(alloc)
-}
-
-/// What `levels` answers.
-pub(crate) fn levels(rt: &impl Abort, map: &Numbers, forest: &NumberForest) -> usize {
-    assert!(rt; forest.holds(map));
-    map.levels(forest)
-}
-
-/// `remove`.
-pub(crate) fn remove<C: Comparator<u32>>(
-    rt: &impl Abort,
-    map: &mut Numbers,
-    key: u32,
-    forest: &mut NumberForest,
-    comp: &C,
-) -> Option<u32> {
-    assert!(rt; forest.holds(map));
-    assert!(rt; map.increases(forest, comp));
-    map.remove(key, forest, comp)
 }

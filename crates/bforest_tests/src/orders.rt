@@ -4,10 +4,9 @@ ghost use Rattle.std.specs.Cmp.Rules.{comparing};
 ghost use Rattle.std.specs.Ordering.{flip_args, nat_cmp, on};
 ghost use Rattle.std.specs.Prelude.{◌/◌};
 
-use crate::checked::{NumberForest, entries, get, increases, insert, remove};
+use crate::checked::NumberForest;
 use bforest::{Comparator, Map, MapForest};
 use std::cmp::Ordering;
-use std::test::Fail;
 
 /// The largest first.
 struct Reversed;
@@ -56,49 +55,12 @@ fn searches(rt: HostRuntime) {
 }
 
 #[test]
-fn equal_keys_are_one_entry(rt: HostRuntime) -> Result<(), Fail> {
+fn equal_keys_are_one_entry(rt: HostRuntime) {
     let mut forest: NumberForest = MapForest::new(rt.alloc());
     let mut map = Map::new();
-    assert_eq!(rt;
-        insert(&rt, &mut map, (12, 1), &mut forest, &Tens),
-        Ok(None)
-    );
-    assert_eq!(rt;
-        insert(&rt, &mut map, (15, 2), &mut forest, &Tens),
-        Ok(Some(1))
-    );
-    assert_eq!(rt; get(&rt, &map, 19, &forest, &Tens), Some(2));
-    let all = entries(&rt, rt.alloc(), &map, &forest)?;
-    assert_eq!(rt; all.as_slice(), [(12, 2)].as_slice());
-    assert_eq!(rt; remove(&rt, &mut map, 17, &mut forest, &Tens), Some(2));
+    assert_eq!(rt; map.insert(12, 1, &mut forest, &Tens), Ok(None));
+    assert_eq!(rt; map.insert(15, 2, &mut forest, &Tens), Ok(Some(1)));
+    assert_eq!(rt; map.get(19, &forest, &Tens), Some(2));
+    assert_eq!(rt; map.remove(17, &mut forest, &Tens), Some(2));
     assert!(rt; map.is_empty());
-    Ok(())
-}
-
-#[test]
-fn an_order_that_does_not_fit_shows(rt: HostRuntime) -> Result<(), Fail> {
-    let mut forest: NumberForest = MapForest::new(rt.alloc());
-    let mut map = Map::new();
-    assert_eq!(rt; insert(&rt, &mut map, (5, 50), &mut forest, &()), Ok(None));
-    assert!(rt; increases(&rt, &map, &forest, &Reversed));
-    assert_eq!(rt;
-        insert(&rt, &mut map, (3, 30), &mut forest, &Reversed),
-        Ok(None)
-    );
-    let all = entries(&rt, rt.alloc(), &map, &forest)?;
-    assert_eq!(rt; all.as_slice(), [(5, 50), (3, 30)].as_slice());
-    assert!(rt; !increases(&rt, &map, &forest, &()));
-    assert!(rt; increases(&rt, &map, &forest, &Reversed));
-    assert!(rt; !increases(&rt, &map, &forest, &Tens));
-
-    // A list of one entry increases under every order.
-    assert_eq!(rt; remove(&rt, &mut map, 5, &mut forest, &Reversed), Some(50));
-    assert_eq!(rt; get(&rt, &map, 3, &forest, &()), Some(30));
-    assert_eq!(rt;
-        insert(&rt, &mut map, (7, 1), &mut forest, &Tens),
-        Ok(Some(30))
-    );
-    let all = entries(&rt, rt.alloc(), &map, &forest)?;
-    assert_eq!(rt; all.as_slice(), [(3, 1)].as_slice());
-    Ok(())
 }

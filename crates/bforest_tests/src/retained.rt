@@ -1,6 +1,6 @@
 //! Maps of which a predicate keeps some entries.
 
-use crate::checked::{NumberForest, Numbers, entries, insert, levels};
+use crate::checked::{NumberForest, Numbers, entries, insert};
 use bforest::{Map, MapForest};
 use std::process::Abort;
 use std::test::Fail;
@@ -12,26 +12,6 @@ fn ascending(rt: &impl Abort, most: u32, forest: &mut NumberForest) -> Numbers {
         assert_eq!(rt; insert(rt, &mut map, (key, key), forest, &()), Ok(None));
     }
     map
-}
-
-#[test]
-fn every_ninth_entry_is_kept(rt: HostRuntime) -> Result<(), Fail> {
-    let mut forest: NumberForest = MapForest::new(rt.alloc());
-    let mut map = ascending(&rt, 36, &mut forest);
-    assert!(rt; forest.holds(&map));
-    map.retain(&mut forest, |key, value| {
-        *value = value.wrapping_add(1);
-        key % 9 == 0
-    });
-    let all = entries(&rt, rt.alloc(), &map, &forest)?;
-    assert_eq!(rt;
-        all.as_slice(),
-        [(9, 10), (18, 19), (27, 28), (36, 37)].as_slice()
-    );
-    assert_eq!(rt; levels(&rt, &map, &forest), 1);
-    assert_eq!(rt; forest.slots(), 12);
-    assert_eq!(rt; forest.free_slots(), 11);
-    Ok(())
 }
 
 // A rest of how often it was asked, so that each entry shows that it was asked once, and in its turn.
