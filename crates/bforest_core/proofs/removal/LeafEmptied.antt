@@ -1,14 +1,13 @@
 -- The only entry of a leaf goes, and the leaf with it: it is the right-most.
-use Rattle.std.proofs.Common.{◌≡◌, ◌≢◌, suc, ◌+◌, ◌≤◌, Some, List, ◌∷◌, ◌++◌, map, length, get_or, slice_get, refl, sym, ap, ◌∙◌, subst, append_assoc, append-nil, length-append, arith, ℕ, []}
-use Rattle.bforest_core.proofs.Words.{flat_map, remove, get_or_default, IsLeafCapacity, Table, IsUsed, with_freed, LevelNode, node, flat, heads, sizes, numbers, FitRow, Solid, Stacked, Topped, Tree, half_of, sizes_of, loss, loss_above}
+use Rattle.std.proofs.Common.{◌≡◌, ◌≢◌, suc, ◌+◌, ◌≤◌, Some, List, ◌∷◌, ◌++◌, map, length, get_or, slice_get, refl, sym, ap, ◌∙◌, subst, append-nil, length-append, arith, ℕ, []}
+use Rattle.bforest_core.proofs.Words.{nil_from_length, flat_map, remove, get_or_default, IsLeafCapacity, Table, IsUsed, with_freed, LevelNode, node, flat, heads, sizes, numbers, FitRow, Solid, Stacked, Topped, Tree, half_of, sizes_of, loss, loss_above}
 use Rattle.bforest_core.proofs.Words.{shrink, RowIn, leaf_content, count, Distinct, root_above, root_of, numbers_of, IsPathAt, nodes_up, Above, Dropped, UpTo, Trimmed, StandsIn, Removed, Emptied}
 use Rattle.bforest_core.proofs.rows.LevelRows.{flat-append, heads-append, sizes-append, Solid-full}
 use Rattle.bforest_core.proofs.table.Tables.{count-append, counts, count-same, row-split, row-same, is_used, ne_from_count}
 use Rattle.bforest_core.proofs.rows.Tops.{root-stands}
 use Rattle.bforest_core.proofs.removal.Losses.{loss_at}
 use Rattle.bforest_core.proofs.removal.Frees.{freed_other, frees-one, frees-first}
-use Rattle.bforest_core.proofs.removal.Lifted.{above_same}
-use Rattle.bforest_core.proofs.removal.RemoveEmptied.{fit_solid}
+use Rattle.bforest_core.proofs.removal.RemovingEmptied.{fit_solid, LastOf, last_of_solid, last_heads, above_freed}
 use Rattle.bforest_core.proofs.removal.Collapse.{heads-flat}
 use Rattle.bforest_core.proofs.removal.LeafLoss.{remove_flat, leaf_count, leaf_at}
 use Rattle.bforest_core.proofs.removal.Shrunk.{Untrimmed, up_to, trimmed_removed}
@@ -23,26 +22,6 @@ one_entry (y ∷ l) x r one = absurd (omega (arith, one, length-append l (x ∷ 
 none_after : {K X : Type 0} (half most m : ℕ) (es : List (K × X)) (after : List (LevelNode K X)) → 2 ≤ half → length es ≡ 1 → FitRow half most (node m es ∷ after) → after ≡ []
 none_after half most m es [] two one f = refl
 none_after half most m es (next ∷ after) two one f = absurd (omega (arith, f.0, one, two))
-
--- no nodes before
-no_before : {K X : Type 0} (half most : ℕ) → 1 ≤ half → (before : List (LevelNode K X)) → Solid half most before → length (heads before) ≡ 0 → before ≡ []
-no_before half most one [] s e = refl
-no_before half most one (x ∷ before) s e = absurd (omega (arith, e, Solid-full half most one (x ∷ before) s))
-
--- no levels above
-no_above : {K : Type 0} (rows : List (List (LevelNode K ℕ))) → length rows ≡ 0 → rows ≡ []
-no_above [] e = refl
-no_above (row ∷ rows) e = absurd (omega (arith, e))
-
--- the last of some nodes
-last_before : {K X : Type 0} (half most : ℕ) → 1 ≤ half → (before : List (LevelNode K X)) → Solid half most before → 1 ≤ length (heads before) → (init : List (LevelNode K X)) × (number : ℕ) × (w : K × X) × (ws : List (K × X)) × (before ≡ init ++ node number (w ∷ ws) ∷ [])
-last_before half most one [] s some = absurd (omega (arith, some))
-last_before half most one (node n [] ∷ []) s some = absurd (omega (arith, s.0, one))
-last_before half most one (node n (w ∷ ws) ∷ []) s some = ([], n, w, ws, refl)
-last_before half most one (node n es ∷ next ∷ before) s some =
-    let full = Solid-full half most one (next ∷ before) s.2 in
-    let r = last_before half most one (next ∷ before) s.2 (omega (arith, full)) in
-    (node n es ∷ r.0, r.1, r.2, r.3, ap (λ z. node n es ∷ z) r.4)
 
 module _ {K V : Type 0} where
   -- the tree, cut at its last leaf, which has one entry
@@ -64,12 +43,8 @@ module _ {K V : Type 0} where
   -- others stand before it: the rows above, after it was freed
   pub record LeafDrop (most : ℕ) (t v : Table K V) (path indices : List ℕ) (size : ℕ) (tree : Tree K V) (place : ℕ) : Type 0 where
     pub d : LastLeaf most t path indices size tree place
-    pub init : List (LevelNode K V)
-    pub number : ℕ
-    pub w : K × V
-    pub ws : List (K × V)
-    pub before_is : d.before ≡ init ++ node number (w ∷ ws) ∷ []
-    pub above : Above v path indices 1 size tree.above (heads init ++ (w.0, number) ∷ (d.x.0, get_or path 0 0) ∷ []) (suc (length (heads init)))
+    pub o : LastOf d.before
+    pub above : Above v path indices 1 size tree.above (heads o.init ++ (o.w.0, o.number) ∷ (d.x.0, get_or path 0 0) ∷ []) (suc (length (heads o.init)))
     pub freed_is : v ≡ with_freed t (get_or path 0 0)
 
   module _ (most : ℕ) (t : Table K V) (path indices : List ℕ) (size : ℕ) (capacity : IsLeafCapacity most) (y : K × V) (slot : slice_get t.nodes (get_or path 0 0) ≡ Some (leaf_content (y ∷ []))) (r : ℕ) (wide : length path ≡ 17)
@@ -115,10 +90,10 @@ module _ {K V : Type 0} where
     pub emptied_tree : (v : Table K V) → size ≡ 1 → v ≡ with_freed t (get_or path 0 r) → Emptied most t v tree place
     emptied_tree v one freed =
         let n = get_or path 0 0 in
-        let above_is : tree.above ≡ [] = no_above tree.above (omega (arith, one, s.stands.size_is)) in
+        let above_is : tree.above ≡ [] = nil_from_length tree.above (omega (arith, one, s.stands.size_is)) in
         let seen = subst (λ (z : List (List (LevelNode K ℕ))). Stacked (heads tree.leaves) z) above_is s.fit.stacked in
         let seen_is : length (heads tree.leaves) ≡ 1 = seen in
-        let none : d.before ≡ [] = no_before (half_of most) most d.half d.before d.solid (omega (arith, seen_is, ap (λ z. length (heads z)) d.leaves_are, ap length (heads-append d.before (node n (d.x ∷ []) ∷ [])), length-append (heads d.before) ((d.x.0, n) ∷ []))) in
+        let none : d.before ≡ [] = nil_from_length d.before (omega (arith, Solid-full (half_of most) most d.half d.before d.solid, seen_is, ap (λ z. length (heads z)) d.leaves_are, ap length (heads-append d.before (node n (d.x ∷ []) ∷ [])), length-append (heads d.before) ((d.x.0, n) ∷ []))) in
         let leaves_are : tree.leaves ≡ node n (d.x ∷ []) ∷ [] = d.leaves_are ∙ ap (λ z. z ++ node n (d.x ∷ []) ∷ []) none in
         let levels : sizes_of tree ≡ (1 ∷ []) ∷ [] = ap (λ z. sizes z ∷ map sizes tree.above) leaves_are ∙ ap (λ z. (1 ∷ []) ∷ map sizes z) above_is in
         let first : place ≡ 0 = d.place_is ∙ ap (λ z. length (flat z)) none in
@@ -138,26 +113,9 @@ module _ {K V : Type 0} where
     leaf_drop v more freed =
         let n = get_or path 0 0 in
         let low = two_leaves (heads tree.leaves) tree.above s.fit.topped (λ (e : length tree.above ≡ 0). more (omega (arith, e, s.stands.size_is))) in
-        let some : 1 ≤ length (heads d.before) = omega (arith, low, ap (λ z. length (heads z)) d.leaves_are, ap length (heads-append d.before (node n (d.x ∷ []) ∷ [])), length-append (heads d.before) ((d.x.0, n) ∷ [])) in
-        let r = last_before (half_of most) most d.half d.before d.solid some in
-        let is = freed_here v freed in
-        let other = freed_other t v n is in
-        let hs : heads d.before ≡ heads r.0 ++ (r.2.0, r.1) ∷ [] = ap heads r.4 ∙ heads-append r.0 (node r.1 (r.2 ∷ r.3) ∷ []) in
-        let list : heads (d.before ++ node n (d.x ∷ []) ∷ []) ≡ heads r.0 ++ (r.2.0, r.1) ∷ (d.x.0, n) ∷ [] = heads-append d.before (node n (d.x ∷ []) ∷ []) ∙ ap (λ z. z ++ (d.x.0, n) ∷ []) hs ∙ append_assoc (heads r.0) ((r.2.0, r.1) ∷ []) ((d.x.0, n) ∷ []) in
-        let len : length (heads d.before) ≡ suc (length (heads r.0)) = omega (arith, ap length hs, length-append (heads r.0) ((r.2.0, r.1) ∷ [])) in
-        let row : List (LevelNode K V) = d.before ++ node n (d.x ∷ []) ∷ [] in
-        let b = above_same t v path indices 1 size tree.above (heads row) (length (heads d.before)) (λ m here. other m (ne_from_count m n (flat_map numbers tree.above) here d.none_rows))
-        (λ m. omega (arith, d.apart m, counts m d.before n (d.x ∷ []) [] tree.above t.chain, count-append m (flat_map numbers tree.above) v.chain, ap (λ z. count m z.chain) is)) d.above in
-        record {
-          d = d;
-          init = r.0;
-          number = r.1;
-          w = r.2;
-          ws = r.3;
-          before_is = r.4;
-          above = subst (λ (z : ℕ). Above v path indices 1 size tree.above (heads r.0 ++ (r.2.0, r.1) ∷ (d.x.0, n) ∷ []) z) len (subst (λ (z : List (K × ℕ)). Above v path indices 1 size tree.above z (length (heads d.before))) list b);
-          freed_is = is;
-        }
+        let some : 1 ≤ length (flat d.before) = omega (arith, low, ap (λ z. length (heads z)) d.leaves_are, ap length (heads-append d.before (node n (d.x ∷ []) ∷ [])), length-append (heads d.before) ((d.x.0, n) ∷ []), heads-flat d.before) in
+        let o = last_of_solid (half_of most) most d.half d.before d.solid some in
+        record { d = d; o = o; above = above_freed t v path indices 1 size n d.before d.x tree.above o d.apart (freed_here v freed) d.above; freed_is = freed_here v freed }
       where
         two_leaves : (list : List (K × ℕ)) (rows : List (List (LevelNode K ℕ))) → Topped list rows → length rows ≢ 0 → 2 ≤ length list
         two_leaves list [] topped ne = absurd (ne refl)
@@ -165,15 +123,15 @@ module _ {K V : Type 0} where
 
   -- and after its entry is out of them
   pub drop_untrimmed : (most : ℕ) (t v u : Table K V) (path indices : List ℕ) (size : ℕ) (tree : Tree K V) (place : ℕ) (freed : List ℕ) → StandsIn most t path indices size tree place → (c : LeafDrop most t v path indices size tree place) →
-      Dropped v u path size tree.above (heads c.init ++ (c.w.0, c.number) ∷ []) (loss_above (Some (suc (length (heads c.init)))) (map sizes tree.above)) freed → (rows : List (List (LevelNode K ℕ))) × Untrimmed most t u tree place c.d.before rows (freed ++ get_or path 0 0 ∷ [])
+      Dropped v u path size tree.above (heads c.o.init ++ (c.o.w.0, c.o.number) ∷ []) (loss_above (Some (suc (length (heads c.o.init)))) (map sizes tree.above)) freed → (rows : List (List (LevelNode K ℕ))) × Untrimmed most t u tree place c.d.before rows (freed ++ get_or path 0 0 ∷ [])
   drop_untrimmed most t v u path indices size tree place freed s c r =
       let n = get_or path 0 0 in
       let d = c.d in
       let front : List (LevelNode K V) = d.before in
       let row : List (LevelNode K V) = front ++ node n (d.x ∷ []) ∷ [] in
-      let hs : heads front ≡ heads c.init ++ (c.w.0, c.number) ∷ [] = ap heads c.before_is ∙ heads-append c.init (node c.number (c.w ∷ c.ws) ∷ []) in
+      let hs = last_heads front c.o in
       let full = Solid-full (half_of most) most d.half front d.solid in
-      let len : suc (length (heads c.init)) ≡ length front = omega (arith, full, ap length hs, length-append (heads c.init) ((c.w.0, c.number) ∷ [])) in
+      let len : suc (length (heads c.o.init)) ≡ length front = omega (arith, full, ap length hs, length-append (heads c.o.init) ((c.o.w.0, c.o.number) ∷ [])) in
       let z0 : length (flat front) ≡ length (flat front) + 0 = omega arith in
       let other = freed_other t v n c.freed_is in
       let in_v : RowIn leaf_content v.nodes front = row-same leaf_content t.nodes v.nodes front (λ m some. other m (ne_from_count m n (numbers front) some d.none_before)) (row-split leaf_content t.nodes front (node n (d.x ∷ []) ∷ []) d.inside).0 in
@@ -202,7 +160,7 @@ module _ {K V : Type 0} where
 
   -- and roots with a single child went: the path is at the end
   pub drop_removed : (most : ℕ) (t v u u2 : Table K V) (path indices path' indices' : List ℕ) (size size2 : ℕ) (tree : Tree K V) (place root root' : ℕ) → StandsIn most t path indices size tree place → root_of tree ≡ root → (c : LeafDrop most t v path indices size tree place) →
-      (levels : ℕ) × Dropped v u path size tree.above (heads c.init ++ (c.w.0, c.number) ∷ []) (loss_above (Some (suc (length (heads c.init)))) (map sizes tree.above)) (nodes_up path 1 levels) →
+      (levels : ℕ) × Dropped v u path size tree.above (heads c.o.init ++ (c.o.w.0, c.o.number) ∷ []) (loss_above (Some (suc (length (heads c.o.init)))) (map sizes tree.above)) (nodes_up path 1 levels) →
       ((rows : List (List (LevelNode K ℕ))) (list : List (K × ℕ)) → UpTo u size rows list root → (gone : List ℕ) × Trimmed u u2 size size2 rows list root root' gone) → Removed most t u2 path (λ z. IsPathAt path' indices' 0 z place) tree place root'
   drop_removed most t v u u2 path indices path' indices' size size2 tree place root root' s root_is c dropped trims =
       let d = drop_untrimmed most t v u path indices size tree place (nodes_up path 1 dropped.0) s c dropped.1 in

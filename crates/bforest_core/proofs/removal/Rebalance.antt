@@ -17,7 +17,7 @@ no_le : (a b : ℕ) → b < a → nat_le a b ≡ false
 no_le a b h = grind arith
 
 -- what SHRINK says of it
-rebalanced_last : (q m : ℕ) → 1 ≤ m → rebalanced q m [] ≡ (false, m ∷ [])
+pub rebalanced_last : (q m : ℕ) → 1 ≤ m → rebalanced q m [] ≡ (false, m ∷ [])
 rebalanced_last q zero one = absurd (omega arith)
 rebalanced_last q (suc m) one = refl
 

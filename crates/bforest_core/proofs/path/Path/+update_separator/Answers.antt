@@ -4,7 +4,7 @@ use Rattle.bforest_core.proofs.table.Tables.{is_used}
 use Rattle.bforest_core.proofs.rows.Zipper.{spot}
 use Rattle.bforest_core.proofs.table.Stored.{key_count}
 use Rattle.bforest_core.proofs.removal.Neighbours.{up_above}
-use Rattle.bforest_core.proofs.removal.Separators.{rekey_top, rekey_parent, rekey_first}
+use Rattle.bforest_core.proofs.removal.Separating.{rekey_top, rekey_parent, rekey_first}
 use Rattle.bforest_core.proofs.path.Path.+update_separator.Goals as goal
 
 pub set_separator-requires : goal.set_separator-requires
