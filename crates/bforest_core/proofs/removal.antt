@@ -14,7 +14,6 @@ pub mod Balance
 pub mod Rebalance
 pub mod Neighbours
 pub mod Merge
-pub mod Healing
 pub mod Asked
 pub mod Rebalancing
 pub mod Separating

@@ -25,7 +25,7 @@ enter_next-requires g c =
 
 pub returns-then-self-left-clause-healed : goal.returns-then-self-left-clause-healed
 returns-then-self-left-clause-healed g c = λ same before n es after rest p.
-    past_heals leaf_content _ _ _ (half_leaf _ c.requires.capacity) (leaf_stored g.row.N) _ _ _ _ _ _ c.index-self-0.result refl (omega arith) c.requires.height before n es after rest p _ _ c.entries-left.result c.entries-left.ensures.value (over_half _ _ c.requires.capacity c.if-left.true) c.if-self-left.true
+    past_heals leaf_content _ _ _ (half_leaf _ c.requires.capacity) (leaf_stored g.row.N) _ _ _ _ _ _ c.index-self-0.result refl (omega arith) c.requires.height before n es after rest p c.entries-left.result c.entries-left.ensures.value c.if-self-left.true _ _ (over_half _ _ c.requires.capacity c.if-left.true)
     c.enter_next.ensures.moved c.enter_next.ensures.first c.enter_next.ensures.nodes_below c.enter_next.ensures.entries_below c.enter_next.ensures.same_top
 
 pub returns-else-self-left-clause-healed : goal.returns-else-self-left-clause-healed
