@@ -6,7 +6,7 @@ use Rattle.bforest_core.proofs.table.Stored.{some_same, Parts, inner_cuts, leaf_
 use Rattle.bforest_core.proofs.table.Tables.{count-same, puts}
 use Rattle.bforest_core.proofs.rows.LevelRows.{head-is}
 use Rattle.bforest_core.proofs.rows.Zipper.{cut}
-use Rattle.bforest_core.proofs.removal.Frees.{frees-then, frees-puts}
+use Rattle.bforest_core.proofs.removal.Frees.{frees-after, frees-puts}
 
 -- half and all of a node
 pub record IsHalf (half most : ℕ) : Type 0 where
@@ -71,7 +71,7 @@ module _ {K V X : Type 0} (content : List (K × X) → Content K V) where
         here = two.same n ne ∙ one.here;
         there = two.here;
         same = λ m a b. two.same m b ∙ one.same m a;
-        frees = frees-then t v u own own [] [] (λ m none. none) (λ m some. omega (arith, some)) (frees-puts t v n c own (omega (arith, count-same n (q ∷ []))) one) (frees-puts v u q d own (omega (arith, count-same q [])) two);
+        frees = frees-after t v u own own [] (λ m none. none) (frees-puts t v n c own (omega (arith, count-same n (q ∷ []))) one) (frees-puts v u q d own (omega (arith, count-same q [])) two);
       }
 
   -- all in the right one

@@ -1,5 +1,5 @@
 -- Changes of some numbers of a table, of which some are freed: none, one after another, and of more numbers.
-use Rattle.std.proofs.Common.{◌≡◌, ◌≢◌, ℕ, ◌<◌, List, [], ◌∷◌, ◌++◌, length, slice_get, Some, refl, sym, ap, ◌∙◌, subst, inl, inr, append_assoc, length-set, arith}
+use Rattle.std.proofs.Common.{◌≡◌, ◌≢◌, ℕ, ◌<◌, List, [], ◌∷◌, ◌++◌, length, slice_get, Some, refl, sym, ap, ◌∙◌, subst, inl, inr, append_assoc, append-nil, length-set, arith}
 use Rattle.bforest_core.proofs.Words.{eqb_tells, slice_get_within, Content, Free, IsFree, Table, with_freed, front_of, count, Frees, slot, Every}
 use Rattle.bforest_core.proofs.table.Tables.{Puts, count-other, slice_get-set_apart}
 use Rattle.bforest_core.proofs.union.Forests.{every-join}
@@ -32,6 +32,10 @@ module _ {K V : Type 0} where
     slots_are = q.slots_are ∙ p.slots_are;
     limit_is = q.limit_is ∙ p.limit_is;
   }
+
+  -- one change after another that freed nothing
+  pub frees-after : (t u v : Table K V) (own wide freed : List ℕ) → ((m : ℕ) → count m own ≡ 0 → count m wide ≡ 0) → Frees t u own [] → Frees u v wide freed → Frees t v own freed
+  frees-after t u v own wide freed less p q = subst (λ (z : List ℕ). Frees t v own z) (append-nil freed) (frees-then t u v own wide [] freed less (λ m some. omega (arith, some)) p q)
 
   -- a change of some numbers is one of more
   pub frees-wider : (t u : Table K V) (own wide freed : List ℕ) → ((m : ℕ) → count m wide ≡ 0 → count m own ≡ 0) → Frees t u own freed → Frees t u wide freed
@@ -77,9 +81,3 @@ module _ {K V : Type 0} where
       ((m : ℕ) → count m own ≡ 0 → count m wide ≡ 0) → Frees v u wide freed → Frees t u own (freed ++ n ∷ [])
   frees-first t v u n old own wide freed found is some none less q =
       frees-then t v u own wide (n ∷ []) freed less (λ m here. only_here m n wide here none) (frees-one t v n old own found is some) q
-
-  -- a change that frees one of a level, between one on it and one of the rows above
-  pub frees-joined : (t u w v : Table K V) (own row rest : List ℕ) (n : ℕ) (freed : List ℕ) → ((m : ℕ) → count m own ≡ 0 → (count m row ≡ 0) × (count m rest ≡ 0)) → count n rest ≡ 0 →
-      Frees t u own [] → Frees u w row (n ∷ []) → Frees w v rest freed → Frees t v own (freed ++ n ∷ [])
-  frees-joined t u w v own row rest n freed less none p q r =
-      frees-then t w v own rest (n ∷ []) freed (λ m z. (less m z).1) (λ m here. only_here m n rest here none) (frees-then t u w own row [] (n ∷ []) (λ m z. (less m z).0) (λ m some. omega (arith, some)) p q) r

@@ -5,7 +5,7 @@ use Rattle.bforest_core.proofs.Words.{numbers_of, Above, Rebuilt, StandsIn, Leaf
 use Rattle.bforest_core.proofs.rows.LevelRows.{flat-append, sizes-append, FitRow-split, Solid-full, least-pos}
 use Rattle.bforest_core.proofs.table.Tables.{count-append, counts, count-same, row-split, row-put, row-same, Puts}
 use Rattle.bforest_core.proofs.rows.Zipper.{cut, apart_here}
-use Rattle.bforest_core.proofs.removal.Frees.{frees-then, frees-puts}
+use Rattle.bforest_core.proofs.removal.Frees.{frees-after, frees-puts}
 
 remove_between : {A : Type 0} (p s : List A) (x : A) → remove (p ++ x ∷ s) (length p) ≡ p ++ s
 remove_between [] s x = refl
@@ -152,6 +152,5 @@ module _ {K V : Type 0} where
         sizes_were = ap sizes d.leaves_are ∙ sizes-append d.before (node n old ∷ d.after) ∙ ap (λ z. sizes d.before ++ z ∷ sizes d.after) len;
         rest_sizes = b.sizes_are;
         numbers_are = λ m. omega (arith, c0 m, c1 m, c2 m, c8 m, c9 m);
-        frees = frees-then t u v (numbers_of tree) (flat_map numbers tree.above) [] [] (λ m none. omega (arith, none, c8 m)) (λ m some. omega (arith, some))
-            (frees-puts t u n (leaf_content es) (numbers_of tree) (omega (arith, c0 n, c1 n, c8 n, count-same n (numbers d.after))) w) b.frees;
+        frees = frees-after t u v (numbers_of tree) (flat_map numbers tree.above) [] (λ m none. omega (arith, none, c8 m)) (frees-puts t u n (leaf_content es) (numbers_of tree) (omega (arith, c0 n, c1 n, c8 n, count-same n (numbers d.after))) w) b.frees;
       }

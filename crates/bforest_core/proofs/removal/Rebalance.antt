@@ -5,7 +5,7 @@ use Rattle.bforest_core.proofs.Words.{count, Above, SameBelow, top_of, Rebuilt, 
 use Rattle.bforest_core.proofs.rows.LevelRows.{flat-append, heads-append, sizes-append, numbers-append, FitRow-join, least-le}
 use Rattle.bforest_core.proofs.table.Tables.{count-append, counts, count-same, count-row, row-same, row-put_two, row-drop_put, rows-same}
 use Rattle.bforest_core.proofs.rows.Zipper.{above_two, stands-same}
-use Rattle.bforest_core.proofs.removal.Frees.{frees-refl, frees-then, frees-wider, frees-one, freed_other}
+use Rattle.bforest_core.proofs.removal.Frees.{frees-refl, frees-after, frees-wider, frees-one, freed_other}
 use Rattle.bforest_core.proofs.removal.Lifted.{above_same}
 use Rattle.bforest_core.proofs.removal.Losses.{here_lt, past_lt}
 use Rattle.bforest_core.proofs.removal.Balance.{IsHalf, PutsTwo, AllRight, Spread}
@@ -160,8 +160,7 @@ module _ {K V X : Type 0} (content : List (K × X) → Content K V) (half most :
             rest_sizes = b.sizes_are;
             row_numbers = numbers-append before (node n (s.x ∷ s.xs) ∷ node q (s.y ∷ s.ys) ∷ after) ∙ sym (numbers-append before (node n (e ∷ es) ∷ node q (f ∷ fs) ∷ after));
             rest_numbers = λ m. omega (arith, b.numbers_are m);
-            frees = frees-then t u v (numbers row ++ flat_map numbers rest) (flat_map numbers rest) [] [] (λ m none. omega (arith, none, c m)) (λ m some. omega (arith, some))
-                (frees-wider t u (numbers row) (numbers row ++ flat_map numbers rest) [] (λ m none. omega (arith, none, c m)) (two_frees u _ _ s.two)) b.frees;
+            frees = frees-after t u v (numbers row ++ flat_map numbers rest) (flat_map numbers rest) [] (λ m none. omega (arith, none, c m)) (frees-wider t u (numbers row) (numbers row ++ flat_map numbers rest) [] (λ m none. omega (arith, none, c m)) (two_frees u _ _ s.two)) b.frees;
             nodes_below = λ i low. refl;
             entries_below = λ i low. refl;
             same_top = refl;
@@ -178,7 +177,7 @@ module _ {K V X : Type 0} (content : List (K × X) → Content K V) (half most :
           let high : suc up < size = above_two t path indices (suc up) size rest (heads before) (e.0, n) (f.0, q) (heads after) (length (heads before)) a in
           let other : (m : ℕ) → m ≢ n → slice_get v.nodes m ≡ slice_get u.nodes m = freed_other u v n v_is in
           let c = λ (m : ℕ). counts m before n (e ∷ es) (node q (f ∷ fs) ∷ after) rest t.chain in
-          let frees : Frees t v (numbers row) (n ∷ []) = frees-then t u v (numbers row) (n ∷ []) [] (n ∷ []) (λ m none. omega (arith, none, c m)) (λ m some. omega (arith, some)) (two_frees u _ _ s.two) (frees-one u v n s.left_content (n ∷ []) s.two.here v_is (omega (arith, count-same n []))) in
+          let frees : Frees t v (numbers row) (n ∷ []) = frees-after t u v (numbers row) (n ∷ []) (n ∷ []) (λ m none. omega (arith, none, c m)) (two_frees u _ _ s.two) (frees-one u v n s.left_content (n ∷ []) s.two.here v_is (omega (arith, count-same n []))) in
           record {
             first = e;
             others = es;

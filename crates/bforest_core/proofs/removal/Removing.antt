@@ -74,7 +74,7 @@ module _ {K V : Type 0} (most : ℕ) (old mid : Table K V) (path indices : List 
           (m.0, subst (λ (z : List ℕ). Rebuilt mid2 new path1 indices1 path' indices' 1 size l.rest (heads l.before ++ (j.first.0, j.right) ∷ heads j.after') (length (heads l.before)) (loss_above (Some (length (heads l.before))) (map sizes l.rest)) z) same r)
 
       untrimmed : Untrimmed most old new tree place (l.before ++ node j.right (l.entries ++ j.right_entries) ∷ j.after') rest.1.rows' (nodes_up path 0 (suc rest.0))
-      untrimmed = joined_untrimmed most old mid path indices size tree place s l mid2 path1 indices1 j new path' indices' (nodes_up path 1 rest.0) rest.1
+      untrimmed = joined_untrimmed most old mid path indices size tree place s l mid2 new path1 indices1 path' indices' (nodes_up path 1 rest.0) j rest.1
 
       up : UpTo new size2 rest.1.rows' (heads (l.before ++ node j.right (l.entries ++ j.right_entries) ∷ j.after')) root
       up = up_to most old new path indices size size2 tree place root _ rest.1.rows' _ s untrimmed size2_is root_is
@@ -88,5 +88,6 @@ module _ {K V : Type 0} (most : ℕ) (old mid : Table K V) (path indices : List 
           Removed most old new2 path (λ z. IsPathAt path2 indices2 size3 z place) tree place root'
       joined_removed new2 path2 indices2 size3 root' trims path_is indices_is =
           let t = trims rest.1.rows' _ up in
-          let st = joined_stands most old mid path indices size tree place s l mid2 path1 indices1 j new path' indices' (nodes_up path 1 rest.0) rest.1 new2 path2 indices2 size2 size3 root root' t.0 t.1 path_is indices_is in
-          trimmed_removed most old new new2 path indices size tree place root _ rest.1.rows' (suc rest.0) size2 size3 root' t.0 (λ z. IsPathAt path2 indices2 size3 z place) s untrimmed root_is t.1 size2_is (path-at path2 indices2 size3 _ place st)
+          let st = joined_stands most old mid path indices size tree place s l mid2 new path1 indices1 path' indices' (nodes_up path 1 rest.0) j rest.1 new2 size2 size3 root root' t.0 t.1 in
+          let w = trimmed_removed most old new new2 path indices size tree place root _ rest.1.rows' (suc rest.0) size2 size3 root' t.0 (λ z. IsPathAt path' indices' size3 z place) s untrimmed root_is t.1 size2_is (path-at path' indices' size3 _ place st) in
+          rw (path_is, indices_is) w

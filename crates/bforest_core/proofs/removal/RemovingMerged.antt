@@ -6,7 +6,7 @@ use Rattle.bforest_core.proofs.table.Tables.{counts, count-same, count-row, row-
 use Rattle.bforest_core.proofs.table.Stored.{key_count, item_count, some_same}
 use Rattle.bforest_core.proofs.rows.Contents.{removed_same, removed_last, last_key}
 use Rattle.bforest_core.proofs.rows.Zipper.{Spot, above_two}
-use Rattle.bforest_core.proofs.removal.Frees.{frees-puts, frees-then, frees-wider}
+use Rattle.bforest_core.proofs.removal.Frees.{frees-puts, frees-after, frees-wider}
 use Rattle.bforest_core.proofs.removal.Lifted.{head-other, heads-put, above_written, rebuilt_same, rows_above, flat_at, place_at}
 use Rattle.bforest_core.proofs.removal.Separating.{next_in, Across, across, across_in, across_above}
 use Rattle.bforest_core.proofs.removal.Asked.{KeyAt, ChildAt, Counts, ReadsKey, Writes, Removes, TwoAbove, Rekeys, Seen, seen}
@@ -50,7 +50,7 @@ module _ {K V : Type 0} where
           place_is = place_at t path indices up size rows a (k, m) ((k2, n) ∷ b) d;
           sizes_were = ap (λ z. map sizes z) q.rows_are ∙ ap (λ z. z ∷ map sizes q.rest) (sizes-append q.before (node num old ∷ q.after) ∙ ap (λ z. sizes q.before ++ z ∷ sizes q.after) len ∙ ap (λ z. sizes q.before ++ suc (length es) ∷ z) (sym sizes_same)) ∙ ap (λ z. (sizes q.before ++ suc (length es) ∷ sizes after) ∷ z) (sym r.sizes_are);
           numbers_are = λ i. omega (arith, c i, c2 i, c3 i, r.numbers_are i, ap (λ z. count i (flat_map numbers z)) q.rows_are);
-          frees = rw q.rows_are (frees-then t v u own own [] [] (λ i none. none) (λ i some. omega (arith, some)) (frees-wider t v (flat_map numbers q.rest) own [] (λ i none. omega (arith, none, c i)) r.frees) (frees-puts v u num (inner_content es) own (omega (arith, c num, count-same num (numbers q.after))) w));
+          frees = rw q.rows_are (frees-after t v u own own [] (λ i none. none) (frees-wider t v (flat_map numbers q.rest) own [] (λ i none. omega (arith, none, c i)) r.frees) (frees-puts v u num (inner_content es) own (omega (arith, c num, count-same num (numbers q.after))) w));
         }
 
     -- the key and the entry under one parent
