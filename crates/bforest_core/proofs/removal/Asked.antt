@@ -91,6 +91,7 @@ module _ {K V : Type 0} where
     pub node_asks : NodeAt t (get_or path up r)
     pub child_asks : ChildAt t (get_or path up r) (get_or indices up 0)
     pub counted : (m : ℕ) → Counts t (get_or path up r) m → m ≡ length (d.q.l ++ x ∷ d.q.r)
+    pub low_key_asks : (i : ℕ) → i < get_or indices up 0 → KeyAt t (get_or path up r) i
     pub key_asks : (m i : ℕ) → Counts t (get_or path up r) m → i + 1 < m → KeyAt t (get_or path up r) i
 
   pub seen : (t : Table K V) (path indices : List ℕ) (up size : ℕ) (rows : List (List (LevelNode K ℕ))) (a : List (K × ℕ)) (x : K × ℕ) (b : List (K × ℕ)) → Above t path indices up size rows (a ++ x ∷ b) (length a) → up < size → (r : ℕ) → length path ≡ 17 → size ≤ 17 → Seen t path indices up size rows a x b r
@@ -111,5 +112,6 @@ module _ {K V : Type 0} where
         node_asks = (inner_content es, slot, λ free. free);
         child_asks = (drop 1 (entry_keys es), entry_items es, slot, omega (arith, item_count es, d.count_is));
         counted = counted;
+        low_key_asks = λ i below. (drop 1 (entry_keys es), entry_items es, slot, omega (arith, below, d.count_is, key_count es));
         key_asks = λ m i value more. (drop 1 (entry_keys es), entry_items es, slot, omega (arith, counted m value, more, key_count es));
       }

@@ -4,6 +4,7 @@ use Rattle.bforest_core.proofs.Words.{flat_map, Content, Table, LevelNode, node,
 use Rattle.bforest_core.proofs.rows.LevelRows.{flat-append, heads-append, sizes-append, FitRow-split, Solid-full, least-pos}
 use Rattle.bforest_core.proofs.table.Tables.{count-append, count-same, count-row, counts, row-same}
 use Rattle.bforest_core.proofs.rows.Zipper.{stands_here}
+use Rattle.bforest_core.proofs.removal.Asked.{MergeAbove}
 use Rattle.bforest_core.proofs.removal.Losses.{loss_at, placed}
 use Rattle.bforest_core.proofs.removal.Frees.{only_here, frees-then, frees-after, frees-wider}
 
@@ -56,6 +57,11 @@ module _ {K V X : Type 0} (content : List (K × X) → Content K V) (half most :
   pub joined_sizes : length (heads before) ≡ length before → sizes joined_row ∷ map sizes r.rows' ≡ (sizes before ++ (rebalanced most (length es) (sizes after)).1) ∷ loss_above (placed (length before) (rebalanced most (length es) (sizes after)).0) (map sizes rest)
   joined_sizes full =
       ap (λ z. z ∷ map sizes r.rows') (sizes-append before (node j.right both ∷ j.after')) ∙ ap (λ z. (sizes before ++ length both ∷ sizes j.after') ∷ z) (r.sizes_are ∙ ap (λ z. loss_above (Some z) (map sizes rest)) full) ∙ sym (ap (λ z. (sizes before ++ z.1) ∷ loss_above (placed (length before) z.0) (map sizes rest)) j.outcome)
+
+-- the rows above wait to lose its entry; the level and the size are given as the code has them
+pub merge_asks : {K V X : Type 0} (content : List (K × X) → Content K V) (half most : ℕ) (t w : Table K V) (path indices path1 indices1 : List ℕ) (up size : ℕ) (before : List (LevelNode K X)) (n : ℕ) (es : List (K × X)) (after : List (LevelNode K X)) (rest : List (List (LevelNode K ℕ))) →
+    Joined content half most t w path indices path1 indices1 up size before n es after rest → (up' size' : ℕ) → up' ≡ suc up → size' ≡ size → MergeAbove w path1 indices1 up' size'
+merge_asks content half most t w path indices path1 indices1 up size before n es after rest j up' size' up_is size_is = (rest, heads before, j.first.0, n, j.key, j.right, heads j.after', rw (up_is, size_is) j.above)
 
 -- the sizes of a level that healed, and of those above
 pub healed_sizes : {K V X : Type 0} (content : List (K × X) → Content K V) (half most : ℕ) (t v : Table K V) (path indices path' indices' : List ℕ) (up size : ℕ) (before : List (LevelNode K X)) (n : ℕ) (es : List (K × X)) (after : List (LevelNode K X)) (rest : List (List (LevelNode K ℕ))) →

@@ -6,7 +6,7 @@ use Rattle.bforest_core.proofs.table.Tables.{row-split}
 use Rattle.bforest_core.proofs.rows.Zipper.{Spot, stands-same}
 use Rattle.bforest_core.proofs.table.Stored.{item_count, slice_get_at, some_same}
 use Rattle.bforest_core.proofs.removal.Asked.{ChildAt, Counts, ReadsKey, ReadsChild, OneAbove, Beside, Seen, seen}
-use Rattle.bforest_core.proofs.removal.LeafLoss.{no_nodes}
+use Rattle.bforest_core.proofs.removal.LeafLoss.{no_nodes, some_first}
 use Rattle.bforest_core.proofs.removal.Lifted.{NextNode, next_of, rows_above}
 
 second : {X Y : Type 0} (f : X → Y) (l : List X) (x y : X) (r : List X) → slice_get (map f (l ++ x ∷ y ∷ r)) (suc (length l)) ≡ Some (f y)
@@ -17,39 +17,15 @@ second_key : {K : Type 0} (l : List (K × ℕ)) (x y : K × ℕ) (r : List (K ×
 second_key [] x y r = refl
 second_key (z ∷ l) x y r = second (λ w. w.0) l x y r
 
--- the next entry under the same parent
-pub record Within {K : Type 0} (l : List (K × ℕ)) (x : K × ℕ) (r : List (K × ℕ)) (e : ℕ) : Type 0 where
-  pub y : K × ℕ
-  pub ys : List (K × ℕ)
-  pub r_is : r ≡ y ∷ ys
-  pub key_is : slice_get (drop 1 (entry_keys (l ++ x ∷ r))) e ≡ Some y.0
-  pub item_is : slice_get (entry_items (l ++ x ∷ r)) (e + 1) ≡ Some y.1
-
--- the next entry of a node
-pub within : {K : Type 0} (l : List (K × ℕ)) (x : K × ℕ) (r : List (K × ℕ)) (e : ℕ) → length l ≡ e → e + 1 < length (l ++ x ∷ r) → Within l x r e
-within l x [] e l_is more = absurd (omega (arith, more, l_is, length-append l (x ∷ [])))
-within l x (y ∷ ys) e l_is more =
-    let suc_is : e + 1 ≡ suc (length l) = omega (arith, l_is) in
-    record { y = y; ys = ys; r_is = refl; key_is = rw (← l_is) (second_key l x y ys); item_is = rw suc_is (second (λ w. w.1) l x y ys) }
-
 module _ {K V : Type 0} where
   -- the rows one level up, under the path's node
-  pub record UpAbove (t : Table K V) (path indices : List ℕ) (up size : ℕ) (before : List (LevelNode K ℕ)) (n : ℕ) (after : List (LevelNode K ℕ)) (rest : List (List (LevelNode K ℕ))) : Type 0 where
-    pub k : K
-    pub above : Above t path indices (suc up) size rest (heads before ++ (k, n) ∷ heads after) (length (heads before))
-
-  -- the rows one level up
-  pub up_above : (t : Table K V) (path indices : List ℕ) (up size : ℕ) (rows : List (List (LevelNode K ℕ))) (a : List (K × ℕ)) (x : K × ℕ) (b : List (K × ℕ)) → (d : Spot t path indices up size rows a x b) → UpAbove t path indices up size d.q.before (get_or path up 0) d.q.after d.q.rest
+  pub up_above : (t : Table K V) (path indices : List ℕ) (up size : ℕ) (rows : List (List (LevelNode K ℕ))) (a : List (K × ℕ)) (x : K × ℕ) (b : List (K × ℕ)) → (d : Spot t path indices up size rows a x b) → (k : K) × Above t path indices (suc up) size d.q.rest (heads d.q.before ++ (k, get_or path up 0) ∷ heads d.q.after) (length (heads d.q.before))
   up_above t path indices up size rows a x b d =
-      let q = d.q in
       let n = get_or path up 0 in
-      let es : List (K × ℕ) = q.l ++ x ∷ q.r in
+      let es : List (K × ℕ) = d.q.l ++ x ∷ d.q.r in
       let h = head-is n es (omega (arith, d.count_is)) in
-      record {
-        k = h.first.0;
-        above = subst (λ (w : List (K × ℕ)). Above t path indices (suc up) size q.rest w (length (heads q.before))) (heads-append q.before (node n es ∷ q.after) ∙ ap (λ z. heads q.before ++ (head_of n z ++ heads q.after)) h.es_is)
-            (rows_above t path indices up size rows a x b d);
-      }
+      let list = heads-append d.q.before (node n es ∷ d.q.after) ∙ ap (λ z. heads d.q.before ++ (head_of n z ++ heads d.q.after)) h.es_is in
+      (h.first.0, subst (λ (z : List (K × ℕ)). Above t path indices (suc up) size d.q.rest z (length (heads d.q.before))) list (rows_above t path indices up size rows a x b d))
 
   -- rows above a level, for a step on it
   pub over-above : (t : Table K V) (path indices : List ℕ) (level size : ℕ) (rows : List (List (LevelNode K ℕ))) (list : List (K × ℕ)) (place : ℕ) → Above t path indices level size rows list place → Over t.nodes path indices level size rows list place
@@ -83,22 +59,22 @@ module _ {K V : Type 0} where
     abbrev d : Spot t path indices up size rows a x b
     d = here.d
 
-    u : UpAbove t path indices up size d.q.before (get_or path up 0) d.q.after d.q.rest
+    u : (k : K) × Above t path indices (suc up) size d.q.rest (heads d.q.before ++ (k, get_or path up 0) ∷ heads d.q.after) (length (heads d.q.before))
     u = up_above t path indices up size rows a x b d
 
-    above_next : Above t path indices (up + 1) size d.q.rest (heads d.q.before ++ (u.k, get_or path up 0) ∷ heads d.q.after) (length (heads d.q.before))
-    above_next = rw add-one u.above
+    above_next : Above t path indices (up + 1) size d.q.rest (heads d.q.before ++ (u.0, get_or path up 0) ∷ heads d.q.after) (length (heads d.q.before))
+    above_next = rw add-one u.1
 
     -- what the call one level up asks
     pub above_asks : OneAbove t path indices (up + 1) size
-    above_asks = (d.q.rest, heads d.q.before, (u.k, get_or path up 0), heads d.q.after, above_next)
+    above_asks = (d.q.rest, heads d.q.before, (u.0, get_or path up 0), heads d.q.after, above_next)
 
     pub above_fewer : (n : ℕ) → size - up ≡ n → size - (up + 1) < n
     above_fewer n bound = let l = low in omega arith
 
     -- what it answers
     next_above : (o : Option (K × ℕ)) → Beside t path indices (up + 1) size o → NextIs o (heads d.q.after)
-    next_above o beside = beside d.q.rest (heads d.q.before) (u.k, get_or path up 0) (heads d.q.after) above_next
+    next_above o beside = beside d.q.rest (heads d.q.before) (u.0, get_or path up 0) (heads d.q.after) above_next
 
     module _ (next : K × ℕ) (beside : Beside t path indices (up + 1) size (Some next)) where
       n : NextNode d.q.after next.0 next.1
@@ -121,10 +97,12 @@ module _ {K V : Type 0} where
       pub same_parent : (key : K) (child : ℕ) → get_or indices up 0 + 1 < m → ReadsKey t (get_or path up r) (get_or indices up 0) key → ReadsChild t (get_or path up r) (get_or indices up 0 + 1) child → NextIs (Some (key, child)) b
       same_parent key child more reads_key reads_child =
           let es : List (K × ℕ) = d.q.l ++ x ∷ d.q.r in
-          let w = within d.q.l x d.q.r (get_or indices up 0) d.q.entry_is (omega (arith, here.counted m value, more)) in
-          let key_is : w.y.0 ≡ key = some_same w.y.0 key (sym w.key_is ∙ reads_key (drop 1 (entry_keys es)) (entry_items es) here.slot_is) in
-          let child_is : w.y.1 ≡ child = some_same w.y.1 child (sym w.item_is ∙ reads_child (drop 1 (entry_keys es)) (entry_items es) here.slot_is) in
-          (w.ys ++ flat d.q.after, d.q.b_is ∙ ap (λ z. z ++ flat d.q.after) w.r_is ∙ ap (λ z. (z, w.y.1) ∷ (w.ys ++ flat d.q.after)) key_is ∙ ap (λ z. (key, z) ∷ (w.ys ++ flat d.q.after)) child_is)
+          let w = some_first d.q.r (omega (arith, here.counted m value, more, d.count_is)) in
+          let at = λ (z : List (K × ℕ)). d.q.l ++ x ∷ z in
+          let high : suc (length d.q.l) ≡ get_or indices up 0 + 1 = omega (arith, d.q.entry_is) in
+          let key_is : w.0.0 ≡ key = some_same w.0.0 key (sym (second_key d.q.l x w.0 w.1) ∙ ap (λ z. slice_get (drop 1 (entry_keys (at z))) (length d.q.l)) (sym w.2) ∙ ap (λ z. slice_get (drop 1 (entry_keys es)) z) d.q.entry_is ∙ reads_key (drop 1 (entry_keys es)) (entry_items es) here.slot_is) in
+          let child_is : w.0.1 ≡ child = some_same w.0.1 child (sym (second (λ z. z.1) d.q.l x w.0 w.1) ∙ ap (λ z. slice_get (entry_items (at z)) (suc (length d.q.l))) (sym w.2) ∙ ap (λ z. slice_get (entry_items es) z) high ∙ reads_child (drop 1 (entry_keys es)) (entry_items es) here.slot_is) in
+          (w.1 ++ flat d.q.after, d.q.b_is ∙ ap (λ z. z ++ flat d.q.after) w.2 ∙ ap (λ z. (z, w.0.1) ∷ (w.1 ++ flat d.q.after)) key_is ∙ ap (λ z. (key, z) ∷ (w.1 ++ flat d.q.after)) child_is)
 
       module _ (less : m ≤ get_or indices up 0 + 1) where
         behind : b ≡ flat d.q.after

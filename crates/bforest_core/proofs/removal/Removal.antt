@@ -1,5 +1,5 @@
 -- What a removal from the tree under a root says of the table.
-use Rattle.std.proofs.Common.{◌≡◌, ◌≢◌, ℕ, zero, suc, ◌+◌, ◌≤◌, ◌<◌, ◌↔◌, Option, Some, None, IfSome, List, [], ◌∷◌, ◌++◌, length, get_or, refl, sym, ap, ◌∙◌, subst, inl, inr, append_assoc, length-append, arith}
+use Rattle.std.proofs.Common.{◌≡◌, ◌≢◌, ℕ, zero, suc, ◌≤◌, ◌<◌, ◌↔◌, Option, Some, None, IfSome, List, [], ◌∷◌, ◌++◌, length, get_or, refl, sym, ap, ◌∙◌, subst, inl, inr, append_assoc, length-append, arith}
 use Rattle.bforest_core.proofs.Words.{remove, eqb_tells, length-map, Content, Table, node, flat, sizes, Tree, sizes_of, nodes_up, shrink, leaf_content, count, root_of, numbers_of, Stands, tree_of, IsUnion, Changes, Ends, GivesInOrder}
 use Rattle.bforest_core.proofs.Words.{GivesNodes, StandsUnder, node_count, StandsIn, Removed, Emptied}
 use Rattle.bforest_core.proofs.rows.LevelRows.{flat-append}
@@ -45,15 +45,6 @@ module _ {K V : Type 0} where
   place_low path indices size tree place s =
       let at = s.leaf in
       omega (arith, at.place_is, at.within, ap (λ z. length (flat z)) at.row_is, ap length (flat-append at.before (node (get_or path 0 0) at.entries ∷ at.after)), length-append (flat at.before) (at.entries ++ flat at.after), length-append at.entries (flat at.after))
-
-  -- the nodes given back
-  gives : (old new : Table K V) (tree tree' : Tree K V) (levels : List (List ℕ)) (freed : List ℕ) → sizes_of tree' ≡ levels → ((m : ℕ) → count m (numbers_of tree') + count m freed ≡ count m (numbers_of tree)) → new.chain ≡ freed ++ old.chain → length new.nodes ≡ length old.nodes → GivesNodes (sizes_of tree) levels old new
-  gives old new tree tree' levels freed is nums chain slots = record {
-    given = freed;
-    chain_is = chain;
-    slots = slots;
-    count_is = omega (arith, length-same (numbers_of tree' ++ freed) (numbers_of tree) (λ m. count-append m (numbers_of tree') freed ∙ nums m), length-append (numbers_of tree') freed, nodes-count tree, nodes-count tree' ∙ ap (λ z. node_count z) is);
-  }
 
   -- what a removal says where the tree has another entry
   pub record Removal (most : ℕ) (old new : Table K V) (root root' place : ℕ) (Now : Tree K V → Type 0) : Type 0 where
@@ -104,7 +95,12 @@ module _ {K V : Type 0} where
               λ same. i.root_is ∙ i.same_root (omega (arith, levels, levels_were, same)) ∙ r.root_is,
             );
           };
-          gives = gives old new tree i.tree' (shrink most place (sizes_of tree)) i.freed i.sizes_are i.numbers_are i.frees.chain_is i.frees.slots_are;
+          gives = record {
+            given = i.freed;
+            chain_is = i.frees.chain_is;
+            slots = i.frees.slots_are;
+            count_is = omega (arith, length-same (numbers_of i.tree' ++ i.freed) (numbers_of tree) (λ m. count-append m (numbers_of i.tree') i.freed ∙ i.numbers_are m), length-append (numbers_of i.tree') i.freed, nodes-count tree, nodes-count i.tree' ∙ ap (λ z. node_count z) i.sizes_are);
+          };
           order = record {
             roots = i.order.roots;
             up = i.order.up;

@@ -7,7 +7,7 @@ use Rattle.bforest_core.proofs.walks.Steps.{fit_full}
 use Rattle.bforest_core.proofs.rows.Tops.{root-stands}
 use Rattle.bforest_core.proofs.removal.Collapse.{length-sizes}
 use Rattle.bforest_core.proofs.removal.Asked.{MergeAbove}
-use Rattle.bforest_core.proofs.removal.Merge.{nodes_up-same}
+use Rattle.bforest_core.proofs.removal.Merge.{nodes_up-same, merge_asks}
 use Rattle.bforest_core.proofs.removal.PastEnd.{loss_half}
 use Rattle.bforest_core.proofs.removal.Shrunk.{Untrimmed, path-at, up_to, trimmed_removed, whole_removed, kept_untrimmed, healed_untrimmed, healed_stands, joined_untrimmed, joined_stands}
 
@@ -56,19 +56,16 @@ module _ {K V : Type 0} (most : ℕ) (old mid : Table K V) (path indices : List 
 
   -- the leaf went into its neighbour
   module _ (mid2 : Table K V) (path1 indices1 : List ℕ) (size1 : ℕ) (size_is : size1 ≡ size) (j : Joined leaf_content (half_of most) most mid mid2 path indices path1 indices1 0 size l.before (get_or path 0 0) l.entries l.after l.rest) where
-    above : Above mid2 path1 indices1 1 size1 l.rest (heads l.before ++ (j.first.0, get_or path 0 0) ∷ (j.key, j.right) ∷ heads j.after') (length (heads l.before))
-    above = rw size_is j.above
-
     -- the rows above wait to lose its entry
-    pub merge_asks : MergeAbove mid2 path1 indices1 1 size1
-    merge_asks = (l.rest, heads l.before, j.first.0, get_or path 0 0, j.key, j.right, heads j.after', above)
+    pub leaf_merge_asks : MergeAbove mid2 path1 indices1 1 size1
+    leaf_merge_asks = merge_asks leaf_content (half_of most) most mid mid2 path indices path1 indices1 0 size l.before (get_or path 0 0) l.entries l.after l.rest j 1 size1 refl size_is
 
     -- and they lost it
     module _ (new : Table K V) (path' indices' : List ℕ) (merged : (rows : List (List (LevelNode K ℕ))) (a : List (K × ℕ)) (k : K) (m : ℕ) (k2 : K) (n : ℕ) (b : List (K × ℕ)) → Above mid2 path1 indices1 1 size1 rows (a ++ (k, m) ∷ (k2, n) ∷ b) (length a) →
         (levels : ℕ) × Rebuilt mid2 new path1 indices1 path' indices' 1 size1 rows (a ++ (k, n) ∷ b) (length a) (loss_above (Some (length a)) (map sizes rows)) (nodes_up path1 1 levels)) (size2 : ℕ) (size2_is : size2 ≡ size) where
       rest : (levels : ℕ) × Rebuilt mid2 new path1 indices1 path' indices' 1 size l.rest (heads l.before ++ (j.first.0, j.right) ∷ heads j.after') (length (heads l.before)) (loss_above (Some (length (heads l.before))) (map sizes l.rest)) (nodes_up path 1 levels)
       rest =
-          let m = merged l.rest (heads l.before) j.first.0 (get_or path 0 0) j.key j.right (heads j.after') above in
+          let m = merged l.rest (heads l.before) j.first.0 (get_or path 0 0) j.key j.right (heads j.after') (rw size_is j.above) in
           let same = nodes_up-same path path1 1 m.0 j.nodes_above in
           let r = subst (λ (z : ℕ). Rebuilt mid2 new path1 indices1 path' indices' 1 z l.rest (heads l.before ++ (j.first.0, j.right) ∷ heads j.after') (length (heads l.before)) (loss_above (Some (length (heads l.before))) (map sizes l.rest)) (nodes_up path1 1 m.0)) size_is m.1 in
           (m.0, subst (λ (z : List ℕ). Rebuilt mid2 new path1 indices1 path' indices' 1 size l.rest (heads l.before ++ (j.first.0, j.right) ∷ heads j.after') (length (heads l.before)) (loss_above (Some (length (heads l.before))) (map sizes l.rest)) z) same r)

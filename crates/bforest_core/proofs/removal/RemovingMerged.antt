@@ -3,7 +3,7 @@ use Rattle.std.proofs.Common.{◌≡◌, ℕ, suc, ◌+◌, ◌-◌, ◌≤◌, 
 use Rattle.bforest_core.proofs.Words.{flat_map, Inner, IsUsed, with_key, without_child, Table, with_node, LevelNode, node, flat, heads, head_of, sizes, numbers, FitRow, RowIn, inner_content, entry_keys, entry_items, count, Above, Rebuilt, Loosened}
 use Rattle.bforest_core.proofs.rows.LevelRows.{heads-append, sizes-append}
 use Rattle.bforest_core.proofs.table.Tables.{counts, count-same, count-row, row-same, row-put, is_used, Puts, puts, puts-then}
-use Rattle.bforest_core.proofs.table.Stored.{key_count, item_count, some_same}
+use Rattle.bforest_core.proofs.table.Stored.{item_count, some_same}
 use Rattle.bforest_core.proofs.rows.Contents.{removed_same, removed_last, last_key}
 use Rattle.bforest_core.proofs.rows.Zipper.{Spot, above_two}
 use Rattle.bforest_core.proofs.removal.Frees.{frees-puts, frees-after, frees-wider}
@@ -147,7 +147,7 @@ module _ {K V : Type 0} where
         index_some = let e = index_is t path indices up size rows a k m k2 n b d o in omega arith
 
         pub last_key_asks : KeyAt t (get_or path up r) (get_or indices up 0 - 1)
-        last_key_asks = (drop 1 (entry_keys ds), entry_items ds, here.slot_is, (let e = index_some in omega (arith, key_count ds, d.count_is)))
+        last_key_asks = here.low_key_asks (get_or indices up 0 - 1) (let e = index_some in omega arith)
 
         module _ (high : ℕ) (high_is : high ≡ suc up) where
           above_is : Above t path indices high size d.q.rest (heads d.q.before ++ (o.z.0, get_or path up 0) ∷ (k2, o.q) ∷ heads o.rest) (length (heads d.q.before))

@@ -1,6 +1,6 @@
 use Rattle.std.proofs.Common.{rules, get_or, ◌∙◌, arith}
 use Rattle.bforest_core.proofs.removal.PastEnd.{on_leaf}
-use Rattle.bforest_core.proofs.removal.Removing.{stands_root, past_removed, healed_removed, merge_asks, collapse_asks, joined_removed}
+use Rattle.bforest_core.proofs.removal.Removing.{stands_root, past_removed, healed_removed, leaf_merge_asks, collapse_asks, joined_removed}
 use Rattle.bforest_core.proofs.path.Path.remove_entry.Goals as goal
 
 pub is_past_end-requires : goal.is_past_end-requires
@@ -29,7 +29,7 @@ merge_above-requires g c =
     let l = c.take_entry.ensures s.0 s.1 s.2 in
     let within = c.is_past_end.ensures.within c.if-is_past_end.false c.args.pool.now s.0 s.1 l in
     let j = c.rebalance_leaf.ensures.joined c.if-rebalance_leaf.true l.before (get_or c.args.self.now.node 0 0) l.entries l.after l.rest (on_leaf _ _ _ _ _ _ s.0 s.1 l within) in
-    (search rules, (search rules, (omega (arith, s.2.low, s.2.stands.size_is, c.rebalance_leaf.ensures.size), merge_asks _ _ _ _ _ _ s.0 s.1 s.2 l c.args.root s.3 c.rebalance_leaf.new.pool _ _ c.rebalance_leaf.new.self.size c.rebalance_leaf.ensures.size j)))
+    (search rules, (search rules, (omega (arith, s.2.low, s.2.stands.size_is, c.rebalance_leaf.ensures.size), leaf_merge_asks _ _ _ _ _ _ s.0 s.1 s.2 l c.args.root s.3 c.rebalance_leaf.new.pool _ _ c.rebalance_leaf.new.self.size c.rebalance_leaf.ensures.size j)))
 
 pub collapse_root-requires : goal.collapse_root-requires
 collapse_root-requires g c =
