@@ -76,9 +76,9 @@ module _ {K V : Type 0} where
     next_above : (o : Option (K × ℕ)) → Beside t path indices (up + 1) size o → NextIs o (heads d.q.after)
     next_above o beside = beside d.q.rest (heads d.q.before) (u.0, get_or path up 0) (heads d.q.after) above_next
 
-    module _ (next : K × ℕ) (beside : Beside t path indices (up + 1) size (Some next)) where
+    module _ (o : Option (K × ℕ)) (next : K × ℕ) (is : o ≡ Some next) (beside : Beside t path indices (up + 1) size o) where
       n : NextNode d.q.after next.0 next.1
-      n = let nx = next_above (Some next) beside in next_of 4 8 (omega arith) d.q.after next.0 next.1 nx.0 d.f.fit.2 nx.1
+      n = let nx = next_above (Some next) (subst (Beside t path indices (up + 1) size) is beside) in next_of 4 8 (omega arith) d.q.after next.0 next.1 nx.0 d.f.fit.2 nx.1
 
       n_slot : slice_get t.nodes next.1 ≡ Some (inner_content (n.f ∷ n.fs))
       n_slot =
@@ -109,12 +109,12 @@ module _ {K V : Type 0} where
         behind = d.q.b_is ∙ ap (λ z. z ++ flat d.q.after) (nil_from_length d.q.r (omega (arith, here.counted m value, less, d.count_is)))
 
         -- there is none
-        pub none_right : Beside t path indices (up + 1) size None → NextIs None b
-        none_right beside = behind ∙ ap (λ z. flat z) (no_nodes 4 8 (omega arith) d.q.after d.f.fit.2 (next_above None beside))
+        pub none_right : (o : Option (K × ℕ)) → o ≡ None → Beside t path indices (up + 1) size o → NextIs None b
+        none_right o is beside = behind ∙ ap (λ z. flat z) (no_nodes 4 8 (omega arith) d.q.after d.f.fit.2 (next_above None (subst (Beside t path indices (up + 1) size) is beside)))
 
         -- it has another parent
-        pub next_parent : (next : K × ℕ) (beside : Beside t path indices (up + 1) size (Some next)) (child : ℕ) → ReadsChild t next.1 0 child → NextIs (Some (next.0, child)) b
-        next_parent next beside child reads =
-            let w = n next beside in
-            let child_is : w.f.1 ≡ child = some_same w.f.1 child (reads (drop 1 (entry_keys (w.f ∷ w.fs))) (entry_items (w.f ∷ w.fs)) (n_slot next beside)) in
+        pub next_parent : (o : Option (K × ℕ)) (next : K × ℕ) (is : o ≡ Some next) (beside : Beside t path indices (up + 1) size o) (child : ℕ) → ReadsChild t next.1 0 child → NextIs (Some (next.0, child)) b
+        next_parent o next is beside child reads =
+            let w = n o next is beside in
+            let child_is : w.f.1 ≡ child = some_same w.f.1 child (reads (drop 1 (entry_keys (w.f ∷ w.fs))) (entry_items (w.f ∷ w.fs)) (n_slot o next is beside)) in
             (w.fs ++ flat w.rest, behind ∙ ap (λ z. flat z) w.after_is ∙ ap (λ z. (z, w.f.1) ∷ (w.fs ++ flat w.rest)) (sym w.k_is) ∙ ap (λ z. (next.0, z) ∷ (w.fs ++ flat w.rest)) child_is)

@@ -1,6 +1,6 @@
 -- What a removal from the tree under a root says of the table.
-use Rattle.std.proofs.Common.{◌≡◌, ◌≢◌, ℕ, zero, suc, ◌≤◌, ◌<◌, ◌↔◌, Option, Some, None, IfSome, List, [], ◌∷◌, ◌++◌, length, get_or, refl, sym, ap, ◌∙◌, subst, inl, inr, append_assoc, length-append, arith}
-use Rattle.bforest_core.proofs.Words.{remove, eqb_tells, length-map, Content, Table, node, flat, sizes, Tree, sizes_of, nodes_up, shrink, leaf_content, count, root_of, numbers_of, Stands, tree_of, IsUnion, Changes, Ends, GivesInOrder}
+use Rattle.std.proofs.Common.{◌≡◌, ◌≢◌, ℕ, zero, suc, ◌<◌, ◌↔◌, Option, Some, None, IfSome, List, [], ◌∷◌, ◌++◌, length, get_or, refl, sym, ap, ◌∙◌, subst, inl, inr, append_assoc, length-append, arith}
+use Rattle.bforest_core.proofs.Words.{remove, eqb_tells, length-map, Table, node, flat, sizes, Tree, sizes_of, nodes_up, shrink, count, root_of, numbers_of, Stands, tree_of, IsUnion, Changes, Ends, GivesInOrder}
 use Rattle.bforest_core.proofs.Words.{GivesNodes, StandsUnder, node_count, StandsIn, Removed, Emptied}
 use Rattle.bforest_core.proofs.rows.LevelRows.{flat-append}
 use Rattle.bforest_core.proofs.table.Tables.{count-append}
@@ -20,18 +20,6 @@ remove_fewer (x ∷ xs) (suc place) low = ap suc (remove_fewer xs place (omega (
 pub if_some : {A : Type 0} (P Q : A → Type 0) (found : Option A) → ((x : A) → P x → Q x) → IfSome found P → IfSome found Q
 if_some P Q None h p = p
 if_some P Q (Some x) h p = h x p
-
--- a slot of a leaf of one entry
-pub one_slot : {K V : Type 0} (es : List (K × V)) (c : Option (Content K V)) → length es ≡ 1 → c ≡ Some (leaf_content es) → (x : K × V) × (c ≡ Some (leaf_content (x ∷ [])))
-one_slot [] c one slot = absurd (omega (arith, one))
-one_slot (x ∷ []) c one slot = (x, slot)
-one_slot (x ∷ y ∷ es) c one slot = absurd (omega (arith, one))
-
--- and of more
-pub more_slot : {K V : Type 0} (es : List (K × V)) (c : Option (Content K V)) → 1 ≤ length es → length es ≢ 1 → c ≡ Some (leaf_content es) → (x y : K × V) × (rest : List (K × V)) × (c ≡ Some (leaf_content (x ∷ y ∷ rest)))
-more_slot [] c some ne slot = absurd (omega (arith, some))
-more_slot (x ∷ []) c some ne slot = absurd (ne refl)
-more_slot (x ∷ y ∷ es) c some ne slot = (x, y, es, slot)
 
 module _ {K V : Type 0} where
   -- a path under a root stands in its tree, which lies in the table

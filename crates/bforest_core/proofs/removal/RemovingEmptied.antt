@@ -1,7 +1,7 @@
 -- The right-most node of a level went: its entry goes, and the nodes that this leaves empty. Each answer of `remove_emptied` is one of these.
 use Rattle.std.proofs.Common.{◌≡◌, ◌≢◌, ℕ, suc, ◌+◌, ◌-◌, ◌≤◌, ◌<◌, List, [], ◌∷◌, ◌++◌, map, length, drop, get_or, Some, refl, sym, ap, ◌∙◌, subst, append_assoc, length-append, arith}
 use Rattle.bforest_core.proofs.Words.{flat_map, append-nil, nil_from_length, without_child, Table, with_node, with_freed, LevelNode, node, flat, heads, head_of, sizes, numbers, FitRow, Solid, Stacked, loss_above, RowIn, inner_content, entry_keys, entry_items, count}
-use Rattle.bforest_core.proofs.Words.{Distinct, StandsAbove, root_above, Above, top_of, nodes_up, Dropped, rebalanced}
+use Rattle.bforest_core.proofs.Words.{Distinct, root_above, Above, nodes_up, Dropped, rebalanced}
 use Rattle.bforest_core.proofs.rows.LevelRows.{flat-append, heads-append, sizes-append, FitRow-join, Solid-full, least-pos}
 use Rattle.bforest_core.proofs.table.Tables.{count-append, counts, count-same, row-split, row-put, row-same, rows-same, ne_from_count, puts}
 use Rattle.bforest_core.proofs.removal.Frees.{frees-puts, freed_other, frees-first}
@@ -14,12 +14,6 @@ use Rattle.bforest_core.proofs.removal.Asked.{Counts, Removes, LastTwo, Seen, se
 use Rattle.bforest_core.proofs.rows.Tops.{top_rows}
 use Rattle.bforest_core.proofs.removal.Losses.{placed}
 use Rattle.bforest_core.proofs.removal.Rebalance.{rebalanced_last}
-
--- the root's number is the path's last
-root_on_path : {K : Type 0} (path indices : List ℕ) (up size : ℕ) (row : List (LevelNode K ℕ)) (rest : List (List (LevelNode K ℕ))) (hs hs2 : List (K × ℕ)) (p : ℕ) → Stacked hs (row ∷ rest) → StandsAbove path indices up (row ∷ rest) p → up + suc (length rest) ≡ size → root_above hs2 (row ∷ rest) ≡ top_of path size
-root_on_path path indices up size row rest hs hs2 p stacked stands height =
-    let high : up + length rest ≡ size - 1 = omega (arith, height) in
-    top_rows hs path indices up row rest p stacked stands ∙ ap (λ z. get_or path z 0) high
 
 -- solid nodes fit as a row
 pub fit_solid : {K X : Type 0} (half most : ℕ) → 1 ≤ half → (row : List (LevelNode K X)) → Solid half most row → FitRow half most row
@@ -107,6 +101,7 @@ module _ {K V : Type 0} where
         let f = some_first q.l some in
         let gone = ap (λ z. without_child (inner_content z) (get_or indices up 0)) (old_is ∙ ap (λ z. z ++ x ∷ []) f.2) ∙ removed_last V f.0 f.1 x (get_or indices up 0) (ap length (sym f.2) ∙ q.entry_is) ∙ ap (λ z. inner_content z) (sym f.2) in
         let w = puts t u n (inner_content q.l) (inner_content old) known.slot_is (u_is ∙ ap (λ z. with_node t n z) gone) in
+        let high : up + length q.rest ≡ size - 1 = omega (arith, whole.height) in
         let hs : heads (q.before ++ node n old ∷ []) ≡ heads row = heads-put q.before n old q.l [] (ap (λ z. head_of n (z ++ x ∷ [])) f.2 ∙ ap (λ z. head_of n z) (sym f.2)) in
         record {
           rows' = row ∷ q.rest;
@@ -115,7 +110,7 @@ module _ {K V : Type 0} where
           height = ap length (sym q.rows_are);
           sizes_are = ap (λ z. z ∷ map sizes q.rest) (sizes-append q.before (node n q.l ∷ [])) ∙ sym (lost ∙ ap (λ z. (sizes q.before ++ z.1) ∷ loss_above (placed (length q.before) z.0) (map sizes q.rest)) (rebalanced_last 8 (length q.l) some));
           numbers_are = λ m. omega (arith, own_is m, counts m q.before n q.l [] q.rest u.chain);
-          root_is = ap (λ z. root_above z q.rest) (sym hs) ∙ root_on_path path indices up size (q.before ++ node n old ∷ []) q.rest _ [] _ whole.stacked whole.stands whole.height;
+          root_is = ap (λ z. root_above z q.rest) (sym hs) ∙ top_rows _ path indices up (q.before ++ node n old ∷ []) q.rest _ whole.stacked whole.stands ∙ ap (λ z. get_or path z 0) high;
           frees = frees-puts t u n (inner_content q.l) (flat_map numbers rows) (omega (arith, own_is n, count-same n [])) w;
         }
 
