@@ -1,7 +1,9 @@
 -- What the calls on the nodes of a path and on the rows above a level ask, in the form in which they ask it, and what they leave.
-use Rattle.std.proofs.Common.{◌≡◌, ℕ, suc, ◌<◌, Option, Some, List, [], ◌∷◌, ◌++◌, map, length, get_or, slice_get}
-use Rattle.bforest_core.proofs.Words.{Content, Inner, IsFree, with_key, without_child, Table, with_node, LevelNode, sizes, Above, NextIs, Rebuilt}
-use Rattle.bforest_core.proofs.rows.Zipper.{above_two}
+use Rattle.std.proofs.Common.{◌≡◌, ℕ, suc, ◌+◌, ◌≤◌, ◌<◌, Option, Some, List, [], ◌∷◌, ◌++◌, map, length, drop, get_or, slice_get, ap, ◌∙◌, arith}
+use Rattle.bforest_core.proofs.Words.{Content, Inner, IsFree, IsUsed, entry_count, with_key, without_child, Table, with_node, LevelNode, sizes, inner_content, entry_keys, entry_items, count, Above, NextIs, Rebuilt, get_or_default}
+use Rattle.bforest_core.proofs.table.Stored.{key_count, item_count}
+use Rattle.bforest_core.proofs.table.Tables.{is_used}
+use Rattle.bforest_core.proofs.rows.Zipper.{Spot, spot, above_two}
 
 module _ {K V : Type 0} where
   -- a node in use, whose entries are counted
@@ -22,6 +24,10 @@ module _ {K V : Type 0} where
 
   abbrev pub ReadsChild : Table K V → ℕ → ℕ → ℕ → Type 0
   ReadsChild t number index child = (keys : List K) (children : List ℕ) → slice_get t.nodes number ≡ Some (Inner keys children) → slice_get children index ≡ Some child
+
+  -- and that which counts the entries of a node
+  abbrev pub Counts : Table K V → ℕ → ℕ → Type 0
+  Counts t number m = (content : Content K V) → slice_get t.nodes number ≡ Some content → m ≡ entry_count content
 
   -- what the call that writes a separator leaves
   abbrev pub Writes : Table K V → Table K V → ℕ → ℕ → K → Type 0
@@ -73,3 +79,39 @@ module _ {K V : Type 0} where
   abbrev pub Enters : Table K V → List ℕ → List ℕ → List ℕ → List ℕ → ℕ → ℕ → Type 0
   Enters t path indices path' indices' up size = (rows : List (List (LevelNode K ℕ))) (before : List (K × ℕ)) (x : K × ℕ) (y : K × ℕ) (after : List (K × ℕ)) → Above t path indices (suc up) size rows (before ++ x ∷ y ∷ after) (length before) →
       Above t path' indices' (suc up) size rows (before ++ x ∷ y ∷ after) (suc (length before)) × (get_or path' up 0 ≡ y.1)
+
+  -- the path's node on a level above, as a call reads its number, and what the calls on it ask
+  pub record Seen (t : Table K V) (path indices : List ℕ) (up size : ℕ) (rows : List (List (LevelNode K ℕ))) (a : List (K × ℕ)) (x : K × ℕ) (b : List (K × ℕ)) (r : ℕ) : Type 0 where
+    pub d : Spot t path indices up size rows a x b
+    pub small : get_or indices up 0 < 8
+    pub num_is : get_or path up r ≡ get_or path up 0
+    pub slot_is : slice_get t.nodes (get_or path up r) ≡ Some (inner_content (d.q.l ++ x ∷ d.q.r))
+    pub none_chain : count (get_or path up r) t.chain ≡ 0
+    pub used : IsUsed t (get_or path up r)
+    pub node_asks : NodeAt t (get_or path up r)
+    pub child_asks : ChildAt t (get_or path up r) (get_or indices up 0)
+    pub counted : (m : ℕ) → Counts t (get_or path up r) m → m ≡ length (d.q.l ++ x ∷ d.q.r)
+    pub low_key_asks : (i : ℕ) → i < get_or indices up 0 → KeyAt t (get_or path up r) i
+    pub key_asks : (m i : ℕ) → Counts t (get_or path up r) m → i + 1 < m → KeyAt t (get_or path up r) i
+
+  pub seen : (t : Table K V) (path indices : List ℕ) (up size : ℕ) (rows : List (List (LevelNode K ℕ))) (a : List (K × ℕ)) (x : K × ℕ) (b : List (K × ℕ)) → Above t path indices up size rows (a ++ x ∷ b) (length a) → up < size → (r : ℕ) → length path ≡ 17 → size ≤ 17 → Seen t path indices up size rows a x b r
+  seen t path indices up size rows a x b p low r wide height =
+      let d = spot t path indices up size rows a x b p low in
+      let es : List (K × ℕ) = d.q.l ++ x ∷ d.q.r in
+      let num_is : get_or path up r ≡ get_or path up 0 = get_or_default path up r 0 (omega (arith, low, wide, height)) in
+      let slot : slice_get t.nodes (get_or path up r) ≡ Some (inner_content es) = ap (λ z. slice_get t.nodes z) num_is ∙ d.f.slot_is in
+      let none : count (get_or path up r) t.chain ≡ 0 = ap (λ z. count z t.chain) num_is ∙ d.f.none_chain in
+      let counted : (m : ℕ) → Counts t (get_or path up r) m → m ≡ length es = λ m value. value (inner_content es) slot ∙ item_count es in
+      record {
+        d = d;
+        small = omega (arith, d.count_is, d.most_is);
+        num_is = num_is;
+        slot_is = slot;
+        none_chain = none;
+        used = is_used t (get_or path up r) (inner_content es) slot none;
+        node_asks = (inner_content es, slot, λ free. free);
+        child_asks = (drop 1 (entry_keys es), entry_items es, slot, omega (arith, item_count es, d.count_is));
+        counted = counted;
+        low_key_asks = λ i below. (drop 1 (entry_keys es), entry_items es, slot, omega (arith, below, d.count_is, key_count es));
+        key_asks = λ m i value more. (drop 1 (entry_keys es), entry_items es, slot, omega (arith, counted m value, more, key_count es));
+      }

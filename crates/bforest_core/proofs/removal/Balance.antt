@@ -1,12 +1,12 @@
 -- Leaves and inner nodes as stored, for the calls on two neighbours.
-use Rattle.std.proofs.Common.{◌≡◌, ℕ, suc, ◌+◌, ◌-◌, ◌/◌, ◌≤◌, ◌<◌, ◌≢◌, List, [], ◌∷◌, ◌++◌, length, set, slice_get, Some, None, refl, sym, ap, ◌∙◌, subst, inl, inr, length-append, arith}
-use Rattle.bforest_core.proofs.Words.{length-map, map-append, cases_lt, Content, Inner, Leaf, IsFree, IsSameKind, entry_count, entry_capacity, joined, IsCut, Balances, left_share, Table, with_node, IsBalancedAt, slice_get_within}
+use Rattle.std.proofs.Common.{◌≡◌, ℕ, suc, ◌+◌, ◌-◌, ◌/◌, ◌≤◌, ◌<◌, ◌≢◌, List, [], ◌∷◌, ◌++◌, length, slice_get, Option, Some, None, refl, sym, ap, ◌∙◌, subst, inl, inr, length-append, arith}
+use Rattle.bforest_core.proofs.Words.{length-map, map-append, cases_lt, Content, Inner, Leaf, IsFree, IsSameKind, entry_count, entry_capacity, joined, IsCut, Balances, left_share, Table, with_node, IsBalancedAt, Frees}
 use Rattle.bforest_core.proofs.Words.{inner_content, leaf_content, entry_keys, entry_items}
-use Rattle.bforest_core.proofs.table.Lists.{slice_get-set_same}
-use Rattle.std.proofs.Common.{length-set}
 use Rattle.bforest_core.proofs.table.Stored.{some_same, Parts, inner_cuts, leaf_cuts}
-use Rattle.bforest_core.proofs.table.Tables.{slice_get-set_apart}
-use Rattle.bforest_core.proofs.rows.Zipper.{Cut, cut}
+use Rattle.bforest_core.proofs.table.Tables.{count-same, puts}
+use Rattle.bforest_core.proofs.rows.LevelRows.{head-is}
+use Rattle.bforest_core.proofs.rows.Zipper.{cut}
+use Rattle.bforest_core.proofs.removal.Frees.{frees-after, frees-puts}
 
 -- half and all of a node
 pub record IsHalf (half most : ℕ) : Type 0 where
@@ -58,23 +58,20 @@ module _ {K V X : Type 0} (content : List (K × X) → Content K V) where
     pub here : slice_get u.nodes n ≡ Some c
     pub there : slice_get u.nodes q ≡ Some d
     pub same : (m : ℕ) → m ≢ n → m ≢ q → slice_get u.nodes m ≡ slice_get t.nodes m
-    pub chain_is : u.chain ≡ t.chain
-    pub slots_are : length u.nodes ≡ length t.nodes
-    pub limit_is : u.limit ≡ t.limit
+    pub frees : Frees t u (n ∷ q ∷ []) []
 
   -- two writes, one after the other
-  pub puts_two : (t u : Table K V) (n q : ℕ) (c d old_n old_q : Content K V) → slice_get t.nodes n ≡ Some old_n → slice_get t.nodes q ≡ Some old_q → n ≢ q → u ≡ with_node (with_node t n c) q d → PutsTwo t u n q c d
+  puts_two : (t u : Table K V) (n q : ℕ) (c d old_n old_q : Content K V) → slice_get t.nodes n ≡ Some old_n → slice_get t.nodes q ≡ Some old_q → n ≢ q → u ≡ with_node (with_node t n c) q d → PutsTwo t u n q c d
   puts_two t u n q c d old_n old_q fn fq ne is =
-      let ln = slice_get_within t.nodes n old_n fn in
-      let lq = slice_get_within t.nodes q old_q fq in
-      let size : length (set t.nodes n c) ≡ length t.nodes = length-set t.nodes n c in
+      let v = with_node t n c in
+      let own : List ℕ = n ∷ q ∷ [] in
+      let one = puts t v n c old_n fn refl in
+      let two = puts v u q d old_q (one.same q (λ (e : q ≡ n). ne (sym e)) ∙ fq) is in
       record {
-        here = ap (λ z. slice_get z.nodes n) is ∙ slice_get-set_apart (set t.nodes n c) q n d ne ∙ slice_get-set_same t.nodes n c ln;
-        there = ap (λ z. slice_get z.nodes q) is ∙ slice_get-set_same (set t.nodes n c) q d (omega (arith, size, lq));
-        same = λ m a b. ap (λ z. slice_get z.nodes m) is ∙ slice_get-set_apart (set t.nodes n c) q m d b ∙ slice_get-set_apart t.nodes n m c a;
-        chain_is = ap (λ z. z.chain) is;
-        slots_are = ap (λ z. length z.nodes) is ∙ length-set (set t.nodes n c) q d ∙ size;
-        limit_is = ap (λ z. z.limit) is;
+        here = two.same n ne ∙ one.here;
+        there = two.here;
+        same = λ m a b. two.same m b ∙ one.same m a;
+        frees = frees-after t v u own own [] (λ m none. none) (frees-puts t v n c own (omega (arith, count-same n (q ∷ []))) one) (frees-puts v u q d own (omega (arith, count-same q [])) two);
       }
 
   -- all in the right one
@@ -96,66 +93,57 @@ module _ {K V X : Type 0} (content : List (K × X) → Content K V) where
     pub key_is : key ≡ y.0
     pub two : PutsTwo t u n q (content (x ∷ xs)) (content (y ∷ ys))
 
-  -- where all fits, balancing puts all into the right one
-  pub all_right_at : (t u : Table K V) (cap most n q : ℕ) (e : K × X) (es : List (K × X)) (f : K × X) (fs : List (K × X)) → IsStored content cap most → n ≢ q → slice_get t.nodes n ≡ Some (content (e ∷ es)) → slice_get t.nodes q ≡ Some (content (f ∷ fs)) →
-      IsBalancedAt cap t n f.0 q None u → AllRight t u most n q (e ∷ es) (f ∷ fs)
-  all_right_at t u cap most n q e es f fs s ne fn fq b =
-      let under_is : b.under ≡ content (e ∷ es) = some_same b.under (content (e ∷ es)) (sym b.left_was ∙ fn) in
-      let neighbour_is : b.neighbour ≡ content (f ∷ fs) = some_same b.neighbour (content (f ∷ fs)) (sym b.right_was ∙ fq) in
-      let bal : Balances cap (content (e ∷ es)) f.0 (content (f ∷ fs)) None b.new_left b.new_right =
-      subst (λ (z : Content K V). Balances cap (content (e ∷ es)) f.0 z None b.new_left b.new_right) neighbour_is (subst (λ (z : Content K V). Balances cap z f.0 b.neighbour None b.new_left b.new_right) under_is b.balances) in
-      let ce = s.count_is (e ∷ es) in
-      let cf = s.count_is (f ∷ fs) in
-      let cc' = s.capacity_is (e ∷ es) in
-      elim (cases_lt most (length (e ∷ es) + length (f ∷ fs))) [
-        | inl more ↦ absurd (let w = bal.shares (omega (arith, ce, cf, cc', more)) in let g = w.1 in cc)
-        | inr less ↦ (let w = bal.merges (omega (arith, ce, cf, cc', less)) in
-            record { fits = less; left_content = b.new_left; two = puts_two t u n q b.new_left (content ((e ∷ es) ++ f ∷ fs)) (content (e ∷ es)) (content (f ∷ fs)) fn fq ne (b.after ∙ ap (λ z. with_node (with_node t n b.new_left) q z) (w.1 ∙ s.joins e es f fs)) })
-      ]
+  module _ (t u : Table K V) (cap most n q : ℕ) (e : K × X) (es : List (K × X)) (f : K × X) (fs : List (K × X)) (s : IsStored content cap most) (ne : n ≢ q) (two : 2 ≤ most) (fn : slice_get t.nodes n ≡ Some (content (e ∷ es))) (fq : slice_get t.nodes q ≡ Some (content (f ∷ fs))) where
+    -- what was balanced are these two
+    balances_at : (got : Option K) (b : IsBalancedAt cap t n f.0 q got u) → Balances cap (content (e ∷ es)) f.0 (content (f ∷ fs)) got b.new_left b.new_right
+    balances_at got b =
+        let under_is : b.under ≡ content (e ∷ es) = some_same b.under (content (e ∷ es)) (sym b.left_was ∙ fn) in
+        let neighbour_is : b.neighbour ≡ content (f ∷ fs) = some_same b.neighbour (content (f ∷ fs)) (sym b.right_was ∙ fq) in
+        subst (λ (z : Content K V). Balances cap (content (e ∷ es)) f.0 z got b.new_left b.new_right) neighbour_is (subst (λ (z : Content K V). Balances cap z f.0 b.neighbour got b.new_left b.new_right) under_is b.balances)
 
-  spread_cut : (t u : Table K V) (cap most n q : ℕ) (ws es fs : List (K × X)) (key kept : K) (new_left new_right : Content K V) (c : Cut ws ((length es + length fs) - (length es + length fs) / 2)) → IsStored content cap most → n ≢ q → most < length es + length fs → 2 ≤ most →
-      slice_get t.nodes n ≡ Some (content es) → slice_get t.nodes q ≡ Some (content fs) → key ≡ kept → es ++ fs ≡ ws → (l : List (K × X)) → c.l ≡ l →
-      IsCut (content ws) ((length es + length fs) - (length es + length fs) / 2) new_left kept new_right → u ≡ with_node (with_node t n new_left) q new_right → Spread t u most n q es fs key
-  spread_cut t u cap most n q ws es fs key kept new_left new_right c s ne more two fn fq kept_is ws_is [] l_is c2 after = absurd (omega (arith, more, two, ap length l_is, c.place_is))
-  spread_cut t u cap most n q ws es fs key kept new_left new_right c s ne more two fn fq kept_is ws_is (x ∷ xs) l_is c2 after =
-      let total = length es + length fs in
-      let cut_is : ws ≡ (x ∷ xs) ++ c.x ∷ c.r = c.es_is ∙ ap (λ z. z ++ c.x ∷ c.r) l_is in
-      let place : length (x ∷ xs) ≡ total - total / 2 = ap length (sym l_is) ∙ c.place_is in
-      let c3 : IsCut (content ((x ∷ xs) ++ c.x ∷ c.r)) (total - total / 2) new_left kept new_right = subst (λ (z : List (K × X)). IsCut (content z) (total - total / 2) new_left kept new_right) cut_is c2 in
-      let p = s.cuts x xs c.x c.r (total - total / 2) new_left new_right kept place c3 in
-      let len : total ≡ suc (length xs) + suc (length c.r) = sym (length-append es fs) ∙ ap length (ws_is ∙ cut_is) ∙ length-append (x ∷ xs) (c.x ∷ c.r) in
-      record {
-        more = more;
-        x = x;
-        xs = xs;
-        y = c.x;
-        ys = c.r;
-        whole = ws_is ∙ cut_is;
-        left_is = place;
-        right_is = omega (arith, len, place);
-        key_is = kept_is ∙ p.key_is;
-        two = puts_two t u n q (content (x ∷ xs)) (content (c.x ∷ c.r)) (content es) (content fs) fn fq ne (after ∙ ap (λ z. with_node (with_node t n z) q new_right) p.left_is ∙ ap (λ z. with_node (with_node t n (content (x ∷ xs))) q z) p.right_is);
-      }
+    whole_count : entry_count (content (e ∷ es)) + entry_count (content (f ∷ fs)) ≡ length (e ∷ es) + length (f ∷ fs)
+    whole_count = omega (arith, s.count_is (e ∷ es), s.count_is (f ∷ fs))
 
-  -- else it cuts them in two
-  pub spread_at : (t u : Table K V) (cap most n q : ℕ) (e : K × X) (es : List (K × X)) (f : K × X) (fs : List (K × X)) (key : K) → IsStored content cap most → n ≢ q → 2 ≤ most → slice_get t.nodes n ≡ Some (content (e ∷ es)) → slice_get t.nodes q ≡ Some (content (f ∷ fs)) →
-      IsBalancedAt cap t n f.0 q (Some key) u → Spread t u most n q (e ∷ es) (f ∷ fs) key
-  spread_at t u cap most n q e es f fs key s ne two fn fq b =
-      let under_is : b.under ≡ content (e ∷ es) = some_same b.under (content (e ∷ es)) (sym b.left_was ∙ fn) in
-      let neighbour_is : b.neighbour ≡ content (f ∷ fs) = some_same b.neighbour (content (f ∷ fs)) (sym b.right_was ∙ fq) in
-      let bal : Balances cap (content (e ∷ es)) f.0 (content (f ∷ fs)) (Some key) b.new_left b.new_right =
-      subst (λ (z : Content K V). Balances cap (content (e ∷ es)) f.0 z (Some key) b.new_left b.new_right) neighbour_is (subst (λ (z : Content K V). Balances cap z f.0 b.neighbour (Some key) b.new_left b.new_right) under_is b.balances) in
-      let ce = s.count_is (e ∷ es) in
-      let cf = s.count_is (f ∷ fs) in
-      let cc' = s.capacity_is (e ∷ es) in
-      elim (cases_lt most (length (e ∷ es) + length (f ∷ fs))) [
-        | inr less ↦ absurd (let w = bal.merges (omega (arith, ce, cf, cc', less)) in let g = w.0 in cc)
-        | inl more ↦ (let w = bal.shares (omega (arith, ce, cf, cc', more)) in
-            let kept_is : key ≡ w.0 = some_same key w.0 w.1 in
-            let total : entry_count (content (e ∷ es)) + entry_count (content (f ∷ fs)) ≡ length (e ∷ es) + length (f ∷ fs) = omega (arith, ce, cf) in
-            let c2 : IsCut (content ((e ∷ es) ++ f ∷ fs)) (left_share (length (e ∷ es) + length (f ∷ fs))) b.new_left w.0 b.new_right =
-            subst (λ (z : ℕ). IsCut (content ((e ∷ es) ++ f ∷ fs)) (left_share z) b.new_left w.0 b.new_right) total (subst (λ (z : Content K V). IsCut z (left_share (entry_count (content (e ∷ es)) + entry_count (content (f ∷ fs)))) b.new_left w.0 b.new_right) (s.joins e es f fs) w.2) in
-            let len : length ((e ∷ es) ++ f ∷ fs) ≡ length (e ∷ es) + length (f ∷ fs) = length-append (e ∷ es) (f ∷ fs) in
-            let c = cut ((e ∷ es) ++ f ∷ fs) ((length (e ∷ es) + length (f ∷ fs)) - (length (e ∷ es) + length (f ∷ fs)) / 2) (omega (arith, len, more, two)) in
-            spread_cut t u cap most n q ((e ∷ es) ++ f ∷ fs) (e ∷ es) (f ∷ fs) key w.0 b.new_left b.new_right c s ne more two fn fq kept_is refl c.l refl c2 b.after)
-      ]
+    -- where all fits, balancing puts all into the right one
+    pub all_right_at : IsBalancedAt cap t n f.0 q None u → AllRight t u most n q (e ∷ es) (f ∷ fs)
+    all_right_at b =
+        let bal = balances_at None b in
+        let full = s.capacity_is (e ∷ es) in
+        let total = whole_count in
+        elim (cases_lt most (length (e ∷ es) + length (f ∷ fs))) [
+          | inl more ↦ absurd (let w = bal.shares (omega (arith, total, full, more)) in let g = w.1 in cc)
+          | inr less ↦ (let w = bal.merges (omega (arith, total, full, less)) in
+              record { fits = less; left_content = b.new_left; two = puts_two t u n q b.new_left (content ((e ∷ es) ++ f ∷ fs)) (content (e ∷ es)) (content (f ∷ fs)) fn fq ne (b.after ∙ ap (λ z. with_node (with_node t n b.new_left) q z) (w.1 ∙ s.joins e es f fs)) })
+        ]
+
+    -- else it cuts them in two
+    pub spread_at : (key : K) → IsBalancedAt cap t n f.0 q (Some key) u → Spread t u most n q (e ∷ es) (f ∷ fs) key
+    spread_at key b =
+        let bal = balances_at (Some key) b in
+        let full = s.capacity_is (e ∷ es) in
+        let total = whole_count in
+        let both = length (e ∷ es) + length (f ∷ fs) in
+        let len : length ((e ∷ es) ++ f ∷ fs) ≡ both = length-append (e ∷ es) (f ∷ fs) in
+        elim (cases_lt most (length (e ∷ es) + length (f ∷ fs))) [
+          | inr less ↦ absurd (let w = bal.merges (omega (arith, total, full, less)) in let g = w.0 in cc)
+          | inl more ↦ (let w = bal.shares (omega (arith, total, full, more)) in
+              let c = cut ((e ∷ es) ++ f ∷ fs) (both - both / 2) (omega (arith, len, more, two)) in
+              let h = head-is n c.l (omega (arith, more, two, c.place_is)) in
+              let whole : (e ∷ es) ++ f ∷ fs ≡ (h.first ∷ h.others) ++ c.x ∷ c.r = c.es_is ∙ ap (λ z. z ++ c.x ∷ c.r) h.es_is in
+              let left : suc (length h.others) ≡ both - both / 2 = ap length (sym h.es_is) ∙ c.place_is in
+              let cuts : IsCut (content ((h.first ∷ h.others) ++ c.x ∷ c.r)) (both - both / 2) b.new_left w.0 b.new_right =
+              subst (λ (z : ℕ). IsCut (content ((h.first ∷ h.others) ++ c.x ∷ c.r)) (left_share z) b.new_left w.0 b.new_right) total (subst (λ (z : Content K V). IsCut z (left_share (entry_count (content (e ∷ es)) + entry_count (content (f ∷ fs)))) b.new_left w.0 b.new_right) (s.joins e es f fs ∙ ap content whole) w.2) in
+              let p = s.cuts h.first h.others c.x c.r (both - both / 2) b.new_left b.new_right w.0 left cuts in
+              record {
+                more = more;
+                x = h.first;
+                xs = h.others;
+                y = c.x;
+                ys = c.r;
+                whole = whole;
+                left_is = left;
+                right_is = omega (arith, ap length whole, len, length-append (h.first ∷ h.others) (c.x ∷ c.r), left);
+                key_is = some_same key w.0 w.1 ∙ p.key_is;
+                two = puts_two t u n q (content (h.first ∷ h.others)) (content (c.x ∷ c.r)) (content (e ∷ es)) (content (f ∷ fs)) fn fq ne (b.after ∙ ap (λ z. with_node (with_node t n z) q b.new_right) p.left_is ∙ ap (λ z. with_node (with_node t n (content (h.first ∷ h.others))) q z) p.right_is);
+              })
+        ]

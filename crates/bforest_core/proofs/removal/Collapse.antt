@@ -1,11 +1,12 @@
--- Roots with a single child, which go: from the root down, and in the sizes from the leaves up.
-use Rattle.std.proofs.Common.{◌≡◌, ◌≢◌, ℕ, suc, ◌+◌, ◌-◌, ◌≤◌, ◌<◌, Some, List, [], ◌∷◌, ◌++◌, map, length, get_or, slice_get, refl, sym, ap, ◌∙◌, subst, append_assoc, append-nil, length-append, arith}
-use Rattle.bforest_core.proofs.Words.{flat_map, flat_map-append, Content, entry_count, Table, with_freed, LevelNode, node, flat, heads, sizes, numbers, Stacked, Topped, trimmed, RowsIn, inner_content, count, root_above, first_number}
+-- Roots with a single child, which go: from the root down, and in the sizes from the leaves up. Each answer of `collapse_root` is one of these.
+use Rattle.std.proofs.Common.{◌≡◌, ◌≢◌, ℕ, suc, ◌+◌, ◌-◌, ◌≤◌, ◌<◌, Some, List, [], ◌∷◌, ◌++◌, map, length, drop, get_or, slice_get, refl, sym, ap, ◌∙◌, subst, append_assoc, append-nil, length-append, arith}
+use Rattle.bforest_core.proofs.Words.{nil_from_length, flat_map, flat_map-append, Content, IsUsed, Table, with_freed, LevelNode, node, flat, heads, sizes, numbers, Stacked, Topped, trimmed, RowsIn, inner_content, entry_keys, entry_items, count, root_above, first_number}
 use Rattle.bforest_core.proofs.Words.{StandsAbove, UpTo, Trimmed}
-use Rattle.bforest_core.proofs.rows.LevelRows.{least-pos}
+use Rattle.bforest_core.proofs.rows.LevelRows.{least-pos, head-is}
 use Rattle.bforest_core.proofs.walks.Steps.{fit_full}
-use Rattle.bforest_core.proofs.table.Tables.{count-append, count-same, ne_from_count, rows-same}
-use Rattle.bforest_core.proofs.table.Stored.{item_count}
+use Rattle.bforest_core.proofs.table.Tables.{count-append, count-same, ne_from_count, rows-same, is_used}
+use Rattle.bforest_core.proofs.table.Stored.{item_count, some_same}
+use Rattle.bforest_core.proofs.removal.Asked.{NodeAt, ChildAt, ReadsChild, Counts}
 use Rattle.bforest_core.proofs.removal.Frees.{frees-refl, freed_other, frees-first}
 
 -- the sizes of a row are as many as its nodes
@@ -34,7 +35,7 @@ module _ {K : Type 0} where
   top_here list (node n (e ∷ es) ∷ next ∷ row) root s is = absurd (omega (arith, s.2, fit_full 4 8 (omega arith) (node n (e ∷ es) ∷ next ∷ row) s.1))
 
   -- there is one over any rows
-  pub top_of_rows : (list : List (K × ℕ)) (row : List (LevelNode K ℕ)) (rows : List (List (LevelNode K ℕ))) (root : ℕ) → Stacked list (row ∷ rows) → root_above list (row ∷ rows) ≡ root → Top (row ∷ rows) root
+  top_of_rows : (list : List (K × ℕ)) (row : List (LevelNode K ℕ)) (rows : List (List (LevelNode K ℕ))) (root : ℕ) → Stacked list (row ∷ rows) → root_above list (row ∷ rows) ≡ root → Top (row ∷ rows) root
   top_of_rows list row [] root s is = top_here list row root s is
   top_of_rows list row (next ∷ rows) root s is =
       let t = top_of_rows (heads row) next rows root s.2 is in
@@ -51,25 +52,21 @@ module _ {K : Type 0} where
   root-init list (row ∷ init) root x s = root-init (heads row) init root x s.2
 
   -- a root with more children than one stands over levels of two nodes or more
-  pub topped-here : (list : List (K × ℕ)) (init : List (List (LevelNode K ℕ))) (root : ℕ) (es : List (K × ℕ)) → 2 ≤ length es → Stacked list (init ++ (node root es ∷ []) ∷ []) → Topped list (init ++ (node root es ∷ []) ∷ [])
-  topped-here list [] root es two s = (omega (arith, two, ap length s.0, length-append es []), tt)
-  topped-here list (row ∷ []) root es two s =
-      let t = topped-here (heads row) [] root es two s.2 in
-      (omega (arith, t.0, heads-flat row, ap length s.0), t)
-  topped-here list (row ∷ next ∷ init) root es two s =
-      let t = topped-here (heads row) (next ∷ init) root es two s.2 in
-      (omega (arith, t.0, heads-flat row, ap length s.0), t)
+  topped-here : (list : List (K × ℕ)) (init : List (List (LevelNode K ℕ))) (root : ℕ) (es : List (K × ℕ)) → 2 ≤ length es → Stacked list (init ++ (node root es ∷ []) ∷ []) → (2 ≤ length list) × Topped list (init ++ (node root es ∷ []) ∷ [])
+  topped-here list [] root es two s = let low : 2 ≤ length list = omega (arith, two, ap length s.0, length-append es []) in (low, (low, tt))
+  topped-here list (row ∷ init) root es two s =
+      let t = topped-here (heads row) init root es two s.2 in
+      let low : 2 ≤ length list = omega (arith, t.0, heads-flat row, ap length s.0) in
+      (low, (low, t.1))
 
   -- the levels of a tree, up to the first of one node
   pub trimmed-is : (leaves : List ℕ) (list : List (K × ℕ)) (rows gone : List (List (LevelNode K ℕ))) → length leaves ≡ length list → Stacked list (rows ++ gone) → Stacked list rows → Topped list rows →
       trimmed (leaves ∷ map sizes (rows ++ gone)) ≡ leaves ∷ map sizes rows
-  trimmed-is [] list [] gone len s one t = absurd (omega (arith, len, one))
   trimmed-is (size ∷ []) list [] gone len s one t = refl
-  trimmed-is (size ∷ next ∷ after) list [] gone len s one t = absurd (omega (arith, len, one))
-  trimmed-is [] list (row ∷ rows) gone len s u t = absurd (omega (arith, len, t.0))
-  trimmed-is (size ∷ []) list (row ∷ rows) gone len s u t = absurd (omega (arith, len, t.0))
   trimmed-is (size ∷ next ∷ after) list (row ∷ rows) gone len s u t =
       ap (λ z. (size ∷ next ∷ after) ∷ z) (trimmed-is (sizes row) (heads row) rows gone (length-sizes row ∙ sym (fit_full 4 8 (omega arith) row u.1)) s.2 u.2 t.1)
+  trimmed-is leaves list [] gone len s u t = absurd (omega (arith, len, u))
+  trimmed-is leaves list (row ∷ rows) gone len s u t = absurd (omega (arith, len, t.0))
 
   -- rows of the same sizes over as many nodes
   pub topped-sizes : (list list' : List (K × ℕ)) (rows rows' : List (List (LevelNode K ℕ))) → Stacked list rows → Stacked list' rows' → length list' ≡ length list → map sizes rows' ≡ map sizes rows → Topped list rows → Topped list' rows'
@@ -118,112 +115,100 @@ module _ {K V : Type 0} where
     frees = frees-refl t [];
   }
 
-  -- what the call finds on top
-  pub record TopIn (t : Table K V) (size : ℕ) (rows : List (List (LevelNode K ℕ))) (list : List (K × ℕ)) (root : ℕ) : Type 0 where
-    pub top : Top rows root
-    pub whole : UpTo t size (top.init ++ (node root top.entries ∷ []) ∷ []) list root
-    pub slot_is : slice_get t.nodes root ≡ Some (inner_content top.entries)
-    pub none_below : count root (flat_map numbers top.init) ≡ 0
-    pub none_chain : count root t.chain ≡ 0
-
-  top_found : (t : Table K V) (size : ℕ) (rows : List (List (LevelNode K ℕ))) (list : List (K × ℕ)) (root : ℕ) → UpTo t size rows list root → Top rows root → TopIn t size rows list root
-  top_found t size rows list root u top =
-      let whole = subst (λ (z : List (List (LevelNode K ℕ))). UpTo t size z list root) top.rows_are u in
-      let i = rows-parts t.nodes top.init ((node root top.entries ∷ []) ∷ []) whole.inside in
-      let c = whole.apart root in
-      let d = count-append root (flat_map numbers (top.init ++ (node root top.entries ∷ []) ∷ [])) t.chain in
-      let e = count_top root top.init root top.entries in
-      record {
-        top = top;
-        whole = whole;
-        slot_is = i.1.0.0;
-        none_below = omega (arith, c, d, e, count-same root []);
-        none_chain = omega (arith, c, d, e, count-same root []);
-      }
-
-  -- it is found where there is a level above the leaves
-  pub top_in : (t : Table K V) (size : ℕ) (rows : List (List (LevelNode K ℕ))) (list : List (K × ℕ)) (root : ℕ) → UpTo t size rows list root → size ≢ 1 → TopIn t size rows list root
-  top_in t size [] list root u more = absurd (more (sym u.height))
-  top_in t size (row ∷ rows) list root u more = top_found t size (row ∷ rows) list root u (top_of_rows list row rows root u.stacked u.root_is)
-
   -- a leaf as the root stays
   pub trim_leaf : (t : Table K V) (size : ℕ) (rows : List (List (LevelNode K ℕ))) (list : List (K × ℕ)) (root : ℕ) → UpTo t size rows list root → size ≡ 1 → Trimmed t t size size rows list root root []
   trim_leaf t size [] list root u one = trim_none t size [] list root u tt
   trim_leaf t size (row ∷ rows) list root u one = absurd (omega (arith, u.height, one))
 
-  -- a root with more children than one stays
-  pub trim_stays : (t : Table K V) (size : ℕ) (rows : List (List (LevelNode K ℕ))) (list : List (K × ℕ)) (root : ℕ) → UpTo t size rows list root → (d : TopIn t size rows list root) → 1 < length d.top.entries → Trimmed t t size size rows list root root []
-  trim_stays t size rows list root u d two =
-      trim_none t size rows list root u (subst (λ (z : List (List (LevelNode K ℕ))). Topped list z) (sym d.top.rows_are) (topped-here list d.top.init root d.top.entries two d.whole.stacked))
+  top_of_up : (t : Table K V) (size : ℕ) (rows : List (List (LevelNode K ℕ))) (list : List (K × ℕ)) (root : ℕ) → UpTo t size rows list root → size ≢ 1 → Top rows root
+  top_of_up t size [] list root u more = absurd (more (sym u.height))
+  top_of_up t size (row ∷ rows) list root u more = top_of_rows list row rows root u.stacked u.root_is
 
-  -- the rows below a root with a single child, after it was freed
-  pub trim_child : (t v : Table K V) (size size1 : ℕ) (list : List (K × ℕ)) (root : ℕ) (init : List (List (LevelNode K ℕ))) (x : K × ℕ) → UpTo t size (init ++ (node root (x ∷ []) ∷ []) ∷ []) list root → count root (flat_map numbers init) ≡ 0 → v ≡ with_freed t root → size1 ≡ size - 1 → UpTo v size1 init list x.1
-  trim_child t v size size1 list root init x u none is size_is = record {
-    stacked = stacked-init list init root x u.stacked;
-    inside = rows-same t.nodes v.nodes init (λ m some. freed_other t v root is m (ne_from_count m root (flat_map numbers init) some none)) (rows-parts t.nodes init ((node root (x ∷ []) ∷ []) ∷ []) u.inside).0;
-    height = omega (arith, u.height, size_is, length-append init ((node root (x ∷ []) ∷ []) ∷ []));
-    root_is = root-init list init root x u.stacked;
-    apart = λ m. omega (arith, u.apart m, count-append m (flat_map numbers (init ++ (node root (x ∷ []) ∷ []) ∷ [])) t.chain, count_top m init root (x ∷ []), count-append m (flat_map numbers init) v.chain, ap (λ z. count m z.chain) is);
-  }
+  -- there is a level above the leaves
+  module _ (t : Table K V) (size : ℕ) (rows : List (List (LevelNode K ℕ))) (list : List (K × ℕ)) (root : ℕ) (u : UpTo t size rows list root) (more : size ≢ 1) where
+    pub top : Top rows root
+    top = top_of_up t size rows list root u more
 
-  -- and after more roots went
-  pub trim_more : (t v u : Table K V) (size size1 size' : ℕ) (list : List (K × ℕ)) (root root' : ℕ) (init : List (List (LevelNode K ℕ))) (x : K × ℕ) (freed : List ℕ) → UpTo t size (init ++ (node root (x ∷ []) ∷ []) ∷ []) list root → slice_get t.nodes root ≡ Some (inner_content (x ∷ [])) → count root (flat_map numbers init) ≡ 0 → v ≡ with_freed t root → size1 ≡ size - 1 →
-      Trimmed v u size1 size' init list x.1 root' freed → Trimmed t u size size' (init ++ (node root (x ∷ []) ∷ []) ∷ []) list root root' (freed ++ root ∷ [])
-  trim_more t v u size size1 size' list root root' init x freed w slot none is size_is r =
-      let row : List (LevelNode K ℕ) = node root (x ∷ []) ∷ [] in
-      let c = λ (m : ℕ). count_top m r.discarded root (x ∷ []) in
-      let d = λ (m : ℕ). count-append m freed (root ∷ []) in
-      let parts = λ (m : ℕ). ap (λ z. count m z) (ap (flat_map numbers) r.rows_are ∙ flat_map-append numbers r.rows' r.discarded) ∙ count-append m (flat_map numbers r.rows') (flat_map numbers r.discarded) in
-      let less : size' < size = omega (arith, r.size_is, w.height, ap length r.rows_are, length-append r.rows' r.discarded, length-append init (row ∷ [])) in
-      record {
-        rows' = r.rows';
-        discarded = r.discarded ++ row ∷ [];
-        rows_are = ap (λ z. z ++ row ∷ []) r.rows_are ∙ append_assoc r.rows' r.discarded (row ∷ []);
-        stacked = r.stacked;
-        topped = r.topped;
-        size_is = r.size_is;
-        freed_is = λ m. omega (arith, c m, d m, r.freed_is m);
-        one_each = omega (arith, r.one_each, length-append freed (root ∷ []), length-append r.discarded (row ∷ []));
-        root_is = r.root_is;
-        same_root = λ same. absurd (omega (arith, same, less));
-        old_root = λ ne. omega (arith, d root, count-same root []);
-        frees = frees-first t v u root (inner_content (x ∷ [])) (flat_map numbers (r.discarded ++ row ∷ [])) (flat_map numbers r.discarded) freed slot is
-            (omega (arith, c root, count-same root [])) (omega (arith, none, parts root)) (λ m none. omega (arith, none, c m)) r.frees;
-      }
+    whole : UpTo t size (top.init ++ (node root top.entries ∷ []) ∷ []) list root
+    whole = subst (λ (z : List (List (LevelNode K ℕ))). UpTo t size z list root) top.rows_are u
 
-  -- a root with a single child
-  pub record OnlyChild (t : Table K V) (size : ℕ) (rows : List (List (LevelNode K ℕ))) (list : List (K × ℕ)) (root : ℕ) : Type 0 where
-    pub init : List (List (LevelNode K ℕ))
-    pub x : K × ℕ
-    pub rows_are : rows ≡ init ++ (node root (x ∷ []) ∷ []) ∷ []
-    pub whole : UpTo t size (init ++ (node root (x ∷ []) ∷ []) ∷ []) list root
-    pub slot_is : slice_get t.nodes root ≡ Some (inner_content (x ∷ []))
-    pub none_below : count root (flat_map numbers init) ≡ 0
-    pub none_chain : count root t.chain ≡ 0
+    inside : RowsIn t.nodes top.init × RowsIn t.nodes ((node root top.entries ∷ []) ∷ [])
+    inside = rows-parts t.nodes top.init ((node root top.entries ∷ []) ∷ []) whole.inside
 
-  one_child : (t : Table K V) (size : ℕ) (rows init : List (List (LevelNode K ℕ))) (list : List (K × ℕ)) (root : ℕ) (es : List (K × ℕ)) → length es ≤ 1 → 1 ≤ length es → rows ≡ init ++ (node root es ∷ []) ∷ [] → UpTo t size (init ++ (node root es ∷ []) ∷ []) list root →
-      slice_get t.nodes root ≡ Some (inner_content es) → count root (flat_map numbers init) ≡ 0 → count root t.chain ≡ 0 → OnlyChild t size rows list root
-  one_child t size rows init list root [] few some is u slot a b = absurd (omega (arith, some))
-  one_child t size rows init list root (x ∷ []) few some is u slot a b = record { init = init; x = x; rows_are = is; whole = u; slot_is = slot; none_below = a; none_chain = b }
-  one_child t size rows init list root (x ∷ y ∷ es) few some is u slot a b = absurd (omega (arith, few))
+    slot_is : slice_get t.nodes root ≡ Some (inner_content top.entries)
+    slot_is = inside.1.0.0
 
-  -- the root that was found, where it has at most one child
-  pub only_child : (t : Table K V) (size : ℕ) (rows : List (List (LevelNode K ℕ))) (list : List (K × ℕ)) (root : ℕ) → (d : TopIn t size rows list root) → length d.top.entries ≤ 1 → OnlyChild t size rows list root
-  only_child t size rows list root d few = one_child t size rows d.top.init list root d.top.entries few d.top.some d.top.rows_are d.whole d.slot_is d.none_below d.none_chain
+    none_else : (count root (flat_map numbers top.init) ≡ 0) × (count root t.chain ≡ 0)
+    none_else =
+        let c = whole.apart root in
+        let d = count-append root (flat_map numbers (top.init ++ (node root top.entries ∷ []) ∷ [])) t.chain in
+        let e = count_top root top.init root top.entries in
+        (omega (arith, c, d, e, count-same root []), omega (arith, c, d, e, count-same root []))
 
-  -- the rows below it, after it was freed
-  pub trim_down : (t v : Table K V) (size size1 : ℕ) (rows : List (List (LevelNode K ℕ))) (list : List (K × ℕ)) (root only : ℕ) → (d : OnlyChild t size rows list root) → d.x.1 ≡ only → v ≡ with_freed t root → size1 ≡ size - 1 → UpTo v size1 d.init list only
-  trim_down t v size size1 rows list root only d only_is is size_is =
-      subst (λ (z : ℕ). UpTo v size1 d.init list z) only_is (trim_child t v size size1 list root d.init d.x d.whole d.none_below is size_is)
+    -- what counting the root's children asks
+    pub counted_asks : NodeAt t root
+    counted_asks = (inner_content top.entries, slot_is, λ free. free)
 
-  -- and after more roots went
-  pub trim_then : (t v u : Table K V) (size size1 size' : ℕ) (rows : List (List (LevelNode K ℕ))) (list : List (K × ℕ)) (root only root' : ℕ) (freed : List ℕ) → (d : OnlyChild t size rows list root) → d.x.1 ≡ only → v ≡ with_freed t root → size1 ≡ size - 1 →
-      Trimmed v u size1 size' d.init list only root' freed → Trimmed t u size size' rows list root root' (freed ++ root ∷ [])
-  trim_then t v u size size1 size' rows list root only root' freed d only_is is size_is r =
-      rw d.rows_are (trim_more t v u size size1 size' list root root' d.init d.x freed d.whole d.slot_is d.none_below is size_is (rw only_is r))
+    module _ (n : ℕ) (counted : Counts t root n) where
+      count_is : n ≡ length top.entries
+      count_is = counted (inner_content top.entries) slot_is ∙ item_count top.entries
 
-  -- the root's entries, as the call counts them, are one
-  pub only_in : (t : Table K V) (size : ℕ) (rows : List (List (LevelNode K ℕ))) (list : List (K × ℕ)) (root n : ℕ) → UpTo t size rows list root → size ≢ 1 → ((content : Content K V) → slice_get t.nodes root ≡ Some content → n ≡ entry_count content) → n ≤ 1 → OnlyChild t size rows list root
-  only_in t size rows list root n u more counted few =
-      let d = top_in t size rows list root u more in
-      only_child t size rows list root d (omega (arith, few, counted (inner_content d.top.entries) d.slot_is, item_count d.top.entries))
+      -- a root with more children than one stays
+      pub trim_stays : 1 < n → Trimmed t t size size rows list root root []
+      trim_stays two =
+          trim_none t size rows list root u (subst (λ (z : List (List (LevelNode K ℕ))). Topped list z) (sym top.rows_are) (topped-here list top.init root top.entries (omega (arith, two, count_is)) whole.stacked).1)
+
+      -- a root with a single child
+      module _ (few : n ≤ 1) where
+        child : (x : K × ℕ) × (top.entries ≡ x ∷ [])
+        child =
+            let h = head-is root top.entries top.some in
+            (h.first, h.es_is ∙ ap (λ z. h.first ∷ z) (nil_from_length h.others (omega (arith, few, count_is, ap length h.es_is))))
+
+        -- what reading the child asks
+        pub child_asks : ChildAt t root 0
+        child_asks = (drop 1 (entry_keys top.entries), entry_items top.entries, slot_is, omega (arith, item_count top.entries, top.some))
+
+        -- and freeing the root
+        pub free_asks : IsUsed t root
+        free_asks = is_used t root (inner_content top.entries) slot_is none_else.1
+
+        module _ (only : ℕ) (reads : ReadsChild t root 0 only) (v : Table K V) (freed : v ≡ with_freed t root) where
+          only_is : child.0.1 ≡ only
+          only_is = some_same child.0.1 only (ap (λ z. slice_get (entry_items z) 0) (sym child.1) ∙ reads (drop 1 (entry_keys top.entries)) (entry_items top.entries) slot_is)
+
+          stacked : Stacked list (top.init ++ (node root (child.0 ∷ []) ∷ []) ∷ [])
+          stacked = subst (λ (z : List (K × ℕ)). Stacked list (top.init ++ (node root z ∷ []) ∷ [])) child.1 whole.stacked
+
+          -- the rows below it, after it was freed
+          pub trim_down : UpTo v (size - 1) top.init list only
+          trim_down = record {
+            stacked = stacked-init list top.init root child.0 stacked;
+            inside = rows-same t.nodes v.nodes top.init (λ m some. freed_other t v root freed m (ne_from_count m root (flat_map numbers top.init) some none_else.0)) inside.0;
+            height = omega (arith, whole.height, length-append top.init ((node root top.entries ∷ []) ∷ []));
+            root_is = root-init list top.init root child.0 stacked ∙ only_is;
+            apart = λ m. omega (arith, whole.apart m, count-append m (flat_map numbers (top.init ++ (node root top.entries ∷ []) ∷ [])) t.chain, count_top m top.init root top.entries, count-append m (flat_map numbers top.init) v.chain, ap (λ z. count m z.chain) freed);
+          }
+
+          -- and after more roots went
+          pub trim_then : (w : Table K V) (size' root' : ℕ) (gone : List ℕ) → Trimmed v w (size - 1) size' top.init list only root' gone → Trimmed t w size size' rows list root root' (gone ++ root ∷ [])
+          trim_then w size' root' gone r =
+              let row : List (LevelNode K ℕ) = node root top.entries ∷ [] in
+              let c = λ (m : ℕ). count_top m r.discarded root top.entries in
+              let d = λ (m : ℕ). count-append m gone (root ∷ []) in
+              let parts = ap (λ z. count root z) (ap (flat_map numbers) r.rows_are ∙ flat_map-append numbers r.rows' r.discarded) ∙ count-append root (flat_map numbers r.rows') (flat_map numbers r.discarded) in
+              let less : size' < size = omega (arith, r.size_is, whole.height, ap length r.rows_are, length-append r.rows' r.discarded, length-append top.init (row ∷ [])) in
+              record {
+                rows' = r.rows';
+                discarded = r.discarded ++ row ∷ [];
+                rows_are = top.rows_are ∙ ap (λ z. z ++ row ∷ []) r.rows_are ∙ append_assoc r.rows' r.discarded (row ∷ []);
+                stacked = r.stacked;
+                topped = r.topped;
+                size_is = r.size_is;
+                freed_is = λ m. omega (arith, c m, d m, r.freed_is m);
+                one_each = omega (arith, r.one_each, length-append gone (root ∷ []), length-append r.discarded (row ∷ []));
+                root_is = r.root_is;
+                same_root = λ same. absurd (omega (arith, same, less));
+                old_root = λ ne. omega (arith, d root, count-same root []);
+                frees = frees-first t v w root (inner_content top.entries) (flat_map numbers (r.discarded ++ row ∷ [])) (flat_map numbers r.discarded) gone slot_is freed (omega (arith, c root, count-same root [])) (omega (arith, none_else.0, parts)) (λ m none. omega (arith, none, c m)) r.frees;
+              }

@@ -1,6 +1,6 @@
 -- Changes of some numbers of a table, of which some are freed: none, one after another, and of more numbers.
-use Rattle.std.proofs.Common.{◌≡◌, ◌≢◌, ℕ, ◌<◌, List, [], ◌∷◌, ◌++◌, length, slice_get, Some, refl, sym, ap, ◌∙◌, subst, inl, inr, append_assoc, length-set, arith}
-use Rattle.bforest_core.proofs.Words.{eqb_tells, slice_get_within, Content, Free, IsFree, Table, with_freed, front_of, count, Frees, slot, Every}
+use Rattle.std.proofs.Common.{◌≡◌, ◌≢◌, ℕ, ◌<◌, List, [], ◌∷◌, ◌++◌, length, slice_get, Some, refl, sym, ap, ◌∙◌, subst, inl, inr, append_assoc, append-nil, length-set, arith}
+use Rattle.bforest_core.proofs.Words.{eqb_tells, slice_get_within, Content, Free, IsFree, Table, with_freed, front_of, count, Frees, slot}
 use Rattle.bforest_core.proofs.table.Tables.{Puts, count-other, slice_get-set_apart}
 use Rattle.bforest_core.proofs.union.Forests.{every-join}
 use Rattle.bforest_core.proofs.union.FreeSlots.{free-same, freed-slot}
@@ -18,20 +18,19 @@ module _ {K V : Type 0} where
   pub frees-refl : (t : Table K V) (own : List ℕ) → Frees t t own []
   frees-refl t own = record { others = λ m z. refl; freed_are = tt; chain_is = refl; slots_are = refl; limit_is = refl }
 
-  -- freed numbers of one change, and those of a second one, which leaves them alone
-  pub freed-then : (u v : Table K V) (wide one two : List ℕ) → Frees u v wide two → ((m : ℕ) → 0 < count m one → count m wide ≡ 0) → Every (λ (m : ℕ). IsFree (slot u.nodes m)) one → Every (λ (m : ℕ). IsFree (slot v.nodes m)) (two ++ one)
-  freed-then u v wide one two q quiet f =
-      every-join (λ (m : ℕ). IsFree (slot v.nodes m)) two one q.freed_are (free-same u.nodes v.nodes one (λ m some. q.others m (quiet m some)) f)
-
   -- one change after another, which leaves alone what the first freed
   pub frees-then : (t u v : Table K V) (own wide one two : List ℕ) → ((m : ℕ) → count m own ≡ 0 → count m wide ≡ 0) → ((m : ℕ) → 0 < count m one → count m wide ≡ 0) → Frees t u own one → Frees u v wide two → Frees t v own (two ++ one)
   frees-then t u v own wide one two less quiet p q = record {
     others = λ m z. q.others m (less m z) ∙ p.others m z;
-    freed_are = freed-then u v wide one two q quiet p.freed_are;
+    freed_are = every-join (λ (m : ℕ). IsFree (slot v.nodes m)) two one q.freed_are (free-same u.nodes v.nodes one (λ m some. q.others m (quiet m some)) p.freed_are);
     chain_is = q.chain_is ∙ ap (λ z. two ++ z) p.chain_is ∙ sym (append_assoc two one t.chain);
     slots_are = q.slots_are ∙ p.slots_are;
     limit_is = q.limit_is ∙ p.limit_is;
   }
+
+  -- one change after another that freed nothing
+  pub frees-after : (t u v : Table K V) (own wide freed : List ℕ) → ((m : ℕ) → count m own ≡ 0 → count m wide ≡ 0) → Frees t u own [] → Frees u v wide freed → Frees t v own freed
+  frees-after t u v own wide freed less p q = subst (λ (z : List ℕ). Frees t v own z) (append-nil freed) (frees-then t u v own wide [] freed less (λ m some. omega (arith, some)) p q)
 
   -- a change of some numbers is one of more
   pub frees-wider : (t u : Table K V) (own wide freed : List ℕ) → ((m : ℕ) → count m wide ≡ 0 → count m own ≡ 0) → Frees t u own freed → Frees t u wide freed
@@ -53,11 +52,6 @@ module _ {K V : Type 0} where
     limit_is = p.limit_is;
   }
 
-  -- a node that was freed is free
-  pub freed-is : (u v : Table K V) (n : ℕ) (old : Content K V) → slice_get u.nodes n ≡ Some old → v ≡ with_freed u n → IsFree (slot v.nodes n)
-  freed-is u v n old found is =
-      subst (λ (z : Table K V). IsFree (slot z.nodes n)) (sym is) (freed-slot u n (slice_get_within u.nodes n old found))
-
   -- a slot other than the freed one
   pub freed_other : (t v : Table K V) (n : ℕ) → v ≡ with_freed t n → (m : ℕ) → m ≢ n → slice_get v.nodes m ≡ slice_get t.nodes m
   freed_other t v n is m ne = ap (λ z. slice_get z.nodes m) is ∙ slice_get-set_apart t.nodes n m (Free (front_of t.chain)) ne
@@ -66,7 +60,7 @@ module _ {K V : Type 0} where
   pub frees-one : (t v : Table K V) (n : ℕ) (old : Content K V) (own : List ℕ) → slice_get t.nodes n ≡ Some old → v ≡ with_freed t n → 0 < count n own → Frees t v own (n ∷ [])
   frees-one t v n old own found is some = record {
     others = λ m z. freed_other t v n is m (λ (e : m ≡ n). let h = ap (λ w. count w own) e in omega (arith, h, z, some));
-    freed_are = (freed-is t v n old found is, tt);
+    freed_are = (subst (λ (z : Table K V). IsFree (slot z.nodes n)) (sym is) (freed-slot t n (slice_get_within t.nodes n old found)), tt);
     chain_is = ap (λ z. z.chain) is;
     slots_are = ap (λ z. length z.nodes) is ∙ length-set t.nodes n (Free (front_of t.chain));
     limit_is = ap (λ z. z.limit) is;
@@ -77,9 +71,3 @@ module _ {K V : Type 0} where
       ((m : ℕ) → count m own ≡ 0 → count m wide ≡ 0) → Frees v u wide freed → Frees t u own (freed ++ n ∷ [])
   frees-first t v u n old own wide freed found is some none less q =
       frees-then t v u own wide (n ∷ []) freed less (λ m here. only_here m n wide here none) (frees-one t v n old own found is some) q
-
-  -- a change that frees one of a level, between one on it and one of the rows above
-  pub frees-joined : (t u w v : Table K V) (own row rest : List ℕ) (n : ℕ) (freed : List ℕ) → ((m : ℕ) → count m own ≡ 0 → (count m row ≡ 0) × (count m rest ≡ 0)) → count n rest ≡ 0 →
-      Frees t u own [] → Frees u w row (n ∷ []) → Frees w v rest freed → Frees t v own (freed ++ n ∷ [])
-  frees-joined t u w v own row rest n freed less none p q r =
-      frees-then t w v own rest (n ∷ []) freed (λ m z. (less m z).1) (λ m here. only_here m n rest here none) (frees-then t u w own row [] (n ∷ []) (λ m z. (less m z).0) (λ m some. omega (arith, some)) p q) r

@@ -4,12 +4,9 @@ use Rattle.bforest_core.proofs.Words.{flat_map, remove, length-map, Content, Lea
 use Rattle.bforest_core.proofs.Words.{numbers_of, Above, Rebuilt, StandsIn, LeafLoss}
 use Rattle.bforest_core.proofs.rows.LevelRows.{flat-append, sizes-append, FitRow-split, Solid-full, least-pos}
 use Rattle.bforest_core.proofs.table.Tables.{count-append, counts, count-same, row-split, row-put, row-same, Puts}
+use Rattle.bforest_core.proofs.rows.Contents.{remove_at}
 use Rattle.bforest_core.proofs.rows.Zipper.{cut, apart_here}
-use Rattle.bforest_core.proofs.removal.Frees.{frees-then, frees-puts}
-
-remove_between : {A : Type 0} (p s : List A) (x : A) → remove (p ++ x ∷ s) (length p) ≡ p ++ s
-remove_between [] s x = refl
-remove_between (z ∷ p) s x = ap (λ w. z ∷ w) (remove_between p s x)
+use Rattle.bforest_core.proofs.removal.Frees.{frees-after, frees-puts}
 
 remove_map : {X Y : Type 0} (f : X → Y) (l r : List X) (x : X) → remove (map f (l ++ x ∷ r)) (length l) ≡ map f (l ++ r)
 remove_map f [] r x = refl
@@ -21,7 +18,7 @@ pub remove_flat : {K V : Type 0} (before : List (LevelNode K V)) (n : ℕ) (l : 
 remove_flat before n l x r after =
     let whole : flat (before ++ node n (l ++ x ∷ r) ∷ after) ≡ (flat before ++ l) ++ x ∷ (r ++ flat after) =
     flat-append before _ ∙ ap (λ z. flat before ++ z) (append_assoc l (x ∷ r) (flat after)) ∙ sym (append_assoc (flat before) l _) in
-    ap (λ z. remove z (length (flat before) + length l)) whole ∙ ap (λ z. remove ((flat before ++ l) ++ x ∷ (r ++ flat after)) z) (sym (length-append (flat before) l)) ∙ remove_between (flat before ++ l) (r ++ flat after) x
+    ap (λ z. remove z (length (flat before) + length l)) whole ∙ ap (λ z. remove ((flat before ++ l) ++ x ∷ (r ++ flat after)) z) (sym (length-append (flat before) l)) ∙ remove_at (flat before ++ l) x (r ++ flat after) (length (flat before ++ l)) refl
     ∙ append_assoc (flat before) l _ ∙ ap (λ z. flat before ++ z) (sym (append_assoc l r (flat after))) ∙ sym (flat-append before (node n (l ++ r) ∷ after))
 
 -- the keys of a leaf are as many as its entries
@@ -152,6 +149,5 @@ module _ {K V : Type 0} where
         sizes_were = ap sizes d.leaves_are ∙ sizes-append d.before (node n old ∷ d.after) ∙ ap (λ z. sizes d.before ++ z ∷ sizes d.after) len;
         rest_sizes = b.sizes_are;
         numbers_are = λ m. omega (arith, c0 m, c1 m, c2 m, c8 m, c9 m);
-        frees = frees-then t u v (numbers_of tree) (flat_map numbers tree.above) [] [] (λ m none. omega (arith, none, c8 m)) (λ m some. omega (arith, some))
-            (frees-puts t u n (leaf_content es) (numbers_of tree) (omega (arith, c0 n, c1 n, c8 n, count-same n (numbers d.after))) w) b.frees;
+        frees = frees-after t u v (numbers_of tree) (flat_map numbers tree.above) [] (λ m none. omega (arith, none, c8 m)) (frees-puts t u n (leaf_content es) (numbers_of tree) (omega (arith, c0 n, c1 n, c8 n, count-same n (numbers d.after))) w) b.frees;
       }

@@ -1,10 +1,10 @@
 -- The rows above a level: in another table, and under a row whose keys were written.
-use Rattle.std.proofs.Common.{◌≡◌, ℕ, suc, ◌+◌, ◌<◌, ◌≤◌, List, [], ◌∷◌, ◌++◌, map, length, get_or, slice_get, refl, sym, ap, ◌∙◌, subst, length-append, arith}
-use Rattle.bforest_core.proofs.Words.{flat_map, Content, Table, LevelNode, node, flat, heads, head_of, sizes, numbers, FitRow, Stacked, RowIn, inner_content, count, StandsAbove, Distinct, Above, Rebuilt, Frees}
-use Rattle.bforest_core.proofs.rows.LevelRows.{least-pos, heads-append, sizes-append, FitRow-join}
-use Rattle.bforest_core.proofs.table.Tables.{count-append, count-same, counts, row-put, rows-same, ne_from_count, Puts}
-use Rattle.bforest_core.proofs.rows.Zipper.{Cut_above, facts, stands_here}
-use Rattle.bforest_core.proofs.removal.Frees.{frees-puts, frees-refl}
+use Rattle.std.proofs.Common.{◌≡◌, ℕ, suc, ◌+◌, ◌<◌, ◌≤◌, List, [], ◌∷◌, ◌++◌, map, length, set, get_or, slice_get, refl, sym, ap, ◌∙◌, subst, append_assoc, length-append, arith}
+use Rattle.bforest_core.proofs.Words.{flat_map, Content, Table, LevelNode, node, flat, heads, head_of, sizes, numbers, FitRow, Stacked, RowIn, inner_content, count, Distinct, Above, Rebuilt, Frees, with_key, with_node, entry_keys, entry_items}
+use Rattle.bforest_core.proofs.rows.LevelRows.{least-pos, flat-append, heads-append, sizes-append, FitRow-join}
+use Rattle.bforest_core.proofs.table.Tables.{count-append, count-same, count-row, counts, row-put, row-same, rows-same, ne_from_count, Puts, puts}
+use Rattle.bforest_core.proofs.rows.Zipper.{Spot, stands_here}
+use Rattle.bforest_core.proofs.removal.Frees.{frees-puts, frees-refl, frees-wider}
 
 -- a node's first key does not change with a later entry's item
 pub head-other : {K X : Type 0} (n : ℕ) (l : List (K × X)) (k : K) (x y : X) (r s : List (K × X)) → head_of n (l ++ (k, x) ∷ r) ≡ head_of n (l ++ (k, y) ∷ s)
@@ -14,6 +14,25 @@ head-other n (z ∷ l) k x y r s = refl
 -- nor do the heads of a row
 pub heads-put : {K X : Type 0} (before : List (LevelNode K X)) (n : ℕ) (es fs : List (K × X)) (after : List (LevelNode K X)) → head_of n es ≡ head_of n fs → heads (before ++ node n es ∷ after) ≡ heads (before ++ node n fs ∷ after)
 heads-put before n es fs after e = heads-append before _ ∙ ap (λ w. heads before ++ (w ++ heads after)) e ∙ sym (heads-append before _)
+
+head-kept : {K X : Type 0} (n : ℕ) (p r s : List (K × X)) → 1 ≤ length p → head_of n (p ++ r) ≡ head_of n (p ++ s)
+head-kept n [] r s some = absurd (omega (arith, some))
+head-kept n (z ∷ p) r s some = refl
+
+set_here : {K : Type 0} (p : List (K × ℕ)) (y : K × ℕ) (s : List (K × ℕ)) (key : K) → set (entry_keys (p ++ y ∷ s)) (length p) key ≡ entry_keys (p ++ (key, y.1) ∷ s)
+set_here [] y s key = refl
+set_here (z ∷ p) y s key = ap (λ w. z.0 ∷ w) (set_here p y s key)
+
+items_here : {K : Type 0} (p : List (K × ℕ)) (y : K × ℕ) (s : List (K × ℕ)) (key : K) → entry_items (p ++ y ∷ s) ≡ entry_items (p ++ (key, y.1) ∷ s)
+items_here [] y s key = refl
+items_here (z ∷ p) y s key = ap (λ w. z.1 ∷ w) (items_here p y s key)
+
+-- the key before an entry behind others
+with_key_is : {K V : Type 0} (p : List (K × ℕ)) (y : K × ℕ) (s : List (K × ℕ)) (e : ℕ) (key : K) → suc e ≡ length p → with_key {V = V} (inner_content (p ++ y ∷ s)) e key ≡ inner_content (p ++ (key, y.1) ∷ s)
+with_key_is [] y s e key p_is = absurd (omega (arith, p_is))
+with_key_is (z ∷ p) y s e key p_is =
+    let e_is : e ≡ length p = omega (arith, p_is) in
+    rw (e_is, set_here p y s key, items_here (z ∷ p) y s key) refl
 
 -- the next node of a row, under its first key
 pub record NextNode {K X : Type 0} (after : List (LevelNode K X)) (k : K) (q : ℕ) : Type 0 where
@@ -62,61 +81,81 @@ module _ {K V : Type 0} where
     same_top = refl;
   }
 
-  -- the rows above the path's row
-  pub rows_above : (t : Table K V) (path indices : List ℕ) (up size : ℕ) (before : List (LevelNode K ℕ)) (n : ℕ) (l : List (K × ℕ)) (x : K × ℕ) (r : List (K × ℕ)) (after : List (LevelNode K ℕ)) (rest : List (List (LevelNode K ℕ))) →
-      Cut_above t path indices up size before n l x r after rest →
-      StandsAbove path indices (suc up) rest (length (heads before)) → Above t path indices (suc up) size rest (heads (before ++ node n (l ++ x ∷ r) ∷ after)) (length (heads before))
-  rows_above t path indices up size before n l x r after rest p st =
-      let c = λ (m : ℕ). counts m before n (l ++ x ∷ r) after rest t.chain in
-      record { stacked = p.stacked.2; inside = p.inside.1; stands = st; height = omega (arith, p.height); apart = λ m. omega (arith, p.apart m, c m, count-append m (flat_map numbers rest) t.chain) }
+  module _ (t : Table K V) (path indices : List ℕ) (up size : ℕ) (rows : List (List (LevelNode K ℕ))) (a : List (K × ℕ)) (x : K × ℕ) (b : List (K × ℕ)) (d : Spot t path indices up size rows a x b) where
+    -- the rows above the path's row
+    pub rows_above : Above t path indices (suc up) size d.q.rest (heads (d.q.before ++ node (get_or path up 0) (d.q.l ++ x ∷ d.q.r) ∷ d.q.after)) (length (heads d.q.before))
+    rows_above =
+        let q = d.q in
+        let p = d.whole in
+        let c = λ (m : ℕ). counts m q.before (get_or path up 0) (q.l ++ x ∷ q.r) q.after q.rest t.chain in
+        record { stacked = p.stacked.2; inside = p.inside.1; stands = q.stands; height = omega (arith, p.height); apart = λ m. omega (arith, p.apart m, c m, count-append m (flat_map numbers q.rest) t.chain) }
 
-  -- the row with other keys, under rows above that have them
-  pub lifted : (t v u : Table K V) (path indices : List ℕ) (up size : ℕ) (before : List (LevelNode K ℕ)) (l : List (K × ℕ)) (x : K × ℕ) (r : List (K × ℕ)) (after : List (LevelNode K ℕ)) (rest : List (List (LevelNode K ℕ))) (es : List (K × ℕ)) (after2 : List (LevelNode K ℕ)) (list list2 : List (K × ℕ)) →
-      Cut_above t path indices up size before (get_or path up 0) l x r after rest → length l ≡ get_or indices up 0 → length es ≡ length (l ++ x ∷ r) → sizes after2 ≡ sizes after → numbers after2 ≡ numbers after →
-      flat (before ++ node (get_or path up 0) es ∷ after2) ≡ list → list2 ≡ heads (before ++ node (get_or path up 0) es ∷ after2) → FitRow 4 8 (node (get_or path up 0) es ∷ after2) → RowIn inner_content u.nodes (before ++ node (get_or path up 0) es ∷ after2) →
-      Frees t u (numbers (before ++ node (get_or path up 0) (l ++ x ∷ r) ∷ after) ++ flat_map numbers rest) [] →
-      Rebuilt v u path indices path indices (suc up) size rest list2 (length (heads before)) (map sizes rest) [] →
-      Rebuilt t u path indices path indices up size ((before ++ node (get_or path up 0) (l ++ x ∷ r) ∷ after) ∷ rest) list (length (flat before ++ l)) (map sizes ((before ++ node (get_or path up 0) (l ++ x ∷ r) ∷ after) ∷ rest)) []
-  lifted t v u path indices up size before l x r after rest es after2 list list2 p e_is len sizes_same numbers_same flat_is heads_are fits inside frees b =
-      let n = get_or path up 0 in
-      let old : List (K × ℕ) = l ++ x ∷ r in
-      let row2 : List (LevelNode K ℕ) = before ++ node n es ∷ after2 in
-      let f = facts t path indices up size before n l x r after rest p in
-      let c = λ (m : ℕ). counts m before n old after rest t.chain in
-      let c2 = λ (m : ℕ). counts m before n es after2 b.rows' u.chain in
-      let c3 = λ (m : ℕ). ap (λ z. count m (n ∷ z)) numbers_same in
-      let c4 = λ (m : ℕ). ap (λ z. count m z) frees.chain_is in
-      record {
-        rows' = row2 ∷ b.rows';
-        above = record {
-          stacked = (flat_is, FitRow-join 4 8 before (node n es) after2 f.solid fits, subst (λ (z : List (K × ℕ)). Stacked z b.rows') heads_are b.above.stacked);
-          inside = (inside, b.above.inside);
-          stands = stands_here path indices up row2 before n (get_or indices up 0) es after2 b.rows' (length (flat before ++ l)) f.solid refl refl refl (omega (arith, len, length-append l (x ∷ r), e_is))
-              (length-append (flat before) l ∙ ap (λ z. length (flat before) + z) e_is) b.above.stands;
-          height = omega (arith, b.above.height);
-          apart = λ m. omega (arith, p.apart m, b.numbers_are m, c m, c2 m, c3 m, c4 m);
-        };
-        sizes_are = ap (λ z. z ∷ map sizes b.rows') (sizes-append before (node n es ∷ after2) ∙ ap (λ z. sizes before ++ z ∷ sizes after2) len ∙ ap (λ z. sizes before ++ length old ∷ z) sizes_same ∙ sym (sizes-append before (node n old ∷ after))) ∙ ap (λ z. sizes (before ++ node n old ∷ after) ∷ z) b.sizes_are;
-        numbers_are = λ m. omega (arith, c m, c2 m, c3 m, b.numbers_are m);
-        frees = frees;
-        nodes_below = λ i low. refl;
-        entries_below = λ i low. refl;
-        same_top = refl;
-      }
+    -- the level's list of nodes, with others from the path's on
+    pub flat_at : (es rest : List (K × ℕ)) (after : List (LevelNode K ℕ)) → es ++ flat after ≡ d.q.l ++ rest → flat (d.q.before ++ node (get_or path up 0) es ∷ after) ≡ a ++ rest
+    flat_at es rest after is =
+        flat-append d.q.before (node (get_or path up 0) es ∷ after) ∙ ap (λ z. flat d.q.before ++ z) is ∙ sym (append_assoc (flat d.q.before) d.q.l rest) ∙ ap (λ z. z ++ rest) (sym d.q.a_is)
 
-  -- a node of the row with other keys, but for its first
-  pub renamed : (t u : Table K V) (path indices : List ℕ) (up size : ℕ) (before : List (LevelNode K ℕ)) (l : List (K × ℕ)) (x : K × ℕ) (r : List (K × ℕ)) (after : List (LevelNode K ℕ)) (rest : List (List (LevelNode K ℕ))) (es list : List (K × ℕ)) →
-      Cut_above t path indices up size before (get_or path up 0) l x r after rest → length l ≡ get_or indices up 0 →
-      StandsAbove path indices (suc up) rest (length (heads before)) → length es ≡ length (l ++ x ∷ r) → head_of (get_or path up 0) (l ++ x ∷ r) ≡ head_of (get_or path up 0) es → flat (before ++ node (get_or path up 0) es ∷ after) ≡ list →
-      Puts t u (get_or path up 0) (inner_content es) →
-      Rebuilt t u path indices path indices up size ((before ++ node (get_or path up 0) (l ++ x ∷ r) ∷ after) ∷ rest) list (length (flat before ++ l)) (map sizes ((before ++ node (get_or path up 0) (l ++ x ∷ r) ∷ after) ∷ rest)) []
-  renamed t u path indices up size before l x r after rest es list p e_is st len head_is flat_is w =
-      let n = get_or path up 0 in
-      let old : List (K × ℕ) = l ++ x ∷ r in
-      let f = facts t path indices up size before n l x r after rest p in
-      let c = counts n before n old after rest t.chain in
-      let above = above_written t u n (inner_content es) path indices (suc up) size rest (heads (before ++ node n old ∷ after)) (length (heads before)) w f.none_rest (rows_above t path indices up size before n l x r after rest p st) in
-      lifted t u u path indices up size before l x r after rest es after list (heads (before ++ node n old ∷ after)) p e_is len refl refl flat_is (heads-put before n old es after head_is)
-      (omega (arith, f.fit.0, len), omega (arith, f.fit.1, len), f.fit.2) (row-put inner_content t.nodes u.nodes before n old es after f.inside w.same w.here f.none)
-      (frees-puts t u n (inner_content es) (numbers (before ++ node n old ∷ after) ++ flat_map numbers rest) (omega (arith, c, count-same n (numbers after))) w)
-      (rebuilt_same u path indices (suc up) size rest (heads (before ++ node n old ∷ after)) (length (heads before)) above)
+    -- the path's place in it
+    pub place_at : length a ≡ length (flat d.q.before) + get_or indices up 0
+    place_at = omega (arith, ap length d.q.a_is, length-append (flat d.q.before) d.q.l, d.q.entry_is)
+
+    -- the row with other keys, under rows above that have them
+    pub lifted : (v u : Table K V) (es : List (K × ℕ)) (after : List (LevelNode K ℕ)) (list rest : List (K × ℕ)) → length es ≡ length (d.q.l ++ x ∷ d.q.r) → sizes after ≡ sizes d.q.after → numbers after ≡ numbers d.q.after → es ++ flat after ≡ d.q.l ++ rest →
+        list ≡ heads (d.q.before ++ node (get_or path up 0) es ∷ after) → FitRow 4 8 (node (get_or path up 0) es ∷ after) → RowIn inner_content u.nodes (d.q.before ++ node (get_or path up 0) es ∷ after) →
+        Frees t u (numbers (d.q.before ++ node (get_or path up 0) (d.q.l ++ x ∷ d.q.r) ∷ d.q.after) ++ flat_map numbers d.q.rest) [] → Rebuilt v u path indices path indices (suc up) size d.q.rest list (length (heads d.q.before)) (map sizes d.q.rest) [] →
+        Rebuilt t u path indices path indices up size rows (a ++ rest) (length a) (map sizes rows) []
+    lifted v u es after list rest len sizes_same numbers_same flat_is heads_are fits inside frees r =
+        let q = d.q in
+        let n = get_or path up 0 in
+        let old : List (K × ℕ) = q.l ++ x ∷ q.r in
+        let row : List (LevelNode K ℕ) = q.before ++ node n es ∷ after in
+        let c = λ (m : ℕ). counts m q.before n old q.after q.rest t.chain in
+        let c2 = λ (m : ℕ). counts m q.before n es after r.rows' u.chain in
+        let c3 = λ (m : ℕ). ap (λ z. count m (n ∷ z)) numbers_same in
+        let c4 = λ (m : ℕ). ap (λ z. count m z) frees.chain_is in
+        record {
+          rows' = row ∷ r.rows';
+          above = record {
+            stacked = (flat_at es rest after flat_is, FitRow-join 4 8 q.before (node n es) after d.f.solid fits, subst (λ (z : List (K × ℕ)). Stacked z r.rows') heads_are r.above.stacked);
+            inside = (inside, r.above.inside);
+            stands = stands_here path indices up row q.before n (get_or indices up 0) es after r.rows' (length a) d.f.solid refl refl refl (omega (arith, len, d.count_is)) place_at r.above.stands;
+            height = omega (arith, r.above.height);
+            apart = λ m. omega (arith, d.whole.apart m, r.numbers_are m, c m, c2 m, c3 m, c4 m);
+          };
+          sizes_are = ap (λ z. z ∷ map sizes r.rows') (sizes-append q.before (node n es ∷ after) ∙ ap (λ z. sizes q.before ++ z ∷ sizes after) len ∙ ap (λ z. sizes q.before ++ length old ∷ z) sizes_same ∙ sym (sizes-append q.before (node n old ∷ q.after))) ∙ ap (λ z. sizes (q.before ++ node n old ∷ q.after) ∷ z) r.sizes_are
+              ∙ ap (λ z. map sizes z) (sym q.rows_are);
+          numbers_are = λ m. omega (arith, c m, c2 m, c3 m, r.numbers_are m, ap (λ z. count m (flat_map numbers z)) q.rows_are);
+          frees = rw q.rows_are frees;
+          nodes_below = λ i low. refl;
+          entries_below = λ i low. refl;
+          same_top = refl;
+        }
+
+    -- where the rows above alone were written
+    pub lifted_above : (u : Table K V) (es : List (K × ℕ)) (after : List (LevelNode K ℕ)) (list rest : List (K × ℕ)) → length es ≡ length (d.q.l ++ x ∷ d.q.r) → sizes after ≡ sizes d.q.after → numbers after ≡ numbers d.q.after → es ++ flat after ≡ d.q.l ++ rest →
+        list ≡ heads (d.q.before ++ node (get_or path up 0) es ∷ after) → FitRow 4 8 (node (get_or path up 0) es ∷ after) → RowIn inner_content t.nodes (d.q.before ++ node (get_or path up 0) es ∷ after) →
+        Rebuilt t u path indices path indices (suc up) size d.q.rest list (length (heads d.q.before)) (map sizes d.q.rest) [] → Rebuilt t u path indices path indices up size rows (a ++ rest) (length a) (map sizes rows) []
+    lifted_above u es after list rest len sizes_same numbers_same flat_is heads_are fits inside r =
+        let q = d.q in
+        let n = get_or path up 0 in
+        let c = λ (m : ℕ). counts m q.before n (q.l ++ x ∷ q.r) q.after q.rest t.chain in
+        let c2 = λ (m : ℕ). count-row m q.before n es after in
+        let c3 = λ (m : ℕ). ap (λ z. count m (n ∷ z)) numbers_same in
+        lifted t u es after list rest len sizes_same numbers_same flat_is heads_are fits (row-same inner_content t.nodes u.nodes _ (λ m some. r.frees.others m (omega (arith, some, d.whole.apart m, c m, c2 m, c3 m))) inside)
+        (frees-wider t u (flat_map numbers q.rest) (numbers (q.before ++ node n (q.l ++ x ∷ q.r) ∷ q.after) ++ flat_map numbers q.rest) [] (λ m none. omega (arith, none, c m)) r.frees) r
+
+    -- where the key before another entry of the node was
+    pub renamed : (u : Table K V) (p : List (K × ℕ)) (y : K × ℕ) (s : List (K × ℕ)) (e : ℕ) (key : K) (rest : List (K × ℕ)) → d.q.l ++ x ∷ d.q.r ≡ p ++ y ∷ s → suc e ≡ length p → u ≡ with_node t (get_or path up 0) (with_key (inner_content (d.q.l ++ x ∷ d.q.r)) e key) →
+        (p ++ (key, y.1) ∷ s) ++ flat d.q.after ≡ d.q.l ++ rest → Rebuilt t u path indices path indices up size rows (a ++ rest) (length a) (map sizes rows) []
+    renamed u p y s e key rest es_is p_is u_is flat_is =
+        let q = d.q in
+        let n = get_or path up 0 in
+        let old : List (K × ℕ) = q.l ++ x ∷ q.r in
+        let es : List (K × ℕ) = p ++ (key, y.1) ∷ s in
+        let w = puts t u n (inner_content es) (inner_content old) d.f.slot_is (u_is ∙ ap (λ z. with_node t n z) (ap (λ z. with_key (inner_content z) e key) es_is ∙ with_key_is p y s e key p_is)) in
+        let len : length es ≡ length old = omega (arith, ap length es_is, length-append p (y ∷ s), length-append p ((key, y.1) ∷ s)) in
+        let head : head_of n old ≡ head_of n es = ap (λ z. head_of n z) es_is ∙ head-kept n p (y ∷ s) ((key, y.1) ∷ s) (omega (arith, p_is)) in
+        let above = above_written t u n (inner_content es) path indices (suc up) size q.rest (heads (q.before ++ node n old ∷ q.after)) (length (heads q.before)) w d.f.none_rest rows_above in
+        lifted u u es q.after (heads (q.before ++ node n old ∷ q.after)) rest len refl refl flat_is (heads-put q.before n old es q.after head) (omega (arith, d.f.fit.0, len), omega (arith, d.f.fit.1, len), d.f.fit.2) (row-put inner_content t.nodes u.nodes q.before n old es q.after d.f.inside w.same w.here d.f.none)
+        (frees-puts t u n (inner_content es) (numbers (q.before ++ node n old ∷ q.after) ++ flat_map numbers q.rest) (let c = counts n q.before n old q.after q.rest t.chain in omega (arith, c, count-same n (numbers q.after))) w)
+        (rebuilt_same u path indices (suc up) size q.rest (heads (q.before ++ node n old ∷ q.after)) (length (heads q.before)) above)

@@ -1,11 +1,23 @@
 -- Settling a level, with what the calls on the way say: each answer of `rebalance_leaf` and `rebalance_inner` is one of these.
-use Rattle.std.proofs.Common.{◌≡◌, suc, ◌≤◌, ◌<◌, ◌≢◌, List, ◌∷◌, ◌++◌, length, set, get_or, slice_get, Some, None, Option, sym, ap, ◌∙◌, subst, inl, arith, ℕ}
-use Rattle.bforest_core.proofs.Words.{get_or_default, Content, entry_count, Table, IsUsed, IsUnderflowedAt, IsBalancedAt, with_freed, LevelNode, heads, count, Above, NextIs, SameBelow, top_of, OnLevel, Healed, Joined}
-use Rattle.bforest_core.proofs.table.Tables.{is_used}
-use Rattle.bforest_core.proofs.removal.Balance.{IsHalf, IsStored, AllRight, Spread}
-use Rattle.bforest_core.proofs.removal.Asked.{NodeAt, OneAbove, NextAbove, TwoAbove, Beside, Rekeys, Enters}
-use Rattle.bforest_core.proofs.removal.Rebalance.{settle_stay}
-use Rattle.bforest_core.proofs.removal.Healing.{Near, Headed, slot_here, none_here, used_here, near_next, near_past, near_above, headed, settle_last, settle_past, underflowed, near_spread, near_right, spread_above, heal_spread, join_right}
+use Rattle.std.proofs.Common.{◌≡◌, suc, ◌+◌, ◌≤◌, ◌<◌, ◌≢◌, List, [], ◌∷◌, ◌++◌, length, set, get_or, slice_get, Some, None, Option, refl, sym, ap, ◌∙◌, subst, inl, inr, length-append, arith, ℕ}
+use Rattle.bforest_core.proofs.Words.{get_or_default, flat_map, Content, Table, IsUsed, IsUnderflowedAt, IsBalancedAt, with_freed, LevelNode, node, flat, heads, head_of, numbers, FitRow, count, Above, NextIs, SameBelow, top_of, OnLevel, Healed, Joined}
+use Rattle.bforest_core.proofs.rows.LevelRows.{heads-append, least-pos, head-is, HeadIs}
+use Rattle.bforest_core.proofs.table.Tables.{row-split, is_used}
+use Rattle.bforest_core.proofs.rows.Zipper.{apart_here}
+use Rattle.bforest_core.proofs.removal.LeafLoss.{no_nodes}
+use Rattle.bforest_core.proofs.removal.Lifted.{next_of}
+use Rattle.bforest_core.proofs.removal.Balance.{IsHalf, IsStored, AllRight, Spread, all_right_at, spread_at}
+use Rattle.bforest_core.proofs.removal.Asked.{NodeAt, Counts, OneAbove, NextAbove, TwoAbove, Beside, Rekeys, Enters}
+use Rattle.bforest_core.proofs.removal.Rebalance.{settle_stay, above_both, settle_move, apart, above_two_put, settle_spread, settle_join}
+
+both_back : {A B : Type 0} (P : A → B → Type 0) (a c : A) (b d : B) → a ≡ c → b ≡ d → P c d → P a b
+both_back P a c b d e f w = rw (e, f) w
+
+-- the first entry of nodes that have one
+first_after : {K X : Type 0} (half most : ℕ) → 1 ≤ half → (after : List (LevelNode K X)) → FitRow half most after → 1 ≤ length (flat after) → (q : ℕ) × (f : K × X) × (fs : List (K × X)) × (rest : List (LevelNode K X)) × (after ≡ node q (f ∷ fs) ∷ rest)
+first_after half most one [] fit some = absurd (omega (arith, some))
+first_after half most one (node q [] ∷ after) fit some = absurd (omega (arith, fit.0, least-pos half one after))
+first_after half most one (node q (f ∷ fs) ∷ after) fit some = (q, f, fs, after, refl)
 
 module _ {K V X : Type 0} (content : List (K × X) → Content K V) (half most cap : ℕ) (hm : IsHalf half most) (s : IsStored content cap most)
     (t : Table K V) (path indices : List ℕ) (up size high r : ℕ) (high_is : high ≡ suc up) (wide : length path ≡ 17) (height : size ≤ 17)
@@ -13,90 +25,159 @@ module _ {K V X : Type 0} (content : List (K × X) → Content K V) (half most c
   low : up < length path
   low = let h = p.above.height in omega (arith, h, wide, height)
 
+  half_some : 1 ≤ half
+  half_some = omega (arith, hm.two)
+
   -- the node as the code reads its number
   num_is : get_or path up r ≡ n
   num_is = get_or_default path up r 0 low ∙ p.number_is
 
+  slot_here : slice_get t.nodes n ≡ Some (content es)
+  slot_here = (row-split content t.nodes before (node n es ∷ after) p.inside).1.0
+
+  none_here : count n t.chain ≡ 0
+  none_here = (apart_here n before es after (flat_map numbers rest) t.chain p.apart).2
+
   slot_read : slice_get t.nodes (get_or path up r) ≡ Some (content es)
-  slot_read = ap (λ z. slice_get t.nodes z) num_is ∙ slot_here content half most hm t path indices up size before n es after rest p
+  slot_read = ap (λ z. slice_get t.nodes z) num_is ∙ slot_here
 
   -- what counting its entries asks
   pub counted_asks : NodeAt t (get_or path up r)
   counted_asks = (content es, slot_read, s.used es)
 
-  count_read : (m : ℕ) → ((x : Content K V) → slice_get t.nodes (get_or path up r) ≡ Some x → m ≡ entry_count x) → m ≡ length es
+  count_read : (m : ℕ) → Counts t (get_or path up r) m → m ≡ length es
   count_read m value = value (content es) slot_read ∙ s.count_is es
 
-  -- what entering the next node asks
-  pub past_asks : (m : ℕ) → ((x : Content K V) → slice_get t.nodes (get_or path up r) ≡ Some x → m ≡ entry_count x) → get_or indices up 0 ≡ m → NextAbove t path indices (suc up) size
-  past_asks m value past =
-      let d = near_past content half most hm t path indices up size before n es after rest p (past ∙ count_read m value) in
-      (rest, heads before, (d.near.e.0, n), (d.near.f.0, d.q), heads d.near.after', near_above content half most hm t path indices up size before n es after rest d.k d.q d.near)
+  -- the level, with its first entries and the next node in sight
+  record Near (k : K) (q : ℕ) : Type 0 where
+    pub e : K × X
+    pub es' : List (K × X)
+    pub f : K × X
+    pub fs : List (K × X)
+    pub after' : List (LevelNode K X)
+    pub es_is : es ≡ e ∷ es'
+    pub after_is : after ≡ node q (f ∷ fs) ∷ after'
+    pub k_is : k ≡ f.0
+    pub level : OnLevel content half most t path indices up size before n (e ∷ es') (node q (f ∷ fs) ∷ after') rest
 
-  -- what it leaves
-  pub past_heals : (path' indices' : List ℕ) (m : ℕ) → ((x : Content K V) → slice_get t.nodes (get_or path up r) ≡ Some x → m ≡ entry_count x) → half ≤ m → get_or indices up 0 ≡ m →
-      Enters t path indices path' indices' up size → get_or indices' up 0 ≡ 0 → SameBelow up path path' → SameBelow up indices indices' → top_of path' size ≡ top_of path size →
-      Healed content half most t t path indices path' indices' up size before n es after rest
-  past_heals path' indices' m value healthy past moved first mb eb tb =
-      let cnt = count_read m value in
-      let d = near_past content half most hm t path indices up size before n es after rest p (past ∙ cnt) in
-      let ab = near_above content half most hm t path indices up size before n es after rest d.k d.q d.near in
-      settle_past content half most hm t path indices up size before n es after rest d.k d.q d.near path' indices' (subst (λ (z : ℕ). half ≤ z) cnt healthy) (past ∙ cnt) (moved rest (heads before) (d.near.e.0, n) (d.near.f.0, d.q) (heads d.near.after') ab) first mb eb tb
+  named : HeadIs n es
+  named = head-is n es p.some
+
+  near_at : (q : ℕ) (f : K × X) (fs : List (K × X)) (after' : List (LevelNode K X)) (k : K) → after ≡ node q (f ∷ fs) ∷ after' → k ≡ f.0 → Near k q
+  near_at q f fs after' k after_is k_is =
+      let h = named in
+      record {
+        e = h.first;
+        es' = h.others;
+        f = f;
+        fs = fs;
+        after' = after';
+        es_is = h.es_is;
+        after_is = after_is;
+        k_is = k_is;
+        level = subst (λ (z : List (LevelNode K X)). OnLevel content half most t path indices up size before n (h.first ∷ h.others) z rest) after_is (subst (λ (z : List (K × X)). OnLevel content half most t path indices up size before n z after rest) h.es_is p);
+      }
+
+  module _ (m : ℕ) (value : Counts t (get_or path up r) m) (past : get_or indices up 0 ≡ m) where
+    -- the path is past the node's end, where one stands behind it
+    behind : (q : ℕ) × (f : K × X) × (fs : List (K × X)) × (more : List (LevelNode K X)) × (after ≡ node q (f ∷ fs) ∷ more)
+    behind = first_after half most half_some after p.fits (omega (arith, p.entry_within, past, count_read m value, length-append es (flat after)))
+
+    d : Near behind.1.0 behind.0
+    d = near_at behind.0 behind.1 behind.2 behind.3 behind.1.0 behind.4 refl
+
+    above_past : Above t path indices (suc up) size rest (heads before ++ (d.e.0, n) ∷ (d.f.0, behind.0) ∷ heads d.after') (length (heads before))
+    above_past = above_both content half most hm t path indices up size before n d.e d.es' behind.0 d.f d.fs d.after' rest d.level
+
+    -- what entering the next node asks
+    pub past_asks : NextAbove t path indices (suc up) size
+    past_asks = (rest, heads before, (d.e.0, n), (d.f.0, behind.0), heads d.after', above_past)
+
+    -- what it leaves
+    pub past_heals : (path' indices' : List ℕ) → half ≤ m → Enters t path indices path' indices' up size → get_or indices' up 0 ≡ 0 → SameBelow up path path' → SameBelow up indices indices' → top_of path' size ≡ top_of path size → Healed content half most t t path indices path' indices' up size before n es after rest
+    past_heals path' indices' healthy moved first below below_too top_is =
+        let k = d in
+        let len : m ≡ length (k.e ∷ k.es') = count_read m value ∙ ap length k.es_is in
+        let w = settle_move content half most hm t path indices up size before n k.e k.es' behind.0 k.f k.fs k.after' rest k.level path' indices' (subst (λ (z : ℕ). half ≤ z) len healthy) (past ∙ len) (moved rest (heads before) (k.e.0, n) (k.f.0, behind.0) (heads k.after') above_past) first below below_too top_is in
+        both_back (λ (y : List (K × X)) (z : List (LevelNode K X)). Healed content half most t t path indices path' indices' up size before n y z rest) es _ after _ k.es_is k.after_is w
 
   -- a healthy node in which the path stands
-  pub stay_heals : (m : ℕ) → ((x : Content K V) → slice_get t.nodes (get_or path up r) ≡ Some x → m ≡ entry_count x) → half ≤ m → get_or indices up 0 ≢ m →
-      Healed content half most t t path indices path indices up size before n es after rest
+  pub stay_heals : (m : ℕ) → Counts t (get_or path up r) m → half ≤ m → get_or indices up 0 ≢ m → Healed content half most t t path indices path indices up size before n es after rest
   stay_heals m value healthy inside =
       let cnt = count_read m value in
       settle_stay content half most hm t path indices up size before n es after rest p (inl (subst (λ (z : ℕ). half ≤ z) cnt healthy)) (omega (arith, cnt, p.entry_was, inside))
 
   -- the level above names the node
-  named : Headed content half most hm t path indices up size before n es after rest
-  named = headed content half most hm t path indices up size before n es after rest p
-
-  above_high : Above t path indices high size rest (heads before ++ (named.k, n) ∷ heads after) (length (heads before))
-  above_high = subst (λ (z : ℕ). Above t path indices z size rest (heads before ++ (named.k, n) ∷ heads after) (length (heads before))) (sym high_is) named.above
+  above_high : Above t path indices high size rest (heads before ++ (named.first.0, n) ∷ heads after) (length (heads before))
+  above_high =
+      subst (λ (z : ℕ). Above t path indices z size rest (heads before ++ (named.first.0, n) ∷ heads after) (length (heads before))) (sym high_is)
+      (subst (λ (z : List (K × ℕ)). Above t path indices (suc up) size rest z (length (heads before))) (heads-append before (node n es ∷ after) ∙ ap (λ z. heads before ++ (head_of n z ++ heads after)) named.es_is) p.above)
 
   -- what the call for the right neighbour asks
   pub beside_asks : OneAbove t path indices high size
-  beside_asks = (rest, heads before, (named.k, n), heads after, above_high)
+  beside_asks = (rest, heads before, (named.first.0, n), heads after, above_high)
 
   -- what it answers
   next_is : (o : Option (K × ℕ)) → Beside t path indices high size o → NextIs o (heads after)
-  next_is o beside = beside rest (heads before) (named.k, n) (heads after) above_high
+  next_is o beside = beside rest (heads before) (named.first.0, n) (heads after) above_high
 
   -- the last node stays
   pub last_heals : Beside t path indices high size None → Healed content half most t t path indices path indices up size before n es after rest
-  last_heals beside = settle_last content half most hm t path indices up size before n es after rest p (next_is None beside)
+  last_heals beside =
+      let none = no_nodes half most half_some after p.fits (next_is None beside) in
+      settle_stay content half most hm t path indices up size before n es after rest p (inr none) (omega (arith, p.entry_within, length-append es (flat after), ap (λ z. length (flat z)) none))
 
-  module _ (m : ℕ) (value : (x : Content K V) → slice_get t.nodes (get_or path up r) ≡ Some x → m ≡ entry_count x) (under : m < half) (o : Option (K × ℕ)) (next : K × ℕ) (is : o ≡ Some next) (beside : Beside t path indices high size o) where
-    under_is : length es < half
-    under_is = subst (λ (z : ℕ). z < half) (count_read m value) under
-
-    near_is : Near content half most hm t path indices up size before n es after rest next.0 next.1
+  module _ (m : ℕ) (value : Counts t (get_or path up r) m) (under : m < half) (o : Option (K × ℕ)) (next : K × ℕ) (is : o ≡ Some next) (beside : Beside t path indices high size o) where
+    near_is : Near next.0 next.1
     near_is =
         let nx = subst (λ (z : Option (K × ℕ)). NextIs z (heads after)) is (next_is o beside) in
-        near_next content half most hm t path indices up size before n es after rest p next.0 next.1 nx.0 nx.1
+        let w = next_of half most half_some after next.0 next.1 nx.0 p.fits nx.1 in
+        near_at next.1 w.f w.fs w.rest next.0 w.after_is w.k_is
+
+    under_is : length (near_is.e ∷ near_is.es') < half
+    under_is = let d = near_is in omega (arith, under, count_read m value, ap length d.es_is)
+
+    -- how the two lie in the table
+    lies : (n ≢ next.1) × (count n (numbers before) + count n (numbers near_is.after') ≡ 0) × (count next.1 (numbers before) + count next.1 (numbers near_is.after') ≡ 0) × (count next.1 t.chain ≡ 0)
+    lies = let d = near_is in apart content half most hm t path indices up size before n d.e d.es' next.1 d.f d.fs d.after' rest d.level
+
+    slots : (slice_get t.nodes n ≡ Some (content (near_is.e ∷ near_is.es'))) × (slice_get t.nodes next.1 ≡ Some (content (near_is.f ∷ near_is.fs)))
+    slots =
+        let d = near_is in
+        let r = (row-split content t.nodes before (node n (d.e ∷ d.es') ∷ node next.1 (d.f ∷ d.fs) ∷ d.after') d.level.inside).1 in
+        (r.0, r.1.0)
 
     -- what balancing asks
     pub balance_asks : IsUsed t (get_or path up r) × (IsUsed t next.1 × ((get_or path up r ≢ next.1) × IsUnderflowedAt cap t.nodes (get_or path up r) next.1))
     balance_asks =
         let e = sym num_is in
-        let w = underflowed content half most hm t path indices up size before n es after rest next.0 next.1 near_is cap s under_is in (
-          subst (λ (z : ℕ). IsUsed t z) e (used_here content half most hm t path indices up size before n es after rest p),
-          (w.0, (subst (λ (z : ℕ). z ≢ next.1) e w.1, subst (λ (z : ℕ). IsUnderflowedAt cap t.nodes z next.1) e w.2)),
+        let d = near_is in
+        let ce = s.count_is (d.e ∷ d.es') in
+        let cf = s.count_is (d.f ∷ d.fs) in (
+          subst (λ (z : ℕ). IsUsed t z) e (is_used t n (content es) slot_here none_here),
+          (is_used t next.1 (content (d.f ∷ d.fs)) slots.1 lies.3, (subst (λ (z : ℕ). z ≢ next.1) e lies.0, record {
+            under = content (d.e ∷ d.es');
+            neighbour = content (d.f ∷ d.fs);
+            left_is = ap (λ z. slice_get t.nodes z) num_is ∙ slots.0;
+            right_is = slots.1;
+            kind = s.kind (d.e ∷ d.es') (d.f ∷ d.fs);
+            filled = omega (arith, ce);
+            neighbour_filled = omega (arith, cf);
+            underflowed = omega (arith, ce, s.capacity_is (d.e ∷ d.es'), under_is, hm.hi);
+          })),
         )
 
     module _ (u : Table K V) (got : Option K) (balanced : IsBalancedAt cap t (get_or path up r) next.0 next.1 got u) where
+      balanced_as : (o : Option K) → got ≡ o → IsBalancedAt cap t n near_is.f.0 next.1 o u
+      balanced_as o got_is = let d = near_is in rw (num_is, d.k_is, got_is) at balanced
+
       -- renewing the key between the two
       module _ (key : K) (got_is : got ≡ Some key) where
         spread : Spread content t u most n next.1 (near_is.e ∷ near_is.es') (near_is.f ∷ near_is.fs) key
-        spread =
-            let b = subst (λ (z : Option K). IsBalancedAt cap t n next.0 next.1 z u) got_is (subst (λ (z : ℕ). IsBalancedAt cap t z next.0 next.1 got u) num_is balanced) in
-            near_spread content half most hm t path indices up size before n es after rest next.0 next.1 near_is u cap s key b
+        spread = let d = near_is in spread_at content t u cap most n next.1 d.e d.es' d.f d.fs s lies.0 (omega (arith, hm.hi, hm.two)) slots.0 slots.1 key (balanced_as (Some key) got_is)
 
         above_is : Above u path indices (suc up) size rest (heads before ++ (near_is.e.0, n) ∷ (near_is.f.0, next.1) ∷ heads near_is.after') (length (heads before))
-        above_is = spread_above content half most hm t path indices up size before n es after rest next.0 next.1 near_is u (content (spread.x ∷ spread.xs)) (content (spread.y ∷ spread.ys)) spread.two
+        above_is = let d = near_is in above_two_put content half most hm t path indices up size before n d.e d.es' next.1 d.f d.fs d.after' rest d.level u _ _ spread.two
 
         -- what it asks
         pub rekey_asks : TwoAbove u path indices high size
@@ -109,21 +190,23 @@ module _ {K V X : Type 0} (content : List (K × X) → Content K V) (half most c
         rekey_heals v rekeys =
             let d = near_is in
             let rk = subst (λ (z : ℕ). Rekeys u v path indices z size key) high_is rekeys in
-            heal_spread content half most hm t path indices up size before n es after rest next.0 next.1 d u v key under_is spread (rk rest (heads before) (d.e.0, n) d.f.0 next.1 (heads d.after') above_is)
+            let w = settle_spread content half most hm t path indices up size before n d.e d.es' next.1 d.f d.fs d.after' rest d.level u v under_is key spread (rk rest (heads before) (d.e.0, n) d.f.0 next.1 (heads d.after') above_is) in
+            both_back (λ (y : List (K × X)) (z : List (LevelNode K X)). Healed content half most t v path indices path indices up size before n y z rest) es _ after _ d.es_is d.after_is w
 
       -- freeing the emptied node
       module _ (got_is : got ≡ None) where
         all_right : AllRight content t u most n next.1 (near_is.e ∷ near_is.es') (near_is.f ∷ near_is.fs)
-        all_right =
-            let b = subst (λ (z : Option K). IsBalancedAt cap t n next.0 next.1 z u) got_is (subst (λ (z : ℕ). IsBalancedAt cap t z next.0 next.1 got u) num_is balanced) in
-            near_right content half most hm t path indices up size before n es after rest next.0 next.1 near_is u cap s b
+        all_right = let d = near_is in all_right_at content t u cap most n next.1 d.e d.es' d.f d.fs s lies.0 (omega (arith, hm.hi, hm.two)) slots.0 slots.1 (balanced_as None got_is)
 
         -- what it asks
         pub free_asks : IsUsed u (get_or path up r)
         free_asks =
             let w = all_right in
-            subst (λ (z : ℕ). IsUsed u z) (sym num_is) (is_used u n w.left_content w.two.here (ap (λ z. count n z) w.two.chain_is ∙ none_here content half most hm t path indices up size before n es after rest p))
+            subst (λ (z : ℕ). IsUsed u z) (sym num_is) (is_used u n w.left_content w.two.here (ap (λ z. count n z) w.two.frees.chain_is ∙ none_here))
 
         -- what it leaves
         pub free_joins : (v : Table K V) → v ≡ with_freed u (get_or path up r) → Joined content half most t v path indices (set path up next.1) indices up size before n es after rest
-        free_joins v freed = join_right content half most hm t path indices up size before n es after rest next.0 next.1 near_is u v under_is all_right (freed ∙ ap (λ z. with_freed u z) num_is) low
+        free_joins v freed =
+            let d = near_is in
+            let w = settle_join content half most hm t path indices up size before n d.e d.es' next.1 d.f d.fs d.after' rest d.level u v under_is all_right (freed ∙ ap (λ z. with_freed u z) num_is) low in
+            both_back (λ (y : List (K × X)) (z : List (LevelNode K X)). Joined content half most t v path indices (set path up next.1) indices up size before n y z rest) es _ after _ d.es_is d.after_is w

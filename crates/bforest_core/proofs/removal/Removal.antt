@@ -1,6 +1,6 @@
 -- What a removal from the tree under a root says of the table.
-use Rattle.std.proofs.Common.{◌≡◌, ◌≢◌, ℕ, zero, suc, ◌+◌, ◌≤◌, ◌<◌, ◌↔◌, Option, Some, None, IfSome, List, [], ◌∷◌, ◌++◌, length, get_or, refl, sym, ap, ◌∙◌, subst, inl, inr, append_assoc, length-append, arith}
-use Rattle.bforest_core.proofs.Words.{remove, eqb_tells, length-map, Content, Table, node, flat, sizes, Tree, sizes_of, nodes_up, shrink, leaf_content, count, root_of, numbers_of, Stands, tree_of, IsUnion, Changes, Ends, GivesInOrder}
+use Rattle.std.proofs.Common.{◌≡◌, ◌≢◌, ℕ, zero, suc, ◌<◌, ◌↔◌, Option, Some, None, IfSome, List, [], ◌∷◌, ◌++◌, length, get_or, refl, sym, ap, ◌∙◌, subst, inl, inr, append_assoc, length-append, arith}
+use Rattle.bforest_core.proofs.Words.{remove, eqb_tells, length-map, Table, node, flat, sizes, Tree, sizes_of, nodes_up, shrink, count, root_of, numbers_of, Stands, tree_of, IsUnion, Changes, Ends, GivesInOrder}
 use Rattle.bforest_core.proofs.Words.{GivesNodes, StandsUnder, node_count, StandsIn, Removed, Emptied}
 use Rattle.bforest_core.proofs.rows.LevelRows.{flat-append}
 use Rattle.bforest_core.proofs.table.Tables.{count-append}
@@ -21,18 +21,6 @@ pub if_some : {A : Type 0} (P Q : A → Type 0) (found : Option A) → ((x : A) 
 if_some P Q None h p = p
 if_some P Q (Some x) h p = h x p
 
--- a slot of a leaf of one entry
-pub one_slot : {K V : Type 0} (es : List (K × V)) (c : Option (Content K V)) → length es ≡ 1 → c ≡ Some (leaf_content es) → (x : K × V) × (c ≡ Some (leaf_content (x ∷ [])))
-one_slot [] c one slot = absurd (omega (arith, one))
-one_slot (x ∷ []) c one slot = (x, slot)
-one_slot (x ∷ y ∷ es) c one slot = absurd (omega (arith, one))
-
--- and of more
-pub more_slot : {K V : Type 0} (es : List (K × V)) (c : Option (Content K V)) → 1 ≤ length es → length es ≢ 1 → c ≡ Some (leaf_content es) → (x y : K × V) × (rest : List (K × V)) × (c ≡ Some (leaf_content (x ∷ y ∷ rest)))
-more_slot [] c some ne slot = absurd (omega (arith, some))
-more_slot (x ∷ []) c some ne slot = absurd (ne refl)
-more_slot (x ∷ y ∷ es) c some ne slot = (x, y, es, slot)
-
 module _ {K V : Type 0} where
   -- a path under a root stands in its tree, which lies in the table
   pub stands_in : (most : ℕ) (table : Table K V) (root place : ℕ) (path indices : List ℕ) (size : ℕ) → IsUnion most table → StandsUnder table.nodes root path indices size place → StandsIn most table path indices size (tree_of table.nodes root) place
@@ -46,118 +34,15 @@ module _ {K V : Type 0} where
       let at = s.leaf in
       omega (arith, at.place_is, at.within, ap (λ z. length (flat z)) at.row_is, ap length (flat-append at.before (node (get_or path 0 0) at.entries ∷ at.after)), length-append (flat at.before) (at.entries ++ flat at.after), length-append at.entries (flat at.after))
 
-  -- the nodes given back
-  gives : (old new : Table K V) (tree tree' : Tree K V) (levels : List (List ℕ)) (freed : List ℕ) → sizes_of tree' ≡ levels → ((m : ℕ) → count m (numbers_of tree') + count m freed ≡ count m (numbers_of tree)) → new.chain ≡ freed ++ old.chain → length new.nodes ≡ length old.nodes → GivesNodes (sizes_of tree) levels old new
-  gives old new tree tree' levels freed is nums chain slots = record {
-    given = freed;
-    chain_is = chain;
-    slots = slots;
-    count_is = omega (arith, length-same (numbers_of tree' ++ freed) (numbers_of tree) (λ m. count-append m (numbers_of tree') freed ∙ nums m), length-append (numbers_of tree') freed, nodes-count tree, nodes-count tree' ∙ ap (λ z. node_count z) is);
-  }
-
-  -- all that a removal says of the table and of the path
-  pub record Removal (most : ℕ) (old new : Table K V) (path : List ℕ) (root root' place : ℕ) (Now : Tree K V → Type 0) : Type 0 where
+  -- what a removal says where the tree has another entry
+  pub record Removal (most : ℕ) (old new : Table K V) (root root' place : ℕ) (Now : Tree K V → Type 0) : Type 0 where
     pub changes : Changes most old new root root' (remove (flat (tree_of old.nodes root).leaves) place) (shrink most place (sizes_of (tree_of old.nodes root)))
-    pub gives : GivesNodes (sizes_of (tree_of old.nodes root)) (shrink most place (sizes_of (tree_of old.nodes root))) old new
-    pub order : GivesInOrder path (sizes_of (tree_of old.nodes root)) (shrink most place (sizes_of (tree_of old.nodes root))) old new
     pub at : Now (tree_of new.nodes root')
     pub same_root : (root' ≡ root) ↔ (length (shrink most place (sizes_of (tree_of old.nodes root))) ≡ length (sizes_of (tree_of old.nodes root)))
-    pub others : length (flat (tree_of old.nodes root).leaves) ≢ 1
-    pub freed_root : root' ≢ root → 0 < count root new.chain
 
-  removed_root : (most : ℕ) (old new : Table K V) (root place : ℕ) (path indices : List ℕ) (size : ℕ) (Now : Tree K V → Type 0) (root' : ℕ) → IsUnion most old → StandsUnder old.nodes root path indices size place → (i : Removed most old new path Now (tree_of old.nodes root) place root') → Removal most old new path root (root_of i.tree') place Now
-  removed_root most old new root place path indices size Now root' union s i =
-      let tree = tree_of old.nodes root in
-      let r = rooted most old root union s.root_is in
-      let planted : IsPlanted most new.nodes i.tree' = record { fit = i.fit; inside = i.inside; some = i.some; low = omega (arith, i.low, r.low) } in
-      let e = exchanged-freed most old new root i.tree' i.freed union s.root_is planted i.frees i.numbers_are in
-      let levels : length (shrink most place (sizes_of tree)) ≡ suc (length i.tree'.above) = omega (arith, ap length i.sizes_are, length-map i.tree'.above sizes) in
-      let levels_were : length (sizes_of tree) ≡ suc (length tree.above) = omega (arith, length-map tree.above sizes) in
-      let among = root-among most new.nodes i.tree' i.fit i.inside i.some in
-      let c = λ (m : ℕ). count-append m (numbers_of tree) old.chain in
-      let rooted_is = λ (z : root_of i.tree' ≡ root). ap (λ w. count w i.freed) (z ∙ sym r.root_is) in
-      record {
-        changes = record {
-          union = e.union;
-          root_is = e.root_is;
-          list_is = ap (λ z. flat z.leaves) e.tree_is ∙ i.flat_is;
-          sizes_are = ap sizes_of e.tree_is ∙ i.sizes_are;
-          others = e.others;
-          old_gone = e.old_gone;
-          new_came = e.new_came;
-          limit_is = i.frees.limit_is;
-        };
-        gives = gives old new tree i.tree' (shrink most place (sizes_of tree)) i.freed i.sizes_are i.numbers_are i.frees.chain_is i.frees.slots_are;
-        order = record {
-          roots = i.order.roots;
-          up = i.order.up;
-          chain_is = i.frees.chain_is ∙ ap (λ z. z ++ old.chain) i.order.freed_is ∙ append_assoc i.order.roots (nodes_up path 0 i.order.up) old.chain;
-          roots_are = omega (arith, i.order.roots_are, levels, levels_were);
-        };
-        at = subst Now (sym e.tree_is) i.at;
-        same_root = (
-          λ same. elim (eqb_tells (length i.tree'.above) (length tree.above)) [
-            | inl w ↦ omega (arith, levels, levels_were, w.1)
-            | inr w ↦ absurd (omega (arith, i.old_root w.1, rooted_is same, among, i.numbers_are (root_of i.tree'), r.apart (root_of i.tree'), c (root_of i.tree')))
-          ],
-          λ same. i.root_is ∙ i.same_root (omega (arith, levels, levels_were, same)) ∙ r.root_is,
-        );
-        others = λ one. omega (arith, remove_fewer (flat tree.leaves) place (place_low path indices size tree place s.stands), one, ap length i.flat_is, i.some);
-        freed_root = λ ne. elim (eqb_tells (length i.tree'.above) (length tree.above)) [
-          | inl w ↦ absurd (ne (i.root_is ∙ i.same_root w.1 ∙ r.root_is))
-          | inr w ↦ omega (arith, i.old_root w.1, ap (λ z. count z i.freed) r.root_is, ap (λ z. count root z) i.frees.chain_is, count-append root i.freed old.chain)
-        ];
-      }
-
-  -- an entry went out of the tree under a root, which has others
-  pub removal : (most : ℕ) (old new : Table K V) (root place : ℕ) (path indices : List ℕ) (size : ℕ) (Now : Tree K V → Type 0) (root' : ℕ) → IsUnion most old → StandsUnder old.nodes root path indices size place → Removed most old new path Now (tree_of old.nodes root) place root' → Removal most old new path root root' place Now
-  removal most old new root place path indices size Now root' union s i =
-      subst (λ (z : ℕ). Removal most old new path root z place Now) i.root_is (removed_root most old new root place path indices size Now root' union s i)
-
-  -- the last entry went, and the tree with it
-  pub record Ending (most : ℕ) (old new : Table K V) (path : List ℕ) (root place : ℕ) : Type 0 where
-    pub ends : Ends most old new root
-    pub gives : GivesNodes (sizes_of (tree_of old.nodes root)) (shrink most place (sizes_of (tree_of old.nodes root))) old new
-    pub order : GivesInOrder path (sizes_of (tree_of old.nodes root)) (shrink most place (sizes_of (tree_of old.nodes root))) old new
-    pub single : length (flat (tree_of old.nodes root).leaves) ≡ 1
-    pub none_left : shrink most place (sizes_of (tree_of old.nodes root)) ≡ []
-    pub freed_root : 0 < count root new.chain
-
-  -- the last entry went out of the tree under a root
-  pub ending : (most : ℕ) (old new : Table K V) (root place : ℕ) (path indices : List ℕ) (size : ℕ) → IsUnion most old → StandsUnder old.nodes root path indices size place → Emptied most old new (tree_of old.nodes root) place → Ending most old new path root place
-  ending most old new root place path indices size union s i =
-      let tree = tree_of old.nodes root in
-      let r = rooted most old root union s.root_is in
-      let u = uprooted-union most old new root i.freed union s.root_is i.frees i.freed_is in
-      let among = root-among most old.nodes tree r.fit r.inside r.some in
-      record {
-        ends = record { union = u.0; root_gone = u.1; others = u.2; limit_is = i.frees.limit_is };
-        gives = record {
-          given = i.freed;
-          chain_is = i.frees.chain_is;
-          slots = i.frees.slots_are;
-          count_is = omega (arith, length-same i.freed (numbers_of tree) i.freed_is, nodes-count tree, ap (λ z. node_count z) i.none_left);
-        };
-        order = record { roots = i.freed; up = 0; chain_is = i.frees.chain_is; roots_are = omega (arith, i.one, ap length i.levels_are, ap length i.none_left) };
-        single = i.single;
-        none_left = i.none_left;
-        freed_root = omega (arith, among, i.freed_is root, ap (λ z. count z (numbers_of tree)) r.root_is, ap (λ z. count root z) i.frees.chain_is, count-append root i.freed old.chain);
-      }
-
-  -- either of the two, as the answer says
-  abbrev pub Outcome : ℕ → Table K V → Table K V → List ℕ → ℕ → ℕ → (Tree K V → Type 0) → Option ℕ → Type 0
-  Outcome most old new path root place Now None = Ending most old new path root place
-  Outcome most old new path root place Now (Some root') = Removal most old new path root root' place Now
-
-  -- as the call for a leaf of one entry says
-  pub outcome : (most : ℕ) (old new : Table K V) (root place : ℕ) (path indices : List ℕ) (size : ℕ) (Now : Tree K V → Type 0) (found : Option ℕ) → IsUnion most old → StandsUnder old.nodes root path indices size place →
-      IfSome found (λ root'. Removed most old new path Now (tree_of old.nodes root) place root') → (found ≡ None → Emptied most old new (tree_of old.nodes root) place) → Outcome most old new path root place Now found
-  outcome most old new root place path indices size Now None union s removed emptied = ending most old new root place path indices size union s (emptied refl)
-  outcome most old new root place path indices size Now (Some root') union s removed emptied = removal most old new root place path indices size Now root' union s removed
-
-  -- what both say
+  -- all that a removal says of the table and of the path, with the root that is left, if any
   pub record Said (most : ℕ) (old new : Table K V) (path : List ℕ) (root place : ℕ) (Now : Tree K V → Type 0) (found : Option ℕ) : Type 0 where
-    pub some : IfSome found (λ root'. Removal most old new path root root' place Now)
+    pub some : IfSome found (λ root'. Removal most old new root root' place Now)
     pub gives : GivesNodes (sizes_of (tree_of old.nodes root)) (shrink most place (sizes_of (tree_of old.nodes root))) old new
     pub order : GivesInOrder path (sizes_of (tree_of old.nodes root)) (shrink most place (sizes_of (tree_of old.nodes root))) old new
     pub last : (found ≡ None) ↔ (length (flat (tree_of old.nodes root).leaves) ≡ 1)
@@ -165,23 +50,87 @@ module _ {K V : Type 0} where
     pub none_left : found ≡ None → shrink most place (sizes_of (tree_of old.nodes root)) ≡ []
     pub freed_root : found ≢ Some root → 0 < count root new.chain
 
-  -- each of the two says so
-  pub said : (most : ℕ) (old new : Table K V) (path : List ℕ) (root place : ℕ) (Now : Tree K V → Type 0) (found : Option ℕ) → Outcome most old new path root place Now found → Said most old new path root place Now found
-  said most old new path root place Now None e = record {
-    some = tt;
-    gives = e.gives;
-    order = e.order;
-    last = (λ is. e.single, λ is. refl);
-    ended = λ is. e.ends;
-    none_left = λ is. e.none_left;
-    freed_root = λ ne. e.freed_root;
-  }
-  said most old new path root place Now (Some root') r = record {
-    some = r;
-    gives = r.gives;
-    order = r.order;
-    last = (λ is. absurd cc, λ one. absurd (r.others one));
-    ended = λ is. absurd cc;
-    none_left = λ is. absurd cc;
-    freed_root = λ ne. r.freed_root (λ (e : root' ≡ root). ne (ap Some e));
-  }
+  module _ (most : ℕ) (old new : Table K V) (root place : ℕ) (path indices : List ℕ) (size : ℕ) (Now : Tree K V → Type 0) (union : IsUnion most old) (s : StandsUnder old.nodes root path indices size place) where
+    removed_root : (root' : ℕ) (i : Removed most old new path Now (tree_of old.nodes root) place root') → Said most old new path root place Now (Some (root_of i.tree'))
+    removed_root root' i =
+        let tree = tree_of old.nodes root in
+        let r = rooted most old root union s.root_is in
+        let planted : IsPlanted most new.nodes i.tree' = record { fit = i.fit; inside = i.inside; some = i.some; low = omega (arith, i.low, r.low) } in
+        let e = exchanged-freed most old new root i.tree' i.freed union s.root_is planted i.frees i.numbers_are in
+        let levels : length (shrink most place (sizes_of tree)) ≡ suc (length i.tree'.above) = omega (arith, ap length i.sizes_are, length-map i.tree'.above sizes) in
+        let levels_were : length (sizes_of tree) ≡ suc (length tree.above) = omega (arith, length-map tree.above sizes) in
+        let among = root-among most new.nodes i.tree' i.fit i.inside i.some in
+        let c = λ (m : ℕ). count-append m (numbers_of tree) old.chain in
+        let rooted_is = λ (z : root_of i.tree' ≡ root). ap (λ w. count w i.freed) (z ∙ sym r.root_is) in
+        record {
+          some = record {
+            changes = record {
+              union = e.union;
+              root_is = e.root_is;
+              list_is = ap (λ z. flat z.leaves) e.tree_is ∙ i.flat_is;
+              sizes_are = ap sizes_of e.tree_is ∙ i.sizes_are;
+              others = e.others;
+              old_gone = e.old_gone;
+              new_came = e.new_came;
+              limit_is = i.frees.limit_is;
+            };
+            at = subst Now (sym e.tree_is) i.at;
+            same_root = (
+              λ same. elim (eqb_tells (length i.tree'.above) (length tree.above)) [
+                | inl w ↦ omega (arith, levels, levels_were, w.1)
+                | inr w ↦ absurd (omega (arith, i.old_root w.1, rooted_is same, among, i.numbers_are (root_of i.tree'), r.apart (root_of i.tree'), c (root_of i.tree')))
+              ],
+              λ same. i.root_is ∙ i.same_root (omega (arith, levels, levels_were, same)) ∙ r.root_is,
+            );
+          };
+          gives = record {
+            given = i.freed;
+            chain_is = i.frees.chain_is;
+            slots = i.frees.slots_are;
+            count_is = omega (arith, length-same (numbers_of i.tree' ++ i.freed) (numbers_of tree) (λ m. count-append m (numbers_of i.tree') i.freed ∙ i.numbers_are m), length-append (numbers_of i.tree') i.freed, nodes-count tree, nodes-count i.tree' ∙ ap (λ z. node_count z) i.sizes_are);
+          };
+          order = record {
+            roots = i.order.roots;
+            up = i.order.up;
+            chain_is = i.frees.chain_is ∙ ap (λ z. z ++ old.chain) i.order.freed_is ∙ append_assoc i.order.roots (nodes_up path 0 i.order.up) old.chain;
+            roots_are = omega (arith, i.order.roots_are, levels, levels_were);
+          };
+          last = (λ is. absurd cc, λ one. absurd (let low = place_low path indices size tree place s.stands in omega (arith, remove_fewer (flat tree.leaves) place low, one, ap length i.flat_is, i.some)));
+          ended = λ is. absurd cc;
+          none_left = λ is. absurd cc;
+          freed_root = λ ne. elim (eqb_tells (length i.tree'.above) (length tree.above)) [
+            | inl w ↦ absurd (ne (ap Some (i.root_is ∙ i.same_root w.1 ∙ r.root_is)))
+            | inr w ↦ omega (arith, i.old_root w.1, ap (λ z. count z i.freed) r.root_is, ap (λ z. count root z) i.frees.chain_is, count-append root i.freed old.chain)
+          ];
+        }
+
+    -- an entry went out of the tree under a root, which has others
+    pub removal : (root' : ℕ) → Removed most old new path Now (tree_of old.nodes root) place root' → Said most old new path root place Now (Some root')
+    removal root' i = subst (λ (z : ℕ). Said most old new path root place Now (Some z)) i.root_is (removed_root root' i)
+
+    -- the last entry went out of the tree under a root
+    ending : Emptied most old new (tree_of old.nodes root) place → Said most old new path root place Now None
+    ending i =
+        let tree = tree_of old.nodes root in
+        let r = rooted most old root union s.root_is in
+        let u = uprooted-union most old new root i.freed union s.root_is i.frees i.freed_is in
+        let among = root-among most old.nodes tree r.fit r.inside r.some in
+        record {
+          some = tt;
+          gives = record {
+            given = i.freed;
+            chain_is = i.frees.chain_is;
+            slots = i.frees.slots_are;
+            count_is = omega (arith, length-same i.freed (numbers_of tree) i.freed_is, nodes-count tree, ap (λ z. node_count z) i.none_left);
+          };
+          order = record { roots = i.freed; up = 0; chain_is = i.frees.chain_is; roots_are = omega (arith, i.one, ap length i.levels_are, ap length i.none_left) };
+          last = (λ is. i.single, λ is. refl);
+          ended = λ is. record { union = u.0; root_gone = u.1; others = u.2; limit_is = i.frees.limit_is };
+          none_left = λ is. i.none_left;
+          freed_root = λ ne. omega (arith, among, i.freed_is root, ap (λ z. count z (numbers_of tree)) r.root_is, ap (λ z. count root z) i.frees.chain_is, count-append root i.freed old.chain);
+        }
+
+    -- either of the two, as the call for a leaf of one entry says
+    pub outcome : (found : Option ℕ) → IfSome found (λ root'. Removed most old new path Now (tree_of old.nodes root) place root') → (found ≡ None → Emptied most old new (tree_of old.nodes root) place) → Said most old new path root place Now found
+    outcome None removed emptied = ending (emptied refl)
+    outcome (Some root') removed emptied = removal root' removed

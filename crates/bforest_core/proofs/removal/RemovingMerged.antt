@@ -1,88 +1,157 @@
--- Taking an entry out of a row, and giving the next one its key: each answer of `remove_merged` is one of these.
-use Rattle.std.proofs.Common.{◌≡◌, ℕ, suc, ◌+◌, ◌-◌, ◌≤◌, ◌<◌, List, [], ◌∷◌, ◌++◌, map, length, drop, set, get_or, slice_get, Some, refl, sym, ap, ◌∙◌, subst, arith}
-use Rattle.bforest_core.proofs.Words.{get_or_default, Content, entry_count, with_key, Table, IsUsed, with_node, LevelNode, heads, sizes, inner_content, entry_keys, entry_items, count, Above, Rebuilt, Loosened}
-use Rattle.bforest_core.proofs.table.Tables.{Puts, is_used, puts}
-use Rattle.bforest_core.proofs.rows.Zipper.{Spot, spot, above_two}
-use Rattle.bforest_core.proofs.table.Stored.{key_count, item_count}
-use Rattle.bforest_core.proofs.removal.RemoveMerged.{Across, across, across_cut, across_above, take_same, take_over, moved_key}
-use Rattle.bforest_core.proofs.removal.Asked.{NodeAt, KeyAt, ChildAt, ReadsKey, Writes, Removes, TwoAbove, Rekeys}
+-- An entry taken out of the row above a level, and its key given to the next one: each answer of `remove_merged` is one of these.
+use Rattle.std.proofs.Common.{◌≡◌, ℕ, suc, ◌+◌, ◌-◌, ◌≤◌, ◌<◌, List, [], ◌∷◌, ◌++◌, map, length, drop, set, get_or, slice_get, Some, refl, sym, ap, ◌∙◌, subst, append_assoc, length-append, arith}
+use Rattle.bforest_core.proofs.Words.{flat_map, Inner, IsUsed, with_key, without_child, Table, with_node, LevelNode, node, flat, heads, head_of, sizes, numbers, FitRow, RowIn, inner_content, entry_keys, entry_items, count, Above, Rebuilt, Loosened}
+use Rattle.bforest_core.proofs.rows.LevelRows.{heads-append, sizes-append}
+use Rattle.bforest_core.proofs.table.Tables.{counts, count-same, count-row, row-same, row-put, is_used, Puts, puts, puts-then}
+use Rattle.bforest_core.proofs.table.Stored.{item_count, some_same}
+use Rattle.bforest_core.proofs.rows.Contents.{removed_same, removed_last, last_key}
+use Rattle.bforest_core.proofs.rows.Zipper.{Spot, above_two}
+use Rattle.bforest_core.proofs.removal.Frees.{frees-puts, frees-after, frees-wider}
+use Rattle.bforest_core.proofs.removal.Lifted.{head-other, heads-put, above_written, rebuilt_same, rows_above, flat_at, place_at}
+use Rattle.bforest_core.proofs.removal.Separating.{next_in, Across, across, across_in, across_above}
+use Rattle.bforest_core.proofs.removal.Asked.{KeyAt, ChildAt, Counts, ReadsKey, Writes, Removes, TwoAbove, Rekeys, Seen, seen}
 
 module _ {K V : Type 0} where
+  module _ (t : Table K V) (path indices : List ℕ) (up size : ℕ) (rows : List (List (LevelNode K ℕ))) (a : List (K × ℕ)) (k : K) (m : ℕ) (k2 : K) (n : ℕ) (b : List (K × ℕ)) (d : Spot t path indices up size rows a (k, m) ((k2, n) ∷ b)) where
+    -- the row after an entry of its node went, under rows above that have its keys
+    loosened : (v u : Table K V) (es list : List (K × ℕ)) (after : List (LevelNode K ℕ)) → length (d.q.l ++ (k, m) ∷ d.q.r) ≡ suc (length es) → 1 ≤ length es → length d.q.l ≤ length es → sizes after ≡ sizes d.q.after → numbers after ≡ numbers d.q.after → es ++ flat after ≡ d.q.l ++ (k, n) ∷ b →
+        list ≡ heads (d.q.before ++ node (get_or path up 0) es ∷ after) → FitRow 4 8 (node (get_or path up 0) (d.q.l ++ (k, m) ∷ d.q.r) ∷ after) → RowIn inner_content t.nodes (d.q.before ++ node (get_or path up 0) (d.q.l ++ (k, m) ∷ d.q.r) ∷ after) →
+        Rebuilt t v path indices path indices (suc up) size d.q.rest list (length (heads d.q.before)) (map sizes d.q.rest) [] → Puts v u (get_or path up 0) (inner_content es) → Loosened t u path indices up size rows (a ++ (k, n) ∷ b) (length a)
+    loosened v u es list after len some low sizes_same numbers_same flat_is heads_are fits inside r w =
+        let q = d.q in
+        let num = get_or path up 0 in
+        let old : List (K × ℕ) = q.l ++ (k, m) ∷ q.r in
+        let own : List ℕ = numbers (q.before ++ node num old ∷ q.after) ++ flat_map numbers q.rest in
+        let c = λ (i : ℕ). counts i q.before num old q.after q.rest t.chain in
+        let c2 = λ (i : ℕ). counts i q.before num es after r.rows' u.chain in
+        let c3 = λ (i : ℕ). ap (λ z. count i (num ∷ z)) numbers_same in
+        let c4 = λ (i : ℕ). ap (λ z. count i z) (w.chain_is ∙ r.frees.chain_is) in
+        let none : count num (numbers q.before) + count num (numbers after) ≡ 0 = omega (arith, d.f.none, ap (λ z. count num z) numbers_same) in
+        let row_v = row-same inner_content t.nodes v.nodes (q.before ++ node num old ∷ after) (λ i some. r.frees.others i (omega (arith, some, d.whole.apart i, c i, c3 i, count-row i q.before num old after))) inside in
+        record {
+          before = q.before;
+          entries = es;
+          after = after;
+          rest = r.rows';
+          on_level = record {
+            inside = row-put inner_content v.nodes u.nodes q.before num old es after row_v w.same w.here none;
+            solid = d.f.solid;
+            fits = fits.2;
+            some = some;
+            lost_one = omega (arith, fits.0, len);
+            most_is = omega (arith, fits.1, len);
+            above = above_written v u num (inner_content es) path indices (suc up) size r.rows' _ (length (heads q.before)) w (omega (arith, r.numbers_are num, d.f.none_rest)) (subst (λ (z : List (K × ℕ)). Above v path indices (suc up) size r.rows' z (length (heads q.before))) heads_are r.above);
+            number_is = refl;
+            entry_was = omega (arith, low, q.entry_is);
+            entry_within = omega (arith, q.entry_is, ap length flat_is, length-append q.l ((k, n) ∷ b));
+            apart = λ i. omega (arith, d.whole.apart i, r.numbers_are i, c i, c2 i, c3 i, c4 i);
+          };
+          list_is = flat_at t path indices up size rows a (k, m) ((k2, n) ∷ b) d es ((k, n) ∷ b) after flat_is;
+          place_is = place_at t path indices up size rows a (k, m) ((k2, n) ∷ b) d;
+          sizes_were = ap (λ z. map sizes z) q.rows_are ∙ ap (λ z. z ∷ map sizes q.rest) (sizes-append q.before (node num old ∷ q.after) ∙ ap (λ z. sizes q.before ++ z ∷ sizes q.after) len ∙ ap (λ z. sizes q.before ++ suc (length es) ∷ z) (sym sizes_same)) ∙ ap (λ z. (sizes q.before ++ suc (length es) ∷ sizes after) ∷ z) (sym r.sizes_are);
+          numbers_are = λ i. omega (arith, c i, c2 i, c3 i, r.numbers_are i, ap (λ z. count i (flat_map numbers z)) q.rows_are);
+          frees = rw q.rows_are (frees-after t v u own own [] (λ i none. none) (frees-wider t v (flat_map numbers q.rest) own [] (λ i none. omega (arith, none, c i)) r.frees) (frees-puts v u num (inner_content es) own (omega (arith, c num, count-same num (numbers q.after))) w));
+        }
+
+    -- the key and the entry under one parent
+    take_same : (s u : Table K V) (key : K) → get_or indices up 0 + 1 < length (d.q.l ++ (k, m) ∷ d.q.r) → slice_get (drop 1 (entry_keys (d.q.l ++ (k, m) ∷ d.q.r))) (get_or indices up 0 - 1) ≡ Some key →
+        s ≡ with_node t (get_or path up 0) (Inner (set (drop 1 (entry_keys (d.q.l ++ (k, m) ∷ d.q.r))) (get_or indices up 0) key) (entry_items (d.q.l ++ (k, m) ∷ d.q.r))) →
+        u ≡ with_node s (get_or path up 0) (without_child (Inner (set (drop 1 (entry_keys (d.q.l ++ (k, m) ∷ d.q.r))) (get_or indices up 0) key) (entry_items (d.q.l ++ (k, m) ∷ d.q.r))) (get_or indices up 0)) → Loosened t u path indices up size rows (a ++ (k, n) ∷ b) (length a)
+    take_same s u key more key_is s_is u_is =
+        let q = d.q in
+        let num = get_or path up 0 in
+        let e = get_or indices up 0 in
+        let old : List (K × ℕ) = q.l ++ (k, m) ∷ q.r in
+        let w = next_in q.l (k, m) q.r e (k2, n) b (flat q.after) q.b_is q.entry_is more in
+        let es : List (K × ℕ) = q.l ++ (k, n) ∷ w.0 in
+        let len : length es ≡ length q.l + suc (length w.0) = length-append q.l ((k, n) ∷ w.0) in
+        let one = puts t s num _ (inner_content old) d.f.slot_is s_is in
+        let key_then = subst (λ (z : List (K × ℕ)). slice_get (drop 1 (entry_keys (q.l ++ (k, m) ∷ z))) (e - 1) ≡ Some key) w.1 key_is in
+        let gone = ap (λ z. without_child (with_key (inner_content (q.l ++ (k, m) ∷ z)) e key) e) w.1 ∙ removed_same V q.l (k, m) (k2, n) w.0 key e q.entry_is key_then in
+        let two = puts s u num (inner_content es) _ one.here (u_is ∙ ap (λ z. with_node s num z) gone) in
+        let row : List (K × ℕ) = heads (q.before ++ node num old ∷ q.after) in
+        loosened t u es row q.after (omega (arith, len, length-append q.l ((k, m) ∷ q.r), ap length w.1)) (omega (arith, len)) (omega (arith, len)) refl refl (append_assoc q.l ((k, n) ∷ w.0) (flat q.after) ∙ ap (λ z. q.l ++ (k, n) ∷ z) (sym w.2))
+        (heads-put q.before num old es q.after (head-other num q.l k m n q.r w.0)) d.f.fit d.f.inside (rebuilt_same t path indices (suc up) size q.rest row (length (heads q.before)) (rows_above t path indices up size rows a (k, m) ((k2, n) ∷ b) d)) (puts-then t s u num _ _ one two)
+
+    module _ (o : Across d.q.l d.q.r d.q.after (k2, n) b) where
+      index_is : suc (length o.zs) ≡ get_or indices up 0
+      index_is = ap length (sym o.l_is) ∙ d.q.entry_is
+
+      old_is : d.q.l ++ (k, m) ∷ d.q.r ≡ (o.z ∷ o.zs) ++ (k, m) ∷ []
+      old_is = ap (λ z. z ++ (k, m) ∷ d.q.r) o.l_is ∙ ap (λ z. (o.z ∷ o.zs) ++ (k, m) ∷ z) o.r_is
+
+      -- the key that the code read is that of the entry which is taken out
+      moved_key : (key : K) → slice_get (drop 1 (entry_keys (d.q.l ++ (k, m) ∷ d.q.r))) (get_or indices up 0 - 1) ≡ Some key → key ≡ k
+      moved_key key is = some_same key k (sym is ∙ ap (λ w. slice_get (drop 1 (entry_keys w)) (get_or indices up 0 - 1)) old_is ∙ last_key ℕ o.z o.zs (k, m) (get_or indices up 0) index_is)
+
+      -- the key under the next parent, and then the entry
+      take_over : (v u : Table K V) → Rebuilt t v path indices path indices (suc up) size d.q.rest (heads d.q.before ++ (o.z.0, get_or path up 0) ∷ (k, o.q) ∷ heads o.rest) (length (heads d.q.before)) (map sizes d.q.rest) [] → slice_get v.nodes (get_or path up 0) ≡ Some (inner_content (d.q.l ++ (k, m) ∷ d.q.r)) →
+          u ≡ with_node v (get_or path up 0) (without_child (inner_content (d.q.l ++ (k, m) ∷ d.q.r)) (get_or indices up 0)) → Loosened t u path indices up size rows (a ++ (k, n) ∷ b) (length a)
+      take_over v u r slot u_is =
+          let q = d.q in
+          let num = get_or path up 0 in
+          let after : List (LevelNode K ℕ) = node o.q ((k, n) ∷ o.ys) ∷ o.rest in
+          let gone = ap (λ z. without_child (inner_content z) (get_or indices up 0)) old_is ∙ removed_last V o.z o.zs (k, m) (get_or indices up 0) index_is ∙ ap (λ z. inner_content z) (sym o.l_is) in
+          let two = puts v u num (inner_content q.l) _ slot (u_is ∙ ap (λ z. with_node v num z) gone) in
+          let list : heads (q.before ++ node num q.l ∷ after) ≡ heads q.before ++ (o.z.0, num) ∷ (k, o.q) ∷ heads o.rest = heads-append q.before (node num q.l ∷ after) ∙ ap (λ z. heads q.before ++ (head_of num z ++ (k, o.q) ∷ heads o.rest)) o.l_is in
+          let len : length (q.l ++ (k, m) ∷ q.r) ≡ suc (length q.l) = omega (arith, length-append q.l ((k, m) ∷ q.r), ap length o.r_is) in
+          loosened v u q.l (heads q.before ++ (o.z.0, num) ∷ (k, o.q) ∷ heads o.rest) after len (omega (arith, ap length o.l_is)) (omega arith) (ap (λ z. sizes z) (sym o.after_is)) (ap (λ z. numbers z) (sym o.after_is)) (ap (λ z. q.l ++ (k, n) ∷ z) (sym o.b_is)) (sym list)
+          (rw o.after_is at d.f.fit) (across_in t path indices up size rows a (k, m) (k2, n) b d o k) r two
+
   module _ (t : Table K V) (path indices : List ℕ) (up size : ℕ) (rows : List (List (LevelNode K ℕ))) (a : List (K × ℕ)) (k : K) (m : ℕ) (k2 : K) (n : ℕ) (b : List (K × ℕ)) (p : Above t path indices up size rows (a ++ (k, m) ∷ (k2, n) ∷ b) (length a))
       (r : ℕ) (wide : length path ≡ 17) (height : size ≤ 17) where
     top : up < size
     top = above_two t path indices up size rows a (k, m) (k2, n) b (length a) p
 
-    d : Spot t path indices up size rows a (k, m) ((k2, n) ∷ b)
-    d = spot t path indices up size rows a (k, m) ((k2, n) ∷ b) p top
+    -- the parent
+    pub here : Seen t path indices up size rows a (k, m) ((k2, n) ∷ b) r
+    here = seen t path indices up size rows a (k, m) ((k2, n) ∷ b) p top r wide height
 
-    pub index_small : get_or indices up 0 < 8
-    index_small = omega (arith, d.count_is, d.most_is)
-
-    num_is : get_or path up r ≡ get_or path up 0
-    num_is = (let low = top in get_or_default path up r 0 (omega arith))
+    abbrev d : Spot t path indices up size rows a (k, m) ((k2, n) ∷ b)
+    d = here.d
 
     abbrev ds : List (K × ℕ)
     ds = d.q.l ++ (k, m) ∷ d.q.r
 
-    slot_is : slice_get t.nodes (get_or path up r) ≡ Some (inner_content ds)
-    slot_is = ap (λ z. slice_get t.nodes z) num_is ∙ d.f.slot_is
-
-    none_chain : count (get_or path up r) t.chain ≡ 0
-    none_chain = ap (λ z. count z t.chain) num_is ∙ d.f.none_chain
-
-    pub node_asks : NodeAt t (get_or path up r)
-    node_asks = (inner_content ds, slot_is, λ free. free)
-
-    module _ (cnt : ℕ) (value : (x : Content K V) → slice_get t.nodes (get_or path up r) ≡ Some x → cnt ≡ entry_count x) where
-      cnt_is : cnt ≡ length ds
-      cnt_is = value (inner_content ds) slot_is ∙ item_count ds
-
+    module _ (cnt : ℕ) (value : Counts t (get_or path up r) cnt) where
       module _ (more : get_or indices up 0 + 1 < cnt) where
         pub key_asks : (i : ℕ) → i ≤ get_or indices up 0 → KeyAt t (get_or path up r) i
-        key_asks i low = (drop 1 (entry_keys ds), entry_items ds, slot_is, (let e = cnt_is in omega (arith, key_count ds)))
-
-        pub write_asks : IsUsed t (get_or path up r) × KeyAt t (get_or path up r) (get_or indices up 0)
-        write_asks = (is_used t (get_or path up r) (inner_content ds) slot_is none_chain, key_asks (get_or indices up 0) (omega arith))
+        key_asks i low = here.key_asks cnt i value (omega (arith, low, more))
 
         module _ (s : Table K V) (key : K) (writes : Writes t s (get_or path up r) (get_or indices up 0) key) where
           s_is : s ≡ with_node t (get_or path up r) (with_key (inner_content ds) (get_or indices up 0) key)
-          s_is = writes (drop 1 (entry_keys ds)) (entry_items ds) slot_is
+          s_is = writes (drop 1 (entry_keys ds)) (entry_items ds) here.slot_is
 
           one : Puts t s (get_or path up r) (with_key (inner_content ds) (get_or indices up 0) key)
-          one = puts t s (get_or path up r) (with_key (inner_content ds) (get_or indices up 0) key) (inner_content ds) slot_is s_is
+          one = puts t s (get_or path up r) (with_key (inner_content ds) (get_or indices up 0) key) (inner_content ds) here.slot_is s_is
 
           pub remove_asks : IsUsed s (get_or path up r) × ChildAt s (get_or path up r) (get_or indices up 0)
           remove_asks = (
-            is_used s (get_or path up r) (with_key (inner_content ds) (get_or indices up 0) key) one.here (ap (λ z. count (get_or path up r) z) one.chain_is ∙ none_chain),
-            (set (drop 1 (entry_keys ds)) (get_or indices up 0) key, entry_items ds, one.here, (let e = cnt_is in omega (arith, item_count ds))),
+            is_used s (get_or path up r) (with_key (inner_content ds) (get_or indices up 0) key) one.here (ap (λ z. count (get_or path up r) z) one.chain_is ∙ here.none_chain),
+            (set (drop 1 (entry_keys ds)) (get_or indices up 0) key, entry_items ds, one.here, (let e = here.counted cnt value in omega (arith, item_count ds))),
           )
 
           pub same_parent : (u : Table K V) (i : ℕ) → i ≡ get_or indices up 0 - 1 → ReadsKey t (get_or path up r) i key → Removes s u (get_or path up r) (get_or indices up 0) → Loosened t u path indices up size rows (a ++ (k, n) ∷ b) (length a)
           same_parent u i i_is reads removes =
+              let num_is = here.num_is in
               let u_is = removes (set (drop 1 (entry_keys ds)) (get_or indices up 0) key) (entry_items ds) one.here in
-              let key_is = subst (λ (z : ℕ). slice_get (drop 1 (entry_keys ds)) z ≡ Some key) i_is (reads (drop 1 (entry_keys ds)) (entry_items ds) slot_is) in
+              let key_is = subst (λ (z : ℕ). slice_get (drop 1 (entry_keys ds)) z ≡ Some key) i_is (reads (drop 1 (entry_keys ds)) (entry_items ds) here.slot_is) in
               let written = s_is in
-              take_same t s u path indices up size rows a k m k2 n b key d (subst (λ (z : ℕ). get_or indices up 0 + 1 < z) cnt_is more) key_is (rw num_is at written) (rw num_is at u_is)
+              take_same t path indices up size rows a k m k2 n b d s u key (subst (λ (z : ℕ). get_or indices up 0 + 1 < z) (here.counted cnt value) more) key_is (rw num_is at written) (rw num_is at u_is)
 
       module _ (less : cnt ≤ get_or indices up 0 + 1) where
         o : Across d.q.l d.q.r d.q.after (k2, n) b
-        o = across t path indices up size rows a (k, m) (k2, n) b d (subst (λ (z : ℕ). z ≤ get_or indices up 0 + 1) cnt_is less)
-
-        index_is : suc (length o.zs) ≡ get_or indices up 0
-        index_is = ap length (sym o.l_is) ∙ d.q.entry_is
+        o = across (get_or path up 0) d.q.l (k, m) d.q.r d.q.after (k2, n) b d.f.fit d.q.b_is (omega (arith, here.counted cnt value, less, d.q.entry_is))
 
         pub index_some : 1 ≤ get_or indices up 0
-        index_some = let e = index_is in omega arith
+        index_some = let e = index_is t path indices up size rows a k m k2 n b d o in omega arith
 
         pub last_key_asks : KeyAt t (get_or path up r) (get_or indices up 0 - 1)
-        last_key_asks = (drop 1 (entry_keys ds), entry_items ds, slot_is, (let e = index_is in omega (arith, key_count ds, d.count_is)))
+        last_key_asks = here.low_key_asks (get_or indices up 0 - 1) (let e = index_some in omega arith)
 
         module _ (high : ℕ) (high_is : high ≡ suc up) where
           above_is : Above t path indices high size d.q.rest (heads d.q.before ++ (o.z.0, get_or path up 0) ∷ (k2, o.q) ∷ heads o.rest) (length (heads d.q.before))
-          above_is =
-              subst (λ (z : ℕ). Above t path indices z size d.q.rest (heads d.q.before ++ (o.z.0, get_or path up 0) ∷ (k2, o.q) ∷ heads o.rest) (length (heads d.q.before))) (sym high_is)
-              (across_above t path indices up size d.q.before o.z o.zs (k, m) o.q (k2, n) o.ys o.rest d.q.rest (across_cut t path indices up size rows a (k, m) (k2, n) b d o) d.q.stands)
+          above_is = rw high_is (across_above t path indices up size rows a (k, m) (k2, n) b d o)
 
           pub rekey_asks : TwoAbove t path indices high size
           rekey_asks = (d.q.rest, heads d.q.before, (o.z.0, get_or path up 0), k2, o.q, heads o.rest, above_is)
@@ -96,14 +165,14 @@ module _ {K V : Type 0} where
 
             pub remove_last_asks : IsUsed v (get_or path up r) × ChildAt v (get_or path up r) (get_or indices up 0)
             remove_last_asks = (
-              subst (λ (z : ℕ). IsUsed v z) (sym num_is) (is_used v (get_or path up 0) (inner_content ds) slot_then (ap (λ z. count (get_or path up 0) z) rebuilt.frees.chain_is ∙ d.f.none_chain)),
-              (drop 1 (entry_keys ds), entry_items ds, ap (λ z. slice_get v.nodes z) num_is ∙ slot_then, omega (arith, item_count ds, d.count_is)),
+              subst (λ (z : ℕ). IsUsed v z) (sym here.num_is) (is_used v (get_or path up 0) (inner_content ds) slot_then (ap (λ z. count (get_or path up 0) z) rebuilt.frees.chain_is ∙ d.f.none_chain)),
+              (drop 1 (entry_keys ds), entry_items ds, ap (λ z. slice_get v.nodes z) here.num_is ∙ slot_then, omega (arith, item_count ds, d.count_is)),
             )
 
             pub next_parent : (u : Table K V) → ReadsKey t (get_or path up r) (get_or indices up 0 - 1) key → Removes v u (get_or path up r) (get_or indices up 0) → Loosened t u path indices up size rows (a ++ (k, n) ∷ b) (length a)
             next_parent u reads removes =
-                let key_is = reads (drop 1 (entry_keys ds)) (entry_items ds) slot_is in
-                let k_is = moved_key d.q.l d.q.r ds o.z o.zs (k, m) (get_or indices up 0) key o.l_is o.r_is refl d.q.entry_is key_is in
+                let num_is = here.num_is in
+                let k_is = moved_key t path indices up size rows a k m k2 n b d o key (reads (drop 1 (entry_keys ds)) (entry_items ds) here.slot_is) in
                 let u_is = removes (drop 1 (entry_keys ds)) (entry_items ds) (ap (λ z. slice_get v.nodes z) num_is ∙ slot_then) in
-                let reb = subst (λ (z : ℕ). Rebuilt t v path indices path indices z size d.q.rest (heads d.q.before ++ (o.z.0, get_or path up 0) ∷ (key, o.q) ∷ heads o.rest) (length (heads d.q.before)) (map sizes d.q.rest) []) high_is rebuilt in
-                take_over t v u path indices up size rows a k m k2 n b d o (subst (λ (z : K). Rebuilt t v path indices path indices (suc up) size d.q.rest (heads d.q.before ++ (o.z.0, get_or path up 0) ∷ (z, o.q) ∷ heads o.rest) (length (heads d.q.before)) (map sizes d.q.rest) []) k_is reb) slot_then (rw num_is at u_is)
+                let above = rebuilt in
+                take_over t path indices up size rows a k m k2 n b d o v u (rw (high_is, k_is) at above) slot_then (rw num_is at u_is)

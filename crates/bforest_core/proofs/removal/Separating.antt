@@ -1,66 +1,133 @@
--- Renewing the key between two neighbours: each answer of `update_next_separator` is one of these.
-use Rattle.std.proofs.Common.{◌≡◌, ℕ, ◌+◌, ◌-◌, ◌≤◌, ◌<◌, List, [], ◌∷◌, ◌++◌, map, length, drop, get_or, slice_get, Some, sym, ap, ◌∙◌, subst, arith, add-one}
-use Rattle.bforest_core.proofs.Words.{get_or_default, Content, entry_count, with_key, Table, IsUsed, with_node, LevelNode, heads, sizes, inner_content, entry_keys, entry_items, Above, Rebuilt}
-use Rattle.bforest_core.proofs.table.Tables.{is_used}
-use Rattle.bforest_core.proofs.rows.Zipper.{Spot, spot, above_two}
-use Rattle.bforest_core.proofs.table.Stored.{key_count, item_count}
-use Rattle.bforest_core.proofs.removal.Asked.{NodeAt, KeyAt, Writes, TwoAbove, Rekeys}
-use Rattle.bforest_core.proofs.removal.RemoveMerged.{Across, across, across_cut, across_above}
-use Rattle.bforest_core.proofs.removal.Neighbours.{rekey_same, rekey_over}
+-- The key of a node, or of the next, renewed in the rows above a level: the answers of `update_separator` and `update_next_separator` are these.
+use Rattle.std.proofs.Common.{◌≡◌, ℕ, suc, ◌+◌, ◌-◌, ◌≤◌, ◌<◌, List, [], ◌∷◌, ◌++◌, map, length, drop, set, get_or, refl, sym, ap, ◌∙◌, append_assoc, length-append, arith, add-one}
+use Rattle.bforest_core.proofs.Words.{Inner, Table, with_node, LevelNode, node, flat, heads, head_of, sizes, numbers, FitRow, RowIn, inner_content, entry_keys, entry_items, Above, Rebuilt, nil_from_length}
+use Rattle.bforest_core.proofs.rows.LevelRows.{heads-append, least-pos}
+use Rattle.bforest_core.proofs.table.Tables.{row-split, row-join}
+use Rattle.bforest_core.proofs.removal.Frees.{frees-refl}
+use Rattle.bforest_core.proofs.rows.Zipper.{Spot, above_two}
+use Rattle.bforest_core.proofs.removal.Asked.{Counts, Writes, TwoAbove, Rekeys, Seen, seen}
+use Rattle.bforest_core.proofs.removal.Lifted.{rows_above, lifted_above, renamed}
+
+-- the neighbour stands under the same parent
+pub next_in : {K : Type 0} (l : List (K × ℕ)) (x : K × ℕ) (r : List (K × ℕ)) (e : ℕ) (y : K × ℕ) (b more : List (K × ℕ)) → y ∷ b ≡ r ++ more → length l ≡ e → e + 1 < length (l ++ x ∷ r) → (ys : List (K × ℕ)) × (r ≡ y ∷ ys) × (b ≡ ys ++ more)
+next_in l x [] e y b more is l_is high = absurd (omega (arith, high, l_is, length-append l (x ∷ [])))
+next_in l x (w ∷ ys) e y b more is l_is high = (ys, cc, cc)
+
+-- or under the next
+pub record Across {K : Type 0} (l : List (K × ℕ)) (r : List (K × ℕ)) (after : List (LevelNode K ℕ)) (y : K × ℕ) (b : List (K × ℕ)) : Type 0 where
+  pub z : K × ℕ
+  pub zs : List (K × ℕ)
+  pub q : ℕ
+  pub ys : List (K × ℕ)
+  pub rest : List (LevelNode K ℕ)
+  pub l_is : l ≡ z ∷ zs
+  pub r_is : r ≡ []
+  pub after_is : after ≡ node q (y ∷ ys) ∷ rest
+  pub b_is : b ≡ ys ++ flat rest
+
+pub across : {K : Type 0} (n : ℕ) (l : List (K × ℕ)) (x : K × ℕ) (r : List (K × ℕ)) (after : List (LevelNode K ℕ)) (y : K × ℕ) (b : List (K × ℕ)) → FitRow 4 8 (node n (l ++ x ∷ r) ∷ after) → y ∷ b ≡ r ++ flat after → length (l ++ x ∷ r) ≤ length l + 1 → Across l r after y b
+across n l x (w ∷ r) after y b f e h = absurd (omega (arith, h, length-append l (x ∷ w ∷ r)))
+across n l x [] [] y b f e h = absurd cc
+across n l x [] (node q [] ∷ after) y b f e h = absurd (let g = f.2.0 in omega (arith, g, least-pos 4 (omega arith) after))
+across n [] x [] (node q (w ∷ ys) ∷ after) y b f e h = absurd (let g : 4 ≤ 1 = f.0 in omega arith)
+across n (z ∷ zs) x [] (node q (w ∷ ys) ∷ after) y b f e h =
+    let hy : y ≡ w = cc in
+    record { z = z; zs = zs; q = q; ys = ys; rest = after; l_is = refl; r_is = refl; after_is = ap (λ u. node q (u ∷ ys) ∷ after) (sym hy); b_is = cc }
 
 module _ {K V : Type 0} where
-  module _ (t : Table K V) (path indices : List ℕ) (up size : ℕ) (rows : List (List (LevelNode K ℕ))) (a : List (K × ℕ)) (x : K × ℕ) (k : K) (n : ℕ) (b : List (K × ℕ)) (p : Above t path indices up size rows (a ++ x ∷ (k, n) ∷ b) (length a)) where
+  module _ (t : Table K V) (path indices : List ℕ) (up size : ℕ) (rows : List (List (LevelNode K ℕ))) (a : List (K × ℕ)) (x y : K × ℕ) (b : List (K × ℕ)) (d : Spot t path indices up size rows a x (y ∷ b)) (o : Across d.q.l d.q.r d.q.after y b) where
+    -- no slot holds the first key of the next parent
+    pub across_in : (key : K) → RowIn inner_content t.nodes (d.q.before ++ node (get_or path up 0) (d.q.l ++ x ∷ d.q.r) ∷ node o.q ((key, y.1) ∷ o.ys) ∷ o.rest)
+    across_in key =
+        let s = row-split inner_content t.nodes d.q.before (node (get_or path up 0) (d.q.l ++ x ∷ d.q.r) ∷ d.q.after) d.f.inside in
+        row-join inner_content t.nodes d.q.before (node (get_or path up 0) (d.q.l ++ x ∷ d.q.r) ∷ node o.q ((key, y.1) ∷ o.ys) ∷ o.rest) s.0 (s.1.0, rw o.after_is at s.1.1)
+
+    -- the rows one level up, where the two parents are neighbours
+    pub across_above : Above t path indices (suc up) size d.q.rest (heads d.q.before ++ (o.z.0, get_or path up 0) ∷ (y.0, o.q) ∷ heads o.rest) (length (heads d.q.before))
+    across_above = rw (heads-append d.q.before (node (get_or path up 0) (d.q.l ++ x ∷ d.q.r) ∷ d.q.after), o.l_is, o.after_is) at (rows_above t path indices up size rows a x (y ∷ b) d)
+
+  -- no row above
+  pub rekey_top : (t : Table K V) (path indices : List ℕ) (up size : ℕ) (rows : List (List (LevelNode K ℕ))) (a : List (K × ℕ)) (k : K) (n : ℕ) (b : List (K × ℕ)) (key : K) → Above t path indices up size rows (a ++ (k, n) ∷ b) (length a) → size ≤ up →
+      Rebuilt t t path indices path indices up size rows (a ++ (key, n) ∷ b) (length a) (map sizes rows) []
+  rekey_top t path indices up size (row ∷ rows) a k n b key p high = absurd (omega (arith, p.height, high))
+  rekey_top t path indices up size [] a k n b key p high = record {
+    rows' = [];
+    above = record { stacked = omega (arith, p.stacked, length-append a ((k, n) ∷ b), length-append a ((key, n) ∷ b)); inside = tt; stands = p.stands; height = p.height; apart = p.apart };
+    sizes_are = refl;
+    numbers_are = λ m. omega arith;
+    frees = frees-refl t [];
+    nodes_below = λ i low. refl;
+    entries_below = λ i low. refl;
+    same_top = refl;
+  }
+
+  module _ (t u : Table K V) (path indices : List ℕ) (up size : ℕ) (rows : List (List (LevelNode K ℕ))) (a : List (K × ℕ)) (k : K) (n : ℕ) (b : List (K × ℕ)) (key : K) (d : Spot t path indices up size rows a (k, n) b) where
+    -- the separator in the parent of the path
+    pub rekey_parent : 0 < get_or indices up 0 → u ≡ with_node t (get_or path up 0) (Inner (set (drop 1 (entry_keys (d.q.l ++ (k, n) ∷ d.q.r))) (get_or indices up 0 - 1) key) (entry_items (d.q.l ++ (k, n) ∷ d.q.r))) → Rebuilt t u path indices path indices up size rows (a ++ (key, n) ∷ b) (length a) (map sizes rows) []
+    rekey_parent some u_is =
+        renamed t path indices up size rows a (k, n) b d u d.q.l (k, n) d.q.r (get_or indices up 0 - 1) key ((key, n) ∷ b) refl (omega (arith, d.q.entry_is, some)) u_is (append_assoc d.q.l ((key, n) ∷ d.q.r) (flat d.q.after) ∙ ap (λ z. d.q.l ++ (key, n) ∷ z) (sym d.q.b_is))
+
+    -- no separator there: the key is that of the parent
+    pub rekey_first : get_or indices up 0 ≤ 0 → Rebuilt t u path indices path indices (suc up) size d.q.rest (heads d.q.before ++ (key, get_or path up 0) ∷ heads d.q.after) (length (heads d.q.before)) (map sizes d.q.rest) [] → Rebuilt t u path indices path indices up size rows (a ++ (key, n) ∷ b) (length a) (map sizes rows) []
+    rekey_first none r =
+        let q = d.q in
+        let num = get_or path up 0 in
+        let l_is = nil_from_length q.l (omega (arith, q.entry_is, none)) in
+        let s = row-split inner_content t.nodes q.before (node num (q.l ++ (k, n) ∷ q.r) ∷ q.after) d.f.inside in
+        lifted_above t path indices up size rows a (k, n) b d u ((key, n) ∷ q.r) q.after (heads q.before ++ (key, num) ∷ heads q.after) ((key, n) ∷ b) (ap (λ z. length (z ++ (k, n) ∷ q.r)) (sym l_is)) refl refl (ap (λ z. (key, n) ∷ z) (sym q.b_is) ∙ ap (λ z. z ++ (key, n) ∷ b) (sym l_is))
+        (sym (heads-append q.before (node num ((key, n) ∷ q.r) ∷ q.after))) (rw l_is at d.f.fit) (row-join inner_content t.nodes q.before (node num ((key, n) ∷ q.r) ∷ q.after) s.0 (rw l_is at s.1)) r
+
+  module _ (t u : Table K V) (path indices : List ℕ) (up size : ℕ) (rows : List (List (LevelNode K ℕ))) (a : List (K × ℕ)) (x : K × ℕ) (k : K) (n : ℕ) (b : List (K × ℕ)) (key : K) (d : Spot t path indices up size rows a x ((k, n) ∷ b)) where
+    -- the key of the neighbour under the same parent
+    rekey_same : get_or indices up 0 + 1 < length (d.q.l ++ x ∷ d.q.r) → u ≡ with_node t (get_or path up 0) (Inner (set (drop 1 (entry_keys (d.q.l ++ x ∷ d.q.r))) (get_or indices up 0) key) (entry_items (d.q.l ++ x ∷ d.q.r))) → Rebuilt t u path indices path indices up size rows (a ++ x ∷ (key, n) ∷ b) (length a) (map sizes rows) []
+    rekey_same more u_is =
+        let q = d.q in
+        let w = next_in q.l x q.r (get_or indices up 0) (k, n) b (flat q.after) q.b_is q.entry_is more in
+        let es_is : q.l ++ x ∷ q.r ≡ (q.l ++ x ∷ []) ++ (k, n) ∷ w.0 = ap (λ z. q.l ++ x ∷ z) w.1 ∙ sym (append_assoc q.l (x ∷ []) ((k, n) ∷ w.0)) in
+        renamed t path indices up size rows a x ((k, n) ∷ b) d u (q.l ++ x ∷ []) (k, n) w.0 (get_or indices up 0) key (x ∷ (key, n) ∷ b) es_is (omega (arith, length-append q.l (x ∷ []), q.entry_is)) u_is (simp append_assoc (ap (λ z. q.l ++ x ∷ (key, n) ∷ z) (sym w.2)))
+
+    -- or under the next, whose key was renewed above
+    rekey_over : (o : Across d.q.l d.q.r d.q.after (k, n) b) → Rebuilt t u path indices path indices (suc up) size d.q.rest (heads d.q.before ++ (o.z.0, get_or path up 0) ∷ (key, o.q) ∷ heads o.rest) (length (heads d.q.before)) (map sizes d.q.rest) [] → Rebuilt t u path indices path indices up size rows (a ++ x ∷ (key, n) ∷ b) (length a) (map sizes rows) []
+    rekey_over o r =
+        let q = d.q in
+        let num = get_or path up 0 in
+        let after : List (LevelNode K ℕ) = node o.q ((key, n) ∷ o.ys) ∷ o.rest in
+        let flats : (q.l ++ x ∷ q.r) ++ flat after ≡ q.l ++ x ∷ (key, n) ∷ b = append_assoc q.l (x ∷ q.r) (flat after) ∙ ap (λ z. q.l ++ x ∷ (z ++ flat after)) o.r_is ∙ ap (λ z. q.l ++ x ∷ (key, n) ∷ z) (sym o.b_is) in
+        let list : heads (q.before ++ node num (q.l ++ x ∷ q.r) ∷ after) ≡ heads q.before ++ (o.z.0, num) ∷ (key, o.q) ∷ heads o.rest = heads-append q.before (node num (q.l ++ x ∷ q.r) ∷ after) ∙ ap (λ z. heads q.before ++ (head_of num (z ++ x ∷ q.r) ++ (key, o.q) ∷ heads o.rest)) o.l_is in
+        lifted_above t path indices up size rows a x ((k, n) ∷ b) d u (q.l ++ x ∷ q.r) after (heads q.before ++ (o.z.0, num) ∷ (key, o.q) ∷ heads o.rest) (x ∷ (key, n) ∷ b) refl (ap (λ z. sizes z) (sym o.after_is)) (ap (λ z. numbers z) (sym o.after_is)) flats (sym list)
+        (rw o.after_is at d.f.fit) (across_in t path indices up size rows a x (k, n) b d o key) r
+
+  module _ (t : Table K V) (path indices : List ℕ) (up size : ℕ) (rows : List (List (LevelNode K ℕ))) (a : List (K × ℕ)) (x : K × ℕ) (k : K) (n : ℕ) (b : List (K × ℕ)) (p : Above t path indices up size rows (a ++ x ∷ (k, n) ∷ b) (length a)) (r : ℕ) (wide : length path ≡ 17) (height : size ≤ 17) where
     low : up < size
     low = above_two t path indices up size rows a x (k, n) b (length a) p
 
-    d : Spot t path indices up size rows a x ((k, n) ∷ b)
-    d = spot t path indices up size rows a x ((k, n) ∷ b) p low
-
-    -- the index has room for one more
-    pub index_low : get_or indices up 0 < 8
-    index_low = let s = d in omega (arith, s.count_is, s.most_is)
+    -- the parent of the two
+    pub here : Seen t path indices up size rows a x ((k, n) ∷ b) r
+    here = seen t path indices up size rows a x ((k, n) ∷ b) p low r wide height
 
     pub above_fewer : (s : ℕ) → size - up ≡ s → size - (up + 1) < s
     above_fewer s bound = let l = low in omega arith
 
-    module _ (r : ℕ) (wide : length path ≡ 17) (height : size ≤ 17) where
-      num_is : get_or path up r ≡ get_or path up 0
-      num_is = let l = low in get_or_default path up r 0 (omega (arith, l, wide, height))
+    module _ (m : ℕ) (value : Counts t (get_or path up r) m) where
+      -- the neighbour has the same parent
+      pub same_parent : (u : Table K V) (key : K) → get_or indices up 0 + 1 < m → Writes t u (get_or path up r) (get_or indices up 0) key → Rebuilt t u path indices path indices up size rows (a ++ x ∷ (key, n) ∷ b) (length a) (map sizes rows) []
+      same_parent u key more sets =
+          let s = here in
+          let es : List (K × ℕ) = s.d.q.l ++ x ∷ s.d.q.r in
+          let written = sets (drop 1 (entry_keys es)) (entry_items es) s.slot_is in
+          rekey_same t u path indices up size rows a x k n b key s.d (omega (arith, s.counted m value, more)) (rw s.num_is at written)
 
-      slot : slice_get t.nodes (get_or path up r) ≡ Some (inner_content (d.q.l ++ x ∷ d.q.r))
-      slot = ap (λ z. slice_get t.nodes z) num_is ∙ d.f.slot_is
+      module _ (less : m ≤ get_or indices up 0 + 1) where
+        o : Across here.d.q.l here.d.q.r here.d.q.after (k, n) b
+        o = let s = here in across (get_or path up 0) s.d.q.l x s.d.q.r s.d.q.after (k, n) b s.d.f.fit s.d.q.b_is (omega (arith, s.counted m value, less, s.d.q.entry_is))
 
-      -- what counting the children asks
-      pub counted_asks : NodeAt t (get_or path up r)
-      counted_asks = (inner_content (d.q.l ++ x ∷ d.q.r), slot, λ free. free)
+        above_next : Above t path indices (up + 1) size here.d.q.rest (heads here.d.q.before ++ (o.z.0, get_or path up 0) ∷ (k, o.q) ∷ heads o.rest) (length (heads here.d.q.before))
+        above_next = rw add-one (across_above t path indices up size rows a x (k, n) b here.d o)
 
-      module _ (m : ℕ) (value : (content : Content K V) → slice_get t.nodes (get_or path up r) ≡ Some content → m ≡ entry_count content) where
-        count_is : m ≡ length (d.q.l ++ x ∷ d.q.r)
-        count_is = value (inner_content (d.q.l ++ x ∷ d.q.r)) slot ∙ item_count (d.q.l ++ x ∷ d.q.r)
+        -- it has another: what the call one level up asks
+        pub above_asks : TwoAbove t path indices (up + 1) size
+        above_asks = (here.d.q.rest, heads here.d.q.before, (o.z.0, get_or path up 0), k, o.q, heads o.rest, above_next)
 
-        -- the neighbour has the same parent
-        pub set_asks : get_or indices up 0 + 1 < m → IsUsed t (get_or path up r) × KeyAt t (get_or path up r) (get_or indices up 0)
-        set_asks more =
-            let es : List (K × ℕ) = d.q.l ++ x ∷ d.q.r in
-            (subst (λ (z : ℕ). IsUsed t z) (sym num_is) (is_used t (get_or path up 0) (inner_content es) d.f.slot_is d.f.none_chain), (drop 1 (entry_keys es), entry_items es, slot, omega (arith, count_is, more, key_count es)))
-
-        pub same_parent : (u : Table K V) (key : K) → get_or indices up 0 + 1 < m → Writes t u (get_or path up r) (get_or indices up 0) key → Rebuilt t u path indices path indices up size rows (a ++ x ∷ (key, n) ∷ b) (length a) (map sizes rows) []
-        same_parent u key more sets =
-            let es : List (K × ℕ) = d.q.l ++ x ∷ d.q.r in
-            let written = subst (λ (z : ℕ). u ≡ with_node t z (with_key (inner_content es) (get_or indices up 0) key)) num_is (sets (drop 1 (entry_keys es)) (entry_items es) slot) in
-            rekey_same t u path indices up size rows a x k n b key d (omega (arith, count_is, more)) written
-
-        module _ (less : m ≤ get_or indices up 0 + 1) where
-          o : Across d.q.l d.q.r d.q.after (k, n) b
-          o = across t path indices up size rows a x (k, n) b d (omega (arith, count_is, less))
-
-          above_next : Above t path indices (up + 1) size d.q.rest (heads d.q.before ++ (o.z.0, get_or path up 0) ∷ (k, o.q) ∷ heads o.rest) (length (heads d.q.before))
-          above_next = rw add-one (across_above t path indices up size d.q.before o.z o.zs x o.q (k, n) o.ys o.rest d.q.rest (across_cut t path indices up size rows a x (k, n) b d o) d.q.stands)
-
-          -- it has another: what the call one level up asks
-          pub above_asks : TwoAbove t path indices (up + 1) size
-          above_asks = (d.q.rest, heads d.q.before, (o.z.0, get_or path up 0), k, o.q, heads o.rest, above_next)
-
-          pub next_parent : (u : Table K V) (key : K) → Rekeys t u path indices (up + 1) size key → Rebuilt t u path indices path indices up size rows (a ++ x ∷ (key, n) ∷ b) (length a) (map sizes rows) []
-          next_parent u key rekeys =
-              rekey_over t u path indices up size rows a x k n b key d o (rw add-one at (rekeys d.q.rest (heads d.q.before) (o.z.0, get_or path up 0) k o.q (heads o.rest) above_next))
+        pub next_parent : (u : Table K V) (key : K) → Rekeys t u path indices (up + 1) size key → Rebuilt t u path indices path indices up size rows (a ++ x ∷ (key, n) ∷ b) (length a) (map sizes rows) []
+        next_parent u key rekeys =
+            rekey_over t u path indices up size rows a x k n b key here.d o (rw add-one at (rekeys here.d.q.rest (heads here.d.q.before) (o.z.0, get_or path up 0) k o.q (heads o.rest) above_next))

@@ -1,13 +1,14 @@
 -- A tree after an entry went, before roots with a single child go, and after.
-use Rattle.std.proofs.Common.{◌≡◌, zero, suc, ◌+◌, ◌≤◌, ◌<◌, Some, List, ◌∷◌, ◌++◌, ◌⊎◌, map, length, get_or, refl, sym, ap, ◌∙◌, subst, append_assoc, length-append, arith, ℕ, []}
+use Rattle.std.proofs.Common.{◌≡◌, zero, suc, ◌+◌, ◌≤◌, ◌<◌, Some, List, ◌∷◌, ◌++◌, ◌⊎◌, map, length, get_or, refl, sym, ap, ◌∙◌, subst, length-append, arith, ℕ, []}
 use Rattle.bforest_core.proofs.Words.{flat_map, remove, flat_map-append, Table, LevelNode, node, flat, head_of, heads, sizes, numbers, FitRow, Stacked, Tree, half_of, rebalanced, loss, loss_above, trimmed, RowIn, RowsIn, leaf_content}
-use Rattle.bforest_core.proofs.Words.{count, root_above, root_of, numbers_of, StandsAbove, Stands, IsPathAt, nodes_up, Frees, Rebuilt, Healed, Joined, UpTo, Trimmed, StandsIn, LeafLoss, Removed}
+use Rattle.bforest_core.proofs.Words.{count, root_above, root_of, numbers_of, StandsAbove, Stands, IsPathAt, nodes_up, Above, top_of, Frees, Rebuilt, Healed, Joined, UpTo, Trimmed, StandsIn, LeafLoss, Removed}
 use Rattle.bforest_core.proofs.rows.LevelRows.{flat-append, heads-append, sizes-append, FitRow-split, FitRow-join, Solid-full, least-pos}
 use Rattle.bforest_core.proofs.walks.Steps.{fit_full}
-use Rattle.bforest_core.proofs.table.Tables.{count-append, count-same, counts, row-same, rows-same}
+use Rattle.bforest_core.proofs.table.Tables.{count-append, counts, row-same, rows-same}
 use Rattle.bforest_core.proofs.rows.Tops.{root-stands, top_tree}
 use Rattle.bforest_core.proofs.removal.Losses.{loss_at, placed}
-use Rattle.bforest_core.proofs.removal.Frees.{frees-then, frees-joined}
+use Rattle.bforest_core.proofs.removal.Frees.{frees-refl, frees-then, frees-after}
+use Rattle.bforest_core.proofs.removal.Merge.{joined_flat, joined_above, joined_numbers, joined_inside, joined_frees, joined_sizes, healed_sizes}
 use Rattle.bforest_core.proofs.removal.Rebalance.{enough, judged}
 use Rattle.bforest_core.proofs.removal.PastEnd.{loss_half}
 use Rattle.bforest_core.proofs.removal.Collapse.{length-sizes, trimmed-is, topped-sizes, stands-below, rows-parts, trim_none}
@@ -96,33 +97,38 @@ module _ {K V : Type 0} (most : ℕ) (old mid : Table K V) (path indices : List 
   full : length (heads l.before) ≡ length l.before
   full = Solid-full (half_of most) most half l.before l.solid
 
-  -- the sizes of the leaves after the loss, as their balance is
-  lost : loss most place (sizes tree.leaves) ≡ (placed (length l.before) (rebalanced most (length l.entries) (sizes l.after)).0, sizes l.before ++ (rebalanced most (length l.entries) (sizes l.after)).1)
-  lost =
-      ap (λ z. loss most place z) l.sizes_were ∙ ap (λ z. loss most z (sizes l.before ++ suc (length l.entries) ∷ sizes l.after)) l.place_is
-      ∙ loss_at most l.before (length l.entries) (get_or indices 0 0) (sizes l.after) (omega (arith, l.entry_was))
+  -- the tree after the leaf was settled, and the rows above it
+  settled : (new : Table K V) (path' indices' : List ℕ) (front : List (LevelNode K V)) (m : ℕ) (es : List (K × V)) (back : List (LevelNode K V)) (rest : List (List (LevelNode K ℕ))) (freed : List ℕ) → flat (front ++ node m es ∷ back) ≡ flat (l.before ++ node (get_or path 0 0) l.entries ∷ l.after) →
+      FitRow (half_of most) most (front ++ node m es ∷ back) → RowIn leaf_content new.nodes (front ++ node m es ∷ back) → Above new path' indices' 1 size rest (heads (front ++ node m es ∷ back)) (length (heads front)) → get_or path' 0 0 ≡ m → 1 ≤ length es →
+      sizes (front ++ node m es ∷ back) ∷ map sizes rest ≡ (sizes l.before ++ (rebalanced most (length l.entries) (sizes l.after)).1) ∷ loss_above (placed (length l.before) (rebalanced most (length l.entries) (sizes l.after)).0) (map sizes l.rest) →
+      ((i : ℕ) → count i (numbers (front ++ node m es ∷ back) ++ flat_map numbers rest) + count i freed ≡ count i (numbers (l.before ++ node (get_or path 0 0) l.entries ∷ l.after) ++ flat_map numbers l.rest)) → Frees mid new (numbers (l.before ++ node (get_or path 0 0) l.entries ∷ l.after) ++ flat_map numbers l.rest) freed →
+      top_of path' size ≡ top_of path size → Untrimmed most old new tree place (front ++ node m es ∷ back) rest freed
+  settled new path' indices' front m es back rest freed list fit inside above m_is some sizes_are numbers_are frees top =
+      let row : List (LevelNode K V) = front ++ node m es ∷ back in
+      let lost =
+      ap (λ z. loss most place z) l.sizes_were ∙ ap (λ z. loss most z (sizes l.before ++ suc (length l.entries) ∷ sizes l.after)) l.place_is ∙ loss_at most l.before (length l.entries) (get_or indices 0 0) (sizes l.after) (omega (arith, l.entry_was)) in
+      record {
+        flat_is = list ∙ l.flat_is;
+        sizes_are = sizes_are ∙ ap (λ z. (sizes l.before ++ (rebalanced most (length l.entries) (sizes l.after)).1) ∷ loss_above (placed (length l.before) (rebalanced most (length l.entries) (sizes l.after)).0) z) l.rest_sizes ∙ sym (ap (λ z. z.1 ∷ loss_above z.0 (map sizes tree.above)) lost);
+        half = half;
+        leaves_fit = fit;
+        leaves_in = inside;
+        some = omega (arith, ap length (flat-append front (node m es ∷ back)), length-append (flat front) (es ++ flat back), length-append es (flat back), some);
+        stacked = above.stacked;
+        rows_in = above.inside;
+        height = omega (arith, above.height, s.stands.size_is);
+        numbers_are = λ i. omega (arith, numbers_are i, l.numbers_are i);
+        root_is = top_tree row rest path' indices' size (length (heads front)) front es back (ap (λ z. front ++ node z es ∷ back) (sym m_is)) some above.stacked above.stands (omega (arith, above.height)) ∙ top ∙ sym (root-stands most tree path indices size place s.fit s.stands);
+        frees = frees-after old mid new (numbers_of tree) _ freed (λ i none. omega (arith, none, l.numbers_are i)) l.frees frees;
+      }
 
   -- the leaf is half full yet or the last, and stays as it is
   pub kept_untrimmed : (half_of most ≤ length l.entries) ⊎ (l.after ≡ []) → Untrimmed most old mid tree place (l.before ++ node (get_or path 0 0) l.entries ∷ l.after) l.rest []
   kept_untrimmed why =
       let n = get_or path 0 0 in
-      let row : List (LevelNode K V) = l.before ++ node n l.entries ∷ l.after in
-      let l2 = lost ∙ ap (λ z. (placed (length l.before) z.0, sizes l.before ++ z.1)) (judged (half_of most) most l.entries l.after (omega arith) l.some why) in
-      let st = l.above.stands in
-      record {
-        flat_is = l.flat_is;
-        sizes_are = ap (λ z. z ∷ map sizes l.rest) (sizes-append l.before (node n l.entries ∷ l.after)) ∙ ap (λ z. (sizes l.before ++ length l.entries ∷ sizes l.after) ∷ z) l.rest_sizes ∙ sym (ap (λ z. z.1 ∷ loss_above z.0 (map sizes tree.above)) l2);
-        half = half;
-        leaves_fit = FitRow-join (half_of most) most l.before (node n l.entries) l.after l.solid (enough (half_of most) l.entries l.after l.some why, l.most_is, l.fits);
-        leaves_in = l.inside;
-        some = omega (arith, ap length (flat-append l.before (node n l.entries ∷ l.after)), length-append (flat l.before) (l.entries ++ flat l.after), length-append l.entries (flat l.after), l.some);
-        stacked = l.above.stacked;
-        rows_in = l.above.inside;
-        height = omega (arith, l.above.height, s.stands.size_is);
-        numbers_are = λ m. omega (arith, l.numbers_are m);
-        root_is = top_tree row l.rest path indices size (length l.before) l.before l.entries l.after refl l.some l.above.stacked (rw full at st) (omega (arith, l.above.height)) ∙ sym (root-stands most tree path indices size place s.fit s.stands);
-        frees = l.frees;
-      }
+      let outcome = judged (half_of most) most l.entries l.after (omega arith) l.some why in
+      settled mid path indices l.before n l.entries l.after l.rest [] refl (FitRow-join (half_of most) most l.before (node n l.entries) l.after l.solid (enough (half_of most) l.entries l.after l.some why, l.most_is, l.fits)) l.inside l.above refl l.some
+      (ap (λ z. z ∷ map sizes l.rest) (sizes-append l.before (node n l.entries ∷ l.after)) ∙ sym (ap (λ z. (sizes l.before ++ z.1) ∷ loss_above (placed (length l.before) z.0) (map sizes l.rest)) outcome)) (λ i. omega arith) (frees-refl mid _) refl
 
   module _ (new : Table K V) (path' indices' : List ℕ) (h : Healed leaf_content (half_of most) most mid new path indices path' indices' 0 size l.before (get_or path 0 0) l.entries l.after l.rest) where
     full_healed : length (heads h.before') ≡ length h.before'
@@ -132,28 +138,8 @@ module _ {K V : Type 0} (most : ℕ) (old mid : Table K V) (path indices : List 
     pub healed_untrimmed : Untrimmed most old new tree place (h.before' ++ node h.number' h.entries' ∷ h.after') h.rest' []
     healed_untrimmed =
         let n = get_or path 0 0 in
-        let row : List (LevelNode K V) = l.before ++ node n l.entries ∷ l.after in
-        let row2 : List (LevelNode K V) = h.before' ++ node h.number' h.entries' ∷ h.after' in
-        let l2 = lost ∙ ap (λ z. (placed (length l.before) z, sizes l.before ++ (rebalanced most (length l.entries) (sizes l.after)).1)) h.stays in
-        let some : 1 ≤ length h.entries' = omega (arith, h.within) in
-        let c4 = λ (m : ℕ). count-append m (numbers row) (flat_map numbers l.rest) in
-        let c5 = λ (m : ℕ). count-append m (numbers row2) (flat_map numbers h.rest') in
-        let c9 = λ (m : ℕ). ap (λ z. count m z) h.row_numbers in
-        let st = h.above.stands in
-        record {
-          flat_is = h.list_is ∙ l.flat_is;
-          sizes_are = ap (λ z. z ∷ map sizes h.rest') h.sizes_are ∙ ap (λ z. (sizes l.before ++ (rebalanced most (length l.entries) (sizes l.after)).1) ∷ z) (h.rest_sizes ∙ l.rest_sizes) ∙ sym (ap (λ z. z.1 ∷ loss_above z.0 (map sizes tree.above)) l2);
-          half = half;
-          leaves_fit = h.fit;
-          leaves_in = h.inside;
-          some = omega (arith, ap length (flat-append h.before' (node h.number' h.entries' ∷ h.after')), length-append (flat h.before') (h.entries' ++ flat h.after'), length-append h.entries' (flat h.after'), some);
-          stacked = h.above.stacked;
-          rows_in = h.above.inside;
-          height = omega (arith, h.above.height, s.stands.size_is);
-          numbers_are = λ m. omega (arith, l.numbers_are m, c4 m, c5 m, c9 m, h.rest_numbers m);
-          root_is = top_tree row2 h.rest' path' indices' size (length h.before') h.before' h.entries' h.after' (ap (λ z. h.before' ++ node z h.entries' ∷ h.after') (sym h.number_is)) some h.above.stacked (rw full_healed at st) (omega (arith, h.above.height)) ∙ h.same_top ∙ sym (root-stands most tree path indices size place s.fit s.stands);
-          frees = frees-then old mid new (numbers_of tree) (numbers row ++ flat_map numbers l.rest) [] [] (λ m none. omega (arith, none, l.numbers_are m)) (λ m some. omega (arith, some)) l.frees h.frees;
-        }
+        settled new path' indices' h.before' h.number' h.entries' h.after' h.rest' [] h.list_is h.fit h.inside h.above h.number_is (omega (arith, h.within)) (healed_sizes leaf_content (half_of most) most mid new path indices path' indices' 0 size l.before n l.entries l.after l.rest h)
+        (λ i. omega (arith, counts i l.before n l.entries l.after l.rest mid.chain, counts i h.before' h.number' h.entries' h.after' h.rest' new.chain, ap (λ z. count i z) h.row_numbers, h.rest_numbers i)) h.frees h.same_top
 
     -- and the path stands at the place
     pub healed_stands : (size1 : ℕ) → size1 ≡ size → Stands path' indices' size1 (record { leaves = h.before' ++ node h.number' h.entries' ∷ h.after'; above = h.rest' }) place
@@ -165,64 +151,37 @@ module _ {K V : Type 0} (most : ℕ) (old mid : Table K V) (path indices : List 
           size_is = omega (arith, h.above.height, size_is);
         }
 
-  module _ (mid2 : Table K V) (path1 indices1 : List ℕ) (j : Joined leaf_content (half_of most) most mid mid2 path indices path1 indices1 0 size l.before (get_or path 0 0) l.entries l.after l.rest) where
-    -- the neighbour is not empty
-    joined_more : 0 < length j.right_entries
-    joined_more =
+  module _ (mid2 new : Table K V) (path1 indices1 path' indices' freed : List ℕ) (j : Joined leaf_content (half_of most) most mid mid2 path indices path1 indices1 0 size l.before (get_or path 0 0) l.entries l.after l.rest)
+      (r : Rebuilt mid2 new path1 indices1 path' indices' 1 size l.rest (heads l.before ++ (j.first.0, j.right) ∷ heads j.after') (length (heads l.before)) (loss_above (Some (length (heads l.before))) (map sizes l.rest)) freed) where
+    number_is : get_or path' 0 0 ≡ j.right
+    number_is = r.nodes_below 0 (omega arith) ∙ j.number_is
+
+    -- the leaf went into its neighbour, and the rows above lost its entry
+    pub joined_untrimmed : Untrimmed most old new tree place (l.before ++ node j.right (l.entries ++ j.right_entries) ∷ j.after') r.rows' (freed ++ get_or path 0 0 ∷ [])
+    joined_untrimmed =
+        let n = get_or path 0 0 in
+        settled new path' indices' l.before j.right (l.entries ++ j.right_entries) j.after' r.rows' (freed ++ n ∷ [])
+        (joined_flat leaf_content (half_of most) most mid mid2 new path indices path1 indices1 path' indices' 0 size l.before n l.entries l.after l.rest freed j r l.apart) j.fit
+        (joined_inside leaf_content (half_of most) most mid mid2 new path indices path1 indices1 path' indices' 0 size l.before n l.entries l.after l.rest freed j r l.apart)
+        (joined_above leaf_content (half_of most) most mid mid2 new path indices path1 indices1 path' indices' 0 size l.before n l.entries l.after l.rest freed j r l.apart) number_is (omega (arith, l.some, length-append l.entries j.right_entries))
+        (joined_sizes leaf_content (half_of most) most mid mid2 new path indices path1 indices1 path' indices' 0 size l.before n l.entries l.after l.rest freed j r l.apart full)
+        (joined_numbers leaf_content (half_of most) most mid mid2 new path indices path1 indices1 path' indices' 0 size l.before n l.entries l.after l.rest freed j r l.apart)
+        (joined_frees leaf_content (half_of most) most mid mid2 new path indices path1 indices1 path' indices' 0 size l.before n l.entries l.after l.rest freed j r l.apart) (r.same_top ∙ j.same_top)
+
+    -- and the path stands at the place, in what is left of the rows
+    pub joined_stands : (new2 : Table K V) (size1 size2 root root' : ℕ) (gone : List ℕ) → (t : Trimmed new new2 size1 size2 r.rows' (heads (l.before ++ node j.right (l.entries ++ j.right_entries) ∷ j.after')) root root' gone) →
+        Stands path' indices' size2 (record { leaves = l.before ++ node j.right (l.entries ++ j.right_entries) ∷ j.after'; above = t.rows' }) place
+    joined_stands new2 size1 size2 root root' gone t =
+        let both : List (K × V) = l.entries ++ j.right_entries in
+        let row2 : List (LevelNode K V) = l.before ++ node j.right both ∷ j.after' in
+        let entry_is : get_or indices' 0 0 ≡ get_or indices 0 0 = r.entries_below 0 (omega arith) ∙ j.entry_is in
         let fits : FitRow (half_of most) most (node j.right j.right_entries ∷ j.after') = subst (λ (z : List (LevelNode K V)). FitRow (half_of most) most z) j.after_is l.fits in
-        omega (arith, fits.0, least-pos (half_of most) half j.after')
-
-    module _ (new : Table K V) (path' indices' freed : List ℕ)
-        (r : Rebuilt mid2 new path1 indices1 path' indices' 1 size l.rest (heads l.before ++ (j.first.0, j.right) ∷ heads j.after') (length (heads l.before)) (loss_above (Some (length (heads l.before))) (map sizes l.rest)) freed) where
-      -- the leaf went into its neighbour, and the rows above lost its entry
-      pub joined_untrimmed : Untrimmed most old new tree place (l.before ++ node j.right (l.entries ++ j.right_entries) ∷ j.after') r.rows' (freed ++ get_or path 0 0 ∷ [])
-      joined_untrimmed =
-          let n = get_or path 0 0 in
-          let row : List (LevelNode K V) = l.before ++ node n l.entries ∷ l.after in
-          let both : List (K × V) = l.entries ++ j.right_entries in
-          let row2 : List (LevelNode K V) = l.before ++ node j.right both ∷ j.after' in
-          let some : 1 ≤ length both = omega (arith, l.some, length-append l.entries j.right_entries) in
-          let flats : flat row2 ≡ flat row = flat-append l.before (node j.right both ∷ j.after') ∙ ap (λ z. flat l.before ++ z) (append_assoc l.entries j.right_entries (flat j.after')) ∙ sym (flat-append l.before (node n l.entries ∷ node j.right j.right_entries ∷ j.after')) ∙ ap (λ z. flat (l.before ++ node n l.entries ∷ z)) (sym j.after_is) in
-          let hs2 : heads l.before ++ (j.first.0, j.right) ∷ heads j.after' ≡ heads row2 = sym (heads-append l.before (node j.right both ∷ j.after') ∙ ap (λ z. heads l.before ++ (head_of j.right (z ++ j.right_entries) ++ heads j.after')) j.entries_are) in
-          let l2 = lost ∙ ap (λ z. (placed (length l.before) z.0, sizes l.before ++ z.1)) j.outcome in
-          let c0 = λ (m : ℕ). ap (λ z. count m (n ∷ numbers z)) j.after_is in
-          let c1 = λ (m : ℕ). counts m l.before n l.entries l.after l.rest mid.chain in
-          let c2 = λ (m : ℕ). counts m l.before j.right both j.after' r.rows' new.chain in
-          let c10 = λ (m : ℕ). count-append m freed (n ∷ []) in
-          let stacked : Stacked (heads row2) r.rows' = subst (λ (z : List (K × ℕ)). Stacked z r.rows') hs2 r.above.stacked in
-          let number_is : get_or path' 0 0 ≡ j.right = r.nodes_below 0 (omega arith) ∙ j.number_is in
-          let st = r.above.stands in
-          record {
-            flat_is = flats ∙ l.flat_is;
-            sizes_are = ap (λ z. z ∷ map sizes r.rows') (sizes-append l.before (node j.right both ∷ j.after')) ∙ ap (λ z. (sizes l.before ++ length both ∷ sizes j.after') ∷ z) (r.sizes_are ∙ ap (λ z. loss_above (Some z) (map sizes l.rest)) full ∙ ap (λ z. loss_above (Some (length l.before)) z) l.rest_sizes)
-                ∙ sym (ap (λ z. z.1 ∷ loss_above z.0 (map sizes tree.above)) l2);
-            half = half;
-            leaves_fit = j.fit;
-            leaves_in = row-same leaf_content mid2.nodes new.nodes row2 (λ m more. r.frees.others m (omega (arith, more, l.apart m, c0 m, c1 m, c2 m))) j.inside;
-            some = omega (arith, ap length (flat-append l.before (node j.right both ∷ j.after')), length-append (flat l.before) (both ++ flat j.after'), length-append both (flat j.after'), some);
-            stacked = stacked;
-            rows_in = r.above.inside;
-            height = omega (arith, r.above.height, s.stands.size_is);
-            numbers_are = λ m. omega (arith, l.numbers_are m, r.numbers_are m, c0 m, c1 m, c2 m, c10 m);
-            root_is = top_tree row2 r.rows' path' indices' size (length l.before) l.before both j.after' (ap (λ z. l.before ++ node z both ∷ j.after') (sym number_is)) some stacked (rw full at st) (omega (arith, r.above.height)) ∙ r.same_top ∙ j.same_top ∙ sym (root-stands most tree path indices size place s.fit s.stands);
-            frees = frees-joined old mid mid2 new (numbers_of tree) (numbers row) (flat_map numbers l.rest) n freed (λ m none. (omega (arith, none, l.numbers_are m, c1 m), omega (arith, none, l.numbers_are m, c1 m)))
-                (omega (arith, l.apart n, c1 n, count-same n (numbers l.after))) l.frees j.frees r.frees;
-          }
-
-      -- and the path stands at the place, in what is left of the rows
-      pub joined_stands : (new2 : Table K V) (path2 indices2 : List ℕ) (size1 size2 root root' : ℕ) (gone : List ℕ) → (t : Trimmed new new2 size1 size2 r.rows' (heads (l.before ++ node j.right (l.entries ++ j.right_entries) ∷ j.after')) root root' gone) → path2 ≡ path' → indices2 ≡ indices' →
-          Stands path2 indices2 size2 (record { leaves = l.before ++ node j.right (l.entries ++ j.right_entries) ∷ j.after'; above = t.rows' }) place
-      joined_stands new2 path2 indices2 size1 size2 root root' gone t path_is indices_is =
-          let both : List (K × V) = l.entries ++ j.right_entries in
-          let row2 : List (LevelNode K V) = l.before ++ node j.right both ∷ j.after' in
-          let number_is : get_or path2 0 0 ≡ j.right = ap (λ z. get_or z 0 0) path_is ∙ r.nodes_below 0 (omega arith) ∙ j.number_is in
-          let entry_is : get_or indices2 0 0 ≡ get_or indices 0 0 = ap (λ z. get_or z 0 0) indices_is ∙ r.entries_below 0 (omega arith) ∙ j.entry_is in
-          let st : StandsAbove path' indices' 1 (t.rows' ++ t.discarded) (length (heads l.before)) = subst (λ (z : List (List (LevelNode K ℕ))). StandsAbove path' indices' 1 z (length (heads l.before))) t.rows_are r.above.stands in
-          let low : length (heads l.before) < length (heads row2) = omega (arith, full, ap length (heads-append l.before (node j.right both ∷ j.after')), length-append (heads l.before) (head_of j.right both ++ heads j.after'), ap (λ z. length (head_of j.right (z ++ j.right_entries) ++ heads j.after')) j.entries_are) in
-          let below = stands-below path' indices' 1 (heads row2) t.rows' t.discarded (length (heads l.before)) low t.stacked st in
-          let below2 : StandsAbove path2 indices2 1 t.rows' (length (heads l.before)) = subst (λ (z : List ℕ). StandsAbove z indices2 1 t.rows' (length (heads l.before))) (sym path_is) (subst (λ (z : List ℕ). StandsAbove path' z 1 t.rows' (length (heads l.before))) (sym indices_is) below) in
-          record {
-            leaf = record { before = l.before; entries = both; after = j.after'; row_is = ap (λ z. l.before ++ node z both ∷ j.after') (sym number_is); within = omega (arith, entry_is, l.entry_was, length-append l.entries j.right_entries, joined_more); place_is = omega (arith, l.place_is, entry_is) };
-            above = rw full at below2;
-            size_is = sym t.size_is;
-          }
+        let st : StandsAbove path' indices' 1 (t.rows' ++ t.discarded) (length (heads l.before)) = subst (λ (z : List (List (LevelNode K ℕ))). StandsAbove path' indices' 1 z (length (heads l.before))) t.rows_are r.above.stands in
+        let low : length (heads l.before) < length (heads row2) = omega (arith, full, ap length (heads-append l.before (node j.right both ∷ j.after')), length-append (heads l.before) (head_of j.right both ++ heads j.after'), ap (λ z. length (head_of j.right (z ++ j.right_entries) ++ heads j.after')) j.entries_are) in
+        let below = stands-below path' indices' 1 (heads row2) t.rows' t.discarded (length (heads l.before)) low t.stacked st in
+        let more : 0 < length j.right_entries = omega (arith, fits.0, least-pos (half_of most) half j.after') in
+        record {
+          leaf = record { before = l.before; entries = both; after = j.after'; row_is = ap (λ z. l.before ++ node z both ∷ j.after') (sym number_is); within = omega (arith, entry_is, l.entry_was, length-append l.entries j.right_entries, more); place_is = omega (arith, l.place_is, entry_is) };
+          above = rw full at below;
+          size_is = sym t.size_is;
+        }

@@ -1,6 +1,6 @@
 -- The leaf where a path stands, as the code reads it, and its entry taken out: the answers of `remove`, `remove_only` and `take_entry` are these.
-use Rattle.std.proofs.Common.{◌≡◌, ◌≢◌, ℕ, suc, ◌≤◌, ◌<◌, Some, List, [], ◌∷◌, ◌++◌, map, length, get_or, slice_get, refl, sym, ap, ◌∙◌, subst, length-append, arith}
-use Rattle.bforest_core.proofs.Words.{get_or_default, Content, Leaf, entry_count, without_entry, Table, IsUsed, with_node, LevelNode, node, heads, head_of, sizes, Tree, leaf_content, entry_keys, entry_items, Above, Rebuilt, StandsIn}
+use Rattle.std.proofs.Common.{◌≡◌, ◌≢◌, ℕ, suc, ◌≤◌, ◌<◌, Some, List, [], ◌∷◌, ◌++◌, map, length, get_or, slice_get, sym, ap, ◌∙◌, subst, length-append, arith}
+use Rattle.bforest_core.proofs.Words.{nil_from_length, get_or_default, Content, Leaf, entry_count, without_entry, Table, IsUsed, with_node, LevelNode, node, heads, head_of, sizes, Tree, leaf_content, entry_keys, entry_items, Above, Rebuilt, StandsIn}
 use Rattle.bforest_core.proofs.Words.{LeafLoss}
 use Rattle.bforest_core.proofs.table.Stored.{some_same}
 use Rattle.bforest_core.proofs.table.Tables.{is_used, Puts, puts}
@@ -8,11 +8,6 @@ use Rattle.bforest_core.proofs.removal.Asked.{NodeAt}
 use Rattle.bforest_core.proofs.rows.LevelRows.{heads-append}
 use Rattle.bforest_core.proofs.removal.Lifted.{above_written, rebuilt_same}
 use Rattle.bforest_core.proofs.removal.LeafLoss.{leaf_keys, leaf_count, some_first, without_entry_is, LeafAt, leaf_at, leaf_loss}
-use Rattle.bforest_core.proofs.removal.Removal.{one_slot, more_slot}
-
-no_entries : {A : Type 0} (es : List A) → length es ≤ 0 → es ≡ []
-no_entries [] low = refl
-no_entries (e ∷ es) low = absurd (omega (arith, low))
 
 module _ {K V : Type 0} where
   -- a leaf with a key of this index
@@ -40,13 +35,21 @@ module _ {K V : Type 0} where
       count_is : m ≡ length es
       count_is = value (leaf_content es) slot ∙ leaf_keys es
 
+      first : (x : K × V) × (more : List (K × V)) × (es ≡ x ∷ more)
+      first = some_first es (omega (arith, length-append d.l (d.x ∷ d.r)))
+
       -- the leaf has no other entry
       pub single : m ≡ 1 → (x : K × V) × (slice_get t.nodes (get_or path 0 0) ≡ Some (leaf_content (x ∷ [])))
-      single one = one_slot es (slice_get t.nodes (get_or path 0 0)) (omega (arith, count_is, one)) d.slot_is
+      single one =
+          let h = first in
+          (h.0, d.slot_is ∙ ap (λ z. Some (leaf_content z)) (h.2 ∙ ap (λ z. h.0 ∷ z) (nil_from_length h.1 (omega (arith, count_is, one, ap length h.2)))))
 
       -- or it has one
       pub others : m ≢ 1 → (x y : K × V) × (rest : List (K × V)) × (slice_get t.nodes (get_or path 0 0) ≡ Some (leaf_content (x ∷ y ∷ rest)))
-      others more = more_slot es (slice_get t.nodes (get_or path 0 0)) (omega (arith, length-append d.l (d.x ∷ d.r))) (λ (one : length es ≡ 1). more (count_is ∙ one)) d.slot_is
+      others more =
+          let h = first in
+          let k = some_first h.1 (omega (arith, more, count_is, ap length h.2)) in
+          (h.0, k.0, k.1, d.slot_is ∙ ap (λ z. Some (leaf_content z)) (h.2 ∙ ap (λ z. h.0 ∷ z) k.2))
 
       -- as many as are left, and one
       pub left_is : (u : Table K V) (l : LeafLoss most t u path indices size tree place) → m ≡ suc (length l.entries)
@@ -59,10 +62,10 @@ module _ {K V : Type 0} where
       (entry_keys es, entry_items es, slot, omega (arith, leaf_keys es, d.index_is, length-append d.l (d.x ∷ d.r))),
     )
 
-    module _ (u : Table K V) (x y : K × V) (rest : List (K × V)) (has : slice_get t.nodes (get_or path 0 0) ≡ Some (leaf_content (x ∷ y ∷ rest)))
+    module _ (u : Table K V) (has : (x y : K × V) × (rest : List (K × V)) × (slice_get t.nodes (get_or path 0 0) ≡ Some (leaf_content (x ∷ y ∷ rest))))
         (takes : (keys : List K) (vals : List V) → slice_get t.nodes (get_or path 0 r) ≡ Some (Leaf keys vals) → u ≡ with_node t (get_or path 0 r) (without_entry (Leaf keys vals) (get_or indices 0 0))) where
       more : 1 ≤ length (d.l ++ d.r)
-      more = omega (arith, leaf_count es (x ∷ y ∷ rest) (slice_get t.nodes (get_or path 0 0)) d.slot_is has, length-append d.l (d.x ∷ d.r), length-append d.l d.r)
+      more = omega (arith, leaf_count es (has.0 ∷ has.1 ∷ has.2) (slice_get t.nodes (get_or path 0 0)) d.slot_is has.3, length-append d.l (d.x ∷ d.r), length-append d.l d.r)
 
       w : Puts t u (get_or path 0 0) (leaf_content (d.l ++ d.r))
       w =
@@ -92,7 +95,7 @@ module _ {K V : Type 0} where
 
         above : Above u path indices 1 size tree.above (heads d.before ++ (d.x.0, get_or path 0 0) ∷ heads d.after) (length (heads d.before))
         above =
-            let none = no_entries d.l (omega (arith, first, d.index_is)) in
+            let none = nil_from_length d.l (omega (arith, first, d.index_is)) in
             above_then d.x.0 (λ rs. ap (λ z. head_of (get_or path 0 0) (z ++ d.x ∷ rs)) none)
 
         slot_then : slice_get u.nodes (get_or path 0 r) ≡ Some (leaf_content (next.0 ∷ next.1))

@@ -1,7 +1,7 @@
 use Rattle.std.proofs.Common.{rules, ◌+◌, ◌-◌, ◌<◌, suc, ◌∷◌, ◌++◌, length, get_or, arith, add-one, ◌∙◌}
-use Rattle.bforest_core.specs.Levels.{heads}
+use Rattle.bforest_core.proofs.Words.{heads, inner_content}
 use Rattle.bforest_core.proofs.removal.Asked.{merge_low}
-use Rattle.bforest_core.proofs.removal.Merge.{merge_healed, merge_again}
+use Rattle.bforest_core.proofs.removal.Merge.{merge_asks, merge_healed, merge_joined}
 use Rattle.bforest_core.proofs.path.Path.+merge_above.Goals as goal
 
 pub merge_above-requires : goal.merge_above-requires
@@ -10,28 +10,9 @@ merge_above-requires g t c κs within =
     let l = c.remove_merged.ensures w.0 w.1 w.2 w.3 w.4 w.5 w.6 w.7 in
     let j = c.rebalance_inner.ensures.joined c.if-rebalance_inner.true l.before _ l.entries l.after l.rest l.on_level in
     let less : c.rebalance_inner.new.self.size - (c.args.up + 1) < t = omega (arith, c.decreases, merge_low _ _ _ _ _ w, c.rebalance_inner.ensures.size) in
-    let size = c.rebalance_inner.ensures.size in (
-      less,
-      (
-        within.0,
-        (
-          within.1,
-          (
-            (λ a m. search rules),
-            (
-              search rules,
-              (
-                search rules,
-                (
-                  omega (arith, c.requires.height, size),
-                  (l.rest, heads l.before, j.first.0, get_or c.args.self.now.node c.args.up 0, j.key, j.right, heads j.after', rw (add-one, size) j.above),
-                ),
-              ),
-            ),
-          ),
-        ),
-      ),
-    )
+    let size = c.rebalance_inner.ensures.size in
+    let asked = merge_asks inner_content 4 8 _ _ _ _ _ _ _ _ l.before _ l.entries l.after l.rest j (c.args.up + 1) _ (add-one c.args.up) size in
+    (less, (within.0, (within.1, ((λ a m. search rules), (search rules, (search rules, (omega (arith, c.requires.height, size), asked)))))))
 
 pub returns-then-rebalance_inner-clause-merged : goal.returns-then-rebalance_inner-clause-merged
 returns-then-rebalance_inner-clause-merged g t c = λ rows a k m k2 n b p.
@@ -39,7 +20,7 @@ returns-then-rebalance_inner-clause-merged g t c = λ rows a k m k2 n b p.
     let j = c.rebalance_inner.ensures.joined c.if-rebalance_inner.true l.before _ l.entries l.after l.rest l.on_level in
     let size = c.rebalance_inner.ensures.size in
     let r = c.merge_above.ensures.merged l.rest (heads l.before) j.first.0 (get_or c.args.self.now.node c.args.up 0) j.key j.right (heads j.after') (rw (add-one, size) j.above) in
-    (suc r.0, merge_again _ _ _ _ _ _ _ _ _ _ _ _ _ _ rows (a ++ (k, n) ∷ b) (length a) l j (omega arith) size r.0 r.1)
+    (suc r.0, merge_joined _ _ _ _ _ _ _ _ _ rows (a ++ (k, n) ∷ b) (length a) l _ _ _ _ _ j (omega arith) size r.0 r.1)
 
 pub returns-else-rebalance_inner-clause-merged : goal.returns-else-rebalance_inner-clause-merged
 returns-else-rebalance_inner-clause-merged g t c = λ rows a k m k2 n b p.

@@ -1,6 +1,6 @@
 use Rattle.std.proofs.Common.{rules, ◌+◌, arith, add-one}
 use Rattle.bforest_core.proofs.removal.Asked.{last_low}
-use Rattle.bforest_core.proofs.removal.RemovingEmptied.{node_asks, used_is, child_asks, drop_fewer, keeps, above_asks, empties}
+use Rattle.bforest_core.proofs.removal.RemovingEmptied.{here, drop_fewer, keeps, above_asks, empties}
 use Rattle.bforest_core.proofs.path.Path.+remove_emptied.Goals as goal
 
 pub bounds-self-up : goal.bounds-self-up
@@ -21,12 +21,12 @@ overflow_add-up g t c = omega (arith, last_low _ _ _ _ _ c.requires.pending)
 pub entries-requires : goal.entries-requires
 entries-requires g t c =
     let w = c.requires.pending in
-    (search rules, node_asks _ _ _ _ _ w.0 w.1 w.2 w.3 w.4 c.index-self-up.result (omega arith) c.requires.height)
+    (search rules, (here _ _ _ _ _ w.0 w.1 w.2 w.3 w.4 c.index-self-up.result (omega arith) c.requires.height).node_asks)
 
 pub free_node-requires : goal.free_node-requires
 free_node-requires g t c =
     let w = c.requires.pending in
-    (search rules, used_is _ _ _ _ _ w.0 w.1 w.2 w.3 w.4 c.index-self-up.result (omega arith) c.requires.height)
+    (search rules, (here _ _ _ _ _ w.0 w.1 w.2 w.3 w.4 c.index-self-up.result (omega arith) c.requires.height).used)
 
 pub remove_emptied-requires : goal.remove_emptied-requires
 remove_emptied-requires g t c κs within =
@@ -38,7 +38,8 @@ remove_emptied-requires g t c κs within =
 pub remove_child-answer-requires : goal.remove_child-answer-requires
 remove_child-answer-requires g t c =
     let w = c.requires.pending in
-    (search rules, child_asks _ _ _ _ _ w.0 w.1 w.2 w.3 w.4 c.index-self-up.result (omega arith) c.requires.height)
+    let s = here _ _ _ _ _ w.0 w.1 w.2 w.3 w.4 c.index-self-up.result (omega arith) c.requires.height in
+    (search rules, (s.used, s.child_asks))
 
 pub returns-then-entries-eq1 : goal.returns-then-entries-eq1
 returns-then-entries-eq1 g t c = λ rows a y x p.

@@ -1,29 +1,29 @@
 use Rattle.std.proofs.Common.{rules, arith}
 use Rattle.bforest_core.proofs.removal.Asked.{two_low}
-use Rattle.bforest_core.proofs.removal.Separating.{index_low, above_fewer, counted_asks, set_asks, same_parent, above_asks, next_parent}
+use Rattle.bforest_core.proofs.removal.Separating.{here, above_fewer, same_parent, above_asks, next_parent}
 use Rattle.bforest_core.proofs.path.Path.+update_next_separator.Goals as goal
 
 pub overflow_add-index : goal.overflow_add-index
 overflow_add-index g t c =
     let w = c.requires.pending in
-    let small = index_low _ _ _ _ _ w.0 w.1 w.2 w.3 w.4 w.5 w.6 in
-    omega (arith, small)
+    omega (arith, (here _ _ _ _ _ w.0 w.1 w.2 w.3 w.4 w.5 w.6 c.index-self-up.result (omega arith) c.requires.height).small)
 
 pub entries-requires : goal.entries-requires
 entries-requires g t c =
     let w = c.requires.pending in
-    (search rules, counted_asks _ _ _ _ _ w.0 w.1 w.2 w.3 w.4 w.5 w.6 c.index-self-up.result (omega arith) c.requires.height)
+    (search rules, (here _ _ _ _ _ w.0 w.1 w.2 w.3 w.4 w.5 w.6 c.index-self-up.result (omega arith) c.requires.height).node_asks)
 
 pub set_separator-requires : goal.set_separator-requires
 set_separator-requires g t c =
     let w = c.requires.pending in
-    (search rules, set_asks _ _ _ _ _ w.0 w.1 w.2 w.3 w.4 w.5 w.6 c.index-self-up.result (omega arith) c.requires.height c.entries.result c.entries.ensures.value c.if-index-entries.true)
+    let s = here _ _ _ _ _ w.0 w.1 w.2 w.3 w.4 w.5 w.6 c.index-self-up.result (omega arith) c.requires.height in
+    (search rules, (s.used, s.key_asks _ _ c.entries.ensures.value c.if-index-entries.true))
 
 pub update_next_separator-requires : goal.update_next_separator-requires
 update_next_separator-requires g t c κs within =
     let w = c.requires.pending in
     let d = above_asks _ _ _ _ _ w.0 w.1 w.2 w.3 w.4 w.5 w.6 c.index-self-up.result (omega arith) c.requires.height c.entries.result c.entries.ensures.value c.if-index-entries.false in
-    let falls = above_fewer _ _ _ _ _ w.0 w.1 w.2 w.3 w.4 w.5 w.6 t c.decreases in
+    let falls = above_fewer _ _ _ _ _ w.0 w.1 w.2 w.3 w.4 w.5 w.6 c.index-self-up.result (omega arith) c.requires.height t c.decreases in
     (falls, (within.0, (within.1, ((λ a' m'. search rules), (search rules, (search rules, (c.requires.height, d)))))))
 
 pub returns-then-index-entries : goal.returns-then-index-entries

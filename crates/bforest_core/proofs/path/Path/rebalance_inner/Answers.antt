@@ -19,7 +19,7 @@ enter_next-requires g c =
 
 pub returns-then-self-level-clause-healed : goal.returns-then-self-level-clause-healed
 returns-then-self-level-clause-healed g c = λ same before n es after rest p.
-    past_heals inner_content 4 8 _ half_inner (inner_stored g.row.N) _ _ _ _ _ _ c.index-self-level.result (add-one c.args.level) (omega arith) c.requires.height before n es after rest p _ _ c.entries-left.result c.entries-left.ensures.value c.if-left-ge-MIN_CHILDREN.true c.if-self-level.true
+    past_heals inner_content 4 8 _ half_inner (inner_stored g.row.N) _ _ _ _ _ _ c.index-self-level.result (add-one c.args.level) (omega arith) c.requires.height before n es after rest p c.entries-left.result c.entries-left.ensures.value c.if-self-level.true _ _ c.if-left-ge-MIN_CHILDREN.true
     c.enter_next.ensures.moved c.enter_next.ensures.first c.enter_next.ensures.nodes_below c.enter_next.ensures.entries_below c.enter_next.ensures.same_top
 
 pub returns-else-self-level-clause-healed : goal.returns-else-self-level-clause-healed
@@ -38,25 +38,17 @@ balance_nodes-requires g c =
 
 pub update_next_separator-requires : goal.update_next_separator-requires
 update_next_separator-requires g c =
-    let w = c.requires.pending in (
-      search rules,
-      (
-        search rules,
-        (
-          c.requires.height,
-          rekey_asks inner_content 4 8 _ half_inner (inner_stored g.row.N) _ _ _ _ _ _ c.index-self-level.result (add-one c.args.level) (omega arith) c.requires.height w.0 w.1 w.2 w.3 w.4 w.5 c.entries-left.result c.entries-left.ensures.value c.if-left-ge-MIN_CHILDREN.false _ _ c.in-Some.is c.right_sibling.ensures
-              c.balance_nodes.new.self _ c.balance_nodes.ensures.balanced _ c.in-Some-balance_nodes.is,
-        ),
-      ),
-    )
+    let w = c.requires.pending in
+    let asked = rekey_asks inner_content 4 8 _ half_inner (inner_stored g.row.N) _ _ _ _ _ _ c.index-self-level.result (add-one c.args.level) (omega arith) c.requires.height w.0 w.1 w.2 w.3 w.4 w.5 c.entries-left.result c.entries-left.ensures.value c.if-left-ge-MIN_CHILDREN.false _ _ c.in-Some.is c.right_sibling.ensures
+        c.balance_nodes.new.self _ c.balance_nodes.ensures.balanced _ c.in-Some-balance_nodes.is in
+    (search rules, (search rules, (c.requires.height, asked)))
 
 pub free_node-requires : goal.free_node-requires
 free_node-requires g c =
-    let w = c.requires.pending in (
-      search rules,
-      free_asks inner_content 4 8 _ half_inner (inner_stored g.row.N) _ _ _ _ _ _ c.index-self-level.result (add-one c.args.level) (omega arith) c.requires.height w.0 w.1 w.2 w.3 w.4 w.5 c.entries-left.result c.entries-left.ensures.value c.if-left-ge-MIN_CHILDREN.false _ _ c.in-Some.is c.right_sibling.ensures
-          c.balance_nodes.new.self _ c.balance_nodes.ensures.balanced c.in-None-balance_nodes.is,
-    )
+    let w = c.requires.pending in
+    let asked = free_asks inner_content 4 8 _ half_inner (inner_stored g.row.N) _ _ _ _ _ _ c.index-self-level.result (add-one c.args.level) (omega arith) c.requires.height w.0 w.1 w.2 w.3 w.4 w.5 c.entries-left.result c.entries-left.ensures.value c.if-left-ge-MIN_CHILDREN.false _ _ c.in-Some.is c.right_sibling.ensures
+        c.balance_nodes.new.self _ c.balance_nodes.ensures.balanced c.in-None-balance_nodes.is in
+    (search rules, asked)
 
 pub returns-in-None-clause-healed : goal.returns-in-None-clause-healed
 returns-in-None-clause-healed g c = λ same before n es after rest p.

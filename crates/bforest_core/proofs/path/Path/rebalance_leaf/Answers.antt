@@ -25,7 +25,7 @@ enter_next-requires g c =
 
 pub returns-then-self-left-clause-healed : goal.returns-then-self-left-clause-healed
 returns-then-self-left-clause-healed g c = λ same before n es after rest p.
-    past_heals leaf_content _ _ _ (half_leaf _ c.requires.capacity) (leaf_stored g.row.N) _ _ _ _ _ _ c.index-self-0.result refl (omega arith) c.requires.height before n es after rest p _ _ c.entries-left.result c.entries-left.ensures.value (over_half _ _ c.requires.capacity c.if-left.true) c.if-self-left.true
+    past_heals leaf_content _ _ _ (half_leaf _ c.requires.capacity) (leaf_stored g.row.N) _ _ _ _ _ _ c.index-self-0.result refl (omega arith) c.requires.height before n es after rest p c.entries-left.result c.entries-left.ensures.value c.if-self-left.true _ _ (over_half _ _ c.requires.capacity c.if-left.true)
     c.enter_next.ensures.moved c.enter_next.ensures.first c.enter_next.ensures.nodes_below c.enter_next.ensures.entries_below c.enter_next.ensures.same_top
 
 pub returns-else-self-left-clause-healed : goal.returns-else-self-left-clause-healed
@@ -44,25 +44,17 @@ balance_nodes-requires g c =
 
 pub update_next_separator-requires : goal.update_next_separator-requires
 update_next_separator-requires g c =
-    let w = c.requires.pending in (
-      search rules,
-      (
-        search rules,
-        (
-          c.requires.height,
-          rekey_asks leaf_content _ _ _ (half_leaf _ c.requires.capacity) (leaf_stored g.row.N) _ _ _ _ _ _ c.index-self-0.result refl (omega arith) c.requires.height w.0 w.1 w.2 w.3 w.4 w.5 c.entries-left.result c.entries-left.ensures.value (under_half _ _ c.requires.capacity c.if-left.false) _ _ c.in-Some.is c.right_sibling.ensures
-              c.balance_nodes.new.self _ c.balance_nodes.ensures.balanced _ c.in-Some-balance_nodes.is,
-        ),
-      ),
-    )
+    let w = c.requires.pending in
+    let asked = rekey_asks leaf_content _ _ _ (half_leaf _ c.requires.capacity) (leaf_stored g.row.N) _ _ _ _ _ _ c.index-self-0.result refl (omega arith) c.requires.height w.0 w.1 w.2 w.3 w.4 w.5 c.entries-left.result c.entries-left.ensures.value (under_half _ _ c.requires.capacity c.if-left.false) _ _ c.in-Some.is c.right_sibling.ensures
+        c.balance_nodes.new.self _ c.balance_nodes.ensures.balanced _ c.in-Some-balance_nodes.is in
+    (search rules, (search rules, (c.requires.height, asked)))
 
 pub free_node-requires : goal.free_node-requires
 free_node-requires g c =
-    let w = c.requires.pending in (
-      search rules,
-      free_asks leaf_content _ _ _ (half_leaf _ c.requires.capacity) (leaf_stored g.row.N) _ _ _ _ _ _ c.index-self-0.result refl (omega arith) c.requires.height w.0 w.1 w.2 w.3 w.4 w.5 c.entries-left.result c.entries-left.ensures.value (under_half _ _ c.requires.capacity c.if-left.false) _ _ c.in-Some.is c.right_sibling.ensures
-          c.balance_nodes.new.self _ c.balance_nodes.ensures.balanced c.in-None-balance_nodes.is,
-    )
+    let w = c.requires.pending in
+    let asked = free_asks leaf_content _ _ _ (half_leaf _ c.requires.capacity) (leaf_stored g.row.N) _ _ _ _ _ _ c.index-self-0.result refl (omega arith) c.requires.height w.0 w.1 w.2 w.3 w.4 w.5 c.entries-left.result c.entries-left.ensures.value (under_half _ _ c.requires.capacity c.if-left.false) _ _ c.in-Some.is c.right_sibling.ensures
+        c.balance_nodes.new.self _ c.balance_nodes.ensures.balanced c.in-None-balance_nodes.is in
+    (search rules, asked)
 
 pub returns-in-None-clause-healed : goal.returns-in-None-clause-healed
 returns-in-None-clause-healed g c = λ same before n es after rest p.

@@ -2,7 +2,7 @@ use Rattle.std.proofs.Common.{rules, ℕ, Some, sym, ◌∙◌, arith}
 use Rattle.bforest_core.proofs.Words.{IsPathAt, tree_of, StandsUnder}
 use Rattle.bforest_core.proofs.rows.Tops.{root-stands}
 use Rattle.bforest_core.proofs.removal.Taking.{counted_asks, single, others}
-use Rattle.bforest_core.proofs.removal.Removal.{stands_in, removal, Said, outcome, said, if_some}
+use Rattle.bforest_core.proofs.removal.Removal.{stands_in, removal, Said, outcome, if_some}
 use Rattle.bforest_core.proofs.path.Path.remove.Given.{Over}
 use Rattle.bforest_core.proofs.path.Path.remove.Goals as goal
 
@@ -39,17 +39,14 @@ leaf_said : (g : Over) (c : goal.After-remove_leaf g) (root place : ℕ) → Sta
 leaf_said g c root place u =
     let s = stands_in g.row.N c.args.pool.now root place _ _ _ c.requires.union u in
     let tree = tree_of c.args.pool.now.nodes root in
-    said _ _ _ _ root place _ c.remove_leaf.result
-    (outcome _ _ _ root place _ _ _ _ c.remove_leaf.result c.requires.union u (c.remove_leaf.ensures.removed tree place s) (λ none. c.remove_leaf.ensures.emptied none tree place s))
+    outcome _ _ _ root place _ _ _ _ c.requires.union u c.remove_leaf.result (c.remove_leaf.ensures.removed tree place s) (λ none. c.remove_leaf.ensures.emptied none tree place s)
 
 -- and that of an entry from a leaf that has others
 entry_said : (g : Over) (c : goal.After-remove_entry g) (root place : ℕ) → StandsUnder c.args.pool.now.nodes root c.args.self.now.node c.args.self.now.entry c.args.self.now.size place →
     Said g.row.N c.args.pool.now c.remove_entry.new.pool c.args.self.now.node root place (λ z. IsPathAt c.remove_entry.new.self.node c.remove_entry.new.self.entry c.remove_entry.new.self.size z place) (Some c.remove_entry.result)
 entry_said g c root place u =
     let s = stands_in g.row.N c.args.pool.now root place _ _ _ c.requires.union u in
-    let tree = tree_of c.args.pool.now.nodes root in
-    said _ _ _ _ root place _ (Some c.remove_entry.result)
-    (removal _ _ _ root place _ _ _ _ c.remove_entry.result c.requires.union u (c.remove_entry.ensures tree place s))
+    removal _ _ _ root place _ _ _ _ c.requires.union u c.remove_entry.result (c.remove_entry.ensures (tree_of c.args.pool.now.nodes root) place s)
 
 pub returns-then-entries-eq1-clause-removed : goal.returns-then-entries-eq1-clause-removed
 returns-then-entries-eq1-clause-removed g c = λ at. if_some _ _ c.remove_leaf.result (λ root' r. r.changes) (leaf_said g c at.root at.place at.on).some

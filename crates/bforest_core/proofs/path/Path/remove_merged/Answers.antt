@@ -1,6 +1,6 @@
 use Rattle.std.proofs.Common.{rules, ◌+◌, arith, add-one}
 use Rattle.bforest_core.proofs.removal.Asked.{merge_low}
-use Rattle.bforest_core.proofs.removal.RemovingMerged.{index_small, node_asks, key_asks, write_asks, remove_asks, same_parent, index_some, last_key_asks, rekey_asks, remove_last_asks, next_parent}
+use Rattle.bforest_core.proofs.removal.RemovingMerged.{here, key_asks, remove_asks, same_parent, index_some, last_key_asks, rekey_asks, remove_last_asks, next_parent}
 use Rattle.bforest_core.proofs.path.Path.remove_merged.Goals as goal
 
 pub bounds-self-up : goal.bounds-self-up
@@ -21,12 +21,12 @@ overflow_add-up g c = omega (arith, merge_low _ _ _ _ _ c.requires.pending)
 pub overflow_add-index : goal.overflow_add-index
 overflow_add-index g c =
     let w = c.requires.pending in
-    omega (arith, index_small _ _ _ _ _ w.0 w.1 w.2 w.3 w.4 w.5 w.6 w.7 c.index-self-up.result (omega arith) c.requires.height)
+    omega (arith, (here _ _ _ _ _ w.0 w.1 w.2 w.3 w.4 w.5 w.6 w.7 c.index-self-up.result (omega arith) c.requires.height).small)
 
 pub entries-requires : goal.entries-requires
 entries-requires g c =
     let w = c.requires.pending in
-    (search rules, node_asks _ _ _ _ _ w.0 w.1 w.2 w.3 w.4 w.5 w.6 w.7 c.index-self-up.result (omega arith) c.requires.height)
+    (search rules, (here _ _ _ _ _ w.0 w.1 w.2 w.3 w.4 w.5 w.6 w.7 c.index-self-up.result (omega arith) c.requires.height).node_asks)
 
 pub separator-key-requires : goal.separator-key-requires
 separator-key-requires g c =
@@ -36,7 +36,8 @@ separator-key-requires g c =
 pub set_separator-requires : goal.set_separator-requires
 set_separator-requires g c =
     let w = c.requires.pending in
-    (search rules, write_asks _ _ _ _ _ w.0 w.1 w.2 w.3 w.4 w.5 w.6 w.7 c.index-self-up.result (omega arith) c.requires.height c.entries.result c.entries.ensures.value c.if-index-entries.true)
+    let s = here _ _ _ _ _ w.0 w.1 w.2 w.3 w.4 w.5 w.6 w.7 c.index-self-up.result (omega arith) c.requires.height in
+    (search rules, (s.used, s.key_asks _ _ c.entries.ensures.value c.if-index-entries.true))
 
 pub remove_child-answer-requires : goal.remove_child-answer-requires
 remove_child-answer-requires g c =

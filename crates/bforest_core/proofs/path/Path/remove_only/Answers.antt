@@ -3,7 +3,7 @@ use Rattle.bforest_core.proofs.Words.{half_of, tree_of, StandsUnder}
 use Rattle.bforest_core.proofs.rows.Tops.{root-stands}
 use Rattle.bforest_core.proofs.removal.Taking.{counted_asks, others, left_is}
 use Rattle.bforest_core.proofs.removal.Removing.{kept_removed}
-use Rattle.bforest_core.proofs.removal.Removal.{stands_in, removal, Said, said}
+use Rattle.bforest_core.proofs.removal.Removal.{stands_in, removal, Said}
 use Rattle.bforest_core.proofs.path.Path.remove_only.Given.{Over}
 use Rattle.bforest_core.proofs.path.Path.remove_only.Goals as goal
 use Rattle.bforest_core.proofs.path.Path.remove_only.Goals.{After-root}
@@ -40,8 +40,7 @@ left g c root place u =
     let tree = tree_of c.args.pool.now.nodes root in
     let l = c.take_entry.ensures tree place s in
     let half : half_of g.row.N ≤ length l.entries = over_half g.row.N c.entries.result (length l.entries) c.if-entries.true (left_is _ _ _ _ _ tree place s c.index-self-0.result (omega arith) c.entries.result c.entries.ensures.value c.take_entry.new.pool l) in
-    said _ _ _ _ root place _ (Some c.root.result)
-    (removal _ _ _ root place _ _ _ _ c.root.result c.requires.union u (kept_removed _ _ c.take_entry.new.pool _ _ _ tree place s l c.root.result (root-stands g.row.N tree path _ _ place s.fit s.stands ∙ sym c.root.ensures) (λ z. Unit) (inl half) tt))
+    removal _ _ _ root place _ _ _ _ c.requires.union u c.root.result (kept_removed _ _ c.take_entry.new.pool _ _ _ tree place s l c.root.result (root-stands g.row.N tree path _ _ place s.fit s.stands ∙ sym c.root.ensures) (λ z. Unit) (inl half) tt)
 
 pub returns-then-entries-clause-removed : goal.returns-then-entries-clause-removed
 returns-then-entries-clause-removed g c = λ at. (left g c at.root at.place at.on).some.changes
