@@ -4,11 +4,12 @@ use Rattle.bforest_core.proofs.Words.{get_or_default, get_or-set_same, get_or-se
 use Rattle.bforest_core.proofs.Words.{inner_content, entry_items, Above, Grown, Halved}
 use Rattle.bforest_nodes.specs.declared.node.SplitOff.{SplitOff}
 use Rattle.bforest_core.proofs.table.Tables.{is_used, puts}
+use Rattle.bforest_core.proofs.rows.Bounds.{below_lt, above_lt}
 use Rattle.bforest_core.proofs.rows.LevelRows.{Solid-full}
 use Rattle.bforest_core.proofs.rows.Zipper.{Spot, spot}
 use Rattle.bforest_core.proofs.table.Stored.{item_count, key_count, with_child_is}
 use Rattle.bforest_core.proofs.insertion.Halving.{Split, full_is, inner_parts, counted, split_at, left_used, into_left, into_right}
-use Rattle.bforest_core.proofs.insertion.Grow.{head-grown, halves_left, halves_right, in_left, in_right}
+use Rattle.bforest_core.proofs.insertion.Grow.{head-grown, in_left, in_right}
 use Rattle.bforest_core.proofs.insertion.Room.{settle_room, step_is, step_most}
 use Rattle.bforest_core.proofs.insertion.Parted.{parted}
 use Rattle.bforest_core.proofs.insertion.Putting.{PutAsks, HasRoom, Puts, asks_put, put_fewer, put_in, put_past, put_kept}
@@ -82,7 +83,7 @@ module _ {K V : Type 0} where
             (d.q.l ++ x ∷ []) (d.q.l ++ x ∷ new ∷ []) d.q.r (sym (append_assoc d.q.l (x ∷ []) d.q.r)) (sym (append_assoc d.q.l (x ∷ new ∷ []) d.q.r)) (omega (arith, length-append d.q.l (x ∷ []), length-append d.q.l (x ∷ new ∷ []))) (omega (arith, length-append d.q.l (x ∷ []), d.q.entry_is, early, four)) (omega (arith, four)) (omega (arith, four, eight))
             (λ mid. ap (λ z. with_child (inner_content z) (get_or js up 0) key child) (append_assoc d.q.l (x ∷ []) mid) ∙ with_child_is V d.q.l x mid key child (get_or js up 0) d.q.entry_is ∙ ap inner_content (sym (append_assoc d.q.l (x ∷ new ∷ []) mid))) written in
             let j_is = get_or-set_same js up index 0 low_js ∙ index_is ∙ step_is moved (get_or js up 0) in
-            parted t u ms js ms (set js up index) up size rows a x new b parts.crit_key right (if moved then suc (length a) else length a) false 5 4 (omega arith, omega arith, omega arith, omega arith) (λ after. halves_left (get_or js up 0) 5 4 after early refl refl) d eight h
+            parted t u ms js ms (set js up index) up size rows a x new b parts.crit_key right (if moved then suc (length a) else length a) false 5 4 (omega arith, omega arith, omega arith, omega arith) (λ after. (let a = below_lt (get_or js up 0) 4 early in rw a refl)) d eight h
             (λ i other. refl) (λ i other. get_or-set_other js up i index 0 other) seen
             (in_left d.q.before d.q.after (get_or ms up 0) right (h.z ∷ h.xs) (h.y ∷ h.ys) (get_or (set js up index) up 0) (if moved then suc (length a) else length a) seen (omega (arith, j_is, step_most moved, h.left_is, early)) (step_is moved (length a) ∙ omega (arith, j_is, ap length d.q.a_is, length-append (flat d.q.before) d.q.l, d.q.entry_is)))
 
@@ -104,6 +105,6 @@ module _ {K V : Type 0} where
               λ rest. head-grown right mid x ((key, child) ∷ d.q.r) d.q.r ∙ ap (λ v. head_of right v) (sym rest) ∙ ap (λ v. (v, right) ∷ []) (sym cut.key_is),
             )) written in
             let j_is = get_or-set_same js up index 0 low_js ∙ index_is ∙ step_is moved (get_or js up 0 - 4) in
-            parted t u ms js (set ms up right) (set js up index) up size rows a x (key, child) b parts.crit_key right (if moved then suc (length a) else length a) true 4 5 (omega arith, omega arith, omega arith, omega arith) (λ after. halves_right (get_or js up 0) 4 5 after late refl refl) d eight h
+            parted t u ms js (set ms up right) (set js up index) up size rows a x (key, child) b parts.crit_key right (if moved then suc (length a) else length a) true 4 5 (omega arith, omega arith, omega arith, omega arith) (λ after. (let a = above_lt (get_or js up 0) 4 late in rw a refl)) d eight h
             (λ i other. get_or-set_other ms up i right 0 other) (λ i other. get_or-set_other js up i index 0 other) seen
             (in_right d.q.before d.q.after (get_or ms up 0) right (h.z ∷ h.xs) (h.y ∷ h.ys) (get_or (set ms up right) up 0) (get_or (set js up index) up 0) (if moved then suc (length a) else length a) seen (get_or-set_same ms up right 0 low) (omega (arith, j_is, step_most moved, h.right_is, index_small)) (step_is moved (length a) ∙ omega (arith, j_is, ap length d.q.a_is, length-append (flat d.q.before) d.q.l, d.q.entry_is, h.left_is, late)))

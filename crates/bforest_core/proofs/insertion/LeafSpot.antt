@@ -89,10 +89,10 @@ module _ {K V : Type 0} where
 
   -- the rows above, with the entry among those of its leaf
   pub renewed : (most : ℕ) (t : Table K V) (ms js : List ℕ) (size : ℕ) (tree : Tree K V) (place : ℕ) (entry : K × V) → 1 ≤ most → Placed most t ms js size tree place → (d : LeafSpot most t ms js tree place) →
-      Renewed t.nodes ms js tree.above (heads (d.before ++ node (get_or ms 0 0) (d.l ++ entry ∷ d.r) ∷ d.after))
+      Renewed t.nodes ms js 1 tree.above (heads (d.before ++ node (get_or ms 0 0) (d.l ++ entry ∷ d.r) ∷ d.after))
   renewed most t ms js size tree place entry one p d =
       let f = FitRow-split (half_of most) most d.before (node (get_or ms 0 0) (d.l ++ d.r)) d.after d.fit in
-      renew t.nodes ms js tree.above d.before (get_or ms 0 0) d.l entry d.r d.after d.first (omega (arith, f.1.0, least-pos (half_of most) (omega (arith, one)) d.after)) d.stacked d.topped p.inside.rows_in
+      renew t.nodes ms js 1 tree.above d.before (get_or ms 0 0) d.l entry d.r d.after d.first (omega (arith, f.1.0, least-pos (half_of most) (omega (arith, one)) d.after)) d.stacked d.topped p.inside.rows_in
 
   -- where the leaf has room
   pub room_gain : (most : ℕ) (t : Table K V) (ms js : List ℕ) (tree : Tree K V) (place : ℕ) → (d : LeafSpot most t ms js tree place) → length (d.l ++ d.r) < most → leaf_gain most place (sizes tree.leaves) ≡ (None, sizes d.before ++ suc (length (d.l ++ d.r)) ∷ sizes d.after)

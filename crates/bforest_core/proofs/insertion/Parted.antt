@@ -1,8 +1,8 @@
 -- A level of which one node was halved, and the path on it.
-use Rattle.std.proofs.Common.{◌≡◌, ℕ, suc, ◌+◌, ◌≤◌, ◌<◌, ◌≢◌, Bool, if◌then◌else◌, List, [], ◌∷◌, ◌++◌, length, get_or, nat_lt, Some, sym, ap, ◌∙◌, subst, append_assoc, length-append, arith}
+use Rattle.std.proofs.Common.{◌≡◌, ℕ, suc, ◌+◌, ◌≤◌, ◌≢◌, Bool, if◌then◌else◌, List, [], ◌∷◌, ◌++◌, length, get_or, nat_lt, Some, sym, ap, ◌∙◌, subst, append_assoc, length-append, arith}
 use Rattle.bforest_core.proofs.Words.{flat_map, Table, LevelNode, node, flat, head_of, heads, sizes, numbers, Stacked, inner_gain, inner_content, count, Halved}
 use Rattle.bforest_core.proofs.rows.LevelRows.{heads-append, sizes-append}
-use Rattle.bforest_core.proofs.table.Tables.{counts, count-append, count-same, row-halved, rows-same, ne_from_count}
+use Rattle.bforest_core.proofs.table.Tables.{counts, count-append, count-same, row-changed, rows-same, ne_from_count}
 use Rattle.bforest_core.proofs.rows.Zipper.{Spot, stands-same}
 use Rattle.bforest_core.proofs.insertion.Grow.{InHalf, flat-halved, FitRow-halved, gain_spot, gain_full, head-grown}
 use Rattle.bforest_core.proofs.insertion.Halving.{Halves}
@@ -26,7 +26,6 @@ module _ {K V : Type 0} where
       let same_right = count-same right u.chain in
       let none_right : count right (numbers q.before) + count right (numbers q.after) ≡ 0 = omega (arith, ab.apart right, c right, c4 right, same_right) in
       let none_right_rest : count right (flat_map numbers q.rest) ≡ 0 = omega (arith, ab.apart right, c right, c4 right, same_right) in
-      let low : length q.l < length es = omega (arith, length-append q.l (x ∷ q.r)) in
       let first_is : head_of n es ≡ (h.z.0, n) ∷ [] = head-grown n q.l x q.r (y ∷ q.r) ∙ ap (λ z. head_of n z) h.grown_is in
       let hs0 : heads row ≡ heads q.before ++ (h.z.0, n) ∷ heads q.after = heads-append q.before _ ∙ ap (λ z. heads q.before ++ (z ++ heads q.after)) first_is in
       record {
@@ -44,11 +43,10 @@ module _ {K V : Type 0} where
         flat_is = flat-halved q.before q.after n right (h.z ∷ h.xs) (h.y ∷ h.ys) ∙ ap (λ z. flat q.before ++ (z ++ flat q.after)) (sym h.grown_is) ∙ ap (λ z. flat q.before ++ z) (append_assoc q.l (x ∷ y ∷ q.r) (flat q.after)) ∙ sym (append_assoc (flat q.before) q.l _)
             ∙ sym (ap (λ z. z ++ x ∷ y ∷ b) q.a_is ∙ ap (λ z. (flat q.before ++ q.l) ++ x ∷ y ∷ z) q.b_is);
         fit = FitRow-halved 4 8 q.before q.after n right es (h.z ∷ h.xs) (h.y ∷ h.ys) (omega arith) ab.stacked.1 (omega (arith, h.left_is, sides.0)) (omega (arith, h.left_is, sides.1)) (omega (arith, h.right_is, sides.2)) (omega (arith, h.right_is, sides.3));
-        inside = row-halved inner_content t.nodes u.nodes q.before n right es (h.z ∷ h.xs) (h.y ∷ h.ys) q.after d.f.inside h.two.same h.two.here h.two.there d.f.none none_right;
+        inside = row-changed inner_content t.nodes u.nodes q.before (node n es ∷ []) (node n (h.z ∷ h.xs) ∷ node right (h.y ∷ h.ys) ∷ []) q.after n right d.f.inside h.two.same (h.two.here, (h.two.there, tt)) d.f.none none_right;
         gain_is = ap (λ z. inner_gain (length z) (sizes row)) q.a_is ∙ gain_spot q.before n es q.l q.after
-            ∙ ap (λ z. inner_gain (length (flat q.before) + z) (sizes q.before ++ length es ∷ sizes q.after)) q.entry_is
-            ∙ gain_full q.before (length es) (get_or js up 0) (length (h.z ∷ h.xs)) (length (h.y ∷ h.ys)) (sizes q.after) (omega (arith, low, q.entry_is)) eight (halves_are (sizes q.after) ∙ ap (λ z. z ∷ small ∷ sizes q.after) (sym h.left_is) ∙ ap (λ z. length (h.z ∷ h.xs) ∷ z ∷ sizes q.after) (sym h.right_is))
-            ∙ ap (λ z. (Some z, sizes q.before ++ length (h.z ∷ h.xs) ∷ length (h.y ∷ h.ys) ∷ sizes q.after)) (sym full) ∙ ap (λ z. (Some (length (heads q.before)), z)) (sym (sizes-append q.before (node n (h.z ∷ h.xs) ∷ node right (h.y ∷ h.ys) ∷ q.after)));
+            ∙ gain_full q.before (length es) (length q.l) (sizes q.after) (omega (arith, length-append q.l (x ∷ q.r))) eight
+            ∙ rw (q.entry_is, full, sizes-append q.before (node n (h.z ∷ h.xs) ∷ node right (h.y ∷ h.ys) ∷ q.after), h.left_is, h.right_is) (ap (λ z. (Some (length q.before), sizes q.before ++ z)) (halves_are (sizes q.after)));
         above = record {
           stacked = subst (λ (z : List (K × ℕ)). Stacked z q.rest) hs0 ab.stacked.2;
           inside = rows-same t.nodes u.nodes q.rest (λ m some. h.two.same m (ne_from_count m n (flat_map numbers q.rest) some d.f.none_rest) (ne_from_count m right (flat_map numbers q.rest) some none_right_rest)) ab.inside.1;

@@ -1,11 +1,11 @@
 -- A level whose node became two, and the levels above it.
 use Rattle.std.proofs.Common.{◌≡◌, ℕ, suc, ◌+◌, ◌-◌, ◌≤◌, ◌<◌, ◌≢◌, Bool, if◌then◌else◌, List, [], ◌∷◌, ◌++◌, map, length, get_or, slice_get, Some, refl, sym, ap, ◌∙◌, subst, length-append, arith}
-use Rattle.bforest_core.proofs.Words.{flat_map, length-map, Inner, Table, LevelNode, node, flat, heads, sizes, numbers, Stacked, Topped, inner_gain, gain_above, need_above, inner_content, count, Distinct, IsAt, StandsAbove, Above, Grown}
+use Rattle.bforest_core.proofs.Words.{flat_map, length-map, Inner, Table, LevelNode, node, heads, sizes, numbers, Stacked, Topped, gain_above, need_above, inner_content, count, Distinct, IsAt, StandsAbove, Above, Grown}
 use Rattle.bforest_core.proofs.Words.{Halved}
 use Rattle.bforest_core.proofs.rows.LevelRows.{heads-append}
 use Rattle.bforest_core.proofs.table.Tables.{counts, count-append, count-same, row-same, absent_ne, Takes}
 use Rattle.bforest_core.proofs.rows.Zipper.{Spot}
-use Rattle.bforest_core.proofs.insertion.Grow.{gain_spot, gain_some}
+use Rattle.bforest_core.proofs.insertion.Grow.{gain_spot, gain_full}
 use Rattle.bforest_core.proofs.insertion.Room.{step_is, step_most}
 
 -- a level whose node became two has a level above it
@@ -135,11 +135,7 @@ module _ {K V : Type 0} where
   pub need_full : (t : Table K V) (ms js : List ℕ) (up size : ℕ) (rows : List (List (LevelNode K ℕ))) (a : List (K × ℕ)) (x : K × ℕ) (b : List (K × ℕ)) → (d : Spot t ms js up size rows a x b) → length (d.q.l ++ x ∷ d.q.r) ≡ 8 → 2 ≤ need_above (Some (length a)) (map sizes rows)
   need_full t ms js up size rows a x b d eight =
       let q = d.q in
-      let n = get_or ms up 0 in
       let es : List (K × ℕ) = q.l ++ x ∷ q.r in
-      let low : length q.l < length es = omega (arith, length-append q.l (x ∷ q.r)) in
-      let some : (inner_gain (length (flat q.before ++ q.l)) (sizes (q.before ++ node n es ∷ q.after))).0 ≡ Some (length q.before) =
-      ap (λ z. z.0) (gain_spot q.before n es q.l q.after) ∙ gain_some q.before (length es) (length q.l) (sizes q.after) low eight in
       let needs : need_above (Some (length a)) (map sizes rows) ≡ suc (need_above (Some (length q.before)) (map sizes q.rest)) =
-      ap (λ z. need_above (Some (length z)) (map sizes rows)) q.a_is ∙ ap (λ z. need_above (Some (length (flat q.before ++ q.l))) (map sizes z)) q.rows_are ∙ ap (λ z. suc (need_above z (map sizes q.rest))) some in
+      rw (q.a_is, q.rows_are, gain_spot q.before (get_or ms up 0) es q.l q.after, gain_full q.before (length es) (length q.l) (sizes q.after) (omega (arith, length-append q.l (x ∷ q.r))) eight) refl in
       omega (arith, needs, need_some (length q.before) (map sizes q.rest))

@@ -1,10 +1,10 @@
 -- How many nodes an insertion needs, counted from the leaf upwards.
-use Rattle.std.proofs.Common.{◌≡◌, ℕ, suc, ◌+◌, ◌≤◌, ◌<◌, ◌≢◌, IsTrue, true, false, Bool, add-one, ◌↔◌, List, [], ◌∷◌, ◌++◌, map, length, get_or, slice_get, Some, None, refl, sym, ap, ◌∙◌, subst, arith}
-use Rattle.bforest_core.proofs.Words.{flat_map, false≢true, get_or_default, slice_get_within, Content, IsFree, entry_count, entry_capacity, Table, LevelNode, node, flat, heads, sizes, sizes_of, numbers, Tree, inner_gain, leaf_gain, need}
+use Rattle.std.proofs.Common.{◌≡◌, ℕ, suc, ◌+◌, ◌≤◌, ◌<◌, ◌≢◌, IsTrue, true, false, Bool, add-one, ◌↔◌, List, [], ◌∷◌, ◌++◌, map, length, get_or, slice_get, Some, refl, sym, ap, ◌∙◌, subst, arith}
+use Rattle.bforest_core.proofs.Words.{flat_map, false≢true, get_or_default, slice_get_within, Content, IsFree, entry_count, entry_capacity, Table, LevelNode, node, heads, sizes, sizes_of, numbers, Tree, leaf_gain, need}
 use Rattle.bforest_core.proofs.Words.{need_above, count, inner_content, leaf_content, Above, Placed}
 use Rattle.bforest_core.proofs.rows.LevelRows.{sizes-append}
 use Rattle.bforest_core.proofs.table.Tables.{count-append}
-use Rattle.bforest_core.proofs.insertion.Grow.{gain_some, gain_room}
+use Rattle.bforest_core.proofs.insertion.Grow.{gain_full, gain_room}
 use Rattle.bforest_core.proofs.table.Stored.{some_same, item_count}
 use Rattle.bforest_core.proofs.insertion.LeafSpot.{LeafSpot, keys_count, leaf_spot, room_gain}
 use Rattle.bforest_core.proofs.insertion.LeafParted.{full_gain}
@@ -28,17 +28,11 @@ module _ {K V : Type 0} where
   -- a full node, and one with room
   spot_full : (t : Table K V) (ms js : List ℕ) (up size : ℕ) (rows : List (List (LevelNode K ℕ))) (list : List (K × ℕ)) (p : ℕ) → (f : Spot t.nodes ms js up size rows list p) → length f.entries ≡ 8 → need_above (Some p) (map sizes rows) ≡ suc (need_above (Some (length f.before)) (map sizes f.rest))
   spot_full t ms js up size rows list p f eight =
-      let row : List (LevelNode K ℕ) = f.before ++ node (get_or ms up 0) f.entries ∷ f.after in
-      let g : (inner_gain p (sizes row)).0 ≡ Some (length f.before) =
-      ap (λ z. (inner_gain z (sizes row)).0) f.place_is ∙ ap (λ z. (inner_gain (length (flat f.before) + get_or js up 0) z).0) (sizes-append f.before (node (get_or ms up 0) f.entries ∷ f.after)) ∙ gain_some f.before (length f.entries) (get_or js up 0) (sizes f.after) f.within eight in
-      ap (λ z. need_above (Some p) (map sizes z)) (f.rows_are ∙ ap (λ z. z ∷ f.rest) f.row_is) ∙ ap (λ z. suc (need_above z (map sizes f.rest))) g
+      rw (f.rows_are, f.row_is, f.place_is, sizes-append f.before (node (get_or ms up 0) f.entries ∷ f.after), gain_full f.before (length f.entries) (get_or js up 0) (sizes f.after) f.within eight) refl
 
   spot_room : (t : Table K V) (ms js : List ℕ) (up size : ℕ) (rows : List (List (LevelNode K ℕ))) (list : List (K × ℕ)) (p : ℕ) → (f : Spot t.nodes ms js up size rows list p) → length f.entries < 8 → need_above (Some p) (map sizes rows) ≡ 1
   spot_room t ms js up size rows list p f room =
-      let row : List (LevelNode K ℕ) = f.before ++ node (get_or ms up 0) f.entries ∷ f.after in
-      let g : (inner_gain p (sizes row)).0 ≡ None =
-      ap (λ z. (inner_gain z (sizes row)).0) f.place_is ∙ ap (λ z. (inner_gain (length (flat f.before) + get_or js up 0) z).0) (sizes-append f.before (node (get_or ms up 0) f.entries ∷ f.after)) ∙ ap (λ z. z.0) (gain_room f.before (length f.entries) (get_or js up 0) (sizes f.after) f.within room) in
-      ap (λ z. need_above (Some p) (map sizes z)) (f.rows_are ∙ ap (λ z. z ∷ f.rest) f.row_is) ∙ ap (λ z. suc (need_above z (map sizes f.rest))) g
+      rw (f.rows_are, f.row_is, f.place_is, sizes-append f.before (node (get_or ms up 0) f.entries ∷ f.after), gain_room f.before (length f.entries) (get_or js up 0) (sizes f.after) f.within room) refl
 
   -- the rows above the leaves
   above_leaves : (most : ℕ) (t : Table K V) (ms js : List ℕ) (size : ℕ) (tree : Tree K V) (place : ℕ) → Placed most t ms js size tree place → (d : LeafSpot most t ms js tree place) → Above t ms js 1 size tree.above (heads (d.before ++ node (get_or ms 0 0) (d.l ++ d.r) ∷ d.after)) (length d.before)

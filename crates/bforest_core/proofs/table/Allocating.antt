@@ -3,7 +3,7 @@ use Rattle.std.proofs.Common.{◌≡◌, ℕ, zero, suc, ◌-◌, ◌≤◌, ◌
 use Rattle.bforest_core.proofs.Words.{err_from_is_err_and, Content, Table, IsUsed, NeedsGrowth, room, reserved, with_slots, front_of, with_node, with_front, without_front}
 use Rattle.bforest_core.specs.declared.pool.OutOfMemory.{OutOfMemory}
 use Rattle.bforest_core.specs.declared.pool.OutOfMemory.TheVariants.{Full, Memory}
-use Rattle.bforest_core.proofs.table.Fronts.{with_front-is}
+use Rattle.bforest_core.proofs.table.Pools.{with_front-is}
 
 -- what the exit of a `?` returns
 pub err_is : {T E : Type 0} (r : Result T E) (y : E) → IsErrAnd r (λ e. e ≡ y) → r ≡ Err y

@@ -1,7 +1,6 @@
 use Rattle.std.proofs.Common.{rules, slice_get, Some, arith, refl, ◌∙◌, ◌≡◌, ℕ, ◌<◌, List, length, length-set, vec_len, slice_set, sym}
 use Rattle.bforest_core.proofs.table.Lists.{refilled_two}
-use Rattle.bforest_core.proofs.table.Fronts.{nodes-without_front, off-without_front, with_front-is, apart_front}
-use Rattle.bforest_core.proofs.table.Pools.{IsPool-set_two}
+use Rattle.bforest_core.proofs.table.Pools.{IsPool-set_two, nodes-without_front, off-without_front, with_front-is, apart_front}
 use Rattle.bforest_core.proofs.pool.NodePool.split_node.Goals as goal
 
 -- a number within a list is within it after two writes
