@@ -1,13 +1,13 @@
 -- What an insertion into the tree under a root says of the table, where nodes were made free for it before.
-use Rattle.std.proofs.Common.{◌≡◌, ℕ, suc, ◌+◌, ◌-◌, ◌^◌, ◌≤◌, ◌<◌, ◌≢◌, ◌↔◌, IsTrue, Option, Some, None, Result, Err, List, [], ◌∷◌, ◌++◌, drop, map, length, insert, slice_get, sym, ap, ◌∙◌, subst, inl, inr, append-nil, length-append, arith}
-use Rattle.bforest_core.proofs.Words.{flat_map, cases_lt, eqb_tells, length-map, Path, Content, Table, down_from, fresh_nodes, front_of, free_count, slot_count, room, reserved, IsFullAt, LevelNode, node, flat, heads, sizes, numbers}
-use Rattle.bforest_core.proofs.Words.{Stacked, Topped, Tree, sizes_of, leaf_gain, gain_above, growth, need, IsAt, Stands, count, root_of, numbers_of, top_of, Placed, Inserted, tree_of, is_root, IsUnion, Changes, TakesNodes, PlacedUnder}
-use Rattle.bforest_core.proofs.Words.{StandsUnder}
+use Rattle.std.proofs.Common.{◌≡◌, ℕ, suc, ◌+◌, ◌-◌, ◌^◌, ◌≤◌, ◌<◌, ◌≢◌, ◌↔◌, IsTrue, Option, Some, None, List, [], ◌∷◌, ◌++◌, drop, map, length, insert, slice_get, sym, ap, ◌∙◌, subst, inl, inr, length-append, arith}
+use Rattle.bforest_core.proofs.Words.{flat_map, cases_lt, eqb_tells, length-map, Path, Content, Table, fresh_nodes, front_of, free_count, slot_count, room, reserved, IsFullAt, LevelNode, node, flat, heads, sizes, numbers, Stacked, Topped}
+use Rattle.bforest_core.proofs.Words.{Tree, sizes_of, leaf_gain, gain_above, growth, need, IsAt, Stands, count, root_of, numbers_of, top_of, Placed, Inserted, tree_of, is_root, IsUnion, Changes, TakesNodes, PlacedUnder, StandsUnder}
 use Rattle.std.proofs.Math.Seq.{drop-append_seam}
 use Rattle.bforest_core.proofs.rows.LevelRows.{flat-append}
 use Rattle.bforest_core.proofs.table.Tables.{count-append}
 use Rattle.bforest_core.proofs.table.Lists.{slice_get-append_left}
-use Rattle.bforest_core.proofs.table.Chains.{length-fresh_nodes, length-down_from}
+use Rattle.bforest_core.proofs.table.Chains.{length-fresh_nodes}
+use Rattle.bforest_core.proofs.table.Allocating.{reserved-enough, reserved-free}
 use Rattle.bforest_core.proofs.rows.Counts.{once_below, below-one, few-below}
 use Rattle.bforest_core.proofs.union.Forests.{root-among}
 use Rattle.bforest_core.proofs.rows.Bounds.{climb-seventeen}
@@ -68,19 +68,9 @@ module _ {K V : Type 0} where
       let r = rooted most table root union p.root_is in
       (omega (arith, p.at.points.size_is), omega (arith, p.at.points.size_is, r.low))
 
-  -- so many lie free then
-  pub reserved-free : (table : Table K V) (n : ℕ) → length (reserved table n).chain ≡ (n - free_count table) + free_count table
-  reserved-free table n = omega (arith, length-append (down_from (slot_count table) (n - free_count table)) table.chain, length-down_from (slot_count table) (n - free_count table))
-
-  -- of so many slots
+  -- how many slots there are after a reservation
   reserved-slots : (table : Table K V) (n : ℕ) → length (reserved table n).nodes ≡ slot_count table + (n - free_count table)
   reserved-slots table n = omega (arith, length-append table.nodes (fresh_nodes (slot_count table) (n - free_count table) (front_of table.chain)), length-fresh_nodes K V (slot_count table) (n - free_count table) (front_of table.chain))
-
-  -- where so many lay free already, nothing changed
-  pub reserved-enough : (table : Table K V) (n : ℕ) → n ≤ free_count table → reserved table n ≡ table
-  reserved-enough table n enough =
-      let none : n - free_count table ≡ 0 = omega (arith, enough) in
-      rw none (ap (λ z. record table { nodes = z }) (append-nil table.nodes))
 
   -- all that an insertion says of the table and of the path
   pub record Insertion (most : ℕ) (old new : Table K V) (root root' place : ℕ) (entry : K × V) (path' indices' : List ℕ) (size' : ℕ) : Type 0 where
@@ -202,11 +192,3 @@ module _ {K V : Type 0} where
   pub put-from : (most : ℕ) (old new new1 : Table K V) (root place : ℕ) (entry : K × V) (most1 : ℕ) (at at1 : Path K V most1) → new1 ≡ new → at1 ≡ at → Put most old new root place entry at.node at.entry at.size → Put most old new1 root place entry at1.node at1.entry at1.size
   put-from most old new new1 root place entry most1 at at1 e1 e2 p =
       rw (e1, e2) p
-
--- errors of two calls that are one are one as the first call answers them
-pub err-same : {A B E : Type 0} (x : Result A E) (e f : E) (y z : Result B E) → x ≡ Err e → x ≡ Err f → y ≡ Err e → z ≡ Err f → y ≡ z
-err-same x e f y z xe xf ye zf = let same : e ≡ f = cc in ye ∙ ap Err same ∙ sym zf
-
--- and as the second does
-pub err-back : {A B E : Type 0} (x : Result A E) (e f : E) (y z : Result B E) → x ≡ Err e → y ≡ Err e → z ≡ Err f → y ≡ z → x ≡ Err f
-err-back x e f y z xe ye zf yz = let same : e ≡ f = cc in xe ∙ ap Err same

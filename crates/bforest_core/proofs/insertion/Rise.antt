@@ -1,7 +1,6 @@
 -- A level whose node became two, and the levels above it.
 use Rattle.std.proofs.Common.{◌≡◌, ℕ, suc, ◌+◌, ◌-◌, ◌≤◌, ◌<◌, ◌≢◌, Bool, if◌then◌else◌, List, [], ◌∷◌, ◌++◌, map, length, get_or, slice_get, Some, refl, sym, ap, ◌∙◌, subst, length-append, arith}
-use Rattle.bforest_core.proofs.Words.{flat_map, length-map, Inner, Table, LevelNode, node, heads, sizes, numbers, Stacked, Topped, gain_above, need_above, inner_content, count, Distinct, IsAt, StandsAbove, Above, Grown}
-use Rattle.bforest_core.proofs.Words.{Halved}
+use Rattle.bforest_core.proofs.Words.{flat_map, length-map, Inner, Table, LevelNode, node, heads, sizes, numbers, Stacked, Topped, gain_above, need_above, inner_content, count, Distinct, IsAt, StandsAbove, Above, Grown, Halved}
 use Rattle.bforest_core.proofs.rows.LevelRows.{heads-append}
 use Rattle.bforest_core.proofs.table.Tables.{counts, count-append, count-same, row-same, absent_ne, Takes}
 use Rattle.bforest_core.proofs.rows.Zipper.{Spot}

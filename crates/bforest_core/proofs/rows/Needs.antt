@@ -1,7 +1,7 @@
 -- How many nodes an insertion needs, counted from the leaf upwards.
 use Rattle.std.proofs.Common.{◌≡◌, ℕ, suc, ◌+◌, ◌≤◌, ◌<◌, ◌≢◌, IsTrue, true, false, Bool, add-one, ◌↔◌, List, [], ◌∷◌, ◌++◌, map, length, get_or, slice_get, Some, refl, sym, ap, ◌∙◌, subst, arith}
-use Rattle.bforest_core.proofs.Words.{flat_map, false≢true, get_or_default, slice_get_within, Content, IsFree, entry_count, entry_capacity, Table, LevelNode, node, heads, sizes, sizes_of, numbers, Tree, leaf_gain, need}
-use Rattle.bforest_core.proofs.Words.{need_above, count, inner_content, leaf_content, Above, Placed}
+use Rattle.bforest_core.proofs.Words.{flat_map, false≢true, get_or_default, slice_get_within, Content, IsFree, entry_count, entry_capacity, Table, LevelNode, node, heads, sizes, sizes_of, numbers, Tree, leaf_gain, need, need_above, count}
+use Rattle.bforest_core.proofs.Words.{inner_content, leaf_content, Above, Placed}
 use Rattle.bforest_core.proofs.rows.LevelRows.{sizes-append}
 use Rattle.bforest_core.proofs.table.Tables.{count-append}
 use Rattle.bforest_core.proofs.insertion.Grow.{gain_full, gain_room}

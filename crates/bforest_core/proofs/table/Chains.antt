@@ -1,7 +1,7 @@
 -- Chains of free nodes: how each change of the slots keeps them.
 use Rattle.std.proofs.Common.{◌≡◌, inl, inr, ℕ, ◌+◌, ◌<◌, ◌≤◌, zero, suc, true, false, List, [], ◌∷◌, ◌++◌, length, set, nat_eq, Some, None, Option, refl, slice_get, sym, ap, ◌∙◌, subst, arith, append_assoc, append-nil}
-use Rattle.bforest_core.proofs.Words.{list_any, IsDistinct, AllByRecursion, length-append, length_push, slice_get_within, or_parts, eqb_tells, IsDistinct-cons, Content, Free, chain_from, IsChain, IsFreeAt}
-use Rattle.bforest_core.proofs.Words.{front_of, down_from, front_of_new, fresh_nodes, false_from_ne_true}
+use Rattle.bforest_core.proofs.Words.{list_any, IsDistinct, AllByRecursion, length-append, length_push, slice_get_within, or_parts, eqb_tells, IsDistinct-cons, Content, Free, chain_from, IsChain, IsFreeAt, front_of, down_from, front_of_new}
+use Rattle.bforest_core.proofs.Words.{fresh_nodes, false_from_ne_true}
 use Rattle.std.proofs.lemmas.Bool.{eqb-false}
 use Rattle.bforest_core.proofs.table.Lists.{slice_get-append_left, slice_get-set_apart, slice_get-set_same}
 use Rattle.bforest_core.proofs.table.Stored.{slice_get_at}

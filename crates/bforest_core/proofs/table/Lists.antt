@@ -1,7 +1,6 @@
 -- Lists that are read, written and cut: no word of nodes.
 use Rattle.std.proofs.Common.{◌≡◌, ◌≢◌, ℕ, ◌+◌, ◌-◌, ◌<◌, ◌≤◌, List, [], ◌∷◌, ◌++◌, zero, suc, length, set, take, drop, remove, slice_get, slice_set, get_or, None, Some, refl, ap, ◌∙◌, arith, length-set}
-use Rattle.bforest_core.proofs.Words.{get_or-set_same, set-append_left, set-append_right, drop_all, take_all, append-nil, slice_get-get_or}
-use Rattle.bforest_core.proofs.Words.{slice_get_read}
+use Rattle.bforest_core.proofs.Words.{get_or-set_same, set-append_left, set-append_right, drop_all, take_all, append-nil, slice_get-get_or, slice_get_read}
 pub use Rattle.bforest_nodes.proofs.Seams.{slice_get-append-add}
 
 module _ {X : Type 0} where
