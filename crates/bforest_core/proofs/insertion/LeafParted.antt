@@ -15,9 +15,7 @@ module _ {K V : Type 0} where
   pub full_gain : (most : ℕ) (t : Table K V) (ms js : List ℕ) (tree : Tree K V) (place : ℕ) → (d : LeafSpot most t ms js tree place) → length (d.l ++ d.r) ≡ most →
       leaf_gain most place (sizes tree.leaves) ≡ (Some (length d.before), sizes d.before ++ half_of most ∷ half_of most ∷ sizes d.after)
   full_gain most t ms js tree place d full =
-      ap (λ z. leaf_gain most place (sizes z)) d.leaves_are ∙ ap (λ z. leaf_gain most z (sizes (d.before ++ node (get_or ms 0 0) (d.l ++ d.r) ∷ d.after))) d.place_is
-      ∙ ap (λ z. leaf_gain most (length (flat d.before) + length d.l) z) (sizes-append d.before (node (get_or ms 0 0) (d.l ++ d.r) ∷ d.after))
-      ∙ leaf_full most d.before (length (d.l ++ d.r)) (length d.l) (sizes d.after) (omega (arith, length-append d.l d.r)) d.first full
+      rw (d.leaves_are, d.place_is, sizes-append d.before (node (get_or ms 0 0) (d.l ++ d.r) ∷ d.after)) (leaf_full most d.before (length (d.l ++ d.r)) (length d.l) (sizes d.after) (omega (arith, length-append d.l d.r)) d.first full)
 
   -- all but where the path stands
   pub leaf_parted : (most : ℕ) (t u : Table K V) (ms js ms' js' : List ℕ) (size : ℕ) (tree : Tree K V) (place : ℕ) (entry : K × V) (middle : K) (right : ℕ) (moved : Bool) → IsLeafCapacity most → Placed most t ms js size tree place → (d : LeafSpot most t ms js tree place) → length (d.l ++ d.r) ≡ most →
@@ -87,11 +85,12 @@ module _ {K V : Type 0} where
       ap (λ z. change z.0 (map sizes tree.above)) h.gain_is ∙ ap (λ z. change (Some (length (heads h.before))) z) (sym h.sizes_above)
 
   -- the levels above took the right half in
-  pub inserted : (most : ℕ) (t u v : Table K V) (ms js ms' js' ms'' js'' : List ℕ) (size size' : ℕ) (tree : Tree K V) (place : ℕ) (entry : K × V) (key : K) (right : ℕ) (moved : Bool) (taken : List ℕ) → Placed most t ms js size tree place → (h : LeafHalved most t u ms ms' js' size tree place entry key right moved) →
+  pub inserted : (most : ℕ) (t u v : Table K V) (ms js ms' js' ms'' js'' : List ℕ) (size size' : ℕ) (tree : Tree K V) (place : ℕ) (entry : K × V) (key : K) (right : ℕ) (moved : Bool) (taken : List ℕ) (size1 left : ℕ) → size1 ≡ size → left ≡ get_or ms 0 0 → Placed most t ms js size tree place → (h : LeafHalved most t u ms ms' js' size tree place entry key right moved) →
       suc (length taken) ≡ need_above (Some (length (heads h.before))) (map sizes h.rows) →
-      Grown u v ms' js' ms'' js'' 1 size size' h.rows (heads h.before ++ (h.first.0, get_or ms 0 0) ∷ (key, right) ∷ heads h.after) (if moved then suc (length (heads h.before)) else length (heads h.before)) (gain_above (Some (length (heads h.before))) (map sizes h.rows)) taken →
+      Grown u v ms' js' ms'' js'' 1 size1 size' h.rows (heads h.before ++ (h.first.0, left) ∷ (key, right) ∷ heads h.after) (if moved then suc (length (heads h.before)) else length (heads h.before)) (gain_above (Some (length (heads h.before))) (map sizes h.rows)) taken →
       Inserted most t v ms'' js'' size' tree place entry
-  inserted most t u v ms js ms' js' ms'' js'' size size' tree place entry key right moved taken p h needs g =
+  inserted most t u v ms js ms' js' ms'' js'' size size' tree place entry key right moved taken size1 left size_is left_is p h needs grown =
+      let g = rw (size_is, left_is) at grown in
       let n = get_or ms 0 0 in
       let row2 : List (LevelNode K V) = h.before ++ node n (h.first ∷ h.others) ∷ node right (h.next ∷ h.more) ∷ h.after in
       let leaves_m = λ (m : ℕ). ap (λ z. count m (numbers z ++ flat_map numbers tree.above)) h.leaves_were in

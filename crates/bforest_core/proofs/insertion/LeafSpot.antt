@@ -17,10 +17,8 @@ insert_between (z ∷ p) s x = ap (λ w. z ∷ w) (insert_between p s x)
 pub insert_flat : {K V : Type 0} (before : List (LevelNode K V)) (n : ℕ) (l r : List (K × V)) (after : List (LevelNode K V)) (x : K × V) →
     insert (flat (before ++ node n (l ++ r) ∷ after)) (length (flat before) + length l) x ≡ flat before ++ ((l ++ x ∷ r) ++ flat after)
 insert_flat before n l r after x =
-    let whole : flat (before ++ node n (l ++ r) ∷ after) ≡ (flat before ++ l) ++ (r ++ flat after) =
-    flat-append before _ ∙ ap (λ z. flat before ++ z) (append_assoc l r (flat after)) ∙ sym (append_assoc (flat before) l _) in
-    ap (λ z. insert z (length (flat before) + length l) x) whole ∙ ap (λ z. insert ((flat before ++ l) ++ (r ++ flat after)) z x) (sym (length-append (flat before) l)) ∙ insert_between (flat before ++ l) (r ++ flat after) x
-    ∙ append_assoc (flat before) l _ ∙ ap (λ z. flat before ++ z) (sym (append_assoc l (x ∷ r) (flat after)))
+    let whole : flat (before ++ node n (l ++ r) ∷ after) ≡ (flat before ++ l) ++ (r ++ flat after) = simp (flat-append, append_assoc) in
+    rw (whole, ← length-append (flat before) l, insert_between (flat before ++ l) (r ++ flat after) x) (simp append_assoc)
 
 -- as many rows
 pub rows_count : {K : Type 0} (xs ys : List (List (LevelNode K ℕ))) → map sizes ys ≡ map sizes xs → length ys ≡ length xs
@@ -97,9 +95,7 @@ module _ {K V : Type 0} where
   -- where the leaf has room
   pub room_gain : (most : ℕ) (t : Table K V) (ms js : List ℕ) (tree : Tree K V) (place : ℕ) → (d : LeafSpot most t ms js tree place) → length (d.l ++ d.r) < most → leaf_gain most place (sizes tree.leaves) ≡ (None, sizes d.before ++ suc (length (d.l ++ d.r)) ∷ sizes d.after)
   room_gain most t ms js tree place d room =
-      ap (λ z. leaf_gain most place (sizes z)) d.leaves_are ∙ ap (λ z. leaf_gain most z (sizes (d.before ++ node (get_or ms 0 0) (d.l ++ d.r) ∷ d.after))) d.place_is
-      ∙ ap (λ z. leaf_gain most (length (flat d.before) + length d.l) z) (sizes-append d.before (node (get_or ms 0 0) (d.l ++ d.r) ∷ d.after))
-      ∙ leaf_room most d.before (length (d.l ++ d.r)) (length d.l) (sizes d.after) (omega (arith, length-append d.l d.r)) d.first room
+      rw (d.leaves_are, d.place_is, sizes-append d.before (node (get_or ms 0 0) (d.l ++ d.r) ∷ d.after)) (leaf_room most d.before (length (d.l ++ d.r)) (length d.l) (sizes d.after) (omega (arith, length-append d.l d.r)) d.first room)
 
   pub put_leaf : (most : ℕ) (t u : Table K V) (ms js : List ℕ) (size : ℕ) (tree : Tree K V) (place : ℕ) (entry : K × V) → Placed most t ms js size tree place → (d : LeafSpot most t ms js tree place) → length (d.l ++ d.r) < most →
       Puts t u (get_or ms 0 0) (leaf_content (d.l ++ entry ∷ d.r)) → Inserted most t u ms js size tree place entry

@@ -109,16 +109,6 @@ module _ {K V : Type 0} where
         },
       )
 
-  -- the same rows, by equations
-  pub above_from : (t t1 : Table K V) (ms ms1 js js1 : List ℕ) (up up1 size size1 : ℕ) (rows : List (List (LevelNode K ℕ))) (hs hs1 : List (K × ℕ)) (p : ℕ) → t1 ≡ t → ms1 ≡ ms → js1 ≡ js → up1 ≡ up → size1 ≡ size → hs1 ≡ hs → Above t ms js up size rows hs p → Above t1 ms1 js1 up1 size1 rows hs1 p
-  above_from t t1 ms ms1 js js1 up up1 size size1 rows hs hs1 p et em ej eu es eh ab =
-      rw (et, em, ej, eu, es, eh) ab
-
-  pub grown_from : (t t1 u : Table K V) (ms ms1 js js1 ms' js' : List ℕ) (up up1 size size1 size' : ℕ) (rows : List (List (LevelNode K ℕ))) (hs hs1 : List (K × ℕ)) (p : ℕ) (ss : List (List ℕ)) (taken : List ℕ) → t1 ≡ t → ms1 ≡ ms → js1 ≡ js → up1 ≡ up → size1 ≡ size → hs1 ≡ hs →
-      Grown t u ms js ms' js' up size size' rows hs p ss taken → Grown t1 u ms1 js1 ms' js' up1 size1 size' rows hs1 p ss taken
-  grown_from t t1 u ms ms1 js js1 ms' js' up up1 size size1 size' rows hs hs1 p ss taken et em ej eu es eh g =
-      rw (et, em, ej, eu, es, eh) g
-
 -- the top level needs a new root too
 pub need_top : {K : Type 0} (p : ℕ) (rows : List (List (LevelNode K ℕ))) → length rows ≡ 0 → need_above (Some p) (map sizes rows) ≡ 2
 need_top p [] none = refl
