@@ -8,8 +8,7 @@ use Rattle.bforest_core.proofs.table.Tables.{is_used, puts}
 use Rattle.bforest_core.proofs.table.Stored.{leaf_cuts, with_entry_is}
 use Rattle.bforest_core.proofs.insertion.Grow.{in_left, in_right}
 use Rattle.bforest_core.proofs.insertion.LeafSpot.{LeafSpot, leaf_spot, put_leaf, keys_count}
-use Rattle.bforest_core.proofs.insertion.Halving.{Split, leaf_full_is, counted, split_at, stay_low, stay_high, left_used, into_left, into_right, middle_key}
-use Rattle.bforest_core.proofs.insertion.Putting.{PutAsks, HasRoom, Puts, asks_put, put_fewer, put_in, put_past, put_kept}
+use Rattle.bforest_core.proofs.insertion.Halving.{Split, leaf_full_is, counted, split_at, stay_low, stay_high, left_used, into_left, into_right, middle_key, PutAsks, HasRoom, Written, asks_put, put_fewer, put_in, put_past, put_kept}
 use Rattle.bforest_core.proofs.insertion.LeafParted.{leaf_parted}
 
 module _ {K V : Type 0} where
@@ -29,7 +28,7 @@ module _ {K V : Type 0} where
     pub put_asks : PutAsks Leaf t (get_or ms 0 r) (get_or js 0 0)
     put_asks = asks_put Leaf t _ _ num_is _ _ d.slot_is (get_or js 0 0) (is_used t (get_or ms 0 0) (leaf_content (d.l ++ d.r)) d.slot_is d.none_chain) (omega (arith, keys_count (d.l ++ d.r), d.index_is, length-append d.l d.r))
 
-    module _ (u : Table K V) (key : K) (value : V) (put : Bool) (has : HasRoom Leaf (λ keys vals. length keys) cap t (get_or ms 0 r) put) (wrote : Puts Leaf (λ z. with_entry z (get_or js 0 0) key value) t u (get_or ms 0 r) put) where
+    module _ (u : Table K V) (key : K) (value : V) (put : Bool) (has : HasRoom Leaf (λ keys vals. length keys) cap t (get_or ms 0 r) put) (wrote : Written Leaf (λ z. with_entry z (get_or js 0 0) key value) t u (get_or ms 0 r) put) where
       -- it came in
       pub put_inserts : put ≡ true → Inserted cap t u ms js size tree place (key, value)
       put_inserts done =
@@ -78,7 +77,7 @@ module _ {K V : Type 0} where
           early_asks =
               asks_put Leaf s _ _ num_is _ _ low_cut.two.here (get_or js 0 0) (left_used leaf_content t s s (get_or ms 0 0) right low_cut.zs (low_cut.y ∷ low_cut.ys) low_cut.two d.none_chain) (omega (arith, keys_count low_cut.zs, low_cut.count_is, low_is))
 
-          pub early_halves : (u : Table K V) (key : K) (value : V) (put : Bool) → HasRoom Leaf (λ keys vals. length keys) cap s (get_or ms 0 r) put → Puts Leaf (λ z. with_entry z (get_or js 0 0) key value) s u (get_or ms 0 r) put → LeafHalved cap t u ms ms js size tree place (key, value) parts.crit_key right false
+          pub early_halves : (u : Table K V) (key : K) (value : V) (put : Bool) → HasRoom Leaf (λ keys vals. length keys) cap s (get_or ms 0 r) put → Written Leaf (λ z. with_entry z (get_or js 0 0) key value) s u (get_or ms 0 r) put → LeafHalved cap t u ms ms js size tree place (key, value) parts.crit_key right false
           early_halves u key value put has puts =
               let written = put_in Leaf s _ _ num_is _ _ low_cut.two.here u (λ keys vals. length keys) cap (λ z. with_entry z (get_or js 0 0) key value) put has puts (omega (arith, keys_count low_cut.zs, low_cut.count_is, low_is, full_is, capacity.least, capacity.odd)) in
               let h = into_left leaf_content t s u (get_or ms 0 0) right parts.lhs_entries (d.l ++ d.r) (d.l ++ (key, value) ∷ d.r) parts.crit_key low_cut (λ v. with_entry v (get_or js 0 0) key value) (half_of cap) (half_of cap)
@@ -101,7 +100,7 @@ module _ {K V : Type 0} where
           late_asks =
               asks_put Leaf s right right refl _ _ high_cut.two.there (get_or js 0 0 - parts.lhs_entries) used (omega (arith, keys_count (high_cut.y ∷ high_cut.ys), ap length high_cut.es_is, length-append high_cut.zs (high_cut.y ∷ high_cut.ys), high_cut.count_is, d.index_is, length-append d.l d.r))
 
-          pub late_halves : (u : Table K V) (key first : K) (value : V) (put : Bool) → HasRoom Leaf (λ keys vals. length keys) cap s right put → Puts Leaf (λ z. with_entry z (get_or js 0 0 - parts.lhs_entries) key value) s u right put → (get_or js 0 0 - parts.lhs_entries ≡ 0 → first ≡ key) → (0 < get_or js 0 0 - parts.lhs_entries → first ≡ parts.crit_key) →
+          pub late_halves : (u : Table K V) (key first : K) (value : V) (put : Bool) → HasRoom Leaf (λ keys vals. length keys) cap s right put → Written Leaf (λ z. with_entry z (get_or js 0 0 - parts.lhs_entries) key value) s u right put → (get_or js 0 0 - parts.lhs_entries ≡ 0 → first ≡ key) → (0 < get_or js 0 0 - parts.lhs_entries → first ≡ parts.crit_key) →
               1 ≤ length js → LeafHalved cap t u ms (set ms 0 right) (set js 0 (get_or js 0 0 - parts.lhs_entries)) size tree place (key, value) first right true
           late_halves u key first value put has puts zero more some =
               let rights = high_cut.y ∷ high_cut.ys in

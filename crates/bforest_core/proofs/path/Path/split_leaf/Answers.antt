@@ -1,4 +1,4 @@
-use Rattle.std.proofs.Common.{rules, ◌≡◌, ◌∷◌, ◌++◌, map, length, get_or, refl, sym, ap, arith}
+use Rattle.std.proofs.Common.{rules, ◌++◌, map, length, get_or, ap, arith}
 use Rattle.bforest_core.proofs.Words.{get_or_default, heads, sizes, need_above, gain_above}
 use Rattle.bforest_core.proofs.insertion.Rise.{need_some}
 use Rattle.bforest_core.proofs.insertion.LeafSpot.{leaf_spot}
