@@ -10,12 +10,8 @@ use Rattle.bforest_core.proofs.insertion.LeafSpot.{keys_count}
 -- nodes of one kind, by their keys and their values or children
 module _ {K V X : Type 0} (kind : List K → List X → Content K V) where
   -- what the call asks
-  pub record PutAsks (t : Table K V) (number index : ℕ) : Type 0 where
-    pub used : IsUsed t number
-    pub keys : List K
-    pub items : List X
-    pub slot : slice_get t.nodes number ≡ Some (kind keys items)
-    pub within : index ≤ length keys
+  abbrev pub PutAsks : Table K V → ℕ → ℕ → Type 0
+  PutAsks t number index = IsUsed t number × ((keys : List K) × (items : List X) × (slice_get t.nodes number ≡ Some (kind keys items)) × (index ≤ length keys))
 
   -- whether there was room
   abbrev pub HasRoom : (List K → List X → ℕ) → ℕ → Table K V → ℕ → Bool → Type 0
@@ -31,7 +27,7 @@ module _ {K V X : Type 0} (kind : List K → List X → Content K V) where
     slot_is = ap (λ z. slice_get t.nodes z) here ∙ found
 
     pub asks_put : (index : ℕ) → IsUsed t n → index ≤ length keys → PutAsks t number index
-    asks_put index used within = record { used = subst (λ (z : ℕ). IsUsed t z) (sym here) used; keys = keys; items = items; slot = slot_is; within = within }
+    asks_put index used within = (rw here used, (keys, items, slot_is, within))
 
     module _ (u : Table K V) (size : List K → List X → ℕ) (most : ℕ) (write : Content K V → Content K V) (put : Bool) (has : HasRoom size most t number put) (wrote : Written write t u number put) where
       -- it came in where there was room
@@ -44,11 +40,8 @@ module _ {K V X : Type 0} (kind : List K → List X → Content K V) where
           (rw done at (wrote keys items slot_is)) ∙ ap (λ z. with_node t z (write (kind keys items))) here
 
       -- where it did not there is none, and nothing changes
-      pub put_past : put ≡ false → size keys items < most → ⊥
-      put_past none fewer = false≢true (sym none ∙ (has keys items slot_is).1 fewer)
-
-      pub put_kept : put ≡ false → u ≡ t
-      put_kept none = (rw none at (wrote keys items slot_is)) ∙ with_node_here t number (kind keys items) slot_is
+      pub put_past : put ≡ false → (¬ (size keys items < most)) × (u ≡ t)
+      put_past none = (λ fewer. false≢true (sym none ∙ (has keys items slot_is).1 fewer), (rw none at (wrote keys items slot_is)) ∙ with_node_here t number (kind keys items) slot_is)
 
 -- two ways to cut one list
 record Between {A : Type 0} (p q l r : List A) : Type 0 where

@@ -8,14 +8,13 @@ use Rattle.bforest_core.proofs.table.Tables.{is_used, puts}
 use Rattle.bforest_core.proofs.table.Stored.{leaf_cuts, with_entry_is}
 use Rattle.bforest_core.proofs.insertion.Grow.{in_left, in_right}
 use Rattle.bforest_core.proofs.insertion.LeafSpot.{LeafSpot, leaf_spot, put_leaf, keys_count}
-use Rattle.bforest_core.proofs.insertion.Halving.{Split, leaf_full_is, counted, split_at, stay_low, stay_high, left_used, into_left, into_right, middle_key, PutAsks, HasRoom, Written, asks_put, put_fewer, put_in, put_past, put_kept}
+use Rattle.bforest_core.proofs.insertion.Halving.{Split, leaf_full_is, counted, split_at, stay_low, stay_high, left_used, into_left, into_right, middle_key, PutAsks, HasRoom, Written, asks_put, put_fewer, put_in, put_past}
 use Rattle.bforest_core.proofs.insertion.LeafParted.{leaf_parted}
 
 module _ {K V : Type 0} where
   -- what halving a node asks
-  pub record FullAt (cap : ℕ) (t : Table K V) (number : ℕ) : Type 0 where
-    pub used : IsUsed t number
-    pub full : IsFullAt cap t.nodes number
+  abbrev pub FullAt : ℕ → Table K V → ℕ → Type 0
+  FullAt cap t number = IsUsed t number × (IsFullAt cap t.nodes number × (0 < length t.chain))
 
   module _ (cap : ℕ) (t : Table K V) (ms js : List ℕ) (size : ℕ) (tree : Tree K V) (place : ℕ) (p : Placed cap t ms js size tree place) (r : ℕ) (wide : length ms ≡ 17) where
     d : LeafSpot cap t ms js tree place
@@ -38,17 +37,14 @@ module _ {K V : Type 0} where
           put_leaf cap t u ms js size tree place (key, value) p d (omega (arith, keys_count es, fewer)) (puts t u (get_or ms 0 0) (leaf_content (d.l ++ (key, value) ∷ d.r)) (leaf_content es) d.slot_is after)
 
       -- there was no room
-      pub put_full : put ≡ false → IsFullAt cap t.nodes (get_or ms 0 0)
+      pub put_full : put ≡ false → IsFullAt cap t.nodes (get_or ms 0 0) × (u ≡ t)
       put_full none =
-          let full : ¬ (length (entry_keys (d.l ++ d.r)) < cap) = put_past Leaf t _ _ num_is _ _ d.slot_is u (λ keys vals. length keys) cap (λ z. with_entry z (get_or js 0 0) key value) put has wrote none in
-          rw d.slot_is (λ free. free, omega (arith, full, keys_count (d.l ++ d.r), d.most_is))
-
-      pub put_none : put ≡ false → u ≡ t
-      put_none none = put_kept Leaf t _ _ num_is _ _ d.slot_is u (λ keys vals. length keys) cap (λ z. with_entry z (get_or js 0 0) key value) put has wrote none
+          let past = put_past Leaf t _ _ num_is _ _ d.slot_is u (λ keys vals. length keys) cap (λ z. with_entry z (get_or js 0 0) key value) put has wrote none in
+          (rw d.slot_is (λ free. free, omega (arith, past.0, keys_count (d.l ++ d.r), d.most_is)), past.1)
 
     module _ (s : Table K V) (full : IsFullAt cap t.nodes (get_or ms 0 0)) where
-      pub full_asks : FullAt cap t (get_or ms 0 r)
-      full_asks = record { used = put_asks.used; full = subst (λ (z : ℕ). IsFullAt cap t.nodes z) (sym num_is) full }
+      pub full_asks : 0 < length t.chain → FullAt cap t (get_or ms 0 r)
+      full_asks room = (put_asks.0, (rw num_is full, room))
 
       full_is : length (d.l ++ d.r) ≡ cap
       full_is = leaf_full_is cap t.nodes (get_or ms 0 0) (d.l ++ d.r) d.slot_is full

@@ -8,7 +8,7 @@ use Rattle.bforest_core.proofs.rows.Bounds.{below_lt, above_lt}
 use Rattle.bforest_core.proofs.rows.LevelRows.{Solid-full, heads-append, sizes-append}
 use Rattle.bforest_core.proofs.rows.Zipper.{Spot, spot, stands-same}
 use Rattle.bforest_core.proofs.table.Stored.{item_count, key_count, with_child_is}
-use Rattle.bforest_core.proofs.insertion.Halving.{Split, full_is, inner_parts, counted, split_at, left_used, into_left, into_right, PutAsks, HasRoom, Written, asks_put, put_fewer, put_in, put_past, put_kept, Halves}
+use Rattle.bforest_core.proofs.insertion.Halving.{Split, full_is, inner_parts, counted, split_at, left_used, into_left, into_right, PutAsks, HasRoom, Written, asks_put, put_fewer, put_in, put_past, Halves}
 use Rattle.bforest_core.proofs.insertion.Grow.{head-grown, in_left, in_right, InHalf, flat-halved, FitRow-halved, gain_spot, gain_full}
 use Rattle.bforest_core.proofs.insertion.Rise.{settle_room, step_is, step_most}
 use Rattle.bforest_core.proofs.insertion.HalvingLeaf.{FullAt}
@@ -98,17 +98,14 @@ module _ {K V : Type 0} where
           (get_or-set_same js up index 0 low_js ∙ index_is) (λ i other. get_or-set_other js up i index 0 other)
 
       -- there was no room
-      pub put_full : (cap : ℕ) → put ≡ false → IsFullAt cap t.nodes (get_or ms up 0)
+      pub put_full : (cap : ℕ) → put ≡ false → IsFullAt cap t.nodes (get_or ms up 0) × (u ≡ t)
       put_full cap none =
-          let full : ¬ (length (entry_items (d.q.l ++ x ∷ d.q.r)) < 8) = put_past Inner t _ _ num_is _ _ d.f.slot_is u (λ keys children. length children) 8 (λ z. with_child z (get_or js up 0) key child) put has wrote none in
-          rw d.f.slot_is (λ free. free, omega (arith, full, item_count (d.q.l ++ x ∷ d.q.r), d.most_is))
-
-      pub put_none : put ≡ false → u ≡ t
-      put_none none = put_kept Inner t _ _ num_is _ _ d.f.slot_is u (λ keys children. length children) 8 (λ z. with_child z (get_or js up 0) key child) put has wrote none
+          let past = put_past Inner t _ _ num_is _ _ d.f.slot_is u (λ keys children. length children) 8 (λ z. with_child z (get_or js up 0) key child) put has wrote none in
+          (rw d.f.slot_is (λ free. free, omega (arith, past.0, item_count (d.q.l ++ x ∷ d.q.r), d.most_is)), past.1)
 
     module _ (cap : ℕ) (s : Table K V) (full : IsFullAt cap t.nodes (get_or ms up 0)) where
-      pub full_asks : FullAt cap t (get_or ms up r)
-      full_asks = record { used = put_asks.used; full = subst (λ (z : ℕ). IsFullAt cap t.nodes z) (sym num_is) full }
+      pub full_asks : 0 < length t.chain → FullAt cap t (get_or ms up r)
+      full_asks room = (put_asks.0, (rw num_is full, room))
 
       eight : length (d.q.l ++ x ∷ d.q.r) ≡ 8
       eight = full_is cap t.nodes (get_or ms up 0) (d.q.l ++ x ∷ d.q.r) d.f.slot_is full

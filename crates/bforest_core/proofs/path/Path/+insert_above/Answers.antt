@@ -13,14 +13,10 @@ module _ {K V : Type 0} where
       (taken : List ℕ) × (suc (length taken) ≡ need_above (Some (length a)) (map sizes rows)) × Grown old new ms js ms' js' up size size' rows (a ++ (first, left) ∷ (key, child) ∷ b) (if moved then suc (length a) else length a) (gain_above (Some (length a)) (map sizes rows)) taken
 
   -- what it asks
-  record Asks (t : Table K V) (ms js : List ℕ) (up size left : ℕ) : Type 0 where
-    pub rows : List (List (LevelNode K ℕ))
-    pub before : List (K × ℕ)
-    pub first : K
-    pub after : List (K × ℕ)
-    pub above : Above t ms js up size rows (before ++ (first, left) ∷ after) (length before)
-    pub needs : need_above (Some (length before)) (map sizes rows) ≤ suc (length t.chain)
-    pub gains : up + length (gain_above (Some (length before)) (map sizes rows)) ≤ 17
+  abbrev Asks : Table K V → List ℕ → List ℕ → ℕ → ℕ → ℕ → Type 0
+  Asks t ms js up size left =
+      (rows : List (List (LevelNode K ℕ))) × (before : List (K × ℕ)) × (first : K) × (after : List (K × ℕ)) × Above t ms js up size rows (before ++ (first, left) ∷ after) (length before)
+      × (need_above (Some (length before)) (map sizes rows) ≤ suc (length t.chain)) × (up + length (gain_above (Some (length before)) (map sizes rows)) ≤ 17)
 
   -- a node lies free for the node that is full
   room_then : (cap : ℕ) (t : Table K V) (ms js : List ℕ) (up size : ℕ) (rows : List (List (LevelNode K ℕ))) (a : List (K × ℕ)) (x : K × ℕ) (b : List (K × ℕ)) → Above t ms js up size rows (a ++ x ∷ b) (length a) → up < size →
@@ -43,7 +39,7 @@ module _ {K V : Type 0} where
     next_asks : need_above (Some (length a)) (map sizes rows) ≤ suc (length t.chain) → up + length (gain_above (Some (length a)) (map sizes rows)) ≤ 17 → Asks t2 ms2 js2 high size2 (get_or ms up r)
     next_asks enough few =
         let n = sizes_halved _ _ _ _ _ _ _ _ _ _ _ _ _ _ _ h in
-        record { rows = h.rest; before = heads h.before; first = h.first.0; after = heads h.after; above = above_next; needs = omega (arith, n.0, enough, ap length h.chain_is); gains = omega (arith, n.1, few, high_is) }
+        (h.rest, heads h.before, h.first.0, heads h.after, above_next, omega (arith, n.0, enough, ap length h.chain_is), omega (arith, n.1, few, high_is))
 
     grown_next : (t3 : Table K V) (ms3 js3 : List ℕ) (size3 : ℕ) (taken : List ℕ) → Above t ms js up size rows (a ++ (first, left) ∷ b) (length a) →
         Grown t2 t3 ms2 js2 ms3 js3 high size2 size3 h.rest (heads h.before ++ (h.first.0, get_or ms up r) ∷ (key2, right) ∷ heads h.after) (if moved2 then suc (length (heads h.before)) else length (heads h.before)) (gain_above (Some (length (heads h.before))) (map sizes h.rest)) taken →
@@ -79,8 +75,8 @@ insert_above-requires g t c κs within =
     let low : c.args.up < c.args.self.now.size = omega (arith, w.4.height, c.if-up-self.false) in
     let size_is : c.split_here-next.new.self.size ≡ c.args.self.now.size = c.split_here-next.ensures.size ∙ ap (λ z. z.size) path_is in
     let halved = rw (c.insert_here.ensures.pool c.if-not-insert_here.true, path_is) at c.split_here-next.ensures.halved in
-    let d = next_asks _ c.split_here-next.new.pool c.args.self.now.node c.args.self.now.entry c.split_here-next.new.self.node c.split_here-next.new.self.entry c.args.up c.args.self.now.size c.split_here-next.new.self.size w.0 w.1 w.2 c.args.left w.3 c.args.half.key c.args.half.node c.args.half.moved c.split_here-next.result.key c.split_here-next.result.node c.split_here-next.result.moved (halved w.0 w.1 (w.2, c.args.left) w.3 w.4) c.index-self-up.result (c.args.up + 1) low (omega arith) c.requires.height size_is (add-one c.args.up) w.5 w.6 in
-    (omega (arith, c.decreases, size_is, low), (within.0, (within.1, ((λ a m. search rules), (search rules, (search rules, (omega (arith, size_is, c.requires.height), rw path_is (d.rows, d.before, d.first, d.after, d.above, d.needs, d.gains))))))))
+    let asks = next_asks _ c.split_here-next.new.pool c.args.self.now.node c.args.self.now.entry c.split_here-next.new.self.node c.split_here-next.new.self.entry c.args.up c.args.self.now.size c.split_here-next.new.self.size w.0 w.1 w.2 c.args.left w.3 c.args.half.key c.args.half.node c.args.half.moved c.split_here-next.result.key c.split_here-next.result.node c.split_here-next.result.moved (halved w.0 w.1 (w.2, c.args.left) w.3 w.4) c.index-self-up.result (c.args.up + 1) low (omega arith) c.requires.height size_is (add-one c.args.up) w.5 w.6 in
+    (omega (arith, c.decreases, size_is, low), (within.0, (within.1, ((λ a m. search rules), (search rules, (search rules, (omega (arith, size_is, c.requires.height), rw path_is asks)))))))
 
 pub returns-then-not-insert_here : goal.returns-then-not-insert_here
 returns-then-not-insert_here g t c = λ rows a first b p.

@@ -1,5 +1,5 @@
-use Rattle.std.proofs.Common.{rules, ◌≡◌, ℕ, ◌<◌, ◌≤◌, ◌++◌, length, get_or, refl, sym, ap, ◌∙◌, arith}
-use Rattle.bforest_core.proofs.Words.{Table, room, sizes_of, need, leaf_content, PlacedUnder, tree_of, reserved}
+use Rattle.std.proofs.Common.{rules, ◌≡◌, ℕ, ◌++◌, length, get_or, refl, ap, ◌∙◌, arith}
+use Rattle.bforest_core.proofs.Words.{Table, sizes_of, need, leaf_content, PlacedUnder, tree_of, reserved}
 use Rattle.bforest_core.proofs.table.Allocating.{err_iff, err_is, reserved-free}
 use Rattle.bforest_core.specs.Paths.{Placing}
 use Rattle.bforest_core.proofs.insertion.LeafSpot.{leaf_spot}
@@ -7,13 +7,6 @@ use Rattle.bforest_core.proofs.insertion.Insertion.{placed-under, under-low, gro
 use Rattle.bforest_core.proofs.path.Path.insert.Goals.{then-not-put_here+in_ok-reserve, else-not-put_here}
 use Rattle.bforest_core.proofs.path.Path.insert.Given.{Over}
 use Rattle.bforest_core.proofs.path.Path.insert.Goals as goal
-
--- what is said of two numbers is said of two equal to them
-less_same : (a b m n : ℕ) → m ≡ n → a ≡ b → a < m → b < n
-less_same a b m n is same less = omega (arith, is, same, less)
-
-most_same : (a b m n : ℕ) → m ≡ n → a ≡ b → n ≤ b → m ≤ a
-most_same a b m n is same most = omega (arith, is, same, most)
 
 pub put_here-requires : goal.put_here-requires
 put_here-requires g c =
@@ -73,7 +66,6 @@ returns-in_err-reserve g c =
     let e = err_is _ _ c.from_residual.ensures.1 in
     let said = c.in_err-reserve.ensures in
     let pool_is = c.put_here.ensures.pool c.if-not-put_here.true in
-    let room_is = ap (λ z. room z) pool_is in
     let need_is = λ (at : Placing t0 c.args.self.now). c.needed_here.ensures.value (tree_of t0.nodes at.root) at.place (rw pool_is (placed-under g.row.N t0 at.root at.place _ _ _ c.requires.union at.placed)) in
     record {
       inserted = λ at. rw e tt;
@@ -81,11 +73,11 @@ returns-in_err-reserve g c =
       stands = λ at. rw e tt;
       same_root = λ at. rw e tt;
       full = λ at. (
-        λ is. less_same _ _ _ _ (need_is at) room_is (said.full.0 ((err_iff c.from_residual.result c.in_err-reserve.field-0.0 _ e).0 is)),
-        λ short. (err_iff c.from_residual.result c.in_err-reserve.field-0.0 _ e).1 (said.full.1 (less_same _ _ _ _ (sym (need_is at)) (sym room_is) short)),
+        λ is. (rw (need_is at, pool_is) at (said.full.0 ((err_iff c.from_residual.result c.in_err-reserve.field-0.0 _ e).0 is))),
+        λ short. (err_iff c.from_residual.result c.in_err-reserve.field-0.0 _ e).1 (said.full.1 (rw (need_is at, pool_is) short)),
       );
       memory = λ at is. rw (need_is at, pool_is) at (said.memory ((err_iff c.from_residual.result c.in_err-reserve.field-0.0 _ e).0 is));
-      enough = λ at enough. (let ok = said.enough (most_same _ _ _ _ (need_is at) (ap (λ z. length z.chain) pool_is) enough) in absurd cc);
+      enough = λ at enough. (let ok = said.enough (rw (need_is at, pool_is) enough) in absurd cc);
       refused_pool = rw e (said.err ∙ pool_is);
       refused_path = rw e refl;
     }
