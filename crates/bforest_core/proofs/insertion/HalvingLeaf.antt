@@ -1,5 +1,5 @@
 -- Putting an entry into the path's leaf, or halving the leaf and putting it into one half: each answer of `put_here` and of `halve_leaf` is one of these.
-use Rattle.std.proofs.Common.{◌≡◌, ℕ, ◌+◌, ◌-◌, ◌/◌, nat_le, ◌≤◌, ◌<◌, true, false, Bool, if◌then◌else◌, List, [], ◌∷◌, ◌++◌, length, set, get_or, Some, refl, sym, ap, ◌∙◌, subst, arith, append_assoc, length-append}
+use Rattle.std.proofs.Common.{◌≡◌, ℕ, ◌+◌, ◌-◌, ◌/◌, nat_le, ◌≤◌, ◌<◌, true, false, Bool, if◌then◌else◌, List, [], ◌∷◌, ◌++◌, length, set, get_or, Some, refl, sym, ap, ◌∙◌, arith, append_assoc, length-append}
 use Rattle.bforest_core.proofs.Words.{get_or_default, get_or-set_same, get_or-set_other, Leaf, IsLeafCapacity, with_entry, Table, IsUsed, IsFullAt, IsSplitAt, front_of, with_node, Tree, heads, half_of, leaf_content, entry_keys, Placed}
 use Rattle.bforest_core.proofs.Words.{Inserted, LeafHalved}
 use Rattle.bforest_nodes.specs.declared.node.SplitOff.{SplitOff}
@@ -53,14 +53,11 @@ module _ {K V : Type 0} where
         seen : length (heads d.before) ≡ length d.before
         seen = Solid-full (half_of cap) cap (omega (arith, capacity.least, capacity.odd)) d.before d.solid
 
-        here_split : IsSplitAt cap t (get_or ms 0 0) (get_or js 0 0) parts s
-        here_split = subst (λ (z : ℕ). IsSplitAt cap t z (get_or js 0 0) parts s) num_is split
-
         left_count : parts.lhs_entries ≡ (if nat_le (get_or js 0 0) (cap / 2) then cap / 2 else (cap + 1) / 2)
-        left_count = counted leaf_content cap t s (get_or ms 0 0) (get_or js 0 0) (d.l ++ d.r) parts d.slot_is here_split
+        left_count = counted leaf_content cap t s _ (get_or ms 0 0) (get_or js 0 0) num_is (d.l ++ d.r) parts d.slot_is split
 
         cut : parts.lhs_entries < length (d.l ++ d.r) → Split leaf_content t s (get_or ms 0 0) right parts.lhs_entries (d.l ++ d.r) parts.crit_key
-        cut less = split_at leaf_content cap t s (get_or ms 0 0) (get_or js 0 0) (d.l ++ d.r) parts d.slot_is here_split right (λ zs y ys left right2 key is c. leaf_cuts V zs y ys parts.lhs_entries left right2 key is c) less d.none_chain front used.within
+        cut less = split_at leaf_content cap t s _ (get_or ms 0 0) (get_or js 0 0) num_is (d.l ++ d.r) parts d.slot_is split right (λ zs y ys left right2 key is c. leaf_cuts V zs y ys parts.lhs_entries left right2 key is c) less d.none_chain front used.within
 
         module _ (low : get_or js 0 0 ≤ cap / 2) where
           low_is : parts.lhs_entries ≡ cap / 2

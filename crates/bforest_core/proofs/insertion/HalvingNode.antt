@@ -114,14 +114,11 @@ module _ {K V : Type 0} where
       seen = Solid-full 4 8 (omega arith) d.q.before d.f.solid
 
       module _ (right : ℕ) (parts : SplitOff K) (front : front_of t.chain ≡ Some right) (used : IsUsed s right) (split : IsSplitAt cap t (get_or ms up r) (get_or js up 0) parts s) where
-        here_split : IsSplitAt cap t (get_or ms up 0) (get_or js up 0) parts s
-        here_split = subst (λ (z : ℕ). IsSplitAt cap t z (get_or js up 0) parts s) num_is split
-
         four : parts.lhs_entries ≡ 4
-        four = counted inner_content cap t s (get_or ms up 0) (get_or js up 0) (d.q.l ++ x ∷ d.q.r) parts d.f.slot_is here_split
+        four = counted inner_content cap t s _ (get_or ms up 0) (get_or js up 0) num_is (d.q.l ++ x ∷ d.q.r) parts d.f.slot_is split
 
         cut : Split {V = V} inner_content t s (get_or ms up 0) right parts.lhs_entries (d.q.l ++ x ∷ d.q.r) parts.crit_key
-        cut = let f = four in let e = eight in split_at inner_content cap t s (get_or ms up 0) (get_or js up 0) (d.q.l ++ x ∷ d.q.r) parts d.f.slot_is here_split right (inner_parts parts.lhs_entries (omega arith)) (omega arith) d.f.none_chain front used.within
+        cut = let f = four in let e = eight in split_at inner_content cap t s _ (get_or ms up 0) (get_or js up 0) num_is (d.q.l ++ x ∷ d.q.r) parts d.f.slot_is split right (inner_parts parts.lhs_entries (omega arith)) (omega arith) d.f.none_chain front used.within
 
         pub early_asks : get_or js up 0 < 4 → PutAsks Inner s (get_or ms up r) (get_or js up 0)
         early_asks early =
