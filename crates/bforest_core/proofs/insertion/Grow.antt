@@ -2,7 +2,11 @@
 use Rattle.std.proofs.Common.{◌≡◌, ◌⊎◌, nat_le, ◌/◌, ℕ, suc, ◌+◌, ◌-◌, ◌≤◌, ◌<◌, nat_lt, if◌then◌else◌, Bool, true, false, Option, Some, None, List, [], ◌∷◌, ◌++◌, length, refl, sym, ap, ◌∙◌, inl, inr, append_assoc, length-append, arith}
 use Rattle.bforest_core.proofs.Words.{append-nil, LevelNode, node, flat, head_of, heads, sizes, FitRow, inner_gain, past, leaf_gain, IsAt}
 use Rattle.bforest_core.proofs.rows.Bounds.{below_lt, above_lt}
-use Rattle.bforest_core.proofs.rows.LevelRows.{flat-append, sizes-append, least-le, FitRow-split, FitRow-join}
+use Rattle.bforest_core.proofs.rows.LevelRows.{flat-append, sizes-append, least-le, FitRow-split, FitRow-join, heads-append}
+
+-- one element more
+pub one_more : {A : Type 0} (a : List A) (x y : A) (b : List A) → length (a ++ x ∷ b) ≤ length (a ++ x ∷ y ∷ b)
+one_more a x y b = omega (arith, length-append a (x ∷ b), length-append a (x ∷ y ∷ b))
 
 module _ {K X : Type 0} where
   -- a node's head is that of its first entry
@@ -20,6 +24,10 @@ module _ {K X : Type 0} where
   pub flat-halved : (before after : List (LevelNode K X)) (m n : ℕ) (xs ys : List (K × X)) → flat (before ++ node m xs ∷ node n ys ∷ after) ≡ flat before ++ ((xs ++ ys) ++ flat after)
   flat-halved before after m n xs ys =
       flat-append before _ ∙ ap (λ z. flat before ++ z) (sym (append_assoc xs ys (flat after)))
+
+  -- it is seen as two from above
+  pub heads-halved : (before after : List (LevelNode K X)) (m n : ℕ) (x : K × X) (xs : List (K × X)) (y : K × X) (ys : List (K × X)) (key : K) → key ≡ y.0 → heads (before ++ node m (x ∷ xs) ∷ node n (y ∷ ys) ∷ after) ≡ heads before ++ (x.0, m) ∷ (key, n) ∷ heads after
+  heads-halved before after m n x xs y ys key is = rw (heads-append before (node m (x ∷ xs) ∷ node n (y ∷ ys) ∷ after), is) refl
 
   pub FitRow-halved : (half most : ℕ) (before after : List (LevelNode K X)) (m n : ℕ) (es xs ys : List (K × X)) → 1 ≤ half → FitRow half most (before ++ node m es ∷ after) → half ≤ length xs → length xs ≤ most → half ≤ length ys → length ys ≤ most → FitRow half most (before ++ node m xs ∷ node n ys ∷ after)
   FitRow-halved half most before after m n es xs ys one f hx mx hy my =

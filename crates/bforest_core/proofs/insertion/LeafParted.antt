@@ -1,5 +1,5 @@
 -- The leaves after one of them was halved, and the tree after the levels above took the right half in.
-use Rattle.std.proofs.Common.{◌≡◌, ℕ, suc, ◌+◌, ◌-◌, ◌≤◌, ◌<◌, ◌≢◌, Bool, if◌then◌else◌, List, ◌∷◌, ◌++◌, map, length, insert, get_or, slice_get, Option, Some, sym, ap, ◌∙◌, subst, length-append, arith, []}
+use Rattle.std.proofs.Common.{◌≡◌, ℕ, suc, ◌+◌, ◌-◌, ◌≤◌, ◌<◌, ◌≢◌, Bool, if◌then◌else◌, List, ◌∷◌, ◌++◌, map, length, insert, get_or, slice_get, Option, Some, sym, ap, ◌∙◌, subst, length-append, arith, [], refl}
 use Rattle.bforest_core.proofs.Words.{flat_map, length-map, IsLeafCapacity, Table, LevelNode, node, flat, head_of, heads, sizes, numbers, Stacked, Topped, Tree, IsFit, half_of, leaf_gain, gain_above, need_above, leaf_content, count, IsAt}
 use Rattle.bforest_core.proofs.Words.{StandsAbove, Stands, Placed, LeafHalved, Inserted, Grown}
 use Rattle.bforest_core.proofs.rows.LevelRows.{heads-append, sizes-append, FitRow-split}
@@ -7,7 +7,7 @@ use Rattle.bforest_core.proofs.table.Tables.{counts, count-append, count-same, r
 use Rattle.bforest_core.proofs.rows.Zipper.{stands-same}
 use Rattle.bforest_core.proofs.rows.Tops.{root-stands, root-points}
 use Rattle.bforest_core.proofs.insertion.Rise.{gain-some}
-use Rattle.bforest_core.proofs.insertion.Grow.{InHalf, flat-halved, FitRow-halved, leaf_full}
+use Rattle.bforest_core.proofs.insertion.Grow.{InHalf, flat-halved, FitRow-halved, leaf_full, heads-halved, one_more}
 use Rattle.bforest_core.proofs.insertion.LeafSpot.{LeafSpot, renewed, insert_flat, rows_count}
 use Rattle.bforest_core.proofs.insertion.Halving.{Halves}
 
@@ -54,10 +54,7 @@ module _ {K V : Type 0} where
             ∙ sym (insert_flat d.before n d.l d.r d.after entry) ∙ ap (λ z. insert (flat row) z entry) (sym d.place_is) ∙ ap (λ z. insert (flat z) place entry) (sym d.leaves_are);
         fit = FitRow-halved (half_of most) most d.before d.after n right es (h.z ∷ h.xs) (h.y ∷ h.ys) (omega (arith, capacity.least)) d.fit (omega (arith, h.left_is)) (omega (arith, h.left_is, few)) (omega (arith, h.right_is)) (omega (arith, h.right_is, few));
         inside = row-changed leaf_content t.nodes u.nodes d.before (node n es ∷ []) (node n (h.z ∷ h.xs) ∷ node right (h.y ∷ h.ys) ∷ []) d.after n right d.inside h.two.same (h.two.here, (h.two.there, tt)) d.none none_right;
-        gain_is = full_gain most t ms js tree place d full ∙ ap (λ z. (Some z, sizes d.before ++ half_of most ∷ half_of most ∷ sizes d.after)) (sym solid_full)
-            ∙ ap (λ z. (Some (length (heads d.before)), sizes d.before ++ z ∷ half_of most ∷ sizes d.after)) (sym h.left_is)
-            ∙ ap (λ z. (Some (length (heads d.before)), sizes d.before ++ length (h.z ∷ h.xs) ∷ z ∷ sizes d.after)) (sym h.right_is)
-            ∙ ap (λ z. (Some (length (heads d.before)), z)) (sym (sizes-append d.before (node n (h.z ∷ h.xs) ∷ node right (h.y ∷ h.ys) ∷ d.after)));
+        gain_is = full_gain most t ms js tree place d full ∙ rw (solid_full, sizes-append d.before (node n (h.z ∷ h.xs) ∷ node right (h.y ∷ h.ys) ∷ d.after), h.left_is, h.right_is) refl;
         above = record {
           stacked = subst (λ (z : List (K × ℕ)). Stacked z up.rows') hs0 up.stacked;
           inside = rows-same t.nodes u.nodes up.rows' (λ m some. h.two.same m (ne_from_count m n (flat_map numbers up.rows') some none_rows) (ne_from_count m right (flat_map numbers up.rows') some none_right_rows)) up.inside;
@@ -101,11 +98,7 @@ module _ {K V : Type 0} where
       let chain_is : t.chain ≡ right ∷ (taken ++ v.chain) = h.chain_is ∙ ap (λ z. right ∷ z) g.chain_is in
       let c7 = λ (m : ℕ). ap (λ z. count m z) chain_is in
       let c8 = λ (m : ℕ). count-append m taken v.chain in
-      let hs : heads row2 ≡ heads h.before ++ (h.first.0, n) ∷ (key, right) ∷ heads h.after =
-      heads-append h.before _ ∙ ap (λ z. heads h.before ++ (h.first.0, n) ∷ (z, right) ∷ heads h.after) (sym h.key_is) in
-      let one : List (K × ℕ) = heads h.before ++ (h.first.0, n) ∷ heads h.after in
-      let longer : length one ≤ length (heads h.before ++ (h.first.0, n) ∷ (key, right) ∷ heads h.after) =
-      omega (arith, length-append (heads h.before) ((h.first.0, n) ∷ heads h.after), length-append (heads h.before) ((h.first.0, n) ∷ (key, right) ∷ heads h.after)) in
+      let hs = heads-halved h.before h.after n right h.first h.others h.next h.more key h.key_is in
       let quiet : (m : ℕ) → 0 < count m (numbers row2) → slice_get v.nodes m ≡ slice_get u.nodes m = λ m some. g.others m (omega (arith, some, p.apart m, leaves_m m, rows_m m, c m, c2 m, c4 m, c7 m, c8 m)) in
       let here_m = g.nodes_below 0 (omega arith) in
       let here_j = g.entries_below 0 (omega arith) in
@@ -113,7 +106,7 @@ module _ {K V : Type 0} where
       let fit' : IsFit most (record { leaves = row2; above = g.rows' }) = record {
         leaves_fit = h.fit;
         stacked = subst (λ (z : List (K × ℕ)). Stacked z g.rows') (sym hs) g.above.stacked;
-        topped = subst (λ (z : List (K × ℕ)). Topped z g.rows') (sym hs) (g.topped one longer h.topped);
+        topped = subst (λ (z : List (K × ℕ)). Topped z g.rows') (sym hs) (g.topped _ (one_more (heads h.before) (h.first.0, n) (key, right) (heads h.after)) h.topped);
       } in
       let stands : Stands ms'' js'' size' (record { leaves = row2; above = g.rows' }) place = record {
         leaf = at2;

@@ -4,7 +4,7 @@ use Rattle.bforest_core.proofs.Words.{flat_map, length-map, Inner, Table, LevelN
 use Rattle.bforest_core.proofs.rows.LevelRows.{heads-append, flat-append, sizes-append}
 use Rattle.bforest_core.proofs.table.Tables.{counts, count-append, count-same, row-same, absent_ne, Takes, row-put, rows-same, ne_from_count, Puts}
 use Rattle.bforest_core.proofs.rows.Zipper.{Spot, stands_here, stands-same}
-use Rattle.bforest_core.proofs.insertion.Grow.{gain_spot, gain_full, head-grown, FitRow-put, gain_room}
+use Rattle.bforest_core.proofs.insertion.Grow.{gain_spot, gain_full, head-grown, FitRow-put, gain_room, heads-halved, one_more}
 
 -- one where the path moved on
 abbrev pub step : Bool → ℕ
@@ -94,11 +94,8 @@ module _ {K V : Type 0} where
       let c7 = λ (m : ℕ). ap (λ z. count m z) chain_is in
       let c8 = λ (m : ℕ). count-append m taken v.chain in
       let nums_m = λ (m : ℕ). ap (λ z. count m (flat_map numbers z)) h.rows_were in
-      let hs : heads row2 ≡ heads h.before ++ (h.first.0, n) ∷ (key, right) ∷ heads h.after =
-      heads-append h.before _ ∙ ap (λ z. heads h.before ++ (h.first.0, n) ∷ (z, right) ∷ heads h.after) (sym h.key_is) in
+      let hs = heads-halved h.before h.after n right h.first h.others h.next h.more key h.key_is in
       let hs0 : heads row ≡ heads h.before ++ (h.first.0, n) ∷ heads h.after = heads-append h.before _ ∙ ap (λ z. heads h.before ++ (z ++ heads h.after)) h.head_is in
-      let longer : length (heads row) ≤ length (heads h.before ++ (h.first.0, n) ∷ (key, right) ∷ heads h.after) =
-      omega (arith, ap length hs0, length-append (heads h.before) ((h.first.0, n) ∷ heads h.after), length-append (heads h.before) ((h.first.0, n) ∷ (key, right) ∷ heads h.after)) in
       let quiet : (m : ℕ) → 0 < count m (numbers row2) → slice_get v.nodes m ≡ slice_get u.nodes m = λ m some. g.others m (omega (arith, some, d m, c m, c2 m, c7 m, c8 m)) in
       let here_m = g.nodes_below up (omega arith) in
       let here_j = g.entries_below up (omega arith) in
@@ -114,7 +111,7 @@ module _ {K V : Type 0} where
         };
         topped = λ old le top. (
           omega (arith, le, (tops old top).0),
-          subst (λ (z : List (K × ℕ)). Topped z g.rows') (sym hs) (g.topped (heads row) longer (tops old top).1),
+          subst (λ (z : List (K × ℕ)). Topped z g.rows') (sym hs) (g.topped (heads row) (omega (arith, ap length hs0, one_more (heads h.before) (h.first.0, n) (key, right) (heads h.after))) (tops old top).1),
         );
         sizes_are = ap (λ z. sizes row2 ∷ z) g.sizes_are ∙ sym (ap (λ z. gain_above (Some was) (map sizes z)) h.rows_were ∙ ap (λ z. z.1 ∷ gain_above z.0 (map sizes h.rest)) h.gain_is);
         numbers_are = λ m. omega (arith, nums_m m, c m, c2 m, g.numbers_are m);

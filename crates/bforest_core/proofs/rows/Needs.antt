@@ -1,5 +1,5 @@
 -- How many nodes an insertion needs, counted from the leaf upwards.
-use Rattle.std.proofs.Common.{◌≡◌, ℕ, suc, ◌+◌, ◌≤◌, ◌<◌, ◌≢◌, IsTrue, true, false, Bool, add-one, ◌↔◌, List, [], ◌∷◌, ◌++◌, map, length, get_or, slice_get, Some, refl, sym, ap, ◌∙◌, arith}
+use Rattle.std.proofs.Common.{◌≡◌, ℕ, suc, ◌+◌, ◌≤◌, ◌<◌, ◌≢◌, IsTrue, true, false, Bool, add-one, ◌↔◌, List, ◌∷◌, ◌++◌, map, length, get_or, slice_get, Some, refl, sym, ap, ◌∙◌, arith}
 use Rattle.bforest_core.proofs.Words.{flat_map, false≢true, get_or_default, slice_get_within, Content, IsFree, entry_count, entry_capacity, Table, LevelNode, node, heads, sizes, sizes_of, numbers, Tree, leaf_gain, need, need_above, count}
 use Rattle.bforest_core.proofs.Words.{inner_content, leaf_content, Above, Placed}
 use Rattle.bforest_core.proofs.rows.LevelRows.{sizes-append}
@@ -104,8 +104,3 @@ module _ {K V : Type 0} where
 
           pub leaf_room : full ≡ false → 0 ≡ need most place (sizes_of tree)
           leaf_room none = sym (ap (λ z. need_above z.0 (map sizes tree.above)) (room_gain most t ms js tree place leaf (omega (arith, not_so full none leaf_tells, leaf.most_is))))
-
--- where all nodes are full: a new root too
-pub top_need : {K : Type 0} (place up size : ℕ) (rows : List (List (LevelNode K ℕ))) → up + length rows ≡ size → up ≡ size → 2 ≡ need_above (Some place) (map sizes rows)
-top_need place up size [] height top = refl
-top_need place up size (row ∷ rows) height top = absurd (omega arith)

@@ -57,15 +57,10 @@ not_free (Leaf keys vals) some free = free
 not_free (Free next) some free = omega (arith, some)
 
 -- nor is an inner node, which has as many entries as children
-pub inner_used : {K V : Type 0} → (content : Content K V) → IsInner content → IsFree content → ⊥
-inner_used (Inner keys children) inner free = free
-inner_used (Leaf keys vals) inner free = free
-inner_used (Free next) inner free = inner
-
-pub inner_entries : {K V : Type 0} → (content : Content K V) → IsInner content → entry_count content ≡ length (children_of content)
-inner_entries (Inner keys children) inner = refl
-inner_entries (Leaf keys vals) inner = elim inner [ ]
-inner_entries (Free next) inner = elim inner [ ]
+pub inner_used : {K V : Type 0} → (content : Content K V) → IsInner content → (¬ IsFree content) × (entry_count content ≡ length (children_of content))
+inner_used (Inner keys children) inner = (λ free. free, refl)
+inner_used (Leaf keys vals) inner = elim inner [ ]
+inner_used (Free next) inner = elim inner [ ]
 
 -- any other has no children
 pub childless : {K V : Type 0} → (content : Content K V) → (IsInner content → ⊥) → 0 ≡ length (children_of content)

@@ -47,8 +47,7 @@ two_nodes-rhs-requires-clause-apart g c = λ same. apart_front c.args.self.now.c
 
 pub two_nodes-rhs-requires-clause-left_within : goal.two_nodes-rhs-requires-clause-left_within
 two_nodes-rhs-requires-clause-left_within g c =
-    let within = rw (← c.self.view_is) at c.take_slot-right.ensures.used.within in
-    rw (c.as_mut_slice.ensures.value, c.number.ensures.value) within
+    rw (c.as_mut_slice.ensures.value, c.number.ensures.value) (rw (← c.self.view_is) at c.take_slot-right.ensures.used.within)
 
 pub two_nodes-rhs-requires-clause-right_within : goal.two_nodes-rhs-requires-clause-right_within
 two_nodes-rhs-requires-clause-right_within g c =
