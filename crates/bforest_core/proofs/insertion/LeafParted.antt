@@ -52,7 +52,7 @@ module _ {K V : Type 0} where
         key_is = h.middle_is;
         flat_is = flat-halved d.before d.after n right (h.z ∷ h.xs) (h.y ∷ h.ys) ∙ ap (λ z. flat d.before ++ (z ++ flat d.after)) (sym h.grown_is)
             ∙ sym (insert_flat d.before n d.l d.r d.after entry) ∙ ap (λ z. insert (flat row) z entry) (sym d.place_is) ∙ ap (λ z. insert (flat z) place entry) (sym d.leaves_are);
-        fit = FitRow-halved (half_of most) most d.before d.after n right es (h.z ∷ h.xs) (h.y ∷ h.ys) (omega (arith, capacity.least)) d.fit (omega (arith, h.left_is)) (omega (arith, h.left_is, few)) (omega (arith, h.right_is)) (omega (arith, h.right_is, few));
+        fit = FitRow-halved (half_of most) most d.before d.after n right es (h.z ∷ h.xs) (h.y ∷ h.ys) (omega (arith, capacity.least)) d.fit.leaves_fit (omega (arith, h.left_is)) (omega (arith, h.left_is, few)) (omega (arith, h.right_is)) (omega (arith, h.right_is, few));
         inside = row-changed leaf_content t.nodes u.nodes d.before (node n es ∷ []) (node n (h.z ∷ h.xs) ∷ node right (h.y ∷ h.ys) ∷ []) d.after n right d.inside h.two.same (h.two.here, (h.two.there, tt)) d.none none_right;
         gain_is = full_gain most t ms js tree place d full ∙ rw (solid_full, sizes-append d.before (node n (h.z ∷ h.xs) ∷ node right (h.y ∷ h.ys) ∷ d.after), h.left_is, h.right_is) refl;
         above = record {

@@ -1,7 +1,7 @@
 -- The leaf of a place for an entry, and the entry put in where there is room.
 use Rattle.std.proofs.Common.{◌≡◌, ◌⊎◌, ℕ, suc, ◌+◌, ◌≤◌, ◌<◌, List, [], ◌∷◌, ◌++◌, map, length, take, drop, insert, get_or, slice_get, Some, None, inl, inr, refl, sym, ap, ◌∙◌, subst, append_assoc, length-append, length-take-le, take-append-drop, arith}
-use Rattle.bforest_core.proofs.Words.{flat_map, cases_lt, length-map, Table, LevelNode, node, flat, heads, sizes, numbers, FitRow, Solid, Stacked, Topped, Tree, IsFit, half_of, leaf_gain, gain_above, need_above, RowIn, leaf_content}
-use Rattle.bforest_core.proofs.Words.{entry_keys, count, Distinct, StandsAbove, Stands, Placed, Inserted, Content, RowsIn, IsAt}
+use Rattle.bforest_core.proofs.Words.{flat_map, cases_lt, length-map, Table, LevelNode, node, flat, heads, sizes, numbers, Solid, Stacked, Topped, Tree, IsFit, half_of, leaf_gain, gain_above, need_above, RowIn, leaf_content, entry_keys}
+use Rattle.bforest_core.proofs.Words.{count, Distinct, StandsAbove, Stands, Placed, Inserted, Content, RowsIn, IsAt}
 use Rattle.bforest_core.proofs.rows.LevelRows.{flat-append, least-pos, sizes-append, FitRow-split, heads-append}
 use Rattle.bforest_core.proofs.table.Tables.{counts, row-split, row-put, rows-same, ne_from_count, absent_ne, Puts}
 use Rattle.bforest_core.proofs.rows.Zipper.{apart_here}
@@ -109,13 +109,11 @@ module _ {K V : Type 0} where
     pub index_is : length l ≡ get_or js 0 0
     pub place_is : place ≡ length (flat before) + length l
     pub first : (before ≡ []) ⊎ (1 ≤ length l)
-    pub fit : FitRow (half_of most) most (before ++ node (get_or ms 0 0) (l ++ r) ∷ after)
+    pub fit : IsFit most (record { leaves = before ++ node (get_or ms 0 0) (l ++ r) ∷ after; above = tree.above })
     pub solid : Solid (half_of most) most before
     pub most_is : length (l ++ r) ≤ most
     pub inside : RowIn leaf_content t.nodes (before ++ node (get_or ms 0 0) (l ++ r) ∷ after)
     pub slot_is : slice_get t.nodes (get_or ms 0 0) ≡ Some (leaf_content (l ++ r))
-    pub stacked : Stacked (heads (before ++ node (get_or ms 0 0) (l ++ r) ∷ after)) tree.above
-    pub topped : Topped (heads (before ++ node (get_or ms 0 0) (l ++ r) ∷ after)) tree.above
     pub stands : StandsAbove ms js 1 tree.above (length before)
     pub apart : Distinct ((numbers (before ++ node (get_or ms 0 0) (l ++ r) ∷ after) ++ flat_map numbers tree.above) ++ t.chain)
     pub none : count (get_or ms 0 0) (numbers before) + count (get_or ms 0 0) (numbers after) ≡ 0
@@ -131,10 +129,10 @@ module _ {K V : Type 0} where
       let l_is = length-take-le (get_or js 0 0) at.entries at.within in
       let row : List (LevelNode K V) = at.before ++ node n (l ++ r) ∷ at.after in
       let is : tree.leaves ≡ row = at.leaves_are ∙ ap (λ z. at.before ++ node n z ∷ at.after) (sym (take-append-drop (get_or js 0 0) at.entries)) in
-      let fit : FitRow (half_of most) most row = subst (λ (z : List (LevelNode K V)). FitRow (half_of most) most z) is p.fit.leaves_fit in
+      let fit = subst (λ (z : List (LevelNode K V)). IsFit most (record { leaves = z; above = tree.above })) is p.fit in
       let inside : RowIn leaf_content t.nodes row = subst (λ (z : List (LevelNode K V)). RowIn leaf_content t.nodes z) is p.inside.leaves_in in
       let apart : Distinct ((numbers row ++ flat_map numbers tree.above) ++ t.chain) = subst (λ (z : List (LevelNode K V)). Distinct ((numbers z ++ flat_map numbers tree.above) ++ t.chain)) is p.apart in
-      let f = FitRow-split (half_of most) most at.before (node n (l ++ r)) at.after fit in
+      let f = FitRow-split (half_of most) most at.before (node n (l ++ r)) at.after fit.leaves_fit in
       let d = apart_here n at.before (l ++ r) at.after (flat_map numbers tree.above) t.chain apart in
       record {
         before = at.before;
@@ -150,8 +148,6 @@ module _ {K V : Type 0} where
         most_is = f.1.1;
         inside = inside;
         slot_is = (row-split leaf_content t.nodes at.before (node n (l ++ r) ∷ at.after) inside).1.0;
-        stacked = subst (λ (z : List (LevelNode K V)). Stacked (heads z) tree.above) is p.fit.stacked;
-        topped = subst (λ (z : List (LevelNode K V)). Topped (heads z) tree.above) is p.fit.topped;
         stands = at.above;
         apart = apart;
         none = d.0;
@@ -163,8 +159,8 @@ module _ {K V : Type 0} where
   pub renewed : (most : ℕ) (t : Table K V) (ms js : List ℕ) (size : ℕ) (tree : Tree K V) (place : ℕ) (entry : K × V) → 1 ≤ most → Placed most t ms js size tree place → (d : LeafSpot most t ms js tree place) →
       Renewed t.nodes ms js 1 tree.above (heads (d.before ++ node (get_or ms 0 0) (d.l ++ entry ∷ d.r) ∷ d.after))
   renewed most t ms js size tree place entry one p d =
-      let f = FitRow-split (half_of most) most d.before (node (get_or ms 0 0) (d.l ++ d.r)) d.after d.fit in
-      renew t.nodes ms js 1 tree.above d.before (get_or ms 0 0) d.l entry d.r d.after d.first (omega (arith, f.1.0, least-pos (half_of most) (omega (arith, one)) d.after)) d.stacked d.topped p.inside.rows_in
+      let f = FitRow-split (half_of most) most d.before (node (get_or ms 0 0) (d.l ++ d.r)) d.after d.fit.leaves_fit in
+      renew t.nodes ms js 1 tree.above d.before (get_or ms 0 0) d.l entry d.r d.after d.first (omega (arith, f.1.0, least-pos (half_of most) (omega (arith, one)) d.after)) d.fit.stacked d.fit.topped p.inside.rows_in
 
   -- where the leaf has room
   pub room_gain : (most : ℕ) (t : Table K V) (ms js : List ℕ) (tree : Tree K V) (place : ℕ) → (d : LeafSpot most t ms js tree place) → length (d.l ++ d.r) < most → leaf_gain most place (sizes tree.leaves) ≡ (None, sizes d.before ++ suc (length (d.l ++ d.r)) ∷ sizes d.after)
@@ -187,7 +183,7 @@ module _ {K V : Type 0} where
       let c2 = λ (m : ℕ). counts m d.before n old d.after tree.above t.chain in
       let c3 = λ (m : ℕ). counts m d.before n es d.after above.rows' u.chain in
       let g = room_gain most t ms js tree place d room in
-      let fit' : IsFit most (record { leaves = row2; above = above.rows' }) = record { leaves_fit = FitRow-put (half_of most) most d.before d.after n old es len room d.fit; stacked = above.stacked; topped = above.topped } in
+      let fit' : IsFit most (record { leaves = row2; above = above.rows' }) = record { leaves_fit = FitRow-put (half_of most) most d.before d.after n old es len room d.fit.leaves_fit; stacked = above.stacked; topped = above.topped } in
       let stands : Stands ms js size (record { leaves = row2; above = above.rows' }) place = record {
         leaf = record { before = d.before; entries = es; after = d.after; row_is = refl; within = omega (arith, d.index_is, length-append d.l (entry ∷ d.r)); place_is = omega (arith, d.place_is, d.index_is) };
         above = above.stands (length d.before) d.stands;

@@ -77,7 +77,7 @@ module _ {K V : Type 0} where
     pub leaf_above : (rows : List (List (LevelNode K ℕ))) × (list : List (K × ℕ)) × (at : ℕ) × Above t ms js 1 size rows list at
     leaf_above =
         let row : List (LevelNode K V) = leaf.before ++ node (get_or ms 0 0) (leaf.l ++ leaf.r) ∷ leaf.after in
-        (tree.above, heads row, length leaf.before, record { stacked = leaf.stacked; inside = p.inside.rows_in; stands = leaf.stands; height = omega (arith, p.at.points.size_is); apart = λ m. omega (arith, leaf.apart m, count-append m (numbers row ++ flat_map numbers tree.above) t.chain, count-append m (numbers row) (flat_map numbers tree.above), count-append m (flat_map numbers tree.above) t.chain) })
+        (tree.above, heads row, length leaf.before, record { stacked = leaf.fit.stacked; inside = p.inside.rows_in; stands = leaf.stands; height = omega (arith, p.at.points.size_is); apart = λ m. omega (arith, leaf.apart m, count-append m (numbers row ++ flat_map numbers tree.above) t.chain, count-append m (numbers row) (flat_map numbers tree.above), count-append m (flat_map numbers tree.above) t.chain) })
 
     module _ (wide : 0 < length ms) (r : ℕ) where
       leaf_slot : slice_get t.nodes (get_or ms 0 r) ≡ Some (leaf_content (leaf.l ++ leaf.r))

@@ -17,9 +17,6 @@ module _ {K V : Type 0} where
   pub taken_is : (t u : Table K V) (node : ℕ) (c d : Content K V) → front_of t.chain ≡ Some node → u ≡ without_front t t.chain → c ≡ d → with_node u node c ≡ with_front t t.chain d
   taken_is t u node c d front u_is c_is = ap (λ z. with_node z node c) u_is ∙ ap (λ z. with_node (without_front t t.chain) node z) c_is ∙ sym (with_front-is t t.chain node d front)
 
-  pub reserved_taken_is : (old t u : Table K V) (node : ℕ) (c d : Content K V) → t ≡ reserved old 1 → front_of t.chain ≡ Some node → u ≡ without_front t t.chain → c ≡ d → with_node u node c ≡ with_front (reserved old 1) (reserved old 1).chain d
-  reserved_taken_is old t u node c d t_is front u_is c_is = taken_is t u node c d front u_is c_is ∙ ap (λ z. with_front z z.chain d) t_is
-
   -- a used node that was written is used
   pub used_written : (t : Table K V) (node : ℕ) (c : Content K V) → IsUsed t node → IsUsed (with_node t node c) node
   used_written t node c used = record { within = (let w = used.within in omega (arith, length-set t.nodes node c)); off_chain = used.off_chain }

@@ -1,6 +1,6 @@
 use Rattle.std.proofs.Common.{rules, [], ◌∷◌, ap, ◌∙◌, length, sym, arith}
-use Rattle.bforest_core.proofs.Words.{false≢true, Leaf, front_of}
-use Rattle.bforest_core.proofs.table.Allocating.{err_iff, err_is, reserved-free, reserved_taken_is, used_written}
+use Rattle.bforest_core.proofs.Words.{false≢true, Leaf, front_of, with_front}
+use Rattle.bforest_core.proofs.table.Allocating.{err_iff, err_is, reserved-free, taken_is, used_written}
 use Rattle.bforest_core.proofs.union.Planting.{planted-alloc}
 use Rattle.bforest_core.proofs.pool.NodePool.alloc_node.Goals as goal
 
@@ -29,7 +29,7 @@ pub returns-clause-node : goal.returns-clause-node
 returns-clause-node g c = ap (λ z. front_of z.chain) (sym c.in_ok-reserve.ensures.ok) ∙ c.take_slot-node.ensures.node
 
 pub returns-clause-ok : goal.returns-clause-ok
-returns-clause-ok g c = reserved_taken_is c.args.self.now c.reserve.new.self c.take_slot-node.new.self c.take_slot-node.result c.leaf.new.self (Leaf (c.args.key ∷ []) (c.args.value ∷ [])) c.in_ok-reserve.ensures.ok c.take_slot-node.ensures.node c.take_slot-node.ensures.table c.leaf.ensures.node
+returns-clause-ok g c = taken_is c.reserve.new.self c.take_slot-node.new.self c.take_slot-node.result c.leaf.new.self (Leaf (c.args.key ∷ []) (c.args.value ∷ [])) c.take_slot-node.ensures.node c.take_slot-node.ensures.table c.leaf.ensures.node ∙ ap (λ z. with_front z z.chain (Leaf (c.args.key ∷ []) (c.args.value ∷ []))) c.in_ok-reserve.ensures.ok
 
 pub returns-clause-used : goal.returns-clause-used
 returns-clause-used g c = used_written _ _ _ c.take_slot-node.ensures.used
