@@ -3,9 +3,6 @@ use Rattle.bforest_core.proofs.Words.{false≢true, children_of}
 use Rattle.bforest_core.proofs.table.Stored.{read_same, inner_used, childless}
 use Rattle.bforest_core.proofs.pool.NodePool.child_count.Goals as goal
 
-pub node-node-requires : goal.node-node-requires
-node-node-requires g c = (search rules, (search rules, c.requires))
-
 pub entries-requires : goal.entries-requires
 entries-requires g c = (search rules, (inner_used c.node-node.result.now (c.is_inner.ensures.inner.0 c.if-is_inner.true)).0)
 

@@ -71,11 +71,5 @@ returns-in-Err g c = record {
   trees = λ union. same-keeps g.row.N c.args.self.now _ (rw c.in-Err.ensures.err c.self.view_is) union;
 }
 
-pub overflow_sub-self-inside : goal.overflow_sub-self-inside
-overflow_sub-self-inside g c = omega (arith, c.self.invariant.slots_within)
-
-pub overflow_cast-len : goal.overflow_cast-len
-overflow_cast-len g c = omega (arith, c.self.invariant.slots_within, c.self.invariant.limit_within)
-
 pub invariant_of-self-in-Err : goal.invariant_of-self-in-Err
 invariant_of-self-in-Err g c = rw c.in-Err.ensures.err c.self.invariant
