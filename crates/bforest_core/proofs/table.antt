@@ -2,9 +2,7 @@
 pub mod Lists
 pub mod Chains
 pub mod Pools
-pub mod Fronts
 pub mod Allocating
 pub mod Tables
 pub mod Stored
 pub mod Read
-pub mod Taking

@@ -1,8 +1,12 @@
 -- One entry more in a row: where its node has room, and where it is halved.
 use Rattle.std.proofs.Common.{◌≡◌, ◌⊎◌, nat_le, ◌/◌, ℕ, suc, ◌+◌, ◌-◌, ◌≤◌, ◌<◌, nat_lt, if◌then◌else◌, Bool, true, false, Option, Some, None, List, [], ◌∷◌, ◌++◌, length, refl, sym, ap, ◌∙◌, inl, inr, append_assoc, length-append, arith}
-use Rattle.bforest_core.proofs.Words.{cases_lt, append-nil, LevelNode, node, flat, head_of, heads, sizes, FitRow, inner_gain, past, leaf_gain, IsAt}
+use Rattle.bforest_core.proofs.Words.{append-nil, LevelNode, node, flat, head_of, heads, sizes, FitRow, inner_gain, past, leaf_gain, IsAt}
 use Rattle.bforest_core.proofs.rows.Bounds.{below_lt, above_lt}
-use Rattle.bforest_core.proofs.rows.LevelRows.{flat-append, sizes-append, least-le, FitRow-split, FitRow-join}
+use Rattle.bforest_core.proofs.rows.LevelRows.{flat-append, sizes-append, least-le, FitRow-split, FitRow-join, heads-append}
+
+-- one element more
+pub one_more : {A : Type 0} (a : List A) (x y : A) (b : List A) → length (a ++ x ∷ b) ≤ length (a ++ x ∷ y ∷ b)
+one_more a x y b = omega (arith, length-append a (x ∷ b), length-append a (x ∷ y ∷ b))
 
 module _ {K X : Type 0} where
   -- a node's head is that of its first entry
@@ -20,6 +24,10 @@ module _ {K X : Type 0} where
   pub flat-halved : (before after : List (LevelNode K X)) (m n : ℕ) (xs ys : List (K × X)) → flat (before ++ node m xs ∷ node n ys ∷ after) ≡ flat before ++ ((xs ++ ys) ++ flat after)
   flat-halved before after m n xs ys =
       flat-append before _ ∙ ap (λ z. flat before ++ z) (sym (append_assoc xs ys (flat after)))
+
+  -- it is seen as two from above
+  pub heads-halved : (before after : List (LevelNode K X)) (m n : ℕ) (x : K × X) (xs : List (K × X)) (y : K × X) (ys : List (K × X)) (key : K) → key ≡ y.0 → heads (before ++ node m (x ∷ xs) ∷ node n (y ∷ ys) ∷ after) ≡ heads before ++ (x.0, m) ∷ (key, n) ∷ heads after
+  heads-halved before after m n x xs y ys key is = rw (heads-append before (node m (x ∷ xs) ∷ node n (y ∷ ys) ∷ after), is) refl
 
   pub FitRow-halved : (half most : ℕ) (before after : List (LevelNode K X)) (m n : ℕ) (es xs ys : List (K × X)) → 1 ≤ half → FitRow half most (before ++ node m es ∷ after) → half ≤ length xs → length xs ≤ most → half ≤ length ys → length ys ≤ most → FitRow half most (before ++ node m xs ∷ node n ys ∷ after)
   FitRow-halved half most before after m n es xs ys one f hx mx hy my =
@@ -67,78 +75,43 @@ module _ {K X : Type 0} where
   behind_some [] ss = refl
   behind_some (node m es ∷ before) ss = ap (λ z. past (length es) z) (behind_some before ss)
 
-  gain_behind : (before : List (LevelNode K X)) (s e : ℕ) (after : List ℕ) → e < s → inner_gain (length (flat before) + e) (sizes before ++ s ∷ after) ≡ behind before (inner_gain e (s ∷ after))
-  gain_behind [] s e after low = let z : 0 + e ≡ e = omega arith in ap (λ w. inner_gain w (s ∷ after)) z
-  gain_behind (node m es ∷ before) s e after low =
+  -- a level that changes behind a node as it does without it changes behind these nodes so, too
+  change_behind : (change : ℕ → List ℕ → Option ℕ × List ℕ) (low : ℕ) → ((s p : ℕ) (after : List ℕ) → low + s ≤ p → change p (s ∷ after) ≡ past s (change (p - s) after)) →
+      (before : List (LevelNode K X)) (e : ℕ) (rest : List ℕ) → (before ≡ []) ⊎ (low ≤ e) → change (length (flat before) + e) (sizes before ++ rest) ≡ behind before (change e rest)
+  change_behind change low step [] e rest at = let z : 0 + e ≡ e = omega arith in rw z refl
+  change_behind change low step (node m es ∷ before) e rest (inl none) = absurd cc
+  change_behind change low step (node m es ∷ before) e rest (inr some) =
       let len : length (flat (node m es ∷ before)) + e ≡ length es + (length (flat before) + e) = omega (arith, length-append es (flat before)) in
-      let a = above_lt (length es + (length (flat before) + e)) (length es) (omega arith) in
       let d : length es + (length (flat before) + e) - length es ≡ length (flat before) + e = omega arith in
-      rw (len, a, d) (ap (λ z. past (length es) z) (gain_behind before s e after low))
+      rw (len, step (length es) (length es + (length (flat before) + e)) (sizes before ++ rest) (omega arith), d) (ap (λ z. past (length es) z) (change_behind change low step before e rest (inr some)))
+
+  gain_behind : (before : List (LevelNode K X)) (e : ℕ) (rest : List ℕ) → inner_gain (length (flat before) + e) (sizes before ++ rest) ≡ behind before (inner_gain e rest)
+  gain_behind before e rest = change_behind inner_gain 0 (λ s p after high. (let a = above_lt p s (omega (arith, high)) in rw a refl)) before e rest (inr (omega arith))
 
   -- an entry behind these nodes, and these entries of the next one
   pub gain_spot : (before : List (LevelNode K X)) (n : ℕ) (es l : List (K × X)) (after : List (LevelNode K X)) → inner_gain (length (flat before ++ l)) (sizes (before ++ node n es ∷ after)) ≡ inner_gain (length (flat before) + length l) (sizes before ++ length es ∷ sizes after)
-  gain_spot before n es l after = ap (λ z. inner_gain z (sizes (before ++ node n es ∷ after))) (length-append (flat before) l) ∙ ap (λ z. inner_gain (length (flat before) + length l) z) (sizes-append before (node n es ∷ after))
+  gain_spot before n es l after = rw (length-append (flat before) l, sizes-append before (node n es ∷ after)) refl
 
   -- the sizes of a level with one more entry, in a node with room
   pub gain_room : (before : List (LevelNode K X)) (s e : ℕ) (after : List ℕ) → e < s → s < 8 → inner_gain (length (flat before) + e) (sizes before ++ s ∷ after) ≡ (None, sizes before ++ suc s ∷ after)
-  gain_room before s e after low room =
-      let a = below_lt e s low in
-      let b = below_lt s 8 room in
-      let one : inner_gain e (s ∷ after) ≡ (None, suc s ∷ after) = rw (a, b) refl in
-      gain_behind before s e after low ∙ ap (λ z. behind before z) one ∙ behind_none before (suc s ∷ after)
+  gain_room before s e after low room = rw (gain_behind before e (s ∷ after), below_lt e s low, below_lt s 8 room) (behind_none before (suc s ∷ after))
 
-  -- in a full node
-  pub gain_full : (before : List (LevelNode K X)) (s e left right : ℕ) (after : List ℕ) → e < s → s ≡ 8 → (if nat_lt e 4 then 5 ∷ 4 ∷ after else 4 ∷ 5 ∷ after) ≡ left ∷ right ∷ after → inner_gain (length (flat before) + e) (sizes before ++ s ∷ after) ≡ (Some (length before), sizes before ++ left ∷ right ∷ after)
-  gain_full before s e left right after low full halves =
-      let a = below_lt e s low in
-      let b = above_lt s 8 (omega arith) in
-      let one : inner_gain e (s ∷ after) ≡ (Some 0, left ∷ right ∷ after) = rw (a, b) (ap (λ z. (Some 0, z)) halves) in
-      gain_behind before s e after low ∙ ap (λ z. behind before z) one ∙ behind_some before (left ∷ right ∷ after)
+  -- in a full node, which becomes two
+  pub gain_full : (before : List (LevelNode K X)) (s e : ℕ) (after : List ℕ) → e < s → s ≡ 8 → inner_gain (length (flat before) + e) (sizes before ++ s ∷ after) ≡ (Some (length before), sizes before ++ (if nat_lt e 4 then 5 ∷ 4 ∷ after else 4 ∷ 5 ∷ after))
+  gain_full before s e after low full = rw (gain_behind before e (s ∷ after), below_lt e s low, above_lt s 8 (omega (arith, full))) (behind_some before (if nat_lt e 4 then 5 ∷ 4 ∷ after else 4 ∷ 5 ∷ after))
 
--- the sizes of the halves
-pub halves_left : (e left right : ℕ) (after : List ℕ) → e < 4 → left ≡ 5 → right ≡ 4 → (if nat_lt e 4 then 5 ∷ 4 ∷ after else 4 ∷ 5 ∷ after) ≡ left ∷ right ∷ after
-halves_left e left right after low l r = rw (below_lt e 4 low, l, r) refl
-
-pub halves_right : (e left right : ℕ) (after : List ℕ) → 4 ≤ e → left ≡ 4 → right ≡ 5 → (if nat_lt e 4 then 5 ∷ 4 ∷ after else 4 ∷ 5 ∷ after) ≡ left ∷ right ∷ after
-halves_right e left right after high l r = rw (above_lt e 4 high, l, r) refl
-
--- a full node becomes two
-pub gain_some : {K X : Type 0} (before : List (LevelNode K X)) (s e : ℕ) (after : List ℕ) → e < s → s ≡ 8 → (inner_gain (length (flat before) + e) (sizes before ++ s ∷ after)).0 ≡ Some (length before)
-gain_some before s e after low full =
-    elim (cases_lt e 4) [
-      | inl lt ↦ ap (λ z. z.0) (gain_full before s e 5 4 after low full (halves_left e 5 4 after lt refl refl))
-      | inr ge ↦ ap (λ z. z.0) (gain_full before s e 4 5 after low full (halves_right e 4 5 after ge refl refl))
-    ]
-
-here_le : (a b : ℕ) → a ≤ b → nat_le a b ≡ true
-here_le a b h = grind arith
-
-past_le : (a b : ℕ) → b < a → nat_le a b ≡ false
-past_le a b h = grind arith
-
-module _ {K X : Type 0} where
   -- an insertion into a leaf, at its front only in the first one
-  leaf_behind : (most : ℕ) (before : List (LevelNode K X)) (s e : ℕ) (after : List ℕ) → e ≤ s → (before ≡ []) ⊎ (1 ≤ e) → leaf_gain most (length (flat before) + e) (sizes before ++ s ∷ after) ≡ behind before (leaf_gain most e (s ∷ after))
-  leaf_behind most [] s e after low at = let z : 0 + e ≡ e = omega arith in ap (λ w. leaf_gain most w (s ∷ after)) z
-  leaf_behind most (node m es ∷ before) s e after low (inl none) = absurd cc
-  leaf_behind most (node m es ∷ before) s e after low (inr one) =
-      let len : length (flat (node m es ∷ before)) + e ≡ length es + (length (flat before) + e) = omega (arith, length-append es (flat before)) in
-      let a = past_le (length es + (length (flat before) + e)) (length es) (omega arith) in
-      let d : length es + (length (flat before) + e) - length es ≡ length (flat before) + e = omega arith in
-      rw (len, a, d) (ap (λ z. past (length es) z) (leaf_behind most before s e after low (inr one)))
+  leaf_behind : (most : ℕ) (before : List (LevelNode K X)) (s e : ℕ) (after : List ℕ) → (before ≡ []) ⊎ (1 ≤ e) → leaf_gain most (length (flat before) + e) (sizes before ++ s ∷ after) ≡ behind before (leaf_gain most e (s ∷ after))
+  leaf_behind most before s e after at = change_behind (leaf_gain most) 1 (λ size p rest high. (let a : nat_le p size ≡ false = grind arith in rw a refl)) before e (s ∷ after) at
 
   -- the sizes of the leaves with one more entry, in a leaf with room
   pub leaf_room : (most : ℕ) (before : List (LevelNode K X)) (s e : ℕ) (after : List ℕ) → e ≤ s → (before ≡ []) ⊎ (1 ≤ e) → s < most → leaf_gain most (length (flat before) + e) (sizes before ++ s ∷ after) ≡ (None, sizes before ++ suc s ∷ after)
   leaf_room most before s e after low at room =
-      let a = here_le e s low in
-      let b = below_lt s most room in
-      let one : leaf_gain most e (s ∷ after) ≡ (None, suc s ∷ after) = rw (a, b) refl in
-      leaf_behind most before s e after low at ∙ ap (λ z. behind before z) one ∙ behind_none before (suc s ∷ after)
+      let a : nat_le e s ≡ true = grind arith in
+      rw (leaf_behind most before s e after at, a, below_lt s most room) (behind_none before (suc s ∷ after))
 
   -- in a full leaf
   pub leaf_full : (most : ℕ) (before : List (LevelNode K X)) (s e : ℕ) (after : List ℕ) → e ≤ s → (before ≡ []) ⊎ (1 ≤ e) → s ≡ most → leaf_gain most (length (flat before) + e) (sizes before ++ s ∷ after) ≡ (Some (length before), sizes before ++ (most + 1) / 2 ∷ (most + 1) / 2 ∷ after)
   leaf_full most before s e after low at full =
-      let a = here_le e s low in
-      let b = above_lt s most (omega arith) in
-      let one : leaf_gain most e (s ∷ after) ≡ (Some 0, (most + 1) / 2 ∷ (most + 1) / 2 ∷ after) = rw (a, b) refl in
-      leaf_behind most before s e after low at ∙ ap (λ z. behind before z) one ∙ behind_some before ((most + 1) / 2 ∷ (most + 1) / 2 ∷ after)
+      let a : nat_le e s ≡ true = grind arith in
+      rw (leaf_behind most before s e after at, a, above_lt s most (omega (arith, full))) (behind_some before ((most + 1) / 2 ∷ (most + 1) / 2 ∷ after))

@@ -1,29 +1,57 @@
 -- A full node that is halved, with a new entry in one half.
-use Rattle.std.proofs.Common.{◌≡◌, ℕ, suc, ◌+◌, ◌-◌, ◌/◌, ◌≤◌, ◌<◌, ◌≢◌, nat_le, true, false, if◌then◌else◌, List, [], ◌∷◌, ◌++◌, length, slice_get, Some, refl, sym, ap, ◌∙◌, subst, append_assoc, length-append, length-set, arith}
+use Rattle.std.proofs.Common.{◌≡◌, ℕ, suc, ◌+◌, ◌-◌, ◌/◌, ◌≤◌, ◌<◌, ◌≢◌, nat_le, true, false, if◌then◌else◌, List, [], ◌∷◌, ◌++◌, length, slice_get, Some, refl, sym, ap, ◌∙◌, subst, append_assoc, length-append, length-set, arith, IsTrue, ◌↔◌, Bool}
 use Rattle.bforest_nodes.specs.declared.node.SplitOff.{SplitOff}
-use Rattle.bforest_core.proofs.Words.{Content, IsCut, left_half, Table, with_node, with_front, front_of, IsUsed, IsFullAt, IsSplitAt, head_of, inner_content, leaf_content, count}
-use Rattle.bforest_core.proofs.table.Tables.{Puts, count-same, is_used, puts, takes, length-with_front}
+use Rattle.bforest_core.proofs.Words.{Content, IsCut, left_half, Table, with_node, with_front, front_of, IsUsed, IsFullAt, IsSplitAt, head_of, inner_content, leaf_content, count, false≢true}
+use Rattle.bforest_core.proofs.table.Tables.{Puts, count-same, is_used, puts, takes, length-with_front, with_node_here}
 use Rattle.bforest_core.proofs.table.Stored.{Parts, inner_cuts, some_same, item_count}
 use Rattle.bforest_core.proofs.rows.Zipper.{cut}
 use Rattle.bforest_core.proofs.insertion.LeafSpot.{keys_count}
 
--- two ways to cut one list
-record Between {A : Type 0} (p q l r : List A) : Type 0 where
-  pub mid : List A
-  pub p_is : p ≡ l ++ mid
-  pub r_is : r ≡ mid ++ q
+-- nodes of one kind, by their keys and their values or children
+module _ {K V X : Type 0} (kind : List K → List X → Content K V) where
+  -- what the call asks
+  abbrev pub PutAsks : Table K V → ℕ → ℕ → Type 0
+  PutAsks t number index = IsUsed t number × ((keys : List K) × (items : List X) × (slice_get t.nodes number ≡ Some (kind keys items)) × (index ≤ length keys))
 
-between : {A : Type 0} (p q l r : List A) → p ++ q ≡ l ++ r → length l ≤ length p → Between p q l r
-between p q [] r e low = record { mid = p; p_is = refl; r_is = sym e }
+  -- whether there was room
+  abbrev pub HasRoom : (List K → List X → ℕ) → ℕ → Table K V → ℕ → Bool → Type 0
+  HasRoom size most t number put = (keys : List K) (items : List X) → slice_get t.nodes number ≡ Some (kind keys items) → IsTrue put ↔ (size keys items < most)
+
+  -- what it leaves
+  abbrev pub Written : (Content K V → Content K V) → Table K V → Table K V → ℕ → Bool → Type 0
+  Written write t u number put = (keys : List K) (items : List X) → slice_get t.nodes number ≡ Some (kind keys items) → u ≡ with_node t number (if put then write (kind keys items) else kind keys items)
+
+  -- the node by its number as it was read
+  module _ (t : Table K V) (number n : ℕ) (here : number ≡ n) (keys : List K) (items : List X) (found : slice_get t.nodes n ≡ Some (kind keys items)) where
+    slot_is : slice_get t.nodes number ≡ Some (kind keys items)
+    slot_is = ap (λ z. slice_get t.nodes z) here ∙ found
+
+    pub asks_put : (index : ℕ) → IsUsed t n → index ≤ length keys → PutAsks t number index
+    asks_put index used within = (rw here used, (keys, items, slot_is, within))
+
+    module _ (u : Table K V) (size : List K → List X → ℕ) (most : ℕ) (write : Content K V → Content K V) (put : Bool) (has : HasRoom size most t number put) (wrote : Written write t u number put) where
+      -- it came in where there was room
+      pub put_fewer : put ≡ true → size keys items < most
+      put_fewer done = (has keys items slot_is).0 done
+
+      pub put_in : size keys items < most → u ≡ with_node t n (write (kind keys items))
+      put_in fewer =
+          let done : put ≡ true = (has keys items slot_is).1 fewer in
+          (rw done at (wrote keys items slot_is)) ∙ ap (λ z. with_node t z (write (kind keys items))) here
+
+      -- where it did not there is none, and nothing changes
+      pub put_past : put ≡ false → (¬ (size keys items < most)) × (u ≡ t)
+      put_past none = (λ fewer. false≢true (sym none ∙ (has keys items slot_is).1 fewer), (rw none at (wrote keys items slot_is)) ∙ with_node_here t number (kind keys items) slot_is)
+
+-- two ways to cut one list
+between : {A : Type 0} (p q l r : List A) → p ++ q ≡ l ++ r → length l ≤ length p → (mid : List A) × (p ≡ l ++ mid) × (r ≡ mid ++ q)
+between p q [] r e low = (p, refl, sym e)
 between [] q (z ∷ l) r e low = absurd (omega arith)
 between (y ∷ p) q (z ∷ l) r e low =
     let h : y ≡ z = cc in
     let t : p ++ q ≡ l ++ r = cc in
     let w = between p q l r t (omega arith) in
-    record { mid = w.mid; p_is = ap (λ v. v ∷ p) h ∙ ap (λ v. z ∷ v) w.p_is; r_is = w.r_is }
-
-same_head : {A : Type 0} (p q : A) (xs ys : List A) → p ∷ xs ≡ q ∷ ys → p ≡ q
-same_head p q xs ys e = cc
+    (w.0, ap (λ v. v ∷ p) h ∙ ap (λ v. z ∷ v) w.1, w.2)
 
 -- how many entries stay in the left half
 pub stay_low : (cap e : ℕ) → e ≤ cap / 2 → (if nat_le e (cap / 2) then cap / 2 else (cap + 1) / 2) ≡ cap / 2
@@ -69,7 +97,10 @@ module _ {K V X : Type 0} (content : List (K × X) → Content K V) where
   abbrev pub Cuts : ℕ → Type 0
   Cuts q = (zs : List (K × X)) (y : K × X) (ys : List (K × X)) (left right : Content K V) (key : K) → length zs ≡ q → IsCut (content (zs ++ y ∷ ys)) q left key right → Parts content zs y ys left right key
 
-  module _ (cap : ℕ) (t s : Table K V) (n e : ℕ) (es : List (K × X)) (parts : SplitOff K) (was : slice_get t.nodes n ≡ Some (content es)) (sp : IsSplitAt cap t n e parts s) where
+  module _ (cap : ℕ) (t s : Table K V) (number n e : ℕ) (num_is : number ≡ n) (es : List (K × X)) (parts : SplitOff K) (was : slice_get t.nodes n ≡ Some (content es)) (split : IsSplitAt cap t number e parts s) where
+    sp : IsSplitAt cap t n e parts s
+    sp = rw num_is at split
+
     whole_is : sp.whole ≡ content es
     whole_is = some_same sp.whole (content es) (sym sp.was ∙ was)
 
@@ -122,22 +153,12 @@ module _ {K V X : Type 0} (content : List (K × X) → Content K V) where
       limit_is = put.limit_is ∙ w.limit_is;
     }
 
-    left_put : (more : List (K × X)) → u ≡ with_node s n (content more) → Two t u n right more rights
-    left_put more after =
-        let put = puts s u n (content more) (content lefts) w.here after in
-        two_put n (content more) more rights put put.here (put.same right (λ (v : right ≡ n). w.ne (sym v)) ∙ w.there) (λ k a b. a)
-
-    right_put : (more : List (K × X)) → u ≡ with_node s right (content more) → Two t u n right lefts more
-    right_put more after =
-        let put = puts s u right (content more) (content rights) w.there after in
-        two_put right (content more) lefts more put (put.same n w.ne ∙ w.here) put.here (λ k a b. b)
-
   -- two nodes as halves
   halves : (t u : Table K V) (n right : ℕ) (middle : K) (grown lefts rights : List (K × X)) (left_count right_count : ℕ) → grown ≡ lefts ++ rights → length lefts ≡ left_count → length rights ≡ right_count → 1 ≤ left_count → head_of right rights ≡ (middle, right) ∷ [] → Two t u n right lefts rights → Halves t u n right middle grown left_count right_count
   halves t u n right middle grown [] rights left_count right_count is left_is right_is some head w = absurd (omega (arith, left_is, some))
   halves t u n right middle grown (z ∷ xs) [] left_count right_count is left_is right_is some head w = absurd cc
   halves t u n right middle grown (z ∷ xs) (y ∷ ys) left_count right_count is left_is right_is some head w =
-      record { z = z; xs = xs; y = y; ys = ys; grown_is = is; left_is = left_is; right_is = right_is; middle_is = ap (λ v. v.0) (sym (same_head (y.0, right) (middle, right) [] [] head)); two = w }
+      record { z = z; xs = xs; y = y; ys = ys; grown_is = is; left_is = left_is; right_is = right_is; middle_is = (let same : ◌≡◌ {A = K × ℕ} (y.0, right) (middle, right) = cc in ap (λ v. v.0) (sym same)); two = w }
 
   module _ (t s u : Table K V) (n right q : ℕ) (es grown : List (K × X)) (middle : K) (sp : Split t s n right q es middle) (write : Content K V → Content K V) (left_count right_count : ℕ) where
     -- the entry went into the left half
@@ -145,10 +166,11 @@ module _ {K V X : Type 0} (content : List (K × X) → Content K V) where
         ((mid : List (K × X)) → write (content (l ++ mid)) ≡ content (l2 ++ mid)) → u ≡ with_node s n (write (content sp.zs)) → Halves t u n right middle grown left_count right_count
     into_left l l2 r es_is grown_is more low left_is right_is wrote after =
         let w = between sp.zs (sp.y ∷ sp.ys) l r (sym sp.es_is ∙ es_is) (omega (arith, low, sp.count_is)) in
-        halves t u n right middle grown (l2 ++ w.mid) (sp.y ∷ sp.ys) left_count right_count (grown_is ∙ ap (λ v. l2 ++ v) w.r_is ∙ sym (append_assoc l2 w.mid (sp.y ∷ sp.ys)))
-        (omega (arith, length-append l2 w.mid, length-append l w.mid, more, ap length w.p_is, sp.count_is, left_is))
+        let put = puts s u n (content (l2 ++ w.0)) (content sp.zs) sp.two.here (after ∙ ap (λ v. with_node s n (write (content v))) w.1 ∙ ap (λ v. with_node s n v) (wrote w.0)) in
+        halves t u n right middle grown (l2 ++ w.0) (sp.y ∷ sp.ys) left_count right_count (grown_is ∙ ap (λ v. l2 ++ v) w.2 ∙ sym (append_assoc l2 w.0 (sp.y ∷ sp.ys)))
+        (omega (arith, length-append l2 w.0, length-append l w.0, more, ap length w.1, sp.count_is, left_is))
         (omega (arith, ap length sp.es_is, length-append sp.zs (sp.y ∷ sp.ys), sp.count_is, right_is)) (omega (arith, left_is)) (ap (λ v. (v, right) ∷ []) (sym sp.key_is))
-        (left_put t s u n right sp.zs (sp.y ∷ sp.ys) sp.two (l2 ++ w.mid) (after ∙ ap (λ v. with_node s n (write (content v))) w.p_is ∙ ap (λ v. with_node s n v) (wrote w.mid)))
+        (two_put t s u n right sp.zs (sp.y ∷ sp.ys) sp.two n (content (l2 ++ w.0)) (l2 ++ w.0) (sp.y ∷ sp.ys) put put.here (put.same right (λ (v : right ≡ n). sp.two.ne (sym v)) ∙ sp.two.there) (λ k a b. a))
 
     -- or into the right one
     pub into_right : (first : K) (l r r2 : List (K × X)) → es ≡ l ++ r → grown ≡ l ++ r2 → length r2 ≡ suc (length r) → q ≤ length l → 1 ≤ q → q ≡ left_count → q + right_count ≡ suc (length es) →
@@ -156,11 +178,12 @@ module _ {K V X : Type 0} (content : List (K × X) → Content K V) where
         u ≡ with_node s right (write (content (sp.y ∷ sp.ys))) → Halves t u n right first grown left_count right_count
     into_right first l r r2 es_is grown_is more high some left_is right_is wrote after =
         let w = between l r sp.zs (sp.y ∷ sp.ys) (sym es_is ∙ sp.es_is) (omega (arith, high, sp.count_is)) in
-        let there = wrote w.mid (omega (arith, ap length w.p_is, length-append sp.zs w.mid, sp.count_is)) in
-        halves t u n right first grown sp.zs (w.mid ++ r2) left_count right_count (grown_is ∙ ap (λ v. v ++ r2) w.p_is ∙ append_assoc sp.zs w.mid r2) (sp.count_is ∙ left_is)
-        (omega (arith, length-append w.mid r2, length-append w.mid r, more, ap length w.r_is, ap length sp.es_is, length-append sp.zs (sp.y ∷ sp.ys), sp.count_is, right_is))
-        (omega (arith, some, left_is)) (there.1 w.r_is)
-        (right_put t s u n right sp.zs (sp.y ∷ sp.ys) sp.two (w.mid ++ r2) (after ∙ ap (λ v. with_node s right (write (content v))) w.r_is ∙ ap (λ v. with_node s right v) there.0))
+        let there = wrote w.0 (omega (arith, ap length w.1, length-append sp.zs w.0, sp.count_is)) in
+        let put = puts s u right (content (w.0 ++ r2)) (content (sp.y ∷ sp.ys)) sp.two.there (after ∙ ap (λ v. with_node s right (write (content v))) w.2 ∙ ap (λ v. with_node s right v) there.0) in
+        halves t u n right first grown sp.zs (w.0 ++ r2) left_count right_count (grown_is ∙ ap (λ v. v ++ r2) w.1 ∙ append_assoc sp.zs w.0 r2) (sp.count_is ∙ left_is)
+        (omega (arith, length-append w.0 r2, length-append w.0 r, more, ap length w.2, ap length sp.es_is, length-append sp.zs (sp.y ∷ sp.ys), sp.count_is, right_is))
+        (omega (arith, some, left_is)) (there.1 w.2)
+        (two_put t s u n right sp.zs (sp.y ∷ sp.ys) sp.two right (content (w.0 ++ r2)) sp.zs (w.0 ++ r2) put (put.same n sp.two.ne ∙ sp.two.here) put.here (λ k a b. b))
 
 module _ {K V : Type 0} where
   -- a full leaf has so many entries
@@ -179,4 +202,4 @@ module _ {K V : Type 0} where
   -- the first key of the right half, with the entry
   pub middle_key : (right : ℕ) (mid : List (K × V)) (entry : K × V) (r : List (K × V)) (y : K × V) (ys : List (K × V)) (first : K) → y ∷ ys ≡ mid ++ r → (length mid ≡ 0 → first ≡ entry.0) → (0 < length mid → first ≡ y.0) → head_of right (mid ++ entry ∷ r) ≡ (first, right) ∷ []
   middle_key right [] entry r y ys first q_is zero more = ap (λ v. (v, right) ∷ []) (sym (zero refl))
-  middle_key right (m ∷ mid) entry r y ys first q_is zero more = ap (λ v. (v, right) ∷ []) (sym (more (omega arith) ∙ ap (λ v. v.0) (same_head y m ys (mid ++ r) q_is)))
+  middle_key right (m ∷ mid) entry r y ys first q_is zero more = ap (λ v. (v, right) ∷ []) (sym (more (omega arith) ∙ (let same : y ≡ m = cc in ap (λ v. v.0) same)))

@@ -1,5 +1,5 @@
 -- Putting an entry into the path's leaf, or halving the leaf and putting it into one half: each answer of `put_here` and of `halve_leaf` is one of these.
-use Rattle.std.proofs.Common.{◌≡◌, ℕ, ◌+◌, ◌-◌, ◌/◌, nat_le, ◌≤◌, ◌<◌, true, false, Bool, if◌then◌else◌, List, [], ◌∷◌, ◌++◌, length, set, get_or, Some, refl, sym, ap, ◌∙◌, subst, arith, append_assoc, length-append}
+use Rattle.std.proofs.Common.{◌≡◌, ℕ, ◌+◌, ◌-◌, ◌/◌, nat_le, ◌≤◌, ◌<◌, true, false, Bool, if◌then◌else◌, List, [], ◌∷◌, ◌++◌, length, set, get_or, Some, refl, sym, ap, ◌∙◌, arith, append_assoc, length-append}
 use Rattle.bforest_core.proofs.Words.{get_or_default, get_or-set_same, get_or-set_other, Leaf, IsLeafCapacity, with_entry, Table, IsUsed, IsFullAt, IsSplitAt, front_of, with_node, Tree, heads, half_of, leaf_content, entry_keys, Placed}
 use Rattle.bforest_core.proofs.Words.{Inserted, LeafHalved}
 use Rattle.bforest_nodes.specs.declared.node.SplitOff.{SplitOff}
@@ -8,15 +8,13 @@ use Rattle.bforest_core.proofs.table.Tables.{is_used, puts}
 use Rattle.bforest_core.proofs.table.Stored.{leaf_cuts, with_entry_is}
 use Rattle.bforest_core.proofs.insertion.Grow.{in_left, in_right}
 use Rattle.bforest_core.proofs.insertion.LeafSpot.{LeafSpot, leaf_spot, put_leaf, keys_count}
-use Rattle.bforest_core.proofs.insertion.Halving.{Split, leaf_full_is, counted, split_at, stay_low, stay_high, left_used, into_left, into_right, middle_key}
-use Rattle.bforest_core.proofs.insertion.Putting.{PutAsks, HasRoom, Puts, asks_put, put_fewer, put_in, put_past, put_kept}
+use Rattle.bforest_core.proofs.insertion.Halving.{Split, leaf_full_is, counted, split_at, stay_low, stay_high, left_used, into_left, into_right, middle_key, PutAsks, HasRoom, Written, asks_put, put_fewer, put_in, put_past}
 use Rattle.bforest_core.proofs.insertion.LeafParted.{leaf_parted}
 
 module _ {K V : Type 0} where
   -- what halving a node asks
-  pub record FullAt (cap : ℕ) (t : Table K V) (number : ℕ) : Type 0 where
-    pub used : IsUsed t number
-    pub full : IsFullAt cap t.nodes number
+  abbrev pub FullAt : ℕ → Table K V → ℕ → Type 0
+  FullAt cap t number = IsUsed t number × (IsFullAt cap t.nodes number × (0 < length t.chain))
 
   module _ (cap : ℕ) (t : Table K V) (ms js : List ℕ) (size : ℕ) (tree : Tree K V) (place : ℕ) (p : Placed cap t ms js size tree place) (r : ℕ) (wide : length ms ≡ 17) where
     d : LeafSpot cap t ms js tree place
@@ -29,7 +27,7 @@ module _ {K V : Type 0} where
     pub put_asks : PutAsks Leaf t (get_or ms 0 r) (get_or js 0 0)
     put_asks = asks_put Leaf t _ _ num_is _ _ d.slot_is (get_or js 0 0) (is_used t (get_or ms 0 0) (leaf_content (d.l ++ d.r)) d.slot_is d.none_chain) (omega (arith, keys_count (d.l ++ d.r), d.index_is, length-append d.l d.r))
 
-    module _ (u : Table K V) (key : K) (value : V) (put : Bool) (has : HasRoom Leaf (λ keys vals. length keys) cap t (get_or ms 0 r) put) (wrote : Puts Leaf (λ z. with_entry z (get_or js 0 0) key value) t u (get_or ms 0 r) put) where
+    module _ (u : Table K V) (key : K) (value : V) (put : Bool) (has : HasRoom Leaf (λ keys vals. length keys) cap t (get_or ms 0 r) put) (wrote : Written Leaf (λ z. with_entry z (get_or js 0 0) key value) t u (get_or ms 0 r) put) where
       -- it came in
       pub put_inserts : put ≡ true → Inserted cap t u ms js size tree place (key, value)
       put_inserts done =
@@ -39,17 +37,14 @@ module _ {K V : Type 0} where
           put_leaf cap t u ms js size tree place (key, value) p d (omega (arith, keys_count es, fewer)) (puts t u (get_or ms 0 0) (leaf_content (d.l ++ (key, value) ∷ d.r)) (leaf_content es) d.slot_is after)
 
       -- there was no room
-      pub put_full : put ≡ false → IsFullAt cap t.nodes (get_or ms 0 0)
+      pub put_full : put ≡ false → IsFullAt cap t.nodes (get_or ms 0 0) × (u ≡ t)
       put_full none =
-          let full : ¬ (length (entry_keys (d.l ++ d.r)) < cap) = put_past Leaf t _ _ num_is _ _ d.slot_is u (λ keys vals. length keys) cap (λ z. with_entry z (get_or js 0 0) key value) put has wrote none in
-          rw d.slot_is (λ free. free, omega (arith, full, keys_count (d.l ++ d.r), d.most_is))
-
-      pub put_none : put ≡ false → u ≡ t
-      put_none none = put_kept Leaf t _ _ num_is _ _ d.slot_is u (λ keys vals. length keys) cap (λ z. with_entry z (get_or js 0 0) key value) put has wrote none
+          let past = put_past Leaf t _ _ num_is _ _ d.slot_is u (λ keys vals. length keys) cap (λ z. with_entry z (get_or js 0 0) key value) put has wrote none in
+          (rw d.slot_is (λ free. free, omega (arith, past.0, keys_count (d.l ++ d.r), d.most_is)), past.1)
 
     module _ (s : Table K V) (full : IsFullAt cap t.nodes (get_or ms 0 0)) where
-      pub full_asks : FullAt cap t (get_or ms 0 r)
-      full_asks = record { used = put_asks.used; full = subst (λ (z : ℕ). IsFullAt cap t.nodes z) (sym num_is) full }
+      pub full_asks : 0 < length t.chain → FullAt cap t (get_or ms 0 r)
+      full_asks room = (put_asks.0, (rw num_is full, room))
 
       full_is : length (d.l ++ d.r) ≡ cap
       full_is = leaf_full_is cap t.nodes (get_or ms 0 0) (d.l ++ d.r) d.slot_is full
@@ -58,14 +53,11 @@ module _ {K V : Type 0} where
         seen : length (heads d.before) ≡ length d.before
         seen = Solid-full (half_of cap) cap (omega (arith, capacity.least, capacity.odd)) d.before d.solid
 
-        here_split : IsSplitAt cap t (get_or ms 0 0) (get_or js 0 0) parts s
-        here_split = subst (λ (z : ℕ). IsSplitAt cap t z (get_or js 0 0) parts s) num_is split
-
         left_count : parts.lhs_entries ≡ (if nat_le (get_or js 0 0) (cap / 2) then cap / 2 else (cap + 1) / 2)
-        left_count = counted leaf_content cap t s (get_or ms 0 0) (get_or js 0 0) (d.l ++ d.r) parts d.slot_is here_split
+        left_count = counted leaf_content cap t s _ (get_or ms 0 0) (get_or js 0 0) num_is (d.l ++ d.r) parts d.slot_is split
 
         cut : parts.lhs_entries < length (d.l ++ d.r) → Split leaf_content t s (get_or ms 0 0) right parts.lhs_entries (d.l ++ d.r) parts.crit_key
-        cut less = split_at leaf_content cap t s (get_or ms 0 0) (get_or js 0 0) (d.l ++ d.r) parts d.slot_is here_split right (λ zs y ys left right2 key is c. leaf_cuts V zs y ys parts.lhs_entries left right2 key is c) less d.none_chain front used.within
+        cut less = split_at leaf_content cap t s _ (get_or ms 0 0) (get_or js 0 0) num_is (d.l ++ d.r) parts d.slot_is split right (λ zs y ys left right2 key is c. leaf_cuts V zs y ys parts.lhs_entries left right2 key is c) less d.none_chain front used.within
 
         module _ (low : get_or js 0 0 ≤ cap / 2) where
           low_is : parts.lhs_entries ≡ cap / 2
@@ -78,7 +70,7 @@ module _ {K V : Type 0} where
           early_asks =
               asks_put Leaf s _ _ num_is _ _ low_cut.two.here (get_or js 0 0) (left_used leaf_content t s s (get_or ms 0 0) right low_cut.zs (low_cut.y ∷ low_cut.ys) low_cut.two d.none_chain) (omega (arith, keys_count low_cut.zs, low_cut.count_is, low_is))
 
-          pub early_halves : (u : Table K V) (key : K) (value : V) (put : Bool) → HasRoom Leaf (λ keys vals. length keys) cap s (get_or ms 0 r) put → Puts Leaf (λ z. with_entry z (get_or js 0 0) key value) s u (get_or ms 0 r) put → LeafHalved cap t u ms ms js size tree place (key, value) parts.crit_key right false
+          pub early_halves : (u : Table K V) (key : K) (value : V) (put : Bool) → HasRoom Leaf (λ keys vals. length keys) cap s (get_or ms 0 r) put → Written Leaf (λ z. with_entry z (get_or js 0 0) key value) s u (get_or ms 0 r) put → LeafHalved cap t u ms ms js size tree place (key, value) parts.crit_key right false
           early_halves u key value put has puts =
               let written = put_in Leaf s _ _ num_is _ _ low_cut.two.here u (λ keys vals. length keys) cap (λ z. with_entry z (get_or js 0 0) key value) put has puts (omega (arith, keys_count low_cut.zs, low_cut.count_is, low_is, full_is, capacity.least, capacity.odd)) in
               let h = into_left leaf_content t s u (get_or ms 0 0) right parts.lhs_entries (d.l ++ d.r) (d.l ++ (key, value) ∷ d.r) parts.crit_key low_cut (λ v. with_entry v (get_or js 0 0) key value) (half_of cap) (half_of cap)
@@ -101,7 +93,7 @@ module _ {K V : Type 0} where
           late_asks =
               asks_put Leaf s right right refl _ _ high_cut.two.there (get_or js 0 0 - parts.lhs_entries) used (omega (arith, keys_count (high_cut.y ∷ high_cut.ys), ap length high_cut.es_is, length-append high_cut.zs (high_cut.y ∷ high_cut.ys), high_cut.count_is, d.index_is, length-append d.l d.r))
 
-          pub late_halves : (u : Table K V) (key first : K) (value : V) (put : Bool) → HasRoom Leaf (λ keys vals. length keys) cap s right put → Puts Leaf (λ z. with_entry z (get_or js 0 0 - parts.lhs_entries) key value) s u right put → (get_or js 0 0 - parts.lhs_entries ≡ 0 → first ≡ key) → (0 < get_or js 0 0 - parts.lhs_entries → first ≡ parts.crit_key) →
+          pub late_halves : (u : Table K V) (key first : K) (value : V) (put : Bool) → HasRoom Leaf (λ keys vals. length keys) cap s right put → Written Leaf (λ z. with_entry z (get_or js 0 0 - parts.lhs_entries) key value) s u right put → (get_or js 0 0 - parts.lhs_entries ≡ 0 → first ≡ key) → (0 < get_or js 0 0 - parts.lhs_entries → first ≡ parts.crit_key) →
               1 ≤ length js → LeafHalved cap t u ms (set ms 0 right) (set js 0 (get_or js 0 0 - parts.lhs_entries)) size tree place (key, value) first right true
           late_halves u key first value put has puts zero more some =
               let rights = high_cut.y ∷ high_cut.ys in

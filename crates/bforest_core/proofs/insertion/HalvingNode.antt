@@ -1,18 +1,75 @@
 -- Putting a child into the path's inner node, or halving the node and putting it into one half: each answer of `insert_here` and of `split_here` is one of these.
-use Rattle.std.proofs.Common.{◌≡◌, ℕ, suc, ◌-◌, ◌≤◌, ◌<◌, true, false, Bool, if◌then◌else◌, List, [], ◌∷◌, ◌++◌, map, length, set, get_or, Some, refl, sym, ap, ◌∙◌, subst, append_assoc, length-append, arith}
+use Rattle.std.proofs.Common.{◌≡◌, ℕ, suc, ◌-◌, ◌≤◌, ◌<◌, true, false, Bool, if◌then◌else◌, List, [], ◌∷◌, ◌++◌, map, length, set, get_or, Some, refl, sym, ap, ◌∙◌, subst, append_assoc, length-append, arith, ◌+◌, ◌≢◌, nat_lt}
 use Rattle.bforest_core.proofs.Words.{get_or_default, get_or-set_same, get_or-set_other, Inner, with_child, Table, IsUsed, IsFullAt, IsSplitAt, front_of, with_node, LevelNode, flat, head_of, heads, sizes, need_above, gain_above}
-use Rattle.bforest_core.proofs.Words.{inner_content, entry_items, Above, Grown, Halved}
+use Rattle.bforest_core.proofs.Words.{inner_content, entry_items, Above, Grown, Halved, flat_map, node, numbers, Stacked, inner_gain, count}
 use Rattle.bforest_nodes.specs.declared.node.SplitOff.{SplitOff}
-use Rattle.bforest_core.proofs.table.Tables.{is_used, puts}
-use Rattle.bforest_core.proofs.rows.LevelRows.{Solid-full}
-use Rattle.bforest_core.proofs.rows.Zipper.{Spot, spot}
+use Rattle.bforest_core.proofs.table.Tables.{is_used, puts, counts, count-append, count-same, row-changed, rows-same, ne_from_count}
+use Rattle.bforest_core.proofs.rows.Bounds.{below_lt, above_lt}
+use Rattle.bforest_core.proofs.rows.LevelRows.{Solid-full, heads-append, sizes-append}
+use Rattle.bforest_core.proofs.rows.Zipper.{Spot, spot, stands-same}
 use Rattle.bforest_core.proofs.table.Stored.{item_count, key_count, with_child_is}
-use Rattle.bforest_core.proofs.insertion.Halving.{Split, full_is, inner_parts, counted, split_at, left_used, into_left, into_right}
-use Rattle.bforest_core.proofs.insertion.Grow.{head-grown, halves_left, halves_right, in_left, in_right}
-use Rattle.bforest_core.proofs.insertion.Room.{settle_room, step_is, step_most}
-use Rattle.bforest_core.proofs.insertion.Parted.{parted}
-use Rattle.bforest_core.proofs.insertion.Putting.{PutAsks, HasRoom, Puts, asks_put, put_fewer, put_in, put_past, put_kept}
+use Rattle.bforest_core.proofs.insertion.Halving.{Split, full_is, inner_parts, counted, split_at, left_used, into_left, into_right, PutAsks, HasRoom, Written, asks_put, put_fewer, put_in, put_past, Halves}
+use Rattle.bforest_core.proofs.insertion.Grow.{head-grown, in_left, in_right, InHalf, flat-halved, FitRow-halved, gain_spot, gain_full}
+use Rattle.bforest_core.proofs.insertion.Rise.{settle_room, step_is, step_most}
 use Rattle.bforest_core.proofs.insertion.HalvingLeaf.{FullAt}
+
+module _ {K V : Type 0} where
+  -- all but where the path stands
+  pub parted : (t u : Table K V) (ms js ms' js' : List ℕ) (up size : ℕ) (rows : List (List (LevelNode K ℕ))) (a : List (K × ℕ)) (x y : K × ℕ) (b : List (K × ℕ)) (middle : K) (right p : ℕ) (moved : Bool) (big small : ℕ) → (4 ≤ big) × (big ≤ 8) × (4 ≤ small) × (small ≤ 8) → ((after : List ℕ) → (if nat_lt (get_or js up 0) 4 then 5 ∷ 4 ∷ after else 4 ∷ 5 ∷ after) ≡ big ∷ small ∷ after) → (d : Spot t ms js up size rows a x b) → length (d.q.l ++ x ∷ d.q.r) ≡ 8 →
+      (h : Halves inner_content t u (get_or ms up 0) right middle (d.q.l ++ x ∷ y ∷ d.q.r) big small) →
+      ((i : ℕ) → i ≢ up → get_or ms' i 0 ≡ get_or ms i 0) → ((i : ℕ) → i ≢ up → get_or js' i 0 ≡ get_or js i 0) →
+      length (heads d.q.before) ≡ length d.q.before → InHalf d.q.before (get_or ms up 0) right (h.z ∷ h.xs) (h.y ∷ h.ys) d.q.after (get_or ms' up 0) (get_or js' up 0) p moved →
+      Halved t u ms js ms' js' up size rows (a ++ x ∷ y ∷ b) (length a) p middle right moved
+  parted t u ms js ms' js' up size rows a x y b middle right p moved big small sides halves_are d eight h far_m far_j full at =
+      let q = d.q in
+      let n = get_or ms up 0 in
+      let es : List (K × ℕ) = q.l ++ x ∷ q.r in
+      let row : List (LevelNode K ℕ) = q.before ++ node n es ∷ q.after in
+      let ab = d.whole in
+      let c = λ (m : ℕ). counts m q.before n es q.after q.rest t.chain in
+      let c4 = λ (m : ℕ). ap (λ z. count m z) h.two.chain_is in
+      let c5 = λ (m : ℕ). count-append m (flat_map numbers q.rest) u.chain in
+      let same_right = count-same right u.chain in
+      let none_right : count right (numbers q.before) + count right (numbers q.after) ≡ 0 = omega (arith, ab.apart right, c right, c4 right, same_right) in
+      let none_right_rest : count right (flat_map numbers q.rest) ≡ 0 = omega (arith, ab.apart right, c right, c4 right, same_right) in
+      let first_is : head_of n es ≡ (h.z.0, n) ∷ [] = head-grown n q.l x q.r (y ∷ q.r) ∙ ap (λ z. head_of n z) h.grown_is in
+      let hs0 : heads row ≡ heads q.before ++ (h.z.0, n) ∷ heads q.after = heads-append q.before _ ∙ ap (λ z. heads q.before ++ (z ++ heads q.after)) first_is in
+      record {
+        before = q.before;
+        entries = es;
+        after = q.after;
+        rest = q.rest;
+        first = h.z;
+        others = h.xs;
+        next = h.y;
+        more = h.ys;
+        rows_were = q.rows_are;
+        head_is = first_is;
+        key_is = h.middle_is;
+        flat_is = flat-halved q.before q.after n right (h.z ∷ h.xs) (h.y ∷ h.ys) ∙ ap (λ z. flat q.before ++ (z ++ flat q.after)) (sym h.grown_is) ∙ ap (λ z. flat q.before ++ z) (append_assoc q.l (x ∷ y ∷ q.r) (flat q.after)) ∙ sym (append_assoc (flat q.before) q.l _)
+            ∙ sym (ap (λ z. z ++ x ∷ y ∷ b) q.a_is ∙ ap (λ z. (flat q.before ++ q.l) ++ x ∷ y ∷ z) q.b_is);
+        fit = FitRow-halved 4 8 q.before q.after n right es (h.z ∷ h.xs) (h.y ∷ h.ys) (omega arith) ab.stacked.1 (omega (arith, h.left_is, sides.0)) (omega (arith, h.left_is, sides.1)) (omega (arith, h.right_is, sides.2)) (omega (arith, h.right_is, sides.3));
+        inside = row-changed inner_content t.nodes u.nodes q.before (node n es ∷ []) (node n (h.z ∷ h.xs) ∷ node right (h.y ∷ h.ys) ∷ []) q.after n right d.f.inside h.two.same (h.two.here, (h.two.there, tt)) d.f.none none_right;
+        gain_is = ap (λ z. inner_gain (length z) (sizes row)) q.a_is ∙ gain_spot q.before n es q.l q.after
+            ∙ gain_full q.before (length es) (length q.l) (sizes q.after) (omega (arith, length-append q.l (x ∷ q.r))) eight
+            ∙ rw (q.entry_is, full, sizes-append q.before (node n (h.z ∷ h.xs) ∷ node right (h.y ∷ h.ys) ∷ q.after), h.left_is, h.right_is) (ap (λ z. (Some (length q.before), sizes q.before ++ z)) (halves_are (sizes q.after)));
+        above = record {
+          stacked = subst (λ (z : List (K × ℕ)). Stacked z q.rest) hs0 ab.stacked.2;
+          inside = rows-same t.nodes u.nodes q.rest (λ m some. h.two.same m (ne_from_count m n (flat_map numbers q.rest) some d.f.none_rest) (ne_from_count m right (flat_map numbers q.rest) some none_right_rest)) ab.inside.1;
+          stands = stands-same ms js ms' js' (suc up) q.rest (length (heads q.before)) (λ i high. far_m i (λ (e : i ≡ up). omega (arith, e, high))) (λ i high. far_j i (λ (e : i ≡ up). omega (arith, e, high))) q.stands;
+          height = omega (arith, ab.height);
+          apart = λ m. omega (arith, ab.apart m, c m, c4 m, c5 m);
+        };
+        at = at.0;
+        at_is = at.1;
+        slots_same = h.two.same;
+        chain_is = h.two.chain_is;
+        slots_are = h.two.slots_are;
+        limit_is = h.two.limit_is;
+        nodes_below = λ i low_i. far_m i (λ (e : i ≡ up). omega (arith, e, low_i));
+        entries_below = λ i low_i. far_j i (λ (e : i ≡ up). omega (arith, e, low_i));
+        nodes_above = λ i high. far_m i (λ (e : i ≡ up). omega (arith, e, high));
+      }
 
 module _ {K V : Type 0} where
   module _ (t : Table K V) (ms js : List ℕ) (up size : ℕ) (rows : List (List (LevelNode K ℕ))) (a : List (K × ℕ)) (x : K × ℕ) (b : List (K × ℕ)) (p : Above t ms js up size rows (a ++ x ∷ b) (length a)) (r : ℕ) (within : up < size) (low : up < length ms) where
@@ -29,7 +86,7 @@ module _ {K V : Type 0} where
     pub put_asks : PutAsks Inner t (get_or ms up r) (get_or js up 0)
     put_asks = asks_put Inner t _ _ num_is _ _ d.f.slot_is (get_or js up 0) (is_used t (get_or ms up 0) (inner_content (d.q.l ++ x ∷ d.q.r)) d.f.slot_is d.f.none_chain) (omega (arith, key_count (d.q.l ++ x ∷ d.q.r), d.count_is))
 
-    module _ (u : Table K V) (key : K) (child : ℕ) (put : Bool) (has : HasRoom Inner (λ keys children. length children) 8 t (get_or ms up r) put) (wrote : Puts Inner (λ z. with_child z (get_or js up 0) key child) t u (get_or ms up r) put) where
+    module _ (u : Table K V) (key : K) (child : ℕ) (put : Bool) (has : HasRoom Inner (λ keys children. length children) 8 t (get_or ms up r) put) (wrote : Written Inner (λ z. with_child z (get_or js up 0) key child) t u (get_or ms up r) put) where
       -- it came in
       pub put_grows : put ≡ true → (moved : Bool) (index : ℕ) → index ≡ (if moved then suc (get_or js up 0) else get_or js up 0) → up < length js →
           (1 ≡ need_above (Some (length a)) (map sizes rows)) × Grown t u ms js ms (set js up index) up size size rows (a ++ x ∷ (key, child) ∷ b) (if moved then suc (length a) else length a) (gain_above (Some (length a)) (map sizes rows)) []
@@ -41,17 +98,14 @@ module _ {K V : Type 0} where
           (get_or-set_same js up index 0 low_js ∙ index_is) (λ i other. get_or-set_other js up i index 0 other)
 
       -- there was no room
-      pub put_full : (cap : ℕ) → put ≡ false → IsFullAt cap t.nodes (get_or ms up 0)
+      pub put_full : (cap : ℕ) → put ≡ false → IsFullAt cap t.nodes (get_or ms up 0) × (u ≡ t)
       put_full cap none =
-          let full : ¬ (length (entry_items (d.q.l ++ x ∷ d.q.r)) < 8) = put_past Inner t _ _ num_is _ _ d.f.slot_is u (λ keys children. length children) 8 (λ z. with_child z (get_or js up 0) key child) put has wrote none in
-          rw d.f.slot_is (λ free. free, omega (arith, full, item_count (d.q.l ++ x ∷ d.q.r), d.most_is))
-
-      pub put_none : put ≡ false → u ≡ t
-      put_none none = put_kept Inner t _ _ num_is _ _ d.f.slot_is u (λ keys children. length children) 8 (λ z. with_child z (get_or js up 0) key child) put has wrote none
+          let past = put_past Inner t _ _ num_is _ _ d.f.slot_is u (λ keys children. length children) 8 (λ z. with_child z (get_or js up 0) key child) put has wrote none in
+          (rw d.f.slot_is (λ free. free, omega (arith, past.0, item_count (d.q.l ++ x ∷ d.q.r), d.most_is)), past.1)
 
     module _ (cap : ℕ) (s : Table K V) (full : IsFullAt cap t.nodes (get_or ms up 0)) where
-      pub full_asks : FullAt cap t (get_or ms up r)
-      full_asks = record { used = put_asks.used; full = subst (λ (z : ℕ). IsFullAt cap t.nodes z) (sym num_is) full }
+      pub full_asks : 0 < length t.chain → FullAt cap t (get_or ms up r)
+      full_asks room = (put_asks.0, (rw num_is full, room))
 
       eight : length (d.q.l ++ x ∷ d.q.r) ≡ 8
       eight = full_is cap t.nodes (get_or ms up 0) (d.q.l ++ x ∷ d.q.r) d.f.slot_is full
@@ -60,20 +114,17 @@ module _ {K V : Type 0} where
       seen = Solid-full 4 8 (omega arith) d.q.before d.f.solid
 
       module _ (right : ℕ) (parts : SplitOff K) (front : front_of t.chain ≡ Some right) (used : IsUsed s right) (split : IsSplitAt cap t (get_or ms up r) (get_or js up 0) parts s) where
-        here_split : IsSplitAt cap t (get_or ms up 0) (get_or js up 0) parts s
-        here_split = subst (λ (z : ℕ). IsSplitAt cap t z (get_or js up 0) parts s) num_is split
-
         four : parts.lhs_entries ≡ 4
-        four = counted inner_content cap t s (get_or ms up 0) (get_or js up 0) (d.q.l ++ x ∷ d.q.r) parts d.f.slot_is here_split
+        four = counted inner_content cap t s _ (get_or ms up 0) (get_or js up 0) num_is (d.q.l ++ x ∷ d.q.r) parts d.f.slot_is split
 
         cut : Split {V = V} inner_content t s (get_or ms up 0) right parts.lhs_entries (d.q.l ++ x ∷ d.q.r) parts.crit_key
-        cut = let f = four in let e = eight in split_at inner_content cap t s (get_or ms up 0) (get_or js up 0) (d.q.l ++ x ∷ d.q.r) parts d.f.slot_is here_split right (inner_parts parts.lhs_entries (omega arith)) (omega arith) d.f.none_chain front used.within
+        cut = let f = four in let e = eight in split_at inner_content cap t s _ (get_or ms up 0) (get_or js up 0) num_is (d.q.l ++ x ∷ d.q.r) parts d.f.slot_is split right (inner_parts parts.lhs_entries (omega arith)) (omega arith) d.f.none_chain front used.within
 
         pub early_asks : get_or js up 0 < 4 → PutAsks Inner s (get_or ms up r) (get_or js up 0)
         early_asks early =
             asks_put Inner s _ _ num_is _ _ cut.two.here (get_or js up 0) (left_used inner_content t s s (get_or ms up 0) right cut.zs (cut.y ∷ cut.ys) cut.two d.f.none_chain) (omega (arith, key_count cut.zs, cut.count_is, early, four))
 
-        pub early_halves : (u : Table K V) (key : K) (child : ℕ) (moved put : Bool) (index : ℕ) → get_or js up 0 < 4 → HasRoom Inner (λ keys children. length children) 8 s (get_or ms up r) put → Puts Inner (λ z. with_child z (get_or js up 0) key child) s u (get_or ms up r) put → index ≡ (if moved then suc (get_or js up 0) else get_or js up 0) → up < length js →
+        pub early_halves : (u : Table K V) (key : K) (child : ℕ) (moved put : Bool) (index : ℕ) → get_or js up 0 < 4 → HasRoom Inner (λ keys children. length children) 8 s (get_or ms up r) put → Written Inner (λ z. with_child z (get_or js up 0) key child) s u (get_or ms up r) put → index ≡ (if moved then suc (get_or js up 0) else get_or js up 0) → up < length js →
             Halved t u ms js ms (set js up index) up size rows (a ++ x ∷ (key, child) ∷ b) (length a) (if moved then suc (length a) else length a) parts.crit_key right false
         early_halves u key child moved put index early has puts index_is low_js =
             let written = put_in Inner s _ _ num_is _ _ cut.two.here u (λ keys children. length children) 8 (λ z. with_child z (get_or js up 0) key child) put has puts (omega (arith, item_count cut.zs, cut.count_is, four)) in
@@ -82,7 +133,7 @@ module _ {K V : Type 0} where
             (d.q.l ++ x ∷ []) (d.q.l ++ x ∷ new ∷ []) d.q.r (sym (append_assoc d.q.l (x ∷ []) d.q.r)) (sym (append_assoc d.q.l (x ∷ new ∷ []) d.q.r)) (omega (arith, length-append d.q.l (x ∷ []), length-append d.q.l (x ∷ new ∷ []))) (omega (arith, length-append d.q.l (x ∷ []), d.q.entry_is, early, four)) (omega (arith, four)) (omega (arith, four, eight))
             (λ mid. ap (λ z. with_child (inner_content z) (get_or js up 0) key child) (append_assoc d.q.l (x ∷ []) mid) ∙ with_child_is V d.q.l x mid key child (get_or js up 0) d.q.entry_is ∙ ap inner_content (sym (append_assoc d.q.l (x ∷ new ∷ []) mid))) written in
             let j_is = get_or-set_same js up index 0 low_js ∙ index_is ∙ step_is moved (get_or js up 0) in
-            parted t u ms js ms (set js up index) up size rows a x new b parts.crit_key right (if moved then suc (length a) else length a) false 5 4 (omega arith, omega arith, omega arith, omega arith) (λ after. halves_left (get_or js up 0) 5 4 after early refl refl) d eight h
+            parted t u ms js ms (set js up index) up size rows a x new b parts.crit_key right (if moved then suc (length a) else length a) false 5 4 (omega arith, omega arith, omega arith, omega arith) (λ after. (let a = below_lt (get_or js up 0) 4 early in rw a refl)) d eight h
             (λ i other. refl) (λ i other. get_or-set_other js up i index 0 other) seen
             (in_left d.q.before d.q.after (get_or ms up 0) right (h.z ∷ h.xs) (h.y ∷ h.ys) (get_or (set js up index) up 0) (if moved then suc (length a) else length a) seen (omega (arith, j_is, step_most moved, h.left_is, early)) (step_is moved (length a) ∙ omega (arith, j_is, ap length d.q.a_is, length-append (flat d.q.before) d.q.l, d.q.entry_is)))
 
@@ -93,7 +144,7 @@ module _ {K V : Type 0} where
         late_asks =
             asks_put Inner s right right refl _ _ cut.two.there (get_or js up 0 - 4) used (omega (arith, key_count (cut.y ∷ cut.ys), index_small, right_is))
 
-        pub late_halves : (u : Table K V) (key : K) (child : ℕ) (moved put : Bool) (index : ℕ) → 4 ≤ get_or js up 0 → HasRoom Inner (λ keys children. length children) 8 s right put → Puts Inner (λ z. with_child z (get_or js up 0 - 4) key child) s u right put → index ≡ (if moved then suc (get_or js up 0 - 4) else get_or js up 0 - 4) → up < length js →
+        pub late_halves : (u : Table K V) (key : K) (child : ℕ) (moved put : Bool) (index : ℕ) → 4 ≤ get_or js up 0 → HasRoom Inner (λ keys children. length children) 8 s right put → Written Inner (λ z. with_child z (get_or js up 0 - 4) key child) s u right put → index ≡ (if moved then suc (get_or js up 0 - 4) else get_or js up 0 - 4) → up < length js →
             Halved t u ms js (set ms up right) (set js up index) up size rows (a ++ x ∷ (key, child) ∷ b) (length a) (if moved then suc (length a) else length a) parts.crit_key right true
         late_halves u key child moved put index late has puts index_is low_js =
             let written = put_in Inner s right right refl _ _ cut.two.there u (λ keys children. length children) 8 (λ z. with_child z (get_or js up 0 - 4) key child) put has puts (omega (arith, item_count (cut.y ∷ cut.ys), right_is)) in
@@ -104,6 +155,6 @@ module _ {K V : Type 0} where
               λ rest. head-grown right mid x ((key, child) ∷ d.q.r) d.q.r ∙ ap (λ v. head_of right v) (sym rest) ∙ ap (λ v. (v, right) ∷ []) (sym cut.key_is),
             )) written in
             let j_is = get_or-set_same js up index 0 low_js ∙ index_is ∙ step_is moved (get_or js up 0 - 4) in
-            parted t u ms js (set ms up right) (set js up index) up size rows a x (key, child) b parts.crit_key right (if moved then suc (length a) else length a) true 4 5 (omega arith, omega arith, omega arith, omega arith) (λ after. halves_right (get_or js up 0) 4 5 after late refl refl) d eight h
+            parted t u ms js (set ms up right) (set js up index) up size rows a x (key, child) b parts.crit_key right (if moved then suc (length a) else length a) true 4 5 (omega arith, omega arith, omega arith, omega arith) (λ after. (let a = above_lt (get_or js up 0) 4 late in rw a refl)) d eight h
             (λ i other. get_or-set_other ms up i right 0 other) (λ i other. get_or-set_other js up i index 0 other) seen
             (in_right d.q.before d.q.after (get_or ms up 0) right (h.z ∷ h.xs) (h.y ∷ h.ys) (get_or (set ms up right) up 0) (get_or (set js up index) up 0) (if moved then suc (length a) else length a) seen (get_or-set_same ms up right 0 low) (omega (arith, j_is, step_most moved, h.right_is, index_small)) (step_is moved (length a) ∙ omega (arith, j_is, ap length d.q.a_is, length-append (flat d.q.before) d.q.l, d.q.entry_is, h.left_is, late)))

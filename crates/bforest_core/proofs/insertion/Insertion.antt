@@ -1,13 +1,13 @@
 -- What an insertion into the tree under a root says of the table, where nodes were made free for it before.
-use Rattle.std.proofs.Common.{◌≡◌, ℕ, suc, ◌+◌, ◌-◌, ◌^◌, ◌≤◌, ◌<◌, ◌≢◌, ◌↔◌, IsTrue, Option, Some, None, Result, Err, List, [], ◌∷◌, ◌++◌, drop, map, length, insert, slice_get, sym, ap, ◌∙◌, subst, inl, inr, append-nil, length-append, arith}
-use Rattle.bforest_core.proofs.Words.{flat_map, cases_lt, eqb_tells, length-map, Path, Content, Table, down_from, fresh_nodes, front_of, free_count, slot_count, room, reserved, IsFullAt, LevelNode, node, flat, heads, sizes, numbers}
-use Rattle.bforest_core.proofs.Words.{Stacked, Topped, Tree, sizes_of, leaf_gain, gain_above, growth, need, IsAt, Stands, count, root_of, numbers_of, top_of, Placed, Inserted, tree_of, is_root, IsUnion, Changes, TakesNodes, PlacedUnder}
-use Rattle.bforest_core.proofs.Words.{StandsUnder}
+use Rattle.std.proofs.Common.{◌≡◌, ℕ, suc, ◌-◌, ◌^◌, ◌≤◌, ◌<◌, ◌≢◌, ◌↔◌, IsTrue, Option, Some, None, List, [], ◌∷◌, ◌++◌, drop, map, length, insert, slice_get, sym, ap, ◌∙◌, subst, inl, inr, length-append, arith}
+use Rattle.bforest_core.proofs.Words.{flat_map, cases_lt, eqb_tells, length-map, Content, Table, fresh_nodes, front_of, free_count, slot_count, room, reserved, IsFullAt, LevelNode, node, flat, heads, sizes, numbers, Stacked, Topped, Tree}
+use Rattle.bforest_core.proofs.Words.{sizes_of, leaf_gain, gain_above, growth, need, IsAt, Stands, count, root_of, numbers_of, top_of, Placed, Inserted, tree_of, is_root, IsUnion, Changes, TakesNodes, PlacedUnder, StandsUnder}
 use Rattle.std.proofs.Math.Seq.{drop-append_seam}
 use Rattle.bforest_core.proofs.rows.LevelRows.{flat-append}
 use Rattle.bforest_core.proofs.table.Tables.{count-append}
 use Rattle.bforest_core.proofs.table.Lists.{slice_get-append_left}
-use Rattle.bforest_core.proofs.table.Chains.{length-fresh_nodes, length-down_from}
+use Rattle.bforest_core.proofs.table.Chains.{length-fresh_nodes}
+use Rattle.bforest_core.proofs.table.Allocating.{reserved-enough, reserved-free}
 use Rattle.bforest_core.proofs.rows.Counts.{once_below, below-one, few-below}
 use Rattle.bforest_core.proofs.union.Forests.{root-among}
 use Rattle.bforest_core.proofs.rows.Bounds.{climb-seventeen}
@@ -15,7 +15,6 @@ use Rattle.bforest_core.proofs.union.Exchange.{IsPlanted}
 use Rattle.bforest_core.proofs.union.Unions.{Rooted, rooted}
 use Rattle.bforest_core.proofs.union.Roots.{exchanged}
 use Rattle.bforest_core.proofs.union.Reserved.{reserved-union, reserved-roots, reserved-then}
-use Rattle.bforest_core.proofs.insertion.LeafSpot.{placed_from, inserted_from}
 use Rattle.bforest_core.proofs.rows.Tops.{root-stands}
 
 -- a row has the entries of each of its nodes
@@ -68,20 +67,6 @@ module _ {K V : Type 0} where
       let r = rooted most table root union p.root_is in
       (omega (arith, p.at.points.size_is), omega (arith, p.at.points.size_is, r.low))
 
-  -- so many lie free then
-  pub reserved-free : (table : Table K V) (n : ℕ) → length (reserved table n).chain ≡ (n - free_count table) + free_count table
-  reserved-free table n = omega (arith, length-append (down_from (slot_count table) (n - free_count table)) table.chain, length-down_from (slot_count table) (n - free_count table))
-
-  -- of so many slots
-  reserved-slots : (table : Table K V) (n : ℕ) → length (reserved table n).nodes ≡ slot_count table + (n - free_count table)
-  reserved-slots table n = omega (arith, length-append table.nodes (fresh_nodes (slot_count table) (n - free_count table) (front_of table.chain)), length-fresh_nodes K V (slot_count table) (n - free_count table) (front_of table.chain))
-
-  -- where so many lay free already, nothing changed
-  pub reserved-enough : (table : Table K V) (n : ℕ) → n ≤ free_count table → reserved table n ≡ table
-  reserved-enough table n enough =
-      let none : n - free_count table ≡ 0 = omega (arith, enough) in
-      rw none (ap (λ z. record table { nodes = z }) (append-nil table.nodes))
-
   -- all that an insertion says of the table and of the path
   pub record Insertion (most : ℕ) (old new : Table K V) (root root' place : ℕ) (entry : K × V) (path' indices' : List ℕ) (size' : ℕ) : Type 0 where
     pub changes : Changes most old new root root' (insert (flat (tree_of old.nodes root).leaves) place entry) (growth most place (sizes_of (tree_of old.nodes root)))
@@ -124,7 +109,7 @@ module _ {K V : Type 0} where
           limit_is = i.limit_is;
         };
         takes = record {
-          slots = i.slots_are ∙ reserved-slots old n;
+          slots = omega (arith, i.slots_are, length-append old.nodes (fresh_nodes (slot_count old) (n - free_count old) (front_of old.chain)), length-fresh_nodes K V (slot_count old) (n - free_count old) (front_of old.chain));
           free = omega (arith, ap length i.chain_is, length-append i.taken new.chain, i.taken_is, reserved-free old n);
           chain_is = sym (ap (λ z. drop n z) i.chain_is ∙ ap (λ z. drop z (i.taken ++ new.chain)) (sym i.taken_is) ∙ drop-append_seam i.taken new.chain);
         };
@@ -155,58 +140,36 @@ module _ {K V : Type 0} where
       record {
         some = levels.0;
         low = levels.1;
-        is = insertion most old new root place path indices size entry union p.root_is levels.1 (inserted_from most old (reserved old n) new path indices size (tree_of old.nodes root) place entry (reserved-enough old n enough) i);
+        is = insertion most old new root place path indices size entry union p.root_is levels.1 (rw (reserved-enough old n enough) i);
         enough = omega (arith, enough);
       }
 
-  -- so many nodes were made free as an insertion needs
-  pub mid-is : (most : ℕ) (old was mid : Table K V) (root place : ℕ) (path indices : List ℕ) (size n : ℕ) → IsUnion most old → PlacedUnder old.nodes root path indices size place → was ≡ old →
-      ((tree : Tree K V) (place : ℕ) → Placed most was path indices size tree place → n ≡ need most place (sizes_of tree)) → mid ≡ reserved was n → mid ≡ reserved old (need most place (sizes_of (tree_of old.nodes root)))
-  mid-is most old was mid root place path indices size n union p was_is needs mid_is =
-      let tree = tree_of old.nodes root in
-      let n_is = needs tree place (placed_from most old was path indices size tree place was_is (placed-under most old root place path indices size union p)) in
-      mid_is ∙ ap (λ z. reserved z n) was_is ∙ ap (λ z. reserved old z) n_is
-
-  -- and the path is at the place still
+  -- the path is at the place still after nodes were made free
   pub placed-mid : (most : ℕ) (old mid : Table K V) (root place : ℕ) (path indices : List ℕ) (size n : ℕ) → IsUnion most old → PlacedUnder old.nodes root path indices size place → mid ≡ reserved old n → Placed most mid path indices size (tree_of old.nodes root) place
   placed-mid most old mid root place path indices size n union p mid_is =
       let same = reserved-roots most old n union root in
       let r = rooted most (reserved old n) root (reserved-union most old n union) (same.0 ∙ p.root_is) in
       let s = subst (λ (z : Tree K V). Rooted most (reserved old n) root z) (same.1 p.root_is) r in
-      placed_from most (reserved old n) mid path indices size (tree_of old.nodes root) place mid_is (record { fit = s.fit; inside = s.inside; apart = s.apart; at = p.at })
+      rw mid_is (record { fit = s.fit; inside = s.inside; apart = s.apart; at = p.at })
 
   -- where the leaf became two, after so many nodes were made free
-  pub put-split : (most : ℕ) (old was mid new : Table K V) (root place : ℕ) (path indices : List ℕ) (size n : ℕ) (path' indices' : List ℕ) (size' : ℕ) (entry : K × V) → IsUnion most old → PlacedUnder old.nodes root path indices size place → was ≡ old → slot_count was ≤ 4294967295 →
-      ((tree : Tree K V) (place : ℕ) → Placed most was path indices size tree place → n ≡ need most place (sizes_of tree)) → ¬ (room was < n) → mid ≡ reserved was n →
+  pub put-split : (most : ℕ) (old mid new : Table K V) (root place : ℕ) (path indices : List ℕ) (size n : ℕ) (path' indices' : List ℕ) (size' : ℕ) (entry : K × V) → IsUnion most old → PlacedUnder old.nodes root path indices size place → slot_count old ≤ 4294967295 →
+      ((tree : Tree K V) (place : ℕ) → Placed most old path indices size tree place → n ≡ need most place (sizes_of tree)) → ¬ (room old < n) → mid ≡ reserved old n →
       ((tree : Tree K V) (place : ℕ) → Placed most mid path indices size tree place → Inserted most mid new path' indices' size' tree place entry) → Put most old new root place entry path' indices' size'
-  put-split most old was mid new root place path indices size n path' indices' size' entry union p was_is slots needs enough mid_is inserts =
+  put-split most old mid new root place path indices size n path' indices' size' entry union p slots needs enough mid_is inserts =
       let tree = tree_of old.nodes root in
-      let n_is = needs tree place (placed_from most old was path indices size tree place was_is (placed-under most old root place path indices size union p)) in
-      let mid_old = mid-is most old was mid root place path indices size n union p was_is needs mid_is in
+      let n_is = needs tree place (placed-under most old root place path indices size union p) in
+      let mid_old : mid ≡ reserved old (need most place (sizes_of tree)) = mid_is ∙ ap (λ z. reserved old z) n_is in
       let i = inserts tree place (placed-mid most old mid root place path indices size (need most place (sizes_of tree)) union p mid_old) in
-      let slots_old : slot_count old ≤ 4294967295 = omega (arith, slots, ap (λ z. length z.nodes) was_is) in
-      let low : size' ≤ 17 = omega (arith, i.stands.size_is, ap length i.sizes_are, length-map i.tree'.above sizes, growth-low most old root place union p.root_is slots_old) in
+      let low : size' ≤ 17 = omega (arith, i.stands.size_is, ap length i.sizes_are, length-map i.tree'.above sizes, growth-low most old root place union p.root_is slots) in
       record {
         some = omega (arith, i.stands.size_is);
         low = low;
-        is = insertion most old new root place path' indices' size' entry union p.root_is low (inserted_from most mid (reserved old (need most place (sizes_of tree))) new path' indices' size' tree place entry (sym mid_old) i);
-        enough = omega (arith, enough, n_is, ap (λ z. room z) was_is);
+        is = insertion most old new root place path' indices' size' entry union p.root_is low (rw mid_old at i);
+        enough = omega (arith, enough, n_is);
       }
 
   -- a full leaf is still full after nodes were made free
   pub full-reserved : (most : ℕ) (table : Table K V) (n m : ℕ) (content : Content K V) → slice_get table.nodes m ≡ Some content → IsFullAt most table.nodes m → IsFullAt most (reserved table n).nodes m
   full-reserved most table n m content found full =
       rw (slice_get-append_left table.nodes (fresh_nodes (slot_count table) (n - free_count table) (front_of table.chain)) m content found) (rw found at full)
-
-  -- by equations of tables and of paths
-  pub put-from : (most : ℕ) (old new new1 : Table K V) (root place : ℕ) (entry : K × V) (most1 : ℕ) (at at1 : Path K V most1) → new1 ≡ new → at1 ≡ at → Put most old new root place entry at.node at.entry at.size → Put most old new1 root place entry at1.node at1.entry at1.size
-  put-from most old new new1 root place entry most1 at at1 e1 e2 p =
-      rw (e1, e2) p
-
--- errors of two calls that are one are one as the first call answers them
-pub err-same : {A B E : Type 0} (x : Result A E) (e f : E) (y z : Result B E) → x ≡ Err e → x ≡ Err f → y ≡ Err e → z ≡ Err f → y ≡ z
-err-same x e f y z xe xf ye zf = let same : e ≡ f = cc in ye ∙ ap Err same ∙ sym zf
-
--- and as the second does
-pub err-back : {A B E : Type 0} (x : Result A E) (e f : E) (y z : Result B E) → x ≡ Err e → y ≡ Err e → z ≡ Err f → y ≡ z → x ≡ Err f
-err-back x e f y z xe ye zf yz = let same : e ≡ f = cc in xe ∙ ap Err same

@@ -1,13 +1,13 @@
 -- The leaves after one of them was halved, and the tree after the levels above took the right half in.
-use Rattle.std.proofs.Common.{◌≡◌, ℕ, suc, ◌+◌, ◌-◌, ◌≤◌, ◌<◌, ◌≢◌, Bool, if◌then◌else◌, List, ◌∷◌, ◌++◌, map, length, insert, get_or, slice_get, Option, Some, sym, ap, ◌∙◌, subst, length-append, arith}
+use Rattle.std.proofs.Common.{◌≡◌, ℕ, suc, ◌+◌, ◌-◌, ◌≤◌, ◌<◌, ◌≢◌, Bool, if◌then◌else◌, List, ◌∷◌, ◌++◌, map, length, insert, get_or, slice_get, Option, Some, sym, ap, ◌∙◌, subst, length-append, arith, [], refl}
 use Rattle.bforest_core.proofs.Words.{flat_map, length-map, IsLeafCapacity, Table, LevelNode, node, flat, head_of, heads, sizes, numbers, Stacked, Topped, Tree, IsFit, half_of, leaf_gain, gain_above, need_above, leaf_content, count, IsAt}
 use Rattle.bforest_core.proofs.Words.{StandsAbove, Stands, Placed, LeafHalved, Inserted, Grown}
 use Rattle.bforest_core.proofs.rows.LevelRows.{heads-append, sizes-append, FitRow-split}
-use Rattle.bforest_core.proofs.table.Tables.{counts, count-append, count-same, row-same, row-halved, rows-same, ne_from_count, absent_ne}
+use Rattle.bforest_core.proofs.table.Tables.{counts, count-append, count-same, row-same, row-changed, rows-same, ne_from_count, absent_ne}
 use Rattle.bforest_core.proofs.rows.Zipper.{stands-same}
 use Rattle.bforest_core.proofs.rows.Tops.{root-stands, root-points}
 use Rattle.bforest_core.proofs.insertion.Rise.{gain-some}
-use Rattle.bforest_core.proofs.insertion.Grow.{InHalf, flat-halved, FitRow-halved, leaf_full}
+use Rattle.bforest_core.proofs.insertion.Grow.{InHalf, flat-halved, FitRow-halved, leaf_full, heads-halved, one_more}
 use Rattle.bforest_core.proofs.insertion.LeafSpot.{LeafSpot, renewed, insert_flat, rows_count}
 use Rattle.bforest_core.proofs.insertion.Halving.{Halves}
 
@@ -15,9 +15,7 @@ module _ {K V : Type 0} where
   pub full_gain : (most : ℕ) (t : Table K V) (ms js : List ℕ) (tree : Tree K V) (place : ℕ) → (d : LeafSpot most t ms js tree place) → length (d.l ++ d.r) ≡ most →
       leaf_gain most place (sizes tree.leaves) ≡ (Some (length d.before), sizes d.before ++ half_of most ∷ half_of most ∷ sizes d.after)
   full_gain most t ms js tree place d full =
-      ap (λ z. leaf_gain most place (sizes z)) d.leaves_are ∙ ap (λ z. leaf_gain most z (sizes (d.before ++ node (get_or ms 0 0) (d.l ++ d.r) ∷ d.after))) d.place_is
-      ∙ ap (λ z. leaf_gain most (length (flat d.before) + length d.l) z) (sizes-append d.before (node (get_or ms 0 0) (d.l ++ d.r) ∷ d.after))
-      ∙ leaf_full most d.before (length (d.l ++ d.r)) (length d.l) (sizes d.after) (omega (arith, length-append d.l d.r)) d.first full
+      rw (d.leaves_are, d.place_is, sizes-append d.before (node (get_or ms 0 0) (d.l ++ d.r) ∷ d.after)) (leaf_full most d.before (length (d.l ++ d.r)) (length d.l) (sizes d.after) (omega (arith, length-append d.l d.r)) d.first full)
 
   -- all but where the path stands
   pub leaf_parted : (most : ℕ) (t u : Table K V) (ms js ms' js' : List ℕ) (size : ℕ) (tree : Tree K V) (place : ℕ) (entry : K × V) (middle : K) (right : ℕ) (moved : Bool) → IsLeafCapacity most → Placed most t ms js size tree place → (d : LeafSpot most t ms js tree place) → length (d.l ++ d.r) ≡ most →
@@ -54,12 +52,9 @@ module _ {K V : Type 0} where
         key_is = h.middle_is;
         flat_is = flat-halved d.before d.after n right (h.z ∷ h.xs) (h.y ∷ h.ys) ∙ ap (λ z. flat d.before ++ (z ++ flat d.after)) (sym h.grown_is)
             ∙ sym (insert_flat d.before n d.l d.r d.after entry) ∙ ap (λ z. insert (flat row) z entry) (sym d.place_is) ∙ ap (λ z. insert (flat z) place entry) (sym d.leaves_are);
-        fit = FitRow-halved (half_of most) most d.before d.after n right es (h.z ∷ h.xs) (h.y ∷ h.ys) (omega (arith, capacity.least)) d.fit (omega (arith, h.left_is)) (omega (arith, h.left_is, few)) (omega (arith, h.right_is)) (omega (arith, h.right_is, few));
-        inside = row-halved leaf_content t.nodes u.nodes d.before n right es (h.z ∷ h.xs) (h.y ∷ h.ys) d.after d.inside h.two.same h.two.here h.two.there d.none none_right;
-        gain_is = full_gain most t ms js tree place d full ∙ ap (λ z. (Some z, sizes d.before ++ half_of most ∷ half_of most ∷ sizes d.after)) (sym solid_full)
-            ∙ ap (λ z. (Some (length (heads d.before)), sizes d.before ++ z ∷ half_of most ∷ sizes d.after)) (sym h.left_is)
-            ∙ ap (λ z. (Some (length (heads d.before)), sizes d.before ++ length (h.z ∷ h.xs) ∷ z ∷ sizes d.after)) (sym h.right_is)
-            ∙ ap (λ z. (Some (length (heads d.before)), z)) (sym (sizes-append d.before (node n (h.z ∷ h.xs) ∷ node right (h.y ∷ h.ys) ∷ d.after)));
+        fit = FitRow-halved (half_of most) most d.before d.after n right es (h.z ∷ h.xs) (h.y ∷ h.ys) (omega (arith, capacity.least)) d.fit.leaves_fit (omega (arith, h.left_is)) (omega (arith, h.left_is, few)) (omega (arith, h.right_is)) (omega (arith, h.right_is, few));
+        inside = row-changed leaf_content t.nodes u.nodes d.before (node n es ∷ []) (node n (h.z ∷ h.xs) ∷ node right (h.y ∷ h.ys) ∷ []) d.after n right d.inside h.two.same (h.two.here, (h.two.there, tt)) d.none none_right;
+        gain_is = full_gain most t ms js tree place d full ∙ rw (solid_full, sizes-append d.before (node n (h.z ∷ h.xs) ∷ node right (h.y ∷ h.ys) ∷ d.after), h.left_is, h.right_is) refl;
         above = record {
           stacked = subst (λ (z : List (K × ℕ)). Stacked z up.rows') hs0 up.stacked;
           inside = rows-same t.nodes u.nodes up.rows' (λ m some. h.two.same m (ne_from_count m n (flat_map numbers up.rows') some none_rows) (ne_from_count m right (flat_map numbers up.rows') some none_right_rows)) up.inside;
@@ -87,11 +82,12 @@ module _ {K V : Type 0} where
       ap (λ z. change z.0 (map sizes tree.above)) h.gain_is ∙ ap (λ z. change (Some (length (heads h.before))) z) (sym h.sizes_above)
 
   -- the levels above took the right half in
-  pub inserted : (most : ℕ) (t u v : Table K V) (ms js ms' js' ms'' js'' : List ℕ) (size size' : ℕ) (tree : Tree K V) (place : ℕ) (entry : K × V) (key : K) (right : ℕ) (moved : Bool) (taken : List ℕ) → Placed most t ms js size tree place → (h : LeafHalved most t u ms ms' js' size tree place entry key right moved) →
+  pub inserted : (most : ℕ) (t u v : Table K V) (ms js ms' js' ms'' js'' : List ℕ) (size size' : ℕ) (tree : Tree K V) (place : ℕ) (entry : K × V) (key : K) (right : ℕ) (moved : Bool) (taken : List ℕ) (size1 left : ℕ) → size1 ≡ size → left ≡ get_or ms 0 0 → Placed most t ms js size tree place → (h : LeafHalved most t u ms ms' js' size tree place entry key right moved) →
       suc (length taken) ≡ need_above (Some (length (heads h.before))) (map sizes h.rows) →
-      Grown u v ms' js' ms'' js'' 1 size size' h.rows (heads h.before ++ (h.first.0, get_or ms 0 0) ∷ (key, right) ∷ heads h.after) (if moved then suc (length (heads h.before)) else length (heads h.before)) (gain_above (Some (length (heads h.before))) (map sizes h.rows)) taken →
+      Grown u v ms' js' ms'' js'' 1 size1 size' h.rows (heads h.before ++ (h.first.0, left) ∷ (key, right) ∷ heads h.after) (if moved then suc (length (heads h.before)) else length (heads h.before)) (gain_above (Some (length (heads h.before))) (map sizes h.rows)) taken →
       Inserted most t v ms'' js'' size' tree place entry
-  inserted most t u v ms js ms' js' ms'' js'' size size' tree place entry key right moved taken p h needs g =
+  inserted most t u v ms js ms' js' ms'' js'' size size' tree place entry key right moved taken size1 left size_is left_is p h needs grown =
+      let g = rw (size_is, left_is) at grown in
       let n = get_or ms 0 0 in
       let row2 : List (LevelNode K V) = h.before ++ node n (h.first ∷ h.others) ∷ node right (h.next ∷ h.more) ∷ h.after in
       let leaves_m = λ (m : ℕ). ap (λ z. count m (numbers z ++ flat_map numbers tree.above)) h.leaves_were in
@@ -102,11 +98,7 @@ module _ {K V : Type 0} where
       let chain_is : t.chain ≡ right ∷ (taken ++ v.chain) = h.chain_is ∙ ap (λ z. right ∷ z) g.chain_is in
       let c7 = λ (m : ℕ). ap (λ z. count m z) chain_is in
       let c8 = λ (m : ℕ). count-append m taken v.chain in
-      let hs : heads row2 ≡ heads h.before ++ (h.first.0, n) ∷ (key, right) ∷ heads h.after =
-      heads-append h.before _ ∙ ap (λ z. heads h.before ++ (h.first.0, n) ∷ (z, right) ∷ heads h.after) (sym h.key_is) in
-      let one : List (K × ℕ) = heads h.before ++ (h.first.0, n) ∷ heads h.after in
-      let longer : length one ≤ length (heads h.before ++ (h.first.0, n) ∷ (key, right) ∷ heads h.after) =
-      omega (arith, length-append (heads h.before) ((h.first.0, n) ∷ heads h.after), length-append (heads h.before) ((h.first.0, n) ∷ (key, right) ∷ heads h.after)) in
+      let hs = heads-halved h.before h.after n right h.first h.others h.next h.more key h.key_is in
       let quiet : (m : ℕ) → 0 < count m (numbers row2) → slice_get v.nodes m ≡ slice_get u.nodes m = λ m some. g.others m (omega (arith, some, p.apart m, leaves_m m, rows_m m, c m, c2 m, c4 m, c7 m, c8 m)) in
       let here_m = g.nodes_below 0 (omega arith) in
       let here_j = g.entries_below 0 (omega arith) in
@@ -114,7 +106,7 @@ module _ {K V : Type 0} where
       let fit' : IsFit most (record { leaves = row2; above = g.rows' }) = record {
         leaves_fit = h.fit;
         stacked = subst (λ (z : List (K × ℕ)). Stacked z g.rows') (sym hs) g.above.stacked;
-        topped = subst (λ (z : List (K × ℕ)). Topped z g.rows') (sym hs) (g.topped one longer h.topped);
+        topped = subst (λ (z : List (K × ℕ)). Topped z g.rows') (sym hs) (g.topped _ (one_more (heads h.before) (h.first.0, n) (key, right) (heads h.after)) h.topped);
       } in
       let stands : Stands ms'' js'' size' (record { leaves = row2; above = g.rows' }) place = record {
         leaf = at2;

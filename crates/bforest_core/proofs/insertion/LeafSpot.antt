@@ -1,13 +1,87 @@
 -- The leaf of a place for an entry, and the entry put in where there is room.
 use Rattle.std.proofs.Common.{◌≡◌, ◌⊎◌, ℕ, suc, ◌+◌, ◌≤◌, ◌<◌, List, [], ◌∷◌, ◌++◌, map, length, take, drop, insert, get_or, slice_get, Some, None, inl, inr, refl, sym, ap, ◌∙◌, subst, append_assoc, length-append, length-take-le, take-append-drop, arith}
-use Rattle.bforest_core.proofs.Words.{flat_map, cases_lt, length-map, Table, LevelNode, node, flat, heads, sizes, numbers, FitRow, Solid, Stacked, Topped, Tree, IsFit, half_of, leaf_gain, gain_above, need_above, RowIn, leaf_content}
-use Rattle.bforest_core.proofs.Words.{entry_keys, count, Distinct, StandsAbove, Stands, Placed, Inserted}
-use Rattle.bforest_core.proofs.rows.LevelRows.{flat-append, least-pos, sizes-append, FitRow-split}
+use Rattle.bforest_core.proofs.Words.{flat_map, cases_lt, length-map, Table, LevelNode, node, flat, heads, sizes, numbers, Solid, Stacked, Topped, Tree, IsFit, half_of, leaf_gain, gain_above, need_above, RowIn, leaf_content, entry_keys}
+use Rattle.bforest_core.proofs.Words.{count, Distinct, StandsAbove, Stands, Placed, Inserted, Content, RowsIn, IsAt}
+use Rattle.bforest_core.proofs.rows.LevelRows.{flat-append, least-pos, sizes-append, FitRow-split, heads-append}
 use Rattle.bforest_core.proofs.table.Tables.{counts, row-split, row-put, rows-same, ne_from_count, absent_ne, Puts}
 use Rattle.bforest_core.proofs.rows.Zipper.{apart_here}
 use Rattle.bforest_core.proofs.insertion.Grow.{FitRow-put, leaf_room}
 use Rattle.bforest_core.proofs.rows.Tops.{root-stands, root-points}
-use Rattle.bforest_core.proofs.insertion.Renew.{Renewed, renew}
+
+module _ {K : Type 0} where
+  -- a list with this first key
+  abbrev rekey : {X : Type 0} → K → List (K × X) → List (K × X)
+  rekey key [] = []
+  rekey key (e ∷ es) = (key, e.1) ∷ es
+
+  -- a row
+  abbrev rekey_row : K → List (LevelNode K ℕ) → List (LevelNode K ℕ)
+  rekey_row key [] = []
+  rekey_row key (node n es ∷ row) = node n (rekey key es) ∷ row
+
+  length_rekey : {X : Type 0} (key : K) (es : List (K × X)) → length (rekey key es) ≡ length es
+  length_rekey key [] = refl
+  length_rekey key (e ∷ es) = refl
+
+  at_rekey : (key : K) (row : List (LevelNode K ℕ)) (n j p : ℕ) (before : List (LevelNode K ℕ)) (es : List (K × ℕ)) (after : List (LevelNode K ℕ)) → row ≡ before ++ node n es ∷ after → j < length es → p ≡ length (flat before) + j →
+      (at : IsAt (rekey_row key row) n j p) × (length at.before ≡ length before)
+  at_rekey key row n j p [] es after is low place = (
+    record { before = []; entries = rekey key es; after = after; row_is = ap (λ z. rekey_row key z) is; within = omega (arith, low, length_rekey key es); place_is = place },
+    refl,
+  )
+  at_rekey key row n j p (node m fs ∷ before) es after is low place = (
+    record {
+      before = node m (rekey key fs) ∷ before;
+      entries = es;
+      after = after;
+      row_is = ap (λ z. rekey_row key z) is;
+      within = low;
+      place_is = omega (arith, place, length-append fs (flat before), length-append (rekey key fs) (flat before), length_rekey key fs);
+    },
+    refl,
+  )
+
+-- the rows that stand over this list of nodes, and are as before in all that is stored
+pub record Renewed {K V : Type 0} (slots : List (Content K V)) (ms js : List ℕ) (up : ℕ) (rows : List (List (LevelNode K ℕ))) (list : List (K × ℕ)) : Type 0 where
+  pub rows' : List (List (LevelNode K ℕ))
+  pub stacked : Stacked list rows'
+  pub topped : Topped list rows'
+  pub inside : RowsIn slots rows'
+  pub stands : (place : ℕ) → StandsAbove ms js up rows place → StandsAbove ms js up rows' place
+  pub sizes_are : map sizes rows' ≡ map sizes rows
+  pub numbers_are : flat_map numbers rows' ≡ flat_map numbers rows
+
+module _ {K V : Type 0} (slots : List (Content K V)) (ms js : List ℕ) where
+  -- with another first key
+  renew_first : (up : ℕ) (rows : List (List (LevelNode K ℕ))) (list : List (K × ℕ)) (key : K) → Stacked list rows → Topped list rows → RowsIn slots rows → Renewed slots ms js up rows (rekey key list)
+  renew_first up [] list key s t i = record { rows' = []; stacked = length_rekey key list ∙ s; topped = tt; inside = tt; stands = λ place st. st; sizes_are = refl; numbers_are = refl }
+  renew_first up ([] ∷ rows) list key s t i = absurd (omega (arith, t.0, ap length s.0))
+  renew_first up ((node n [] ∷ row) ∷ rows) list key s t i = absurd (omega (arith, s.1.0, least-pos 4 (omega arith) row))
+  renew_first up ((node n (e ∷ es) ∷ row) ∷ rows) list key s t i =
+      let r = renew_first (suc up) rows (heads (node n (e ∷ es) ∷ row)) key s.2 t.1 i.1 in
+      record {
+        rows' = (node n ((key, e.1) ∷ es) ∷ row) ∷ r.rows';
+        stacked = (ap (λ z. rekey key z) s.0, s.1, r.stacked);
+        topped = (omega (arith, t.0, length_rekey key list), r.topped);
+        inside = (i.0, r.inside);
+        stands = λ place st. (
+          let a = at_rekey key (node n (e ∷ es) ∷ row) _ _ place st.0.before st.0.entries st.0.after st.0.row_is st.0.within st.0.place_is in
+          (a.0, subst (λ (z : ℕ). StandsAbove ms js (suc up) r.rows' z) (sym a.1) (r.stands (length st.0.before) st.1))
+        );
+        sizes_are = ap (λ z. (suc (length es) ∷ sizes row) ∷ z) r.sizes_are;
+        numbers_are = ap (λ z. (n ∷ numbers row) ++ z) r.numbers_are;
+      }
+
+  -- an entry came into a leaf, in front of others only in the first leaf
+  pub renew : (up : ℕ) (rows : List (List (LevelNode K ℕ))) (before : List (LevelNode K V)) (n : ℕ) (l : List (K × V)) (entry : K × V) (r : List (K × V)) (after : List (LevelNode K V)) → (before ≡ []) ⊎ (1 ≤ length l) → 1 ≤ length (l ++ r) →
+      Stacked (heads (before ++ node n (l ++ r) ∷ after)) rows → Topped (heads (before ++ node n (l ++ r) ∷ after)) rows → RowsIn slots rows → Renewed slots ms js up rows (heads (before ++ node n (l ++ entry ∷ r) ∷ after))
+  renew up rows before n (x ∷ l) entry r after at some s t i =
+      let same : heads (before ++ node n (x ∷ (l ++ r)) ∷ after) ≡ heads (before ++ node n (x ∷ (l ++ entry ∷ r)) ∷ after) = heads-append before _ ∙ sym (heads-append before _) in
+      subst (λ (z : List (K × ℕ)). Renewed slots ms js up rows z) same (record { rows' = rows; stacked = s; topped = t; inside = i; stands = λ place st. st; sizes_are = refl; numbers_are = refl })
+  renew up rows (z ∷ before) n [] entry r after (inl none) some s t i = absurd cc
+  renew up rows [] n [] entry [] after (inl none) some s t i = absurd (omega (arith, some))
+  renew up rows [] n [] entry (y ∷ r) after (inl none) some s t i = renew_first up rows _ entry.0 s t i
+  renew up rows before n [] entry r after (inr one) some s t i = absurd (omega (arith, one))
 
 insert_between : {A : Type 0} (p s : List A) (x : A) → insert (p ++ s) (length p) x ≡ p ++ x ∷ s
 insert_between [] s x = refl
@@ -17,10 +91,8 @@ insert_between (z ∷ p) s x = ap (λ w. z ∷ w) (insert_between p s x)
 pub insert_flat : {K V : Type 0} (before : List (LevelNode K V)) (n : ℕ) (l r : List (K × V)) (after : List (LevelNode K V)) (x : K × V) →
     insert (flat (before ++ node n (l ++ r) ∷ after)) (length (flat before) + length l) x ≡ flat before ++ ((l ++ x ∷ r) ++ flat after)
 insert_flat before n l r after x =
-    let whole : flat (before ++ node n (l ++ r) ∷ after) ≡ (flat before ++ l) ++ (r ++ flat after) =
-    flat-append before _ ∙ ap (λ z. flat before ++ z) (append_assoc l r (flat after)) ∙ sym (append_assoc (flat before) l _) in
-    ap (λ z. insert z (length (flat before) + length l) x) whole ∙ ap (λ z. insert ((flat before ++ l) ++ (r ++ flat after)) z x) (sym (length-append (flat before) l)) ∙ insert_between (flat before ++ l) (r ++ flat after) x
-    ∙ append_assoc (flat before) l _ ∙ ap (λ z. flat before ++ z) (sym (append_assoc l (x ∷ r) (flat after)))
+    let whole : flat (before ++ node n (l ++ r) ∷ after) ≡ (flat before ++ l) ++ (r ++ flat after) = simp (flat-append, append_assoc) in
+    rw (whole, ← length-append (flat before) l, insert_between (flat before ++ l) (r ++ flat after) x) (simp append_assoc)
 
 -- as many rows
 pub rows_count : {K : Type 0} (xs ys : List (List (LevelNode K ℕ))) → map sizes ys ≡ map sizes xs → length ys ≡ length xs
@@ -37,13 +109,11 @@ module _ {K V : Type 0} where
     pub index_is : length l ≡ get_or js 0 0
     pub place_is : place ≡ length (flat before) + length l
     pub first : (before ≡ []) ⊎ (1 ≤ length l)
-    pub fit : FitRow (half_of most) most (before ++ node (get_or ms 0 0) (l ++ r) ∷ after)
+    pub fit : IsFit most (record { leaves = before ++ node (get_or ms 0 0) (l ++ r) ∷ after; above = tree.above })
     pub solid : Solid (half_of most) most before
     pub most_is : length (l ++ r) ≤ most
     pub inside : RowIn leaf_content t.nodes (before ++ node (get_or ms 0 0) (l ++ r) ∷ after)
     pub slot_is : slice_get t.nodes (get_or ms 0 0) ≡ Some (leaf_content (l ++ r))
-    pub stacked : Stacked (heads (before ++ node (get_or ms 0 0) (l ++ r) ∷ after)) tree.above
-    pub topped : Topped (heads (before ++ node (get_or ms 0 0) (l ++ r) ∷ after)) tree.above
     pub stands : StandsAbove ms js 1 tree.above (length before)
     pub apart : Distinct ((numbers (before ++ node (get_or ms 0 0) (l ++ r) ∷ after) ++ flat_map numbers tree.above) ++ t.chain)
     pub none : count (get_or ms 0 0) (numbers before) + count (get_or ms 0 0) (numbers after) ≡ 0
@@ -59,10 +129,10 @@ module _ {K V : Type 0} where
       let l_is = length-take-le (get_or js 0 0) at.entries at.within in
       let row : List (LevelNode K V) = at.before ++ node n (l ++ r) ∷ at.after in
       let is : tree.leaves ≡ row = at.leaves_are ∙ ap (λ z. at.before ++ node n z ∷ at.after) (sym (take-append-drop (get_or js 0 0) at.entries)) in
-      let fit : FitRow (half_of most) most row = subst (λ (z : List (LevelNode K V)). FitRow (half_of most) most z) is p.fit.leaves_fit in
+      let fit = subst (λ (z : List (LevelNode K V)). IsFit most (record { leaves = z; above = tree.above })) is p.fit in
       let inside : RowIn leaf_content t.nodes row = subst (λ (z : List (LevelNode K V)). RowIn leaf_content t.nodes z) is p.inside.leaves_in in
       let apart : Distinct ((numbers row ++ flat_map numbers tree.above) ++ t.chain) = subst (λ (z : List (LevelNode K V)). Distinct ((numbers z ++ flat_map numbers tree.above) ++ t.chain)) is p.apart in
-      let f = FitRow-split (half_of most) most at.before (node n (l ++ r)) at.after fit in
+      let f = FitRow-split (half_of most) most at.before (node n (l ++ r)) at.after fit.leaves_fit in
       let d = apart_here n at.before (l ++ r) at.after (flat_map numbers tree.above) t.chain apart in
       record {
         before = at.before;
@@ -78,8 +148,6 @@ module _ {K V : Type 0} where
         most_is = f.1.1;
         inside = inside;
         slot_is = (row-split leaf_content t.nodes at.before (node n (l ++ r) ∷ at.after) inside).1.0;
-        stacked = subst (λ (z : List (LevelNode K V)). Stacked (heads z) tree.above) is p.fit.stacked;
-        topped = subst (λ (z : List (LevelNode K V)). Topped (heads z) tree.above) is p.fit.topped;
         stands = at.above;
         apart = apart;
         none = d.0;
@@ -89,17 +157,15 @@ module _ {K V : Type 0} where
 
   -- the rows above, with the entry among those of its leaf
   pub renewed : (most : ℕ) (t : Table K V) (ms js : List ℕ) (size : ℕ) (tree : Tree K V) (place : ℕ) (entry : K × V) → 1 ≤ most → Placed most t ms js size tree place → (d : LeafSpot most t ms js tree place) →
-      Renewed t.nodes ms js tree.above (heads (d.before ++ node (get_or ms 0 0) (d.l ++ entry ∷ d.r) ∷ d.after))
+      Renewed t.nodes ms js 1 tree.above (heads (d.before ++ node (get_or ms 0 0) (d.l ++ entry ∷ d.r) ∷ d.after))
   renewed most t ms js size tree place entry one p d =
-      let f = FitRow-split (half_of most) most d.before (node (get_or ms 0 0) (d.l ++ d.r)) d.after d.fit in
-      renew t.nodes ms js tree.above d.before (get_or ms 0 0) d.l entry d.r d.after d.first (omega (arith, f.1.0, least-pos (half_of most) (omega (arith, one)) d.after)) d.stacked d.topped p.inside.rows_in
+      let f = FitRow-split (half_of most) most d.before (node (get_or ms 0 0) (d.l ++ d.r)) d.after d.fit.leaves_fit in
+      renew t.nodes ms js 1 tree.above d.before (get_or ms 0 0) d.l entry d.r d.after d.first (omega (arith, f.1.0, least-pos (half_of most) (omega (arith, one)) d.after)) d.fit.stacked d.fit.topped p.inside.rows_in
 
   -- where the leaf has room
   pub room_gain : (most : ℕ) (t : Table K V) (ms js : List ℕ) (tree : Tree K V) (place : ℕ) → (d : LeafSpot most t ms js tree place) → length (d.l ++ d.r) < most → leaf_gain most place (sizes tree.leaves) ≡ (None, sizes d.before ++ suc (length (d.l ++ d.r)) ∷ sizes d.after)
   room_gain most t ms js tree place d room =
-      ap (λ z. leaf_gain most place (sizes z)) d.leaves_are ∙ ap (λ z. leaf_gain most z (sizes (d.before ++ node (get_or ms 0 0) (d.l ++ d.r) ∷ d.after))) d.place_is
-      ∙ ap (λ z. leaf_gain most (length (flat d.before) + length d.l) z) (sizes-append d.before (node (get_or ms 0 0) (d.l ++ d.r) ∷ d.after))
-      ∙ leaf_room most d.before (length (d.l ++ d.r)) (length d.l) (sizes d.after) (omega (arith, length-append d.l d.r)) d.first room
+      rw (d.leaves_are, d.place_is, sizes-append d.before (node (get_or ms 0 0) (d.l ++ d.r) ∷ d.after)) (leaf_room most d.before (length (d.l ++ d.r)) (length d.l) (sizes d.after) (omega (arith, length-append d.l d.r)) d.first room)
 
   pub put_leaf : (most : ℕ) (t u : Table K V) (ms js : List ℕ) (size : ℕ) (tree : Tree K V) (place : ℕ) (entry : K × V) → Placed most t ms js size tree place → (d : LeafSpot most t ms js tree place) → length (d.l ++ d.r) < most →
       Puts t u (get_or ms 0 0) (leaf_content (d.l ++ entry ∷ d.r)) → Inserted most t u ms js size tree place entry
@@ -117,7 +183,7 @@ module _ {K V : Type 0} where
       let c2 = λ (m : ℕ). counts m d.before n old d.after tree.above t.chain in
       let c3 = λ (m : ℕ). counts m d.before n es d.after above.rows' u.chain in
       let g = room_gain most t ms js tree place d room in
-      let fit' : IsFit most (record { leaves = row2; above = above.rows' }) = record { leaves_fit = FitRow-put (half_of most) most d.before d.after n old es len room d.fit; stacked = above.stacked; topped = above.topped } in
+      let fit' : IsFit most (record { leaves = row2; above = above.rows' }) = record { leaves_fit = FitRow-put (half_of most) most d.before d.after n old es len room d.fit.leaves_fit; stacked = above.stacked; topped = above.topped } in
       let stands : Stands ms js size (record { leaves = row2; above = above.rows' }) place = record {
         leaf = record { before = d.before; entries = es; after = d.after; row_is = refl; within = omega (arith, d.index_is, length-append d.l (entry ∷ d.r)); place_is = omega (arith, d.place_is, d.index_is) };
         above = above.stands (length d.before) d.stands;
@@ -144,14 +210,6 @@ module _ {K V : Type 0} where
         same_root = λ same. root-stands most (record { leaves = row2; above = above.rows' }) ms js size place fit' stands ∙ sym (root-points most tree ms js size place (omega (arith, room)) p.fit p.at.points);
         new_root = λ other. absurd (other (rows_count tree.above above.rows' above.sizes_are));
       }
-
-module _ {K V : Type 0} where
-  -- the same, by an equation of tables
-  pub placed_from : (most : ℕ) (t t1 : Table K V) (ms js : List ℕ) (size : ℕ) (tree : Tree K V) (place : ℕ) → t1 ≡ t → Placed most t ms js size tree place → Placed most t1 ms js size tree place
-  placed_from most t t1 ms js size tree place e p = subst (λ (z : Table K V). Placed most z ms js size tree place) (sym e) p
-
-  pub inserted_from : (most : ℕ) (t t1 u : Table K V) (ms js : List ℕ) (size : ℕ) (tree : Tree K V) (place : ℕ) (entry : K × V) → t1 ≡ t → Inserted most t u ms js size tree place entry → Inserted most t1 u ms js size tree place entry
-  inserted_from most t t1 u ms js size tree place entry e i = subst (λ (z : Table K V). Inserted most z u ms js size tree place entry) (sym e) i
 
 -- how many keys
 pub keys_count : {K X : Type 0} → (es : List (K × X)) → length (entry_keys es) ≡ length es

@@ -1,12 +1,68 @@
 -- A level whose node became two, and the levels above it.
-use Rattle.std.proofs.Common.{◌≡◌, ℕ, suc, ◌+◌, ◌-◌, ◌≤◌, ◌<◌, ◌≢◌, Bool, if◌then◌else◌, List, [], ◌∷◌, ◌++◌, map, length, get_or, slice_get, Some, refl, sym, ap, ◌∙◌, subst, length-append, arith}
-use Rattle.bforest_core.proofs.Words.{flat_map, length-map, Inner, Table, LevelNode, node, flat, heads, sizes, numbers, Stacked, Topped, inner_gain, gain_above, need_above, inner_content, count, Distinct, IsAt, StandsAbove, Above, Grown}
-use Rattle.bforest_core.proofs.Words.{Halved}
-use Rattle.bforest_core.proofs.rows.LevelRows.{heads-append}
-use Rattle.bforest_core.proofs.table.Tables.{counts, count-append, count-same, row-same, absent_ne, Takes}
-use Rattle.bforest_core.proofs.rows.Zipper.{Spot}
-use Rattle.bforest_core.proofs.insertion.Grow.{gain_spot, gain_some}
-use Rattle.bforest_core.proofs.insertion.Room.{step_is, step_most}
+use Rattle.std.proofs.Common.{◌≡◌, ℕ, suc, ◌+◌, ◌-◌, ◌≤◌, ◌<◌, ◌≢◌, Bool, if◌then◌else◌, List, [], ◌∷◌, ◌++◌, map, length, get_or, slice_get, Some, refl, sym, ap, ◌∙◌, subst, length-append, arith, true, false, append_assoc}
+use Rattle.bforest_core.proofs.Words.{flat_map, length-map, Inner, Table, LevelNode, node, heads, sizes, numbers, Stacked, Topped, gain_above, need_above, inner_content, count, Distinct, IsAt, StandsAbove, Above, Grown, Halved, flat}
+use Rattle.bforest_core.proofs.rows.LevelRows.{heads-append, flat-append, sizes-append}
+use Rattle.bforest_core.proofs.table.Tables.{counts, count-append, count-same, row-same, absent_ne, Takes, row-put, rows-same, ne_from_count, Puts}
+use Rattle.bforest_core.proofs.rows.Zipper.{Spot, stands_here, stands-same}
+use Rattle.bforest_core.proofs.insertion.Grow.{gain_spot, gain_full, head-grown, FitRow-put, gain_room, heads-halved, one_more}
+
+-- one where the path moved on
+abbrev pub step : Bool → ℕ
+step moved = if moved then 1 else 0
+
+pub step_is : (moved : Bool) (n : ℕ) → (if moved then suc n else n) ≡ step moved + n
+step_is true n = omega arith
+step_is false n = omega arith
+
+pub step_most : (moved : Bool) → step moved ≤ 1
+step_most true = omega arith
+step_most false = omega arith
+
+module _ {K V : Type 0} where
+  pub settle_room : (t u : Table K V) (ms js js' : List ℕ) (up size : ℕ) (rows : List (List (LevelNode K ℕ))) (a : List (K × ℕ)) (x y : K × ℕ) (b : List (K × ℕ)) (moved : Bool) → (d : Spot t ms js up size rows a x b) → length (d.q.l ++ x ∷ d.q.r) < 8 → Puts t u (get_or ms up 0) (inner_content (d.q.l ++ x ∷ y ∷ d.q.r)) →
+      get_or js' up 0 ≡ (if moved then suc (get_or js up 0) else get_or js up 0) → ((i : ℕ) → i ≢ up → get_or js' i 0 ≡ get_or js i 0) →
+      (1 ≡ need_above (Some (length a)) (map sizes rows)) × Grown t u ms js ms js' up size size rows (a ++ x ∷ y ∷ b) (if moved then suc (length a) else length a) (gain_above (Some (length a)) (map sizes rows)) []
+  settle_room t u ms js js' up size rows a x y b moved d room w j_is far =
+      let q = d.q in
+      let n = get_or ms up 0 in
+      let old : List (K × ℕ) = q.l ++ x ∷ q.r in
+      let es : List (K × ℕ) = q.l ++ x ∷ y ∷ q.r in
+      let ab = d.whole in
+      let len : length es ≡ suc (length old) = omega (arith, length-append q.l (x ∷ y ∷ q.r), length-append q.l (x ∷ q.r)) in
+      let at_is : get_or js' up 0 ≡ step moved + length q.l = j_is ∙ step_is moved (get_or js up 0) ∙ ap (λ z. step moved + z) (sym q.entry_is) in
+      let c = λ (m : ℕ). counts m q.before n old q.after q.rest t.chain in
+      let c2 = λ (m : ℕ). counts m q.before n es q.after q.rest u.chain in
+      let hs : heads (q.before ++ node n old ∷ q.after) ≡ heads (q.before ++ node n es ∷ q.after) =
+      heads-append q.before _ ∙ ap (λ z. heads q.before ++ (z ++ heads q.after)) (head-grown n q.l x q.r (y ∷ q.r)) ∙ sym (heads-append q.before _) in
+      let g = gain_spot q.before n old q.l q.after ∙ gain_room q.before (length old) (length q.l) (sizes q.after) (omega (arith, length-append q.l (x ∷ q.r))) room in
+      rw (q.a_is, q.b_is, q.rows_are) (
+        sym (ap (λ z. suc (need_above z.0 (map sizes q.rest))) g),
+        record {
+          rows' = (q.before ++ node n es ∷ q.after) ∷ q.rest;
+          above = record {
+            stacked = (simp (flat-append, append_assoc), FitRow-put 4 8 q.before q.after n old es len room ab.stacked.1, subst (λ (z : List (K × ℕ)). Stacked z q.rest) hs ab.stacked.2);
+            inside = (
+              row-put inner_content t.nodes u.nodes q.before n old es q.after d.f.inside w.same w.here d.f.none,
+              rows-same t.nodes u.nodes q.rest (λ m some. w.same m (ne_from_count m n (flat_map numbers q.rest) some d.f.none_rest)) ab.inside.1,
+            );
+            stands = stands_here ms js' up (q.before ++ node n es ∷ q.after) q.before n (step moved + length q.l) es q.after q.rest _ d.f.solid refl refl at_is (omega (arith, length-append q.l (x ∷ y ∷ q.r), step_most moved)) (step_is moved (length (flat q.before ++ q.l)) ∙ omega (arith, length-append (flat q.before) q.l))
+                (stands-same ms js ms js' (suc up) q.rest (length (heads q.before)) (λ i high. refl) (λ i high. far i (λ (e : i ≡ up). omega (arith, e, high))) q.stands);
+            height = ab.height;
+            apart = λ m. omega (arith, ab.apart m, c m, c2 m, ap (λ z. count m z) w.chain_is);
+          };
+          topped = λ old_list le top. (omega (arith, le, top.0), subst (λ (z : List (K × ℕ)). Topped z q.rest) hs top.1);
+          sizes_are = ap (λ z. z ∷ map sizes q.rest) (sizes-append q.before (node n es ∷ q.after) ∙ ap (λ z. sizes q.before ++ z ∷ sizes q.after) len) ∙ sym (ap (λ z. z.1 ∷ gain_above z.0 (map sizes q.rest)) g);
+          numbers_are = λ m. omega (arith, c m, c2 m);
+          others = λ m z. w.same m (absent_ne m n (numbers q.after) (omega (arith, z, c m)));
+          chain_is = sym w.chain_is;
+          slots_are = w.slots_are;
+          limit_is = w.limit_is;
+          nodes_below = λ i low. refl;
+          entries_below = λ i low. far i (λ (e : i ≡ up). omega (arith, e, low));
+          same_top = λ same. refl;
+          new_top = λ other. absurd (other refl);
+        },
+      )
 
 -- a level whose node became two has a level above it
 pub gain-some : (p : ℕ) (levels : List (List ℕ)) → 1 ≤ length (gain_above (Some p) levels)
@@ -38,11 +94,8 @@ module _ {K V : Type 0} where
       let c7 = λ (m : ℕ). ap (λ z. count m z) chain_is in
       let c8 = λ (m : ℕ). count-append m taken v.chain in
       let nums_m = λ (m : ℕ). ap (λ z. count m (flat_map numbers z)) h.rows_were in
-      let hs : heads row2 ≡ heads h.before ++ (h.first.0, n) ∷ (key, right) ∷ heads h.after =
-      heads-append h.before _ ∙ ap (λ z. heads h.before ++ (h.first.0, n) ∷ (z, right) ∷ heads h.after) (sym h.key_is) in
+      let hs = heads-halved h.before h.after n right h.first h.others h.next h.more key h.key_is in
       let hs0 : heads row ≡ heads h.before ++ (h.first.0, n) ∷ heads h.after = heads-append h.before _ ∙ ap (λ z. heads h.before ++ (z ++ heads h.after)) h.head_is in
-      let longer : length (heads row) ≤ length (heads h.before ++ (h.first.0, n) ∷ (key, right) ∷ heads h.after) =
-      omega (arith, ap length hs0, length-append (heads h.before) ((h.first.0, n) ∷ heads h.after), length-append (heads h.before) ((h.first.0, n) ∷ (key, right) ∷ heads h.after)) in
       let quiet : (m : ℕ) → 0 < count m (numbers row2) → slice_get v.nodes m ≡ slice_get u.nodes m = λ m some. g.others m (omega (arith, some, d m, c m, c2 m, c7 m, c8 m)) in
       let here_m = g.nodes_below up (omega arith) in
       let here_j = g.entries_below up (omega arith) in
@@ -58,7 +111,7 @@ module _ {K V : Type 0} where
         };
         topped = λ old le top. (
           omega (arith, le, (tops old top).0),
-          subst (λ (z : List (K × ℕ)). Topped z g.rows') (sym hs) (g.topped (heads row) longer (tops old top).1),
+          subst (λ (z : List (K × ℕ)). Topped z g.rows') (sym hs) (g.topped (heads row) (omega (arith, ap length hs0, one_more (heads h.before) (h.first.0, n) (key, right) (heads h.after))) (tops old top).1),
         );
         sizes_are = ap (λ z. sizes row2 ∷ z) g.sizes_are ∙ sym (ap (λ z. gain_above (Some was) (map sizes z)) h.rows_were ∙ ap (λ z. z.1 ∷ gain_above z.0 (map sizes h.rest)) h.gain_is);
         numbers_are = λ m. omega (arith, nums_m m, c m, c2 m, g.numbers_are m);
@@ -110,16 +163,6 @@ module _ {K V : Type 0} where
         },
       )
 
-  -- the same rows, by equations
-  pub above_from : (t t1 : Table K V) (ms ms1 js js1 : List ℕ) (up up1 size size1 : ℕ) (rows : List (List (LevelNode K ℕ))) (hs hs1 : List (K × ℕ)) (p : ℕ) → t1 ≡ t → ms1 ≡ ms → js1 ≡ js → up1 ≡ up → size1 ≡ size → hs1 ≡ hs → Above t ms js up size rows hs p → Above t1 ms1 js1 up1 size1 rows hs1 p
-  above_from t t1 ms ms1 js js1 up up1 size size1 rows hs hs1 p et em ej eu es eh ab =
-      rw (et, em, ej, eu, es, eh) ab
-
-  pub grown_from : (t t1 u : Table K V) (ms ms1 js js1 ms' js' : List ℕ) (up up1 size size1 size' : ℕ) (rows : List (List (LevelNode K ℕ))) (hs hs1 : List (K × ℕ)) (p : ℕ) (ss : List (List ℕ)) (taken : List ℕ) → t1 ≡ t → ms1 ≡ ms → js1 ≡ js → up1 ≡ up → size1 ≡ size → hs1 ≡ hs →
-      Grown t u ms js ms' js' up size size' rows hs p ss taken → Grown t1 u ms1 js1 ms' js' up1 size1 size' rows hs1 p ss taken
-  grown_from t t1 u ms ms1 js js1 ms' js' up up1 size size1 size' rows hs hs1 p ss taken et em ej eu es eh g =
-      rw (et, em, ej, eu, es, eh) g
-
 -- the top level needs a new root too
 pub need_top : {K : Type 0} (p : ℕ) (rows : List (List (LevelNode K ℕ))) → length rows ≡ 0 → need_above (Some p) (map sizes rows) ≡ 2
 need_top p [] none = refl
@@ -135,11 +178,7 @@ module _ {K V : Type 0} where
   pub need_full : (t : Table K V) (ms js : List ℕ) (up size : ℕ) (rows : List (List (LevelNode K ℕ))) (a : List (K × ℕ)) (x : K × ℕ) (b : List (K × ℕ)) → (d : Spot t ms js up size rows a x b) → length (d.q.l ++ x ∷ d.q.r) ≡ 8 → 2 ≤ need_above (Some (length a)) (map sizes rows)
   need_full t ms js up size rows a x b d eight =
       let q = d.q in
-      let n = get_or ms up 0 in
       let es : List (K × ℕ) = q.l ++ x ∷ q.r in
-      let low : length q.l < length es = omega (arith, length-append q.l (x ∷ q.r)) in
-      let some : (inner_gain (length (flat q.before ++ q.l)) (sizes (q.before ++ node n es ∷ q.after))).0 ≡ Some (length q.before) =
-      ap (λ z. z.0) (gain_spot q.before n es q.l q.after) ∙ gain_some q.before (length es) (length q.l) (sizes q.after) low eight in
       let needs : need_above (Some (length a)) (map sizes rows) ≡ suc (need_above (Some (length q.before)) (map sizes q.rest)) =
-      ap (λ z. need_above (Some (length z)) (map sizes rows)) q.a_is ∙ ap (λ z. need_above (Some (length (flat q.before ++ q.l))) (map sizes z)) q.rows_are ∙ ap (λ z. suc (need_above z (map sizes q.rest))) some in
+      rw (q.a_is, q.rows_are, gain_spot q.before (get_or ms up 0) es q.l q.after, gain_full q.before (length es) (length q.l) (sizes q.after) (omega (arith, length-append q.l (x ∷ q.r))) eight) refl in
       omega (arith, needs, need_some (length q.before) (map sizes q.rest))

@@ -31,21 +31,15 @@ levels-few hs (node m es ∷ ns) (row2 ∷ rows) s t =
     let p : 4 ^ suc (length rows) ≡ 4 * 4 ^ length rows = pow-succ' 4 (length rows) in
     omega (arith, r, e, full, p, ap length s.0)
 
-depth_of : {K V : Type 0} (half most : ℕ) → 1 ≤ half → (leaves : List (LevelNode K V)) (row : List (LevelNode K ℕ)) (rows : List (List (LevelNode K ℕ))) → FitRow half most leaves → Stacked (heads leaves) (row ∷ rows) → Topped (heads leaves) (row ∷ rows) → half * 4 ^ length rows < length (flat leaves)
-depth_of half most one [] row rows f s t = let two : 2 ≤ 0 = t.0 in absurd (omega arith)
-depth_of half most one (node m es ∷ ns) row rows f s t =
-    let r = levels-few (heads (node m es ∷ ns)) row rows s t in
-    let e = entries-many half most one m es ns f in
-    let full : length (heads (node m es ∷ ns)) ≡ suc (length ns) = fit_full half most one (node m es ∷ ns) f in
-    let p : half * 4 ^ length rows ≤ half * length ns = mul-le-mul_left half (omega (arith, r, full)) in
-    omega (arith, p, e)
-
 -- a tree with inner levels has more entries than this
 pub depth : {K V : Type 0} (half most : ℕ) → 1 ≤ half → (leaves : List (LevelNode K V)) (above : List (List (LevelNode K ℕ))) → FitRow half most leaves → Stacked (heads leaves) above → Topped (heads leaves) above → 1 ≤ length above → half * 4 ^ (length above - 1) < length (flat leaves)
 depth half most one leaves [] f s t two = absurd (omega arith)
-depth half most one leaves (row ∷ rows) f s t two =
+depth half most one [] (row ∷ rows) f s t two = absurd (omega (arith, t.0))
+depth half most one (node m es ∷ ns) (row ∷ rows) f s t two =
     let e : length (row ∷ rows) - 1 ≡ length rows = omega arith in
-    rw e (depth_of half most one leaves row rows f s t)
+    let r = levels-few (heads (node m es ∷ ns)) row rows s t in
+    let p : half * 4 ^ length rows ≤ half * length ns = mul-le-mul_left half (omega (arith, r, fit_full half most one (node m es ∷ ns) f)) in
+    rw e (omega (arith, p, entries-many half most one m es ns f))
 
 -- one level more, at most
 pub gain-most : (k : Option ℕ) (levels : List (List ℕ)) → length (gain_above k levels) ≤ suc (length levels)

@@ -22,39 +22,28 @@ module _ {K : Type 0} (V : Type 0) where
   removed_same [] x y r key (suc n) e k = absurd (omega (arith, e))
   removed_same (z ∷ l) x y r key zero e k = absurd (omega (arith, e))
   removed_same (z ∷ l) x y r key (suc n) e k =
-      let el : length l ≡ n = omega (arith, e) in
-      let kl : length (entry_keys l) ≡ n = length-map l (λ (w : K × ℕ). w.0) ∙ el in
+      let kl : length (entry_keys l) ≡ n = length-map l (λ (w : K × ℕ). w.0) ∙ omega (arith, e) in
       let kl2 : length (entry_keys l ++ x.0 ∷ []) ≡ suc n = length-append (entry_keys l) (x.0 ∷ []) ∙ omega (arith, kl) in
-      let il : length (entry_items (z ∷ l)) ≡ suc n = length-map (z ∷ l) (λ (w : K × ℕ). w.1) ∙ e in
+      let il : length (entry_items l) ≡ n = length-map l (λ (w : K × ℕ). w.1) ∙ omega (arith, e) in
       let keys_are : entry_keys (l ++ x ∷ y ∷ r) ≡ entry_keys l ++ x.0 ∷ y.0 ∷ entry_keys r = map-append (λ (w : K × ℕ). w.0) l (x ∷ y ∷ r) in
-      let items_are : entry_items ((z ∷ l) ++ x ∷ y ∷ r) ≡ entry_items (z ∷ l) ++ x.1 ∷ y.1 ∷ entry_items r = map-append (λ (w : K × ℕ). w.1) (z ∷ l) (x ∷ y ∷ r) in
       let less : suc n - 1 ≡ n = omega arith in
-      let key_is : key ≡ x.0 = some_same key x.0 (sym k ∙ ap (λ w. slice_get (entry_keys (l ++ x ∷ y ∷ r)) w) less ∙ ap (λ w. slice_get w n) keys_are ∙ slice_get_at (entry_keys l) x.0 (y.0 ∷ entry_keys r) n kl) in
+      let key_is : key ≡ x.0 = some_same key x.0 (sym k ∙ rw (less, keys_are) (slice_get_at (entry_keys l) x.0 (y.0 ∷ entry_keys r) n kl)) in
       let written : set (entry_keys (l ++ x ∷ y ∷ r)) (suc n) key ≡ entry_keys l ++ x.0 ∷ x.0 ∷ entry_keys r =
       ap (λ w. set w (suc n) key) (keys_are ∙ sym (append_assoc (entry_keys l) (x.0 ∷ []) (y.0 ∷ entry_keys r))) ∙ set_at (entry_keys l ++ x.0 ∷ []) y.0 (entry_keys r) key (suc n) kl2 ∙ append_assoc (entry_keys l) (x.0 ∷ []) (key ∷ entry_keys r) ∙ ap (λ w. entry_keys l ++ x.0 ∷ w ∷ entry_keys r) key_is in
       let two : 2 ≤ length (entry_items ((z ∷ l) ++ x ∷ y ∷ r)) = omega (arith, length-map ((z ∷ l) ++ x ∷ y ∷ r) (λ (w : K × ℕ). w.1), length-append l (x ∷ y ∷ r)) in
       without_some (set (entry_keys (l ++ x ∷ y ∷ r)) (suc n) key) (entry_items ((z ∷ l) ++ x ∷ y ∷ r)) (suc n) two
-      ∙ ap (λ w. Inner (remove w (suc n - 1)) (remove (entry_items ((z ∷ l) ++ x ∷ y ∷ r)) (suc n))) written
-      ∙ ap (λ w. Inner (remove (entry_keys l ++ x.0 ∷ x.0 ∷ entry_keys r) w) (remove (entry_items ((z ∷ l) ++ x ∷ y ∷ r)) (suc n))) less
-      ∙ ap (λ w. Inner w (remove (entry_items ((z ∷ l) ++ x ∷ y ∷ r)) (suc n))) (remove_at (entry_keys l) x.0 (x.0 ∷ entry_keys r) n kl)
-      ∙ ap (λ w. Inner (entry_keys l ++ x.0 ∷ entry_keys r) (remove w (suc n))) items_are
-      ∙ ap (λ w. Inner (entry_keys l ++ x.0 ∷ entry_keys r) w) (remove_at (entry_items (z ∷ l)) x.1 (y.1 ∷ entry_items r) (suc n) il)
-      ∙ sym (ap (λ w. Inner w (entry_items ((z ∷ l) ++ (x.0, y.1) ∷ r))) (map-append (λ (w : K × ℕ). w.0) l ((x.0, y.1) ∷ r)) ∙ ap (λ w. Inner (entry_keys l ++ x.0 ∷ entry_keys r) w) (map-append (λ (w : K × ℕ). w.1) (z ∷ l) ((x.0, y.1) ∷ r)))
+      ∙ rw (written, less, map-append (λ (w : K × ℕ). w.1) l (x ∷ y ∷ r), remove_at (entry_keys l) x.0 (x.0 ∷ entry_keys r) n kl, remove_at (entry_items l) x.1 (y.1 ∷ entry_items r) n il, map-append (λ (w : K × ℕ). w.0) l ((x.0, y.1) ∷ r), map-append (λ (w : K × ℕ). w.1) l ((x.0, y.1) ∷ r)) refl
 
   -- the last child
   pub removed_last : (z : K × ℕ) (l : List (K × ℕ)) (x : K × ℕ) (e : ℕ) → suc (length l) ≡ e → without_child {V = V} (inner_content ((z ∷ l) ++ x ∷ [])) e ≡ inner_content (z ∷ l)
   removed_last z l x zero e = absurd (omega (arith, e))
   removed_last z l x (suc n) e =
       let kl : length (entry_keys l) ≡ n = length-map l (λ (w : K × ℕ). w.0) ∙ omega (arith, e) in
-      let il : length (entry_items (z ∷ l)) ≡ suc n = length-map (z ∷ l) (λ (w : K × ℕ). w.1) ∙ e in
+      let il : length (entry_items l) ≡ n = length-map l (λ (w : K × ℕ). w.1) ∙ omega (arith, e) in
       let less : suc n - 1 ≡ n = omega arith in
       let two : 2 ≤ length (entry_items ((z ∷ l) ++ x ∷ [])) = omega (arith, length-map ((z ∷ l) ++ x ∷ []) (λ (w : K × ℕ). w.1), length-append l (x ∷ [])) in
       without_some (entry_keys (l ++ x ∷ [])) (entry_items ((z ∷ l) ++ x ∷ [])) (suc n) two
-      ∙ ap (λ w. Inner (remove (entry_keys (l ++ x ∷ [])) w) (remove (entry_items ((z ∷ l) ++ x ∷ [])) (suc n))) less
-      ∙ ap (λ w. Inner (remove w n) (remove (entry_items ((z ∷ l) ++ x ∷ [])) (suc n))) (map-append (λ (w : K × ℕ). w.0) l (x ∷ []))
-      ∙ ap (λ w. Inner w (remove (entry_items ((z ∷ l) ++ x ∷ [])) (suc n))) (remove_at (entry_keys l) x.0 [] n kl ∙ append-nil (entry_keys l))
-      ∙ ap (λ w. Inner (entry_keys l) (remove w (suc n))) (map-append (λ (w : K × ℕ). w.1) (z ∷ l) (x ∷ []))
-      ∙ ap (λ w. Inner (entry_keys l) w) (remove_at (entry_items (z ∷ l)) x.1 [] (suc n) il ∙ append-nil (entry_items (z ∷ l)))
+      ∙ rw (less, map-append (λ (w : K × ℕ). w.0) l (x ∷ []), map-append (λ (w : K × ℕ). w.1) l (x ∷ []), remove_at (entry_keys l) x.0 [] n kl, remove_at (entry_items l) x.1 [] n il, append-nil (entry_keys l), append-nil (entry_items l)) refl
 
   -- the key before the last child
   pub last_key : (z : K × ℕ) (l : List (K × ℕ)) (x : K × ℕ) (e : ℕ) → suc (length l) ≡ e → slice_get (drop 1 (entry_keys ((z ∷ l) ++ x ∷ []))) (e - 1) ≡ Some x.0

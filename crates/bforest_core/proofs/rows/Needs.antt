@@ -1,10 +1,10 @@
 -- How many nodes an insertion needs, counted from the leaf upwards.
-use Rattle.std.proofs.Common.{◌≡◌, ℕ, suc, ◌+◌, ◌≤◌, ◌<◌, ◌≢◌, IsTrue, true, false, Bool, add-one, ◌↔◌, List, [], ◌∷◌, ◌++◌, map, length, get_or, slice_get, Some, None, refl, sym, ap, ◌∙◌, subst, arith}
-use Rattle.bforest_core.proofs.Words.{flat_map, false≢true, get_or_default, slice_get_within, Content, IsFree, entry_count, entry_capacity, Table, LevelNode, node, flat, heads, sizes, sizes_of, numbers, Tree, inner_gain, leaf_gain, need}
-use Rattle.bforest_core.proofs.Words.{need_above, count, inner_content, leaf_content, Above, Placed}
+use Rattle.std.proofs.Common.{◌≡◌, ℕ, suc, ◌+◌, ◌≤◌, ◌<◌, ◌≢◌, IsTrue, true, false, Bool, add-one, ◌↔◌, List, ◌∷◌, ◌++◌, map, length, get_or, slice_get, Some, refl, sym, ap, ◌∙◌, arith}
+use Rattle.bforest_core.proofs.Words.{flat_map, false≢true, get_or_default, slice_get_within, Content, IsFree, entry_count, entry_capacity, Table, LevelNode, node, heads, sizes, sizes_of, numbers, Tree, leaf_gain, need, need_above, count}
+use Rattle.bforest_core.proofs.Words.{inner_content, leaf_content, Above, Placed}
 use Rattle.bforest_core.proofs.rows.LevelRows.{sizes-append}
 use Rattle.bforest_core.proofs.table.Tables.{count-append}
-use Rattle.bforest_core.proofs.insertion.Grow.{gain_some, gain_room}
+use Rattle.bforest_core.proofs.insertion.Grow.{gain_full, gain_room}
 use Rattle.bforest_core.proofs.table.Stored.{some_same, item_count}
 use Rattle.bforest_core.proofs.insertion.LeafSpot.{LeafSpot, keys_count, leaf_spot, room_gain}
 use Rattle.bforest_core.proofs.insertion.LeafParted.{full_gain}
@@ -15,60 +15,18 @@ not_so : {A : Type 0} (full : Bool) → full ≡ false → (IsTrue full ↔ A) �
 not_so full none h = λ a. false≢true (sym none ∙ h.1 a)
 
 module _ {K V : Type 0} where
-  -- the rows above one on which the path stands
-  above_spot : (t : Table K V) (ms js : List ℕ) (up size : ℕ) (rows : List (List (LevelNode K ℕ))) (list : List (K × ℕ)) (p : ℕ) → Above t ms js up size rows list p → (s : Spot t.nodes ms js up size rows list p) → Above t ms js (suc up) size s.rest (heads s.row) (length s.before)
-  above_spot t ms js up size rows list p ab s = record {
-    stacked = s.over.stacked;
-    inside = s.over.inside;
-    stands = s.over.stands;
-    height = s.over.height;
-    apart = λ m. omega (arith, ab.apart m, ap (λ z. count m (flat_map numbers z ++ t.chain)) s.rows_are, count-append m (numbers s.row ++ flat_map numbers s.rest) t.chain, count-append m (numbers s.row) (flat_map numbers s.rest), count-append m (flat_map numbers s.rest) t.chain);
-  }
-
   -- a full node, and one with room
   spot_full : (t : Table K V) (ms js : List ℕ) (up size : ℕ) (rows : List (List (LevelNode K ℕ))) (list : List (K × ℕ)) (p : ℕ) → (f : Spot t.nodes ms js up size rows list p) → length f.entries ≡ 8 → need_above (Some p) (map sizes rows) ≡ suc (need_above (Some (length f.before)) (map sizes f.rest))
   spot_full t ms js up size rows list p f eight =
-      let row : List (LevelNode K ℕ) = f.before ++ node (get_or ms up 0) f.entries ∷ f.after in
-      let g : (inner_gain p (sizes row)).0 ≡ Some (length f.before) =
-      ap (λ z. (inner_gain z (sizes row)).0) f.place_is ∙ ap (λ z. (inner_gain (length (flat f.before) + get_or js up 0) z).0) (sizes-append f.before (node (get_or ms up 0) f.entries ∷ f.after)) ∙ gain_some f.before (length f.entries) (get_or js up 0) (sizes f.after) f.within eight in
-      ap (λ z. need_above (Some p) (map sizes z)) (f.rows_are ∙ ap (λ z. z ∷ f.rest) f.row_is) ∙ ap (λ z. suc (need_above z (map sizes f.rest))) g
+      rw (f.rows_are, f.row_is, f.place_is, sizes-append f.before (node (get_or ms up 0) f.entries ∷ f.after), gain_full f.before (length f.entries) (get_or js up 0) (sizes f.after) f.within eight) refl
 
   spot_room : (t : Table K V) (ms js : List ℕ) (up size : ℕ) (rows : List (List (LevelNode K ℕ))) (list : List (K × ℕ)) (p : ℕ) → (f : Spot t.nodes ms js up size rows list p) → length f.entries < 8 → need_above (Some p) (map sizes rows) ≡ 1
   spot_room t ms js up size rows list p f room =
-      let row : List (LevelNode K ℕ) = f.before ++ node (get_or ms up 0) f.entries ∷ f.after in
-      let g : (inner_gain p (sizes row)).0 ≡ None =
-      ap (λ z. (inner_gain z (sizes row)).0) f.place_is ∙ ap (λ z. (inner_gain (length (flat f.before) + get_or js up 0) z).0) (sizes-append f.before (node (get_or ms up 0) f.entries ∷ f.after)) ∙ ap (λ z. z.0) (gain_room f.before (length f.entries) (get_or js up 0) (sizes f.after) f.within room) in
-      ap (λ z. need_above (Some p) (map sizes z)) (f.rows_are ∙ ap (λ z. z ∷ f.rest) f.row_is) ∙ ap (λ z. suc (need_above z (map sizes f.rest))) g
+      rw (f.rows_are, f.row_is, f.place_is, sizes-append f.before (node (get_or ms up 0) f.entries ∷ f.after), gain_room f.before (length f.entries) (get_or js up 0) (sizes f.after) f.within room) refl
 
-  -- the rows above the leaves
-  above_leaves : (most : ℕ) (t : Table K V) (ms js : List ℕ) (size : ℕ) (tree : Tree K V) (place : ℕ) → Placed most t ms js size tree place → (d : LeafSpot most t ms js tree place) → Above t ms js 1 size tree.above (heads (d.before ++ node (get_or ms 0 0) (d.l ++ d.r) ∷ d.after)) (length d.before)
-  above_leaves most t ms js size tree place p d =
-      let row : List (LevelNode K V) = d.before ++ node (get_or ms 0 0) (d.l ++ d.r) ∷ d.after in
-      let c = λ (m : ℕ). count-append m (numbers row ++ flat_map numbers tree.above) t.chain in
-      let c2 = λ (m : ℕ). count-append m (numbers row) (flat_map numbers tree.above) in
-      let c3 = λ (m : ℕ). count-append m (flat_map numbers tree.above) t.chain in
-      record {
-        stacked = d.stacked;
-        inside = p.inside.rows_in;
-        stands = d.stands;
-        height = omega (arith, p.at.points.size_is);
-        apart = λ m. omega (arith, d.apart m, c m, c2 m, c3 m);
-      }
-
-  -- the need of a full leaf, and of one with room
+  -- the need of a full leaf
   pub leaf_need_full : (most : ℕ) (t : Table K V) (ms js : List ℕ) (tree : Tree K V) (place : ℕ) → (d : LeafSpot most t ms js tree place) → length (d.l ++ d.r) ≡ most → need_above (leaf_gain most place (sizes tree.leaves)).0 (map sizes tree.above) ≡ need_above (Some (length d.before)) (map sizes tree.above)
   leaf_need_full most t ms js tree place d full = ap (λ z. need_above z.0 (map sizes tree.above)) (full_gain most t ms js tree place d full)
-
-  leaf_need_room : (most : ℕ) (t : Table K V) (ms js : List ℕ) (tree : Tree K V) (place : ℕ) → (d : LeafSpot most t ms js tree place) → length (d.l ++ d.r) < most → need_above (leaf_gain most place (sizes tree.leaves)).0 (map sizes tree.above) ≡ 0
-  leaf_need_room most t ms js tree place d room = ap (λ z. need_above z.0 (map sizes tree.above)) (room_gain most t ms js tree place d room)
-
-  -- what a node answers of whether it is full
-  says_full : (cap : ℕ) (full : Bool) (now is : Content K V) (count : ℕ) → now ≡ is → entry_count is ≡ count → (IsTrue full ↔ (entry_count now ≡ entry_capacity cap now)) → IsTrue full ↔ (count ≡ entry_capacity cap is)
-  says_full cap full now is count same count_is says =
-      subst (λ (z : ℕ). IsTrue full ↔ (z ≡ entry_capacity cap is)) count_is (subst (λ (z : Content K V). IsTrue full ↔ (entry_count z ≡ entry_capacity cap z)) same says)
-
-  not_free : (now is : Content K V) → now ≡ is → ¬ IsFree is → ¬ IsFree now
-  not_free now is same used = subst (λ (z : Content K V). ¬ IsFree z) (sym same) used
 
   -- a level above the leaves, and the test of the path's node there
   module _ (t : Table K V) (ms js : List ℕ) (up size : ℕ) (rows : List (List (LevelNode K ℕ))) (list : List (K × ℕ)) (p : ℕ) (ab : Above t ms js up size rows list p) (other : up ≢ size) (wide : size ≤ length ms) (r : ℕ) where
@@ -84,18 +42,24 @@ module _ {K V : Type 0} where
 
     -- the level above
     pub level_above : (rows : List (List (LevelNode K ℕ))) × (list : List (K × ℕ)) × (at : ℕ) × Above t ms js (up + 1) size rows list at
-    level_above = (level.rest, heads level.row, length level.before, subst (λ (z : ℕ). Above t ms js z size level.rest (heads level.row) (length level.before)) (sym (add-one up)) (above_spot t ms js up size rows list p ab level))
+    level_above = (level.rest, heads level.row, length level.before, rw (add-one up) (record {
+      stacked = level.over.stacked;
+      inside = level.over.inside;
+      stands = level.over.stands;
+      height = level.over.height;
+      apart = λ m. omega (arith, ab.apart m, ap (λ z. count m (flat_map numbers z ++ t.chain)) level.rows_are, count-append m (numbers level.row ++ flat_map numbers level.rest) t.chain, count-append m (numbers level.row) (flat_map numbers level.rest), count-append m (flat_map numbers level.rest) t.chain);
+    }))
 
     module _ (content : Content K V) (read : slice_get t.nodes (get_or ms up r) ≡ Some content) where
       content_is : content ≡ inner_content level.entries
       content_is = some_same content (inner_content level.entries) (sym read ∙ level_slot)
 
       pub level_used : ¬ IsFree content
-      level_used = not_free content (inner_content level.entries) content_is (λ free. free)
+      level_used = rw content_is (λ free. free)
 
       module _ (cap : ℕ) (full : Bool) (says : IsTrue full ↔ (entry_count content ≡ entry_capacity cap content)) where
         tells : IsTrue full ↔ (length level.entries ≡ 8)
-        tells = says_full cap full content (inner_content level.entries) (length level.entries) content_is (item_count level.entries) says
+        tells = rw (content_is, item_count level.entries) at says
 
         pub level_full : full ≡ true → (more : ℕ) → ((rows : List (List (LevelNode K ℕ))) (list : List (K × ℕ)) (at : ℕ) → Above t ms js (up + 1) size rows list at → more ≡ need_above (Some at) (map sizes rows)) → more + 1 ≡ need_above (Some p) (map sizes rows)
         unfolding level_above
@@ -111,7 +75,9 @@ module _ {K V : Type 0} where
 
     -- the level above
     pub leaf_above : (rows : List (List (LevelNode K ℕ))) × (list : List (K × ℕ)) × (at : ℕ) × Above t ms js 1 size rows list at
-    leaf_above = (tree.above, heads (leaf.before ++ node (get_or ms 0 0) (leaf.l ++ leaf.r) ∷ leaf.after), length leaf.before, above_leaves most t ms js size tree place p leaf)
+    leaf_above =
+        let row : List (LevelNode K V) = leaf.before ++ node (get_or ms 0 0) (leaf.l ++ leaf.r) ∷ leaf.after in
+        (tree.above, heads row, length leaf.before, record { stacked = leaf.fit.stacked; inside = p.inside.rows_in; stands = leaf.stands; height = omega (arith, p.at.points.size_is); apart = λ m. omega (arith, leaf.apart m, count-append m (numbers row ++ flat_map numbers tree.above) t.chain, count-append m (numbers row) (flat_map numbers tree.above), count-append m (flat_map numbers tree.above) t.chain) })
 
     module _ (wide : 0 < length ms) (r : ℕ) where
       leaf_slot : slice_get t.nodes (get_or ms 0 r) ≡ Some (leaf_content (leaf.l ++ leaf.r))
@@ -126,20 +92,15 @@ module _ {K V : Type 0} where
         leaf_content_is = some_same content (leaf_content (leaf.l ++ leaf.r)) (sym read ∙ leaf_slot)
 
         pub leaf_used : ¬ IsFree content
-        leaf_used = not_free content (leaf_content (leaf.l ++ leaf.r)) leaf_content_is (λ free. free)
+        leaf_used = rw leaf_content_is (λ free. free)
 
         module _ (full : Bool) (says : IsTrue full ↔ (entry_count content ≡ entry_capacity most content)) where
           leaf_tells : IsTrue full ↔ (length (leaf.l ++ leaf.r) ≡ most)
-          leaf_tells = says_full most full content (leaf_content (leaf.l ++ leaf.r)) (length (leaf.l ++ leaf.r)) leaf_content_is (keys_count (leaf.l ++ leaf.r)) says
+          leaf_tells = rw (leaf_content_is, keys_count (leaf.l ++ leaf.r)) at says
 
           pub leaf_full : full ≡ true → (more : ℕ) → ((rows : List (List (LevelNode K ℕ))) (list : List (K × ℕ)) (at : ℕ) → Above t ms js 1 size rows list at → more ≡ need_above (Some at) (map sizes rows)) → more ≡ need most place (sizes_of tree)
           unfolding leaf_above
           leaf_full is more needs = needs leaf_above.0 leaf_above.1 leaf_above.2 leaf_above.3 ∙ sym (leaf_need_full most t ms js tree place leaf (leaf_tells.0 is))
 
           pub leaf_room : full ≡ false → 0 ≡ need most place (sizes_of tree)
-          leaf_room none = sym (leaf_need_room most t ms js tree place leaf (omega (arith, not_so full none leaf_tells, leaf.most_is)))
-
--- where all nodes are full: a new root too
-pub top_need : {K : Type 0} (place up size : ℕ) (rows : List (List (LevelNode K ℕ))) → up + length rows ≡ size → up ≡ size → 2 ≡ need_above (Some place) (map sizes rows)
-top_need place up size [] height top = refl
-top_need place up size (row ∷ rows) height top = absurd (omega arith)
+          leaf_room none = sym (ap (λ z. need_above z.0 (map sizes tree.above)) (room_gain most t ms js tree place leaf (omega (arith, not_so full none leaf_tells, leaf.most_is))))

@@ -46,28 +46,6 @@ abbrev pub Cut_above : {K V : Type 0} → Table K V → List ℕ → List ℕ �
 Cut_above t ms js up size before n l x r after rest =
     Above t ms js up size ((before ++ node n (l ++ x ∷ r) ∷ after) ∷ rest) ((flat before ++ l) ++ x ∷ (r ++ flat after)) (length (flat before ++ l))
 
-parent_at : {K : Type 0} (ms js : List ℕ) (up : ℕ) (row : List (LevelNode K ℕ)) (rest : List (List (LevelNode K ℕ))) (a : List (K × ℕ)) (x : K × ℕ) (b : List (K × ℕ)) (before after : List (LevelNode K ℕ)) (es : List (K × ℕ)) (l : List (K × ℕ)) (y : K × ℕ) (r : List (K × ℕ)) →
-    FitRow 4 8 row → flat row ≡ a ++ x ∷ b → row ≡ before ++ node (get_or ms up 0) es ∷ after → es ≡ l ++ y ∷ r → length l ≡ get_or js up 0 → length a ≡ length (flat before) + get_or js up 0 → StandsAbove ms js (suc up) rest (length before) → Parent ms js up (row ∷ rest) a x b
-parent_at {K} ms js up row rest a x b before after es l y r fit flat_is row_is es_is l_is a_len st =
-    let n = get_or ms up 0 in
-    let whole : a ++ x ∷ b ≡ (flat before ++ l) ++ y ∷ (r ++ flat after) =
-    sym flat_is ∙ ap flat row_is ∙ ap (λ z. flat (before ++ node n z ∷ after)) es_is ∙ simp (flat-append, append_assoc) in
-    let same = cut_same a (flat before ++ l) x y b (r ++ flat after) whole (omega (arith, length-append (flat before) l, a_len, l_is)) in
-    let fit2 : FitRow 4 8 (before ++ node n es ∷ after) = subst (λ (z : List (LevelNode K ℕ)). FitRow 4 8 z) row_is fit in
-    let full : length (heads before) ≡ length before = Solid-full 4 8 (omega arith) before (FitRow-split 4 8 before (node n es) after fit2).0 in
-    record {
-      before = before;
-      l = l;
-      r = r;
-      after = after;
-      rest = rest;
-      rows_are = ap (λ z. z ∷ rest) (row_is ∙ ap (λ z. before ++ node n z ∷ after) es_is ∙ ap (λ z. before ++ node n (l ++ z ∷ r) ∷ after) (sym same.1));
-      a_is = same.0;
-      b_is = same.2;
-      entry_is = l_is;
-      stands = rw full st;
-    }
-
 -- no number of the rows stands twice
 pub apart_here : {K X : Type 0} (n : ℕ) (before : List (LevelNode K X)) (es : List (K × X)) (after : List (LevelNode K X)) (ms fs : List ℕ) → Distinct ((numbers (before ++ node n es ∷ after) ++ ms) ++ fs) →
     (count n (numbers before) + count n (numbers after) ≡ 0) × (count n ms ≡ 0) × (count n fs ≡ 0)
@@ -93,18 +71,32 @@ module _ {K V : Type 0} where
   parent t ms js up size [] a x b p low = absurd (omega (arith, p.height, low))
   parent t ms js up size (row ∷ rest) a x b p low =
       let at = p.stands.0 in
+      let n = get_or ms up 0 in
       let c = cut at.entries (get_or js up 0) at.within in
-      parent_at ms js up row rest a x b at.before at.after at.entries c.l c.x c.r p.stacked.1 p.stacked.0 at.row_is c.es_is c.place_is at.place_is p.stands.1
+      let whole : a ++ x ∷ b ≡ (flat at.before ++ c.l) ++ c.x ∷ (c.r ++ flat at.after) =
+      sym p.stacked.0 ∙ ap flat at.row_is ∙ ap (λ z. flat (at.before ++ node n z ∷ at.after)) c.es_is ∙ simp (flat-append, append_assoc) in
+      let same = cut_same a (flat at.before ++ c.l) x c.x b (c.r ++ flat at.after) whole (omega (arith, length-append (flat at.before) c.l, at.place_is, c.place_is)) in
+      let full = Solid-full 4 8 (omega arith) at.before (FitRow-split 4 8 at.before (node n at.entries) at.after (subst (λ (z : List (LevelNode K ℕ)). FitRow 4 8 z) at.row_is p.stacked.1)).0 in
+      record {
+        before = at.before;
+        l = c.l;
+        r = c.r;
+        after = at.after;
+        rest = rest;
+        rows_are = ap (λ z. z ∷ rest) (at.row_is ∙ ap (λ z. at.before ++ node n z ∷ at.after) (c.es_is ∙ ap (λ z. c.l ++ z ∷ c.r) (sym same.1)));
+        a_is = same.0;
+        b_is = same.2;
+        entry_is = c.place_is;
+        stands = rw full p.stands.1;
+      }
 
   -- the rows above a level of two nodes or more
   pub above_two : (t : Table K V) (ms js : List ℕ) (up size : ℕ) (rows : List (List (LevelNode K ℕ))) (a : List (K × ℕ)) (x y : K × ℕ) (b : List (K × ℕ)) (p : ℕ) → Above t ms js up size rows (a ++ x ∷ y ∷ b) p → up < size
   above_two t ms js up size [] a x y b p h = absurd (omega (arith, h.stacked, length-append a (x ∷ y ∷ b)))
   above_two t ms js up size (row ∷ rest) a x y b p h = omega (arith, h.height)
 
-  pub cut_above : (t : Table K V) (ms js : List ℕ) (up size : ℕ) (rows : List (List (LevelNode K ℕ))) (a : List (K × ℕ)) (x : K × ℕ) (b : List (K × ℕ)) → Above t ms js up size rows (a ++ x ∷ b) (length a) → (q : Parent ms js up rows a x b) →
-      Cut_above t ms js up size q.before (get_or ms up 0) q.l x q.r q.after q.rest
-  cut_above t ms js up size rows a x b p q =
-      rw (q.rows_are, q.a_is, q.b_is) at p
+  cut_above : (t : Table K V) (ms js : List ℕ) (up size : ℕ) (rows : List (List (LevelNode K ℕ))) (a : List (K × ℕ)) (x : K × ℕ) (b : List (K × ℕ)) → Above t ms js up size rows (a ++ x ∷ b) (length a) → (q : Parent ms js up rows a x b) → Cut_above t ms js up size q.before (get_or ms up 0) q.l x q.r q.after q.rest
+  cut_above t ms js up size rows a x b p q = rw (q.rows_are, q.a_is, q.b_is) at p
 
   -- what is known there
   pub record Facts (t : Table K V) (ms js : List ℕ) (up size : ℕ) (before : List (LevelNode K ℕ)) (n : ℕ) (l : List (K × ℕ)) (x : K × ℕ) (r : List (K × ℕ)) (after : List (LevelNode K ℕ)) (rest : List (List (LevelNode K ℕ))) : Type 0 where

@@ -1,38 +1,35 @@
 -- Taking a free node, and making sure that there are some, over plain values.
-use Rattle.std.proofs.Common.{◌≡◌, ℕ, zero, suc, ◌-◌, ◌≤◌, ◌<◌, List, length, length-set, append-nil, Some, Result, Ok, Err, IsErrAnd, sym, ap, ◌∙◌, arith}
-use Rattle.bforest_core.proofs.Words.{err_from_is_err_and, Content, Table, IsUsed, NeedsGrowth, room, reserved, with_slots, front_of, with_node, with_front, without_front}
-use Rattle.bforest_core.specs.declared.pool.OutOfMemory.{OutOfMemory}
-use Rattle.bforest_core.specs.declared.pool.OutOfMemory.TheVariants.{Full, Memory}
-use Rattle.bforest_core.proofs.table.Fronts.{with_front-is}
+use Rattle.std.proofs.Common.{◌≡◌, ◌↔◌, ℕ, ◌-◌, ◌≤◌, ◌<◌, List, length, length-set, append-nil, Some, Result, Err, IsErrAnd, sym, ap, ◌∙◌, arith, ◌+◌}
+use Rattle.bforest_core.proofs.Words.{err_from_is_err_and, Content, Table, IsUsed, NeedsGrowth, room, reserved, front_of, with_node, with_front, without_front, free_count, length-append, down_from, slot_count}
+use Rattle.bforest_core.proofs.table.Pools.{with_front-is}
+use Rattle.bforest_core.proofs.table.Chains.{length-down_from}
 
 -- what the exit of a `?` returns
 pub err_is : {T E : Type 0} (r : Result T E) (y : E) → IsErrAnd r (λ e. e ≡ y) → r ≡ Err y
 err_is r y h = let e = err_from_is_err_and r h in e.1 ∙ ap Err e.2
 
--- an answer is no error
-pub ok_not_err : {A E : Type 0} (x : A) (e : E) → Ok x ≡ Err e → ⊥
-ok_not_err x e is = cc
-
--- one error is not the other
-pub full_not_memory : {A : Type 0} → ◌≡◌ {A = Result A OutOfMemory} (Err Full) (Err Memory) → ⊥
-full_not_memory is = cc
+-- an error that a call hands on is one exactly if the one that it was handed is
+pub err_iff : {A B E : Type 0} (r : Result A E) (e f : E) → r ≡ Err e → (r ≡ Err f) ↔ (◌≡◌ {A = Result B E} (Err e) (Err f))
+err_iff r e f is = (λ same. (let s : e ≡ f = cc in ap Err s), λ same. (let s : e ≡ f = cc in is ∙ ap Err s))
 
 module _ {K V : Type 0} where
   -- the front of the chain was taken and written
   pub taken_is : (t u : Table K V) (node : ℕ) (c d : Content K V) → front_of t.chain ≡ Some node → u ≡ without_front t t.chain → c ≡ d → with_node u node c ≡ with_front t t.chain d
   taken_is t u node c d front u_is c_is = ap (λ z. with_node z node c) u_is ∙ ap (λ z. with_node (without_front t t.chain) node z) c_is ∙ sym (with_front-is t t.chain node d front)
 
-  pub reserved_taken_is : (old t u : Table K V) (node : ℕ) (c d : Content K V) → t ≡ reserved old 1 → front_of t.chain ≡ Some node → u ≡ without_front t t.chain → c ≡ d → with_node u node c ≡ with_front (reserved old 1) (reserved old 1).chain d
-  reserved_taken_is old t u node c d t_is front u_is c_is = taken_is t u node c d front u_is c_is ∙ ap (λ z. with_front z z.chain d) t_is
-
   -- a used node that was written is used
   pub used_written : (t : Table K V) (node : ℕ) (c : Content K V) → IsUsed t node → IsUsed (with_node t node c) node
   used_written t node c used = record { within = (let w = used.within in omega (arith, length-set t.nodes node c)); off_chain = used.off_chain }
 
-  -- no slots are added
-  record_is : (t : Table K V) (m : ℕ) → m ≡ 0 → t ≡ with_slots t m
-  record_is t zero none = ap (λ z. record t { nodes = z }) (sym (append-nil t.nodes))
-  record_is t (suc m) none = absurd (omega arith)
+  -- so many lie free after a reservation
+  pub reserved-free : (table : Table K V) (n : ℕ) → length (reserved table n).chain ≡ (n - free_count table) + free_count table
+  reserved-free table n = omega (arith, length-append (down_from (slot_count table) (n - free_count table)) table.chain, length-down_from (slot_count table) (n - free_count table))
+
+  -- where so many lay free already, nothing changed
+  pub reserved-enough : (table : Table K V) (n : ℕ) → n ≤ free_count table → reserved table n ≡ table
+  reserved-enough table n enough =
+      let none : n - free_count table ≡ 0 = omega (arith, enough) in
+      rw none (ap (λ z. record table { nodes = z }) (append-nil table.nodes))
 
   module _ (t : Table K V) (nodes : List (Content K V)) (chain : List ℕ) (free limit len n : ℕ) (view : record { nodes = nodes; chain = chain; limit = limit } ≡ t) (counted : length chain ≡ free) (len_is : len ≡ length nodes) where
     -- what the fields of a pool say of its table
@@ -64,9 +61,7 @@ module _ {K V : Type 0} where
     not_enough scarce enough = omega (arith, free_is)
 
     pub stays_reserved : n ≤ free → t ≡ reserved t n
-    stays_reserved enough =
-        let none : n - length t.chain ≡ 0 = omega (arith, free_is) in
-        record_is t (n - length t.chain) none
+    stays_reserved enough = sym (reserved-enough t n (omega (arith, free_is, enough)))
 
   -- so few slots can be numbered
   pub few_slots : (t : Table K V) (nodes : List (Content K V)) (chain : List ℕ) (limit : ℕ) → record { nodes = nodes; chain = chain; limit = limit } ≡ t → length nodes ≤ limit → limit ≤ 4294967295 → length t.nodes ≤ 4294967295

@@ -1,12 +1,10 @@
 -- Chains of free nodes: how each change of the slots keeps them.
-use Rattle.std.proofs.Common.{◌≡◌, ◌≢◌, inl, inr, ℕ, ◌+◌, ◌<◌, ◌≤◌, ◌==◌, zero, suc, true, false, List, [], ◌∷◌, ◌++◌, length, set, nat_eq, Some, None, Option, refl, slice_get, sym, ap, ◌∙◌, subst, arith, append_assoc, append-nil}
-use Rattle.bforest_core.proofs.Words.{list_any, IsDistinct, AllByRecursion, length-append, length_push, slice_get_within, or_parts, Decides-eqb, not_from_Decides, eqb_tells, IsDistinct-cons, Content, Free, chain_from, IsChain, IsFreeAt}
-use Rattle.bforest_core.proofs.Words.{front_of, down_from, front_of_new, fresh_nodes}
-use Rattle.bforest_core.proofs.table.Lists.{slice_get-append_left, slice_get-push, slice_get-set_other, slice_get-set_same}
-
--- numbers that are not equal are apart
-apart : (x y : ℕ) → nat_eq x y ≡ false → x ≢ y
-apart x y e = not_from_Decides {P = x ≡ y} (x == y) (Decides-eqb x y) e
+use Rattle.std.proofs.Common.{◌≡◌, inl, inr, ℕ, ◌+◌, ◌<◌, ◌≤◌, zero, suc, true, false, List, [], ◌∷◌, ◌++◌, length, set, nat_eq, Some, None, Option, refl, slice_get, sym, ap, ◌∙◌, subst, arith, append_assoc, append-nil}
+use Rattle.bforest_core.proofs.Words.{list_any, IsDistinct, AllByRecursion, length-append, length_push, slice_get_within, or_parts, eqb_tells, IsDistinct-cons, Content, Free, chain_from, IsChain, IsFreeAt, front_of, down_from, front_of_new}
+use Rattle.bforest_core.proofs.Words.{fresh_nodes, false_from_ne_true}
+use Rattle.std.proofs.lemmas.Bool.{eqb-false}
+use Rattle.bforest_core.proofs.table.Lists.{slice_get-append_left, slice_get-set_apart, slice_get-set_same}
+use Rattle.bforest_core.proofs.table.Stored.{slice_get_at}
 
 -- a number that a list lacks is apart from each of its numbers
 all_apart : (x : ℕ) (ys : List ℕ) → list_any (nat_eq x) ys ≡ false → AllByRecursion (λ y. nat_eq x y ≡ false) ys
@@ -57,7 +55,7 @@ module _ {K V : Type 0} where
   IsChain-set nodes [] first at content off linked = linked
   IsChain-set nodes (node ∷ rest) first at content off linked =
       let parts = or_parts (nat_eq at node) (list_any (nat_eq at) rest) off in
-      (linked.0, linked.1, slice_get-set_other nodes at node content _ (apart at node parts.0) linked.2, IsChain-set nodes rest linked.0 at content parts.1 linked.3)
+      (linked.0, linked.1, slice_get-set_apart nodes at node content (λ same. eqb-false at node parts.0 (sym same)) ∙ linked.2, IsChain-set nodes rest linked.0 at content parts.1 linked.3)
 
   -- new slots behind the others
   pub IsChain-append : (nodes more : List (Content K V)) (chain : List ℕ) (first : Option ℕ) → IsChain nodes chain first → IsChain (nodes ++ more) chain first
@@ -68,35 +66,23 @@ module _ {K V : Type 0} where
   -- a new node goes in front
   pub IsChain-push : (nodes : List (Content K V)) (chain : List ℕ) (first : Option ℕ) → IsChain nodes chain first → IsChain (nodes ++ Free first ∷ []) (length nodes ∷ chain) (Some (length nodes))
   IsChain-push nodes chain first linked =
-      (first, refl, slice_get-push nodes (Free first), IsChain-append nodes (Free first ∷ []) chain first linked)
+      (first, refl, slice_get_at nodes (Free first) [] (length nodes) refl, IsChain-append nodes (Free first ∷ []) chain first linked)
 
   -- new nodes, all in front
   pub IsChain-fresh : (nodes : List (Content K V)) (chain : List ℕ) (first : Option ℕ) (count : ℕ) → IsChain nodes chain first → IsChain (nodes ++ fresh_nodes (length nodes) count first) (down_from (length nodes) count ++ chain) (front_of_new (length nodes) count first)
   IsChain-fresh nodes chain first zero linked = rw (append-nil nodes) linked
   IsChain-fresh nodes chain first (suc count) linked =
-      let before = nodes ++ fresh_nodes (length nodes) count first in
-      let size : length before ≡ length nodes + count = omega (arith, length-append nodes (fresh_nodes (length nodes) count first), length-fresh_nodes K V (length nodes) count first) in
-      let next = front_of_new (length nodes) count first in
-      let rest = down_from (length nodes) count ++ chain in
-      let made = IsChain-push before rest next (IsChain-fresh nodes chain first count linked) in
-      let placed = subst (λ k. IsChain (before ++ Free next ∷ []) (k ∷ rest) (Some k)) size made in
-      subst (λ ns. IsChain ns (down_from (length nodes) (suc count) ++ chain) (front_of_new (length nodes) (suc count) first)) (append_assoc nodes (fresh_nodes (length nodes) count first) (Free next ∷ [])) placed
+      let more : List (Content K V) = fresh_nodes (length nodes) count first in
+      let size : length nodes + count ≡ length (nodes ++ more) = omega (arith, length-append nodes more, length-fresh_nodes K V (length nodes) count first) in
+      let made = IsChain-push (nodes ++ more) _ _ (IsChain-fresh nodes chain first count linked) in
+      rw size (subst (λ ns. IsChain ns (length (nodes ++ more) ∷ (down_from (length nodes) count ++ chain)) (Some (length (nodes ++ more)))) (append_assoc nodes more (Free (front_of_new (length nodes) count first) ∷ [])) made)
 
   -- a used slot joins the chain in front
   pub IsChain-freed : (nodes : List (Content K V)) (chain : List ℕ) (first : Option ℕ) (at : ℕ) → at < length nodes → list_any (nat_eq at) chain ≡ false → IsChain nodes chain first → IsChain (set nodes at (Free first)) (at ∷ chain) (Some at)
   IsChain-freed nodes chain first at within off linked =
       (first, refl, slice_get-set_same nodes at (Free first) within, IsChain-set nodes chain first at (Free first) off linked)
 
-  -- the numbers of a chain are those of slots
-  pub IsChain-below : (nodes : List (Content K V)) (chain : List ℕ) (first : Option ℕ) → IsChain nodes chain first → (q : ℕ) → list_any (nat_eq q) chain ≡ true → q < length nodes
-  IsChain-below nodes [] first linked q on = cc
-  IsChain-below nodes (node ∷ rest) first linked q on =
-      elim (eqb_tells q node) [
-        | inl same ↦ omega (arith, same.1, slice_get_within nodes node _ linked.2)
-        | inr other ↦ IsChain-below nodes rest linked.0 linked.3 q (rw other.0 at on)
-      ]
-
-  -- these slots are free
+  -- the slots of a chain are free
   pub IsChain-free : (nodes : List (Content K V)) (chain : List ℕ) (first : Option ℕ) → IsChain nodes chain first → (q : ℕ) → list_any (nat_eq q) chain ≡ true → IsFreeAt nodes q
   IsChain-free nodes [] first linked q on = cc
   IsChain-free nodes (node ∷ rest) first linked q on =
@@ -105,15 +91,13 @@ module _ {K V : Type 0} where
         | inr other ↦ IsChain-free nodes rest linked.0 linked.3 q (rw other.0 at on)
       ]
 
+  -- its numbers are those of slots
+  pub IsChain-below : (nodes : List (Content K V)) (chain : List ℕ) (first : Option ℕ) → IsChain nodes chain first → (q : ℕ) → list_any (nat_eq q) chain ≡ true → q < length nodes
+  IsChain-below nodes chain first linked q on = slice_get_within nodes q _ (IsChain-free nodes chain first linked q on).1
+
   -- numbers from the count of slots on are on no chain of these slots
   pub off_chain : (nodes : List (Content K V)) (chain : List ℕ) (first : Option ℕ) (q : ℕ) → IsChain nodes chain first → length nodes ≤ q → list_any (nat_eq q) chain ≡ false
-  off_chain nodes [] first q linked past = refl
-  off_chain nodes (node ∷ rest) first q linked past =
-      let within = slice_get_within nodes node _ linked.2 in
-      elim (eqb_tells q node) [
-        | inl same ↦ absurd (omega (arith, same.1))
-        | inr other ↦ rw other.0 (off_chain nodes rest linked.0 q linked.3 past)
-      ]
+  off_chain nodes chain first q linked past = false_from_ne_true _ (λ on. omega (arith, past, IsChain-below nodes chain first linked q on))
 
   -- new nodes in front of the chain are no others twice
   pub IsDistinct-fresh : (nodes : List (Content K V)) (chain : List ℕ) (first : Option ℕ) (count : ℕ) → IsChain nodes chain first → IsDistinct nat_eq chain → IsDistinct nat_eq (down_from (length nodes) count ++ chain)

@@ -1,33 +1,22 @@
 -- Lists that are read, written and cut: no word of nodes.
-use Rattle.std.proofs.Common.{◌≡◌, ◌≢◌, ℕ, ◌+◌, ◌-◌, ◌<◌, ◌≤◌, List, [], ◌∷◌, ◌++◌, zero, suc, length, set, take, drop, remove, slice_get, slice_set, get_or, None, Some, refl, sym, ap, ◌∙◌, arith, length-set}
-use Rattle.bforest_core.proofs.Words.{length-append, get_or-set_same, get_or-set_other, get_or_append_left, set-append_left, set-append_right, drop_all, take_all, append-nil, slice_get_within, slice_get-get_or, get_or_from_slice_get}
-use Rattle.bforest_core.proofs.Words.{slice_get_read}
+use Rattle.std.proofs.Common.{◌≡◌, ◌≢◌, ℕ, ◌+◌, ◌-◌, ◌<◌, ◌≤◌, List, [], ◌∷◌, ◌++◌, zero, suc, length, set, take, drop, remove, slice_get, slice_set, get_or, None, Some, refl, ap, ◌∙◌, arith, length-set}
+use Rattle.bforest_core.proofs.Words.{get_or-set_same, set-append_left, set-append_right, drop_all, take_all, append-nil, slice_get-get_or, slice_get_read}
+pub use Rattle.bforest_nodes.proofs.Seams.{slice_get-append-add}
 
 module _ {X : Type 0} where
-  -- an element after the first list
-  pub slice_get-append-add : (xs ys : List X) (n : ℕ) → slice_get (xs ++ ys) (length xs + n) ≡ slice_get ys n
-  slice_get-append-add [] ys n = let e : length {A = X} [] + n ≡ n = omega arith in rw e
-  slice_get-append-add (x ∷ xs) ys n = let e : length (x ∷ xs) + n ≡ suc (length xs + n) = omega arith in rw e (slice_get-append-add xs ys n)
-
   -- an element of the first list
   pub slice_get-append_left : (xs more : List X) (k : ℕ) (x : X) → slice_get xs k ≡ Some x → slice_get (xs ++ more) k ≡ Some x
-  slice_get-append_left xs more k x found =
-      let within = slice_get_within xs k x found in
-      slice_get-get_or (xs ++ more) k x (omega (arith, length-append xs more))
-      ∙ ap Some (get_or_append_left xs more x k within ∙ get_or_from_slice_get xs k x x found)
-
-  -- the element that was added at the end
-  pub slice_get-push : (xs : List X) (x : X) → slice_get (xs ++ x ∷ []) (length xs) ≡ Some x
-  slice_get-push xs x =
-      let e : length xs ≡ length xs + 0 = omega arith in
-      ap (slice_get (xs ++ x ∷ [])) e ∙ slice_get-append-add xs (x ∷ []) 0
+  slice_get-append_left [] more k x found = absurd cc
+  slice_get-append_left (y ∷ xs) more zero x found = found
+  slice_get-append_left (y ∷ xs) more (suc k) x found = slice_get-append_left xs more k x found
 
   -- an element that was not written
-  pub slice_get-set_other : (xs : List X) (at k : ℕ) (e x : X) → at ≢ k → slice_get xs k ≡ Some x → slice_get (set xs at e) k ≡ Some x
-  slice_get-set_other xs at k e x other found =
-      let within = slice_get_within xs k x found in
-      slice_get-get_or (set xs at e) k e (omega (arith, length-set xs at e))
-      ∙ ap Some (get_or-set_other xs at k e e (λ same. other (sym same)) ∙ get_or_from_slice_get xs k x e found)
+  pub slice_get-set_apart : (xs : List X) (i j : ℕ) (x : X) → j ≢ i → slice_get (set xs i x) j ≡ slice_get xs j
+  slice_get-set_apart [] i j x ne = refl
+  slice_get-set_apart (y ∷ xs) zero zero x ne = absurd (ne refl)
+  slice_get-set_apart (y ∷ xs) zero (suc j) x ne = refl
+  slice_get-set_apart (y ∷ xs) (suc i) zero x ne = refl
+  slice_get-set_apart (y ∷ xs) (suc i) (suc j) x ne = slice_get-set_apart xs i j x (λ (e : j ≡ i). ne (ap suc e))
 
   -- the element that was written
   pub slice_get-set_same : (xs : List X) (at : ℕ) (e : X) → at < length xs → slice_get (set xs at e) at ≡ Some e
@@ -37,19 +26,15 @@ module _ {X : Type 0} where
   -- a write in front of a cut, then one right behind it
   pub set-front-back : (xs front back : List X) (low high : ℕ) (x y : X) → xs ≡ front ++ back → length front ≡ high → low < high → set front low x ++ set back 0 y ≡ set (set xs low x) high y
   set-front-back xs front back low high x y is len below =
-      let within : low < length front = omega arith in
       let size : length (set front low x) ≡ high = omega (arith, length-set front low x) in
       let none : high - high ≡ 0 = omega arith in
-      let second : set (set front low x ++ back) high y ≡ set front low x ++ set back 0 y = set-append_right (set front low x) back high high y size (omega arith) ∙ ap (λ k. set front low x ++ set back k y) none in
-      sym (ap (λ zs. set (set zs low x) high y) is ∙ ap (λ zs. set zs high y) (set-append_left front back low x within) ∙ second)
+      rw (is, set-append_left front back low x (omega arith), set-append_right (set front low x) back high high y size (omega arith), none)
 
   -- a write right behind a cut, then one in front of it
   pub set-back-front : (xs front back : List X) (low high : ℕ) (x y : X) → xs ≡ front ++ back → length front ≡ high → low < high → set front low y ++ set back 0 x ≡ set (set xs high x) low y
   set-back-front xs front back low high x y is len below =
-      let within : low < length front = omega arith in
       let none : high - high ≡ 0 = omega arith in
-      let first : set (front ++ back) high x ≡ front ++ set back 0 x = set-append_right front back high high x len (omega arith) ∙ ap (λ k. front ++ set back k x) none in
-      sym (ap (λ zs. set (set zs high x) low y) is ∙ ap (λ zs. set zs low y) first ∙ set-append_left front (set back 0 x) low y within)
+      rw (is, set-append_right front back high high x len (omega arith), none, set-append_left front (set back 0 x) low y (omega arith))
 
   -- an element that is read in front of a cut
   pub in_front : (xs front back : List X) (low : ℕ) (x : X) → xs ≡ front ++ back → low < length front → x ≡ get_or front low x → slice_get xs low ≡ Some x
@@ -62,14 +47,12 @@ module _ {X : Type 0} where
       let place : high ≡ length front + 0 = omega arith in
       ap (λ zs. slice_get zs high) is ∙ ap (slice_get (front ++ back)) place ∙ slice_get-append-add front back 0 ∙ slice_get_read back (length back) 0 x refl some read
 
-  -- as many elements written over all of a list
-  refilled : (xs ys : List X) (n : ℕ) → length ys ≡ length xs → n ≡ length xs → take n (ys ++ drop (length ys) xs) ≡ ys
-  refilled xs ys n same size =
-      ap (λ zs. take n (ys ++ zs)) (drop_all (length ys) xs (omega arith)) ∙ ap (take n) (append-nil ys) ∙ take_all n ys (omega arith)
-
   -- two elements written over one list
   pub refilled_two : (xs : List X) (i j : ℕ) (x y : X) (n : ℕ) → n ≡ length xs → take n (slice_set (slice_set xs i x) j y ++ drop (length (slice_set (slice_set xs i x) j y)) xs) ≡ slice_set (slice_set xs i x) j y
-  refilled_two xs i j x y n size = refilled xs (slice_set (slice_set xs i x) j y) n (length-set (slice_set xs i x) j y ∙ length-set xs i x) size
+  refilled_two xs i j x y n size =
+      let ys = slice_set (slice_set xs i x) j y in
+      let same : length ys ≡ length xs = length-set (slice_set xs i x) j y ∙ length-set xs i x in
+      rw (drop_all (length ys) xs (omega (arith, same)), append-nil ys) (take_all n ys (omega (arith, same, size)))
 
   -- the rest of a list from an element on
   pub drop-read : (xs : List X) (p : ℕ) (x : X) → slice_get xs p ≡ Some x → drop p xs ≡ x ∷ drop (suc p) xs

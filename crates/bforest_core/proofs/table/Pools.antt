@@ -1,49 +1,37 @@
 -- What a `NodePool` keeps of its slots: how each change of them keeps it.
-use Rattle.std.proofs.Common.{◌≡◌, ℕ, ◌+◌, ◌-◌, ◌<◌, ◌≤◌, zero, suc, false, List, [], ◌∷◌, ◌++◌, length, set, slice_get, nat_eq, Some, None, Option, refl, ap, ◌∙◌, subst, arith, length-set}
+use Rattle.std.proofs.Common.{◌≡◌, ℕ, ◌+◌, ◌-◌, ◌<◌, ◌≤◌, zero, suc, false, List, [], ◌∷◌, ◌++◌, length, set, slice_get, nat_eq, Some, None, Option, refl, ap, ◌∙◌, arith, length-set, sym}
 use Rattle.bforest_core.proofs.Words.{list_any, IsDistinct, IsSome, length-append, IsDistinct-tail, IsDistinct-head, length-le_from_distinct_below, Content, Free, IsLeafCapacity, next_of, chain_from, IsChain, IsPool, Table, IsUsed}
-use Rattle.bforest_core.proofs.Words.{down_from, front_of_new, fresh_nodes}
+use Rattle.bforest_core.proofs.Words.{down_from, front_of, front_of_new, fresh_nodes, or_parts, with_node, without_front, with_front}
+use Rattle.std.proofs.lemmas.Bool.{eqb-false}
 use Rattle.bforest_core.proofs.table.Chains.{none_apart, IsDistinct-front, length-fresh_nodes, length-down_from, chain_from-is, length-chain_from-none, IsChain-set, IsChain-below, IsChain-fresh, IsChain-freed, IsDistinct-fresh}
 
 module _ {K V : Type 0} where
-  -- a chain, of so many different free nodes, makes a pool
-  pub IsPool-made : (n : ℕ) (nodes : List (Content K V)) (chain : List ℕ) (first : Option ℕ) (free limit : ℕ) → IsLeafCapacity n → IsChain nodes chain first → length chain ≡ free → IsDistinct nat_eq chain → length nodes ≤ limit → limit ≤ 4294967295 → IsPool n nodes first free limit
+  -- a chain, of so many different free nodes, makes a pool, and is the one that is met
+  pub IsPool-made : (n : ℕ) (nodes : List (Content K V)) (chain : List ℕ) (first : Option ℕ) (free limit : ℕ) → IsLeafCapacity n → IsChain nodes chain first → length chain ≡ free → IsDistinct nat_eq chain → length nodes ≤ limit → limit ≤ 4294967295 →
+      IsPool n nodes first free limit × (chain_from nodes free first ≡ chain)
   IsPool-made n nodes chain first free limit capacity linked counted distinct slots most =
       let is : chain_from nodes free first ≡ chain = rw (← counted) (chain_from-is nodes chain first linked) in
-      record {
-        capacity = capacity;
-        linked = rw is linked;
-        counted = rw is counted;
-        distinct = rw is distinct;
-        slots_within = slots;
-        limit_within = most;
-      }
+      (record { capacity = capacity; linked = rw is linked; counted = rw is counted; distinct = rw is distinct; slots_within = slots; limit_within = most }, is)
 
   -- no slot
   pub IsPool-empty : (n limit : ℕ) → IsLeafCapacity n → limit ≤ 4294967295 → IsPool {K = K} {V = V} n [] None 0 limit
   unfolding IsDistinct
-  IsPool-empty n limit capacity most = IsPool-made n [] [] None 0 limit capacity refl refl tt (omega arith) most
+  IsPool-empty n limit capacity most = (IsPool-made n [] [] None 0 limit capacity refl refl tt (omega arith) most).0
 
-  -- a write at a slot that is not on the chain
-  pub IsPool-set : (n : ℕ) (nodes : List (Content K V)) (first : Option ℕ) (free limit at : ℕ) (content : Content K V) → list_any (nat_eq at) (chain_from nodes free first) ≡ false → IsPool n nodes first free limit → IsPool n (set nodes at content) first free limit
+  -- a write at a slot that is not on the chain leaves the chain as it is
+  pub IsPool-set : (n : ℕ) (nodes : List (Content K V)) (first : Option ℕ) (free limit at : ℕ) (content : Content K V) → list_any (nat_eq at) (chain_from nodes free first) ≡ false → IsPool n nodes first free limit →
+      IsPool n (set nodes at content) first free limit × (chain_from (set nodes at content) free first ≡ chain_from nodes free first)
   IsPool-set n nodes first free limit at content off pool =
       IsPool-made n (set nodes at content) (chain_from nodes free first) first free limit pool.capacity (IsChain-set nodes _ first at content off pool.linked) pool.counted pool.distinct (omega (arith, length-set nodes at content, pool.slots_within)) pool.limit_within
-
-  -- such a write leaves the chain as it is
-  pub chain_from-set : (n : ℕ) (nodes : List (Content K V)) (first : Option ℕ) (free limit at : ℕ) (content : Content K V) → list_any (nat_eq at) (chain_from nodes free first) ≡ false → IsPool n nodes first free limit → chain_from (set nodes at content) free first ≡ chain_from nodes free first
-  chain_from-set n nodes first free limit at content off pool =
-      let is = chain_from-is (set nodes at content) (chain_from nodes free first) first (IsChain-set nodes _ first at content off pool.linked) in
-      rw pool.counted at is
 
   -- writes at two slots that are not on the chain of the table that the fields show
   pub IsPool-set_two : (n : ℕ) (nodes : List (Content K V)) (first : Option ℕ) (free limit left right : ℕ) (l r : Content K V) (t : Table K V) (a b : ℕ) → record { nodes = nodes; chain = chain_from nodes free first; limit = limit } ≡ t → left ≡ a → right ≡ b →
       list_any (nat_eq a) t.chain ≡ false → list_any (nat_eq b) t.chain ≡ false → IsPool n nodes first free limit → IsPool n (set (set nodes left l) right r) first free limit × (chain_from (set (set nodes left l) right r) free first ≡ chain_from nodes free first)
   IsPool-set_two n nodes first free limit left right l r t a b view left_is right_is off_a off_b pool =
-      let off_left = rw (← view, ← left_is) at off_a in
+      let once = IsPool-set n nodes first free limit left l (rw (← view, ← left_is) at off_a) pool in
       let off_right = rw (← view, ← right_is) at off_b in
-      let once = IsPool-set n nodes first free limit left l off_left pool in
-      let same = chain_from-set n nodes first free limit left l off_left pool in
-      let off : list_any (nat_eq right) (chain_from (set nodes left l) free first) ≡ false = ap (list_any (nat_eq right)) same ∙ off_right in
-      (IsPool-set n (set nodes left l) first free limit right r off once, chain_from-set n (set nodes left l) first free limit right r off once ∙ same)
+      let twice = IsPool-set n (set nodes left l) first free limit right r (ap (list_any (nat_eq right)) once.1 ∙ off_right) once.0 in
+      (twice.0, twice.1 ∙ once.1)
 
   -- a used node by the number that a pool's fields are asked at
   pub used_inside : (t u : Table K V) (node number : ℕ) → u ≡ t → number ≡ node → IsUsed t node → IsUsed u number
@@ -58,10 +46,8 @@ module _ {K V : Type 0} where
   -- a used slot joins the chain in front
   pub IsPool-freed : (n : ℕ) (nodes : List (Content K V)) (first : Option ℕ) (free limit at : ℕ) → at < length nodes → list_any (nat_eq at) (chain_from nodes free first) ≡ false → IsPool n nodes first free limit → IsPool n (set nodes at (Free first)) (Some at) (free + 1) limit × (chain_from (set nodes at (Free first)) (free + 1) (Some at) ≡ at ∷ chain_from nodes free first)
   IsPool-freed n nodes first free limit at within off pool =
-      let linked = IsChain-freed nodes (chain_from nodes free first) first at within off pool.linked in
-      let count : length (at ∷ chain_from nodes free first) ≡ free + 1 = omega (arith, pool.counted) in
-      let is = chain_from-is (set nodes at (Free first)) (at ∷ chain_from nodes free first) (Some at) linked in
-      (IsPool-made n (set nodes at (Free first)) (at ∷ chain_from nodes free first) (Some at) (free + 1) limit pool.capacity linked count (IsDistinct-front at _ off pool.distinct) (omega (arith, length-set nodes at (Free first), pool.slots_within)) pool.limit_within, subst (λ k. chain_from (set nodes at (Free first)) k (Some at) ≡ at ∷ chain_from nodes free first) count is)
+      IsPool-made n (set nodes at (Free first)) (at ∷ chain_from nodes free first) (Some at) (free + 1) limit pool.capacity (IsChain-freed nodes (chain_from nodes free first) first at within off pool.linked)
+      (omega (arith, pool.counted)) (IsDistinct-front at _ off pool.distinct) (omega (arith, length-set nodes at (Free first), pool.slots_within)) pool.limit_within
 
   -- where a slot is used, fewer nodes lie free than there are slots
   pub free_below : (n : ℕ) (nodes : List (Content K V)) (first : Option ℕ) (free limit at : ℕ) → at < length nodes → list_any (nat_eq at) (chain_from nodes free first) ≡ false → IsPool n nodes first free limit → free < length nodes
@@ -72,11 +58,9 @@ module _ {K V : Type 0} where
   -- new slots, all in front
   pub IsPool-grown : (n : ℕ) (nodes : List (Content K V)) (first : Option ℕ) (free limit count total : ℕ) → total ≡ count + free → length nodes + count ≤ limit → IsPool n nodes first free limit → IsPool n (nodes ++ fresh_nodes (length nodes) count first) (front_of_new (length nodes) count first) total limit × (chain_from (nodes ++ fresh_nodes (length nodes) count first) total (front_of_new (length nodes) count first) ≡ down_from (length nodes) count ++ chain_from nodes free first)
   IsPool-grown n nodes first free limit count total total_is within pool =
-      let chain = down_from (length nodes) count ++ chain_from nodes free first in
-      let linked = IsChain-fresh nodes (chain_from nodes free first) first count pool.linked in
-      let counted : length chain ≡ total = omega (arith, total_is, length-append (down_from (length nodes) count) (chain_from nodes free first), length-down_from (length nodes) count, pool.counted) in
-      let is = chain_from-is (nodes ++ fresh_nodes (length nodes) count first) chain (front_of_new (length nodes) count first) linked in
-      (IsPool-made n _ chain _ total limit pool.capacity linked counted (IsDistinct-fresh nodes _ first count pool.linked pool.distinct) (omega (arith, length-append nodes (fresh_nodes (length nodes) count first), length-fresh_nodes K V (length nodes) count first)) pool.limit_within, rw counted at is)
+      IsPool-made n (nodes ++ fresh_nodes (length nodes) count first) (down_from (length nodes) count ++ chain_from nodes free first) (front_of_new (length nodes) count first) total limit pool.capacity (IsChain-fresh nodes (chain_from nodes free first) first count pool.linked)
+      (omega (arith, total_is, length-append (down_from (length nodes) count) (chain_from nodes free first), length-down_from (length nodes) count, pool.counted))
+      (IsDistinct-fresh nodes _ first count pool.linked pool.distinct) (omega (arith, length-append nodes (fresh_nodes (length nodes) count first), length-fresh_nodes K V (length nodes) count first)) pool.limit_within
 
   -- where nodes lie free, there is a first
   pub first_some : (n : ℕ) (nodes : List (Content K V)) (first : Option ℕ) (free limit : ℕ) → 0 < free → IsPool n nodes first free limit → IsSome first
@@ -97,11 +81,33 @@ module _ {K V : Type 0} where
       let after : next_of (slice_get nodes node) ≡ next = ap next_of found in
       let same : pool.linked.0 ≡ next = let there = pool.linked.2 in cc in
       let tail = chain_from nodes count next in
-      let linked : IsChain nodes tail next = rw (after, same) at pool.linked.3 in
       let distinct : IsDistinct nat_eq (node ∷ tail) = rw after at pool.distinct in
       let counted : length tail ≡ count = omega (arith, rw after at pool.counted) in
-      rw (less, after) (
-        IsPool-made n nodes tail next count limit pool.capacity linked counted (IsDistinct-tail nat_eq node tail distinct) pool.slots_within pool.limit_within,
-        refl,
-        none_apart node tail (IsDistinct-head nat_eq node tail distinct),
-      )
+      let made = IsPool-made n nodes tail next count limit pool.capacity (rw (after, same) at pool.linked.3) counted (IsDistinct-tail nat_eq node tail distinct) pool.slots_within pool.limit_within in
+      rw (less, after) (made.0, refl, none_apart node tail (IsDistinct-head nat_eq node tail distinct))
+
+  -- the slots are as before
+  pub nodes-without_front : (table : Table K V) (chain : List ℕ) → (without_front table chain).nodes ≡ table.nodes
+  nodes-without_front table [] = refl
+  nodes-without_front table (node ∷ rest) = refl
+
+  -- a number that was off the chain still is
+  pub off-without_front : (table : Table K V) (chain : List ℕ) (node : ℕ) → table.chain ≡ chain → list_any (nat_eq node) chain ≡ false → list_any (nat_eq node) (without_front table chain).chain ≡ false
+  off-without_front table [] node is off = rw is off
+  off-without_front table (front ∷ rest) node is off = (or_parts (nat_eq node front) (list_any (nat_eq node) rest) off).1
+
+  -- a content that is written where the front was
+  pub with_front-is : (table : Table K V) (chain : List ℕ) (node : ℕ) (content : Content K V) → front_of chain ≡ Some node → with_front table chain content ≡ with_node (without_front table chain) node content
+  with_front-is table [] node content front = cc
+  with_front-is table (first ∷ rest) node content front = let same : first ≡ node = cc in rw same
+
+  -- a table with no slots
+  pub empty-is : (table : Table K V) (limit : ℕ) → table.nodes ≡ [] → table.chain ≡ [] → table.limit ≡ limit → table ≡ record { nodes = []; chain = []; limit = limit }
+  empty-is table limit nodes_are chain_is limit_is = rw (← nodes_are, ← chain_is, ← limit_is) refl
+
+-- a number that is off the chain is not its front
+pub apart_front : (chain : List ℕ) (node front : ℕ) → front_of chain ≡ Some front → list_any (nat_eq node) chain ≡ false → front ≡ node → ⊥
+apart_front [] node front is off e = cc
+apart_front (first ∷ rest) node front is off e =
+    let same : first ≡ front = cc in
+    eqb-false node first (or_parts (nat_eq node first) (list_any (nat_eq node) rest) off).0 (sym (same ∙ e))

@@ -40,15 +40,12 @@ module _ {K V : Type 0} where
   pub children-row : (slots : List (Content K V)) (row : List (LevelNode K ℕ)) → RowIn inner_content slots row → flat_map (λ m. children_of (slot slots m)) (numbers row) ≡ entry_items (flat row)
   children-row slots [] i = refl
   children-row slots (node m es ∷ ns) i =
-      let is = slot-is slots m (inner_content es) i.0 in
-      rw is (ap (λ z. entry_items es ++ z) (children-row slots ns i.1) ∙ sym (map-append (λ e. e.1) es (flat ns)))
+      rw (slot-is slots m (inner_content es) i.0, map-append (λ (e : K × ℕ). e.1) es (flat ns)) (ap (λ z. entry_items es ++ z) (children-row slots ns i.1))
 
   -- leaves have none
   pub children-leaves : (slots : List (Content K V)) (row : List (LevelNode K V)) → RowIn leaf_content slots row → flat_map (λ m. children_of (slot slots m)) (numbers row) ≡ []
   children-leaves slots [] i = refl
-  children-leaves slots (node m es ∷ ns) i =
-      let is = slot-is slots m (leaf_content es) i.0 in
-      rw is (children-leaves slots ns i.1)
+  children-leaves slots (node m es ∷ ns) i = rw (slot-is slots m (leaf_content es) i.0) (children-leaves slots ns i.1)
 
   -- one level down
   down-row : (slots : List (Content K V)) (f : ℕ) (ms cs : List ℕ) (up : List (List ℕ)) → flat_map (λ m. children_of (slot slots m)) ms ≡ cs → 1 ≤ length cs → levels_below slots (suc f) ms up ≡ levels_below slots f cs (ms ∷ up)

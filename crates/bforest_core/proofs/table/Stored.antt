@@ -1,5 +1,5 @@
 -- Nodes as their slots hold them: with one child or entry more, and cut.
-use Rattle.std.proofs.Common.{◌≡◌, ℕ, zero, suc, ◌+◌, ◌-◌, ◌≤◌, List, [], ◌∷◌, ◌++◌, map, length, take, drop, insert, slice_get, Some, refl, sym, ap, ◌∙◌, subst, append_assoc, length-append, arith}
+use Rattle.std.proofs.Common.{◌≡◌, ℕ, zero, suc, ◌+◌, ◌-◌, ◌≤◌, List, [], ◌∷◌, ◌++◌, map, length, drop, insert, slice_get, Some, refl, sym, ap, ◌∙◌, subst, append_assoc, length-append, arith}
 use Rattle.bforest_core.proofs.Words.{length-map, map-append, take_at, drop_at, length-drop, Content, Inner, Leaf, Free, IsFree, IsInner, IsCut, children_of, entry_count, with_child, with_entry, inner_content, leaf_content, entry_keys}
 use Rattle.bforest_core.proofs.Words.{entry_items}
 
@@ -57,15 +57,10 @@ not_free (Leaf keys vals) some free = free
 not_free (Free next) some free = omega (arith, some)
 
 -- nor is an inner node, which has as many entries as children
-pub inner_used : {K V : Type 0} → (content : Content K V) → IsInner content → IsFree content → ⊥
-inner_used (Inner keys children) inner free = free
-inner_used (Leaf keys vals) inner free = free
-inner_used (Free next) inner free = inner
-
-pub inner_entries : {K V : Type 0} → (content : Content K V) → IsInner content → entry_count content ≡ length (children_of content)
-inner_entries (Inner keys children) inner = refl
-inner_entries (Leaf keys vals) inner = elim inner [ ]
-inner_entries (Free next) inner = elim inner [ ]
+pub inner_used : {K V : Type 0} → (content : Content K V) → IsInner content → (¬ IsFree content) × (entry_count content ≡ length (children_of content))
+inner_used (Inner keys children) inner = (λ free. free, refl)
+inner_used (Leaf keys vals) inner = elim inner [ ]
+inner_used (Free next) inner = elim inner [ ]
 
 -- any other has no children
 pub childless : {K V : Type 0} → (content : Content K V) → (IsInner content → ⊥) → 0 ≡ length (children_of content)
@@ -78,10 +73,7 @@ module _ {K : Type 0} (V : Type 0) where
   pub with_child_is : (l : List (K × ℕ)) (x : K × ℕ) (r : List (K × ℕ)) (key : K) (child e : ℕ) → length l ≡ e → with_child {V = V} (inner_content (l ++ x ∷ r)) e key child ≡ inner_content (l ++ x ∷ (key, child) ∷ r)
   with_child_is l x r key child e is =
       let next : e + 1 ≡ suc (length l) = omega (arith, is) in
-      ap (λ z. Inner (insert (drop 1 (entry_keys (l ++ x ∷ r))) e key) (insert (entry_items (l ++ x ∷ r)) z child)) next
-      ∙ ap (λ z. Inner (insert (drop 1 (entry_keys (l ++ x ∷ r))) z key) (insert (entry_items (l ++ x ∷ r)) (suc (length l)) child)) (sym is)
-      ∙ ap (λ z. Inner z (insert (entry_items (l ++ x ∷ r)) (suc (length l)) child)) (insert_key l x r (key, child))
-      ∙ ap (λ z. Inner (drop 1 (entry_keys (l ++ x ∷ (key, child) ∷ r))) z) (insert_after (λ w. w.1) l x r (key, child))
+      rw (next, ← is, insert_key l x r (key, child), insert_after (λ w. w.1) l x r (key, child)) refl
 
   -- the parts of a node behind the first so many children
   pub inner_cuts : (x : K × ℕ) (xs : List (K × ℕ)) (y : K × ℕ) (ys : List (K × ℕ)) (q : ℕ) (left right : Content K V) (key : K) → length (x ∷ xs) ≡ q → IsCut (inner_content ((x ∷ xs) ++ y ∷ ys)) q left key right → Parts inner_content (x ∷ xs) y ys left right key
@@ -92,19 +84,14 @@ module _ {K : Type 0} (V : Type 0) where
       let k : entry_keys (xs ++ y ∷ ys) ≡ entry_keys xs ++ y.0 ∷ entry_keys ys = map-append (λ (w : K × ℕ). w.0) xs (y ∷ ys) in
       let i : entry_items ((x ∷ xs) ++ y ∷ ys) ≡ entry_items (x ∷ xs) ++ y.1 ∷ entry_items ys = map-append (λ (w : K × ℕ). w.1) (x ∷ xs) (y ∷ ys) in
       record {
-        left_is = c.left_is ∙ ap (λ w. Inner (take (q - 1) w) (take q (entry_items ((x ∷ xs) ++ y ∷ ys)))) k ∙ ap (λ w. Inner w (take q (entry_items ((x ∷ xs) ++ y ∷ ys)))) (take_at (entry_keys xs) (y.0 ∷ entry_keys ys) (q - 1) kl)
-            ∙ ap (λ w. Inner (entry_keys xs) (take q w)) i ∙ ap (λ w. Inner (entry_keys xs) w) (take_at (entry_items (x ∷ xs)) (y.1 ∷ entry_items ys) q il);
-        right_is = c.right_is ∙ ap (λ w. Inner (drop q w) (drop q (entry_items ((x ∷ xs) ++ y ∷ ys)))) k ∙ ap (λ w. Inner w (drop q (entry_items ((x ∷ xs) ++ y ∷ ys)))) (drop-behind (entry_keys xs) y.0 (entry_keys ys) q kl2)
-            ∙ ap (λ w. Inner (entry_keys ys) (drop q w)) i ∙ ap (λ w. Inner (entry_keys ys) w) (drop_at (entry_items (x ∷ xs)) (y.1 ∷ entry_items ys) q il);
+        left_is = rw (k, i, take_at (entry_keys xs) (y.0 ∷ entry_keys ys) (q - 1) kl, take_at (entry_items (x ∷ xs)) (y.1 ∷ entry_items ys) q il) at c.left_is;
+        right_is = rw (k, i, drop-behind (entry_keys xs) y.0 (entry_keys ys) q kl2, drop_at (entry_items (x ∷ xs)) (y.1 ∷ entry_items ys) q il) at c.right_is;
         key_is = some_same key y.0 (sym c.key_is ∙ ap (λ w. slice_get w (q - 1)) k ∙ slice_get_at (entry_keys xs) y.0 (entry_keys ys) (q - 1) kl);
       }
 
   -- an entry put into a leaf
   pub with_entry_is : (l r : List (K × V)) (key : K) (value : V) (e : ℕ) → length l ≡ e → with_entry (leaf_content (l ++ r)) e key value ≡ leaf_content (l ++ (key, value) ∷ r)
-  with_entry_is l r key value e is =
-      ap (λ z. Leaf (insert (entry_keys (l ++ r)) z key) (insert (entry_items (l ++ r)) z value)) (sym is)
-      ∙ ap (λ z. Leaf z (insert (entry_items (l ++ r)) (length l) value)) (insert_at (λ w. w.0) l r (key, value))
-      ∙ ap (λ z. Leaf (entry_keys (l ++ (key, value) ∷ r)) z) (insert_at (λ w. w.1) l r (key, value))
+  with_entry_is l r key value e is = rw (← is, insert_at (λ w. w.0) l r (key, value), insert_at (λ w. w.1) l r (key, value)) refl
 
   -- the parts of a leaf behind the first so many entries
   pub leaf_cuts : (xs : List (K × V)) (y : K × V) (ys : List (K × V)) (q : ℕ) (left right : Content K V) (key : K) → length xs ≡ q → IsCut (leaf_content (xs ++ y ∷ ys)) q left key right → Parts leaf_content xs y ys left right key
@@ -114,9 +101,7 @@ module _ {K : Type 0} (V : Type 0) where
       let k : entry_keys (xs ++ y ∷ ys) ≡ entry_keys xs ++ y.0 ∷ entry_keys ys = map-append (λ (w : K × V). w.0) xs (y ∷ ys) in
       let i : entry_items (xs ++ y ∷ ys) ≡ entry_items xs ++ y.1 ∷ entry_items ys = map-append (λ (w : K × V). w.1) xs (y ∷ ys) in
       record {
-        left_is = c.left_is ∙ ap (λ w. Leaf (take q w) (take q (entry_items (xs ++ y ∷ ys)))) k ∙ ap (λ w. Leaf w (take q (entry_items (xs ++ y ∷ ys)))) (take_at (entry_keys xs) (y.0 ∷ entry_keys ys) q kl)
-            ∙ ap (λ w. Leaf (entry_keys xs) (take q w)) i ∙ ap (λ w. Leaf (entry_keys xs) w) (take_at (entry_items xs) (y.1 ∷ entry_items ys) q il);
-        right_is = c.right_is ∙ ap (λ w. Leaf (drop q w) (drop q (entry_items (xs ++ y ∷ ys)))) k ∙ ap (λ w. Leaf w (drop q (entry_items (xs ++ y ∷ ys)))) (drop_at (entry_keys xs) (y.0 ∷ entry_keys ys) q kl)
-            ∙ ap (λ w. Leaf (y.0 ∷ entry_keys ys) (drop q w)) i ∙ ap (λ w. Leaf (y.0 ∷ entry_keys ys) w) (drop_at (entry_items xs) (y.1 ∷ entry_items ys) q il);
+        left_is = rw (k, i, take_at (entry_keys xs) (y.0 ∷ entry_keys ys) q kl, take_at (entry_items xs) (y.1 ∷ entry_items ys) q il) at c.left_is;
+        right_is = rw (k, i, drop_at (entry_keys xs) (y.0 ∷ entry_keys ys) q kl, drop_at (entry_items xs) (y.1 ∷ entry_items ys) q il) at c.right_is;
         key_is = some_same key y.0 (sym c.key_is ∙ ap (λ w. slice_get w q) k ∙ slice_get_at (entry_keys xs) y.0 (entry_keys ys) q kl);
       }

@@ -1,7 +1,7 @@
 -- Counting numbers, and rows that a change of the table leaves as they are.
 use Rattle.std.proofs.Common.{◌≡◌, ℕ, zero, suc, ◌+◌, ◌<◌, ◌≢◌, false, nat_eq, List, [], ◌∷◌, ◌++◌, length, set, slice_get, Some, refl, sym, ap, ◌∙◌, inl, inr, length-set, arith}
 use Rattle.bforest_core.proofs.Words.{flat_map, list_any, eqb_tells, Content, Table, with_node, with_front, front_of, IsUsed, slice_get_within, LevelNode, node, numbers, RowIn, RowsIn, inner_content, count}
-use Rattle.bforest_core.proofs.table.Lists.{slice_get-set_same}
+pub use Rattle.bforest_core.proofs.table.Lists.{slice_get-set_apart, slice_get-set_same}
 use Rattle.bforest_core.proofs.rows.LevelRows.{numbers-append}
 
 pub count-append : (n : ℕ) (xs ys : List ℕ) → count n (xs ++ ys) ≡ count n xs + count n ys
@@ -39,13 +39,6 @@ off_chain n (m ∷ ms) none =
     let rest = off_chain n ms (omega (arith, none)) in
     elim (eqb_tells n m) [ inl w ↦ absurd (absent_ne n m ms none w.1) | inr w ↦ (let e = w.0 in rw (e, rest) refl) ]
 
-pub slice_get-set_apart : {X : Type 0} → (xs : List X) (i j : ℕ) (x : X) → j ≢ i → slice_get (set xs i x) j ≡ slice_get xs j
-slice_get-set_apart [] i j x ne = refl
-slice_get-set_apart (y ∷ xs) zero zero x ne = absurd (ne refl)
-slice_get-set_apart (y ∷ xs) zero (suc j) x ne = refl
-slice_get-set_apart (y ∷ xs) (suc i) zero x ne = refl
-slice_get-set_apart (y ∷ xs) (suc i) (suc j) x ne = slice_get-set_apart xs i j x (λ (e : j ≡ i). ne (ap suc e))
-
 -- a write of what is there already
 pub set_here : {X : Type 0} → (xs : List X) (i : ℕ) (x : X) → slice_get xs i ≡ Some x → set xs i x ≡ xs
 set_here [] i x e = refl
@@ -76,44 +69,34 @@ module _ {K V : Type 0} where
     row-join t [] ys i j = j
     row-join t (node m es ∷ xs) ys i j = (i.0, row-join t xs ys i.1 j)
 
-    -- one node changed in its place
+    -- nodes changed in their place, where but two slots are as before
+    pub row-changed : (t u : List (Content K V)) (before old new after : List (LevelNode K X)) (n q : ℕ) → RowIn content t (before ++ (old ++ after)) → ((m : ℕ) → m ≢ n → m ≢ q → slice_get u m ≡ slice_get t m) → RowIn content u new →
+        count n (numbers before) + count n (numbers after) ≡ 0 → count q (numbers before) + count q (numbers after) ≡ 0 → RowIn content u (before ++ (new ++ after))
+    row-changed t u before old new after n q i same here none none_q =
+        let s = row-split t before (old ++ after) i in
+        let kept = λ (m : ℕ) (ms : List ℕ) (some : 0 < count m ms) (a : count n ms ≡ 0) (b : count q ms ≡ 0). same m (ne_from_count m n ms some a) (ne_from_count m q ms some b) in
+        row-join u before (new ++ after) (row-same t u before (λ m some. kept m (numbers before) some (omega (arith, none)) (omega (arith, none_q))) s.0)
+        (row-join u new after here (row-same t u after (λ m some. kept m (numbers after) some (omega (arith, none)) (omega (arith, none_q))) (row-split t old after s.1).1))
+
+    -- one node
     pub row-put : (t u : List (Content K V)) (before : List (LevelNode K X)) (n : ℕ) (es fs : List (K × X)) (after : List (LevelNode K X)) → RowIn content t (before ++ node n es ∷ after) →
         ((m : ℕ) → m ≢ n → slice_get u m ≡ slice_get t m) → slice_get u n ≡ Some (content fs) → count n (numbers before) + count n (numbers after) ≡ 0 → RowIn content u (before ++ node n fs ∷ after)
     row-put t u before n es fs after i same here none =
-        let s = row-split t before (node n es ∷ after) i in
-        row-join u before (node n fs ∷ after)
-        (row-same t u before (λ m some. same m (ne_from_count m n (numbers before) some (omega arith))) s.0)
-        (here, row-same t u after (λ m some. same m (ne_from_count m n (numbers after) some (omega arith))) s.1.1)
+        row-changed t u before (node n es ∷ []) (node n fs ∷ []) after n n i (λ m a b. same m a) (here, tt) none none
 
-    -- two neighbours changed in their place
+    -- two neighbours
     pub row-put_two : (t u : List (Content K V)) (before : List (LevelNode K X)) (n q : ℕ) (es fs xs ys : List (K × X)) (after : List (LevelNode K X)) → RowIn content t (before ++ node n es ∷ node q fs ∷ after) →
         ((m : ℕ) → m ≢ n → m ≢ q → slice_get u m ≡ slice_get t m) → slice_get u n ≡ Some (content xs) → slice_get u q ≡ Some (content ys) →
         count n (numbers before) + count n (numbers after) ≡ 0 → count q (numbers before) + count q (numbers after) ≡ 0 → RowIn content u (before ++ node n xs ∷ node q ys ∷ after)
     row-put_two t u before n q es fs xs ys after i same here there none none_q =
-        let s = row-split t before (node n es ∷ node q fs ∷ after) i in
-        row-join u before (node n xs ∷ node q ys ∷ after)
-        (row-same t u before (λ m some. same m (ne_from_count m n (numbers before) some (omega arith)) (ne_from_count m q (numbers before) some (omega arith))) s.0)
-        (here, (there, row-same t u after (λ m some. same m (ne_from_count m n (numbers after) some (omega arith)) (ne_from_count m q (numbers after) some (omega arith))) s.1.1.1))
-
-    -- one node become two
-    pub row-halved : (t u : List (Content K V)) (before : List (LevelNode K X)) (n q : ℕ) (es xs ys : List (K × X)) (after : List (LevelNode K X)) → RowIn content t (before ++ node n es ∷ after) →
-        ((m : ℕ) → m ≢ n → m ≢ q → slice_get u m ≡ slice_get t m) → slice_get u n ≡ Some (content xs) → slice_get u q ≡ Some (content ys) →
-        count n (numbers before) + count n (numbers after) ≡ 0 → count q (numbers before) + count q (numbers after) ≡ 0 → RowIn content u (before ++ node n xs ∷ node q ys ∷ after)
-    row-halved t u before n q es xs ys after i same here there none none_q =
-        let s = row-split t before (node n es ∷ after) i in
-        row-join u before (node n xs ∷ node q ys ∷ after)
-        (row-same t u before (λ m some. same m (ne_from_count m n (numbers before) some (omega arith)) (ne_from_count m q (numbers before) some (omega arith))) s.0)
-        (here, (there, row-same t u after (λ m some. same m (ne_from_count m n (numbers after) some (omega arith)) (ne_from_count m q (numbers after) some (omega arith))) s.1.1))
+        row-changed t u before (node n es ∷ node q fs ∷ []) (node n xs ∷ node q ys ∷ []) after n q i same (here, (there, tt)) none none_q
 
     -- the first of two neighbours gone, the second changed
     pub row-drop_put : (t u : List (Content K V)) (before : List (LevelNode K X)) (n q : ℕ) (es fs ys : List (K × X)) (after : List (LevelNode K X)) → RowIn content t (before ++ node n es ∷ node q fs ∷ after) →
         ((m : ℕ) → m ≢ n → m ≢ q → slice_get u m ≡ slice_get t m) → slice_get u q ≡ Some (content ys) →
         count n (numbers before) + count n (numbers after) ≡ 0 → count q (numbers before) + count q (numbers after) ≡ 0 → RowIn content u (before ++ node q ys ∷ after)
     row-drop_put t u before n q es fs ys after i same there none none_q =
-        let s = row-split t before (node n es ∷ node q fs ∷ after) i in
-        row-join u before (node q ys ∷ after)
-        (row-same t u before (λ m some. same m (ne_from_count m n (numbers before) some (omega arith)) (ne_from_count m q (numbers before) some (omega arith))) s.0)
-        (there, row-same t u after (λ m some. same m (ne_from_count m n (numbers after) some (omega arith)) (ne_from_count m q (numbers after) some (omega arith))) s.1.1.1)
+        row-changed t u before (node n es ∷ node q fs ∷ []) (node q ys ∷ []) after n q i same (there, tt) none none_q
 
   pub rows-same : (t u : List (Content K V)) (rows : List (List (LevelNode K ℕ))) → ((m : ℕ) → 0 < count m (flat_map numbers rows) → slice_get u m ≡ slice_get t m) → RowsIn t rows → RowsIn u rows
   rows-same t u [] same i = tt

@@ -23,12 +23,6 @@ returns-in_err-reserve-clause-ok g c = let e = err_is _ _ c.from_residual.ensure
 pub returns-in_err-reserve-clause-first : goal.returns-in_err-reserve-clause-first
 returns-in_err-reserve-clause-first g c = let e = err_is _ _ c.from_residual.ensures.1 in rw e tt
 
-pub new-requires : goal.new-requires
-new-requires g c = (search rules, c.requires.capacity)
-
-pub new-requires-in-loop-added : goal.new-requires-in-loop-added
-new-requires-in-loop-added g c = record { below = omega arith }
-
 pub returns-in_err-reserve-clause-err : goal.returns-in_err-reserve-clause-err
 returns-in_err-reserve-clause-err g c = let e = err_is _ _ c.from_residual.ensures.1 in rw e c.reserve.ensures.items
 
@@ -37,5 +31,5 @@ returns-clause-first g c =
     let all : c.loop-added._added ≡ c.args.count = omega arith in
     rw (all, c.reserve.ensures.len) at c.loop-added.invariant.first
 
-pub push_reserved-requires : goal.push_reserved-requires
-push_reserved-requires g c = omega arith
+pub new-requires : goal.new-requires
+new-requires g c = (search rules, c.requires.capacity)

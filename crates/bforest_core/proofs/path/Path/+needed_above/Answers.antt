@@ -1,5 +1,6 @@
-use Rattle.std.proofs.Common.{rules, ◌+◌, ◌-◌, ◌<◌, arith}
-use Rattle.bforest_core.proofs.rows.Needs.{level_above, level_full, level_room, level_used, level_within, top_need}
+use Rattle.std.proofs.Common.{rules, ◌+◌, ◌-◌, ◌<◌, arith, sym}
+use Rattle.bforest_core.proofs.rows.Needs.{level_above, level_full, level_room, level_used, level_within}
+use Rattle.bforest_core.proofs.insertion.Rise.{need_top}
 use Rattle.bforest_core.proofs.path.Path.+needed_above.Goals as goal
 
 pub node-requires : goal.node-requires
@@ -27,7 +28,7 @@ returns-else-is_full-clause-value g t c = λ rows list place p.
     level_room c.args.pool.now c.args.self.now.node c.args.self.now.entry c.args.up c.args.self.now.size rows list place p c.if-up-self.false (omega (arith, c.requires.height)) c.index-self-up.result c.node.result.now c.node.ensures.value g.row.N c.is_full.result c.is_full.ensures.full c.if-is_full.false
 
 pub returns-then-up-self-clause-value : goal.returns-then-up-self-clause-value
-returns-then-up-self-clause-value g t c = λ rows list place p. top_need place c.args.up c.args.self.now.size rows p.height c.if-up-self.true
+returns-then-up-self-clause-value g t c = λ rows list place p. sym (need_top place rows (omega (arith, p.height, c.if-up-self.true)))
 
 pub returns-then-up-self-clause-few : goal.returns-then-up-self-clause-few
 returns-then-up-self-clause-few g t c = omega (arith, c.if-up-self.true)

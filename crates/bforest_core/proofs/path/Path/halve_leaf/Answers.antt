@@ -5,14 +5,12 @@ use Rattle.bforest_core.proofs.path.Path.halve_leaf.Goals as goal
 pub split_node-right-requires : goal.split_node-right-requires
 split_node-right-requires g c =
     let w = c.requires.placed in
-    let d = full_asks g.row.N c.args.pool.now c.args.self.now.node c.args.self.now.entry c.args.self.now.size w.0 w.1 w.2 c.index-self-0.result (omega arith) c.args.pool.now c.requires.full in
-    (search rules, (d.used, (d.full, c.requires.room)))
+    (search rules, full_asks g.row.N c.args.pool.now c.args.self.now.node c.args.self.now.entry c.args.self.now.size w.0 w.1 w.2 c.index-self-0.result (omega arith) c.args.pool.now c.requires.full c.requires.room)
 
 pub put_entry-room-requires : goal.put_entry-room-requires
 put_entry-room-requires g c =
     let w = c.requires.placed in
-    let d = early_asks g.row.N c.args.pool.now c.args.self.now.node c.args.self.now.entry c.args.self.now.size w.0 w.1 w.2 c.index-self-0.result (omega arith) c.split_node-right.new.self c.requires.full c.split_node-right.ensures.capacity c.split_node-right.result.0 c.split_node-right.result.1 c.split_node-right.ensures.node c.split_node-right.ensures.used c.split_node-right.ensures.split c.if-index.true in
-    (search rules, (d.used, (d.keys, d.items, d.slot, d.within)))
+    (search rules, early_asks g.row.N c.args.pool.now c.args.self.now.node c.args.self.now.entry c.args.self.now.size w.0 w.1 w.2 c.index-self-0.result (omega arith) c.split_node-right.new.self c.requires.full c.split_node-right.ensures.capacity c.split_node-right.result.0 c.split_node-right.result.1 c.split_node-right.ensures.node c.split_node-right.ensures.used c.split_node-right.ensures.split c.if-index.true)
 
 pub overflow_sub-behind : goal.overflow_sub-behind
 overflow_sub-behind g c =
@@ -22,8 +20,7 @@ overflow_sub-behind g c =
 pub put_entry-room-requires-else-index : goal.put_entry-room-requires-else-index
 put_entry-room-requires-else-index g c =
     let w = c.requires.placed in
-    let d = late_asks g.row.N c.args.pool.now c.args.self.now.node c.args.self.now.entry c.args.self.now.size w.0 w.1 w.2 c.index-self-0.result (omega arith) c.split_node-right.new.self c.requires.full c.split_node-right.ensures.capacity c.split_node-right.result.0 c.split_node-right.result.1 c.split_node-right.ensures.node c.split_node-right.ensures.used c.split_node-right.ensures.split c.if-index.false in
-    (search rules, (d.used, (d.keys, d.items, d.slot, d.within)))
+    (search rules, late_asks g.row.N c.args.pool.now c.args.self.now.node c.args.self.now.entry c.args.self.now.size w.0 w.1 w.2 c.index-self-0.result (omega arith) c.split_node-right.new.self c.requires.full c.split_node-right.ensures.capacity c.split_node-right.result.0 c.split_node-right.result.1 c.split_node-right.ensures.node c.split_node-right.ensures.used c.split_node-right.ensures.split c.if-index.false)
 
 pub returns-then-index-clause-halved : goal.returns-then-index-clause-halved
 returns-then-index-clause-halved g c = λ tree place p.

@@ -1,18 +1,12 @@
-use Rattle.std.proofs.Common.{rules, ◌≡◌, ℕ, ◌<◌, ◌≤◌, ◌++◌, length, get_or, refl, sym, ap, ◌∙◌, subst, arith}
-use Rattle.bforest_core.proofs.Words.{Table, NeedsGrowth, room, sizes_of, need, leaf_content, PlacedUnder, tree_of}
-use Rattle.bforest_core.proofs.table.Allocating.{err_is}
-use Rattle.bforest_core.proofs.insertion.LeafSpot.{leaf_spot, placed_from}
-use Rattle.bforest_core.proofs.insertion.Insertion.{placed-under, under-low, growth-low, mid-is, placed-mid, reserved-free, full-reserved, Put, put-here, put-split, put-from, err-same, err-back}
+use Rattle.std.proofs.Common.{rules, ◌≡◌, ℕ, ◌++◌, length, get_or, refl, ap, ◌∙◌, arith}
+use Rattle.bforest_core.proofs.Words.{Table, sizes_of, need, leaf_content, PlacedUnder, tree_of, reserved}
+use Rattle.bforest_core.proofs.table.Allocating.{err_iff, err_is, reserved-free}
+use Rattle.bforest_core.specs.Paths.{Placing}
+use Rattle.bforest_core.proofs.insertion.LeafSpot.{leaf_spot}
+use Rattle.bforest_core.proofs.insertion.Insertion.{placed-under, under-low, growth-low, placed-mid, full-reserved, Put, put-here, put-split}
 use Rattle.bforest_core.proofs.path.Path.insert.Goals.{then-not-put_here+in_ok-reserve, else-not-put_here}
 use Rattle.bforest_core.proofs.path.Path.insert.Given.{Over}
 use Rattle.bforest_core.proofs.path.Path.insert.Goals as goal
-
--- what is said of two numbers is said of two equal to them
-less_same : (a b m n : ℕ) → m ≡ n → a ≡ b → a < m → b < n
-less_same a b m n is same less = omega (arith, is, same, less)
-
-most_same : (a b m n : ℕ) → m ≡ n → a ≡ b → n ≤ b → m ≤ a
-most_same a b m n is same most = omega (arith, is, same, most)
 
 pub put_here-requires : goal.put_here-requires
 put_here-requires g c =
@@ -22,9 +16,8 @@ put_here-requires g c =
 pub needed_here-requires : goal.needed_here-requires
 needed_here-requires g c =
     let w = c.requires.placed in
-    let pool_is = c.put_here.ensures.pool c.if-not-put_here.true in
     let placed = placed-under _ _ w.root w.place _ _ _ c.requires.union w.placed in
-    (search rules, (search rules, ((under-low _ _ w.root w.place _ _ _ c.requires.union w.placed).1, (tree_of c.args.pool.now.nodes w.root, w.place, placed_from _ c.args.pool.now c.put_here.new.pool _ _ _ _ w.place pool_is placed))))
+    (search rules, (search rules, rw (c.put_here.ensures.pool c.if-not-put_here.true) ((under-low _ _ w.root w.place _ _ _ c.requires.union w.placed).1, (tree_of c.args.pool.now.nodes w.root, w.place, placed))))
 
 pub split_leaf-requires : goal.split_leaf-requires
 split_leaf-requires g c =
@@ -35,8 +28,11 @@ split_leaf-requires g c =
     let tree = tree_of t0.nodes w.root in
     let n = need g.row.N w.place (sizes_of tree) in
     let pool_is = c.put_here.ensures.pool c.if-not-put_here.true in
-    let mid_is = mid-is _ t0 c.put_here.new.pool c.reserve.new.self w.root w.place _ _ _ c.needed_here.result union w.placed pool_is c.needed_here.ensures.value c.in_ok-reserve.ensures.ok in
-    let d = leaf_spot _ _ _ _ _ tree w.place (placed-under _ t0 w.root w.place _ _ _ union w.placed) in
+    let here = placed-under _ t0 w.root w.place _ _ _ union w.placed in
+    let needs = rw pool_is at c.needed_here.ensures.value in
+    let mid = rw pool_is at c.in_ok-reserve.ensures.ok in
+    let mid_is : c.reserve.new.self ≡ reserved t0 n = mid ∙ ap (λ z. reserved t0 z) (needs tree w.place here) in
+    let d = leaf_spot _ _ _ _ _ tree w.place here in
     let full = full-reserved g.row.N t0 n (get_or ms 0 0) (leaf_content (d.l ++ d.r)) d.slot_is (c.put_here.ensures.full c.if-not-put_here.true) in
     let slots = ap (λ (z : Table g.row.K.Denot g.row.V.Denot). length z.nodes) pool_is in
     let levels = under-low _ _ w.root w.place _ _ _ union w.placed in
@@ -49,12 +45,8 @@ root-requires g c =
     let joined = c.if-not-put_here in
     let t0 = c.args.pool.now in
     let put : Put g.row.N t0 joined.pool w.root w.place (c.args.key, c.args.value) joined.self.node joined.self.entry joined.self.size = elim joined.branch [
-      | then-not-put_here+in_ok-reserve v ↦
-          put-from _ t0 v.split_leaf.new.pool joined.pool w.root w.place _ _ v.split_leaf.new.self joined.self v.pool-is v.self-is
-          (put-split _ t0 c.put_here.new.pool v.reserve.new.self v.split_leaf.new.pool w.root w.place _ _ _ v.needed_here.result _ _ _ _ c.requires.union w.placed (c.put_here.ensures.pool v.if-not-put_here.true) v.in_ok-reserve.ensures.numbers v.needed_here.ensures.value (λ short. (let e = v.in_ok-reserve.ensures.full.1 short in absurd cc)) v.in_ok-reserve.ensures.ok v.split_leaf.ensures.inserted)
-      | else-not-put_here v ↦
-          put-from _ t0 c.put_here.new.pool joined.pool w.root w.place _ _ c.args.self.now joined.self v.pool-is v.self-is
-          (put-here _ t0 c.put_here.new.pool w.root w.place _ _ _ _ c.requires.union w.placed (c.put_here.ensures.inserted v.if-not-put_here.false _ w.place (placed-under _ t0 w.root w.place _ _ _ c.requires.union w.placed)))
+      | then-not-put_here+in_ok-reserve v ↦ rw (v.pool-is, v.self-is) (put-split _ t0 v.reserve.new.self v.split_leaf.new.pool w.root w.place _ _ _ v.needed_here.result _ _ _ _ c.requires.union w.placed (rw (c.put_here.ensures.pool v.if-not-put_here.true) at v.in_ok-reserve.ensures.numbers) (rw (c.put_here.ensures.pool v.if-not-put_here.true) at v.needed_here.ensures.value) (rw (← c.put_here.ensures.pool v.if-not-put_here.true) (λ short. (let e = v.in_ok-reserve.ensures.full.1 short in absurd cc))) (rw (c.put_here.ensures.pool v.if-not-put_here.true) at v.in_ok-reserve.ensures.ok) v.split_leaf.ensures.inserted)
+      | else-not-put_here v ↦ rw (v.pool-is, v.self-is) (put-here _ t0 c.put_here.new.pool w.root w.place _ _ _ _ c.requires.union w.placed (c.put_here.ensures.inserted v.if-not-put_here.false _ w.place (placed-under _ t0 w.root w.place _ _ _ c.requires.union w.placed)))
     ] in
     (search rules, (put.some, put.low))
 
@@ -62,67 +54,43 @@ root-requires g c =
 put_at : (g : Over) (c : goal.After-root g) (root place : ℕ) → PlacedUnder c.args.pool.now.nodes root c.args.self.now.node c.args.self.now.entry c.args.self.now.size place →
     Put g.row.N c.args.pool.now c.if-not-put_here.pool root place (c.args.key, c.args.value) c.if-not-put_here.self.node c.if-not-put_here.self.entry c.if-not-put_here.self.size
 put_at g c root place p =
-    let joined = c.if-not-put_here in
     let t0 = c.args.pool.now in
-    elim joined.branch [
-      | then-not-put_here+in_ok-reserve v ↦
-          put-from _ t0 v.split_leaf.new.pool joined.pool root place _ _ v.split_leaf.new.self joined.self v.pool-is v.self-is
-          (put-split _ t0 c.put_here.new.pool v.reserve.new.self v.split_leaf.new.pool root place _ _ _ v.needed_here.result _ _ _ _ c.requires.union p (c.put_here.ensures.pool v.if-not-put_here.true) v.in_ok-reserve.ensures.numbers v.needed_here.ensures.value (λ short. (let e = v.in_ok-reserve.ensures.full.1 short in absurd cc)) v.in_ok-reserve.ensures.ok v.split_leaf.ensures.inserted)
-      | else-not-put_here v ↦
-          put-from _ t0 c.put_here.new.pool joined.pool root place _ _ c.args.self.now joined.self v.pool-is v.self-is
-          (put-here _ t0 c.put_here.new.pool root place _ _ _ _ c.requires.union p (c.put_here.ensures.inserted v.if-not-put_here.false _ place (placed-under _ t0 root place _ _ _ c.requires.union p)))
+    elim c.if-not-put_here.branch [
+      | then-not-put_here+in_ok-reserve v ↦ rw (v.pool-is, v.self-is) (put-split _ t0 v.reserve.new.self v.split_leaf.new.pool root place _ _ _ v.needed_here.result _ _ _ _ c.requires.union p (rw (c.put_here.ensures.pool v.if-not-put_here.true) at v.in_ok-reserve.ensures.numbers) (rw (c.put_here.ensures.pool v.if-not-put_here.true) at v.needed_here.ensures.value) (rw (← c.put_here.ensures.pool v.if-not-put_here.true) (λ short. (let e = v.in_ok-reserve.ensures.full.1 short in absurd cc))) (rw (c.put_here.ensures.pool v.if-not-put_here.true) at v.in_ok-reserve.ensures.ok) v.split_leaf.ensures.inserted)
+      | else-not-put_here v ↦ rw (v.pool-is, v.self-is) (put-here _ t0 c.put_here.new.pool root place _ _ _ _ c.requires.union p (c.put_here.ensures.inserted v.if-not-put_here.false _ place (placed-under _ t0 root place _ _ _ c.requires.union p)))
     ]
 
--- the need, as the path counts it
-need_at : (g : Over) (c : goal.After-from_residual g) (root place : ℕ) → PlacedUnder c.args.pool.now.nodes root c.args.self.now.node c.args.self.now.entry c.args.self.now.size place →
-    c.needed_here.result ≡ need g.row.N place (sizes_of (tree_of c.args.pool.now.nodes root))
-need_at g c root place p =
+pub returns-in_err-reserve : goal.returns-in_err-reserve
+returns-in_err-reserve g c =
     let t0 = c.args.pool.now in
-    let tree = tree_of t0.nodes root in
-    c.needed_here.ensures.value tree place (placed_from _ t0 c.put_here.new.pool _ _ _ tree place (c.put_here.ensures.pool c.if-not-put_here.true) (placed-under g.row.N t0 root place _ _ _ c.requires.union p))
-
-pub returns-in_err-reserve-clause-full : goal.returns-in_err-reserve-clause-full
-returns-in_err-reserve-clause-full g c = λ at.
-    let full = c.in_err-reserve.ensures.full in
-    let n_is = need_at g c at.root at.place at.placed in
-    let pool_is = c.put_here.ensures.pool c.if-not-put_here.true in
-    let room_is = ap (λ z. room z) pool_is in (
-      λ is. less_same _ _ _ _ n_is room_is (full.0 (err-same c.from_residual.result c.in_err-reserve.field-0.0 _ _ _ (err_is _ _ c.from_residual.ensures.1) is refl refl)),
-      λ short. err-back c.from_residual.result c.in_err-reserve.field-0.0 _ _ _ (err_is _ _ c.from_residual.ensures.1) refl refl (full.1 (less_same _ _ _ _ (sym n_is) (sym room_is) short)),
-    )
-
-pub returns-in_err-reserve-clause-memory : goal.returns-in_err-reserve-clause-memory
-returns-in_err-reserve-clause-memory g c = λ at is.
-    let n_is = need_at g c at.root at.place at.placed in
-    let pool_is = c.put_here.ensures.pool c.if-not-put_here.true in
-    let grows = c.in_err-reserve.ensures.memory (err-same c.from_residual.result c.in_err-reserve.field-0.0 _ _ _ (err_is _ _ c.from_residual.ensures.1) is refl refl) in
-    subst (λ (z : ℕ). NeedsGrowth z c.args.pool.now) n_is (subst (λ (z : Table g.row.K.Denot g.row.V.Denot). NeedsGrowth c.needed_here.result z) pool_is grows)
-
-pub returns-in_err-reserve-clause-enough : goal.returns-in_err-reserve-clause-enough
-returns-in_err-reserve-clause-enough g c = λ at enough.
-    let n_is = need_at g c at.root at.place at.placed in
-    let pool_is = c.put_here.ensures.pool c.if-not-put_here.true in
-    let ok = c.in_err-reserve.ensures.enough (most_same _ _ _ _ n_is (ap (λ z. length z.chain) pool_is) enough) in
-    absurd cc
-
-pub returns-in_err-reserve-clause-refused_pool : goal.returns-in_err-reserve-clause-refused_pool
-returns-in_err-reserve-clause-refused_pool g c =
     let e = err_is _ _ c.from_residual.ensures.1 in
-    rw e (c.in_err-reserve.ensures.err ∙ c.put_here.ensures.pool c.if-not-put_here.true)
+    let said = c.in_err-reserve.ensures in
+    let pool_is = c.put_here.ensures.pool c.if-not-put_here.true in
+    let need_is = λ (at : Placing t0 c.args.self.now). c.needed_here.ensures.value (tree_of t0.nodes at.root) at.place (rw pool_is (placed-under g.row.N t0 at.root at.place _ _ _ c.requires.union at.placed)) in
+    record {
+      inserted = λ at. rw e tt;
+      account = λ at. rw e tt;
+      stands = λ at. rw e tt;
+      same_root = λ at. rw e tt;
+      full = λ at. (
+        λ is. (rw (need_is at, pool_is) at (said.full.0 ((err_iff c.from_residual.result c.in_err-reserve.field-0.0 _ e).0 is))),
+        λ short. (err_iff c.from_residual.result c.in_err-reserve.field-0.0 _ e).1 (said.full.1 (rw (need_is at, pool_is) short)),
+      );
+      memory = λ at is. rw (need_is at, pool_is) at (said.memory ((err_iff c.from_residual.result c.in_err-reserve.field-0.0 _ e).0 is));
+      enough = λ at enough. (let ok = said.enough (rw (need_is at, pool_is) enough) in absurd cc);
+      refused_pool = rw e (said.err ∙ pool_is);
+      refused_path = rw e refl;
+    }
 
-pub returns-clause-inserted : goal.returns-clause-inserted
-returns-clause-inserted g c = λ at. rw c.root.ensures (put_at g c at.root at.place at.placed).is.changes
-
-pub returns-clause-account : goal.returns-clause-account
-returns-clause-account g c = λ at. (put_at g c at.root at.place at.placed).is.takes
-
-pub returns-clause-stands : goal.returns-clause-stands
-returns-clause-stands g c = λ at. rw c.root.ensures (put_at g c at.root at.place at.placed).is.stands
-
-pub returns-clause-same_root : goal.returns-clause-same_root
-returns-clause-same_root g c = λ at. rw c.root.ensures (put_at g c at.root at.place at.placed).is.same_root
-
-pub returns-clause-full : goal.returns-clause-full
-returns-clause-full g c = λ at.
-    let enough = (put_at g c at.root at.place at.placed).enough in
-    (λ is. absurd cc, λ short. absurd (omega (arith, short, enough)))
+pub returns : goal.returns
+returns g c = record {
+  inserted = λ at. rw c.root.ensures (put_at g c at.root at.place at.placed).is.changes;
+  account = λ at. (put_at g c at.root at.place at.placed).is.takes;
+  stands = λ at. rw c.root.ensures (put_at g c at.root at.place at.placed).is.stands;
+  same_root = λ at. rw c.root.ensures (put_at g c at.root at.place at.placed).is.same_root;
+  full = λ at. (λ is. absurd cc, λ short. absurd (omega (arith, short, (put_at g c at.root at.place at.placed).enough)));
+  memory = λ at is. absurd cc;
+  enough = λ at enough. refl;
+  refused_pool = tt;
+  refused_path = tt;
+}

@@ -1,12 +1,11 @@
 use Rattle.std.proofs.Common.{rules, arith}
-use Rattle.bforest_core.proofs.insertion.HalvingNode.{index_small, put_asks, put_grows, put_full, put_none}
+use Rattle.bforest_core.proofs.insertion.HalvingNode.{index_small, put_asks, put_grows, put_full}
 use Rattle.bforest_core.proofs.path.Path.insert_here.Goals as goal
 
 pub put_child-requires : goal.put_child-requires
 put_child-requires g c =
     let w = c.requires.pending in
-    let d = put_asks c.args.pool.now c.args.self.now.node c.args.self.now.entry c.args.up c.args.self.now.size w.0 w.1 w.2 w.3 w.4 c.index-self-up.result c.requires.within (omega arith) in
-    (search rules, (d.used, (d.keys, d.items, d.slot, d.within)))
+    (search rules, put_asks c.args.pool.now c.args.self.now.node c.args.self.now.entry c.args.up c.args.self.now.size w.0 w.1 w.2 w.3 w.4 c.index-self-up.result c.requires.within (omega arith))
 
 pub index_behind-requires : goal.index_behind-requires
 index_behind-requires g c =
@@ -20,9 +19,9 @@ returns-then-put_child-clause-grown g c = λ done rows a x b p.
 pub returns-else-put_child-clause-full : goal.returns-else-put_child-clause-full
 returns-else-put_child-clause-full g c = λ full.
     let w = c.requires.pending in
-    put_full c.args.pool.now c.args.self.now.node c.args.self.now.entry c.args.up c.args.self.now.size w.0 w.1 w.2 w.3 w.4 c.index-self-up.result c.requires.within (omega arith) c.put_child.new.pool c.args.half.key c.args.half.node c.put_child.result c.put_child.ensures.room c.put_child.ensures.node g.row.N c.if-put_child.false
+    (put_full c.args.pool.now c.args.self.now.node c.args.self.now.entry c.args.up c.args.self.now.size w.0 w.1 w.2 w.3 w.4 c.index-self-up.result c.requires.within (omega arith) c.put_child.new.pool c.args.half.key c.args.half.node c.put_child.result c.put_child.ensures.room c.put_child.ensures.node g.row.N c.if-put_child.false).0
 
 pub returns-else-put_child-clause-pool : goal.returns-else-put_child-clause-pool
 returns-else-put_child-clause-pool g c = λ full.
     let w = c.requires.pending in
-    put_none c.args.pool.now c.args.self.now.node c.args.self.now.entry c.args.up c.args.self.now.size w.0 w.1 w.2 w.3 w.4 c.index-self-up.result c.requires.within (omega arith) c.put_child.new.pool c.args.half.key c.args.half.node c.put_child.result c.put_child.ensures.room c.put_child.ensures.node c.if-put_child.false
+    (put_full c.args.pool.now c.args.self.now.node c.args.self.now.entry c.args.up c.args.self.now.size w.0 w.1 w.2 w.3 w.4 c.index-self-up.result c.requires.within (omega arith) c.put_child.new.pool c.args.half.key c.args.half.node c.put_child.result c.put_child.ensures.room c.put_child.ensures.node g.row.N c.if-put_child.false).1

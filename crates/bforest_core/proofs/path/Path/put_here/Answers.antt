@@ -1,23 +1,17 @@
 use Rattle.std.proofs.Common.{rules, arith}
-use Rattle.bforest_core.proofs.insertion.HalvingLeaf.{put_asks, put_inserts, put_full, put_none}
+use Rattle.bforest_core.proofs.insertion.HalvingLeaf.{put_asks, put_inserts, put_full}
 use Rattle.bforest_core.proofs.path.Path.put_here.Goals as goal
 
 pub put_entry-requires : goal.put_entry-requires
 put_entry-requires g c =
     let w = c.requires.placed in
-    let d = put_asks g.row.N c.args.pool.now c.args.self.now.node c.args.self.now.entry c.args.self.now.size w.0 w.1 w.2 c.index-self-0.result (omega arith) in
-    (search rules, (d.used, (d.keys, d.items, d.slot, d.within)))
+    (search rules, put_asks g.row.N c.args.pool.now c.args.self.now.node c.args.self.now.entry c.args.self.now.size w.0 w.1 w.2 c.index-self-0.result (omega arith))
 
-pub returns-clause-inserted : goal.returns-clause-inserted
-returns-clause-inserted g c = λ done tree place p.
-    put_inserts g.row.N c.args.pool.now c.args.self.now.node c.args.self.now.entry c.args.self.now.size tree place p c.index-self-0.result (omega arith) c.put_entry.new.pool c.args.key c.args.value c.put_entry.result c.put_entry.ensures.room c.put_entry.ensures.node done
-
-pub returns-clause-full : goal.returns-clause-full
-returns-clause-full g c = λ full.
+pub returns : goal.returns
+returns g c =
     let w = c.requires.placed in
-    put_full g.row.N c.args.pool.now c.args.self.now.node c.args.self.now.entry c.args.self.now.size w.0 w.1 w.2 c.index-self-0.result (omega arith) c.put_entry.new.pool c.args.key c.args.value c.put_entry.result c.put_entry.ensures.room c.put_entry.ensures.node full
-
-pub returns-clause-pool : goal.returns-clause-pool
-returns-clause-pool g c = λ full.
-    let w = c.requires.placed in
-    put_none g.row.N c.args.pool.now c.args.self.now.node c.args.self.now.entry c.args.self.now.size w.0 w.1 w.2 c.index-self-0.result (omega arith) c.put_entry.new.pool c.args.key c.args.value c.put_entry.result c.put_entry.ensures.room c.put_entry.ensures.node full
+    record {
+      inserted = λ done tree place p. put_inserts g.row.N c.args.pool.now c.args.self.now.node c.args.self.now.entry c.args.self.now.size tree place p c.index-self-0.result (omega arith) c.put_entry.new.pool c.args.key c.args.value c.put_entry.result c.put_entry.ensures.room c.put_entry.ensures.node done;
+      full = λ full. (put_full g.row.N c.args.pool.now c.args.self.now.node c.args.self.now.entry c.args.self.now.size w.0 w.1 w.2 c.index-self-0.result (omega arith) c.put_entry.new.pool c.args.key c.args.value c.put_entry.result c.put_entry.ensures.room c.put_entry.ensures.node full).0;
+      pool = λ full. (put_full g.row.N c.args.pool.now c.args.self.now.node c.args.self.now.entry c.args.self.now.size w.0 w.1 w.2 c.index-self-0.result (omega arith) c.put_entry.new.pool c.args.key c.args.value c.put_entry.result c.put_entry.ensures.room c.put_entry.ensures.node full).1;
+    }

@@ -5,20 +5,17 @@ use Rattle.bforest_core.proofs.path.Path.split_here.Goals as goal
 pub split_node-right-requires : goal.split_node-right-requires
 split_node-right-requires g c =
     let w = c.requires.pending in
-    let d = full_asks c.args.pool.now c.args.self.now.node c.args.self.now.entry c.args.up c.args.self.now.size w.0 w.1 w.2 w.3 w.4 c.index-self-up.result c.requires.within (omega arith) g.row.N c.args.pool.now c.requires.full in
-    (search rules, (d.used, (d.full, c.requires.room)))
+    (search rules, full_asks c.args.pool.now c.args.self.now.node c.args.self.now.entry c.args.up c.args.self.now.size w.0 w.1 w.2 w.3 w.4 c.index-self-up.result c.requires.within (omega arith) g.row.N c.args.pool.now c.requires.full c.requires.room)
 
 pub put_child-room-requires : goal.put_child-room-requires
 put_child-room-requires g c =
     let w = c.requires.pending in
-    let d = early_asks c.args.pool.now c.args.self.now.node c.args.self.now.entry c.args.up c.args.self.now.size w.0 w.1 w.2 w.3 w.4 c.index-self-up.result c.requires.within (omega arith) g.row.N c.split_node-right.new.self c.requires.full c.split_node-right.result.0 c.split_node-right.result.1 c.split_node-right.ensures.node c.split_node-right.ensures.used c.split_node-right.ensures.split c.if-entry-lt-MIN_CHILDREN.true in
-    (search rules, (d.used, (d.keys, d.items, d.slot, d.within)))
+    (search rules, early_asks c.args.pool.now c.args.self.now.node c.args.self.now.entry c.args.up c.args.self.now.size w.0 w.1 w.2 w.3 w.4 c.index-self-up.result c.requires.within (omega arith) g.row.N c.split_node-right.new.self c.requires.full c.split_node-right.result.0 c.split_node-right.result.1 c.split_node-right.ensures.node c.split_node-right.ensures.used c.split_node-right.ensures.split c.if-entry-lt-MIN_CHILDREN.true)
 
 pub put_child-room-requires-else-entry-lt-MIN_CHILDREN : goal.put_child-room-requires-else-entry-lt-MIN_CHILDREN
 put_child-room-requires-else-entry-lt-MIN_CHILDREN g c =
     let w = c.requires.pending in
-    let d = late_asks c.args.pool.now c.args.self.now.node c.args.self.now.entry c.args.up c.args.self.now.size w.0 w.1 w.2 w.3 w.4 c.index-self-up.result c.requires.within (omega arith) g.row.N c.split_node-right.new.self c.requires.full c.split_node-right.result.0 c.split_node-right.result.1 c.split_node-right.ensures.node c.split_node-right.ensures.used c.split_node-right.ensures.split in
-    (search rules, (d.used, (d.keys, d.items, d.slot, d.within)))
+    (search rules, late_asks c.args.pool.now c.args.self.now.node c.args.self.now.entry c.args.up c.args.self.now.size w.0 w.1 w.2 w.3 w.4 c.index-self-up.result c.requires.within (omega arith) g.row.N c.split_node-right.new.self c.requires.full c.split_node-right.result.0 c.split_node-right.result.1 c.split_node-right.ensures.node c.split_node-right.ensures.used c.split_node-right.ensures.split)
 
 pub index_behind-requires-else-entry-lt-MIN_CHILDREN : goal.index_behind-requires-else-entry-lt-MIN_CHILDREN
 index_behind-requires-else-entry-lt-MIN_CHILDREN g c =

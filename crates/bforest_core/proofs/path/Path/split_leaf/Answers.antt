@@ -1,6 +1,6 @@
-use Rattle.std.proofs.Common.{rules, ◌≡◌, ◌∷◌, ◌++◌, map, length, get_or, refl, sym, ap, arith}
+use Rattle.std.proofs.Common.{rules, ◌++◌, map, length, get_or, ap, arith}
 use Rattle.bforest_core.proofs.Words.{get_or_default, heads, sizes, need_above, gain_above}
-use Rattle.bforest_core.proofs.insertion.Rise.{need_some, above_from, grown_from}
+use Rattle.bforest_core.proofs.insertion.Rise.{need_some}
 use Rattle.bforest_core.proofs.insertion.LeafSpot.{leaf_spot}
 use Rattle.bforest_core.proofs.insertion.Halving.{leaf_full_is}
 use Rattle.bforest_core.proofs.insertion.LeafParted.{above_leaf, inserted}
@@ -18,13 +18,9 @@ halve_leaf-half-requires g c =
 pub insert_above-requires : goal.insert_above-requires
 insert_above-requires g c =
     let w = c.requires.placed in
-    let s0 = c.args.self.now in
-    let s1 = c.halve_leaf-half.new.self in
-    let t1 = c.halve_leaf-half.new.pool in
     let h = c.halve_leaf-half.ensures.halved w.0 w.1 w.2 in
-    let here : get_or s0.node 0 c.index-self-0.result ≡ get_or s0.node 0 0 = get_or_default s0.node 0 c.index-self-0.result 0 (omega (arith)) in
-    let above = above_from t1 t1 s1.node s1.node s1.entry s1.entry 1 1 s0.size s1.size h.rows _ _ (length (heads h.before)) refl refl refl refl c.halve_leaf-half.ensures.size (ap (λ z. heads h.before ++ (h.first.0, z) ∷ heads h.after) here) h.above in
-    (search rules, (search rules, (omega (arith, c.requires.height, c.halve_leaf-half.ensures.size), (h.rows, heads h.before, h.first.0, heads h.after, above, omega (arith, above_leaf need_above _ _ _ _ _ _ _ _ _ _ _ _ _ h, w.3, ap length h.chain_is), omega (arith, ap length (above_leaf gain_above _ _ _ _ _ _ _ _ _ _ _ _ _ h), w.4)))))
+    let here = get_or_default c.args.self.now.node 0 c.index-self-0.result 0 (omega arith) in
+    (search rules, (search rules, (omega (arith, c.requires.height, c.halve_leaf-half.ensures.size), (h.rows, heads h.before, h.first.0, heads h.after, rw (c.halve_leaf-half.ensures.size, here) h.above, omega (arith, above_leaf need_above _ _ _ _ _ _ _ _ _ _ _ _ _ h, w.3, ap length h.chain_is), omega (arith, ap length (above_leaf gain_above _ _ _ _ _ _ _ _ _ _ _ _ _ h), w.4)))))
 
 pub returns : goal.returns
 returns g c = record {
@@ -32,15 +28,8 @@ returns g c = record {
       let s0 = c.args.self.now in
       let s1 = c.halve_leaf-half.new.self in
       let s2 = c.insert_above.new.self in
-      let t0 = c.args.pool.now in
-      let t1 = c.halve_leaf-half.new.pool in
-      let t2 = c.insert_above.new.pool in
-      let half = c.halve_leaf-half.result in
       let h = c.halve_leaf-half.ensures.halved tree place p in
-      let here : get_or s0.node 0 c.index-self-0.result ≡ get_or s0.node 0 0 = get_or_default s0.node 0 c.index-self-0.result 0 (omega arith) in
-      let above = above_from t1 t1 s1.node s1.node s1.entry s1.entry 1 1 s0.size s1.size h.rows _ _ (length (heads h.before)) refl refl refl refl c.halve_leaf-half.ensures.size (ap (λ z. heads h.before ++ (h.first.0, z) ∷ heads h.after) here) h.above in
-      let r = c.insert_above.ensures h.rows (heads h.before) h.first.0 (heads h.after) above in
-      let g2 = grown_from t1 t1 t2 s1.node s1.node s1.entry s1.entry s2.node s2.entry 1 1 s1.size s0.size s2.size h.rows _ _ _ _ r.0 refl refl refl refl (sym c.halve_leaf-half.ensures.size)
-      (ap (λ z. heads h.before ++ (h.first.0, z) ∷ (half.key, half.node) ∷ heads h.after) (sym here)) r.2 in
-      inserted _ t0 t1 t2 s0.node s0.entry s1.node s1.entry s2.node s2.entry s0.size s2.size tree place _ _ _ _ r.0 p h r.1 g2;
+      let here = get_or_default s0.node 0 c.index-self-0.result 0 (omega arith) in
+      let r = c.insert_above.ensures h.rows (heads h.before) h.first.0 (heads h.after) (rw (c.halve_leaf-half.ensures.size, here) h.above) in
+      inserted _ c.args.pool.now c.halve_leaf-half.new.pool c.insert_above.new.pool s0.node s0.entry s1.node s1.entry s2.node s2.entry s0.size s2.size tree place _ _ _ _ r.0 _ _ c.halve_leaf-half.ensures.size here p h r.1 r.2;
 }

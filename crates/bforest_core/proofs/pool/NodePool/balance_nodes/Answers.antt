@@ -7,13 +7,11 @@ use Rattle.bforest_core.proofs.pool.NodePool.balance_nodes.Goals as goal
 
 pub two_nodes-lhs-requires-clause-left_within : goal.two_nodes-lhs-requires-clause-left_within
 two_nodes-lhs-requires-clause-left_within g c =
-    let within = rw (← c.self.view_is) at c.requires.left.within in
-    rw (c.as_mut_slice.ensures.value, c.number.ensures.value) within
+    rw (c.as_mut_slice.ensures.value, c.number.ensures.value) (rw (← c.self.view_is) at c.requires.left.within)
 
 pub two_nodes-lhs-requires-clause-right_within : goal.two_nodes-lhs-requires-clause-right_within
 two_nodes-lhs-requires-clause-right_within g c =
-    let within = rw (← c.self.view_is) at c.requires.right.within in
-    rw (c.as_mut_slice.ensures.value, c.number-2.ensures.value) within
+    rw (c.as_mut_slice.ensures.value, c.number-2.ensures.value) (rw (← c.self.view_is) at c.requires.right.within)
 
 pub two_nodes-lhs-requires-clause-apart : goal.two_nodes-lhs-requires-clause-apart
 two_nodes-lhs-requires-clause-apart g c = λ same. c.requires.apart (sym c.number.ensures.value ∙ same ∙ c.number-2.ensures.value)

@@ -1,17 +1,14 @@
 use Rattle.std.proofs.Common.{rules, length, sym, ap, ◌∙◌}
 use Rattle.bforest_core.proofs.Words.{false≢true, children_of}
-use Rattle.bforest_core.proofs.table.Stored.{read_same, inner_used, inner_entries, childless}
+use Rattle.bforest_core.proofs.table.Stored.{read_same, inner_used, childless}
 use Rattle.bforest_core.proofs.pool.NodePool.child_count.Goals as goal
 
-pub node-node-requires : goal.node-node-requires
-node-node-requires g c = (search rules, (search rules, c.requires))
-
 pub entries-requires : goal.entries-requires
-entries-requires g c = (search rules, inner_used c.node-node.result.now (c.is_inner.ensures.inner.0 c.if-is_inner.true))
+entries-requires g c = (search rules, (inner_used c.node-node.result.now (c.is_inner.ensures.inner.0 c.if-is_inner.true)).0)
 
 pub returns-then-is_inner : goal.returns-then-is_inner
 returns-then-is_inner g c = λ content slot.
-    c.entries.ensures.value ∙ inner_entries c.node-node.result.now (c.is_inner.ensures.inner.0 c.if-is_inner.true)
+    c.entries.ensures.value ∙ (inner_used c.node-node.result.now (c.is_inner.ensures.inner.0 c.if-is_inner.true)).1
     ∙ ap (λ z. length (children_of z)) (read_same c.args.self.now.nodes c.args.node content c.node-node.result.now slot c.node-node.ensures.value)
 
 pub returns-else-is_inner : goal.returns-else-is_inner

@@ -13,22 +13,15 @@ free_below-requires g c =
     let r = rooted g.row.N c.args.self.now c.args.root c.requires.union c.requires.root in
     (search rules, (c.requires.union.1.capacity, (tree.leaves, tree.above, u.first, u.under, r.apart, omega (arith, u.low))))
 
-pub returns-clause-ended : goal.returns-clause-ended
-returns-clause-ended g c =
+pub returns : goal.returns
+returns g c =
+    let tree = tree_of c.args.self.now.nodes c.args.root in
     let u = under-root g.row.N c.args.self.now c.args.root c.requires.union c.requires.root in
     let all = c.free_below.ensures _ _ u.first u.under (rooted g.row.N c.args.self.now c.args.root c.requires.union c.requires.root).apart in
     let gone = uprooted-union g.row.N c.args.self.now c.free_below.new.self c.args.root _ c.requires.union c.requires.root all.frees all.counted in
-    record { union = gone.0; root_gone = gone.1; others = gone.2; limit_is = all.frees.limit_is }
-
-pub returns-clause-account : goal.returns-clause-account
-returns-clause-account g c =
-    let tree = tree_of c.args.self.now.nodes c.args.root in
     let given = numbers_down c.args.self.now.nodes (length tree.above) c.args.root in
-    let u = under-root g.row.N c.args.self.now c.args.root c.requires.union c.requires.root in
-    let all = c.free_below.ensures _ _ u.first u.under (rooted g.row.N c.args.self.now c.args.root c.requires.union c.requires.root).apart in
-    record { given = given; chain_is = all.frees.chain_is; slots = all.frees.slots_are; count_is = omega (arith, length-same given (numbers_of tree) all.counted, nodes-count tree) }
-
-pub returns-clause-order : goal.returns-clause-order
-returns-clause-order g c =
-    let u = under-root g.row.N c.args.self.now c.args.root c.requires.union c.requires.root in
-    (c.free_below.ensures _ _ u.first u.under (rooted g.row.N c.args.self.now c.args.root c.requires.union c.requires.root).apart).frees.chain_is
+    record {
+      ended = record { union = gone.0; root_gone = gone.1; others = gone.2; limit_is = all.frees.limit_is };
+      account = record { given = given; chain_is = all.frees.chain_is; slots = all.frees.slots_are; count_is = omega (arith, length-same given (numbers_of tree) all.counted, nodes-count tree) };
+      order = all.frees.chain_is;
+    }

@@ -2,14 +2,8 @@ use Rattle.std.proofs.Common.{rules}
 use Rattle.bforest_core.proofs.table.Allocating.{taken_is, used_written}
 use Rattle.bforest_core.proofs.pool.NodePool.inner_node.Goals as goal
 
-pub take_slot-node-requires : goal.take_slot-node-requires
-take_slot-node-requires g c = (search rules, c.requires.room)
-
 pub node_mut-requires : goal.node_mut-requires
 node_mut-requires g c = (search rules, (search rules, c.take_slot-node.ensures.used))
-
-pub returns-clause-node : goal.returns-clause-node
-returns-clause-node g c = c.take_slot-node.ensures.node
 
 pub returns-clause-table : goal.returns-clause-table
 returns-clause-table g c = taken_is _ _ _ _ _ c.take_slot-node.ensures.node c.take_slot-node.ensures.table c.inner.ensures.node

@@ -1,7 +1,6 @@
 use Rattle.std.proofs.Common.{rules, slice_get, Some, arith, refl, ◌∙◌, ◌≡◌, ℕ, ◌<◌, List, length, length-set, vec_len, slice_set, sym}
 use Rattle.bforest_core.proofs.table.Lists.{refilled_two}
-use Rattle.bforest_core.proofs.table.Fronts.{nodes-without_front, off-without_front, with_front-is, apart_front}
-use Rattle.bforest_core.proofs.table.Pools.{IsPool-set_two}
+use Rattle.bforest_core.proofs.table.Pools.{IsPool-set_two, nodes-without_front, off-without_front, with_front-is, apart_front}
 use Rattle.bforest_core.proofs.pool.NodePool.split_node.Goals as goal
 
 -- a number within a list is within it after two writes
@@ -20,45 +19,37 @@ invariant_of-self g c =
     let pair = IsPool-set_two _ _ _ _ _ c.number.result c.number-2.result c.split.new.rhs c.split.new.self _ _ _ c.self.view_is c.number.ensures.value c.number-2.ensures.value c.take_slot-right.ensures.used.off_chain off_left c.self.invariant in
     rw (c.as_mut_slice.ensures.value, refilled_two c.self.inside.nodes.items c.number.result c.number-2.result c.split.new.rhs c.split.new.self (vec_len c.self.inside.nodes) (omega arith)) pair.0
 
-pub returns-clause-split : goal.returns-clause-split
-returns-clause-split g c =
-    let off_left = rw (← c.take_slot-right.ensures.table) at (off-without_front c.args.self.now c.args.self.now.chain c.args.left refl c.requires.used.off_chain) in
-    let pair = IsPool-set_two _ _ _ _ _ c.number.result c.number-2.result c.split.new.rhs c.split.new.self _ _ _ c.self.view_is c.number.ensures.value c.number-2.ensures.value c.take_slot-right.ensures.used.off_chain off_left c.self.invariant in
-    record {
-      whole = c.two_nodes-rhs.result.1.now;
-      was = rw (← nodes-without_front c.args.self.now c.args.self.now.chain, ← c.take_slot-right.ensures.table, ← c.self.view_is, ← c.number-2.ensures.value, ← c.as_mut_slice.ensures.value) c.two_nodes-rhs.ensures.right;
-      left_half_is = c.split.new.self;
-      right_half_is = c.split.new.rhs;
-      counted = c.split.ensures.left_entries;
-      all = c.split.ensures.all_entries;
-      cut = c.split.ensures.cut;
-      after = rw (with_front-is c.args.self.now c.args.self.now.chain c.take_slot-right.result c.split.new.rhs c.take_slot-right.ensures.node, ← c.take_slot-right.ensures.table, c.as_mut_slice.ensures.value, refilled_two c.self.inside.nodes.items c.number.result c.number-2.result c.split.new.rhs c.split.new.self (vec_len c.self.inside.nodes) (omega arith), pair.1, ← c.self.view_is, c.number.ensures.value, c.number-2.ensures.value);
-    }
-
-pub returns-clause-used : goal.returns-clause-used
-returns-clause-used g c =
+pub returns : goal.returns
+returns g c =
     let off_left = rw (← c.take_slot-right.ensures.table) at (off-without_front c.args.self.now c.args.self.now.chain c.args.left refl c.requires.used.off_chain) in
     let pair = IsPool-set_two _ _ _ _ _ c.number.result c.number-2.result c.split.new.rhs c.split.new.self _ _ _ c.self.view_is c.number.ensures.value c.number-2.ensures.value c.take_slot-right.ensures.used.off_chain off_left c.self.invariant in
     let within = rw (← c.self.view_is) at c.take_slot-right.ensures.used.within in
     let off = rw (← c.self.view_is) at c.take_slot-right.ensures.used.off_chain in
-    rw (c.as_mut_slice.ensures.value, refilled_two c.self.inside.nodes.items c.number.result c.number-2.result c.split.new.rhs c.split.new.self (vec_len c.self.inside.nodes) (omega arith))
-    (record { within = still_within c.self.inside.nodes.items c.number.result c.number-2.result c.split.new.rhs c.split.new.self _ within; off_chain = rw pair.1 off })
+    record {
+      node = c.take_slot-right.ensures.node;
+      split = record {
+        whole = c.two_nodes-rhs.result.1.now;
+        was = rw (← nodes-without_front c.args.self.now c.args.self.now.chain, ← c.take_slot-right.ensures.table, ← c.self.view_is, ← c.number-2.ensures.value, ← c.as_mut_slice.ensures.value) c.two_nodes-rhs.ensures.right;
+        left_half_is = c.split.new.self;
+        right_half_is = c.split.new.rhs;
+        counted = c.split.ensures.left_entries;
+        all = c.split.ensures.all_entries;
+        cut = c.split.ensures.cut;
+        after = rw (with_front-is c.args.self.now c.args.self.now.chain c.take_slot-right.result c.split.new.rhs c.take_slot-right.ensures.node, ← c.take_slot-right.ensures.table, c.as_mut_slice.ensures.value, refilled_two c.self.inside.nodes.items c.number.result c.number-2.result c.split.new.rhs c.split.new.self (vec_len c.self.inside.nodes) (omega arith), pair.1, ← c.self.view_is, c.number.ensures.value, c.number-2.ensures.value);
+      };
+      used = rw (c.as_mut_slice.ensures.value, refilled_two c.self.inside.nodes.items c.number.result c.number-2.result c.split.new.rhs c.split.new.self (vec_len c.self.inside.nodes) (omega arith))
+          (record { within = still_within c.self.inside.nodes.items c.number.result c.number-2.result c.split.new.rhs c.split.new.self _ within; off_chain = rw pair.1 off });
+      capacity = c.self.invariant.capacity;
+    }
 
 pub two_nodes-rhs-requires-clause-apart : goal.two_nodes-rhs-requires-clause-apart
 two_nodes-rhs-requires-clause-apart g c = λ same. apart_front c.args.self.now.chain c.args.left c.take_slot-right.result c.take_slot-right.ensures.node c.requires.used.off_chain (sym c.number.ensures.value ∙ same ∙ c.number-2.ensures.value)
 
 pub two_nodes-rhs-requires-clause-left_within : goal.two_nodes-rhs-requires-clause-left_within
 two_nodes-rhs-requires-clause-left_within g c =
-    let within = rw (← c.self.view_is) at c.take_slot-right.ensures.used.within in
-    rw (c.as_mut_slice.ensures.value, c.number.ensures.value) within
+    rw (c.as_mut_slice.ensures.value, c.number.ensures.value) (rw (← c.self.view_is) at c.take_slot-right.ensures.used.within)
 
 pub two_nodes-rhs-requires-clause-right_within : goal.two_nodes-rhs-requires-clause-right_within
 two_nodes-rhs-requires-clause-right_within g c =
     let within = rw (← nodes-without_front c.args.self.now c.args.self.now.chain, ← c.take_slot-right.ensures.table, ← c.self.view_is) at c.requires.used.within in
     rw (c.as_mut_slice.ensures.value, c.number-2.ensures.value) within
-
-pub returns-clause-capacity : goal.returns-clause-capacity
-returns-clause-capacity g c = c.self.invariant.capacity
-
-pub returns-clause-node : goal.returns-clause-node
-returns-clause-node g c = c.take_slot-right.ensures.node

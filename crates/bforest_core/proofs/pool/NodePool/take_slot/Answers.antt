@@ -1,9 +1,39 @@
-use Rattle.std.proofs.Common.{rules, refl, arith, length, sym, ◌∙◌}
+use Rattle.std.proofs.Common.{rules, ◌≡◌, ℕ, ◌-◌, ◌<◌, false, List, ◌∷◌, length, slice_get, nat_eq, Option, Some, refl, sym, ap, ◌∙◌, subst, arith}
+use Rattle.bforest_core.proofs.Words.{list_any, slice_get_within, Content, Free, IsFree, Table, chain_from, IsPool}
 use Rattle.std.proofs.lemmas.Option.{slice_get_read}
 use Rattle.bforest_core.proofs.table.Chains.{front_of-is}
-use Rattle.bforest_core.proofs.table.Pools.{first_some}
-use Rattle.bforest_core.proofs.table.Taking.{some, within, is_free, pool_after, chain_after, off_after}
+use Rattle.bforest_core.proofs.table.Pools.{IsPool-taken, first_some, front_is_free}
+use Rattle.bforest_core.proofs.table.Stored.{read_same}
 use Rattle.bforest_core.proofs.pool.NodePool.take_slot.Goals as goal
+
+-- the fields of a pool, and the front of its chain as it is read
+module _ {K V : Type 0} (n : ℕ) (nodes : List (Content K V)) (first : Option ℕ) (free limit : ℕ) (pool : IsPool n nodes first free limit)
+    (t : Table K V) (view : record { nodes = nodes; chain = chain_from nodes free first; limit = limit } ≡ t) (room : 0 < length t.chain) where
+  some : 0 < free
+  some = omega (arith, pool.counted, room, ap (λ z. length z.chain) view)
+
+  module _ (number node : ℕ) (front_is : Option ℕ) (reads_first : front_is ≡ first) (unwraps : front_is ≡ Some node) (number_is : number ≡ node) where
+    first_is : first ≡ Some number
+    first_is = sym reads_first ∙ unwraps ∙ ap Some (sym number_is)
+
+    here : IsPool n nodes (Some number) free limit
+    here = subst (λ (z : Option ℕ). IsPool n nodes z free limit) first_is pool
+
+    front : (next : Option ℕ) × (slice_get nodes number ≡ Some (Free next))
+    front = front_is_free n nodes number free limit some here
+
+    within : number < length nodes
+    within = slice_get_within nodes number (Free front.0) front.1
+
+    module _ (content : Content K V) (reads : number < length nodes → slice_get nodes number ≡ Some content) where
+      is_free : IsFree content
+      is_free = subst IsFree (sym (read_same nodes number (Free front.0) content front.1 (reads within))) tt
+
+      module _ (next : Option ℕ) (next_is : content ≡ Free next) where
+        taken : IsPool n nodes next (free - 1) limit × (chain_from nodes free first ≡ number ∷ chain_from nodes (free - 1) next) × (list_any (nat_eq number) (chain_from nodes (free - 1) next) ≡ false)
+        taken =
+            let w = IsPool-taken n nodes number next free limit some here (reads within ∙ ap Some next_is) in
+            (w.0, ap (λ z. chain_from nodes free z) first_is ∙ w.1, w.2)
 
 pub unwrap-node-requires : goal.unwrap-node-requires
 unwrap-node-requires g c =
@@ -21,18 +51,16 @@ pub overflow_sub-self : goal.overflow_sub-self
 overflow_sub-self g c =
     omega (arith, some _ c.self.inside.nodes.items c.self.inside.first c.self.inside.free c.self.inside.limit c.self.invariant _ c.self.view_is c.requires.room)
 
-pub returns-clause-node : goal.returns-clause-node
-returns-clause-node g c = rw (← c.self.view_is) (front_of-is _ _ _ c.self.invariant.linked ∙ sym c.expand.ensures.value ∙ c.unwrap-node.ensures)
-
 pub invariant_of-self : goal.invariant_of-self
 invariant_of-self g c =
-    pool_after _ c.self.inside.nodes.items c.self.inside.first c.self.inside.free c.self.inside.limit c.self.invariant _ c.self.view_is c.requires.room c.number.result _ _ c.expand.ensures.value c.unwrap-node.ensures c.number.ensures.value c.index.result.now (λ low. slice_get_read c.self.inside.nodes.items (length c.self.inside.nodes.items) c.number.result c.index.result.now refl low c.index.ensures) c.next_free-self-inside.result c.next_free-self-inside.ensures
+    (taken _ c.self.inside.nodes.items c.self.inside.first c.self.inside.free c.self.inside.limit c.self.invariant _ c.self.view_is c.requires.room c.number.result _ _ c.expand.ensures.value c.unwrap-node.ensures c.number.ensures.value c.index.result.now (λ low. slice_get_read c.self.inside.nodes.items (length c.self.inside.nodes.items) c.number.result c.index.result.now refl low c.index.ensures) c.next_free-self-inside.result c.next_free-self-inside.ensures).0
 
-pub returns-clause-table : goal.returns-clause-table
-returns-clause-table g c =
-    let after = chain_after _ c.self.inside.nodes.items c.self.inside.first c.self.inside.free c.self.inside.limit c.self.invariant _ c.self.view_is c.requires.room c.number.result _ _ c.expand.ensures.value c.unwrap-node.ensures c.number.ensures.value c.index.result.now (λ low. slice_get_read c.self.inside.nodes.items (length c.self.inside.nodes.items) c.number.result c.index.result.now refl low c.index.ensures) c.next_free-self-inside.result c.next_free-self-inside.ensures in
-    rw (← c.self.view_is, after) (rw (← c.self.view_is))
-
-pub returns-clause-used : goal.returns-clause-used
-returns-clause-used g c =
-    rw (← c.number.ensures.value) (record { within = within _ c.self.inside.nodes.items c.self.inside.first c.self.inside.free c.self.inside.limit c.self.invariant _ c.self.view_is c.requires.room c.number.result _ _ c.expand.ensures.value c.unwrap-node.ensures c.number.ensures.value; off_chain = off_after _ c.self.inside.nodes.items c.self.inside.first c.self.inside.free c.self.inside.limit c.self.invariant _ c.self.view_is c.requires.room c.number.result _ _ c.expand.ensures.value c.unwrap-node.ensures c.number.ensures.value c.index.result.now (λ low. slice_get_read c.self.inside.nodes.items (length c.self.inside.nodes.items) c.number.result c.index.result.now refl low c.index.ensures) c.next_free-self-inside.result c.next_free-self-inside.ensures })
+pub returns : goal.returns
+returns g c =
+    let after = taken _ c.self.inside.nodes.items c.self.inside.first c.self.inside.free c.self.inside.limit c.self.invariant _ c.self.view_is c.requires.room c.number.result _ _ c.expand.ensures.value c.unwrap-node.ensures c.number.ensures.value c.index.result.now (λ low. slice_get_read c.self.inside.nodes.items (length c.self.inside.nodes.items) c.number.result c.index.result.now refl low c.index.ensures) c.next_free-self-inside.result c.next_free-self-inside.ensures in
+    let inside = within _ c.self.inside.nodes.items c.self.inside.first c.self.inside.free c.self.inside.limit c.self.invariant _ c.self.view_is c.requires.room c.number.result _ _ c.expand.ensures.value c.unwrap-node.ensures c.number.ensures.value in
+    record {
+      node = rw (← c.self.view_is) (front_of-is _ _ _ c.self.invariant.linked ∙ sym c.expand.ensures.value ∙ c.unwrap-node.ensures);
+      table = rw (← c.self.view_is, after.1) (rw (← c.self.view_is));
+      used = rw (← c.number.ensures.value) (record { within = inside; off_chain = after.2 });
+    }
