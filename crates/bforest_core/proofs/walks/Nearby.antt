@@ -15,9 +15,9 @@ use Rattle.bforest_core.proofs.table.Stored.{some_same}
 use Rattle.bforest_core.proofs.union.Unions.{is-rooted}
 use Rattle.bforest_core.proofs.walks.Backward.{at_end, at_entry}
 use Rattle.bforest_core.proofs.walks.Descent.{some_leaf}
-use Rattle.bforest_core.proofs.walks.Entered.{entry_read, leaf_room, leaf_slot}
+use Rattle.bforest_core.proofs.walks.Entered.{entry_read}
 use Rattle.bforest_core.proofs.walks.Rising.{all_before, all_greater, all_less, entry_between, increasing_rest, increasing_split, place_between}
-use Rattle.bforest_core.proofs.walks.Standing.{on-within, points-stands}
+use Rattle.bforest_core.proofs.walks.Standing.{on-leaf-in, on-tree, on-within, points-stands}
 use Rattle.bforest_core.proofs.walks.Steps.{read}
 
 module _ {K X : Type 0} (cmp : K → K → Ordering) (es : List (K × X)) (key : K) where
@@ -156,10 +156,7 @@ module _ {K V : Type 0} {n : ℕ} (table : Table K V) (root : ℕ) (path : Path 
 
     -- the index behind an entry of a leaf
     pub behind-low : (p : ℕ) → StandsOn table root path p → index_of path + 1 ≤ 255
-    behind-low p on =
-        let w = is-rooted n table root union on.root_is in
-        let room = leaf_room n (some_leaf n union.1.capacity) table.nodes path.node path.entry path.size (tree_of table.nodes root) p w.fit w.inside on.stands in
-        omega (arith, room, union.1.capacity.most, on.stands.leaf.within)
+    behind-low p on = omega (arith, (on-leaf-in union path on).room, union.1.capacity.most, on.stands.leaf.within)
 
   module _ (cmp : K → K → Ordering) (key : K) where
     -- what a search answers, and where the path stands then
@@ -231,16 +228,12 @@ module _ {K V : Type 0} {n : ℕ} (table : Table K V) (root : ℕ) (path : Path 
 module _ {K V : Type 0} {n : ℕ} (table : Table K V) (root : ℕ) (path : Path K V n) (p : ℕ) (union : IsUnion n table) (on : StandsOn table root path p) where
   -- its leaf has the entry
   pub here-leaf : (entries : List (K × V)) × (slice_get table.nodes (leaf_of path) ≡ Some (leaf_content entries)) × (index_of path < length entries)
-  here-leaf =
-      let w = is-rooted n table root union on.root_is in
-      (on.stands.leaf.entries, leaf_slot n (some_leaf n union.1.capacity) table.nodes path.node path.entry path.size (tree_of table.nodes root) p w.fit w.inside on.stands, on.stands.leaf.within)
+  here-leaf = (on.stands.leaf.entries, (on-leaf-in union path on).slot_is, on.stands.leaf.within)
 
   module _ (e : K × V) (read_is : (entries : List (K × V)) → slice_get table.nodes (leaf_of path) ≡ Some (leaf_content entries) → slice_get entries (index_of path) ≡ Some e) where
     -- which is the list's
     pub here-entry : slice_get (list_under table root) p ≡ Some e
-    here-entry =
-        let w = is-rooted n table root union on.root_is in
-        entry_read n (some_leaf n union.1.capacity) table.nodes path.node path.entry path.size (tree_of table.nodes root) p w.fit w.inside on.stands e read_is
+    here-entry = let w = on-tree union path on in entry_read (some_leaf n union.1.capacity) w.fit w.inside on.stands e read_is
 
     module _ (cmp : K → K → Ordering) (o : IsTotalOrder cmp) (key : K) where
       -- it is the key's

@@ -20,7 +20,7 @@ returns-then-not-is_inner-clause-index g c =
 pub returns-then-not-is_inner-clause-stands : goal.returns-then-not-is_inner-clause-stands
 returns-then-not-is_inner-clause-stands g c =
     let on = c.set_root_node.ensures.stands c.args.pool.now c.requires.union c.requires.root (root-leaf g.row.N c.args.pool.now c.requires.union c.args.root _ c.requires.root c.node.ensures.value (λ inner. false≢true (sym c.if-not-is_inner.true ∙ c.is_inner.ensures.inner.1 inner))) in
-    leaf-front g.row.N c.args.pool.now c.requires.union c.args.root 0 c.set_root_node.new.self on (omega (arith, on.stands.leaf.place_is))
+    leaf-front c.requires.union 0 c.set_root_node.new.self on (omega (arith, on.stands.leaf.place_is))
 
 pub descend_first-level-requires : goal.descend_first-level-requires
 descend_first-level-requires g c =
@@ -42,4 +42,4 @@ pub returns-clause-stands : goal.returns-clause-stands
 returns-clause-stands g c =
     let d = c.descend_first-level in
     let led = led-first g.row.N c.args.pool.now c.args.root c.requires.union c.requires.root _ _ _ _ _ c.descend_first-level.ensures.level in
-    leaf-front g.row.N c.args.pool.now c.requires.union c.args.root 0 (record d.new.self { size = d.result + 1 }) led.1 (omega (arith, led.1.stands.leaf.place_is))
+    leaf-front c.requires.union 0 (record d.new.self { size = d.result + 1 }) led.1 (omega (arith, led.1.stands.leaf.place_is))
