@@ -1,6 +1,6 @@
 -- The way down of a search: one level of it, and its end in a leaf.
-use Rattle.std.proofs.Common.{◌≡◌, ◌≢◌, ℕ, suc, ◌+◌, ◌≤◌, ◌⊎◌, inl, inr, List, [], ◌∷◌, ◌++◌, length, get_or, slice_get, Some, refl, sym, ap, subst, ◌∙◌, arith, append_assoc, length-append}
-use Rattle.bforest_core.proofs.Words.{nil_from_length, slice_get_within, IsTotalOrder, IsStrictlySortedBy, AllByRecursion, is_some, option_map, Content, Inner, IsLeafCapacity, IsIncreasing, place, is_present, value_for, LevelNode, node}
+use Rattle.std.proofs.Common.{◌≡◌, ◌≢◌, ℕ, suc, ◌+◌, ◌≤◌, ◌<◌, ◌⊎◌, inl, inr, List, [], ◌∷◌, ◌++◌, length, get_or, set, slice_get, Option, Some, refl, sym, ap, subst, ◌∙◌, arith, append_assoc, length-append}
+use Rattle.bforest_core.proofs.Words.{get_or-set_same, nil_from_length, slice_get_within, IsTotalOrder, IsStrictlySortedBy, AllByRecursion, is_some, option_map, Content, Inner, IsLeafCapacity, IsIncreasing, place, is_present, value_for, LevelNode, node}
 use Rattle.bforest_core.proofs.Words.{flat, heads, half_of, entry_keys, entry_items, StandsTo, child_index, IsFrom, IsUpTo, GoesThrough, Under, Descended}
 use Rattle.std.specs.Map.{keys_of}
 use Rattle.std.specs.declared.cmp.Ordering.{Ordering}
@@ -12,7 +12,7 @@ use Rattle.bforest_core.proofs.rows.LevelRows.{flat-append}
 use Rattle.bforest_core.proofs.table.Stored.{some_same, slice_get_at}
 use Rattle.bforest_core.proofs.walks.Rising.{all_less, increasing_split, increasing_rest, all_before, all_greater, place_between, entry_between, place-le, first_passed, sides}
 use Rattle.bforest_core.proofs.walks.Downward.{Seen, stands_more, heads_increasing, upto_flat, stacked_increasing}
-use Rattle.bforest_core.proofs.walks.TopNode.{SameBut, InnerUnder, LeafUnder, flat_parted, seen_at}
+use Rattle.bforest_core.proofs.walks.TopNode.{InnerUnder, LeafUnder, flat_parted, seen_at, set_but}
 
 pub some_leaf : (n : ℕ) → IsLeafCapacity n → 1 ≤ half_of n
 some_leaf n c = omega (arith, c.least)
@@ -159,7 +159,7 @@ module _ {K V : Type 0} (cmp : K → K → Ordering) (o : IsTotalOrder cmp) (mos
 
     -- one level of it, whose place in the path was written before
     pub passed : (index child : ℕ) (w : Below s index child) (path indices path' indices' path'' indices'' : List ℕ) (high : ℕ) → high ≡ length lower → Descended cmp leaves s.here.rows key (length w.front) path' indices' path'' indices'' →
-        get_or path' high 0 ≡ number → get_or indices' high 0 ≡ index → SameBut high path path' → SameBut high indices indices' → Descended cmp leaves lower key (length a) path indices path'' indices''
+        get_or path' high 0 ≡ number → get_or indices' high 0 ≡ index → path' ≡ set path high number → indices' ≡ set indices high index → Descended cmp leaves lower key (length a) path indices path'' indices''
     passed index child w path indices path' indices' path'' indices'' high high_is d m_is j_is nodes entries =
         let count_is = s.here.count_is in
         let m_at : get_or path'' high 0 ≡ number = d.nodes_above high (omega (arith, high_is, count_is)) ∙ m_is in
@@ -168,8 +168,8 @@ module _ {K V : Type 0} (cmp : K → K → Ordering) (o : IsTotalOrder cmp) (mos
         record {
           leaf = d.leaf;
           stands = subst (λ (z : List (List (LevelNode K ℕ))). StandsTo path'' indices'' 1 z (length d.leaf.before) (length a)) (sym s.here.lower_is) (subst (λ (z : ℕ). StandsTo path'' indices'' 1 (s.here.rows ++ s.here.row ∷ []) (length d.leaf.before) z) s.here.at.before_is more);
-          nodes_above = λ i low. d.nodes_above i (omega (arith, low, count_is)) ∙ nodes i (λ z. omega (arith, z, low, high_is));
-          entries_above = λ i low. d.entries_above i (omega (arith, low, count_is)) ∙ entries i (λ z. omega (arith, z, low, high_is));
+          nodes_above = λ i low. d.nodes_above i (omega (arith, low, count_is)) ∙ set_but path path' high number nodes i (λ z. omega (arith, z, low, high_is));
+          entries_above = λ i low. d.entries_above i (omega (arith, low, count_is)) ∙ set_but indices indices' high index entries i (λ z. omega (arith, z, low, high_is));
         }
 
   module _ (s : LeafStep cmp most slots leaves lower a first number b key) where
@@ -199,12 +199,14 @@ module _ {K V : Type 0} (cmp : K → K → Ordering) (o : IsTotalOrder cmp) (mos
         }
 
     -- the end of the descent
-    pub landed : (path indices path' indices' : List ℕ) → get_or path' 0 0 ≡ number → get_or indices' 0 0 ≡ place cmp entries key → SameBut 0 path path' → SameBut 0 indices indices' → Descended cmp leaves lower key (length a) path indices path' indices'
+    pub landed : (path indices path' indices' : List ℕ) (answer : Option V) → 0 < length path → 0 < length indices → path' ≡ set path 0 number → indices' ≡ set indices 0 (place cmp entries key) → answer ≡ value_for cmp entries key → (answer ≡ value_for cmp (flat leaves) key) × Descended cmp leaves lower key (length a) path indices path' indices'
     unfolding placed
-    landed path indices path' indices' m_is j_is nodes_same entries_same =
-        subst (λ (z : List (List (LevelNode K ℕ))). Descended cmp leaves z key (length a) path indices path' indices') (sym s.here.lower_is) (record {
-          leaf = placed (get_or path' 0 0) (get_or indices' 0 0) m_is j_is;
-          stands = s.here.at.before_is;
-          nodes_above = λ i low. nodes_same i (λ z. omega (arith, z, low));
-          entries_above = λ i low. entries_same i (λ z. omega (arith, z, low));
-        })
+    landed path indices path' indices' answer wide wide' nodes indices_are answer_is = (
+      answer_is ∙ sym leaf_value,
+      subst (λ (z : List (List (LevelNode K ℕ))). Descended cmp leaves z key (length a) path indices path' indices') (sym s.here.lower_is) (record {
+        leaf = placed (get_or path' 0 0) (get_or indices' 0 0) (ap (λ z. get_or z 0 0) nodes ∙ get_or-set_same path 0 number 0 wide) (ap (λ z. get_or z 0 0) indices_are ∙ get_or-set_same indices 0 (place cmp entries key) 0 wide');
+        stands = s.here.at.before_is;
+        nodes_above = λ i low. set_but path path' 0 number nodes i (λ z. omega (arith, z, low));
+        entries_above = λ i low. set_but indices indices' 0 (place cmp entries key) indices_are i (λ z. omega (arith, z, low));
+      }),
+    )

@@ -1,34 +1,30 @@
 -- A step of a path from entry to entry of a tree, to the next and to the one before.
 use Rattle.std.proofs.Common.{◌≡◌, ℕ, zero, suc, ◌+◌, ◌-◌, ◌≤◌, ◌<◌, List, [], ◌∷◌, ◌++◌, length, get_or, slice_get, Option, None, Some, refl, sym, ap, option_map, subst, ◌∙◌, arith}
-use Rattle.bforest_core.proofs.Words.{length-map, slice_get_within, Content, entry_count, LevelNode, node, flat, heads, Tree, IsFit, half_of, leaf_content, StandsAbove, entry_keys, entry_items, Stands, IsIn, Over, Moved}
+use Rattle.bforest_core.proofs.Words.{length-map, slice_get_within, Content, entry_count, LevelNode, node, flat, heads, Tree, IsFit, half_of, leaf_content, PointsAt, StandsAbove, entry_keys, entry_items, Stands, IsIn, Over, Moved}
 use Rattle.bforest_core.proofs.rows.Zipper.{stands-same}
-use Rattle.bforest_core.proofs.walks.Steps.{Within, entry_at, last_asks, last_is, none_behind, seam, there, within}
+use Rattle.bforest_core.proofs.walks.Steps.{Within, at_index, entry_at, last_asks, last_is, none_behind, seam, there, within}
 use Rattle.bforest_core.proofs.walks.TopNode.{SameBut, none_flat}
+use Rattle.bforest_core.proofs.walks.Whole.{stands-pointed}
 use Rattle.bforest_core.proofs.table.Lists.{read_none}
 use Rattle.bforest_core.proofs.table.Stored.{some_same}
 
--- an entry from its key and its value
-pub pair_read : {K X : Type 0} (es : List (K × X)) (i : ℕ) (k : K) (x : X) → slice_get (entry_keys es) i ≡ Some k → slice_get (entry_items es) i ≡ Some x → slice_get es i ≡ Some (k, x)
-pair_read [] i k x e f = absurd cc
-pair_read (y ∷ es) zero k x e f =
-    let a : y.0 ≡ k = some_same y.0 k e in
-    let b : y.1 ≡ x = some_same y.1 x f in
-    ap (λ z. Some (z, y.1)) a ∙ ap (λ z. Some (k, z)) b
-pair_read (y ∷ es) (suc i) k x e f = pair_read es i k x e f
-
 -- an entry, or none, from its key and its value
 pub pair_answer : {K X : Type 0} (es : List (K × X)) (i : ℕ) (o : Option (K × X)) → option_map (λ (e : K × X). e.0) o ≡ slice_get (entry_keys es) i → option_map (λ (e : K × X). e.1) o ≡ slice_get (entry_items es) i → o ≡ slice_get es i
-pair_answer es i (Some e) k x = sym (pair_read es i e.0 e.1 (sym k) (sym x))
 pair_answer [] i None k x = refl
+pair_answer [] i (Some e) k x = absurd cc
 pair_answer (y ∷ es) zero None k x = absurd cc
-pair_answer (y ∷ es) (suc i) None k x = pair_answer es i None k x
+pair_answer (y ∷ es) zero (Some e) k x = ap (λ z. Some (z, e.1)) (some_same e.0 y.0 k) ∙ ap (λ z. Some (y.0, z)) (some_same e.1 y.1 x)
+pair_answer (y ∷ es) (suc i) o k x = pair_answer es i o k x
+
+pub pair_read : {K X : Type 0} (es : List (K × X)) (i : ℕ) (k : K) (x : X) → slice_get (entry_keys es) i ≡ Some k → slice_get (entry_items es) i ≡ Some x → slice_get es i ≡ Some (k, x)
+pair_read es i k x e f = sym (pair_answer es i (Some (k, x)) (sym e) (sym f))
 
 -- what is read at a path's leaf is that leaf
-pub leaf_is : {K V : Type 0} (slots : List (Content K V)) (path : List ℕ) (number : ℕ) (content : Content K V) (es : List (K × V)) → slice_get slots number ≡ Some content → number ≡ get_or path 0 0 → slice_get slots (get_or path 0 0) ≡ Some (leaf_content es) → content ≡ leaf_content es
-leaf_is slots path number content es found here slot = some_same content (leaf_content es) (sym found ∙ ap (λ z. slice_get slots z) here ∙ slot)
+pub leaf_is : {K V : Type 0} (slots : List (Content K V)) (path : List ℕ) (r : ℕ) {content : Content K V} (es : List (K × V)) → 0 < length path → slice_get slots (get_or path 0 r) ≡ Some content → slice_get slots (get_or path 0 0) ≡ Some (leaf_content es) → content ≡ leaf_content es
+leaf_is slots path r {content = content} es some found slot = some_same content (leaf_content es) (sym found ∙ at_index slots path r some refl slot)
 
 -- a leaf has as many entries as keys
-key_total : {K V : Type 0} (es : List (K × V)) → entry_count (leaf_content es) ≡ length es
+pub key_total : {K V : Type 0} (es : List (K × V)) → entry_count (leaf_content es) ≡ length es
 key_total es = length-map es (λ w. w.0)
 
 module _ {K V : Type 0} {most : ℕ} (one : 1 ≤ half_of most) {slots : List (Content K V)} {tree : Tree K V} (fit : IsFit most tree) (inside : IsIn slots tree) where
@@ -40,13 +36,22 @@ module _ {K V : Type 0} {most : ℕ} (one : 1 ≤ half_of most) {slots : List (C
   abbrev pub in_leaf : (path indices : List ℕ) (before : List (LevelNode K V)) (entries : List (K × V)) (after : List (LevelNode K V)) → tree.leaves ≡ before ++ node (get_or path 0 0) entries ∷ after → StandsAbove path indices 1 tree.above (length before) → InLeaf path indices (length before)
   in_leaf path indices before entries after row_is above = within leaf_content slots most (half_of most) one tree.leaves fit.leaves_fit inside.leaves_in path indices 0 tree.above (length before) before entries after row_is refl above
 
-  -- a path with the same nodes, and but for the leaf's with the same indices, stands in that leaf too
-  stands_in : {path indices : List ℕ} {leaf : ℕ} (w : InLeaf path indices leaf) (size : ℕ) → size ≡ suc (length tree.above) → (path' indices' : List ℕ) (place : ℕ) → path' ≡ path → SameBut 0 indices indices' → get_or indices' 0 0 < length w.entries → place ≡ length (flat w.before) + get_or indices' 0 0 → Stands path' indices' size tree place
-  stands_in {path} {indices} {leaf} w size size_is path' indices' place path_is same low place_is = record {
-    leaf = record { before = w.before; entries = w.entries; after = w.after; row_is = w.row_is ∙ ap (λ z. w.before ++ node (get_or z 0 0) w.entries ∷ w.after) (sym path_is); within = low; place_is = place_is };
+  -- a path with the same nodes, and but for the leaf's with the same indices, points into that leaf too
+  pub points_in : {path indices : List ℕ} {leaf : ℕ} (w : InLeaf path indices leaf) (size : ℕ) → size ≡ suc (length tree.above) → (path' indices' : List ℕ) (place : ℕ) → path' ≡ path → SameBut 0 indices indices' → get_or indices' 0 0 ≤ length w.entries → place ≡ length (flat w.before) + get_or indices' 0 0 → PointsAt path' indices' size tree place
+  points_in {path} {indices} {leaf} w size size_is path' indices' place path_is same low place_is = record {
+    before = w.before;
+    entries = w.entries;
+    after = w.after;
+    leaves_are = w.row_is ∙ ap (λ z. w.before ++ node (get_or z 0 0) w.entries ∷ w.after) (sym path_is);
+    within = low;
+    place_is = place_is;
     above = subst (λ (z : ℕ). StandsAbove path' indices' 1 tree.above z) (sym w.at) (stands-same path indices path' indices' 1 tree.above leaf (λ i low. ap (λ z. get_or z i 0) path_is) (λ i low. same i (λ e. omega (arith, e, low))) w.stands);
     size_is = size_is;
   }
+
+  stands_in : {path indices : List ℕ} {leaf : ℕ} (w : InLeaf path indices leaf) (size : ℕ) → size ≡ suc (length tree.above) → (path' indices' : List ℕ) (place : ℕ) → path' ≡ path → SameBut 0 indices indices' → get_or indices' 0 0 < length w.entries → place ≡ length (flat w.before) + get_or indices' 0 0 → Stands path' indices' size tree place
+  unfolding points_in
+  stands_in w size size_is path' indices' place path_is same low place_is = stands-pointed (points_in w size size_is path' indices' place path_is same (omega (arith, low)) place_is) low
 
   -- a path that went to the leaf behind one, and to the front there, stands on the entry that follows
   pub first_behind : {path indices : List ℕ} {leaf : ℕ} (w : InLeaf path indices leaf) (size : ℕ) → size ≡ suc (length tree.above) → (path1 indices1 path' indices' : List ℕ) → Moved path indices path1 indices1 0 tree.above (heads tree.leaves) (suc leaf) → path' ≡ path1 → get_or indices' 0 0 ≡ 0 → SameBut 0 indices1 indices' → Stands path' indices' size tree (length (flat w.before) + length w.entries)

@@ -14,7 +14,7 @@ use Rattle.bforest_core.proofs.walks.Backward.{at_end, at_entry}
 use Rattle.bforest_core.proofs.walks.Entered.{InLeaf, first_behind, in_leaf, leaf_here, leaf_last}
 use Rattle.bforest_core.proofs.walks.Steps.{not_less}
 use Rattle.bforest_core.proofs.union.Unions.{is-rooted, rooted}
-use Rattle.bforest_core.proofs.walks.Whole.{led_stands, whole_top, whole_under}
+use Rattle.bforest_core.proofs.walks.Whole.{led_stands, stands-pointed, whole_top, whole_under}
 
 module _ {K V : Type 0} (path indices : List ℕ) (tree : Tree K V) (place : ℕ) where
   -- a path on an entry points to it
@@ -162,9 +162,7 @@ module _ {K V : Type 0} {n : ℕ} {table : Table K V} (union : IsUnion n table) 
   module _ (has : Bool) (test : (entries : List (K × V)) → slice_get table.nodes (leaf_of path) ≡ Some (leaf_content entries) → IsTrue has ↔ (index_of path < length entries)) where
     -- at an entry of the leaf
     pub pointed-here : has ≡ true → StandsAt table root path place
-    pointed-here is =
-        let p = to.points in
-        on-at table root path place (record { root_is = to.root_is; stands = record { leaf = record { before = p.before; entries = p.entries; after = p.after; row_is = p.leaves_are; within = (test p.entries pointed.slot_is).0 is; place_is = p.place_is }; above = p.above; size_is = p.size_is } })
+    pointed-here is = on-at table root path place (record { root_is = to.root_is; stands = stands-pointed to.points ((test to.points.entries pointed.slot_is).0 is) })
 
     behind : has ≡ false → place ≡ length (flat to.points.before) + length to.points.entries
     behind none = omega (arith, to.points.place_is, to.points.within, not_less (index_of path) (length to.points.entries) (λ low. false≢true (sym none ∙ (test to.points.entries pointed.slot_is).1 low)))

@@ -23,6 +23,10 @@ entry_at row before n es after i x row_is found =
 pub read : {A : Type 0} (xs : List A) (i : ℕ) → i < length xs → (x : A) × (slice_get xs i ≡ Some x)
 read xs i low = let c = cut xs i low in (c.x, ap (λ z. slice_get z i) c.es_is ∙ slice_get_at c.l c.x c.r i c.place_is)
 
+-- the slot of a path's node, by the number that was read in the path
+pub at_index : {A : Type 0} (slots : List A) (path : List ℕ) {up level : ℕ} (r : ℕ) {x : A} → level < length path → level ≡ up → slice_get slots (get_or path up 0) ≡ Some x → slice_get slots (get_or path level r) ≡ Some x
+at_index slots path {level = level} r low same found = ap (slice_get slots) (get_or_default path level r 0 low ∙ ap (λ z. get_or path z 0) same) ∙ found
+
 pub not_less : (m n : ℕ) → (m < n → ⊥) → n ≤ m
 not_less m n past = omega (arith, past)
 
@@ -83,7 +87,7 @@ module _ {K V X : Type 0} (content : List (K × X) → Content K V) (slots : Lis
     -- what asking for the last index of the node asks, and that index
     module _ (counts : (es : List (K × X)) → entry_count (content es) ≡ length es) (r : ℕ) (wide : up < length path) where
       abbrev pub last_asks : (x : Content K V) × (slice_get slots (get_or path up r) ≡ Some x) × (1 ≤ entry_count x)
-      last_asks = (content a.entries, ap (slice_get slots) (get_or_default path up r 0 wide) ∙ a.slot_is, omega (arith, counts a.entries, a.some))
+      last_asks = (content a.entries, at_index slots path r wide refl a.slot_is, omega (arith, counts a.entries, a.some))
 
       pub last_is : (last : ℕ) → ((x : Content K V) → slice_get slots (get_or path up r) ≡ Some x → last ≡ entry_count x - 1) → suc last ≡ length a.entries
       last_is last says = omega (arith, says (content a.entries) last_asks.1, counts a.entries, a.some)

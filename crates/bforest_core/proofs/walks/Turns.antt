@@ -69,7 +69,7 @@ module _ {K V : Type 0} where
     pub first_moves : ((rows : List (List (LevelNode K ℕ))) (list : List (K × ℕ)) (place : ℕ) → Over slots path indices (suc up) size rows list place → place ≡ 0) → get_or indices up 0 ≤ 0 → place ≡ 0
     first_moves first none = omega (arith, here.place_is, none, none_flat here.before (first here.rest (heads here.row) (length here.before) here.over))
 
-    module _ (path1 indices1 : List ℕ) (backs : (rows : List (List (LevelNode K ℕ))) (list : List (K × ℕ)) (place : ℕ) → Over slots path indices (suc up) size rows list place → (0 < place) × Moved path indices path1 indices1 up rows list (place - 1)) (r : ℕ) (low : up < length path1) where
+    module _ (path1 indices1 : List ℕ) (backs : (rows : List (List (LevelNode K ℕ))) (list : List (K × ℕ)) (place : ℕ) → Over slots path indices (suc up) size rows list place → (0 < place) × Moved path indices path1 indices1 up rows list (place - 1)) (r : ℕ) (wide : 17 ≤ length path1) where
       back : (0 < length here.before) × Moved path indices path1 indices1 up here.rest (heads here.row) (length here.before - 1)
       back = backs here.rest (heads here.row) (length here.before) here.over
 
@@ -78,11 +78,11 @@ module _ {K V : Type 0} where
 
       -- what its last index asks
       pub back_asks : (x : Content K V) × (slice_get slots (get_or path1 up r) ≡ Some x) × (1 ≤ entry_count x)
-      back_asks = last_asks inner_content slots 8 back_node item_count r low
+      back_asks = last_asks inner_content slots 8 back_node item_count r (omega (arith, wide, height, here.over.height))
 
       module _ (last : ℕ) (says : (x : Content K V) → slice_get slots (get_or path1 up r) ≡ Some x → last ≡ entry_count x - 1) where
         last_child : suc last ≡ length back_node.entries
-        last_child = last_is inner_content slots 8 back_node item_count r low last says
+        last_child = last_is inner_content slots 8 back_node item_count r (omega (arith, wide, height, here.over.height)) last says
 
         -- to the last child of the node before
         pub last_child_asks : last ≤ 255 → ChildAt slots path1 level last

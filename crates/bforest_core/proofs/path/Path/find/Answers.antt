@@ -1,7 +1,6 @@
 use Rattle.std.proofs.Common.{rules, ◌≡◌, ℕ, suc, ◌-◌, [], length, arith}
 use Rattle.bforest_core.proofs.Words.{length-map, value_for, Descended, Tree, flat, sizes, sizes_of, tree_of}
-use Rattle.bforest_core.proofs.walks.Sought.{placed-for, stands-under}
-use Rattle.bforest_core.proofs.walks.Whole.{all_through, stands_for}
+use Rattle.bforest_core.proofs.walks.Whole.{all_through, placed-found, stands-found}
 use Rattle.bforest_core.proofs.walks.Standing.{under-root}
 use Rattle.bforest_core.proofs.path.Path.find.Given.{Over}
 use Rattle.bforest_core.proofs.path.Path.find.Goals as goal
@@ -36,13 +35,7 @@ pub returns-clause-value : goal.returns-clause-value
 returns-clause-value g c = (found g c).0
 
 pub returns-clause-present : goal.returns-clause-present
-returns-clause-present g c = λ here.
-    let order = g.C.Comparator.order c.args.comp.now in
-    let tree = tree_of c.args.pool.now.nodes c.args.root in
-    stands-under order c.args.pool.now.nodes c.args.root _ _ _ c.args.key c.requires.root (stands_for order tree c.args.key _ _ _ _ _ (found g c).1 (size_is tree _ _ c.levels-levels.ensures.value c.descend.ensures.size)) here
+returns-clause-present g c = stands-found (g.C.Comparator.order c.args.comp.now) c.args.pool.now.nodes c.args.root c.requires.root (found g c).1 (size_is (tree_of c.args.pool.now.nodes c.args.root) _ _ c.levels-levels.ensures.value c.descend.ensures.size)
 
 pub returns-clause-absent : goal.returns-clause-absent
-returns-clause-absent g c = λ here.
-    let order = g.C.Comparator.order c.args.comp.now in
-    let tree = tree_of c.args.pool.now.nodes c.args.root in
-    placed-for order c.args.pool.now.nodes c.args.root _ _ _ c.args.key c.requires.root (stands_for order tree c.args.key _ _ _ _ _ (found g c).1 (size_is tree _ _ c.levels-levels.ensures.value c.descend.ensures.size)) here
+returns-clause-absent g c = placed-found (g.C.Comparator.order c.args.comp.now) c.args.pool.now.nodes c.args.root c.requires.root (found g c).1 (size_is (tree_of c.args.pool.now.nodes c.args.root) _ _ c.levels-levels.ensures.value c.descend.ensures.size)
