@@ -34,11 +34,7 @@ sum-kept p f (x ∷ xs) = by (p x) refl (sum-kept p f xs)
 
 -- a number that passes stands among them as often, and no other
 count-kept : (p : ℕ → Bool) (m : ℕ) (xs : List ℕ) → count m (kept p xs) ≡ (if p m then count m xs else 0)
-count-kept p m [] = by (p m)
-  where
-    by : (b : Bool) → ◌≡◌ {A = ℕ} 0 (if b then 0 else 0)
-    by true = refl
-    by false = refl
+count-kept p m [] = elim (p m) as (λ (b : Bool). ◌≡◌ {A = ℕ} 0 (if b then 0 else 0)) [ true ↦ refl | false ↦ refl ]
 count-kept p m (x ∷ xs) =
     elim (eqb_tells x m) [
       | inl w ↦ subst (λ (z : ℕ). count m (kept p (z ∷ xs)) ≡ (if p m then count m (z ∷ xs) else 0)) (sym w.1) (here (p m) refl (count-kept p m xs))

@@ -58,7 +58,7 @@ module _ {K V : Type 0} where
       slice_get-append_left xs more m (get_or xs m (Free None)) e ∙ sym e
 
   -- the trees of a table with so many new slots
-  pub with-slots-forest : (most : ℕ) (table : Table K V) (n : ℕ) (trees : List (Tree K V)) → IsForest most table trees → IsForest most (with_slots table n) trees
+  with-slots-forest : (most : ℕ) (table : Table K V) (n : ℕ) (trees : List (Tree K V)) → IsForest most table trees → IsForest most (with_slots table n) trees
   with-slots-forest most table n trees f =
       let more : List (Content K V) = fresh_nodes (slot_count table) n (front_of table.chain) in
       let c = λ (m : ℕ). count-append m (flat_map numbers_of trees) table.chain in
@@ -77,25 +77,16 @@ module _ {K V : Type 0} where
         account = λ m. omega (arith, count-append m (flat_map numbers_of trees) (down_from (slot_count table) n ++ table.chain), count-append m (down_from (slot_count table) n) table.chain, c m, f.account m, count-down m (slot_count table) n) ∙ ap (λ z. once_below m z) (sym slots);
       }
 
-  -- two tables with the same trees: the same roots, and under each the same tree
-  pub same-trees : (most : ℕ) (old new : Table K V) (trees : List (Tree K V)) → IsForest most old trees → IsForest most new trees → (number : ℕ) →
-      (is_root new.nodes number ≡ is_root old.nodes number) × (IsTrue (is_root old.nodes number) → tree_of new.nodes number ≡ tree_of old.nodes number)
-  same-trees most old new trees f g number =
-      let k = others-keep most old new [] [] [] trees f g number refl refl in
-      (same-test (is_root new.nodes number) (is_root old.nodes number) k.0.0 k.0.1, k.1)
-
-  -- at least n nodes made free: the same trees
-  pub reserved-forest : (most : ℕ) (table : Table K V) (n : ℕ) (trees : List (Tree K V)) → IsForest most table trees → IsForest most (reserved table n) trees
-  reserved-forest most table n trees f = with-slots-forest most table (n - free_count table) trees f
-
   -- the used slots are still a union of trees
   pub reserved-union : (most : ℕ) (table : Table K V) (n : ℕ) → IsUnion most table → IsUnion most (reserved table n)
-  reserved-union most table n union = (union.0, reserved-forest most table n union.0 union.1)
+  reserved-union most table n union = (union.0, with-slots-forest most table (n - free_count table) union.0 union.1)
 
   -- and the same roots, with the same trees
   pub reserved-roots : (most : ℕ) (table : Table K V) (n : ℕ) → IsUnion most table → (number : ℕ) →
       (is_root (reserved table n).nodes number ≡ is_root table.nodes number) × (IsTrue (is_root table.nodes number) → tree_of (reserved table n).nodes number ≡ tree_of table.nodes number)
-  reserved-roots most table n union number = same-trees most table (reserved table n) union.0 union.1 (reserved-forest most table n union.0 union.1) number
+  reserved-roots most table n union number =
+      let k = others-keep most table (reserved table n) [] [] [] union.0 union.1 (with-slots-forest most table (n - free_count table) union.0 union.1) number refl refl in
+      (same-test (is_root (reserved table n).nodes number) (is_root table.nodes number) k.0.0 k.0.1, k.1)
 
   -- what keeps other trees of the table with more slots keeps those of the table
   pub reserved-then : (most : ℕ) (table : Table K V) (n : ℕ) (new : Table K V) (root root' : ℕ) → IsUnion most table → OthersKeep (reserved table n).nodes new.nodes root root' → OthersKeep table.nodes new.nodes root root'
