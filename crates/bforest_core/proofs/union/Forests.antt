@@ -1,9 +1,10 @@
 -- The trees of a table as a witness and as computed: a number is a root exactly if it is that of a tree.
-use Rattle.std.proofs.Common.{◌≡◌, ℕ, ◌+◌, ◌≤◌, ◌<◌, ◌↔◌, nat_eq, IsTrue, true, false, List, [], ◌∷◌, ◌++◌, map, length, None, refl, ap, ◌∙◌, subst, inl, inr, arith}
-use Rattle.bforest_core.proofs.Words.{flat_map, map-append, get_or_past, flat_map-append, and_parts, cases_lt, eqb_tells, Content, Inner, Leaf, Free, IsFree, children_of, Table, LevelNode, flat, heads, numbers, Stacked, Tree, IsFit}
+use Rattle.std.proofs.Common.{◌≡◌, ℕ, ◌+◌, ◌≤◌, ◌<◌, ◌↔◌, nat_eq, IsTrue, true, false, List, [], ◌∷◌, ◌++◌, map, length, None, refl, sym, ap, ◌∙◌, subst, inl, inr, arith}
+use Rattle.bforest_core.proofs.Words.{nil_from_length, flat_map, map-append, get_or_past, flat_map-append, and_parts, cases_lt, eqb_tells, Content, Inner, Leaf, Free, IsFree, children_of, Table, LevelNode, flat, heads, numbers, Stacked, Tree, IsFit}
 use Rattle.bforest_core.proofs.Words.{entry_count, half_of, IsRooted, RowsIn, IsIn, entry_items, count, root_above, root_of, numbers_of, slot, is_used, tree_of, is_root, Every, IsForest}
 use Rattle.bforest_core.proofs.table.Tables.{count-append, count-same, count-other}
 use Rattle.bforest_core.proofs.table.Read.{items-heads, half-some, slot-is, children-row, children-leaves, read-back}
+use Rattle.bforest_core.proofs.table.Stored.{childless, inner_used}
 use Rattle.bforest_core.proofs.union.FreeSlots.{free-at}
 use Rattle.bforest_core.proofs.rows.Counts.{below-one, at-most-one, named_by, all-named}
 use Rattle.bforest_core.proofs.walks.TopNode.{node_held}
@@ -59,9 +60,7 @@ module _ {K V : Type 0} where
 
   -- a free slot names none
   no_children : (content : Content K V) → IsFree content → children_of content ≡ []
-  no_children (Inner keys children) f = absurd f
-  no_children (Leaf keys vals) f = absurd f
-  no_children (Free next) f = refl
+  no_children content f = nil_from_length (children_of content) (sym (childless content (λ inner. inner_used content inner f)))
 
   -- and is no node
   pub free-unused : (content : Content K V) → IsFree content → is_used content ≡ false

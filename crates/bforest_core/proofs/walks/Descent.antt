@@ -1,5 +1,5 @@
 -- The way down of a search: one level of it, and its end in a leaf.
-use Rattle.std.proofs.Common.{◌≡◌, ◌≢◌, ℕ, suc, ◌+◌, ◌≤◌, ◌<◌, ◌⊎◌, inl, inr, List, [], ◌∷◌, ◌++◌, length, get_or, set, slice_get, Option, Some, refl, sym, ap, subst, ◌∙◌, arith, append_assoc, length-append}
+use Rattle.std.proofs.Common.{◌≡◌, ◌≢◌, ℕ, ◌+◌, ◌≤◌, ◌<◌, ◌⊎◌, inl, inr, List, [], ◌∷◌, ◌++◌, length, get_or, set, slice_get, Option, Some, refl, sym, ap, subst, ◌∙◌, arith, append_assoc, length-append}
 use Rattle.bforest_core.proofs.Words.{get_or-set_same, nil_from_length, slice_get_within, IsTotalOrder, IsStrictlySortedBy, AllByRecursion, is_some, option_map, Content, Inner, IsLeafCapacity, IsIncreasing, place, is_present, value_for, LevelNode, node}
 use Rattle.bforest_core.proofs.Words.{flat, heads, half_of, entry_keys, entry_items, StandsTo, child_index, IsFrom, IsUpTo, GoesThrough, Under, Descended}
 use Rattle.std.specs.Map.{keys_of}
@@ -10,8 +10,8 @@ use Rattle.bforest_nodes.proofs.Found.{place-present}
 use Rattle.bforest_core.proofs.walks.LeafSearch.{items-read}
 use Rattle.bforest_core.proofs.rows.LevelRows.{flat-append}
 use Rattle.bforest_core.proofs.table.Stored.{some_same, slice_get_at}
-use Rattle.bforest_core.proofs.walks.Rising.{all_less, increasing_split, increasing_rest, all_before, all_greater, place_between, entry_between, place-le, first_passed, sides}
-use Rattle.bforest_core.proofs.walks.Downward.{Seen, stands_more, heads_increasing, upto_flat, stacked_increasing}
+use Rattle.bforest_core.proofs.walks.Rising.{all_split, all_less, increasing_split, increasing_rest, all_before, all_greater, place_between, entry_between, place-le, first_passed, sides}
+use Rattle.bforest_core.proofs.walks.Downward.{Seen, last_of, stands_more, heads_increasing, upto_flat, stacked_increasing}
 use Rattle.bforest_core.proofs.walks.TopNode.{InnerUnder, LeafUnder, flat_parted, seen_at, set_but}
 
 pub some_leaf : (n : ℕ) → IsLeafCapacity n → 1 ≤ half_of n
@@ -35,25 +35,12 @@ module _ {K : Type 0} (cmp : K → K → Ordering) where
   upto_parts [] after key h u = u
   upto_parts (y ∷ r) after key h u = h.0
 
-  -- the last of a first entry and those that are not greater
-  record Low (e : K × ℕ) (l : List (K × ℕ)) (key : K) : Type 0 where
-    pub init : List (K × ℕ)
-    pub last : K × ℕ
-    pub is : e ∷ l ≡ init ++ last ∷ []
-    pub count_is : length init ≡ length l
-    pub from : ((init ≡ []) × (last ≡ e)) ⊎ (cmp last.0 key ≢ Greater)
-
-  low_of : (e : K × ℕ) (l : List (K × ℕ)) (key : K) → AllByRecursion (λ p. cmp p key ≢ Greater) (keys_of l) → Low e l key
-  low_of e [] key h = record { init = []; last = e; is = refl; count_is = refl; from = inl (refl, refl) }
-  low_of e (y ∷ l) key h =
-      let r = low_of y l key h.1 in
-      record {
-        init = e ∷ r.init;
-        last = r.last;
-        is = ap (λ z. e ∷ z) r.is;
-        count_is = ap suc r.count_is;
-        from = inr (elim r.from [ inl w ↦ subst (λ (z : K × ℕ). cmp z.0 key ≢ Greater) (sym w.1) h.0 | inr ng ↦ ng ]);
-      }
+  -- the last of a first entry and those that are not greater: the first itself, or one of these
+  low_last : (init : List (K × ℕ)) (last e : K × ℕ) (l : List (K × ℕ)) (key : K) → e ∷ l ≡ init ++ last ∷ [] → AllByRecursion (λ p. cmp p key ≢ Greater) (keys_of l) → ((init ≡ []) × (last ≡ e)) ⊎ (cmp last.0 key ≢ Greater)
+  low_last [] last e l key is h = inl (refl, cc)
+  low_last (x ∷ init) last e l key is h =
+      let rest : l ≡ init ++ last ∷ [] = cc in
+      inr (all_split (λ p. cmp p key ≢ Greater) init (last ∷ []) (subst (λ (z : List (K × ℕ)). AllByRecursion (λ p. cmp p key ≢ Greater) (keys_of z)) rest h)).1.0
 
 module _ {K V : Type 0} (cmp : K → K → Ordering) (most : ℕ) (slots : List (Content K V)) (leaves : List (LevelNode K V)) (lower : List (List (LevelNode K ℕ))) (a : List (K × ℕ)) (first : K) (number : ℕ) (b : List (K × ℕ)) (key : K) where
   -- a search on its way in an inner node, whose row is the highest of those below
@@ -128,9 +115,9 @@ module _ {K V : Type 0} (cmp : K → K → Ordering) (o : IsTotalOrder cmp) (mos
     child_below index child index_is child_at =
         let at = s.here.at in
         let d = sides cmp o at.es key (increasing_rest cmp o at.e at.es s.increasing) in
-        let w = low_of cmp at.e d.l key d.low in
+        let w = last_of at.e d.l in
         let es_is : at.e ∷ at.es ≡ w.init ++ w.last ∷ d.r = ap (λ z. at.e ∷ z) d.es_is ∙ ap (λ z. z ++ d.r) w.is ∙ append_assoc w.init (w.last ∷ []) d.r in
-        let count_is : length w.init ≡ index = w.count_is ∙ d.i_is ∙ sym index_is in
+        let count_is : length w.init ≡ index = omega (arith, ap length w.is, length-append w.init (w.last ∷ []), d.i_is, index_is) in
         let here : slice_get (at.e ∷ at.es) index ≡ Some w.last = ap (λ z. slice_get z index) es_is ∙ slice_get_at w.init w.last d.r index count_is in
         let child_is : child ≡ w.last.1 = some_same child w.last.1 (sym child_at ∙ items-read (at.e ∷ at.es) index ∙ ap (λ z. option_map (λ (e : K × ℕ). e.1) z) here) in
         record {
@@ -139,7 +126,7 @@ module _ {K V : Type 0} (cmp : K → K → Ordering) (o : IsTotalOrder cmp) (mos
           back = d.r ++ flat at.after;
           under = subst (λ (z : List (K × ℕ)). Under most slots leaves s.here.rows z) (ap flat at.row_is ∙ flat_parted at.before number (at.e ∷ at.es) w.init w.last d.r at.after es_is ∙ ap (λ z. (flat at.before ++ w.init) ++ (w.last.0, z) ∷ (d.r ++ flat at.after)) (sym child_is)) s.here.under;
           through = record {
-            from = elim w.from [
+            from = elim (low_last cmp w.init w.last at.e d.l key w.is d.low) [
               | inl z ↦ elim (from_cases cmp a at.e.0 key s.from) [
                 | inl none ↦ subst (λ (y : List (K × ℕ)). IsFrom cmp y w.last.0 key) (sym (ap (λ y. flat y ++ w.init) (none_before at.before a at.before_is none) ∙ z.0)) tt
                 | inr ng ↦ is_from cmp (flat at.before ++ w.init) w.last.0 key (subst (λ (y : K × ℕ). cmp y.0 key ≢ Greater) (sym z.1) ng)

@@ -3,7 +3,7 @@ use Rattle.std.proofs.Common.{◌≡◌, ℕ, zero, suc, ◌+◌, ◌-◌, ◌�
 use Rattle.bforest_core.proofs.Words.{length-map, nil_from_length, Content, IsInner, entry_count, children_of, LevelNode, node, flat, Tree, half_of, leaf_content, inner_content, entry_items, IsAt, Stands, StandsTo, SameAbove, Under, Led, LedLast}
 use Rattle.bforest_core.proofs.rows.LevelRows.{flat-append}
 use Rattle.bforest_core.proofs.table.Stored.{some_same, item_count}
-use Rattle.bforest_core.proofs.walks.Downward.{Seen, stands_more, stands_same, no_heads}
+use Rattle.bforest_core.proofs.walks.Downward.{Seen, at_node, stands_more, stands_same, no_heads}
 use Rattle.bforest_core.proofs.walks.TopNode.{SameBut, none_flat, flat_parted, seen_at, set_but, LeafUnder, InnerUnder, leaf_under, inner_under}
 use Rattle.bforest_core.proofs.walks.Whole.{stands_above}
 
@@ -45,14 +45,7 @@ module _ {K V : Type 0} (most : ℕ) (slots : List (Content K V)) (leaves : List
       let below = stands_same path1 indices1 path2 indices2 1 s.rows (length d.leaf.before) top (λ i low. nodes i (λ z. omega (arith, z, low, high_is))) (λ i low. entries i (λ z. omega (arith, z, low, high_is))) d.stands in
       let more = stands_more path2 indices2 1 s.rows s.row (length d.leaf.before) top high below (omega (arith, high_is)) (seen_at s.at (get_or path2 high 0) (get_or indices2 high 0) index top m_is j_is within top_is) in
       record {
-        leaf = record {
-          before = d.leaf.before;
-          entries = d.leaf.entries;
-          after = d.leaf.after;
-          row_is = d.leaf.row_is ∙ ap (λ z. d.leaf.before ++ node z d.leaf.entries ∷ d.leaf.after) (sym (nodes 0 (λ z. omega (arith, z, high_is))));
-          within = omega (arith, entries 0 (λ z. omega (arith, z, high_is)), d.leaf.within);
-          place_is = d.leaf.place_is ∙ ap (λ z. length (flat d.leaf.before) + z) (sym (entries 0 (λ z. omega (arith, z, high_is))));
-        };
+        leaf = at_node leaves d.leaf.before (get_or path1 0 0) d.leaf.entries d.leaf.after (get_or path2 0 0) (get_or indices2 0 0) (get_or indices1 0 0) place d.leaf.row_is (nodes 0 (λ z. omega (arith, z, high_is))) (entries 0 (λ z. omega (arith, z, high_is))) d.leaf.within d.leaf.place_is;
         stands = subst (λ (z : List (List (LevelNode K ℕ))). StandsTo path2 indices2 1 z (length d.leaf.before) (length a)) (sym s.lower_is) (subst (λ (z : ℕ). StandsTo path2 indices2 1 (s.rows ++ s.row ∷ []) (length d.leaf.before) z) s.at.before_is more);
         nodes_above = λ i low. nodes i (λ z. omega (arith, z, low, high_is, s.count_is)) ∙ d.nodes_above i (omega (arith, low, s.count_is));
         entries_above = λ i low. entries i (λ z. omega (arith, z, low, high_is, s.count_is)) ∙ d.entries_above i (omega (arith, low, s.count_is));

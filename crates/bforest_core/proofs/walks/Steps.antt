@@ -1,6 +1,6 @@
 -- A step of a path on one row.
 use Rattle.std.proofs.Common.{◌≡◌, ◌≢◌, ℕ, suc, ◌+◌, ◌-◌, ◌≤◌, ◌<◌, List, [], ◌∷◌, ◌++◌, length, take, get_or, slice_get, Some, Bool, true, false, refl, sym, ap, subst, ◌∙◌, arith, append_assoc, length-append}
-use Rattle.bforest_core.proofs.Words.{false≢true, entry_count, get_or_default, nil_from_length, take_at, slice_get_within, Content, LevelNode, node, flat, heads, FitRow, RowIn, inner_content, IsAt, StandsAbove, Over, Moved}
+use Rattle.bforest_core.proofs.Words.{false≢true, entry_count, get_or_default, nil_from_length, take_at, slice_get_within, Content, LevelNode, node, flat, heads, FitRow, RowIn, inner_content, StandsAbove, Over, Moved}
 use Rattle.bforest_core.proofs.rows.LevelRows.{flat-append, least-pos, FitRow-split}
 use Rattle.bforest_core.proofs.table.Lists.{slice_get-append-add, slice_get-append_left}
 use Rattle.bforest_core.proofs.table.Stored.{some_same, slice_get_at}
@@ -33,11 +33,6 @@ not_less m n past = omega (arith, past)
 -- a test has one outcome
 pub never : {test : Bool} {A : Type 0} → test ≡ true → test ≡ false → A
 never is not = absurd (false≢true (sym not ∙ is))
-
--- a place at a node of a row
-abbrev pub at_node : {K X : Type 0} (row before : List (LevelNode K X)) (n : ℕ) (es : List (K × X)) (after : List (LevelNode K X)) (m j index place : ℕ) → row ≡ before ++ node n es ∷ after → m ≡ n → j ≡ index → index < length es → place ≡ length (flat before) + index → IsAt row m j place
-at_node row before n es after m j index place row_is m_is j_is low place_is =
-    record { before = before; entries = es; after = after; row_is = row_is ∙ ap (λ z. before ++ node z es ∷ after) (sym m_is); within = omega (arith, j_is, low); place_is = place_is ∙ ap (λ z. length (flat before) + z) (sym j_is) }
 
 module _ {K V X : Type 0} (content : List (K × X) → Content K V) (slots : List (Content K V)) (most : ℕ) where
   -- a path in the node at a place of a row, and in the rows above

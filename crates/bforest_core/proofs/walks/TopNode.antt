@@ -4,7 +4,7 @@ use Rattle.bforest_core.proofs.Words.{get_or-set_other, nil_from_length, slice_g
 use Rattle.bforest_core.proofs.rows.LevelRows.{flat-append}
 use Rattle.bforest_core.proofs.table.Stored.{some_same}
 use Rattle.bforest_core.proofs.table.Tables.{row-split}
-use Rattle.bforest_core.proofs.walks.Downward.{Seen, seen, last_of, stacked_last, in_last}
+use Rattle.bforest_core.proofs.walks.Downward.{Seen, at_node, seen, last_of, stacked_last, in_last}
 
 -- but for this level a list is as before
 abbrev pub SameBut : ℕ → List ℕ → List ℕ → Type 0
@@ -24,14 +24,7 @@ flat_parted before n es l x r after is =
 
 -- a place at the node
 abbrev pub seen_at : {K X : Type 0} {half most : ℕ} {row : List (LevelNode K X)} {a : List (K × ℕ)} {first : K} {number : ℕ} {b : List (K × ℕ)} (at : Seen half most row a first number b) (n j index place : ℕ) → n ≡ number → j ≡ index → index ≤ length at.es → place ≡ length (flat at.before) + index → IsAt row n j place
-seen_at at n j index place n_is j_is within place_is = record {
-  before = at.before;
-  entries = at.e ∷ at.es;
-  after = at.after;
-  row_is = at.row_is ∙ ap (λ z. at.before ++ node z (at.e ∷ at.es) ∷ at.after) (sym n_is);
-  within = omega (arith, j_is, within);
-  place_is = place_is ∙ ap (λ z. length (flat at.before) + z) (sym j_is);
-}
+seen_at {row = row} {number = number} at n j index place n_is j_is within place_is = at_node row at.before number (at.e ∷ at.es) at.after n j index place at.row_is n_is j_is (omega (arith, within)) place_is
 
 pub record LeafUnder {K V : Type 0} (most : ℕ) (slots : List (Content K V)) (leaves : List (LevelNode K V)) (lower : List (List (LevelNode K ℕ))) (a : List (K × ℕ)) (first : K) (number : ℕ) (b : List (K × ℕ)) : Type 0 where
   pub lower_is : lower ≡ []

@@ -4,7 +4,8 @@ use Rattle.bforest_core.proofs.Words.{false≢true, Content, entry_count, LevelN
 use Rattle.bforest_core.proofs.rows.Zipper.{stands-same}
 use Rattle.bforest_core.proofs.table.Stored.{some_same, item_count}
 use Rattle.bforest_core.proofs.walks.LeafSearch.{items-read}
-use Rattle.bforest_core.proofs.walks.Steps.{Spot, Within, at_node, entry_at, last_asks, last_is, none_behind, not_less, read, seam, spot, there, within}
+use Rattle.bforest_core.proofs.walks.Downward.{at_node}
+use Rattle.bforest_core.proofs.walks.Steps.{Spot, Within, entry_at, last_asks, last_is, none_behind, not_less, read, seam, spot, there, within}
 use Rattle.bforest_core.proofs.walks.TopNode.{SameBut, none_flat}
 
 module _ {K V : Type 0} where
