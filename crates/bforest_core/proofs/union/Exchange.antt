@@ -1,6 +1,6 @@
 -- Some trees of a table exchanged for others, with what the chain gives or takes: all other roots keep their trees.
 use Rattle.std.proofs.Common.{◌≡◌, ℕ, ◌+◌, ◌≤◌, ◌<◌, ◌↔◌, IsTrue, List, [], ◌∷◌, ◌++◌, map, length, slice_get, sym, ap, ◌∙◌, subst, inl, inr, append_assoc, arith}
-use Rattle.bforest_core.proofs.Words.{flat_map, map-append, flat_map-append, cases_lt, Content, IsFree, Table, flat, numbers, Tree, IsFit, IsIn, Distinct, leaf_content, count, root_of, numbers_of, Frees, slot, tree_of, is_root, Every}
+use Rattle.bforest_core.proofs.Words.{flat_map, map-append, flat_map-append, cases_lt, Content, IsFree, Table, flat, numbers, Tree, IsFit, IsIn, Distinct, leaf_content, count, root_of, numbers_of, slot, tree_of, is_root, Every}
 use Rattle.bforest_core.proofs.Words.{IsForest}
 use Rattle.bforest_core.proofs.table.Tables.{count-append, row-same, rows-same}
 use Rattle.bforest_core.proofs.union.FreeSlots.{free-same}
@@ -52,28 +52,18 @@ module _ {K V : Type 0} where
     pub nums : (m : ℕ) → count m come + count m new.chain ≡ count m gone + count m old.chain
     pub others : (m : ℕ) → count m gone + count m old.chain ≡ 0 → slice_get new.nodes m ≡ slice_get old.nodes m
 
-  -- the chain gave its first numbers
-  pub traded-taken : (old new : Table K V) (gone come taken : List ℕ) → Every (λ (number : ℕ). IsFree (slot old.nodes number)) old.chain → Distinct (gone ++ old.chain) → old.chain ≡ taken ++ new.chain → length new.nodes ≡ length old.nodes →
-      ((m : ℕ) → count m come ≡ count m gone + count m taken) → ((m : ℕ) → count m gone + count m taken ≡ 0 → slice_get new.nodes m ≡ slice_get old.nodes m) → Traded old new gone come
-  traded-taken old new gone come taken free apart chain_is slots nums others =
-      let c = λ (m : ℕ). ap (λ z. count m z) chain_is ∙ count-append m taken new.chain in
-      let rest = (every-append (λ (number : ℕ). IsFree (slot old.nodes number)) taken new.chain (subst (λ (z : List ℕ). Every (λ (number : ℕ). IsFree (slot old.nodes number)) z) chain_is free)).1 in
+  -- the chain gave its first numbers, or got others in front
+  pub traded : (old new : Table K V) (gone come taken freed rest : List ℕ) → Every (λ (number : ℕ). IsFree (slot old.nodes number)) old.chain → Distinct (gone ++ old.chain) → old.chain ≡ taken ++ rest → new.chain ≡ freed ++ rest → Every (λ (number : ℕ). IsFree (slot new.nodes number)) freed → length new.nodes ≡ length old.nodes →
+      ((m : ℕ) → count m come + count m freed ≡ count m gone + count m taken) → ((m : ℕ) → count m gone + count m taken ≡ 0 → slice_get new.nodes m ≡ slice_get old.nodes m) → Traded old new gone come
+  traded old new gone come taken freed rest free apart old_is new_is freed_are slots nums others =
+      let c = λ (m : ℕ). ap (λ z. count m z) old_is ∙ count-append m taken rest in
+      let left = (every-append (λ (number : ℕ). IsFree (slot old.nodes number)) taken rest (subst (λ (z : List ℕ). Every (λ (number : ℕ). IsFree (slot old.nodes number)) z) old_is free)).1 in
+      let still = free-same old.nodes new.nodes rest (λ m here. others m (omega (arith, here, c m, apart m, count-append m gone old.chain))) left in
       record {
-        free = free-same old.nodes new.nodes new.chain (λ m here. others m (omega (arith, here, c m, apart m, count-append m gone old.chain))) rest;
+        free = subst (λ (z : List ℕ). Every (λ (number : ℕ). IsFree (slot new.nodes number)) z) (sym new_is) (every-join (λ (number : ℕ). IsFree (slot new.nodes number)) freed rest freed_are still);
         slots_are = slots;
-        nums = λ m. omega (arith, nums m, c m);
+        nums = λ m. omega (arith, nums m, c m, ap (λ z. count m z) new_is, count-append m freed rest);
         others = λ m none. others m (omega (arith, none, c m));
-      }
-
-  -- or it got numbers in front
-  pub traded-freed : (old new : Table K V) (gone come freed : List ℕ) → Every (λ (number : ℕ). IsFree (slot old.nodes number)) old.chain → Distinct (gone ++ old.chain) → Frees old new gone freed → ((m : ℕ) → count m come + count m freed ≡ count m gone) → Traded old new gone come
-  traded-freed old new gone come freed free apart f nums =
-      let still = free-same old.nodes new.nodes old.chain (λ m here. f.others m (omega (arith, here, apart m, count-append m gone old.chain))) free in
-      record {
-        free = subst (λ (z : List ℕ). Every (λ (number : ℕ). IsFree (slot new.nodes number)) z) (sym f.chain_is) (every-join (λ (number : ℕ). IsFree (slot new.nodes number)) freed old.chain f.freed_are still);
-        slots_are = f.slots_are;
-        nums = λ m. omega (arith, nums m, ap (λ z. count m z) f.chain_is, count-append m freed old.chain);
-        others = λ m none. f.others m (omega (arith, none));
       }
 
   -- a fit tree that is not empty, of at most 17 levels, lies in these slots

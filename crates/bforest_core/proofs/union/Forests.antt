@@ -101,7 +101,7 @@ module _ {K V : Type 0} where
   roots-once most table trees f m = omega (arith, named_all most table trees f m, once most table trees f m)
 
   -- a node has a slot
-  used_within : (slots : List (Content K V)) (m : ℕ) → is_used (slot slots m) ≡ true → m < length slots
+  pub used_within : (slots : List (Content K V)) (m : ℕ) → is_used (slot slots m) ≡ true → m < length slots
   used_within slots m used =
       elim (cases_lt m (length slots)) [ inl low ↦ low | inr past ↦ absurd (let e = ap is_used (get_or_past slots m (Free None) past) in cc) ]
 

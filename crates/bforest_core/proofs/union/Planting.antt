@@ -4,7 +4,7 @@ use Rattle.bforest_core.proofs.Words.{flat_map, cases_lt, IsLeafCapacity, Leaf, 
 use Rattle.bforest_core.proofs.table.Tables.{count-append, count-same, absent_ne, takes}
 use Rattle.bforest_core.proofs.table.Chains.{length-fresh_nodes, length-down_from}
 use Rattle.bforest_core.proofs.rows.Counts.{past-none}
-use Rattle.bforest_core.proofs.union.Exchange.{IsPlanted, Traded, exchange-trees, others-keep, roots-gone, traded-taken}
+use Rattle.bforest_core.proofs.union.Exchange.{IsPlanted, Traded, exchange-trees, others-keep, roots-gone, traded}
 use Rattle.bforest_core.proofs.union.Forests.{once, tree-back}
 use Rattle.bforest_core.proofs.union.Roots.{not-root, one_root, one_tree}
 use Rattle.bforest_core.proofs.union.Reserved.{reserved-union, reserved-then, reserved-roots}
@@ -48,8 +48,8 @@ module _ {K V : Type 0} where
         some = omega arith;
         low = omega arith;
       } in
-      let traded = traded-taken mid new [] (numbers_of tree) (number ∷ []) u.1.free (λ m. omega (arith, once most mid u.0 u.1 m)) t.chain_is t.slots_are (λ m. omega arith) (λ m none. t.same m (absent_ne m number [] (omega (arith, none)))) in
-      let g = exchange-trees most mid new [] [] (tree ∷ []) u.0 u.1 (p, tt) (subst (λ (z : List ℕ). Traded mid new [] z) (one_tree tree) traded) in
+      let moved = traded mid new [] (numbers_of tree) (number ∷ []) [] new.chain u.1.free (λ m. omega (arith, once most mid u.0 u.1 m)) t.chain_is refl tt t.slots_are (λ m. omega arith) (λ m none. t.same m (absent_ne m number [] (omega (arith, none)))) in
+      let g = exchange-trees most mid new [] [] (tree ∷ []) u.0 u.1 (p, tt) (subst (λ (z : List ℕ). Traded mid new [] z) (one_tree tree) moved) in
       let back = tree-back most new (tree ∷ u.0) [] tree u.0 number g refl refl in
       let made = length-fresh_nodes K V (slot_count old) (1 - free_count old) (front_of old.chain) in
       let slots = length-append old.nodes (fresh_nodes {K = K} {V = V} (slot_count old) (1 - free_count old) (front_of old.chain)) in

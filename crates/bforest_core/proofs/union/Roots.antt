@@ -3,7 +3,7 @@ use Rattle.std.proofs.Common.{◌≡◌, ℕ, ◌+◌, ◌<◌, ◌≢◌, IsTru
 use Rattle.bforest_core.proofs.Words.{Changes, flat, sizes_of, flat_map, Table, Tree, count, root_of, numbers_of, tree_of, is_root, IsUnion, OthersKeep, Frees}
 use Rattle.bforest_core.proofs.table.Tables.{count-same, count-other}
 use Rattle.bforest_core.proofs.union.Forests.{tree-back}
-use Rattle.bforest_core.proofs.union.Exchange.{IsPlanted, Traded, traded-taken, traded-freed, exchange-trees, others-keep, roots-gone}
+use Rattle.bforest_core.proofs.union.Exchange.{IsPlanted, Traded, traded, exchange-trees, others-keep, roots-gone}
 use Rattle.bforest_core.proofs.union.Unions.{rooted}
 
 -- a root counts
@@ -51,13 +51,13 @@ module _ {K V : Type 0} where
       ((m : ℕ) → count m (numbers_of (tree_of old.nodes root)) + count m taken ≡ 0 → slice_get new.nodes m ≡ slice_get old.nodes m) →
       Exchanged most old new root tree'
   exchanged most old new root tree' taken union is p chain_is slots nums others =
-      exchanged_by most old new root tree' union is p (traded-taken old new (numbers_of (tree_of old.nodes root)) (numbers_of tree') taken union.1.free (rooted most old root union is).apart chain_is slots nums others)
+      exchanged_by most old new root tree' union is p (traded old new (numbers_of (tree_of old.nodes root)) (numbers_of tree') taken [] new.chain union.1.free (rooted most old root union is).apart chain_is refl tt slots (λ m. omega (arith, nums m)) others)
 
   -- a removal under a root
   pub exchanged-freed : (most : ℕ) (old new : Table K V) (root : ℕ) (tree' : Tree K V) (freed : List ℕ) → IsUnion most old → IsTrue (is_root old.nodes root) → IsPlanted most new.nodes tree' → Frees old new (numbers_of (tree_of old.nodes root)) freed →
       ((m : ℕ) → count m (numbers_of tree') + count m freed ≡ count m (numbers_of (tree_of old.nodes root))) → Exchanged most old new root tree'
   exchanged-freed most old new root tree' freed union is p frees nums =
-      exchanged_by most old new root tree' union is p (traded-freed old new (numbers_of (tree_of old.nodes root)) (numbers_of tree') freed union.1.free (rooted most old root union is).apart frees nums)
+      exchanged_by most old new root tree' union is p (traded old new (numbers_of (tree_of old.nodes root)) (numbers_of tree') [] freed old.chain union.1.free (rooted most old root union is).apart refl frees.chain_is frees.freed_are frees.slots_are (λ m. omega (arith, nums m)) (λ m none. frees.others m (omega (arith, none))))
 
   -- as a change of a tree
   pub exchanged-changes : {most : ℕ} {old new : Table K V} {root root' : ℕ} {tree' : Tree K V} → Exchanged most old new root tree' → root_of tree' ≡ root' → new.limit ≡ old.limit → Changes most old new root root' (flat tree'.leaves) (sizes_of tree')
@@ -78,7 +78,7 @@ module _ {K V : Type 0} where
   uprooted-union most old new root freed union is frees nums =
       let r = rooted most old root union is in
       let tree = tree_of old.nodes root in
-      let t = traded-freed old new (numbers_of tree) [] freed union.1.free r.apart frees (λ m. omega (arith, nums m)) in
+      let t = traded old new (numbers_of tree) [] [] freed old.chain union.1.free r.apart refl frees.chain_is frees.freed_are frees.slots_are (λ m. omega (arith, nums m)) (λ m none. frees.others m (omega (arith, none))) in
       let g = exchange-trees most old new r.before (tree ∷ []) [] r.after r.forest tt (subst (λ (z : List ℕ). Traded old new z []) (one_tree tree) t) in (
         (r.before ++ r.after, g),
         subst (λ (z : ℕ). ¬ IsTrue (is_root new.nodes z)) r.root_is (roots-gone most old new r.before (tree ∷ []) [] r.after r.forest g (root_of tree) (one_root (root_of tree)) refl),

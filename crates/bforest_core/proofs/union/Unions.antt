@@ -1,6 +1,6 @@
 -- A tree of a union of trees, under its root.
-use Rattle.std.proofs.Common.{◌≡◌, ℕ, ◌≤◌, ◌<◌, IsTrue, List, [], ◌∷◌, ◌++◌, length, refl, sym, subst, inl, inr, arith}
-use Rattle.bforest_core.proofs.Words.{flat_map, cases_lt, Table, flat, Tree, IsFit, IsIn, count, Distinct, root_of, numbers_of, IsRooted, tree_of, is_root, IsForest, IsUnion}
+use Rattle.std.proofs.Common.{◌≡◌, ℕ, ◌≤◌, ◌<◌, IsTrue, List, ◌∷◌, ◌++◌, length, refl, sym, ap, subst, inl, inr, arith}
+use Rattle.bforest_core.proofs.Words.{flat_map, flat_map-append, cases_lt, Table, flat, Tree, IsFit, IsIn, count, Distinct, root_of, numbers_of, IsRooted, tree_of, is_root, IsForest, IsUnion}
 use Rattle.bforest_core.proofs.table.Tables.{count-append}
 use Rattle.bforest_core.proofs.rows.Counts.{past-none}
 use Rattle.bforest_core.proofs.union.Forests.{every-append, once, root-tree, tree-back}
@@ -22,8 +22,7 @@ module _ {K V : Type 0} where
 
   -- the numbers of one tree are among those of all
   numbers_parts : (m : ℕ) (before : List (Tree K V)) (tree : Tree K V) (after : List (Tree K V)) → count m (numbers_of tree) ≤ count m (flat_map numbers_of (before ++ tree ∷ after))
-  numbers_parts m [] tree after = omega (arith, count-append m (numbers_of tree) (flat_map numbers_of after))
-  numbers_parts m (first ∷ before) tree after = omega (arith, numbers_parts m before tree after, count-append m (numbers_of first) (flat_map numbers_of (before ++ tree ∷ after)))
+  numbers_parts m before tree after = omega (arith, ap (λ z. count m z) (flat_map-append numbers_of before (tree ∷ after)), count-append m (flat_map numbers_of before) (flat_map numbers_of (tree ∷ after)), count-append m (numbers_of tree) (flat_map numbers_of after))
 
   -- a tree of the witness stands under its root
   rooted_at : (most : ℕ) (table : Table K V) (root : ℕ) (before : List (Tree K V)) (tree : Tree K V) (after : List (Tree K V)) → root_of tree ≡ root → IsForest most table (before ++ tree ∷ after) → Rooted most table root tree

@@ -57,30 +57,12 @@ module _ {K X : Type 0} where
       flat-append before _ ∙ ap (λ z. flat before ++ z) (sym (written-front es (flat after) i v low)) ∙ sym (written-behind (flat before) (es ++ flat after) p i v p_is)
       ∙ ap (λ z. with_value z p v) (sym (flat-append before (node n es ∷ after))) ∙ ap (λ z. with_value (flat z) p v) (sym row_is)
 
-  heads-written : (before : List (LevelNode K X)) (n : ℕ) (es : List (K × X)) (after : List (LevelNode K X)) (i : ℕ) (v : X) → heads (before ++ node n (with_value es i v) ∷ after) ≡ heads (before ++ node n es ∷ after)
-  heads-written before n es after i v = heads-append before _ ∙ ap (λ z. heads before ++ (z ++ heads after)) (head-written n es i v) ∙ sym (heads-append before _)
-
-  sizes-written : (before : List (LevelNode K X)) (n : ℕ) (es : List (K × X)) (after : List (LevelNode K X)) (i : ℕ) (v : X) → sizes (before ++ node n (with_value es i v) ∷ after) ≡ sizes (before ++ node n es ∷ after)
-  sizes-written before n es after i v = sizes-append before _ ∙ ap (λ z. sizes before ++ z ∷ sizes after) (length-written es i v) ∙ sym (sizes-append before _)
-
-  numbers-written : (before : List (LevelNode K X)) (n : ℕ) (es fs : List (K × X)) (after : List (LevelNode K X)) → numbers (before ++ node n fs ∷ after) ≡ numbers (before ++ node n es ∷ after)
-  numbers-written before n es fs after = numbers-append before _ ∙ sym (numbers-append before _)
-
-  fit-written : (half most : ℕ) (before : List (LevelNode K X)) (n : ℕ) (es fs : List (K × X)) (after : List (LevelNode K X)) → length fs ≡ length es → FitRow half most (before ++ node n es ∷ after) → FitRow half most (before ++ node n fs ∷ after)
-  fit-written half most before n es fs after same f =
-      let s = FitRow-split half most before (node n es) after f in
-      FitRow-join half most before (node n fs) after s.0 (omega (arith, same, s.1.0), omega (arith, same, s.1.1), s.1.2)
-
 module _ {K V : Type 0} where
-  -- what the leaf's slot holds then
-  leaf-written : (es : List (K × V)) (i : ℕ) (v : V) → content_with (leaf_content es) i v ≡ leaf_content (with_value es i v)
-  leaf-written es i v = ap (λ z. Leaf z (set (entry_items es) i v)) (sym (keys-written es i v)) ∙ ap (λ z. Leaf (entry_keys (with_value es i v)) z) (sym (items-written es i v))
-
   -- one slot is written
   value_puts : (table : Table K V) (n i : ℕ) (v : V) (es : List (K × V)) → slice_get table.nodes n ≡ Some (leaf_content es) → Puts table (with_value_at table n i v) n (leaf_content (with_value es i v))
   value_puts table n i v es found =
       puts table (with_value_at table n i v) n (leaf_content (with_value es i v)) (leaf_content es) found
-      (ap (λ z. with_node table n z) (ap (λ z. content_with z i v) (slot-is table.nodes n (leaf_content es) found) ∙ leaf-written es i v))
+      (ap (λ z. with_node table n z) (ap (λ z. content_with z i v) (slot-is table.nodes n (leaf_content es) found) ∙ ap (λ z. Leaf z (set (entry_items es) i v)) (sym (keys-written es i v)) ∙ ap (λ z. Leaf (entry_keys (with_value es i v)) z) (sym (items-written es i v))))
 
   module _ (most : ℕ) (table : Table K V) (root place : ℕ) (path indices : List ℕ) (size : ℕ) (union : IsUnion most table) (s : StandsUnder table.nodes root path indices size place) where
     abbrev r : Rooted most table root (tree_of table.nodes root)
@@ -119,15 +101,15 @@ module _ {K V : Type 0} where
         let row : List (LevelNode K V) = at.before ++ node n at.entries ∷ at.after in
         let row' : List (LevelNode K V) = at.before ++ node n (with_value at.entries i v) ∷ at.after in
         let tree' : Tree K V = record { leaves = row'; above = tree.above } in
-        let hs : heads row' ≡ heads tree.leaves = heads-written at.before n at.entries at.after i v ∙ ap heads (sym at.row_is) in
-        let ns : numbers row' ≡ numbers tree.leaves = numbers-written at.before n at.entries (with_value at.entries i v) at.after ∙ ap numbers (sym at.row_is) in
+        let hs : heads row' ≡ heads tree.leaves = heads-append at.before _ ∙ ap (λ z. heads at.before ++ (z ++ heads at.after)) (head-written n at.entries i v) ∙ sym (ap heads at.row_is ∙ heads-append at.before (node n at.entries ∷ at.after)) in
+        let ns : numbers row' ≡ numbers tree.leaves = numbers-append at.before _ ∙ sym (ap numbers at.row_is ∙ numbers-append at.before (node n at.entries ∷ at.after)) in
         let fl : flat row' ≡ with_value (flat tree.leaves) place v = flat-written tree.leaves at.before n at.entries at.after place i v at.row_is at.place_is at.within in
-        let ss : sizes_of tree' ≡ sizes_of tree = ap (λ z. z ∷ map sizes tree.above) (sizes-written at.before n at.entries at.after i v ∙ ap sizes (sym at.row_is)) in
-        let fit : FitRow (half_of most) most row = subst (λ (z : List (LevelNode K V)). FitRow (half_of most) most z) at.row_is r.fit.leaves_fit in
+        let ss : sizes_of tree' ≡ sizes_of tree = ap (λ z. z ∷ map sizes tree.above) (sizes-append at.before _ ∙ ap (λ z. sizes at.before ++ z ∷ sizes at.after) (length-written at.entries i v) ∙ sym (ap sizes at.row_is ∙ sizes-append at.before (node n at.entries ∷ at.after))) in
+        let fit = FitRow-split (half_of most) most at.before (node n at.entries) at.after (subst (λ (z : List (LevelNode K V)). FitRow (half_of most) most z) at.row_is r.fit.leaves_fit) in
         let inside : RowIn leaf_content table.nodes row = subst (λ (z : List (LevelNode K V)). RowIn leaf_content table.nodes z) at.row_is r.inside.leaves_in in
         let p : IsPlanted most new.nodes tree' = record {
           fit = record {
-            leaves_fit = fit-written (half_of most) most at.before n at.entries (with_value at.entries i v) at.after (length-written at.entries i v) fit;
+            leaves_fit = FitRow-join (half_of most) most at.before (node n (with_value at.entries i v)) at.after fit.0 (omega (arith, length-written at.entries i v, fit.1.0), omega (arith, length-written at.entries i v, fit.1.1), fit.1.2);
             stacked = subst (λ (z : List (K × ℕ)). Stacked z tree.above) (sym hs) r.fit.stacked;
             topped = subst (λ (z : List (K × ℕ)). Topped z tree.above) (sym hs) r.fit.topped;
           };
