@@ -82,7 +82,7 @@ module _ {K V : Type 0} where
   root_used : (most : ℕ) → 1 ≤ half_of most → (slots : List (Content K V)) (tree : Tree K V) → IsRooted most slots (root_of tree) tree → is_used (slot slots (root_of tree)) ≡ true
   root_used most one slots tree r =
       let h = node_held most one slots tree.leaves tree.above [] (whole_top most slots (root_of tree) tree r).first (root_of tree) [] (whole_under most slots (root_of tree) tree r) in
-      ap is_used (slot-is slots (root_of tree) h.content h.slot_is) ∙ used_some h.content h.some
+      ap is_used (slot-is slots (root_of tree) h.0 h.1) ∙ used_some h.0 h.2
 
   -- what the slots of a table name: each number of its trees but the roots
   named_all : (most : ℕ) (table : Table K V) (trees : List (Tree K V)) → IsForest most table trees → (m : ℕ) → count m (flat_map children_of table.nodes) + count m (map root_of trees) ≡ count m (flat_map numbers_of trees)

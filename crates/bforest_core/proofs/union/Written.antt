@@ -98,7 +98,6 @@ module _ {K V : Type 0} where
         let tree = tree_of table.nodes root in
         let new = with_value_at table n i v in
         let w = value_puts table n i v at.entries leaf_at in
-        let row : List (LevelNode K V) = at.before ++ node n at.entries ∷ at.after in
         let row' : List (LevelNode K V) = at.before ++ node n (with_value at.entries i v) ∷ at.after in
         let tree' : Tree K V = record { leaves = row'; above = tree.above } in
         let hs : heads row' ≡ heads tree.leaves = heads-append at.before _ ∙ ap (λ z. heads at.before ++ (z ++ heads at.after)) (head-written n at.entries i v) ∙ sym (ap heads at.row_is ∙ heads-append at.before (node n at.entries ∷ at.after)) in
@@ -106,7 +105,6 @@ module _ {K V : Type 0} where
         let fl : flat row' ≡ with_value (flat tree.leaves) place v = flat-written tree.leaves at.before n at.entries at.after place i v at.row_is at.place_is at.within in
         let ss : sizes_of tree' ≡ sizes_of tree = ap (λ z. z ∷ map sizes tree.above) (sizes-append at.before _ ∙ ap (λ z. sizes at.before ++ z ∷ sizes at.after) (length-written at.entries i v) ∙ sym (ap sizes at.row_is ∙ sizes-append at.before (node n at.entries ∷ at.after))) in
         let fit = FitRow-split (half_of most) most at.before (node n at.entries) at.after (subst (λ (z : List (LevelNode K V)). FitRow (half_of most) most z) at.row_is r.fit.leaves_fit) in
-        let inside : RowIn leaf_content table.nodes row = subst (λ (z : List (LevelNode K V)). RowIn leaf_content table.nodes z) at.row_is r.inside.leaves_in in
         let p : IsPlanted most new.nodes tree' = record {
           fit = record {
             leaves_fit = FitRow-join (half_of most) most at.before (node n (with_value at.entries i v)) at.after fit.0 (omega (arith, length-written at.entries i v, fit.1.0), omega (arith, length-written at.entries i v, fit.1.1), fit.1.2);
@@ -114,18 +112,17 @@ module _ {K V : Type 0} where
             topped = subst (λ (z : List (K × ℕ)). Topped z tree.above) (sym hs) r.fit.topped;
           };
           inside = record {
-            leaves_in = row-put leaf_content table.nodes new.nodes at.before n at.entries (with_value at.entries i v) at.after inside w.same w.here once_here.0;
+            leaves_in = row-put leaf_content table.nodes new.nodes at.before n at.entries (with_value at.entries i v) at.after (subst (λ (z : List (LevelNode K V)). RowIn leaf_content table.nodes z) at.row_is r.inside.leaves_in) w.same w.here once_here.0;
             rows_in = rows-same table.nodes new.nodes tree.above (λ m some. w.same m (ne_from_count m n (flat_map numbers tree.above) some once_here.1)) r.inside.rows_in;
           };
           some = omega (arith, r.some, ap length fl, length-written (flat tree.leaves) place v);
           low = r.low;
         } in
         let same_root : root_of tree' ≡ root = ap (λ z. root_above z tree.above) hs ∙ r.root_is in
-        let parts = λ (m : ℕ). count-append m (numbers tree.leaves) (flat_map numbers tree.above) in
         let c = ap (λ z. count n (numbers z)) at.row_is ∙ count-row n at.before n at.entries at.after in
         let e = exchanged most table new root tree' [] union s.root_is p (sym w.chain_is) w.slots_are
         (λ m. (let d = ap (λ z. count m (z ++ flat_map numbers tree.above)) ns in omega (arith, d)))
-        (λ m zero_is. w.same m (λ (is : m ≡ n). (let d = ap (λ z. count z (numbers_of tree)) is in omega (arith, zero_is, d, c, parts n, count-same n (numbers at.after))))) in
+        (λ m zero_is. w.same m (λ (is : m ≡ n). (let d = ap (λ z. count z (numbers_of tree)) is in omega (arith, zero_is, d, c, count-append n (numbers tree.leaves) (flat_map numbers tree.above), count-same n (numbers at.after))))) in
         let changes = exchanged-changes e same_root w.limit_is in
         let tree_is : tree_of new.nodes root ≡ tree' = ap (tree_of new.nodes) (sym same_root) ∙ e.tree_is in (
           subst (λ (z : List (List ℕ)). Changes most table new root root (with_value (flat tree.leaves) place v) z) ss (subst (λ (z : List (K × V)). Changes most table new root root z (sizes_of tree')) fl changes),

@@ -6,9 +6,7 @@ use Rattle.bforest_core.proofs.walks.TopNode.{node_held, node_within}
 use Rattle.bforest_core.proofs.path.Path.+descend_last.Goals as goal
 
 pub last_index-last-requires : goal.last_index-last-requires
-last_index-last-requires g t c =
-    let h = node_held _ (some_leaf _ c.requires.capacity) _ _ _ c.requires.under.2 c.requires.under.3 c.args.node [] c.requires.under.4 in
-    (search rules, (h.content, h.slot_is, h.some))
+last_index-last-requires g t c = (search rules, node_held _ (some_leaf _ c.requires.capacity) _ _ _ c.requires.under.2 c.requires.under.3 c.args.node [] c.requires.under.4)
 
 pub node-requires : goal.node-requires
 node-requires g t c = (search rules, (search rules, node_within _ (some_leaf _ c.requires.capacity) _ _ _ c.requires.under.2 c.requires.under.3 c.args.node [] c.requires.under.4))

@@ -29,4 +29,4 @@ overflow_add-self g c = omega (arith, (led-first g.row.N c.args.pool.now c.args.
 pub returns : goal.returns
 returns g c =
     let led = led-first g.row.N c.args.pool.now c.args.root c.requires.union c.requires.root _ _ _ _ _ c.descend_first-level.ensures.level in
-    record { leaf = get_or_default c.descend_first-level.new.self.node 0 c.index-self-0.result 0 (omega arith); index = omega (arith, led.1.stands.leaf.place_is); stands = leaf-front c.requires.union 0 _ led.1 (omega (arith, led.1.stands.leaf.place_is)) }
+    record { leaf = get_or_default c.descend_first-level.new.self.node 0 _ 0 (omega arith); index = omega (arith, led.1.stands.leaf.place_is); stands = leaf-front c.requires.union 0 _ led.1 (omega (arith, led.1.stands.leaf.place_is)) }

@@ -19,8 +19,5 @@ returns-in_default-clause-value g c = λ at. said c.requires.union c.args.self.n
 pub returns-in_default-clause-stands : goal.returns-in_default-clause-stands
 returns-in_default-clause-stands g c = λ at. record { root_is = at.on.root_is; at = said c.requires.union c.args.self.now at.on (c.in_default.ensures.last refl) }
 
-pub returns-then-self-eq0-clause-value : goal.returns-then-self-eq0-clause-value
-returns-then-self-eq0-clause-value g c = λ at. absurd (omega (arith, c.if-self-eq0.true, at.on.stands.size_is))
-
-pub returns-then-self-eq0-clause-stands : goal.returns-then-self-eq0-clause-stands
-returns-then-self-eq0-clause-stands g c = λ at. absurd (omega (arith, c.if-self-eq0.true, at.on.stands.size_is))
+pub returns-then-self-eq0 : goal.returns-then-self-eq0
+returns-then-self-eq0 g c = record { value = λ at. absurd (omega (arith, c.if-self-eq0.true, at.on.stands.size_is)); stands = λ at. absurd (omega (arith, c.if-self-eq0.true, at.on.stands.size_is)); end = λ none. c.if-self-eq0.true; stays = λ end. refl }

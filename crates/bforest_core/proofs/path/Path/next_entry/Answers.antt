@@ -5,14 +5,10 @@ use Rattle.bforest_core.proofs.walks.Entered.{entry_read, leaf_here, next_last, 
 use Rattle.bforest_core.proofs.path.Path.next_entry.Goals as goal
 
 pub overflow_add-next : goal.overflow_add-next
-overflow_add-next g c =
-    let w = c.requires.stands in
-    omega (arith, w.4.leaf.within, (leaf_here (some_leaf _ c.requires.capacity) w.2 w.3 w.4).room, c.requires.capacity.most)
+overflow_add-next g c = let s = c.requires.stands.4 in omega (arith, s.leaf.within, (leaf_here (some_leaf _ c.requires.capacity) c.requires.stands.2 c.requires.stands.3 s).room, c.requires.capacity.most)
 
 pub leaf_entry-requires : goal.leaf_entry-requires
-leaf_entry-requires g c =
-    let w = c.requires.stands in
-    (search rules, (search rules, (w.4.leaf.entries, (leaf_here (some_leaf _ c.requires.capacity) w.2 w.3 w.4).slot_is)))
+leaf_entry-requires g c = (search rules, (search rules, (c.requires.stands.4.leaf.entries, (leaf_here (some_leaf _ c.requires.capacity) c.requires.stands.2 c.requires.stands.3 c.requires.stands.4).slot_is)))
 
 pub returns-in-Some-clause-value : goal.returns-in-Some-clause-value
 returns-in-Some-clause-value g c = λ tree place fit inside s. next_read (some_leaf _ c.requires.capacity) fit inside s c.in-Some.entry c.in-Some.ensures.value

@@ -15,8 +15,7 @@ prev_node-moved-requires g c =
 
 pub last_index-last-requires : goal.last_index-last-requires
 last_index-last-requires g c =
-    let w = c.requires.stands in
-    (search rules, back_asks (some_leaf _ c.requires.capacity) w.2 w.3 w.4 c.prev_node-moved.new.self.node c.prev_node-moved.new.self.entry (c.prev_node-moved.ensures.moved c.if-moved.true) c.index-self-0.result (omega arith))
+    (search rules, back_asks (some_leaf _ c.requires.capacity) c.requires.stands.2 c.requires.stands.3 c.requires.stands.4 c.prev_node-moved.new.self.node c.prev_node-moved.new.self.entry (c.prev_node-moved.ensures.moved c.if-moved.true) c.index-self-0.result (omega arith))
 
 pub returns-then-moved : goal.returns-then-moved
 returns-then-moved g c = record { moved = λ yes tree place fit inside s. back_over (some_leaf _ c.requires.capacity) fit inside s c.prev_node-moved.new.self.node c.prev_node-moved.new.self.entry (c.prev_node-moved.ensures.moved c.if-moved.true) c.index-self-0.result (omega arith) c.set_entry-then-moved.new.self.node c.set_entry-then-moved.new.self.entry c.last_index-last.result c.last_index-last.ensures.last c.set_entry-then-moved.ensures.nodes c.if-here-gt0.false c.set_entry-then-moved.ensures.here c.set_entry-then-moved.ensures.above; first = never c.if-moved.true; same = never c.if-moved.true; size = c.set_entry-then-moved.ensures.size ∙ c.prev_node-moved.ensures.size }
