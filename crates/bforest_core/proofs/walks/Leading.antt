@@ -91,15 +91,7 @@ module _ {K V : Type 0} (most : ℕ) (slots : List (Content K V)) where
     pub under : Under most slots leaves rows ((first, child) ∷ rest)
     pub count_is : length lower ≡ suc (length rows)
 
-  -- and down the last nodes
-  pub record BackBelow (leaves : List (LevelNode K V)) (lower : List (List (LevelNode K ℕ))) (child : ℕ) : Type 0 where
-    pub rows : List (List (LevelNode K ℕ))
-    pub before : List (K × ℕ)
-    pub first : K
-    pub under : Under most slots leaves rows (before ++ (first, child) ∷ [])
-    pub count_is : length lower ≡ suc (length rows)
-
-  -- what they leave
+  -- what it leaves there, and one down the last nodes
   abbrev pub LeadsFirst : List ℕ → List ℕ → List ℕ → List ℕ → ℕ → ℕ → Type 0
   LeadsFirst path indices path1 indices1 child below =
       (leaves : List (LevelNode K V)) (lower : List (List (LevelNode K ℕ))) (first : K) (b : List (K × ℕ)) → Under most slots leaves lower ((first, child) ∷ b) → (below ≡ length lower) × Led leaves lower path indices path1 indices1
@@ -170,18 +162,18 @@ module _ {K V : Type 0} (most : ℕ) (one : 1 ≤ half_of most) (slots : List (C
       c : ChildUnder most slots leaves lower back_node.rows child (length (flat back_node.at.before) + last) (length (flat back_node.row))
       c = child_under most slots leaves lower a first number [] back_node content2 read2 last child child_read
 
-      pub back_below : BackBelow most slots leaves lower child
+      pub back_below : (rows : List (List (LevelNode K ℕ))) × (before : List (K × ℕ)) × (first : K) × Under most slots leaves rows (before ++ (first, child) ∷ []) × (length lower ≡ suc (length rows))
       back_below =
           let none = nil_from_length c.back (omega (arith, c.front_is, c.back_is, index, last_place 4 8 (omega arith) back_node.row a first number back_node.at)) in
-          record { rows = back_node.rows; before = c.front; first = c.key; under = subst (λ (z : List (K × ℕ)). Under most slots leaves back_node.rows (c.front ++ (c.key, child) ∷ z)) none c.under; count_is = back_node.count_is }
+          (back_node.rows, c.front, c.key, subst (λ (z : List (K × ℕ)). Under most slots leaves back_node.rows (c.front ++ (c.key, child) ∷ z)) none c.under, back_node.count_is)
 
       module _ {path indices path1 indices1 : List ℕ} {below : ℕ} (leads : LeadsLast most slots path indices path1 indices1 child below) where
-        led_last : (below ≡ length back_below.rows) × LedLast leaves back_below.rows (length back_below.before) path indices path1 indices1
-        led_last = leads leaves back_below.rows back_below.before back_below.first back_below.under
+        led_last : (below ≡ length back_below.0) × LedLast leaves back_below.0 (length back_below.1) path indices path1 indices1
+        led_last = leads leaves back_below.0 back_below.1 back_below.2 back_below.3
 
         -- the node's level, and the path through it
         pub back_level : below + 1 ≡ length lower
-        back_level = omega (arith, led_last.0, back_below.count_is)
+        back_level = omega (arith, led_last.0, back_below.4)
 
         pub leads_here : (path2 indices2 : List ℕ) → get_or path2 (below + 1) 0 ≡ number → get_or indices2 (below + 1) 0 ≡ last → path2 ≡ set path1 (below + 1) number → indices2 ≡ set indices1 (below + 1) last → (below + 1 ≡ length lower) × LedLast leaves lower (length a) path indices path2 indices2
         unfolding back_below

@@ -9,13 +9,12 @@ use Rattle.bforest_core.specs.Paths.{IsPlaced}
 use Rattle.bforest_nodes.proofs.Ordered.{place-here, place-later}
 use Rattle.bforest_core.proofs.rows.LevelRows.{FitRow-split}
 use Rattle.bforest_core.proofs.table.Stored.{some_same}
-use Rattle.bforest_core.proofs.union.Unions.{is-rooted}
 use Rattle.bforest_core.proofs.walks.Backward.{at_end, at_entry}
 use Rattle.bforest_core.proofs.walks.Descent.{some_leaf}
 use Rattle.bforest_core.proofs.walks.Entered.{entry_read, points_in}
 use Rattle.bforest_core.proofs.walks.Rising.{all_greater, entry_between, increasing_rest, less_from, place_between, test_at}
 use Rattle.bforest_core.proofs.walks.Standing.{on-leaf-in, on-tree, on-within, points-stands}
-use Rattle.bforest_core.proofs.walks.Steps.{read}
+use Rattle.bforest_core.proofs.walks.Steps.{never, read}
 
 module _ {K X : Type 0} (cmp : K → K → Ordering) (es : List (K × X)) (key : K) where
   -- what a search finds: the key's place, and the entry there where the key is present
@@ -95,18 +94,10 @@ module _ {K V : Type 0} {n : ℕ} (table : Table K V) (root : ℕ) (path : Path 
     pub placed-first : StandsOn table root path 0 → IsPlaced table root path 0
     unfolding points-stands
     placed-first on =
-        let tree = tree_of table.nodes root in
         let s = on.stands in
-        let one = some_leaf n union.1.capacity in
-        let w = is-rooted n table root union on.root_is in
-        let solid = (FitRow-split (half_of n) n s.leaf.before (node (leaf_of path) s.leaf.entries) s.leaf.after (subst (λ (z : List (LevelNode K V)). FitRow (half_of n) n z) s.leaf.row_is w.fit.leaves_fit)).0 in
-        record {
-          root_is = on.root_is;
-          at = record {
-            points = points-stands path.node path.entry tree 0 path.size s;
-            first = λ none. no_nodes (half_of n) n one s.leaf.before solid (omega (arith, s.leaf.place_is));
-          };
-        }
+        let solid = (FitRow-split (half_of n) n s.leaf.before (node (leaf_of path) s.leaf.entries) s.leaf.after (subst (λ (z : List (LevelNode K V)). FitRow (half_of n) n z) s.leaf.row_is (on-tree union path on).fit.leaves_fit)).0 in
+        let points = points-stands path.node path.entry (tree_of table.nodes root) 0 path.size s in
+        record { root_is = on.root_is; at = record { points = points; first = λ none. no_nodes (half_of n) n (some_leaf n union.1.capacity) s.leaf.before solid (omega (arith, s.leaf.place_is)) } }
 
     -- the index behind an entry of a leaf
     pub behind-low : (p : ℕ) → StandsOn table root path p → index_of path + 1 ≤ 255
@@ -119,33 +110,22 @@ module _ {K V : Type 0} {n : ℕ} (table : Table K V) (root : ℕ) (path : Path 
       pub present : is_present cmp (list_under table root) key ≡ true → StandsOn table root path (place cmp (list_under table root) key)
       pub absent : is_present cmp (list_under table root) key ≡ false → IsPlaced table root path (place cmp (list_under table root) key)
 
-    -- on the key's entry
-    ended-on : (p : ℕ) (e : K × V) → Finds cmp (list_under table root) key p (Some e) → StandsOn table root path p → Ended (Some e.1)
-    ended-on p e f on =
-        record {
-          value = sym (ap (λ o. option_map (λ w. w.1) o) f.entry_is);
-          present = λ yes. subst (λ (z : ℕ). StandsOn table root path z) (sym f.place_is) on;
-          absent = λ none. (let bad : true ≡ false = sym (ap is_some f.entry_is) ∙ none in absurd (cc));
-        }
-
-    -- at its place, where it is absent
-    ended-at : (p : ℕ) → Finds cmp (list_under table root) key p None → IsPlaced table root path p → Ended None
-    ended-at p f at =
-        record {
-          value = sym (ap (λ o. option_map (λ w. w.1) o) f.entry_is);
-          present = λ some. (let bad : false ≡ true = sym (ap is_some f.entry_is) ∙ some in absurd (cc));
-          absent = λ none. subst (λ (z : ℕ). IsPlaced table root path z) (sym f.place_is) at;
-        }
+    -- on the key's entry, or at its place, where it is absent
+    ended : (p : ℕ) (found : Option (K × V)) → Finds cmp (list_under table root) key p found → (is_some found ≡ true → StandsOn table root path p) → (is_some found ≡ false → IsPlaced table root path p) → Ended (option_map (λ w. w.1) found)
+    ended p found f on at = record {
+      value = sym (ap (λ o. option_map (λ w. w.1) o) f.entry_is);
+      present = λ yes. subst (λ (z : ℕ). StandsOn table root path z) (sym f.place_is) (on (sym (ap is_some f.entry_is) ∙ yes));
+      absent = λ none. subst (λ (z : ℕ). IsPlaced table root path z) (sym f.place_is) (at (sym (ap is_some f.entry_is) ∙ none));
+    }
 
 -- a path that went back to the entry before a place
 module _ {K V : Type 0} {n : ℕ} (cmp : K → K → Ordering) (o : IsTotalOrder cmp) (table : Table K V) (root : ℕ) (key : K) (increasing : IsIncreasing cmp (list_under table root)) (path : Path K V n) (answer : Option (K × V)) where
   -- there was none
   pub before-none : (p : ℕ) → answer ≡ entry_before (list_under table root) p → StandsOn table root path (p - 1) → IsUnion n table → IsUpTo cmp (drop p (list_under table root)) key → answer ≡ None → Ended table root path cmp key None
   before-none zero value on union up none =
-      ended-at table root path cmp key 0 (finds_first cmp o key (list_under table root) increasing up) (placed-first table root path union on)
+      ended table root path cmp key 0 None (finds_first cmp o key (list_under table root) increasing up) (λ some. never some refl) (λ none. placed-first table root path union on)
   before-none (suc p) value on union up none =
-      let here : suc p - 1 ≡ p = omega arith in
-      let r = read (list_under table root) p (omega (arith, here, on-within table root path (suc p - 1) on)) in
+      let r = read (list_under table root) p (omega (arith, on-within table root path (suc p - 1) on)) in
       let bad : None ≡ Some r.0 = sym none ∙ value ∙ r.1 in
       absurd (cc)
 
@@ -153,8 +133,7 @@ module _ {K V : Type 0} {n : ℕ} (cmp : K → K → Ordering) (o : IsTotalOrder
   pub before-equal : (p : ℕ) → answer ≡ entry_before (list_under table root) p → StandsOn table root path (p - 1) → (e : K × V) → answer ≡ Some e → cmp key e.0 ≡ Equal → Ended table root path cmp key (Some e.1)
   before-equal zero value on e is t = let bad : Some e ≡ None = sym is ∙ value in absurd (cc)
   before-equal (suc p) value on e is t =
-      let here : suc p - 1 ≡ p = omega arith in
-      ended-on table root path cmp key p e (finds_here cmp o key (list_under table root) p e (sym value ∙ is) increasing t) (subst (λ (z : ℕ). StandsOn table root path z) here on)
+      ended table root path cmp key p (Some e) (finds_here cmp o key (list_under table root) p e (sym value ∙ is) increasing t) (λ some. subst (λ (z : ℕ). StandsOn table root path z) (omega arith) on) (never refl)
 
   -- it is less, and the path went one behind it
   pub before-greater : (p : ℕ) → answer ≡ entry_before (list_under table root) p → StandsOn table root path (p - 1) → (e : K × V) → answer ≡ Some e →
@@ -162,9 +141,7 @@ module _ {K V : Type 0} {n : ℕ} (cmp : K → K → Ordering) (o : IsTotalOrder
       IsUpTo cmp (drop p (list_under table root)) key → cmp key e.0 ≡ Greater → Ended table root path' cmp key None
   before-greater zero value on e is path' union same index_is above size_is up t = let bad : Some e ≡ None = sym is ∙ value in absurd (cc)
   before-greater (suc p) value on e is path' union same index_is above size_is up t =
-      let here : suc p - 1 ≡ p = omega arith in
-      let on' = subst (λ (z : ℕ). StandsOn table root path z) here on in
-      ended-at table root path' cmp key (suc p) (finds_behind cmp o key (list_under table root) p e (sym value ∙ is) increasing t up) (placed-behind table root path union path' p on' same index_is above size_is)
+      ended table root path' cmp key (suc p) None (finds_behind cmp o key (list_under table root) p e (sym value ∙ is) increasing t up) (λ some. never some refl) (λ none. placed-behind table root path union path' p (subst (λ (z : ℕ). StandsOn table root path z) (omega arith) on) same index_is above size_is)
 
 -- a path at a place
 module _ {K V : Type 0} {n : ℕ} (table : Table K V) (root : ℕ) (path : Path K V n) (p : ℕ) (at : StandsAt table root path p) where
@@ -192,7 +169,7 @@ module _ {K V : Type 0} {n : ℕ} (table : Table K V) (root : ℕ) (path : Path 
     module _ (cmp : K → K → Ordering) (o : IsTotalOrder cmp) (key : K) where
       -- it is the key's
       pub here-equal : IsIncreasing cmp (list_under table root) → cmp key e.0 ≡ Equal → Ended table root path cmp key (Some e.1)
-      here-equal increasing t = ended-on table root path cmp key p e (finds_here cmp o key (list_under table root) p e here-entry increasing t) on
+      here-equal increasing t = ended table root path cmp key p (Some e) (finds_here cmp o key (list_under table root) p e here-entry increasing t) (λ some. on) (never refl)
 
       -- it is greater
       pub here-greater : cmp key e.0 ≡ Less → IsUpTo cmp (drop p (list_under table root)) key

@@ -25,7 +25,7 @@ pub descend_last-below-requires : goal.descend_last-below-requires
 descend_last-below-requires g t c κs within =
     let w = c.requires.under in
     let d = back_below _ (some_leaf _ c.requires.capacity) _ _ _ c.requires.under.2 c.requires.under.3 c.args.node c.requires.under.4 c.node.result.now c.node-2.result.now c.node.ensures.value (c.is_inner.ensures.inner.0 c.if-not-is_inner.false) c.node-2.ensures.value c.last_index-last.result c.last_index-last.ensures.last _ c.child-child.ensures.child in
-    (omega (arith, c.decreases, w.5, d.count_is), (within.0, (within.1, ((λ a m. search rules), (search rules, (search rules, (c.requires.capacity, (w.0, d.rows, d.before, d.first, d.under, omega (arith, w.5, d.count_is)))))))))
+    (omega (arith, c.decreases, w.5, d.4), (within.0, (within.1, ((λ a m. search rules), (search rules, (search rules, (c.requires.capacity, (w.0, d.0, d.1, d.2, d.3, omega (arith, w.5, d.4)))))))))
 
 pub overflow_add-below : goal.overflow_add-below
 overflow_add-below g t c = omega (arith, back_level _ (some_leaf _ c.requires.capacity) _ _ _ c.requires.under.2 c.requires.under.3 c.args.node c.requires.under.4 c.node.result.now c.node-2.result.now c.node.ensures.value (c.is_inner.ensures.inner.0 c.if-not-is_inner.false) c.node-2.ensures.value c.last_index-last.result c.last_index-last.ensures.last _ c.child-child.ensures.child c.descend_last-below.ensures.level, c.requires.under.5)
