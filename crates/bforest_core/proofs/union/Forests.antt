@@ -6,7 +6,7 @@ use Rattle.bforest_core.proofs.table.Tables.{count-append, count-same, count-oth
 use Rattle.bforest_core.proofs.table.Read.{items-heads, half-some, slot-is, children-row, children-leaves, read-back}
 use Rattle.bforest_core.proofs.table.Stored.{childless, inner_used}
 use Rattle.bforest_core.proofs.union.FreeSlots.{free-at}
-use Rattle.bforest_core.proofs.rows.Counts.{below-one, at-most-one, named_by, all-named}
+use Rattle.bforest_core.proofs.rows.Counts.{below-one, past-none, at-most-one, named_by, all-named}
 use Rattle.bforest_core.proofs.walks.TopNode.{node_held}
 use Rattle.bforest_core.proofs.walks.Whole.{whole_top, whole_under}
 
@@ -95,6 +95,11 @@ module _ {K V : Type 0} where
   -- a number stands in the trees or on the chain once at most
   pub once : (most : ℕ) (table : Table K V) (trees : List (Tree K V)) → IsForest most table trees → (m : ℕ) → count m (flat_map numbers_of trees) + count m table.chain ≤ 1
   once most table trees f m = omega (arith, f.account m, at-most-one m (length table.nodes), count-append m (flat_map numbers_of trees) table.chain)
+
+  -- and is that of a slot
+  pub within-slots : (most : ℕ) (table : Table K V) (trees : List (Tree K V)) → IsForest most table trees → (m : ℕ) → 0 < count m (flat_map numbers_of trees) + count m table.chain → m < length table.nodes
+  within-slots most table trees f m some =
+      elim (cases_lt m (length table.nodes)) [ inl low ↦ low | inr past ↦ absurd (omega (arith, f.account m, past-none m (length table.nodes) past, some, count-append m (flat_map numbers_of trees) table.chain)) ]
 
   -- no two trees have one root
   pub roots-once : (most : ℕ) (table : Table K V) (trees : List (Tree K V)) → IsForest most table trees → (m : ℕ) → count m (map root_of trees) ≤ 1

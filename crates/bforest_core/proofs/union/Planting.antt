@@ -1,11 +1,11 @@
 -- A table of no tree, a first entry of a tree, and what a tree under a root has.
-use Rattle.std.proofs.Common.{◌≡◌, ℕ, ◌-◌, ◌≤◌, ◌<◌, IsTrue, Some, List, [], ◌∷◌, drop, length, refl, sym, ap, ◌∙◌, subst, inl, inr, length-append, arith}
-use Rattle.bforest_core.proofs.Words.{flat_map, cases_lt, IsLeafCapacity, Leaf, Table, front_of, free_count, slot_count, fresh_nodes, down_from, with_front, reserved, node, flat, sizes_of, Tree, count, numbers_of, is_root, IsUnion, Plants}
-use Rattle.bforest_core.proofs.table.Tables.{count-append, count-same, absent_ne, takes}
+use Rattle.std.proofs.Common.{◌≡◌, ℕ, ◌-◌, ◌≤◌, IsTrue, Some, List, [], ◌∷◌, drop, length, refl, sym, ap, ◌∙◌, subst, length-append, arith}
+use Rattle.bforest_core.proofs.Words.{IsLeafCapacity, Leaf, Table, front_of, free_count, slot_count, fresh_nodes, down_from, with_front, reserved, node, flat, sizes_of, Tree, count, numbers_of, is_root, IsUnion, Plants}
+use Rattle.bforest_core.proofs.table.Tables.{count-same, absent_ne, takes}
 use Rattle.bforest_core.proofs.table.Chains.{length-fresh_nodes, length-down_from}
 use Rattle.bforest_core.proofs.rows.Counts.{past-none}
 use Rattle.bforest_core.proofs.union.Exchange.{IsPlanted, Traded, exchange-trees, others-keep, roots-gone, traded}
-use Rattle.bforest_core.proofs.union.Forests.{once, tree-back}
+use Rattle.bforest_core.proofs.union.Forests.{once, tree-back, within-slots}
 use Rattle.bforest_core.proofs.union.Roots.{not-root, one_root, one_tree}
 use Rattle.bforest_core.proofs.union.Reserved.{reserved-union, reserved-then, reserved-roots}
 
@@ -20,14 +20,6 @@ unfolding is_root
 no-root K V number is = absurd cc
 
 module _ {K V : Type 0} where
-  -- a number of the chain is that of a slot
-  chain_within : (most : ℕ) (table : Table K V) (m : ℕ) (rest : List ℕ) → IsUnion most table → table.chain ≡ m ∷ rest → m < length table.nodes
-  chain_within most table m rest union is =
-      elim (cases_lt m (length table.nodes)) [
-        | inl low ↦ low
-        | inr past ↦ absurd (omega (arith, union.1.account m, past-none m (length table.nodes) past, count-append m (flat_map numbers_of union.0) table.chain, ap (λ z. count m z) is, count-same m rest))
-      ]
-
   -- a table of no slots has no tree
   pub IsUnion-empty : (most n : ℕ) → IsLeafCapacity most → IsUnion {K = K} {V = V} most (record { nodes = []; chain = []; limit = n })
   IsUnion-empty most n capacity = ([], record { capacity = capacity; fit = tt; inside = tt; some = tt; low = tt; free = tt; account = λ m. sym (past-none m 0 (omega arith)) })
@@ -40,7 +32,7 @@ module _ {K V : Type 0} where
       let mid = reserved old 1 in
       let u = reserved-union most old 1 union in
       let f = front_rest number mid.chain front in
-      let t = takes mid new number (Leaf (key ∷ []) (value ∷ [])) front is (chain_within most mid number f.0 u f.1) in
+      let t = takes mid new number (Leaf (key ∷ []) (value ∷ [])) front is (within-slots most mid u.0 u.1 number (omega (arith, ap (λ z. count number z) f.1, count-same number f.0))) in
       let tree : Tree K V = record { leaves = node number ((key, value) ∷ []) ∷ []; above = [] } in
       let p : IsPlanted most new.nodes tree = record {
         fit = record { leaves_fit = (omega arith, omega (arith, one), tt); stacked = refl; topped = tt };

@@ -1,13 +1,13 @@
 -- New slots in front of the chain leave the trees of a table as they are.
-use Rattle.std.proofs.Common.{◌≡◌, ℕ, zero, suc, ◌+◌, ◌-◌, ◌≤◌, ◌<◌, IsTrue, Bool, true, false, Option, None, List, [], ◌∷◌, ◌++◌, length, get_or, slice_get, refl, sym, ap, ◌∙◌, inl, inr, subst, length-append, arith}
-use Rattle.bforest_core.proofs.Words.{flat_map, cases_lt, get_or-append_right, slice_get-get_or, Content, Free, IsFree, Table, down_from, fresh_nodes, front_of, front_of_new, free_count, slot_count, with_slots, reserved, KeepsTrees, Tree}
+use Rattle.std.proofs.Common.{◌≡◌, ℕ, zero, suc, ◌+◌, ◌-◌, ◌≤◌, ◌<◌, IsTrue, Bool, true, false, Option, None, List, [], ◌∷◌, ◌++◌, length, get_or, slice_get, refl, sym, ap, ◌∙◌, subst, length-append, arith}
+use Rattle.bforest_core.proofs.Words.{flat_map, get_or-append_right, slice_get-get_or, Content, Free, IsFree, Table, down_from, fresh_nodes, front_of, front_of_new, free_count, slot_count, with_slots, reserved, KeepsTrees, Tree}
 use Rattle.bforest_core.proofs.Words.{count, numbers_of, slot, tree_of, is_root, Every, IsForest, IsUnion, OthersKeep}
 use Rattle.bforest_core.proofs.table.Tables.{count-append}
 use Rattle.bforest_core.proofs.table.Lists.{slice_get-append_left}
 use Rattle.bforest_core.proofs.table.Chains.{length-down_from, length-fresh_nodes}
-use Rattle.bforest_core.proofs.rows.Counts.{once_below, past-none, upto, count-upto}
+use Rattle.bforest_core.proofs.rows.Counts.{once_below, upto, count-upto}
 use Rattle.bforest_core.proofs.union.FreeSlots.{free-same}
-use Rattle.bforest_core.proofs.union.Forests.{every-join}
+use Rattle.bforest_core.proofs.union.Forests.{every-join, within-slots}
 use Rattle.bforest_core.proofs.union.Exchange.{trees-same, others-keep}
 
 -- each of so many new numbers is the first or past it
@@ -62,8 +62,7 @@ module _ {K V : Type 0} where
   with-slots-forest most table n trees f =
       let more : List (Content K V) = fresh_nodes (slot_count table) n (front_of table.chain) in
       let c = λ (m : ℕ). count-append m (flat_map numbers_of trees) table.chain in
-      let low : (m : ℕ) → 0 < count m (flat_map numbers_of trees) + count m table.chain → m < length table.nodes =
-      λ m some. elim (cases_lt m (length table.nodes)) [ inl low ↦ low | inr past ↦ absurd (omega (arith, f.account m, past-none m (length table.nodes) past, some, c m)) ] in
+      let low = within-slots most table trees f in
       let slots : length (table.nodes ++ more) ≡ length table.nodes + n = omega (arith, length-append table.nodes more, length-fresh_nodes K V (slot_count table) n (front_of table.chain)) in
       record {
         capacity = f.capacity;

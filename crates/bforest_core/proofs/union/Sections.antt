@@ -52,16 +52,20 @@ pub record RowsCut {K V : Type 0} (slots : List (Content K V)) (list : List (K �
   pub counted : (m : ℕ) → count m (flat_map numbers rows) ≡ count m (flat_map numbers left) + count m (flat_map numbers right)
 
 module _ {K V : Type 0} where
-  rows_more : (slots : List (Content K V)) (list : List (K × ℕ)) (row : List (LevelNode K ℕ)) (rows : List (List (LevelNode K ℕ))) (a b : List (K × ℕ)) → flat row ≡ list → FitRow 4 8 row → RowIn inner_content slots row → (r : RowsCut slots (heads row) rows a b) → RowCut row r.list_left r.list_right → RowsCut slots list (row ∷ rows) a b
-  rows_more slots list row rows a b is f i r c =
-      let fits = fit_cut 4 8 (omega arith) c.left c.right (subst (λ z. FitRow 4 8 z) c.row_is f) in
-      let ins = row-split inner_content slots c.left c.right (subst (λ z. RowIn inner_content slots z) c.row_is i) in
+  rows-cut : (slots : List (Content K V)) (list : List (K × ℕ)) (rows : List (List (LevelNode K ℕ))) (a b : List (K × ℕ)) → StackedTo list rows (a ++ b) → RowsIn slots rows → RowsCut slots list rows a b
+  rows-cut slots list [] a b s i =
+      record { list_left = a; list_right = b; left = []; right = []; list_is = s; left_stacked = refl; right_stacked = refl; left_in = tt; right_in = tt; left_height = refl; right_height = refl; counted = λ m. refl }
+  rows-cut slots list (row ∷ rows) a b s i =
+      let r = rows-cut slots (heads row) rows a b s.2 i.1 in
+      let c = row-cut 4 8 (omega arith) row r.list_left r.list_right s.1 r.list_is in
+      let fits = fit_cut 4 8 (omega arith) c.left c.right (subst (λ z. FitRow 4 8 z) c.row_is s.1) in
+      let ins = row-split inner_content slots c.left c.right (subst (λ z. RowIn inner_content slots z) c.row_is i.0) in
       record {
         list_left = flat c.left;
         list_right = flat c.right;
         left = c.left ∷ r.left;
         right = c.right ∷ r.right;
-        list_is = sym is ∙ ap (λ z. flat z) c.row_is ∙ flat-append c.left c.right;
+        list_is = sym s.0 ∙ ap (λ z. flat z) c.row_is ∙ flat-append c.left c.right;
         left_stacked = (refl, fits.0, subst (λ z. StackedTo z r.left a) (sym c.left_is) r.left_stacked);
         right_stacked = (refl, fits.1, subst (λ z. StackedTo z r.right b) (sym c.right_is) r.right_stacked);
         left_in = (ins.0, r.left_in);
@@ -70,13 +74,6 @@ module _ {K V : Type 0} where
         right_height = ap suc r.right_height;
         counted = λ m. omega (arith, r.counted m, ap (λ z. count m (numbers z)) c.row_is, ap (λ z. count m z) (numbers-append c.left c.right), count-append m (numbers c.left) (numbers c.right), count-append m (numbers row) (flat_map numbers rows), count-append m (numbers c.left) (flat_map numbers r.left), count-append m (numbers c.right) (flat_map numbers r.right));
       }
-
-  rows-cut : (slots : List (Content K V)) (list : List (K × ℕ)) (rows : List (List (LevelNode K ℕ))) (a b : List (K × ℕ)) → StackedTo list rows (a ++ b) → RowsIn slots rows → RowsCut slots list rows a b
-  rows-cut slots list [] a b s i =
-      record { list_left = a; list_right = b; left = []; right = []; list_is = s; left_stacked = refl; right_stacked = refl; left_in = tt; right_in = tt; left_height = refl; right_height = refl; counted = λ m. refl }
-  rows-cut slots list (row ∷ rows) a b s i =
-      let r = rows-cut slots (heads row) rows a b s.2 i.1 in
-      rows_more slots list row rows a b s.0 s.1 i.0 r (row-cut 4 8 (omega arith) row r.list_left r.list_right s.1 r.list_is)
 
 module _ {K V : Type 0} (most : ℕ) (slots : List (Content K V)) where
   -- what lies under some nodes, cut between two of them

@@ -61,16 +61,10 @@ led-first most table root union is path indices path' indices' level leads =
 -- a path of one level at the front of a root that is a leaf is on the first entry
 pub on-leaf : {K V : Type 0} (most : ℕ) (table : Table K V) (root : ℕ) (path indices : List ℕ) → IsUnion most table → IsTrue (is_root table.nodes root) → IsLeaf (slot table.nodes root) → get_or path 0 0 ≡ root → get_or indices 0 0 ≡ 0 → StandsUnder table.nodes root path indices 1 0
 on-leaf most table root path indices union is leaf node_is index_is =
-    let slots = table.nodes in
-    let tree = tree_of slots root in
-    let w = is-rooted most table root union is in
-    let one = some_leaf most union.1.capacity in
-    elim (node_under most one slots tree.leaves tree.above [] (whole_top most slots root tree w).first root [] (whole_under most slots root tree w)) [
-      | inl s ↦ record {
-        root_is = is;
-        stands = led_stands tree path indices path indices 1 (led_leaf most one slots tree.leaves tree.above _ root [] s path indices path indices node_is index_is (λ i ne. refl) (λ i ne. refl)).1 (omega (arith, ap length s.lower_is));
-      }
-      | inr s ↦ absurd (subst IsLeaf (slot-is slots root _ s.slot_is) leaf)
+    let u = under-root most table root union is in
+    elim (node_under most (some_leaf most union.1.capacity) table.nodes _ _ [] u.first root [] u.under) [
+      | inl s ↦ (let d = led_leaf most (some_leaf most union.1.capacity) table.nodes _ _ _ root [] s path indices path indices node_is index_is (λ i ne. refl) (λ i ne. refl) in record { root_is = is; stands = led_stands _ path indices path indices 1 d.1 (omega (arith, d.0)) })
+      | inr s ↦ absurd (subst IsLeaf (slot-is table.nodes root _ s.slot_is) leaf)
     ]
 
 module _ {K X : Type 0} where

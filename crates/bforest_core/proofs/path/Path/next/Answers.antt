@@ -13,11 +13,8 @@ returns-clause-stands g c = λ at.
     let s = said c.requires.union c.args.self.now at.on c.in-Some.ensures.moved in
     record { root_is = at.on.root_is; at = path-on _ _ _ _ c.next_entry.new.self.size (record { leaf = s.leaf; above = s.above; size_is = c.next_entry.ensures.size ∙ s.size_is }) }
 
-pub returns-in_default-clause-value : goal.returns-in_default-clause-value
-returns-in_default-clause-value g c = λ at. said c.requires.union c.args.self.now at.on c.in_default.ensures.value
-
-pub returns-in_default-clause-stands : goal.returns-in_default-clause-stands
-returns-in_default-clause-stands g c = λ at. record { root_is = at.on.root_is; at = said c.requires.union c.args.self.now at.on (c.in_default.ensures.last refl) }
+pub returns-in_default : goal.returns-in_default
+returns-in_default g c = record { value = λ at. said c.requires.union c.args.self.now at.on c.in_default.ensures.value; stands = λ at. record { root_is = at.on.root_is; at = said c.requires.union c.args.self.now at.on (c.in_default.ensures.last refl) }; end = λ none. refl; stays = λ end. refl }
 
 pub returns-then-self-eq0 : goal.returns-then-self-eq0
 returns-then-self-eq0 g c = record { value = λ at. absurd (omega (arith, c.if-self-eq0.true, at.on.stands.size_is)); stands = λ at. absurd (omega (arith, c.if-self-eq0.true, at.on.stands.size_is)); end = λ none. c.if-self-eq0.true; stays = λ end. refl }
