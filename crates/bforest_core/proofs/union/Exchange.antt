@@ -96,11 +96,13 @@ module _ {K V : Type 0} where
       let b = ap (λ z. count m z) (map-append root_of some after) ∙ count-append m (map root_of some) (map root_of after) in
       omega (arith, a, b)
 
-  -- a tree of both witnesses is computed from both tables
-  both_back : (most : ℕ) (old new : Table K V) (trees trees' : List (Tree K V)) → IsForest most old trees → IsForest most new trees' → (other : ℕ) (p p' : List (Tree K V)) (tree : Tree K V) (q q' : List (Tree K V)) → trees ≡ p ++ tree ∷ q → trees' ≡ p' ++ tree ∷ q' → root_of tree ≡ other →
-      tree_of new.nodes other ≡ tree_of old.nodes other
-  both_back most old new trees trees' f g other p p' tree q q' e e' is =
-      (tree-back most new trees' p' tree q' other g e' is).0 ∙ sym (tree-back most old trees p tree q other f e is).0
+  -- a tree before or after the exchanged ones is computed from each table in which these stand
+  outer_tree : (most : ℕ) (before after : List (Tree K V)) (other : ℕ) → 0 < count other (map root_of before) + count other (map root_of after) → (tree : Tree K V) × ((table : Table K V) (some : List (Tree K V)) → IsForest most table (before ++ (some ++ after)) → tree_of table.nodes other ≡ tree)
+  outer_tree most before after other there =
+      elim (cases_lt 0 (count other (map root_of before))) [
+        | inl here ↦ (let r = tree-with before other here in (r.1, λ table some f. (tree-back most table (before ++ (some ++ after)) r.0 r.1 (r.2 ++ (some ++ after)) other f (ap (λ z. z ++ (some ++ after)) r.3 ∙ append_assoc r.0 (r.1 ∷ r.2) (some ++ after)) r.4).0))
+        | inr none ↦ (let r = tree-with after other (omega (arith, there, none)) in (r.1, λ table some f. (tree-back most table (before ++ (some ++ after)) ((before ++ some) ++ r.0) r.1 r.2 other f (ap (λ z. before ++ (some ++ z)) r.3 ∙ sym (append_assoc before some (r.0 ++ r.1 ∷ r.2)) ∙ sym (append_assoc (before ++ some) r.0 (r.1 ∷ r.2))) r.4).0))
+      ]
 
   -- every number but the roots of the exchanged trees is a root as before, and keeps its tree
   pub others-keep : (most : ℕ) (old new : Table K V) (before gone come after : List (Tree K V)) → IsForest most old (before ++ (gone ++ after)) → IsForest most new (before ++ (come ++ after)) →
@@ -111,16 +113,7 @@ module _ {K V : Type 0} where
       let a = count_roots other before gone after in
       let b = count_roots other before come after in (
         (λ root. cf.1 (omega (arith, cg.0 root, a, b, none, none')), λ root. cg.1 (omega (arith, cf.0 root, a, b, none, none'))),
-        λ root. elim (cases_lt 0 (count other (map root_of before))) [
-          | inl here ↦ (let r = tree-with before other here in
-              both_back most old new (before ++ (gone ++ after)) (before ++ (come ++ after)) f g other r.0 r.0 r.1 (r.2 ++ (gone ++ after)) (r.2 ++ (come ++ after))
-              (ap (λ z. z ++ (gone ++ after)) r.3 ∙ append_assoc r.0 (r.1 ∷ r.2) (gone ++ after))
-              (ap (λ z. z ++ (come ++ after)) r.3 ∙ append_assoc r.0 (r.1 ∷ r.2) (come ++ after)) r.4)
-          | inr none2 ↦ (let r = tree-with after other (omega (arith, cf.0 root, a, none, none2)) in
-              both_back most old new (before ++ (gone ++ after)) (before ++ (come ++ after)) f g other ((before ++ gone) ++ r.0) ((before ++ come) ++ r.0) r.1 r.2 r.2
-              (ap (λ z. before ++ (gone ++ z)) r.3 ∙ sym (append_assoc before gone (r.0 ++ r.1 ∷ r.2)) ∙ sym (append_assoc (before ++ gone) r.0 (r.1 ∷ r.2)))
-              (ap (λ z. before ++ (come ++ z)) r.3 ∙ sym (append_assoc before come (r.0 ++ r.1 ∷ r.2)) ∙ sym (append_assoc (before ++ come) r.0 (r.1 ∷ r.2))) r.4)
-        ],
+        λ root. (let t = outer_tree most before after other (omega (arith, cf.0 root, a, none)) in t.1 new come g ∙ sym (t.1 old gone f)),
       )
 
   -- a root of the exchanged trees that none of the others has is no root any more

@@ -1,7 +1,8 @@
 -- New slots in front of the chain leave the trees of a table as they are.
-use Rattle.std.proofs.Common.{◌≡◌, ℕ, zero, suc, ◌+◌, ◌-◌, ◌≤◌, ◌<◌, IsTrue, Bool, true, false, Option, None, List, [], ◌∷◌, ◌++◌, length, get_or, slice_get, refl, sym, ap, ◌∙◌, subst, length-append, arith}
+use Rattle.std.proofs.Common.{◌≡◌, ℕ, zero, suc, ◌+◌, ◌-◌, ◌≤◌, ◌<◌, IsTrue, Option, None, List, [], ◌∷◌, ◌++◌, length, get_or, slice_get, refl, sym, ap, ◌∙◌, subst, length-append, arith}
 use Rattle.bforest_core.proofs.Words.{flat_map, get_or-append_right, slice_get-get_or, Content, Free, IsFree, Table, down_from, fresh_nodes, front_of, front_of_new, free_count, slot_count, with_slots, reserved, KeepsTrees, Tree}
 use Rattle.bforest_core.proofs.Words.{count, numbers_of, slot, tree_of, is_root, Every, IsForest, IsUnion, OthersKeep}
+use Rattle.std.proofs.lemmas.Bool.Decides.{same_from_decides}
 use Rattle.bforest_core.proofs.table.Tables.{count-append}
 use Rattle.bforest_core.proofs.table.Lists.{slice_get-append_left}
 use Rattle.bforest_core.proofs.table.Chains.{length-down_from, length-fresh_nodes}
@@ -26,12 +27,6 @@ count-down m first (suc n) =
     let e : first + suc n ≡ suc (first + n) = omega arith in
     let a = ap (λ z. once_below m z) e in
     omega (arith, a, once-suc m (first + n), count-down m first n)
-
--- tests that are true together are the same
-same-test : (a b : Bool) → (a ≡ true → b ≡ true) → (b ≡ true → a ≡ true) → a ≡ b
-same-test true b f g = sym (f refl)
-same-test false true f g = g refl
-same-test false false f g = refl
 
 module _ {K V : Type 0} where
   -- one more free slot
@@ -85,7 +80,7 @@ module _ {K V : Type 0} where
       (is_root (reserved table n).nodes number ≡ is_root table.nodes number) × (IsTrue (is_root table.nodes number) → tree_of (reserved table n).nodes number ≡ tree_of table.nodes number)
   reserved-roots most table n union number =
       let k = others-keep most table (reserved table n) [] [] [] union.0 union.1 (with-slots-forest most table (n - free_count table) union.0 union.1) number refl refl in
-      (same-test (is_root (reserved table n).nodes number) (is_root table.nodes number) k.0.0 k.0.1, k.1)
+      (same_from_decides (is_root (reserved table n).nodes number) (is_root table.nodes number) k.0 (λ is. is, λ is. is), k.1)
 
   -- what keeps other trees of the table with more slots keeps those of the table
   pub reserved-then : (most : ℕ) (table : Table K V) (n : ℕ) (new : Table K V) (root root' : ℕ) → IsUnion most table → OthersKeep (reserved table n).nodes new.nodes root root' → OthersKeep table.nodes new.nodes root root'

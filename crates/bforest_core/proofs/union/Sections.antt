@@ -3,7 +3,6 @@ use Rattle.std.proofs.Common.{◌≡◌, ℕ, suc, ◌+◌, ◌≤◌, List, [],
 use Rattle.bforest_core.proofs.Words.{flat_map, Content, LevelNode, node, flat, heads, numbers, FitRow, half_of, RowIn, RowsIn, leaf_content, inner_content, count, StackedTo, Under, numbers_under}
 use Rattle.bforest_core.proofs.rows.LevelRows.{flat-append, numbers-append, least-pos}
 use Rattle.bforest_core.proofs.table.Tables.{count-append, row-split}
-use Rattle.bforest_core.proofs.walks.Downward.{cons_same}
 
 module _ {K X : Type 0} where
   -- a row cut where it is seen from above
@@ -19,13 +18,13 @@ module _ {K X : Type 0} where
   row-cut half most one [] (x ∷ a) b f h = absurd cc
   row-cut half most one (node m [] ∷ ns) (x ∷ a) b f h = absurd (omega (arith, f.0, least-pos half one ns))
   row-cut half most one (node m (e ∷ es) ∷ ns) (x ∷ a) b f h =
-      let s = cons_same (e.0, m) x (heads ns) (a ++ b) h in
-      let r = row-cut half most one ns a b f.2 s.1 in
+      let same : ◌≡◌ {A = K × ℕ} (e.0, m) x = cc in
+      let r = row-cut half most one ns a b f.2 (cc) in
       record {
         left = node m (e ∷ es) ∷ r.left;
         right = r.right;
         row_is = ap (λ z. node m (e ∷ es) ∷ z) r.row_is;
-        left_is = ap (λ z. (e.0, m) ∷ z) r.left_is ∙ ap (λ z. z ∷ a) s.0;
+        left_is = ap (λ z. (e.0, m) ∷ z) r.left_is ∙ ap (λ z. z ∷ a) same;
         right_is = r.right_is;
       }
 

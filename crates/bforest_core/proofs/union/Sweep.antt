@@ -2,18 +2,19 @@
 use Rattle.std.proofs.Common.{◌≡◌, ℕ, zero, suc, ◌+◌, ◌≤◌, ◌<◌, List, [], ◌∷◌, ◌++◌, length, drop, take, reverse, slice_get, option_map, Some, append-nil, refl, sym, ap, subst, ◌∙◌, inl, inr, arith}
 use Rattle.bforest_core.proofs.Words.{flat_map, cases_lt, flat_map-append, Content, Inner, Leaf, Free, IsInner, children_of, entry_count, Table, with_freed, LevelNode, node, flat, heads, numbers, half_of, leaf_content, inner_content}
 use Rattle.bforest_core.proofs.Words.{entry_items, count, Distinct, StackedTo, Under, numbers_down, slot, Frees, GivesAll, numbers_under, drop_all, length-map, nil_from_length, reverse-append, take_all, slice_get_within}
+use Rattle.bforest_core.proofs.union.Exchange.{tree-same}
 use Rattle.bforest_core.proofs.union.FreeSlots.{slot_same}
 use Rattle.bforest_core.proofs.removal.Frees.{frees-one, frees-refl, frees-then, frees-wider, only_here}
-use Rattle.bforest_core.proofs.walks.Downward.{Seen, no_heads}
+use Rattle.bforest_core.proofs.walks.Downward.{Seen}
 use Rattle.bforest_core.proofs.walks.TopNode.{LeafUnder, InnerUnder, node_under}
 use Rattle.bforest_core.proofs.table.Stored.{childless, some_same}
 use Rattle.bforest_nodes.proofs.Seams.{last_taken}
 use Rattle.bforest_core.proofs.walks.LeafSearch.{items-read}
-use Rattle.bforest_core.proofs.walks.Steps.{read}
+use Rattle.bforest_core.proofs.walks.Steps.{no_heads, read}
 use Rattle.bforest_core.proofs.table.Read.{slot-is}
 use Rattle.bforest_core.proofs.table.Lists.{drop-read}
 use Rattle.bforest_core.proofs.union.Sections.{UnderCut, under-cut}
-use Rattle.bforest_core.proofs.table.Tables.{count-append, count-same, row-same, rows-same}
+use Rattle.bforest_core.proofs.table.Tables.{count-append, count-same}
 
 -- rows below no node have none
 rows_none : {K : Type 0} (list : List (K × ℕ)) (rows : List (List (LevelNode K ℕ))) → StackedTo list rows [] → (list ≡ []) × ((m : ℕ) → count m (flat_map numbers rows) ≡ 0)
@@ -26,12 +27,9 @@ rows_none list (row ∷ rows) s =
 module _ {K V : Type 0} where
   -- what lies under some nodes lies there in any slots that agree
   under-same : (most : ℕ) (old new : List (Content K V)) (leaves : List (LevelNode K V)) (lower : List (List (LevelNode K ℕ))) (top : List (K × ℕ)) → ((m : ℕ) → 0 < count m (numbers_under leaves lower) → slice_get new m ≡ slice_get old m) → Under most old leaves lower top → Under most new leaves lower top
-  under-same most old new leaves lower top same u = record {
-    leaves_fit = u.leaves_fit;
-    leaves_in = row-same leaf_content old new leaves (λ m some. same m (omega (arith, some, count-append m (numbers leaves) (flat_map numbers lower)))) u.leaves_in;
-    stacked = u.stacked;
-    rows_in = rows-same old new lower (λ m some. same m (omega (arith, some, count-append m (numbers leaves) (flat_map numbers lower)))) u.rows_in;
-  }
+  under-same most old new leaves lower top same u =
+      let i = tree-same old new (record { leaves = leaves; above = lower }) same (record { leaves_in = u.leaves_in; rows_in = u.rows_in }) in
+      record { leaves_fit = u.leaves_fit; leaves_in = i.leaves_in; stacked = u.stacked; rows_in = i.rows_in }
 
   under_none : (most : ℕ) → 1 ≤ half_of most → (slots : List (Content K V)) (leaves : List (LevelNode K V)) (lower : List (List (LevelNode K ℕ))) → Under most slots leaves lower [] → (m : ℕ) → count m (numbers_under leaves lower) ≡ 0
   under_none most one slots leaves lower u m =

@@ -9,7 +9,7 @@ use Rattle.bforest_core.proofs.walks.TopNode.{SameBut, node_under}
 use Rattle.bforest_core.proofs.table.Read.{slot-is}
 use Rattle.bforest_core.proofs.rows.LevelRows.{flat-append}
 use Rattle.bforest_core.proofs.rows.Tops.{root-points}
-use Rattle.bforest_core.proofs.table.Tables.{count-append, count-same}
+use Rattle.bforest_core.proofs.table.Tables.{absent_ne, count-append, count-row, count-same}
 use Rattle.bforest_core.proofs.walks.Backward.{at_end, at_entry}
 use Rattle.bforest_core.proofs.walks.Entered.{InLeaf, first_behind, in_leaf, leaf_here, leaf_last}
 use Rattle.bforest_core.proofs.walks.Steps.{not_less}
@@ -68,26 +68,16 @@ on-leaf most table root path indices union is leaf node_is index_is =
     ]
 
 module _ {K X : Type 0} where
-  -- the number of a node stands in its row
-  number_there : (before : List (LevelNode K X)) (n : ℕ) (es : List (K × X)) (after : List (LevelNode K X)) → 1 ≤ count n (numbers (before ++ node n es ∷ after))
-  number_there [] n es after = omega (arith, count-same n (numbers after))
-  number_there (node m xs ∷ before) n es after = omega (arith, number_there before n es after, count-append n (m ∷ []) (numbers (before ++ node n es ∷ after)))
-
-  -- the place of an entry by its node's number, where that stands in the row once
-  place_by : (before : List (LevelNode K X)) (n : ℕ) (es : List (K × X)) (after : List (LevelNode K X)) (index : ℕ) → count n (numbers (before ++ node n es ∷ after)) ≤ 1 → place_in (before ++ node n es ∷ after) n index ≡ length (flat before) + index
-  place_by [] n es after index once =
-      elim (eqb_tells n n) [
-        | inl w ↦ (let z : index ≡ 0 + index = omega arith in (λ j. if w.0 j then index else length es + place_in after n index) ∙ z)
-        | inr w ↦ absurd (w.1 refl)
-      ]
-  place_by (node m xs ∷ before) n es after index once =
+  -- the place of an entry by its node's number, which does not stand before
+  place_by : (before : List (LevelNode K X)) (n : ℕ) (es : List (K × X)) (after : List (LevelNode K X)) (index : ℕ) → count n (numbers before) ≡ 0 → place_in (before ++ node n es ∷ after) n index ≡ length (flat before) + index
+  place_by [] n es after index none =
+      elim (eqb_tells n n) [ inl w ↦ (let z : index ≡ 0 + index = omega arith in (λ j. if w.0 j then index else length es + place_in after n index) ∙ z) | inr w ↦ absurd (w.1 refl) ]
+  place_by (node m xs ∷ before) n es after index none =
       let rest = before ++ node n es ∷ after in
+      let ih = place_by before n es after index (omega (arith, none)) in
       elim (eqb_tells m n) [
-        | inl w ↦ absurd (let two = count-same n (numbers rest) in let e = ap (λ z. count n (z ∷ numbers rest)) w.1 in omega (arith, two, e, once, number_there before n es after))
-        | inr w ↦ (
-            let ih = place_by before n es after index (omega (arith, once, count-append n (m ∷ []) (numbers rest))) in
-            (λ j. if w.0 j then index else length xs + place_in rest n index) ∙ omega (arith, ih, length-append xs (flat before))
-            )
+        | inl w ↦ absurd (absent_ne n m (numbers before) none (sym w.1))
+        | inr w ↦ (λ j. if w.0 j then index else length xs + place_in rest n index) ∙ omega (arith, ih, length-append xs (flat before))
       ]
 
 module _ {K V : Type 0} {n : ℕ} (table : Table K V) (root : ℕ) (path : Path K V n) (place : ℕ) where
@@ -190,11 +180,11 @@ module _ {K V : Type 0} {n : ℕ} (most : ℕ) (table : Table K V) (root : ℕ) 
       let at = to.points in
       let r = rooted most table root union to.root_is in
       let m = leaf_of path in
-      let once : count m (numbers tree.leaves) ≤ 1 = omega (arith, r.apart m, count-append m (numbers_of tree) table.chain, count-append m (numbers tree.leaves) (flat_map numbers tree.above)) in
+      let none : count m (numbers at.before) ≡ 0 = omega (arith, r.apart m, count-append m (numbers_of tree) table.chain, count-append m (numbers tree.leaves) (flat_map numbers tree.above), ap (λ z. count m (numbers z)) at.leaves_are, count-row m at.before m at.entries at.after, count-same m (numbers at.after)) in
       let some : (path.size == 0) ≡ false = elim (eqb_tells path.size 0) [ inl w ↦ absurd (omega (arith, w.1, at.size_is)) | inr w ↦ w.0 ] in
       (λ j. if some j then length (list_under table root) else place_in tree.leaves m (index_of path))
       ∙ ap (λ z. place_in z m (index_of path)) at.leaves_are
-      ∙ place_by at.before m at.entries at.after (index_of path) (subst (λ (z : List (LevelNode K V)). count m (numbers z) ≤ 1) at.leaves_are once)
+      ∙ place_by at.before m at.entries at.after (index_of path) none
       ∙ sym at.place_is
 
   -- so is one that stands on an entry

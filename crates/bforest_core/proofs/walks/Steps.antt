@@ -14,6 +14,10 @@ fit_full half most one [] f = refl
 fit_full half most one (node m [] ∷ ns) f = absurd (omega (arith, f.0, least-pos half one ns))
 fit_full half most one (node m (e ∷ es) ∷ ns) f = ap suc (fit_full half most one ns f.2)
 
+-- so one that shows no node from above has none
+pub no_heads : {K X : Type 0} (half most : ℕ) → 1 ≤ half → (row : List (LevelNode K X)) → FitRow half most row → heads row ≡ [] → row ≡ []
+no_heads half most one row f none = nil_from_length row (sym (fit_full half most one row f) ∙ ap length none)
+
 -- an entry of a row
 pub entry_at : {K X : Type 0} (row : List (LevelNode K X)) (before : List (LevelNode K X)) (n : ℕ) (es : List (K × X)) (after : List (LevelNode K X)) (i : ℕ) (x : K × X) → row ≡ before ++ node n es ∷ after → slice_get es i ≡ Some x → slice_get (flat row) (length (flat before) + i) ≡ Some x
 entry_at row before n es after i x row_is found =

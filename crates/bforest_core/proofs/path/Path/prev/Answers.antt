@@ -3,8 +3,8 @@ use Rattle.bforest_core.proofs.Words.{Path, Tree, IsFit, StandsAt, StandsOn, ind
 use Rattle.bforest_core.proofs.union.Unions.{is-rooted}
 use Rattle.bforest_core.proofs.walks.Leading.{LeadsLast, last_stands}
 use Rattle.bforest_core.proofs.walks.Standing.{on-asks, said, under-root}
-use Rattle.bforest_core.proofs.walks.Backward.{before_is, at_entry, at_end}
-use Rattle.bforest_core.proofs.walks.Nearby.{here-leaf, here-entry}
+use Rattle.bforest_core.proofs.walks.Backward.{before_is, at_end}
+use Rattle.bforest_core.proofs.walks.Nearby.{here-leaf, here-entry, some-on}
 use Rattle.bforest_core.proofs.path.Path.prev.Goals as goal
 
 module _ {K V : Type 0} {n : ℕ} {table : Table K V} (union : IsUnion n table) {root : ℕ} (old new : Path K V n) {place : ℕ} (at : StandsAt table root old place) where
@@ -24,20 +24,17 @@ module _ {K V : Type 0} {n : ℕ} {table : Table K V} (union : IsUnion n table) 
   read_back back e read_is = sym (here-entry table root new (place - 1) union back.1 e read_is) ∙ before_is (list_under table root) place back.0
 
   module _ (some : old.size ≢ 0) where
-    on : StandsOn table root old place
-    on = record { root_is = at.root_is; stands = at_entry old.node old.entry (tree_of table.nodes root) place old.size some at.at }
-
     -- it went there
     went_back : new.size ≡ old.size → ((tree : Tree K V) (place : ℕ) → IsFit n tree → IsIn table.nodes tree → Stands old.node old.entry old.size tree place → (0 < place) × Stands new.node new.entry old.size tree (place - 1)) → (0 < place) × StandsOn table root new (place - 1)
     went_back same says =
-        let r = said union old on says in
+        let r = said union old (some-on table root old place at (omega (arith, some))) says in
         (r.0, record { root_is = at.root_is; stands = subst (λ (z : ℕ). Stands new.node new.entry z (tree_of table.nodes root) (place - 1)) (sym same) r.1 })
 
     -- at the first entry it stayed
     stayed : new ≡ old → ((tree : Tree K V) (place : ℕ) → IsFit n tree → IsIn table.nodes tree → Stands old.node old.entry old.size tree place → place ≡ 0) → (None ≡ entry_before (list_under table root) place) × StandsOn table root new (place - 1)
     stayed same says =
-        let first = said union old on says in
-        (ap (λ z. entry_before (list_under table root) z) (sym first), subst (λ (z : Path K V n). StandsOn table root z (place - 1)) (sym same) (subst (λ (z : ℕ). StandsOn table root old z) (omega (arith, first)) on))
+        let first = said union old (some-on table root old place at (omega (arith, some))) says in
+        (ap (λ z. entry_before (list_under table root) z) (sym first), subst (λ (z : Path K V n). StandsOn table root z (place - 1)) (sym same) (subst (λ (z : ℕ). StandsOn table root old z) (omega (arith, first)) (some-on table root old place at (omega (arith, some)))))
 
 pub descend_last-top-requires : goal.descend_last-top-requires
 descend_last-top-requires g c =
@@ -63,7 +60,7 @@ returns-then-self-eq0-clause-stands g c = λ t. (led_back c.requires.union c.arg
 
 pub prev_entry-requires : goal.prev_entry-requires
 prev_entry-requires g c =
-    (search rules, (search rules, (c.requires.union.1.capacity, on-asks c.requires.union c.args.self.now (on c.requires.union c.args.self.now c.args.self.now c.requires.stands.at c.if-self-eq0.false))))
+    (search rules, (search rules, (c.requires.union.1.capacity, on-asks c.requires.union c.args.self.now (some-on c.args.pool.now c.args.root c.args.self.now c.requires.stands.place c.requires.stands.at (omega (arith, c.if-self-eq0.false))))))
 
 pub entry_here-requires-then-prev_entry : goal.entry_here-requires-then-prev_entry
 entry_here-requires-then-prev_entry g c =
