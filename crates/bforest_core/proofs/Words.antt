@@ -3,7 +3,7 @@ pub use Rattle.bforest_core.specs.Chain.{IsChain, IsPool, chain_from, next_of}
 pub use Rattle.bforest_core.specs.Change.{AtUnder, Changes, Ends, GivesInOrder, GivesNodes, KeepsTrees, PlacedUnder, Plants, StandsUnder, TakesNodes}
 pub use Rattle.bforest_core.specs.Change.{node_count}
 pub use Rattle.bforest_core.specs.Climb.{Above, Grown, Halved, Inserted, LeafHalved, NextIs, Placed, SameBelow, nodes_up, top_of}
-pub use Rattle.bforest_core.specs.Descent.{Descended, GoesThrough, IsFrom, IsRooted, IsUpTo, Led, LedLast, SameAbove, StackedTo, StandsFor, StandsTo}
+pub use Rattle.bforest_core.specs.Descent.{Descended, GoesThrough, IsFrom, IsRooted, IsUpTo, Led, LedLast, SameAbove, StackedTo, StandsTo}
 pub use Rattle.bforest_core.specs.Descent.{Under, child_index}
 pub use Rattle.bforest_core.specs.Levels.{FitRow, IsFit, LevelNode, Solid, Stacked, Topped, Tree, flat, half_of, head_of, heads, least, node, numbers}
 pub use Rattle.bforest_core.specs.Levels.{sizes, sizes_of}
@@ -31,7 +31,7 @@ pub use Rattle.std.proofs.lemmas.Bool.{and_parts, cases_lt, false_from_ne_true, 
 pub use Rattle.std.proofs.lemmas.Bool.Decides.{Decides-eqb, eqb_tells, not_from_Decides}
 pub use Rattle.std.proofs.lemmas.Cmp.{alike_right}
 pub use Rattle.std.proofs.lemmas.List.{append-nil, drop_all, drop_at, get_or-append_right, get_or-set_other, get_or-set_same, get_or_append_left}
-pub use Rattle.std.proofs.lemmas.List.{get_or_default, get_or_past, length-append, length-drop, length-map, length-take-le, length_push, map-append}
+pub use Rattle.std.proofs.lemmas.List.{get_or_default, get_or_past, length-append, length-drop, length-map, length_push, map-append}
 pub use Rattle.std.proofs.lemmas.List.{nil_from_length, reverse-append, set-append_left, set-append_right, set_at, take_all, take_at}
 pub use Rattle.std.proofs.lemmas.List.Concat.{flat_map-append}
 pub use Rattle.std.proofs.lemmas.List.Sums.{sum_by-append, sum_by-cons}
@@ -44,7 +44,6 @@ pub use Rattle.std.specs.Cmp.{IsTotalOrder}
 unfoldable pub use Rattle.std.specs.List.{IsDistinct}
 pub use Rattle.std.specs.List.{AllByRecursion, flat_map, list_any, remove, sum_by, zip}
 unfoldable pub use Rattle.std.specs.List.Sorted.{IsStrictlySortedBy}
-pub use Rattle.std.specs.List.Sorted.{}
 pub use Rattle.std.specs.Option.{IsSome, is_some, option_and_then, option_map, unwrap_or}
 pub use Rattle.std.specs.Ordering.{is_eq, is_gt, is_lt, ordering_reverse}
 pub use Rattle.std.specs.Prelude.{Bool, Err, IfSome, List, None, Ok, Some, false, slice_get}

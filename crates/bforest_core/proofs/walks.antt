@@ -1,5 +1,4 @@
 -- Lemmas on going down and stepping.
-pub mod Sought
 pub mod LeafSearch
 pub mod Rising
 pub mod Downward

@@ -1,10 +1,10 @@
 -- Free nodes and the nodes of all trees add up to the slots.
-use Rattle.std.proofs.Common.{◌≡◌, ℕ, zero, suc, ◌+◌, ◌<◌, ◌≢◌, ◌&&◌, None, if◌then◌else◌, nat_eq, Bool, true, false, List, [], ◌∷◌, ◌++◌, map, length, refl, sym, ap, ◌∙◌, subst, inl, inr, length-append, append_assoc, arith}
-use Rattle.bforest_core.proofs.Words.{flat_map, sum_by, cases_lt, false≢true, get_or_past, eqb_tells, sum_by-cons, Content, Free, children_of, Table, LevelNode, node, sizes, numbers, sizes_of, Tree, count, root_of, numbers_of, slot}
+use Rattle.std.proofs.Common.{◌≡◌, ℕ, zero, suc, ◌+◌, ◌<◌, ◌≢◌, if◌then◌else◌, nat_eq, Bool, true, false, List, [], ◌∷◌, ◌++◌, map, length, refl, sym, ap, ◌∙◌, subst, inl, inr, length-append, append_assoc, arith}
+use Rattle.bforest_core.proofs.Words.{flat_map, sum_by, and_parts, cases_lt, false≢true, eqb_tells, sum_by-cons, Content, children_of, Table, LevelNode, node, sizes, numbers, sizes_of, Tree, count, root_of, numbers_of, slot}
 use Rattle.bforest_core.proofs.Words.{is_used, tree_of, is_root, IsForest, IsUnion}
 use Rattle.bforest_core.proofs.table.Tables.{count-other}
 use Rattle.bforest_core.proofs.rows.Counts.{once_below, below-one, sum-same, upto, count-upto}
-use Rattle.bforest_core.proofs.union.Forests.{root-counts, roots-once, tree-back}
+use Rattle.bforest_core.proofs.union.Forests.{root-counts, roots-once, tree-back, used_within}
 
 -- lists in which each number stands as often have one length
 length-sum : (xs : List ℕ) → length xs ≡ sum_by (λ (n : ℕ). 1) xs
@@ -34,11 +34,7 @@ sum-kept p f (x ∷ xs) = by (p x) refl (sum-kept p f xs)
 
 -- a number that passes stands among them as often, and no other
 count-kept : (p : ℕ → Bool) (m : ℕ) (xs : List ℕ) → count m (kept p xs) ≡ (if p m then count m xs else 0)
-count-kept p m [] = by (p m)
-  where
-    by : (b : Bool) → ◌≡◌ {A = ℕ} 0 (if b then 0 else 0)
-    by true = refl
-    by false = refl
+count-kept p m [] = elim (p m) as (λ (b : Bool). ◌≡◌ {A = ℕ} 0 (if b then 0 else 0)) [ true ↦ refl | false ↦ refl ]
 count-kept p m (x ∷ xs) =
     elim (eqb_tells x m) [
       | inl w ↦ subst (λ (z : ℕ). count m (kept p (z ∷ xs)) ≡ (if p m then count m (z ∷ xs) else 0)) (sym w.1) (here (p m) refl (count-kept p m xs))
@@ -57,11 +53,7 @@ module _ {K V : Type 0} where
   -- past the last slot is no root
   root-within : (slots : List (Content K V)) (m : ℕ) → is_root slots m ≡ true → m < length slots
   unfolding is_root
-  root-within slots m root =
-      elim (cases_lt m (length slots)) [
-        | inl low ↦ low
-        | inr past ↦ absurd (let e : is_used (slot slots m) ≡ false = ap is_used (get_or_past slots m (Free None) past) in false≢true (sym (ap (λ z. z && nat_eq (count m (flat_map children_of slots)) 0) e) ∙ root))
-      ]
+  root-within slots m root = used_within slots m (and_parts (is_used (slot slots m)) (nat_eq (count m (flat_map children_of slots)) 0) root).0
 
   -- how many nodes the tree under a number has
   abbrev pub nodes_under : List (Content K V) → ℕ → ℕ

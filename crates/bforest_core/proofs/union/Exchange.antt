@@ -1,6 +1,6 @@
 -- Some trees of a table exchanged for others, with what the chain gives or takes: all other roots keep their trees.
 use Rattle.std.proofs.Common.{◌≡◌, ℕ, ◌+◌, ◌≤◌, ◌<◌, ◌↔◌, IsTrue, List, [], ◌∷◌, ◌++◌, map, length, slice_get, sym, ap, ◌∙◌, subst, inl, inr, append_assoc, arith}
-use Rattle.bforest_core.proofs.Words.{flat_map, map-append, flat_map-append, cases_lt, Content, IsFree, Table, flat, numbers, Tree, IsFit, IsIn, Distinct, leaf_content, count, root_of, numbers_of, Frees, slot, tree_of, is_root, Every}
+use Rattle.bforest_core.proofs.Words.{flat_map, map-append, flat_map-append, cases_lt, Content, IsFree, Table, flat, numbers, Tree, IsFit, IsIn, Distinct, leaf_content, count, root_of, numbers_of, slot, tree_of, is_root, Every}
 use Rattle.bforest_core.proofs.Words.{IsForest}
 use Rattle.bforest_core.proofs.table.Tables.{count-append, row-same, rows-same}
 use Rattle.bforest_core.proofs.union.FreeSlots.{free-same}
@@ -52,28 +52,18 @@ module _ {K V : Type 0} where
     pub nums : (m : ℕ) → count m come + count m new.chain ≡ count m gone + count m old.chain
     pub others : (m : ℕ) → count m gone + count m old.chain ≡ 0 → slice_get new.nodes m ≡ slice_get old.nodes m
 
-  -- the chain gave its first numbers
-  pub traded-taken : (old new : Table K V) (gone come taken : List ℕ) → Every (λ (number : ℕ). IsFree (slot old.nodes number)) old.chain → Distinct (gone ++ old.chain) → old.chain ≡ taken ++ new.chain → length new.nodes ≡ length old.nodes →
-      ((m : ℕ) → count m come ≡ count m gone + count m taken) → ((m : ℕ) → count m gone + count m taken ≡ 0 → slice_get new.nodes m ≡ slice_get old.nodes m) → Traded old new gone come
-  traded-taken old new gone come taken free apart chain_is slots nums others =
-      let c = λ (m : ℕ). ap (λ z. count m z) chain_is ∙ count-append m taken new.chain in
-      let rest = (every-append (λ (number : ℕ). IsFree (slot old.nodes number)) taken new.chain (subst (λ (z : List ℕ). Every (λ (number : ℕ). IsFree (slot old.nodes number)) z) chain_is free)).1 in
+  -- the chain gave its first numbers, or got others in front
+  pub traded : (old new : Table K V) (gone come taken freed rest : List ℕ) → Every (λ (number : ℕ). IsFree (slot old.nodes number)) old.chain → Distinct (gone ++ old.chain) → old.chain ≡ taken ++ rest → new.chain ≡ freed ++ rest → Every (λ (number : ℕ). IsFree (slot new.nodes number)) freed → length new.nodes ≡ length old.nodes →
+      ((m : ℕ) → count m come + count m freed ≡ count m gone + count m taken) → ((m : ℕ) → count m gone + count m taken ≡ 0 → slice_get new.nodes m ≡ slice_get old.nodes m) → Traded old new gone come
+  traded old new gone come taken freed rest free apart old_is new_is freed_are slots nums others =
+      let c = λ (m : ℕ). ap (λ z. count m z) old_is ∙ count-append m taken rest in
+      let left = (every-append (λ (number : ℕ). IsFree (slot old.nodes number)) taken rest (subst (λ (z : List ℕ). Every (λ (number : ℕ). IsFree (slot old.nodes number)) z) old_is free)).1 in
+      let still = free-same old.nodes new.nodes rest (λ m here. others m (omega (arith, here, c m, apart m, count-append m gone old.chain))) left in
       record {
-        free = free-same old.nodes new.nodes new.chain (λ m here. others m (omega (arith, here, c m, apart m, count-append m gone old.chain))) rest;
+        free = subst (λ (z : List ℕ). Every (λ (number : ℕ). IsFree (slot new.nodes number)) z) (sym new_is) (every-join (λ (number : ℕ). IsFree (slot new.nodes number)) freed rest freed_are still);
         slots_are = slots;
-        nums = λ m. omega (arith, nums m, c m);
+        nums = λ m. omega (arith, nums m, c m, ap (λ z. count m z) new_is, count-append m freed rest);
         others = λ m none. others m (omega (arith, none, c m));
-      }
-
-  -- or it got numbers in front
-  pub traded-freed : (old new : Table K V) (gone come freed : List ℕ) → Every (λ (number : ℕ). IsFree (slot old.nodes number)) old.chain → Distinct (gone ++ old.chain) → Frees old new gone freed → ((m : ℕ) → count m come + count m freed ≡ count m gone) → Traded old new gone come
-  traded-freed old new gone come freed free apart f nums =
-      let still = free-same old.nodes new.nodes old.chain (λ m here. f.others m (omega (arith, here, apart m, count-append m gone old.chain))) free in
-      record {
-        free = subst (λ (z : List ℕ). Every (λ (number : ℕ). IsFree (slot new.nodes number)) z) (sym f.chain_is) (every-join (λ (number : ℕ). IsFree (slot new.nodes number)) freed old.chain f.freed_are still);
-        slots_are = f.slots_are;
-        nums = λ m. omega (arith, nums m, ap (λ z. count m z) f.chain_is, count-append m freed old.chain);
-        others = λ m none. f.others m (omega (arith, none));
       }
 
   -- a fit tree that is not empty, of at most 17 levels, lies in these slots
@@ -106,11 +96,13 @@ module _ {K V : Type 0} where
       let b = ap (λ z. count m z) (map-append root_of some after) ∙ count-append m (map root_of some) (map root_of after) in
       omega (arith, a, b)
 
-  -- a tree of both witnesses is computed from both tables
-  both_back : (most : ℕ) (old new : Table K V) (trees trees' : List (Tree K V)) → IsForest most old trees → IsForest most new trees' → (other : ℕ) (p p' : List (Tree K V)) (tree : Tree K V) (q q' : List (Tree K V)) → trees ≡ p ++ tree ∷ q → trees' ≡ p' ++ tree ∷ q' → root_of tree ≡ other →
-      tree_of new.nodes other ≡ tree_of old.nodes other
-  both_back most old new trees trees' f g other p p' tree q q' e e' is =
-      (tree-back most new trees' p' tree q' other g e' is).0 ∙ sym (tree-back most old trees p tree q other f e is).0
+  -- a tree before or after the exchanged ones is computed from each table in which these stand
+  outer_tree : (most : ℕ) (before after : List (Tree K V)) (other : ℕ) → 0 < count other (map root_of before) + count other (map root_of after) → (tree : Tree K V) × ((table : Table K V) (some : List (Tree K V)) → IsForest most table (before ++ (some ++ after)) → tree_of table.nodes other ≡ tree)
+  outer_tree most before after other there =
+      elim (cases_lt 0 (count other (map root_of before))) [
+        | inl here ↦ (let r = tree-with before other here in (r.1, λ table some f. (tree-back most table (before ++ (some ++ after)) r.0 r.1 (r.2 ++ (some ++ after)) other f (ap (λ z. z ++ (some ++ after)) r.3 ∙ append_assoc r.0 (r.1 ∷ r.2) (some ++ after)) r.4).0))
+        | inr none ↦ (let r = tree-with after other (omega (arith, there, none)) in (r.1, λ table some f. (tree-back most table (before ++ (some ++ after)) ((before ++ some) ++ r.0) r.1 r.2 other f (ap (λ z. before ++ (some ++ z)) r.3 ∙ sym (append_assoc before some (r.0 ++ r.1 ∷ r.2)) ∙ sym (append_assoc (before ++ some) r.0 (r.1 ∷ r.2))) r.4).0))
+      ]
 
   -- every number but the roots of the exchanged trees is a root as before, and keeps its tree
   pub others-keep : (most : ℕ) (old new : Table K V) (before gone come after : List (Tree K V)) → IsForest most old (before ++ (gone ++ after)) → IsForest most new (before ++ (come ++ after)) →
@@ -121,16 +113,7 @@ module _ {K V : Type 0} where
       let a = count_roots other before gone after in
       let b = count_roots other before come after in (
         (λ root. cf.1 (omega (arith, cg.0 root, a, b, none, none')), λ root. cg.1 (omega (arith, cf.0 root, a, b, none, none'))),
-        λ root. elim (cases_lt 0 (count other (map root_of before))) [
-          | inl here ↦ (let r = tree-with before other here in
-              both_back most old new (before ++ (gone ++ after)) (before ++ (come ++ after)) f g other r.0 r.0 r.1 (r.2 ++ (gone ++ after)) (r.2 ++ (come ++ after))
-              (ap (λ z. z ++ (gone ++ after)) r.3 ∙ append_assoc r.0 (r.1 ∷ r.2) (gone ++ after))
-              (ap (λ z. z ++ (come ++ after)) r.3 ∙ append_assoc r.0 (r.1 ∷ r.2) (come ++ after)) r.4)
-          | inr none2 ↦ (let r = tree-with after other (omega (arith, cf.0 root, a, none, none2)) in
-              both_back most old new (before ++ (gone ++ after)) (before ++ (come ++ after)) f g other ((before ++ gone) ++ r.0) ((before ++ come) ++ r.0) r.1 r.2 r.2
-              (ap (λ z. before ++ (gone ++ z)) r.3 ∙ sym (append_assoc before gone (r.0 ++ r.1 ∷ r.2)) ∙ sym (append_assoc (before ++ gone) r.0 (r.1 ∷ r.2)))
-              (ap (λ z. before ++ (come ++ z)) r.3 ∙ sym (append_assoc before come (r.0 ++ r.1 ∷ r.2)) ∙ sym (append_assoc (before ++ come) r.0 (r.1 ∷ r.2))) r.4)
-        ],
+        λ root. (let t = outer_tree most before after other (omega (arith, cf.0 root, a, none)) in t.1 new come g ∙ sym (t.1 old gone f)),
       )
 
   -- a root of the exchanged trees that none of the others has is no root any more

@@ -1,11 +1,14 @@
 -- The trees of a table as a witness and as computed: a number is a root exactly if it is that of a tree.
-use Rattle.std.proofs.Common.{◌≡◌, ℕ, ◌+◌, ◌≤◌, ◌<◌, ◌↔◌, nat_eq, IsTrue, true, false, List, [], ◌∷◌, ◌++◌, map, length, None, refl, ap, ◌∙◌, subst, inl, inr, arith}
-use Rattle.bforest_core.proofs.Words.{flat_map, map-append, get_or_past, flat_map-append, and_parts, cases_lt, eqb_tells, Content, Inner, Leaf, Free, IsFree, children_of, Table, LevelNode, node, flat, heads, numbers, Stacked, Tree, IsFit}
-use Rattle.bforest_core.proofs.Words.{half_of, RowIn, RowsIn, IsIn, leaf_content, inner_content, entry_items, count, root_above, root_of, numbers_of, slot, is_used, tree_of, is_root, Every, IsForest}
+use Rattle.std.proofs.Common.{◌≡◌, ℕ, ◌+◌, ◌≤◌, ◌<◌, ◌↔◌, nat_eq, IsTrue, true, false, List, [], ◌∷◌, ◌++◌, map, length, None, refl, sym, ap, ◌∙◌, subst, inl, inr, arith}
+use Rattle.bforest_core.proofs.Words.{nil_from_length, flat_map, map-append, get_or_past, flat_map-append, and_parts, cases_lt, eqb_tells, Content, Inner, Leaf, Free, IsFree, children_of, Table, LevelNode, flat, heads, numbers, Stacked, Tree, IsFit}
+use Rattle.bforest_core.proofs.Words.{entry_count, half_of, IsRooted, RowsIn, IsIn, entry_items, count, root_above, root_of, numbers_of, slot, is_used, tree_of, is_root, Every, IsForest}
 use Rattle.bforest_core.proofs.table.Tables.{count-append, count-same, count-other}
 use Rattle.bforest_core.proofs.table.Read.{items-heads, half-some, slot-is, children-row, children-leaves, read-back}
+use Rattle.bforest_core.proofs.table.Stored.{childless, inner_used}
 use Rattle.bforest_core.proofs.union.FreeSlots.{free-at}
-use Rattle.bforest_core.proofs.rows.Counts.{below-one, at-most-one, named_by, all-named}
+use Rattle.bforest_core.proofs.rows.Counts.{below-one, past-none, at-most-one, named_by, all-named}
+use Rattle.bforest_core.proofs.walks.TopNode.{node_held}
+use Rattle.bforest_core.proofs.walks.Whole.{whole_top, whole_under}
 
 -- what holds of each in a list, of each of its parts
 pub every-append : {X : Type 0} (P : X → Type 0) (xs ys : List X) → Every P (xs ++ ys) → Every P xs × Every P ys
@@ -57,9 +60,7 @@ module _ {K V : Type 0} where
 
   -- a free slot names none
   no_children : (content : Content K V) → IsFree content → children_of content ≡ []
-  no_children (Inner keys children) f = absurd f
-  no_children (Leaf keys vals) f = absurd f
-  no_children (Free next) f = refl
+  no_children content f = nil_from_length (children_of content) (sym (childless content (λ inner. inner_used content inner f)))
 
   -- and is no node
   pub free-unused : (content : Content K V) → IsFree content → is_used content ≡ false
@@ -72,37 +73,16 @@ module _ {K V : Type 0} where
   named_free slots [] f = refl
   named_free slots (m ∷ ms) f = let e = no_children (slot slots m) f.0 in rw e (named_free slots ms f.1)
 
-  -- the slots of a tree are nodes
-  used_row : {X : Type 0} (content : List (K × X) → Content K V) → ((es : List (K × X)) → is_used (content es) ≡ true) → (slots : List (Content K V)) (row : List (LevelNode K X)) → RowIn content slots row → (k : ℕ) → 0 < count k (numbers row) → is_used (slot slots k) ≡ true
-  used_row content is slots [] i k some = absurd (omega (arith, some))
-  used_row content is slots (node m es ∷ ns) i k some =
-      elim (eqb_tells m k) [
-        | inl w ↦ subst (λ (z : ℕ). is_used (slot slots z) ≡ true) w.1 (ap is_used (slot-is slots m (content es) i.0) ∙ is es)
-        | inr w ↦ used_row content is slots ns i.1 k (omega (arith, some, count-other k m (numbers ns) w.1))
-      ]
+  used_some : (content : Content K V) → 1 ≤ entry_count content → is_used content ≡ true
+  used_some (Inner keys children) some = refl
+  used_some (Leaf keys vals) some = refl
+  used_some (Free next) some = absurd (omega (arith, some))
 
-  -- so are those of inner rows
-  used_rows : (slots : List (Content K V)) (rows : List (List (LevelNode K ℕ))) → RowsIn slots rows → (k : ℕ) → 0 < count k (flat_map numbers rows) → is_used (slot slots k) ≡ true
-  used_rows slots [] i k some = absurd (omega (arith, some))
-  used_rows slots (row ∷ rows) i k some =
-      elim (cases_lt 0 (count k (numbers row))) [
-        | inl here ↦ used_row inner_content (λ es. refl) slots row i.0 k here
-        | inr none ↦ used_rows slots rows i.1 k (omega (arith, some, none, count-append k (numbers row) (flat_map numbers rows)))
-      ]
-
-  -- and those of trees
-  used_trees : (slots : List (Content K V)) (trees : List (Tree K V)) → Every (IsIn slots) trees → (k : ℕ) → 0 < count k (flat_map numbers_of trees) → is_used (slot slots k) ≡ true
-  used_trees slots [] i k some = absurd (omega (arith, some))
-  used_trees slots (tree ∷ trees) i k some =
-      let a = count-append k (numbers_of tree) (flat_map numbers_of trees) in
-      let b = count-append k (numbers tree.leaves) (flat_map numbers tree.above) in
-      elim (cases_lt 0 (count k (numbers tree.leaves))) [
-        | inl here ↦ used_row leaf_content (λ es. refl) slots tree.leaves i.0.leaves_in k here
-        | inr none ↦ elim (cases_lt 0 (count k (flat_map numbers tree.above))) [
-          | inl here ↦ used_rows slots tree.above i.0.rows_in k here
-          | inr none2 ↦ used_trees slots trees i.1 k (omega (arith, some, none, none2, a, b))
-        ]
-      ]
+  -- the root of a tree is a node
+  root_used : (most : ℕ) → 1 ≤ half_of most → (slots : List (Content K V)) (tree : Tree K V) → IsRooted most slots (root_of tree) tree → is_used (slot slots (root_of tree)) ≡ true
+  root_used most one slots tree r =
+      let h = node_held most one slots tree.leaves tree.above [] (whole_top most slots (root_of tree) tree r).first (root_of tree) [] (whole_under most slots (root_of tree) tree r) in
+      ap is_used (slot-is slots (root_of tree) h.0 h.1) ∙ used_some h.0 h.2
 
   -- what the slots of a table name: each number of its trees but the roots
   named_all : (most : ℕ) (table : Table K V) (trees : List (Tree K V)) → IsForest most table trees → (m : ℕ) → count m (flat_map children_of table.nodes) + count m (map root_of trees) ≡ count m (flat_map numbers_of trees)
@@ -116,21 +96,17 @@ module _ {K V : Type 0} where
   pub once : (most : ℕ) (table : Table K V) (trees : List (Tree K V)) → IsForest most table trees → (m : ℕ) → count m (flat_map numbers_of trees) + count m table.chain ≤ 1
   once most table trees f m = omega (arith, f.account m, at-most-one m (length table.nodes), count-append m (flat_map numbers_of trees) table.chain)
 
+  -- and is that of a slot
+  pub within-slots : (most : ℕ) (table : Table K V) (trees : List (Tree K V)) → IsForest most table trees → (m : ℕ) → 0 < count m (flat_map numbers_of trees) + count m table.chain → m < length table.nodes
+  within-slots most table trees f m some =
+      elim (cases_lt m (length table.nodes)) [ inl low ↦ low | inr past ↦ absurd (omega (arith, f.account m, past-none m (length table.nodes) past, some, count-append m (flat_map numbers_of trees) table.chain)) ]
+
   -- no two trees have one root
   pub roots-once : (most : ℕ) (table : Table K V) (trees : List (Tree K V)) → IsForest most table trees → (m : ℕ) → count m (map root_of trees) ≤ 1
   roots-once most table trees f m = omega (arith, named_all most table trees f m, once most table trees f m)
 
-  -- the root of a tree is a root
-  root_there : (most : ℕ) (table : Table K V) (trees : List (Tree K V)) → IsForest most table trees → (m : ℕ) → 0 < count m (map root_of trees) → IsTrue (is_root table.nodes m)
-  unfolding is_root
-  root_there most table trees f m some =
-      let n = named_all most table trees f m in
-      let used = used_trees table.nodes trees f.inside m (omega (arith, some, n)) in
-      let none : count m (flat_map children_of table.nodes) ≡ 0 = omega (arith, some, n, once most table trees f m) in
-      rw (used, none) refl
-
   -- a node has a slot
-  used_within : (slots : List (Content K V)) (m : ℕ) → is_used (slot slots m) ≡ true → m < length slots
+  pub used_within : (slots : List (Content K V)) (m : ℕ) → is_used (slot slots m) ≡ true → m < length slots
   used_within slots m used =
       elim (cases_lt m (length slots)) [ inl low ↦ low | inr past ↦ absurd (let e = ap is_used (get_or_past slots m (Free None) past) in cc) ]
 
@@ -143,10 +119,6 @@ module _ {K V : Type 0} where
       let low = used_within table.nodes m parts.0 in
       let off : count m table.chain ≡ 0 = elim (cases_lt 0 (count m table.chain)) [ inl on ↦ absurd (let e = free-unused (slot table.nodes m) (free-at table.nodes table.chain f.free m on) in let d = parts.0 in cc) | inr off ↦ omega (arith, off) ] in
       omega (arith, none, off, f.account m, below-one m (length table.nodes) low, count-append m (flat_map numbers_of trees) table.chain, named_all most table trees f m)
-
-  -- a number is a root exactly if it is that of a tree
-  pub root-counts : (most : ℕ) (table : Table K V) (trees : List (Tree K V)) → IsForest most table trees → (m : ℕ) → IsTrue (is_root table.nodes m) ↔ (0 < count m (map root_of trees))
-  root-counts most table trees f m = (root_only most table trees f m, root_there most table trees f m)
 
   -- the tree of a root
   pub tree-with : (trees : List (Tree K V)) (m : ℕ) → 0 < count m (map root_of trees) → (before : List (Tree K V)) × (tree : Tree K V) × (after : List (Tree K V)) × (trees ≡ before ++ tree ∷ after) × (root_of tree ≡ m)
@@ -163,16 +135,17 @@ module _ {K V : Type 0} where
   root-tree most table trees number f root = tree-with trees number (root_only most table trees f number root)
 
   tree_back : (most : ℕ) (table : Table K V) (before : List (Tree K V)) (tree : Tree K V) (after : List (Tree K V)) → IsForest most table (before ++ tree ∷ after) → (tree_of table.nodes (root_of tree) ≡ tree) × IsTrue (is_root table.nodes (root_of tree))
+  unfolding is_root
   tree_back most table before tree after f =
-      let fits = every-append (IsFit most) before (tree ∷ after) f.fit in
-      let ins = every-append (IsIn table.nodes) before (tree ∷ after) f.inside in
-      let somes = every-append (λ (tree : Tree K V). 1 ≤ length (flat tree.leaves)) before (tree ∷ after) f.some in
-      let lows = every-append (λ (tree : Tree K V). length tree.above ≤ 16) before (tree ∷ after) f.low in
+      let fit = (every-append (IsFit most) before (tree ∷ after) f.fit).1.0 in
+      let inside = (every-append (IsIn table.nodes) before (tree ∷ after) f.inside).1.0 in
+      let some = (every-append (λ (tree : Tree K V). 1 ≤ length (flat tree.leaves)) before (tree ∷ after) f.some).1.0 in
+      let low = (every-append (λ (tree : Tree K V). length tree.above ≤ 16) before (tree ∷ after) f.low).1.0 in
       let m = root_of tree in
-      let a = ap (λ z. count m z) (map-append root_of before (tree ∷ after)) in (
-        read-back most table.nodes tree fits.1.0 ins.1.0 somes.1.0 lows.1.0,
-        root_there most table (before ++ tree ∷ after) f m (omega (arith, a, count-append m (map root_of before) (m ∷ map root_of after), count-same m (map root_of after))),
-      )
+      let here = ap (λ z. count m z) (map-append root_of before (tree ∷ after)) ∙ count-append m (map root_of before) (m ∷ map root_of after) in
+      let none : count m (flat_map children_of table.nodes) ≡ 0 = omega (arith, here, count-same m (map root_of after), named_all most table (before ++ tree ∷ after) f m, once most table (before ++ tree ∷ after) f m) in
+      let used = root_used most (omega (arith, f.capacity.least)) table.nodes tree (record { fit = fit; inside = inside; root_is = refl; some = some; low = low }) in
+      (read-back most table.nodes tree fit inside some low, rw (used, none) refl)
 
   -- a tree of the witness is the one that is computed from its root, which is a root
   pub tree-back : (most : ℕ) (table : Table K V) (trees before : List (Tree K V)) (tree : Tree K V) (after : List (Tree K V)) (root : ℕ) → IsForest most table trees → trees ≡ before ++ tree ∷ after → root_of tree ≡ root →
@@ -180,3 +153,7 @@ module _ {K V : Type 0} where
   tree-back most table trees before tree after root f split is =
       subst (λ (z : ℕ). (tree_of table.nodes z ≡ tree) × IsTrue (is_root table.nodes z)) is
       (tree_back most table before tree after (subst (λ (z : List (Tree K V)). IsForest most table z) split f))
+
+  -- a number is a root exactly if it is that of a tree
+  pub root-counts : (most : ℕ) (table : Table K V) (trees : List (Tree K V)) → IsForest most table trees → (m : ℕ) → IsTrue (is_root table.nodes m) ↔ (0 < count m (map root_of trees))
+  root-counts most table trees f m = (root_only most table trees f m, λ some. (let r = tree-with trees m some in (tree-back most table trees r.0 r.1 r.2 m f r.3 r.4).1))

@@ -1,11 +1,12 @@
 -- A table of no tree, a first entry of a tree, and what a tree under a root has.
-use Rattle.std.proofs.Common.{◌≡◌, ℕ, ◌-◌, ◌≤◌, ◌<◌, IsTrue, Some, List, [], ◌∷◌, drop, length, refl, sym, ap, ◌∙◌, inl, inr, length-append, arith}
-use Rattle.bforest_core.proofs.Words.{flat_map, cases_lt, IsLeafCapacity, Leaf, Table, front_of, free_count, slot_count, fresh_nodes, down_from, with_front, reserved, node, flat, sizes_of, Tree, count, numbers_of, is_root, IsUnion, Plants}
-use Rattle.bforest_core.proofs.table.Tables.{count-append, count-same, absent_ne, takes}
+use Rattle.std.proofs.Common.{◌≡◌, ℕ, ◌-◌, ◌≤◌, IsTrue, Some, List, [], ◌∷◌, drop, length, refl, sym, ap, ◌∙◌, subst, length-append, arith}
+use Rattle.bforest_core.proofs.Words.{IsLeafCapacity, Leaf, Table, front_of, free_count, slot_count, fresh_nodes, down_from, with_front, reserved, node, flat, sizes_of, Tree, count, numbers_of, is_root, IsUnion, Plants}
+use Rattle.bforest_core.proofs.table.Tables.{count-same, absent_ne, takes}
 use Rattle.bforest_core.proofs.table.Chains.{length-fresh_nodes, length-down_from}
 use Rattle.bforest_core.proofs.rows.Counts.{past-none}
-use Rattle.bforest_core.proofs.union.Exchange.{IsPlanted}
-use Rattle.bforest_core.proofs.union.Roots.{planted-union}
+use Rattle.bforest_core.proofs.union.Exchange.{IsPlanted, Traded, exchange-trees, others-keep, roots-gone, traded}
+use Rattle.bforest_core.proofs.union.Forests.{once, tree-back, within-slots}
+use Rattle.bforest_core.proofs.union.Roots.{not-root, one_root, one_tree}
 use Rattle.bforest_core.proofs.union.Reserved.{reserved-union, reserved-then, reserved-roots}
 
 -- a chain with a front
@@ -19,14 +20,6 @@ unfolding is_root
 no-root K V number is = absurd cc
 
 module _ {K V : Type 0} where
-  -- a number of the chain is that of a slot
-  chain_within : (most : ℕ) (table : Table K V) (m : ℕ) (rest : List ℕ) → IsUnion most table → table.chain ≡ m ∷ rest → m < length table.nodes
-  chain_within most table m rest union is =
-      elim (cases_lt m (length table.nodes)) [
-        | inl low ↦ low
-        | inr past ↦ absurd (omega (arith, union.1.account m, past-none m (length table.nodes) past, count-append m (flat_map numbers_of union.0) table.chain, ap (λ z. count m z) is, count-same m rest))
-      ]
-
   -- a table of no slots has no tree
   pub IsUnion-empty : (most n : ℕ) → IsLeafCapacity most → IsUnion {K = K} {V = V} most (record { nodes = []; chain = []; limit = n })
   IsUnion-empty most n capacity = ([], record { capacity = capacity; fit = tt; inside = tt; some = tt; low = tt; free = tt; account = λ m. sym (past-none m 0 (omega arith)) })
@@ -39,7 +32,7 @@ module _ {K V : Type 0} where
       let mid = reserved old 1 in
       let u = reserved-union most old 1 union in
       let f = front_rest number mid.chain front in
-      let t = takes mid new number (Leaf (key ∷ []) (value ∷ [])) front is (chain_within most mid number f.0 u f.1) in
+      let t = takes mid new number (Leaf (key ∷ []) (value ∷ [])) front is (within-slots most mid u.0 u.1 number (omega (arith, ap (λ z. count number z) f.1, count-same number f.0))) in
       let tree : Tree K V = record { leaves = node number ((key, value) ∷ []) ∷ []; above = [] } in
       let p : IsPlanted most new.nodes tree = record {
         fit = record { leaves_fit = (omega arith, omega (arith, one), tt); stacked = refl; topped = tt };
@@ -47,23 +40,25 @@ module _ {K V : Type 0} where
         some = omega arith;
         low = omega arith;
       } in
-      let e = planted-union most mid new tree (number ∷ []) u p t.chain_is t.slots_are (λ m. refl) (λ m none. t.same m (absent_ne m number [] none)) in
+      let moved = traded mid new [] (numbers_of tree) (number ∷ []) [] new.chain u.1.free (λ m. omega (arith, once most mid u.0 u.1 m)) t.chain_is refl tt t.slots_are (λ m. omega arith) (λ m none. t.same m (absent_ne m number [] (omega (arith, none)))) in
+      let g = exchange-trees most mid new [] [] (tree ∷ []) u.0 u.1 (p, tt) (subst (λ (z : List ℕ). Traded mid new [] z) (one_tree tree) moved) in
+      let back = tree-back most new (tree ∷ u.0) [] tree u.0 number g refl refl in
       let made = length-fresh_nodes K V (slot_count old) (1 - free_count old) (front_of old.chain) in
       let slots = length-append old.nodes (fresh_nodes {K = K} {V = V} (slot_count old) (1 - free_count old) (front_of old.chain)) in
       let chains = length-append (down_from (slot_count old) (1 - free_count old)) old.chain in
       let downs = length-down_from (slot_count old) (1 - free_count old) in
       record {
         changes = record {
-          union = e.0.union;
-          root_is = e.0.root_is;
-          list_is = ap (λ (z : Tree K V). flat z.leaves) e.0.tree_is;
-          sizes_are = ap (λ (z : Tree K V). sizes_of z) e.0.tree_is;
-          others = reserved-then most old 1 new number number union e.0.others;
+          union = (tree ∷ u.0, g);
+          root_is = back.1;
+          list_is = ap (λ (z : Tree K V). flat z.leaves) back.0;
+          sizes_are = ap (λ (z : Tree K V). sizes_of z) back.0;
+          others = reserved-then most old 1 new number number union (λ other ne ne'. others-keep most mid new [] [] (tree ∷ []) u.0 u.1 g other refl (not-root other number ne));
           old_gone = λ ne. absurd (ne refl);
           new_came = λ ne. absurd (ne refl);
           limit_is = t.limit_is;
         };
-        fresh = λ there. e.1 ((reserved-roots most old 1 union number).0 ∙ there);
+        fresh = λ there. roots-gone most new mid [] (tree ∷ []) [] u.0 g u.1 number (one_root number) refl ((reserved-roots most old 1 union number).0 ∙ there);
         takes = record {
           slots = omega (arith, t.slots_are, slots, made);
           free = omega (arith, ap length t.chain_is, chains, downs);

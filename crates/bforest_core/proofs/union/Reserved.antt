@@ -1,13 +1,14 @@
 -- New slots in front of the chain leave the trees of a table as they are.
-use Rattle.std.proofs.Common.{◌≡◌, ℕ, zero, suc, ◌+◌, ◌-◌, ◌≤◌, ◌<◌, IsTrue, Bool, true, false, Option, None, List, [], ◌∷◌, ◌++◌, length, get_or, slice_get, refl, sym, ap, ◌∙◌, inl, inr, subst, length-append, arith}
-use Rattle.bforest_core.proofs.Words.{flat_map, cases_lt, get_or-append_right, slice_get-get_or, Content, Free, IsFree, Table, down_from, fresh_nodes, front_of, front_of_new, free_count, slot_count, with_slots, reserved, KeepsTrees, Tree}
+use Rattle.std.proofs.Common.{◌≡◌, ℕ, zero, suc, ◌+◌, ◌-◌, ◌≤◌, ◌<◌, IsTrue, Option, None, List, [], ◌∷◌, ◌++◌, length, get_or, slice_get, refl, sym, ap, ◌∙◌, subst, length-append, arith}
+use Rattle.bforest_core.proofs.Words.{flat_map, get_or-append_right, slice_get-get_or, Content, Free, IsFree, Table, down_from, fresh_nodes, front_of, front_of_new, free_count, slot_count, with_slots, reserved, KeepsTrees, Tree}
 use Rattle.bforest_core.proofs.Words.{count, numbers_of, slot, tree_of, is_root, Every, IsForest, IsUnion, OthersKeep}
+use Rattle.std.proofs.lemmas.Bool.Decides.{same_from_decides}
 use Rattle.bforest_core.proofs.table.Tables.{count-append}
 use Rattle.bforest_core.proofs.table.Lists.{slice_get-append_left}
 use Rattle.bforest_core.proofs.table.Chains.{length-down_from, length-fresh_nodes}
-use Rattle.bforest_core.proofs.rows.Counts.{once_below, past-none, upto, count-upto}
+use Rattle.bforest_core.proofs.rows.Counts.{once_below, upto, count-upto}
 use Rattle.bforest_core.proofs.union.FreeSlots.{free-same}
-use Rattle.bforest_core.proofs.union.Forests.{every-join}
+use Rattle.bforest_core.proofs.union.Forests.{every-join, within-slots}
 use Rattle.bforest_core.proofs.union.Exchange.{trees-same, others-keep}
 
 -- each of so many new numbers is the first or past it
@@ -26,12 +27,6 @@ count-down m first (suc n) =
     let e : first + suc n ≡ suc (first + n) = omega arith in
     let a = ap (λ z. once_below m z) e in
     omega (arith, a, once-suc m (first + n), count-down m first n)
-
--- tests that are true together are the same
-same-test : (a b : Bool) → (a ≡ true → b ≡ true) → (b ≡ true → a ≡ true) → a ≡ b
-same-test true b f g = sym (f refl)
-same-test false true f g = g refl
-same-test false false f g = refl
 
 module _ {K V : Type 0} where
   -- one more free slot
@@ -58,12 +53,11 @@ module _ {K V : Type 0} where
       slice_get-append_left xs more m (get_or xs m (Free None)) e ∙ sym e
 
   -- the trees of a table with so many new slots
-  pub with-slots-forest : (most : ℕ) (table : Table K V) (n : ℕ) (trees : List (Tree K V)) → IsForest most table trees → IsForest most (with_slots table n) trees
+  with-slots-forest : (most : ℕ) (table : Table K V) (n : ℕ) (trees : List (Tree K V)) → IsForest most table trees → IsForest most (with_slots table n) trees
   with-slots-forest most table n trees f =
       let more : List (Content K V) = fresh_nodes (slot_count table) n (front_of table.chain) in
       let c = λ (m : ℕ). count-append m (flat_map numbers_of trees) table.chain in
-      let low : (m : ℕ) → 0 < count m (flat_map numbers_of trees) + count m table.chain → m < length table.nodes =
-      λ m some. elim (cases_lt m (length table.nodes)) [ inl low ↦ low | inr past ↦ absurd (omega (arith, f.account m, past-none m (length table.nodes) past, some, c m)) ] in
+      let low = within-slots most table trees f in
       let slots : length (table.nodes ++ more) ≡ length table.nodes + n = omega (arith, length-append table.nodes more, length-fresh_nodes K V (slot_count table) n (front_of table.chain)) in
       record {
         capacity = f.capacity;
@@ -77,25 +71,16 @@ module _ {K V : Type 0} where
         account = λ m. omega (arith, count-append m (flat_map numbers_of trees) (down_from (slot_count table) n ++ table.chain), count-append m (down_from (slot_count table) n) table.chain, c m, f.account m, count-down m (slot_count table) n) ∙ ap (λ z. once_below m z) (sym slots);
       }
 
-  -- two tables with the same trees: the same roots, and under each the same tree
-  pub same-trees : (most : ℕ) (old new : Table K V) (trees : List (Tree K V)) → IsForest most old trees → IsForest most new trees → (number : ℕ) →
-      (is_root new.nodes number ≡ is_root old.nodes number) × (IsTrue (is_root old.nodes number) → tree_of new.nodes number ≡ tree_of old.nodes number)
-  same-trees most old new trees f g number =
-      let k = others-keep most old new [] [] [] trees f g number refl refl in
-      (same-test (is_root new.nodes number) (is_root old.nodes number) k.0.0 k.0.1, k.1)
-
-  -- at least n nodes made free: the same trees
-  pub reserved-forest : (most : ℕ) (table : Table K V) (n : ℕ) (trees : List (Tree K V)) → IsForest most table trees → IsForest most (reserved table n) trees
-  reserved-forest most table n trees f = with-slots-forest most table (n - free_count table) trees f
-
   -- the used slots are still a union of trees
   pub reserved-union : (most : ℕ) (table : Table K V) (n : ℕ) → IsUnion most table → IsUnion most (reserved table n)
-  reserved-union most table n union = (union.0, reserved-forest most table n union.0 union.1)
+  reserved-union most table n union = (union.0, with-slots-forest most table (n - free_count table) union.0 union.1)
 
   -- and the same roots, with the same trees
   pub reserved-roots : (most : ℕ) (table : Table K V) (n : ℕ) → IsUnion most table → (number : ℕ) →
       (is_root (reserved table n).nodes number ≡ is_root table.nodes number) × (IsTrue (is_root table.nodes number) → tree_of (reserved table n).nodes number ≡ tree_of table.nodes number)
-  reserved-roots most table n union number = same-trees most table (reserved table n) union.0 union.1 (reserved-forest most table n union.0 union.1) number
+  reserved-roots most table n union number =
+      let k = others-keep most table (reserved table n) [] [] [] union.0 union.1 (with-slots-forest most table (n - free_count table) union.0 union.1) number refl refl in
+      (same_from_decides (is_root (reserved table n).nodes number) (is_root table.nodes number) k.0 (λ is. is, λ is. is), k.1)
 
   -- what keeps other trees of the table with more slots keeps those of the table
   pub reserved-then : (most : ℕ) (table : Table K V) (n : ℕ) (new : Table K V) (root root' : ℕ) → IsUnion most table → OthersKeep (reserved table n).nodes new.nodes root root' → OthersKeep table.nodes new.nodes root root'

@@ -1,13 +1,13 @@
 -- What a change of the tree under a root says to a caller who has no witness: of roots, and of the trees computed from them.
-use Rattle.std.proofs.Common.{◌≡◌, ℕ, ◌+◌, ◌<◌, ◌≢◌, IsTrue, List, [], ◌∷◌, ◌++◌, length, slice_get, refl, sym, subst, append-nil, arith}
-use Rattle.bforest_core.proofs.Words.{flat_map, Table, Tree, count, root_of, numbers_of, tree_of, is_root, IsUnion, OthersKeep, Frees}
+use Rattle.std.proofs.Common.{◌≡◌, ℕ, ◌+◌, ◌<◌, ◌≢◌, IsTrue, List, [], ◌∷◌, ◌++◌, length, slice_get, refl, sym, ap, subst, append-nil, arith}
+use Rattle.bforest_core.proofs.Words.{Changes, flat, sizes_of, flat_map, Table, Tree, count, root_of, numbers_of, tree_of, is_root, IsUnion, OthersKeep, Frees}
 use Rattle.bforest_core.proofs.table.Tables.{count-same, count-other}
-use Rattle.bforest_core.proofs.union.Forests.{once, tree-back}
-use Rattle.bforest_core.proofs.union.Exchange.{IsPlanted, Traded, traded-taken, traded-freed, exchange-trees, others-keep, roots-gone}
+use Rattle.bforest_core.proofs.union.Forests.{tree-back}
+use Rattle.bforest_core.proofs.union.Exchange.{IsPlanted, Traded, traded, exchange-trees, others-keep, roots-gone}
 use Rattle.bforest_core.proofs.union.Unions.{rooted}
 
 -- a root counts
-one_root : (root : ℕ) → 0 < count root (root ∷ [])
+pub one_root : (root : ℕ) → 0 < count root (root ∷ [])
 one_root root = omega (arith, count-same root [])
 
 -- another number than a root
@@ -25,7 +25,7 @@ module _ {K V : Type 0} where
     pub new_came : root ≢ root_of tree' → ¬ IsTrue (is_root old.nodes (root_of tree'))
 
   -- the numbers of one tree
-  one_tree : (tree : Tree K V) → numbers_of tree ≡ flat_map numbers_of (tree ∷ [])
+  pub one_tree : (tree : Tree K V) → numbers_of tree ≡ flat_map numbers_of (tree ∷ [])
   one_tree tree = sym (append-nil (numbers_of tree))
 
   exchanged_by : (most : ℕ) (old new : Table K V) (root : ℕ) (tree' : Tree K V) → IsUnion most old → IsTrue (is_root old.nodes root) → IsPlanted most new.nodes tree' → Traded old new (numbers_of (tree_of old.nodes root)) (numbers_of tree') → Exchanged most old new root tree'
@@ -51,35 +51,26 @@ module _ {K V : Type 0} where
       ((m : ℕ) → count m (numbers_of (tree_of old.nodes root)) + count m taken ≡ 0 → slice_get new.nodes m ≡ slice_get old.nodes m) →
       Exchanged most old new root tree'
   exchanged most old new root tree' taken union is p chain_is slots nums others =
-      exchanged_by most old new root tree' union is p (traded-taken old new (numbers_of (tree_of old.nodes root)) (numbers_of tree') taken union.1.free (rooted most old root union is).apart chain_is slots nums others)
+      exchanged_by most old new root tree' union is p (traded old new (numbers_of (tree_of old.nodes root)) (numbers_of tree') taken [] new.chain union.1.free (rooted most old root union is).apart chain_is refl tt slots (λ m. omega (arith, nums m)) others)
 
   -- a removal under a root
   pub exchanged-freed : (most : ℕ) (old new : Table K V) (root : ℕ) (tree' : Tree K V) (freed : List ℕ) → IsUnion most old → IsTrue (is_root old.nodes root) → IsPlanted most new.nodes tree' → Frees old new (numbers_of (tree_of old.nodes root)) freed →
       ((m : ℕ) → count m (numbers_of tree') + count m freed ≡ count m (numbers_of (tree_of old.nodes root))) → Exchanged most old new root tree'
   exchanged-freed most old new root tree' freed union is p frees nums =
-      exchanged_by most old new root tree' union is p (traded-freed old new (numbers_of (tree_of old.nodes root)) (numbers_of tree') freed union.1.free (rooted most old root union is).apart frees nums)
+      exchanged_by most old new root tree' union is p (traded old new (numbers_of (tree_of old.nodes root)) (numbers_of tree') [] freed old.chain union.1.free (rooted most old root union is).apart refl frees.chain_is frees.freed_are frees.slots_are (λ m. omega (arith, nums m)) (λ m none. frees.others m (omega (arith, none))))
 
-  -- a first entry: its root had no tree
-  pub planted-union : (most : ℕ) (old new : Table K V) (tree' : Tree K V) (taken : List ℕ) → IsUnion most old → IsPlanted most new.nodes tree' →
-      old.chain ≡ taken ++ new.chain → length new.nodes ≡ length old.nodes →
-      ((m : ℕ) → count m (numbers_of tree') ≡ count m taken) →
-      ((m : ℕ) → count m taken ≡ 0 → slice_get new.nodes m ≡ slice_get old.nodes m) →
-      Exchanged most old new (root_of tree') tree' × (¬ IsTrue (is_root old.nodes (root_of tree')))
-  planted-union most old new tree' taken union p chain_is slots nums others =
-      let trees = union.0 in
-      let t = traded-taken old new [] (numbers_of tree') taken union.1.free (λ m. omega (arith, once most old trees union.1 m)) chain_is slots (λ m. omega (arith, nums m)) (λ m none. others m (omega (arith, none))) in
-      let g = exchange-trees most old new [] [] (tree' ∷ []) trees union.1 (p, tt) (subst (λ (z : List ℕ). Traded old new [] z) (one_tree tree') t) in
-      let back = tree-back most new (tree' ∷ trees) [] tree' trees (root_of tree') g refl refl in (
-        record {
-          union = (tree' ∷ trees, g);
-          root_is = back.1;
-          tree_is = back.0;
-          others = λ other ne ne'. others-keep most old new [] [] (tree' ∷ []) trees union.1 g other refl (not-root other (root_of tree') ne);
-          old_gone = λ ne. absurd (ne refl);
-          new_came = λ ne. absurd (ne refl);
-        },
-        roots-gone most new old [] (tree' ∷ []) [] trees g union.1 (root_of tree') (one_root (root_of tree')) refl,
-      )
+  -- as a change of a tree
+  pub exchanged-changes : {most : ℕ} {old new : Table K V} {root root' : ℕ} {tree' : Tree K V} → Exchanged most old new root tree' → root_of tree' ≡ root' → new.limit ≡ old.limit → Changes most old new root root' (flat tree'.leaves) (sizes_of tree')
+  exchanged-changes {most} {old} {new} {root} {root'} {tree'} e is limit_is = subst (λ (z : ℕ). Changes most old new root z (flat tree'.leaves) (sizes_of tree')) is (record {
+    union = e.union;
+    root_is = e.root_is;
+    list_is = ap (λ (z : Tree K V). flat z.leaves) e.tree_is;
+    sizes_are = ap sizes_of e.tree_is;
+    others = e.others;
+    old_gone = e.old_gone;
+    new_came = e.new_came;
+    limit_is = limit_is;
+  })
 
   -- all entries gone: the root has no tree any more
   pub uprooted-union : (most : ℕ) (old new : Table K V) (root : ℕ) (freed : List ℕ) → IsUnion most old → IsTrue (is_root old.nodes root) → Frees old new (numbers_of (tree_of old.nodes root)) freed → ((m : ℕ) → count m freed ≡ count m (numbers_of (tree_of old.nodes root))) →
@@ -87,7 +78,7 @@ module _ {K V : Type 0} where
   uprooted-union most old new root freed union is frees nums =
       let r = rooted most old root union is in
       let tree = tree_of old.nodes root in
-      let t = traded-freed old new (numbers_of tree) [] freed union.1.free r.apart frees (λ m. omega (arith, nums m)) in
+      let t = traded old new (numbers_of tree) [] [] freed old.chain union.1.free r.apart refl frees.chain_is frees.freed_are frees.slots_are (λ m. omega (arith, nums m)) (λ m none. frees.others m (omega (arith, none))) in
       let g = exchange-trees most old new r.before (tree ∷ []) [] r.after r.forest tt (subst (λ (z : List ℕ). Traded old new z []) (one_tree tree) t) in (
         (r.before ++ r.after, g),
         subst (λ (z : ℕ). ¬ IsTrue (is_root new.nodes z)) r.root_is (roots-gone most old new r.before (tree ∷ []) [] r.after r.forest g (root_of tree) (one_root (root_of tree)) refl),

@@ -3,7 +3,6 @@ use Rattle.std.proofs.Common.{◌≡◌, ℕ, suc, ◌+◌, ◌≤◌, List, [],
 use Rattle.bforest_core.proofs.Words.{flat_map, Content, LevelNode, node, flat, heads, numbers, FitRow, half_of, RowIn, RowsIn, leaf_content, inner_content, count, StackedTo, Under, numbers_under}
 use Rattle.bforest_core.proofs.rows.LevelRows.{flat-append, numbers-append, least-pos}
 use Rattle.bforest_core.proofs.table.Tables.{count-append, row-split}
-use Rattle.bforest_core.proofs.walks.Downward.{cons_same}
 
 module _ {K X : Type 0} where
   -- a row cut where it is seen from above
@@ -19,13 +18,13 @@ module _ {K X : Type 0} where
   row-cut half most one [] (x ∷ a) b f h = absurd cc
   row-cut half most one (node m [] ∷ ns) (x ∷ a) b f h = absurd (omega (arith, f.0, least-pos half one ns))
   row-cut half most one (node m (e ∷ es) ∷ ns) (x ∷ a) b f h =
-      let s = cons_same (e.0, m) x (heads ns) (a ++ b) h in
-      let r = row-cut half most one ns a b f.2 s.1 in
+      let same : ◌≡◌ {A = K × ℕ} (e.0, m) x = cc in
+      let r = row-cut half most one ns a b f.2 (cc) in
       record {
         left = node m (e ∷ es) ∷ r.left;
         right = r.right;
         row_is = ap (λ z. node m (e ∷ es) ∷ z) r.row_is;
-        left_is = ap (λ z. (e.0, m) ∷ z) r.left_is ∙ ap (λ z. z ∷ a) s.0;
+        left_is = ap (λ z. (e.0, m) ∷ z) r.left_is ∙ ap (λ z. z ∷ a) same;
         right_is = r.right_is;
       }
 
@@ -52,16 +51,20 @@ pub record RowsCut {K V : Type 0} (slots : List (Content K V)) (list : List (K �
   pub counted : (m : ℕ) → count m (flat_map numbers rows) ≡ count m (flat_map numbers left) + count m (flat_map numbers right)
 
 module _ {K V : Type 0} where
-  rows_more : (slots : List (Content K V)) (list : List (K × ℕ)) (row : List (LevelNode K ℕ)) (rows : List (List (LevelNode K ℕ))) (a b : List (K × ℕ)) → flat row ≡ list → FitRow 4 8 row → RowIn inner_content slots row → (r : RowsCut slots (heads row) rows a b) → RowCut row r.list_left r.list_right → RowsCut slots list (row ∷ rows) a b
-  rows_more slots list row rows a b is f i r c =
-      let fits = fit_cut 4 8 (omega arith) c.left c.right (subst (λ z. FitRow 4 8 z) c.row_is f) in
-      let ins = row-split inner_content slots c.left c.right (subst (λ z. RowIn inner_content slots z) c.row_is i) in
+  rows-cut : (slots : List (Content K V)) (list : List (K × ℕ)) (rows : List (List (LevelNode K ℕ))) (a b : List (K × ℕ)) → StackedTo list rows (a ++ b) → RowsIn slots rows → RowsCut slots list rows a b
+  rows-cut slots list [] a b s i =
+      record { list_left = a; list_right = b; left = []; right = []; list_is = s; left_stacked = refl; right_stacked = refl; left_in = tt; right_in = tt; left_height = refl; right_height = refl; counted = λ m. refl }
+  rows-cut slots list (row ∷ rows) a b s i =
+      let r = rows-cut slots (heads row) rows a b s.2 i.1 in
+      let c = row-cut 4 8 (omega arith) row r.list_left r.list_right s.1 r.list_is in
+      let fits = fit_cut 4 8 (omega arith) c.left c.right (subst (λ z. FitRow 4 8 z) c.row_is s.1) in
+      let ins = row-split inner_content slots c.left c.right (subst (λ z. RowIn inner_content slots z) c.row_is i.0) in
       record {
         list_left = flat c.left;
         list_right = flat c.right;
         left = c.left ∷ r.left;
         right = c.right ∷ r.right;
-        list_is = sym is ∙ ap (λ z. flat z) c.row_is ∙ flat-append c.left c.right;
+        list_is = sym s.0 ∙ ap (λ z. flat z) c.row_is ∙ flat-append c.left c.right;
         left_stacked = (refl, fits.0, subst (λ z. StackedTo z r.left a) (sym c.left_is) r.left_stacked);
         right_stacked = (refl, fits.1, subst (λ z. StackedTo z r.right b) (sym c.right_is) r.right_stacked);
         left_in = (ins.0, r.left_in);
@@ -70,13 +73,6 @@ module _ {K V : Type 0} where
         right_height = ap suc r.right_height;
         counted = λ m. omega (arith, r.counted m, ap (λ z. count m (numbers z)) c.row_is, ap (λ z. count m z) (numbers-append c.left c.right), count-append m (numbers c.left) (numbers c.right), count-append m (numbers row) (flat_map numbers rows), count-append m (numbers c.left) (flat_map numbers r.left), count-append m (numbers c.right) (flat_map numbers r.right));
       }
-
-  rows-cut : (slots : List (Content K V)) (list : List (K × ℕ)) (rows : List (List (LevelNode K ℕ))) (a b : List (K × ℕ)) → StackedTo list rows (a ++ b) → RowsIn slots rows → RowsCut slots list rows a b
-  rows-cut slots list [] a b s i =
-      record { list_left = a; list_right = b; left = []; right = []; list_is = s; left_stacked = refl; right_stacked = refl; left_in = tt; right_in = tt; left_height = refl; right_height = refl; counted = λ m. refl }
-  rows-cut slots list (row ∷ rows) a b s i =
-      let r = rows-cut slots (heads row) rows a b s.2 i.1 in
-      rows_more slots list row rows a b s.0 s.1 i.0 r (row-cut 4 8 (omega arith) row r.list_left r.list_right s.1 r.list_is)
 
 module _ {K V : Type 0} (most : ℕ) (slots : List (Content K V)) where
   -- what lies under some nodes, cut between two of them

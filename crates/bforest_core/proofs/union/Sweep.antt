@@ -1,22 +1,20 @@
 -- Freeing all that is below a node, child by child.
-use Rattle.std.proofs.Common.{◌≡◌, ℕ, zero, suc, ◌+◌, ◌≤◌, ◌<◌, List, [], ◌∷◌, ◌++◌, length, drop, take, reverse, slice_get, Some, append-nil, refl, sym, ap, subst, ◌∙◌, inl, inr, arith}
+use Rattle.std.proofs.Common.{◌≡◌, ℕ, zero, suc, ◌+◌, ◌≤◌, ◌<◌, List, [], ◌∷◌, ◌++◌, length, drop, take, reverse, slice_get, option_map, Some, append-nil, refl, sym, ap, subst, ◌∙◌, inl, inr, arith}
 use Rattle.bforest_core.proofs.Words.{flat_map, cases_lt, flat_map-append, Content, Inner, Leaf, Free, IsInner, children_of, entry_count, Table, with_freed, LevelNode, node, flat, heads, numbers, half_of, leaf_content, inner_content}
 use Rattle.bforest_core.proofs.Words.{entry_items, count, Distinct, StackedTo, Under, numbers_down, slot, Frees, GivesAll, numbers_under, drop_all, length-map, nil_from_length, reverse-append, take_all, slice_get_within}
+use Rattle.bforest_core.proofs.union.Exchange.{tree-same}
 use Rattle.bforest_core.proofs.union.FreeSlots.{slot_same}
 use Rattle.bforest_core.proofs.removal.Frees.{frees-one, frees-refl, frees-then, frees-wider, only_here}
-use Rattle.bforest_core.proofs.walks.Downward.{Seen, no_heads}
+use Rattle.bforest_core.proofs.walks.Downward.{Seen}
 use Rattle.bforest_core.proofs.walks.TopNode.{LeafUnder, InnerUnder, node_under}
-use Rattle.bforest_core.proofs.table.Stored.{some_same}
+use Rattle.bforest_core.proofs.table.Stored.{childless, some_same}
+use Rattle.bforest_nodes.proofs.Seams.{last_taken}
+use Rattle.bforest_core.proofs.walks.LeafSearch.{items-read}
+use Rattle.bforest_core.proofs.walks.Steps.{no_heads, read}
 use Rattle.bforest_core.proofs.table.Read.{slot-is}
 use Rattle.bforest_core.proofs.table.Lists.{drop-read}
 use Rattle.bforest_core.proofs.union.Sections.{UnderCut, under-cut}
-use Rattle.bforest_core.proofs.table.Tables.{count-append, count-same, row-same, rows-same}
-
--- the items up to one more
-items-read : {K : Type 0} (top : List (K × ℕ)) (index : ℕ) (x : K × ℕ) → slice_get top index ≡ Some x → take (suc index) (entry_items top) ≡ take index (entry_items top) ++ x.1 ∷ []
-items-read [] index x found = absurd cc
-items-read (y ∷ top) zero x found = ap (λ z. z.1 ∷ []) (some_same y x found)
-items-read (y ∷ top) (suc index) x found = ap (λ z. y.1 ∷ z) (items-read top index x found)
+use Rattle.bforest_core.proofs.table.Tables.{count-append, count-same}
 
 -- rows below no node have none
 rows_none : {K : Type 0} (list : List (K × ℕ)) (rows : List (List (LevelNode K ℕ))) → StackedTo list rows [] → (list ≡ []) × ((m : ℕ) → count m (flat_map numbers rows) ≡ 0)
@@ -27,20 +25,11 @@ rows_none list (row ∷ rows) s =
     (sym s.0 ∙ ap flat none, λ m. omega (arith, count-append m (numbers row) (flat_map numbers rows), ap (λ z. count m (numbers z)) none, r.1 m))
 
 module _ {K V : Type 0} where
-  -- one freeing after another, of other nodes
-  frees-both : (a b c : Table K V) (own own' given given' : List ℕ) → ((m : ℕ) → 0 < count m given → count m own' ≡ 0) → Frees a b own given → Frees b c own' given' → Frees a c (own ++ own') (given' ++ given)
-  frees-both a b c own own' given given' apart p q =
-      let n = λ (m : ℕ). count-append m own own' in
-      frees-then a b c (own ++ own') own' given given' (λ m z. omega (arith, z, n m)) apart (frees-wider a b own (own ++ own') given (λ m z. omega (arith, z, n m)) p) q
-
   -- what lies under some nodes lies there in any slots that agree
   under-same : (most : ℕ) (old new : List (Content K V)) (leaves : List (LevelNode K V)) (lower : List (List (LevelNode K ℕ))) (top : List (K × ℕ)) → ((m : ℕ) → 0 < count m (numbers_under leaves lower) → slice_get new m ≡ slice_get old m) → Under most old leaves lower top → Under most new leaves lower top
-  under-same most old new leaves lower top same u = record {
-    leaves_fit = u.leaves_fit;
-    leaves_in = row-same leaf_content old new leaves (λ m some. same m (omega (arith, some, count-append m (numbers leaves) (flat_map numbers lower)))) u.leaves_in;
-    stacked = u.stacked;
-    rows_in = rows-same old new lower (λ m some. same m (omega (arith, some, count-append m (numbers leaves) (flat_map numbers lower)))) u.rows_in;
-  }
+  under-same most old new leaves lower top same u =
+      let i = tree-same old new (record { leaves = leaves; above = lower }) same (record { leaves_in = u.leaves_in; rows_in = u.rows_in }) in
+      record { leaves_fit = u.leaves_fit; leaves_in = i.leaves_in; stacked = u.stacked; rows_in = i.rows_in }
 
   under_none : (most : ℕ) → 1 ≤ half_of most → (slots : List (Content K V)) (leaves : List (LevelNode K V)) (lower : List (List (LevelNode K ℕ))) → Under most slots leaves lower [] → (m : ℕ) → count m (numbers_under leaves lower) ≡ 0
   under_none most one slots leaves lower u m =
@@ -97,34 +86,32 @@ module _ {K V : Type 0} where
           swept = s;
           found = found;
           cut = cut;
-          under = under-same most old.nodes now.nodes cut.leaves_left cut.lower_left (x ∷ []) (λ m some. s.frees.others m (apart_own m s cut apart some)) cut.left;
-          apart = λ m. apart_chain m s cut apart;
+          under = under-same most old.nodes now.nodes cut.leaves_left cut.lower_left (x ∷ []) (λ m some. s.frees.others m (omega (arith, apart m, count-append m (numbers_under leaves rows) old.chain, s.split m, cut.counted m, some))) cut.left;
+          apart = λ m. omega (arith, apart m, count-append m (numbers_under leaves rows) old.chain, s.split m, cut.counted m, s.counted m, ap (λ z. count m z) s.frees.chain_is, count-append m s.given old.chain, count-append m (numbers_under cut.leaves_left cut.lower_left) now.chain);
         }
-      where
-        apart_own : (m : ℕ) (s : Swept most old now leaves rows top index) (cut : UnderCut most old.nodes s.left_leaves s.left_rows (x ∷ []) (drop (suc index) top)) → Distinct (numbers_under leaves rows ++ old.chain) → 0 < count m (numbers_under cut.leaves_left cut.lower_left) → count m s.own ≡ 0
-        apart_own m s cut apart some = omega (arith, apart m, count-append m (numbers_under leaves rows) old.chain, s.split m, cut.counted m, some)
-
-        apart_chain : (m : ℕ) (s : Swept most old now leaves rows top index) (cut : UnderCut most old.nodes s.left_leaves s.left_rows (x ∷ []) (drop (suc index) top)) → Distinct (numbers_under leaves rows ++ old.chain) → count m (numbers_under cut.leaves_left cut.lower_left ++ now.chain) ≤ 1
-        apart_chain m s cut apart = omega (arith, apart m, count-append m (numbers_under leaves rows) old.chain, s.split m, cut.counted m, s.counted m, ap (λ z. count m z) s.frees.chain_is, count-append m s.given old.chain, count-append m (numbers_under cut.leaves_left cut.lower_left) now.chain)
 
     -- and then it is freed too
     pub sweep-next : (now new : Table K V) (index : ℕ) (x : K × ℕ) → Distinct (numbers_under leaves rows ++ old.chain) → (t : Turn now index x) → GivesAll now new (numbers_under t.cut.leaves_left t.cut.lower_left) (numbers_down now.nodes (length t.cut.lower_left) x.1) → Swept most old new leaves rows top (suc index)
-    sweep-next now new index x apart t g = record {
-      left_leaves = t.cut.leaves_right;
-      left_rows = t.cut.lower_right;
-      own = t.swept.own ++ numbers_under t.cut.leaves_left t.cut.lower_left;
-      given = numbers_down now.nodes (length t.cut.lower_left) x.1 ++ t.swept.given;
-      under = t.cut.right;
-      height = t.cut.right_height ∙ t.swept.height;
-      frees = frees-both old now new t.swept.own (numbers_under t.cut.leaves_left t.cut.lower_left) t.swept.given (numbers_down now.nodes (length t.cut.lower_left) x.1) (λ m some. omega (arith, apart m, some, t.swept.counted m, count-append m (numbers_under leaves rows) old.chain, t.swept.split m, t.cut.counted m)) t.swept.frees g.frees;
-      order =
-          ap (λ z. z ++ t.swept.given) (sym (down-same now.nodes old.nodes (length t.cut.lower_left) x.1 (λ m some. sym (t.swept.frees.others m (omega (arith, some, g.counted m, apart m, count-append m (numbers_under leaves rows) old.chain, t.swept.split m, t.cut.counted m))))))
-          ∙ ap (λ z. numbers_down old.nodes z x.1 ++ t.swept.given) (t.cut.left_height ∙ t.swept.height)
-          ∙ ap (λ z. numbers_down old.nodes (length rows) x.1 ++ z) t.swept.order
-          ∙ sym (ap (λ z. flat_map (numbers_down old.nodes (length rows)) (reverse z)) (items-read top index x t.found) ∙ ap (flat_map (numbers_down old.nodes (length rows))) (reverse-append (take index (entry_items top)) (x.1 ∷ [])));
-      counted = λ m. omega (arith, count-append m (numbers_down now.nodes (length t.cut.lower_left) x.1) t.swept.given, count-append m t.swept.own (numbers_under t.cut.leaves_left t.cut.lower_left), g.counted m, t.swept.counted m);
-      split = λ m. omega (arith, count-append m t.swept.own (numbers_under t.cut.leaves_left t.cut.lower_left), t.swept.split m, t.cut.counted m);
-    }
+    sweep-next now new index x apart t g =
+        let own = numbers_under t.cut.leaves_left t.cut.lower_left in
+        let n = λ (m : ℕ). count-append m t.swept.own own in
+        record {
+          left_leaves = t.cut.leaves_right;
+          left_rows = t.cut.lower_right;
+          own = t.swept.own ++ own;
+          given = numbers_down now.nodes (length t.cut.lower_left) x.1 ++ t.swept.given;
+          under = t.cut.right;
+          height = t.cut.right_height ∙ t.swept.height;
+          frees = frees-then old now new (t.swept.own ++ own) own t.swept.given (numbers_down now.nodes (length t.cut.lower_left) x.1) (λ m z. omega (arith, z, n m)) (λ m some. omega (arith, apart m, some, t.swept.counted m, count-append m (numbers_under leaves rows) old.chain, t.swept.split m, t.cut.counted m))
+              (frees-wider old now t.swept.own (t.swept.own ++ own) t.swept.given (λ m z. omega (arith, z, n m)) t.swept.frees) g.frees;
+          order =
+              ap (λ z. z ++ t.swept.given) (sym (down-same now.nodes old.nodes (length t.cut.lower_left) x.1 (λ m some. sym (t.swept.frees.others m (omega (arith, some, g.counted m, apart m, count-append m (numbers_under leaves rows) old.chain, t.swept.split m, t.cut.counted m))))))
+              ∙ ap (λ z. numbers_down old.nodes z x.1 ++ t.swept.given) (t.cut.left_height ∙ t.swept.height)
+              ∙ ap (λ z. numbers_down old.nodes (length rows) x.1 ++ z) t.swept.order
+              ∙ sym (ap (λ z. flat_map (numbers_down old.nodes (length rows)) (reverse z)) (last_taken (entry_items top) index x.1 (items-read top index ∙ ap (λ z. option_map (λ (e : K × ℕ). e.1) z) t.found)) ∙ ap (flat_map (numbers_down old.nodes (length rows))) (reverse-append (take index (entry_items top)) (x.1 ∷ [])));
+          counted = λ m. omega (arith, count-append m (numbers_down now.nodes (length t.cut.lower_left) x.1) t.swept.given, n m, g.counted m, t.swept.counted m);
+          split = λ m. omega (arith, n m, t.swept.split m, t.cut.counted m);
+        }
 
     -- at last all is freed
     pub sweep-last : (now : Table K V) (index : ℕ) → length top ≤ index → Swept most old now leaves rows top index → GivesAll old now (numbers_under leaves rows) (flat_map (numbers_down old.nodes (length rows)) (reverse (entry_items top)))
@@ -137,22 +124,11 @@ module _ {K V : Type 0} where
           counted = λ m. omega (arith, s.counted m, s.split m, left m);
         })
 
-  -- the node itself is freed after all that is below it
-  gives-top : (old now : Table K V) (own all given : List ℕ) (top : ℕ) (content : Content K V) → slice_get now.nodes top ≡ Some content → count top own ≡ 0 → ((m : ℕ) → count m all ≡ count m own + count m (top ∷ [])) → GivesAll old now own given → GivesAll old (with_freed now top) all (top ∷ given)
-  gives-top old now own all given top content found none all_is g =
-      let apart : (m : ℕ) → 0 < count m given → count m (top ∷ []) ≡ 0 =
-      λ m some. elim (cases_lt 0 (count m (top ∷ []))) [ inl here ↦ absurd (omega (arith, some, g.counted m, only_here m top own here none)) | inr past ↦ omega (arith, past) ] in
-      record {
-        frees = frees-then old now (with_freed now top) all (top ∷ []) given (top ∷ []) (λ m zero. omega (arith, zero, all_is m)) apart (frees-wider old now own all given (λ m zero. omega (arith, zero, all_is m)) g.frees) (frees-one now (with_freed now top) top content (top ∷ []) found refl (omega (arith, count-same top [])));
-        counted = λ m. omega (arith, all_is m, g.counted m, count-append m (top ∷ []) given);
-      }
-
 -- the entry whose item stands at an index
 item_at : {K : Type 0} (top : List (K × ℕ)) (index child : ℕ) → slice_get (entry_items top) index ≡ Some child → (x : K × ℕ) × (slice_get top index ≡ Some x) × (x.1 ≡ child)
-item_at [] zero child found = absurd cc
-item_at [] (suc index) child found = absurd cc
-item_at (y ∷ top) zero child found = (y, refl, cc)
-item_at (y ∷ top) (suc index) child found = item_at top index child found
+item_at top index child found =
+    let r = read top index (omega (arith, slice_get_within (entry_items top) index child found, length-map top (λ w. w.1))) in
+    (r.0, r.1, some_same r.0.1 child (sym (items-read top index ∙ ap (λ z. option_map (λ w. w.1) z) r.1) ∙ found))
 
 -- a row of one node seen from above
 one_node : {K X : Type 0} (half most : ℕ) → 1 ≤ half → (row : List (LevelNode K X)) (first : K) (number : ℕ) (at : Seen half most row [] first number []) → row ≡ node number (at.e ∷ at.es) ∷ []
@@ -238,19 +214,18 @@ module _ {K V : Type 0} where
         off_chain = omega (arith, a, one, o.counted number, s.split number, s.counted number, ap (λ z. count number z) s.frees.chain_is, count-append number s.given old.chain, count-append number (numbers_under leaves lower) old.chain);
       }
 
-  -- what is no inner node has no children
-  leaf_childless : (content : Content K V) → (IsInner content → ⊥) → length (children_of content) ≡ 0
-  leaf_childless (Inner keys children) other = absurd (other tt)
-  leaf_childless (Leaf keys vals) other = refl
-  leaf_childless (Free next) other = refl
-
   -- the node, after all its children
   pub gives-down : (most : ℕ) (old now : Table K V) (leaves : List (LevelNode K V)) (lower : List (List (LevelNode K ℕ))) (number index : ℕ) → (s : Sweeping most old now leaves lower number index) →
       GivesAll old now (numbers_under s.opened.low s.opened.rows) (flat_map (numbers_down old.nodes (length s.opened.rows)) (reverse (entry_items s.opened.top))) → GivesAll old (with_freed now number) (numbers_under leaves lower) (numbers_down old.nodes (length lower) number)
   gives-down most old now leaves lower number index s all =
+      let own = numbers_under s.opened.low s.opened.rows in
       let below = flat_map (numbers_down old.nodes (length s.opened.rows)) (reverse (entry_items s.opened.top)) in
-      subst (λ (z : List ℕ). GivesAll old (with_freed now number) (numbers_under leaves lower) z) (sym s.opened.down)
-      (gives-top old now (numbers_under s.opened.low s.opened.rows) (numbers_under leaves lower) below number s.opened.content s.slot_is s.alone s.opened.counted all)
+      let apart : (m : ℕ) → 0 < count m below → count m (number ∷ []) ≡ 0 =
+      λ m some. elim (cases_lt 0 (count m (number ∷ []))) [ inl here ↦ absurd (omega (arith, some, all.counted m, only_here m number own here s.alone)) | inr past ↦ omega (arith, past) ] in
+      subst (λ (z : List ℕ). GivesAll old (with_freed now number) (numbers_under leaves lower) z) (sym s.opened.down) (record {
+        frees = frees-then old now (with_freed now number) (numbers_under leaves lower) (number ∷ []) below (number ∷ []) (λ m zero. omega (arith, zero, s.opened.counted m)) apart (frees-wider old now own (numbers_under leaves lower) below (λ m zero. omega (arith, zero, s.opened.counted m)) all.frees) (frees-one now (with_freed now number) number s.opened.content (number ∷ []) s.slot_is refl (omega (arith, count-same number [])));
+        counted = λ m. omega (arith, s.opened.counted m, all.counted m, count-append m (number ∷ []) below);
+      })
 
   -- below a leaf lies nothing, so that it is freed alone
   pub gives-leaf : (most : ℕ) (one : 1 ≤ half_of most) (old : Table K V) (leaves : List (LevelNode K V)) (lower : List (List (LevelNode K ℕ))) (number : ℕ) → Distinct (numbers_under leaves lower ++ old.chain) → (o : Opened most old.nodes leaves lower number) → (IsInner o.content → ⊥) → GivesAll old (with_freed old number) (numbers_under leaves lower) (numbers_down old.nodes (length lower) number)
@@ -258,7 +233,7 @@ module _ {K V : Type 0} where
   gives-leaf most one old leaves lower number apart o other =
       let first = sweep-first most one old o.low o.rows o.top o.under in
       let s = sweeping most old old leaves lower number 0 apart o first in
-      let all = sweep-last most one old o.low o.rows o.top old 0 (omega (arith, leaf_childless o.content other, ap length o.children_are, length-map o.top (λ (e : K × ℕ). e.1))) first in
+      let all = sweep-last most one old o.low o.rows o.top old 0 (omega (arith, childless o.content other, ap length o.children_are, length-map o.top (λ (e : K × ℕ). e.1))) first in
       gives-down most old old leaves lower number 0 s all
 
   -- the child at the index, and what lies below it

@@ -1,9 +1,8 @@
 -- A tree of a union of trees, under its root.
-use Rattle.std.proofs.Common.{◌≡◌, ℕ, ◌≤◌, ◌<◌, IsTrue, List, [], ◌∷◌, ◌++◌, length, refl, sym, subst, inl, inr, arith}
-use Rattle.bforest_core.proofs.Words.{flat_map, cases_lt, Table, flat, Tree, IsFit, IsIn, count, Distinct, root_of, numbers_of, IsRooted, tree_of, is_root, IsForest, IsUnion}
+use Rattle.std.proofs.Common.{◌≡◌, ℕ, ◌≤◌, ◌<◌, IsTrue, List, ◌∷◌, ◌++◌, length, refl, sym, ap, subst, arith}
+use Rattle.bforest_core.proofs.Words.{flat_map, flat_map-append, Table, flat, Tree, IsFit, IsIn, count, Distinct, root_of, numbers_of, IsRooted, tree_of, is_root, IsForest, IsUnion}
 use Rattle.bforest_core.proofs.table.Tables.{count-append}
-use Rattle.bforest_core.proofs.rows.Counts.{past-none}
-use Rattle.bforest_core.proofs.union.Forests.{every-append, once, root-tree, tree-back}
+use Rattle.bforest_core.proofs.union.Forests.{every-append, once, root-tree, tree-back, within-slots}
 
 module _ {K V : Type 0} where
   -- a tree stands under a root of a table, among these trees
@@ -22,8 +21,7 @@ module _ {K V : Type 0} where
 
   -- the numbers of one tree are among those of all
   numbers_parts : (m : ℕ) (before : List (Tree K V)) (tree : Tree K V) (after : List (Tree K V)) → count m (numbers_of tree) ≤ count m (flat_map numbers_of (before ++ tree ∷ after))
-  numbers_parts m [] tree after = omega (arith, count-append m (numbers_of tree) (flat_map numbers_of after))
-  numbers_parts m (first ∷ before) tree after = omega (arith, numbers_parts m before tree after, count-append m (numbers_of first) (flat_map numbers_of (before ++ tree ∷ after)))
+  numbers_parts m before tree after = omega (arith, ap (λ z. count m z) (flat_map-append numbers_of before (tree ∷ after)), count-append m (flat_map numbers_of before) (flat_map numbers_of (tree ∷ after)), count-append m (numbers_of tree) (flat_map numbers_of after))
 
   -- a tree of the witness stands under its root
   rooted_at : (most : ℕ) (table : Table K V) (root : ℕ) (before : List (Tree K V)) (tree : Tree K V) (after : List (Tree K V)) → root_of tree ≡ root → IsForest most table (before ++ tree ∷ after) → Rooted most table root tree
@@ -38,10 +36,7 @@ module _ {K V : Type 0} where
     root_is = is;
     tree_is = (tree-back most table (before ++ tree ∷ after) before tree after root f refl is).0;
     apart = λ m. omega (arith, once most table (before ++ tree ∷ after) f m, numbers_parts m before tree after, count-append m (numbers_of tree) table.chain);
-    within = λ m some. elim (cases_lt m (length table.nodes)) [
-      | inl low ↦ low
-      | inr past ↦ absurd (omega (arith, f.account m, past-none m (length table.nodes) past, some, numbers_parts m before tree after, count-append m (flat_map numbers_of (before ++ tree ∷ after)) table.chain))
-    ];
+    within = λ m some. within-slots most table (before ++ tree ∷ after) f m (omega (arith, some, numbers_parts m before tree after));
   }
 
   -- where the used slots are a union of trees, the tree that is computed from a root stands under it

@@ -1,6 +1,6 @@
 -- The way down of a search: one level of it, and its end in a leaf.
-use Rattle.std.proofs.Common.{◌≡◌, ◌≢◌, ℕ, suc, ◌+◌, ◌≤◌, ◌⊎◌, inl, inr, List, [], ◌∷◌, ◌++◌, length, get_or, slice_get, Some, refl, sym, ap, subst, ◌∙◌, arith, append_assoc, length-append}
-use Rattle.bforest_core.proofs.Words.{nil_from_length, slice_get_within, IsTotalOrder, IsStrictlySortedBy, AllByRecursion, is_some, option_map, Content, Inner, IsLeafCapacity, IsIncreasing, place, is_present, value_for, LevelNode, node}
+use Rattle.std.proofs.Common.{◌≡◌, ◌≢◌, ℕ, ◌+◌, ◌≤◌, ◌<◌, ◌⊎◌, inl, inr, List, [], ◌∷◌, ◌++◌, length, get_or, set, slice_get, Option, Some, sym, ap, subst, ◌∙◌, arith, append_assoc, length-append}
+use Rattle.bforest_core.proofs.Words.{get_or-set_same, nil_from_length, slice_get_within, IsTotalOrder, IsStrictlySortedBy, AllByRecursion, is_some, option_map, Content, Inner, IsLeafCapacity, IsIncreasing, place, is_present, value_for, LevelNode, node}
 use Rattle.bforest_core.proofs.Words.{flat, heads, half_of, entry_keys, entry_items, StandsTo, child_index, IsFrom, IsUpTo, GoesThrough, Under, Descended}
 use Rattle.std.specs.Map.{keys_of}
 use Rattle.std.specs.declared.cmp.Ordering.{Ordering}
@@ -10,57 +10,43 @@ use Rattle.bforest_nodes.proofs.Found.{place-present}
 use Rattle.bforest_core.proofs.walks.LeafSearch.{items-read}
 use Rattle.bforest_core.proofs.rows.LevelRows.{flat-append}
 use Rattle.bforest_core.proofs.table.Stored.{some_same, slice_get_at}
-use Rattle.bforest_core.proofs.walks.Rising.{all_less, increasing_split, increasing_rest, all_before, all_greater, place_between, entry_between, place-le, first_passed, sides}
-use Rattle.bforest_core.proofs.walks.Downward.{Seen, stands_more, heads_increasing, upto_flat, stacked_increasing}
-use Rattle.bforest_core.proofs.walks.TopNode.{SameBut, InnerUnder, LeafUnder, flat_parted, seen_at}
+use Rattle.bforest_core.proofs.walks.Rising.{all_split, all_less, increasing_split, increasing_rest, all_before, all_greater, place_between, entry_between, place-le, first_passed, sides}
+use Rattle.bforest_core.proofs.walks.Downward.{Seen, last_of, stands_more, heads_increasing, upto_flat, stacked_increasing}
+use Rattle.bforest_core.proofs.walks.TopNode.{InnerUnder, LeafUnder, flat_parted, seen_at, set_but}
 
 pub some_leaf : (n : ℕ) → IsLeafCapacity n → 1 ≤ half_of n
 some_leaf n c = omega (arith, c.least)
-
-none_before : {A B : Type 0} (xs : List A) (ys : List B) → length xs ≡ length ys → ys ≡ [] → xs ≡ []
-none_before xs ys l e = nil_from_length xs (l ∙ ap length e)
 
 module _ {K : Type 0} (cmp : K → K → Ordering) where
   is_from : (a : List (K × ℕ)) (first key : K) → cmp first key ≢ Greater → IsFrom cmp a first key
   is_from [] first key ng = tt
   is_from (x ∷ a) first key ng = ng
 
-  -- the first of its level, or not greater
-  from_cases : (a : List (K × ℕ)) (first key : K) → IsFrom cmp a first key → (a ≡ []) ⊎ (cmp first key ≢ Greater)
-  from_cases [] first key f = inl refl
-  from_cases (x ∷ a) first key f = inr f
+  -- a node's first key is the first of its level, or not greater
+  from_at : {X : Type 0} {half most : ℕ} {row : List (LevelNode K X)} (a : List (K × ℕ)) {first : K} {number : ℕ} {b : List (K × ℕ)} {key : K} (at : Seen half most row a first number b) → IsFrom cmp a first key → (at.before ≡ []) ⊎ (cmp at.e.0 key ≢ Greater)
+  from_at [] at f = inl (nil_from_length at.before at.before_is)
+  from_at (x ∷ a) {key = key} at f = inr (subst (λ (z : K). cmp z key ≢ Greater) (sym at.first_is) f)
 
   -- of two parts behind a child, the first may be empty
   upto_parts : (r after : List (K × ℕ)) (key : K) → AllByRecursion (λ p. cmp p key ≡ Greater) (keys_of r) → IsUpTo cmp after key → IsUpTo cmp (r ++ after) key
   upto_parts [] after key h u = u
   upto_parts (y ∷ r) after key h u = h.0
 
-  -- the last of a first entry and those that are not greater
-  record Low (e : K × ℕ) (l : List (K × ℕ)) (key : K) : Type 0 where
-    pub init : List (K × ℕ)
-    pub last : K × ℕ
-    pub is : e ∷ l ≡ init ++ last ∷ []
-    pub count_is : length init ≡ length l
-    pub from : ((init ≡ []) × (last ≡ e)) ⊎ (cmp last.0 key ≢ Greater)
-
-  low_of : (e : K × ℕ) (l : List (K × ℕ)) (key : K) → AllByRecursion (λ p. cmp p key ≢ Greater) (keys_of l) → Low e l key
-  low_of e [] key h = record { init = []; last = e; is = refl; count_is = refl; from = inl (refl, refl) }
-  low_of e (y ∷ l) key h =
-      let r = low_of y l key h.1 in
-      record {
-        init = e ∷ r.init;
-        last = r.last;
-        is = ap (λ z. e ∷ z) r.is;
-        count_is = ap suc r.count_is;
-        from = inr (elim r.from [ inl w ↦ subst (λ (z : K × ℕ). cmp z.0 key ≢ Greater) (sym w.1) h.0 | inr ng ↦ ng ]);
-      }
+  -- so is the last of a first entry and those that are not greater
+  from_last : (front init : List (K × ℕ)) (last e : K × ℕ) (l : List (K × ℕ)) (key : K) → (front ≡ []) ⊎ (cmp e.0 key ≢ Greater) → e ∷ l ≡ init ++ last ∷ [] → AllByRecursion (λ p. cmp p key ≢ Greater) (keys_of l) → IsFrom cmp (front ++ init) last.0 key
+  from_last front [] last e l key f is h =
+      let same : e ≡ last = cc in
+      elim f [ inl none ↦ subst (λ (z : List (K × ℕ)). IsFrom cmp (z ++ []) last.0 key) (sym none) tt | inr ng ↦ is_from (front ++ []) last.0 key (subst (λ (z : K × ℕ). cmp z.0 key ≢ Greater) same ng) ]
+  from_last front (x ∷ init) last e l key f is h =
+      let rest : l ≡ init ++ last ∷ [] = cc in
+      is_from (front ++ x ∷ init) last.0 key (all_split (λ p. cmp p key ≢ Greater) init (last ∷ []) (subst (λ (z : List (K × ℕ)). AllByRecursion (λ p. cmp p key ≢ Greater) (keys_of z)) rest h)).1.0
 
 module _ {K V : Type 0} (cmp : K → K → Ordering) (most : ℕ) (slots : List (Content K V)) (leaves : List (LevelNode K V)) (lower : List (List (LevelNode K ℕ))) (a : List (K × ℕ)) (first : K) (number : ℕ) (b : List (K × ℕ)) (key : K) where
   -- a search on its way in an inner node, whose row is the highest of those below
   pub record InnerStep : Type 0 where
     pub here : InnerUnder most slots leaves lower a first number b
     pub increasing : IsIncreasing cmp (here.at.e ∷ here.at.es)
-    pub from : IsFrom cmp a here.at.e.0 key
+    pub from : (here.at.before ≡ []) ⊎ (cmp here.at.e.0 key ≢ Greater)
     pub upto : IsUpTo cmp (flat here.at.after) key
 
   -- a search at its end, in a leaf
@@ -72,14 +58,11 @@ module _ {K V : Type 0} (cmp : K → K → Ordering) (most : ℕ) (slots : List 
     pub low : AllByRecursion (λ p. cmp p key ≡ Less) (keys_of (flat here.at.before))
     pub high : AllByRecursion (λ p. cmp p key ≡ Greater) (keys_of (flat here.at.after))
 
-flat_at : {K X : Type 0} (before : List (LevelNode K X)) (n : ℕ) (es : List (K × X)) (after : List (LevelNode K X)) → flat (before ++ node n es ∷ after) ≡ flat before ++ (es ++ flat after)
-flat_at before n es after = flat-append before (node n es ∷ after)
-
 -- the entries of a row about a node increase
 increasing_about : {K X : Type 0} (cmp : K → K → Ordering) (o : IsTotalOrder cmp) {half most : ℕ} {row : List (LevelNode K X)} {a : List (K × ℕ)} {first : K} {number : ℕ} {b : List (K × ℕ)} (at : Seen half most row a first number b) → IsIncreasing cmp (flat row) →
     IsIncreasing cmp (flat at.before ++ (at.e ∷ (at.es ++ flat at.after))) × IsIncreasing cmp (at.e ∷ at.es) × IsIncreasing cmp (flat at.after)
 increasing_about cmp o {number = number} at inc =
-    let parts = subst (IsIncreasing cmp) (ap flat at.row_is ∙ flat_at at.before number (at.e ∷ at.es) at.after) inc in
+    let parts = subst (IsIncreasing cmp) (ap flat at.row_is ∙ flat-append at.before (node number (at.e ∷ at.es) ∷ at.after)) inc in
     let two = increasing_split cmp o (at.e ∷ at.es) (flat at.after) (increasing_split cmp o (flat at.before) ((at.e ∷ at.es) ++ flat at.after) parts).1 in
     (parts, two.0, two.1)
 
@@ -90,7 +73,7 @@ module _ {K V : Type 0} (cmp : K → K → Ordering) (o : IsTotalOrder cmp) (mos
     inner_step s = record {
       here = s;
       increasing = (increasing_about cmp o s.at (stacked_increasing cmp o (heads leaves) s.rows (flat s.row) s.under.stacked (heads_increasing cmp o leaves inc))).1;
-      from = subst (λ (z : K). IsFrom cmp a z key) (sym s.at.first_is) g.from;
+      from = from_at cmp a s.at g.from;
       upto = upto_flat cmp 4 8 (omega arith) s.at.after key s.at.after_fit (subst (λ (z : List (K × ℕ)). IsUpTo cmp z key) (sym s.at.after_is) g.upto);
     }
 
@@ -99,7 +82,7 @@ module _ {K V : Type 0} (cmp : K → K → Ordering) (o : IsTotalOrder cmp) (mos
         let at = s.at in
         let parts = increasing_about cmp o at inc in
         let upto = upto_flat cmp (half_of most) most one at.after key at.after_fit (subst (λ (z : List (K × ℕ)). IsUpTo cmp z key) (sym at.after_is) g.upto) in
-        let from : (at.before ≡ []) ⊎ (cmp at.e.0 key ≢ Greater) = elim (from_cases cmp a first key g.from) [ inl none ↦ inl (none_before at.before a at.before_is none) | inr ng ↦ inr (subst (λ (z : K). cmp z key ≢ Greater) (sym at.first_is) ng) ] in
+        let from = from_at cmp a at g.from in
         record {
           here = s;
           increasing = parts.1;
@@ -124,13 +107,16 @@ module _ {K V : Type 0} (cmp : K → K → Ordering) (o : IsTotalOrder cmp) (mos
     pub follow_asks : (keys : List K) × (children : List ℕ) × (slice_get slots number ≡ Some (Inner keys children)) × IsStrictlySortedBy cmp keys
     follow_asks = (entry_keys s.here.at.es, entry_items (s.here.at.e ∷ s.here.at.es), s.here.slot_is, increasing_rest cmp o s.here.at.e s.here.at.es s.increasing)
 
-    child_below : (index child : ℕ) → index ≡ child_index cmp (entry_keys s.here.at.es) key → slice_get (entry_items (s.here.at.e ∷ s.here.at.es)) index ≡ Some child → Below s index child
-    child_below index child index_is child_at =
+    -- what it says
+    pub below : (index child : ℕ) → ((keys : List K) (children : List ℕ) → slice_get slots number ≡ Some (Inner keys children) → index ≡ child_index cmp keys key) → ((keys : List K) (children : List ℕ) → slice_get slots number ≡ Some (Inner keys children) → slice_get children index ≡ Some child) → Below s index child
+    below index child says reads =
+        let index_is = says (entry_keys s.here.at.es) (entry_items (s.here.at.e ∷ s.here.at.es)) s.here.slot_is in
+        let child_at = reads (entry_keys s.here.at.es) (entry_items (s.here.at.e ∷ s.here.at.es)) s.here.slot_is in
         let at = s.here.at in
         let d = sides cmp o at.es key (increasing_rest cmp o at.e at.es s.increasing) in
-        let w = low_of cmp at.e d.l key d.low in
+        let w = last_of at.e d.l in
         let es_is : at.e ∷ at.es ≡ w.init ++ w.last ∷ d.r = ap (λ z. at.e ∷ z) d.es_is ∙ ap (λ z. z ++ d.r) w.is ∙ append_assoc w.init (w.last ∷ []) d.r in
-        let count_is : length w.init ≡ index = w.count_is ∙ d.i_is ∙ sym index_is in
+        let count_is : length w.init ≡ index = omega (arith, ap length w.is, length-append w.init (w.last ∷ []), d.i_is, index_is) in
         let here : slice_get (at.e ∷ at.es) index ≡ Some w.last = ap (λ z. slice_get z index) es_is ∙ slice_get_at w.init w.last d.r index count_is in
         let child_is : child ≡ w.last.1 = some_same child w.last.1 (sym child_at ∙ items-read (at.e ∷ at.es) index ∙ ap (λ z. option_map (λ (e : K × ℕ). e.1) z) here) in
         record {
@@ -139,27 +125,16 @@ module _ {K V : Type 0} (cmp : K → K → Ordering) (o : IsTotalOrder cmp) (mos
           back = d.r ++ flat at.after;
           under = subst (λ (z : List (K × ℕ)). Under most slots leaves s.here.rows z) (ap flat at.row_is ∙ flat_parted at.before number (at.e ∷ at.es) w.init w.last d.r at.after es_is ∙ ap (λ z. (flat at.before ++ w.init) ++ (w.last.0, z) ∷ (d.r ++ flat at.after)) (sym child_is)) s.here.under;
           through = record {
-            from = elim w.from [
-              | inl z ↦ elim (from_cases cmp a at.e.0 key s.from) [
-                | inl none ↦ subst (λ (y : List (K × ℕ)). IsFrom cmp y w.last.0 key) (sym (ap (λ y. flat y ++ w.init) (none_before at.before a at.before_is none) ∙ z.0)) tt
-                | inr ng ↦ is_from cmp (flat at.before ++ w.init) w.last.0 key (subst (λ (y : K × ℕ). cmp y.0 key ≢ Greater) (sym z.1) ng)
-              ]
-              | inr ng ↦ is_from cmp (flat at.before ++ w.init) w.last.0 key ng
-            ];
+            from = from_last cmp (flat at.before) w.init w.last at.e d.l key (elim s.from [ inl none ↦ inl (ap flat none) | inr ng ↦ inr ng ]) w.is d.low;
             upto = upto_parts cmp d.r (flat at.after) key d.high s.upto;
           };
           place_is = length-append (flat at.before) w.init ∙ ap (λ z. length (flat at.before) + z) count_is;
           within = omega (arith, slice_get_within (at.e ∷ at.es) index w.last here);
         }
 
-    -- what it says
-    pub below : (index child : ℕ) → ((keys : List K) (children : List ℕ) → slice_get slots number ≡ Some (Inner keys children) → index ≡ child_index cmp keys key) → ((keys : List K) (children : List ℕ) → slice_get slots number ≡ Some (Inner keys children) → slice_get children index ≡ Some child) → Below s index child
-    below index child index_is child_is =
-        child_below index child (index_is (entry_keys s.here.at.es) (entry_items (s.here.at.e ∷ s.here.at.es)) s.here.slot_is) (child_is (entry_keys s.here.at.es) (entry_items (s.here.at.e ∷ s.here.at.es)) s.here.slot_is)
-
     -- one level of it, whose place in the path was written before
     pub passed : (index child : ℕ) (w : Below s index child) (path indices path' indices' path'' indices'' : List ℕ) (high : ℕ) → high ≡ length lower → Descended cmp leaves s.here.rows key (length w.front) path' indices' path'' indices'' →
-        get_or path' high 0 ≡ number → get_or indices' high 0 ≡ index → SameBut high path path' → SameBut high indices indices' → Descended cmp leaves lower key (length a) path indices path'' indices''
+        get_or path' high 0 ≡ number → get_or indices' high 0 ≡ index → path' ≡ set path high number → indices' ≡ set indices high index → Descended cmp leaves lower key (length a) path indices path'' indices''
     passed index child w path indices path' indices' path'' indices'' high high_is d m_is j_is nodes entries =
         let count_is = s.here.count_is in
         let m_at : get_or path'' high 0 ≡ number = d.nodes_above high (omega (arith, high_is, count_is)) ∙ m_is in
@@ -168,8 +143,8 @@ module _ {K V : Type 0} (cmp : K → K → Ordering) (o : IsTotalOrder cmp) (mos
         record {
           leaf = d.leaf;
           stands = subst (λ (z : List (List (LevelNode K ℕ))). StandsTo path'' indices'' 1 z (length d.leaf.before) (length a)) (sym s.here.lower_is) (subst (λ (z : ℕ). StandsTo path'' indices'' 1 (s.here.rows ++ s.here.row ∷ []) (length d.leaf.before) z) s.here.at.before_is more);
-          nodes_above = λ i low. d.nodes_above i (omega (arith, low, count_is)) ∙ nodes i (λ z. omega (arith, z, low, high_is));
-          entries_above = λ i low. d.entries_above i (omega (arith, low, count_is)) ∙ entries i (λ z. omega (arith, z, low, high_is));
+          nodes_above = λ i low. d.nodes_above i (omega (arith, low, count_is)) ∙ set_but path path' high number nodes i (λ z. omega (arith, z, low, high_is));
+          entries_above = λ i low. d.entries_above i (omega (arith, low, count_is)) ∙ set_but indices indices' high index entries i (λ z. omega (arith, z, low, high_is));
         }
 
   module _ (s : LeafStep cmp most slots leaves lower a first number b key) where
@@ -177,7 +152,7 @@ module _ {K V : Type 0} (cmp : K → K → Ordering) (o : IsTotalOrder cmp) (mos
     entries = s.here.at.e ∷ s.here.at.es
 
     all_are : flat leaves ≡ flat s.here.at.before ++ (entries ++ flat s.here.at.after)
-    all_are = ap flat s.here.at.row_is ∙ flat_at s.here.at.before number entries s.here.at.after
+    all_are = ap flat s.here.at.row_is ∙ flat-append s.here.at.before (node number entries ∷ s.here.at.after)
 
     -- the key's value in the leaf is that among all entries
     pub leaf_value : value_for cmp (flat leaves) key ≡ value_for cmp entries key
@@ -199,12 +174,14 @@ module _ {K V : Type 0} (cmp : K → K → Ordering) (o : IsTotalOrder cmp) (mos
         }
 
     -- the end of the descent
-    pub landed : (path indices path' indices' : List ℕ) → get_or path' 0 0 ≡ number → get_or indices' 0 0 ≡ place cmp entries key → SameBut 0 path path' → SameBut 0 indices indices' → Descended cmp leaves lower key (length a) path indices path' indices'
+    pub landed : (path indices path' indices' : List ℕ) (answer : Option V) → 0 < length path → 0 < length indices → path' ≡ set path 0 number → indices' ≡ set indices 0 (place cmp entries key) → answer ≡ value_for cmp entries key → (answer ≡ value_for cmp (flat leaves) key) × Descended cmp leaves lower key (length a) path indices path' indices'
     unfolding placed
-    landed path indices path' indices' m_is j_is nodes_same entries_same =
-        subst (λ (z : List (List (LevelNode K ℕ))). Descended cmp leaves z key (length a) path indices path' indices') (sym s.here.lower_is) (record {
-          leaf = placed (get_or path' 0 0) (get_or indices' 0 0) m_is j_is;
-          stands = s.here.at.before_is;
-          nodes_above = λ i low. nodes_same i (λ z. omega (arith, z, low));
-          entries_above = λ i low. entries_same i (λ z. omega (arith, z, low));
-        })
+    landed path indices path' indices' answer wide wide' nodes indices_are answer_is = (
+      answer_is ∙ sym leaf_value,
+      subst (λ (z : List (List (LevelNode K ℕ))). Descended cmp leaves z key (length a) path indices path' indices') (sym s.here.lower_is) (record {
+        leaf = placed (get_or path' 0 0) (get_or indices' 0 0) (ap (λ z. get_or z 0 0) nodes ∙ get_or-set_same path 0 number 0 wide) (ap (λ z. get_or z 0 0) indices_are ∙ get_or-set_same indices 0 (place cmp entries key) 0 wide');
+        stands = s.here.at.before_is;
+        nodes_above = λ i low. set_but path path' 0 number nodes i (λ z. omega (arith, z, low));
+        entries_above = λ i low. set_but indices indices' 0 (place cmp entries key) indices_are i (λ z. omega (arith, z, low));
+      }),
+    )

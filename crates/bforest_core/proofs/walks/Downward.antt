@@ -17,6 +17,11 @@ pub last_of : {A : Type 0} (x : A) (xs : List A) → Last (x ∷ xs)
 last_of x [] = record { init = []; last = x; is = refl }
 last_of x (y ∷ xs) = let r = last_of y xs in record { init = x ∷ r.init; last = r.last; is = ap (λ z. x ∷ z) r.is }
 
+-- a place at a node of a row
+abbrev pub at_node : {K X : Type 0} (row before : List (LevelNode K X)) (n : ℕ) (es : List (K × X)) (after : List (LevelNode K X)) (m j index place : ℕ) → row ≡ before ++ node n es ∷ after → m ≡ n → j ≡ index → index < length es → place ≡ length (flat before) + index → IsAt row m j place
+at_node row before n es after m j index place row_is m_is j_is low place_is =
+    record { before = before; entries = es; after = after; row_is = row_is ∙ ap (λ z. before ++ node z es ∷ after) (sym m_is); within = omega (arith, j_is, low); place_is = place_is ∙ ap (λ z. length (flat before) + z) (sym j_is) }
+
 module _ {K : Type 0} where
   pub stacked_last : (list : List (K × ℕ)) (rows : List (List (LevelNode K ℕ))) (row : List (LevelNode K ℕ)) (top : List (K × ℕ)) → StackedTo list (rows ++ row ∷ []) top → StackedTo list rows (flat row) × FitRow 4 8 row × (heads row ≡ top)
   stacked_last list [] row top s = (sym s.0, s.1, s.2)
@@ -46,10 +51,6 @@ module _ {K : Type 0} where
         stands_same ms js ms' js' (suc level) rows (length at.before) top (λ i low. f i (omega (arith, low))) (λ i low. g i (omega (arith, low))) s.1,
       )
 
--- two lists that are the same have the same parts
-pub cons_same : {A : Type 0} (p q : A) (xs ys : List A) → p ∷ xs ≡ q ∷ ys → (p ≡ q) × (xs ≡ ys)
-cons_same p q xs ys e = (cc, cc)
-
 -- the node of a row that stands between these, seen from above
 pub record Seen {K X : Type 0} (half most : ℕ) (row : List (LevelNode K X)) (a : List (K × ℕ)) (first : K) (number : ℕ) (b : List (K × ℕ)) : Type 0 where
   pub before : List (LevelNode K X)
@@ -68,18 +69,11 @@ module _ {K X : Type 0} where
   seen half most one [] (z ∷ a) first number b f h = absurd cc
   seen half most one (node m [] ∷ ns) a first number b f h = absurd (omega (arith, f.0, least-pos half one ns))
   seen half most one (node m (e ∷ es) ∷ ns) [] first number b f h =
-      let s = cons_same (e.0, m) (first, number) (heads ns) b h in
-      record { before = []; e = e; es = es; after = ns; row_is = ap (λ z. node z (e ∷ es) ∷ ns) (ap (λ z. z.1) s.0); first_is = ap (λ z. z.0) s.0; before_is = refl; after_is = s.1; after_fit = f.2 }
+      let same : ◌≡◌ {A = K × ℕ} (e.0, m) (first, number) = cc in
+      record { before = []; e = e; es = es; after = ns; row_is = ap (λ z. node z.1 (e ∷ es) ∷ ns) same; first_is = ap (λ z. z.0) same; before_is = refl; after_is = (cc); after_fit = f.2 }
   seen half most one (node m (e ∷ es) ∷ ns) (z ∷ a) first number b f h =
-      let s = cons_same (e.0, m) z (heads ns) (a ++ (first, number) ∷ b) h in
-      let r = seen half most one ns a first number b f.2 s.1 in
+      let r = seen half most one ns a first number b f.2 (cc) in
       record { before = node m (e ∷ es) ∷ r.before; e = r.e; es = r.es; after = r.after; row_is = ap (λ w. node m (e ∷ es) ∷ w) r.row_is; first_is = r.first_is; before_is = ap suc r.before_is; after_is = r.after_is; after_fit = r.after_fit }
-
-  -- a fit row that shows no node from above has none
-  pub no_heads : (half most : ℕ) → 1 ≤ half → (row : List (LevelNode K X)) → FitRow half most row → heads row ≡ [] → row ≡ []
-  no_heads half most one [] f h = refl
-  no_heads half most one (node m [] ∷ ns) f h = absurd (omega (arith, f.0, least-pos half one ns))
-  no_heads half most one (node m (e ∷ es) ∷ ns) f h = absurd cc
 
   -- what holds of all keys of a row holds of those that are seen
   heads_all : (P : K → Type 0) (row : List (LevelNode K X)) → AllByRecursion P (keys_of (flat row)) → AllByRecursion P (keys_of (heads row))

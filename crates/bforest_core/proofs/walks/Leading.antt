@@ -1,10 +1,10 @@
 -- The way down to the first entry, and to the last: each answer of `descend_first` and `descend_last` is one of these.
 use Rattle.std.proofs.Common.{◌≡◌, ℕ, zero, suc, ◌+◌, ◌-◌, ◌≤◌, ◌<◌, List, [], ◌∷◌, ◌++◌, length, get_or, set, slice_get, Some, refl, sym, ap, subst, ◌∙◌, arith, length-append}
-use Rattle.bforest_core.proofs.Words.{nil_from_length, Content, IsInner, entry_count, children_of, LevelNode, node, flat, Tree, half_of, leaf_content, inner_content, entry_items, IsAt, Stands, StandsTo, SameAbove, Under, Led, LedLast}
+use Rattle.bforest_core.proofs.Words.{length-map, nil_from_length, Content, IsInner, entry_count, children_of, LevelNode, node, flat, Tree, half_of, leaf_content, inner_content, entry_items, IsAt, Stands, StandsTo, SameAbove, Under, Led, LedLast}
 use Rattle.bforest_core.proofs.rows.LevelRows.{flat-append}
 use Rattle.bforest_core.proofs.table.Stored.{some_same, item_count}
-use Rattle.bforest_core.proofs.walks.Backward.{last_child_is, last_entry_is}
-use Rattle.bforest_core.proofs.walks.Downward.{Seen, stands_more, stands_same, no_heads}
+use Rattle.bforest_core.proofs.walks.Downward.{Seen, at_node, stands_more, stands_same}
+use Rattle.bforest_core.proofs.walks.Steps.{no_heads}
 use Rattle.bforest_core.proofs.walks.TopNode.{SameBut, none_flat, flat_parted, seen_at, set_but, LeafUnder, InnerUnder, leaf_under, inner_under}
 use Rattle.bforest_core.proofs.walks.Whole.{stands_above}
 
@@ -46,14 +46,7 @@ module _ {K V : Type 0} (most : ℕ) (slots : List (Content K V)) (leaves : List
       let below = stands_same path1 indices1 path2 indices2 1 s.rows (length d.leaf.before) top (λ i low. nodes i (λ z. omega (arith, z, low, high_is))) (λ i low. entries i (λ z. omega (arith, z, low, high_is))) d.stands in
       let more = stands_more path2 indices2 1 s.rows s.row (length d.leaf.before) top high below (omega (arith, high_is)) (seen_at s.at (get_or path2 high 0) (get_or indices2 high 0) index top m_is j_is within top_is) in
       record {
-        leaf = record {
-          before = d.leaf.before;
-          entries = d.leaf.entries;
-          after = d.leaf.after;
-          row_is = d.leaf.row_is ∙ ap (λ z. d.leaf.before ++ node z d.leaf.entries ∷ d.leaf.after) (sym (nodes 0 (λ z. omega (arith, z, high_is))));
-          within = omega (arith, entries 0 (λ z. omega (arith, z, high_is)), d.leaf.within);
-          place_is = d.leaf.place_is ∙ ap (λ z. length (flat d.leaf.before) + z) (sym (entries 0 (λ z. omega (arith, z, high_is))));
-        };
+        leaf = at_node leaves d.leaf.before (get_or path1 0 0) d.leaf.entries d.leaf.after (get_or path2 0 0) (get_or indices2 0 0) (get_or indices1 0 0) place d.leaf.row_is (nodes 0 (λ z. omega (arith, z, high_is))) (entries 0 (λ z. omega (arith, z, high_is))) d.leaf.within d.leaf.place_is;
         stands = subst (λ (z : List (List (LevelNode K ℕ))). StandsTo path2 indices2 1 z (length d.leaf.before) (length a)) (sym s.lower_is) (subst (λ (z : ℕ). StandsTo path2 indices2 1 (s.rows ++ s.row ∷ []) (length d.leaf.before) z) s.at.before_is more);
         nodes_above = λ i low. nodes i (λ z. omega (arith, z, low, high_is, s.count_is)) ∙ d.nodes_above i (omega (arith, low, s.count_is));
         entries_above = λ i low. entries i (λ z. omega (arith, z, low, high_is, s.count_is)) ∙ d.entries_above i (omega (arith, low, s.count_is));
@@ -99,15 +92,7 @@ module _ {K V : Type 0} (most : ℕ) (slots : List (Content K V)) where
     pub under : Under most slots leaves rows ((first, child) ∷ rest)
     pub count_is : length lower ≡ suc (length rows)
 
-  -- and down the last nodes
-  pub record BackBelow (leaves : List (LevelNode K V)) (lower : List (List (LevelNode K ℕ))) (child : ℕ) : Type 0 where
-    pub rows : List (List (LevelNode K ℕ))
-    pub before : List (K × ℕ)
-    pub first : K
-    pub under : Under most slots leaves rows (before ++ (first, child) ∷ [])
-    pub count_is : length lower ≡ suc (length rows)
-
-  -- what they leave
+  -- what it leaves there, and one down the last nodes
   abbrev pub LeadsFirst : List ℕ → List ℕ → List ℕ → List ℕ → ℕ → ℕ → Type 0
   LeadsFirst path indices path1 indices1 child below =
       (leaves : List (LevelNode K V)) (lower : List (List (LevelNode K ℕ))) (first : K) (b : List (K × ℕ)) → Under most slots leaves lower ((first, child) ∷ b) → (below ≡ length lower) × Led leaves lower path indices path1 indices1
@@ -118,10 +103,10 @@ module _ {K V : Type 0} (most : ℕ) (slots : List (Content K V)) where
 
 module _ {K V : Type 0} (most : ℕ) (one : 1 ≤ half_of most) (slots : List (Content K V)) (leaves : List (LevelNode K V)) (lower : List (List (LevelNode K ℕ))) (first : K) (number : ℕ) (b : List (K × ℕ)) where
   -- the first node is a leaf
-  pub led_leaf : (s : LeafUnder most slots leaves lower [] first number b) (path indices path' indices' : List ℕ) → get_or path' 0 0 ≡ number → get_or indices' 0 0 ≡ 0 → SameBut 0 path path' → SameBut 0 indices indices' → Led leaves lower path indices path' indices'
+  pub led_leaf : (s : LeafUnder most slots leaves lower [] first number b) (path indices path' indices' : List ℕ) → get_or path' 0 0 ≡ number → get_or indices' 0 0 ≡ 0 → SameBut 0 path path' → SameBut 0 indices indices' → (0 ≡ length lower) × Led leaves lower path indices path' indices'
   led_leaf s path indices path' indices' m_is j_is nodes entries =
       let l = leaf_led most slots leaves lower [] first number b path indices s path' indices' 0 0 (omega arith) (omega (arith, none_flat s.at.before s.at.before_is)) m_is j_is nodes entries in
-      record { leaf = l.leaf; stands = l.stands; nodes_above = l.nodes_above; entries_above = l.entries_above }
+      (sym (ap length s.lower_is), record { leaf = l.leaf; stands = l.stands; nodes_above = l.nodes_above; entries_above = l.entries_above })
 
   module _ (u : Under most slots leaves lower ((first, number) ∷ b)) (content content2 : Content K V) (read : slice_get slots number ≡ Some content) (inner : IsInner content) (read2 : slice_get slots number ≡ Some content2) where
     abbrev front_node : InnerUnder most slots leaves lower [] first number b
@@ -138,15 +123,20 @@ module _ {K V : Type 0} (most : ℕ) (one : 1 ≤ half_of most) (slots : List (C
           let none = nil_from_length c.front (omega (arith, c.front_is, none_flat front_node.at.before front_node.at.before_is)) in
           record { rows = front_node.rows; first = c.key; rest = c.back; under = subst (λ (z : List (K × ℕ)). Under most slots leaves front_node.rows (z ++ (c.key, child) ∷ c.back)) none c.under; count_is = front_node.count_is }
 
-      -- the node's level, and the path through it
-      pub led_here : (path indices path1 indices1 : List ℕ) (below : ℕ) → LeadsFirst most slots path indices path1 indices1 child below → (path2 indices2 : List ℕ) → get_or path2 (below + 1) 0 ≡ number → get_or indices2 (below + 1) 0 ≡ 0 → path2 ≡ set path1 (below + 1) number → indices2 ≡ set indices1 (below + 1) 0 →
-          (below + 1 ≡ length lower) × Led leaves lower path indices path2 indices2
-      unfolding front_below
-      led_here path indices path1 indices1 below leads path2 indices2 node_here entry_here path_is indices_are =
-          let r = leads leaves front_below.rows front_below.first front_below.rest front_below.under in
-          let l = inner_led most slots leaves lower [] first number b path indices front_node path1 indices1 path2 indices2 (below + 1) 0 0 0 (omega (arith, r.0)) (omega arith) (omega (arith, none_flat front_node.at.before front_node.at.before_is))
-          (record { leaf = r.1.leaf; stands = r.1.stands; nodes_above = r.1.nodes_above; entries_above = r.1.entries_above }) node_here entry_here (set_but path1 path2 (below + 1) number path_is) (set_but indices1 indices2 (below + 1) 0 indices_are) in
-          (omega (arith, r.0, front_node.count_is), record { leaf = l.leaf; stands = l.stands; nodes_above = l.nodes_above; entries_above = l.entries_above })
+      module _ {path indices path1 indices1 : List ℕ} {below : ℕ} (leads : LeadsFirst most slots path indices path1 indices1 child below) where
+        led : (below ≡ length front_below.rows) × Led leaves front_below.rows path indices path1 indices1
+        led = leads leaves front_below.rows front_below.first front_below.rest front_below.under
+
+        -- the node's level, and the path through it
+        pub front_level : below + 1 ≡ length lower
+        front_level = omega (arith, led.0, front_below.count_is)
+
+        pub led_here : (path2 indices2 : List ℕ) → get_or path2 (below + 1) 0 ≡ number → get_or indices2 (below + 1) 0 ≡ 0 → path2 ≡ set path1 (below + 1) number → indices2 ≡ set indices1 (below + 1) 0 → (below + 1 ≡ length lower) × Led leaves lower path indices path2 indices2
+        unfolding front_below
+        led_here path2 indices2 node_here entry_here path_is indices_are =
+            let l = inner_led most slots leaves lower [] first number b path indices front_node path1 indices1 path2 indices2 (below + 1) 0 0 0 (omega (arith, led.0)) (omega arith) (omega (arith, none_flat front_node.at.before front_node.at.before_is))
+            (record { leaf = led.1.leaf; stands = led.1.stands; nodes_above = led.1.nodes_above; entries_above = led.1.entries_above }) node_here entry_here (set_but path1 path2 (below + 1) number path_is) (set_but indices1 indices2 (below + 1) 0 indices_are) in
+            (front_level, record { leaf = l.leaf; stands = l.stands; nodes_above = l.nodes_above; entries_above = l.entries_above })
 
 module _ {K V : Type 0} (most : ℕ) (one : 1 ≤ half_of most) (slots : List (Content K V)) (leaves : List (LevelNode K V)) (lower : List (List (LevelNode K ℕ))) (a : List (K × ℕ)) (first : K) (number : ℕ) (u : Under most slots leaves lower (a ++ (first, number) ∷ [])) where
   -- the last node is a leaf
@@ -154,7 +144,7 @@ module _ {K V : Type 0} (most : ℕ) (one : 1 ≤ half_of most) (slots : List (C
       (path indices path2 indices2 : List ℕ) → get_or path2 0 0 ≡ number → get_or indices2 0 0 ≡ last → path2 ≡ set path 0 number → indices2 ≡ set indices 0 last → (0 ≡ length lower) × LedLast leaves lower (length a) path indices path2 indices2
   ends_here content read other last last_is path indices path2 indices2 node_here entry_here path_is indices_are =
       let s = leaf_under most one slots leaves lower a first number [] u content read other in
-      let index : last ≡ length s.at.es = last_is (leaf_content (s.at.e ∷ s.at.es)) s.slot_is ∙ last_entry_is s.at.e s.at.es in
+      let index : last ≡ length s.at.es = omega (arith, last_is (leaf_content (s.at.e ∷ s.at.es)) s.slot_is, length-map (s.at.e ∷ s.at.es) (λ w. w.0)) in
       let l = leaf_led most slots leaves lower a first number [] path indices s path2 indices2 last (length (flat leaves) - 1) (omega (arith, index)) (omega (arith, index, last_place (half_of most) most one leaves a first number s.at)) node_here entry_here (set_but path path2 0 number path_is) (set_but indices indices2 0 last indices_are) in
       (sym (ap length s.lower_is), record { leaf = l.leaf; stands = l.stands; nodes_above = l.nodes_above; entries_above = l.entries_above })
 
@@ -163,7 +153,7 @@ module _ {K V : Type 0} (most : ℕ) (one : 1 ≤ half_of most) (slots : List (C
     back_node = inner_under most one slots leaves lower a first number [] u content read inner
 
     index : last ≡ length back_node.at.es
-    index = last_is (inner_content (back_node.at.e ∷ back_node.at.es)) back_node.slot_is ∙ last_child_is V back_node.at.e back_node.at.es
+    index = omega (arith, last_is (inner_content (back_node.at.e ∷ back_node.at.es)) back_node.slot_is, item_count (back_node.at.e ∷ back_node.at.es))
 
     -- what reading the last child asks
     pub back_asks : IsInner content2 × (last < entry_count content2)
@@ -173,20 +163,25 @@ module _ {K V : Type 0} (most : ℕ) (one : 1 ≤ half_of most) (slots : List (C
       c : ChildUnder most slots leaves lower back_node.rows child (length (flat back_node.at.before) + last) (length (flat back_node.row))
       c = child_under most slots leaves lower a first number [] back_node content2 read2 last child child_read
 
-      pub back_below : BackBelow most slots leaves lower child
+      pub back_below : (rows : List (List (LevelNode K ℕ))) × (before : List (K × ℕ)) × (first : K) × Under most slots leaves rows (before ++ (first, child) ∷ []) × (length lower ≡ suc (length rows))
       back_below =
           let none = nil_from_length c.back (omega (arith, c.front_is, c.back_is, index, last_place 4 8 (omega arith) back_node.row a first number back_node.at)) in
-          record { rows = back_node.rows; before = c.front; first = c.key; under = subst (λ (z : List (K × ℕ)). Under most slots leaves back_node.rows (c.front ++ (c.key, child) ∷ z)) none c.under; count_is = back_node.count_is }
+          (back_node.rows, c.front, c.key, subst (λ (z : List (K × ℕ)). Under most slots leaves back_node.rows (c.front ++ (c.key, child) ∷ z)) none c.under, back_node.count_is)
 
-      -- the node's level, and the path through it
-      pub leads_here : (path indices path1 indices1 : List ℕ) (below : ℕ) → LeadsLast most slots path indices path1 indices1 child below → (path2 indices2 : List ℕ) → get_or path2 (below + 1) 0 ≡ number → get_or indices2 (below + 1) 0 ≡ last → path2 ≡ set path1 (below + 1) number → indices2 ≡ set indices1 (below + 1) last →
-          (below + 1 ≡ length lower) × LedLast leaves lower (length a) path indices path2 indices2
-      unfolding back_below
-      leads_here path indices path1 indices1 below leads path2 indices2 node_here entry_here path_is indices_are =
-          let r = leads leaves back_below.rows back_below.before back_below.first back_below.under in
-          let l = inner_led most slots leaves lower a first number [] path indices back_node path1 indices1 path2 indices2 (below + 1) last (length (flat leaves) - 1) (length c.front) (omega (arith, r.0)) (omega (arith, index)) c.front_is
-          (record { leaf = r.1.leaf; stands = r.1.stands; nodes_above = r.1.nodes_above; entries_above = r.1.entries_above }) node_here entry_here (set_but path1 path2 (below + 1) number path_is) (set_but indices1 indices2 (below + 1) last indices_are) in
-          (omega (arith, r.0, back_node.count_is), record { leaf = l.leaf; stands = l.stands; nodes_above = l.nodes_above; entries_above = l.entries_above })
+      module _ {path indices path1 indices1 : List ℕ} {below : ℕ} (leads : LeadsLast most slots path indices path1 indices1 child below) where
+        led_last : (below ≡ length back_below.0) × LedLast leaves back_below.0 (length back_below.1) path indices path1 indices1
+        led_last = leads leaves back_below.0 back_below.1 back_below.2 back_below.3
+
+        -- the node's level, and the path through it
+        pub back_level : below + 1 ≡ length lower
+        back_level = omega (arith, led_last.0, back_below.4)
+
+        pub leads_here : (path2 indices2 : List ℕ) → get_or path2 (below + 1) 0 ≡ number → get_or indices2 (below + 1) 0 ≡ last → path2 ≡ set path1 (below + 1) number → indices2 ≡ set indices1 (below + 1) last → (below + 1 ≡ length lower) × LedLast leaves lower (length a) path indices path2 indices2
+        unfolding back_below
+        leads_here path2 indices2 node_here entry_here path_is indices_are =
+            let l = inner_led most slots leaves lower a first number [] path indices back_node path1 indices1 path2 indices2 (below + 1) last (length (flat leaves) - 1) (length c.front) (omega (arith, led_last.0)) (omega (arith, index)) c.front_is
+            (record { leaf = led_last.1.leaf; stands = led_last.1.stands; nodes_above = led_last.1.nodes_above; entries_above = led_last.1.entries_above }) node_here entry_here (set_but path1 path2 (below + 1) number path_is) (set_but indices1 indices2 (below + 1) last indices_are) in
+            (back_level, record { leaf = l.leaf; stands = l.stands; nodes_above = l.nodes_above; entries_above = l.entries_above })
 
 -- a path down from the root stands at the last entry
 pub last_stands : {K V : Type 0} (tree : Tree K V) (path indices path' indices' : List ℕ) (size : ℕ) → LedLast tree.leaves tree.above 0 path indices path' indices' → size ≡ suc (length tree.above) → Stands path' indices' size tree (length (flat tree.leaves) - 1)

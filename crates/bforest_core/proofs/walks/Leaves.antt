@@ -6,7 +6,8 @@ use Rattle.bforest_core.proofs.table.Read.{slot-is, zip-back}
 use Rattle.bforest_core.proofs.table.Stored.{some_same}
 use Rattle.bforest_core.proofs.union.Unions.{is-rooted}
 use Rattle.bforest_core.proofs.walks.Descent.{some_leaf}
-use Rattle.bforest_core.proofs.walks.Entered.{first_behind, leaf_last, leaf_slot, over_leaves}
+use Rattle.bforest_core.proofs.walks.Entered.{first_behind, leaf_last, over_leaves}
+use Rattle.bforest_core.proofs.walks.Standing.{on-leaf-in, on-tree}
 use Rattle.bforest_core.proofs.walks.TopNode.{leaf_under}
 use Rattle.bforest_core.proofs.walks.Steps.{only}
 use Rattle.bforest_core.proofs.walks.Whole.{whole_top, whole_under}
@@ -36,58 +37,41 @@ root-leaf most table union root content is found other =
     let f = leaf_under most (some_leaf most union.1.capacity) table.nodes tree.leaves tree.above [] t.first root [] (whole_under most table.nodes root tree w) content found other in
     subst IsLeaf (sym (slot-is table.nodes root _ f.slot_is)) tt
 
-module _ {K V : Type 0} {n : ℕ} (most : ℕ) (table : Table K V) (union : IsUnion most table) where
+module _ {K V : Type 0} {n : ℕ} {table : Table K V} (union : IsUnion n table) {root : ℕ} where
   -- a path on a leaf's first entry, with all that stand there
-  pub leaf-front : (root place : ℕ) (path : Path K V n) → StandsOn table root path place → index_of path ≡ 0 → (entries : List (K × V)) × OnLeaf table root path place entries
-  leaf-front root place path on first =
-      let tree = tree_of table.nodes root in
-      let w = is-rooted most table root union on.root_is in
+  pub leaf-front : (place : ℕ) (path : Path K V n) → StandsOn table root path place → index_of path ≡ 0 → (entries : List (K × V)) × OnLeaf table root path place entries
+  leaf-front place path on first =
       let s = on.stands in
-      let here : length (flat s.leaf.before) ≡ place = omega (arith, s.leaf.place_is, first) in
-      let list : drop place (list_under table root) ≡ s.leaf.entries ++ drop (place + length s.leaf.entries) (list_under table root) = subst (λ (z : ℕ). drop z (list_under table root) ≡ s.leaf.entries ++ drop (z + length s.leaf.entries) (list_under table root)) here (leaf-rest path.node path.entry path.size tree place s) in (
+      let here : length (flat s.leaf.before) ≡ place = omega (arith, s.leaf.place_is, first) in (
         s.leaf.entries,
         record {
           on = subst (λ (z : ℕ). StandsOn table root path z) (omega (arith, first)) on;
           within = s.leaf.within;
-          leaf = leaf_slot most (some_leaf most union.1.capacity) table.nodes path.node path.entry path.size tree place w.fit w.inside s;
-          list = list;
+          leaf = (on-leaf-in union path on).slot_is;
+          list = subst (λ (z : ℕ). drop z (list_under table root) ≡ s.leaf.entries ++ drop (z + length s.leaf.entries) (list_under table root)) here (leaf-rest path.node path.entry path.size (tree_of table.nodes root) place s);
         },
       )
 
-  module _ (root place : ℕ) (path : Path K V n) (entries : List (K × V)) (o : OnLeaf table root path place entries) where
+  module _ {place : ℕ} (path : Path K V n) {entries : List (K × V)} (o : OnLeaf table root path place entries) where
     -- the entries are those of the path's leaf, which begin at this place
-    leaf-entries : o.on.stands.leaf.entries ≡ entries
-    leaf-entries =
-        let w = is-rooted most table root union o.on.root_is in
-        leaf-same table.nodes (leaf_of path) o.on.stands.leaf.entries entries (leaf_slot most (some_leaf most union.1.capacity) table.nodes path.node path.entry path.size (tree_of table.nodes root) (place + index_of path) w.fit w.inside o.on.stands) o.leaf
-
     behind-leaf : length (flat o.on.stands.leaf.before) + length o.on.stands.leaf.entries ≡ place + length entries
-    behind-leaf = omega (arith, o.on.stands.leaf.place_is, ap length leaf-entries)
+    behind-leaf = omega (arith, o.on.stands.leaf.place_is, ap length (leaf-same table.nodes (leaf_of path) o.on.stands.leaf.entries entries (on-leaf-in union path o.on).slot_is o.leaf))
 
     -- the rows above it
     pub leaf-over : Over table.nodes path.node path.entry 1 path.size (tree_of table.nodes root).above (heads (tree_of table.nodes root).leaves) (length o.on.stands.leaf.before)
-    leaf-over =
-        let w = is-rooted most table root union o.on.root_is in
-        over_leaves most (some_leaf most union.1.capacity) table.nodes path.node path.entry path.size (tree_of table.nodes root) (place + index_of path) w.fit w.inside o.on.stands
+    leaf-over = let w = on-tree union path o.on in over_leaves (some_leaf n union.1.capacity) w.fit w.inside o.on.stands
 
     -- the last leaf's entries are the last of the list
     pub leaf-end : suc (length o.on.stands.leaf.before) ≡ length (heads (tree_of table.nodes root).leaves) → place + length entries ≡ length (list_under table root)
-    leaf-end last =
-        let w = is-rooted most table root union o.on.root_is in
-        sym behind-leaf ∙ leaf_last most (some_leaf most union.1.capacity) table.nodes path.node path.entry path.size (tree_of table.nodes root) (place + index_of path) w.fit w.inside o.on.stands last
+    leaf-end last = let w = on-tree union path o.on in sym behind-leaf ∙ leaf_last (some_leaf n union.1.capacity) w.fit w.inside (on-leaf-in union path o.on) last
 
     -- the leaf of a path of one level is the last
     pub leaf-only : path.size < 2 → place + length entries ≡ length (list_under table root)
-    leaf-only low =
-        let tree = tree_of table.nodes root in
-        let alone = only table.nodes path.node path.entry 1 path.size tree.above (heads tree.leaves) (length o.on.stands.leaf.before) leaf-over (omega (arith, low, o.on.stands.size_is)) in
-        leaf-end (omega (arith, alone.0, alone.1))
+    leaf-only low = leaf-end (only leaf-over (omega (arith, low, o.on.stands.size_is))).1
 
     -- the step to the next leaf
     pub leaf-next : (moved new : Path K V n) → Moved path.node path.entry moved.node moved.entry 0 (tree_of table.nodes root).above (heads (tree_of table.nodes root).leaves) (suc (length o.on.stands.leaf.before)) → new.node ≡ moved.node → get_or new.entry 0 0 ≡ 0 → ((i : ℕ) → i ≢ 0 → get_or new.entry i 0 ≡ get_or moved.entry i 0) → new.size ≡ path.size → (more : List (K × V)) × OnLeaf table root new (place + length entries) more
     leaf-next moved new m nodes first above size =
-        let tree = tree_of table.nodes root in
-        let w = is-rooted most table root union o.on.root_is in
-        let s = first_behind most (some_leaf most union.1.capacity) path.node path.entry path.size tree w.fit o.on.stands.size_is o.on.stands.leaf.before (leaf_of path) o.on.stands.leaf.entries o.on.stands.leaf.after o.on.stands.leaf.row_is moved.node moved.entry new.node new.entry m nodes first above in
-        let on : StandsOn table root new (length (flat o.on.stands.leaf.before) + length o.on.stands.leaf.entries) = record { root_is = o.on.root_is; stands = record { leaf = s.leaf; above = s.above; size_is = size ∙ s.size_is } } in
-        leaf-front root (place + length entries) new (subst (λ (z : ℕ). StandsOn table root new z) behind-leaf on) first
+        let w = on-tree union path o.on in
+        let s = first_behind (some_leaf n union.1.capacity) w.fit w.inside (on-leaf-in union path o.on) new.size (size ∙ o.on.stands.size_is) moved.node moved.entry new.node new.entry m nodes first above in
+        leaf-front (place + length entries) new (subst (λ (z : ℕ). StandsOn table root new z) behind-leaf (record { root_is = o.on.root_is; stands = s })) first

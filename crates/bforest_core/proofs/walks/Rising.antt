@@ -1,6 +1,7 @@
 -- Lists of entries that increase, cut in parts, and where a key lies among them.
-use Rattle.std.proofs.Common.{◌≡◌, ◌≢◌, ℕ, zero, suc, ◌+◌, ◌≤◌, Bool, true, false, cond, if◌then◌else◌, List, [], ◌∷◌, ◌++◌, length, slice_get, Option, Some, None, refl, sym, ap, ◌∙◌, arith}
-use Rattle.bforest_core.proofs.Words.{sum_by-cons, sum_by-append, alike_right, IsTotalOrder, IsStrictlySortedBy, AllByRecursion, is_some, option_and_then, is_eq, is_gt, is_lt, IsIncreasing, place, entry_for, is_present, child_index}
+use Rattle.std.proofs.Common.{◌≡◌, ◌≢◌, ℕ, zero, suc, ◌+◌, ◌≤◌, true, false, cond, if◌then◌else◌, List, [], ◌∷◌, ◌++◌, length, slice_get, Option, Some, None, refl, sym, ap, ◌∙◌, arith}
+use Rattle.bforest_core.proofs.Words.{sum_by-append, alike_right, IsTotalOrder, IsStrictlySortedBy, AllByRecursion, is_some, option_and_then, is_eq, is_gt, is_lt, IsIncreasing, place, entry_for, is_present, child_index}
+use Rattle.std.proofs.lemmas.List.Sums.{count_by-le-length}
 use Rattle.std.specs.Map.{keys_of}
 use Rattle.std.specs.declared.cmp.Ordering.{Ordering}
 use Rattle.std.specs.declared.cmp.Ordering.TheVariants.{Less, Equal, Greater}
@@ -62,13 +63,7 @@ module _ {K : Type 0} (cmp : K → K → Ordering) (o : IsTotalOrder cmp) where
 
     -- never past the end
     pub place-le : (xs : List (K × X)) (k : K) → place cmp xs k ≤ length xs
-    place-le [] k = omega arith
-    place-le (x ∷ xs) k =
-        go (is_lt (cmp x.0 k)) (sum_by-cons (λ (y : K × X). cond (is_lt (cmp y.0 k)) 1 0) x xs) (place-le xs k)
-      where
-        go : (b : Bool) → place cmp (x ∷ xs) k ≡ cond b 1 0 + place cmp xs k → place cmp xs k ≤ length xs → place cmp (x ∷ xs) k ≤ length (x ∷ xs)
-        go true s le = omega (arith, s, le)
-        go false s le = omega (arith, s, le)
+    place-le xs k = count_by-le-length (λ e. is_lt (cmp e.0 k)) xs
 
     -- what a search at a place within the first part finds, where all behind it is greater
     abbrev pub test_at : List (K × X) → K → ℕ → Option (K × X)
@@ -122,9 +117,6 @@ module _ {K : Type 0} (cmp : K → K → Ordering) (o : IsTotalOrder cmp) where
     pub low : AllByRecursion (λ p. cmp p k ≢ Greater) (keys_of l)
     pub high : AllByRecursion (λ p. cmp p k ≡ Greater) (keys_of r)
 
-  no_greater : (p k : K) (r : Ordering) → cmp p k ≡ r → (r ≡ Greater → ⊥) → cmp p k ≢ Greater
-  no_greater p k r t n = λ g. n (sym t ∙ g)
-
   pub sides : {X : Type 0} (es : List (K × X)) (k : K) → IsIncreasing cmp es → Sides es k (child_index cmp (keys_of es) k)
   unfolding IsStrictlySortedBy
   sides [] k h = record { l = []; r = []; es_is = refl; i_is = refl; low = tt; high = tt }
@@ -137,10 +129,10 @@ module _ {K : Type 0} (cmp : K → K → Ordering) (o : IsTotalOrder cmp) where
       behind t = all_greater_behind cmp k o e.0 ks h.0 t
 
       go : (r : Ordering) → cmp e.0 k ≡ r → Sides es k (child_index cmp ks k) → Sides (e ∷ es) k (child_index cmp (e.0 ∷ ks) k)
-      go Less t s = record { l = e ∷ s.l; r = s.r; es_is = ap (λ z. e ∷ z) s.es_is; i_is = ap suc s.i_is ∙ sym (count_up_to-yes cmp e.0 ks k (ap is_gt t)); low = (no_greater e.0 k Less t (λ x. absurd (cc)), s.low); high = s.high }
+      go Less t s = record { l = e ∷ s.l; r = s.r; es_is = ap (λ z. e ∷ z) s.es_is; i_is = ap suc s.i_is ∙ sym (count_up_to-yes cmp e.0 ks k (ap is_gt t)); low = ((λ g. let bad : Less ≡ Greater = sym t ∙ g in absurd cc), s.low); high = s.high }
       go Equal t s =
           let one : child_index cmp (e.0 ∷ ks) k ≡ 1 = count_up_to-yes cmp e.0 ks k (ap is_gt t) ∙ ap suc (count_up_to-none cmp k ks (behind (ap is_lt t))) in
-          record { l = e ∷ []; r = es; es_is = refl; i_is = sym one; low = (no_greater e.0 k Equal t (λ x. absurd (cc)), tt); high = behind (ap is_lt t) }
+          record { l = e ∷ []; r = es; es_is = refl; i_is = sym one; low = ((λ g. let bad : Equal ≡ Greater = sym t ∙ g in absurd cc), tt); high = behind (ap is_lt t) }
       go Greater t s =
           let none : child_index cmp (e.0 ∷ ks) k ≡ 0 = count_up_to-no cmp e.0 ks k (ap is_gt t) ∙ count_up_to-none cmp k ks (behind (ap is_lt t)) in
           record { l = []; r = e ∷ es; es_is = refl; i_is = sym none; low = tt; high = (t, behind (ap is_lt t)) }

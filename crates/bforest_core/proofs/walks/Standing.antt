@@ -1,7 +1,7 @@
 -- A path at a place of the list under a root.
 use Rattle.std.proofs.Common.{◌≡◌, ◌≢◌, ℕ, zero, suc, ◌+◌, ◌==◌, ◌≤◌, ◌<◌, ◌↔◌, Bool, IsTrue, true, false, Some, slice_get, if◌then◌else◌, List, [], ◌∷◌, ◌++◌, get_or, length, length-append, inl, inr, refl, sym, subst, ap, ◌∙◌, arith}
 use Rattle.bforest_core.proofs.Words.{flat_map, false≢true, eqb_tells, Path, PointsTo, StandsAt, StandsOn, index_of, leaf_of, list_under, path_root, place_in, spot, IsLeaf, AtUnder, StandsUnder, IsRooted, Under, LevelNode, Tree, flat}
-use Rattle.bforest_core.proofs.Words.{half_of, heads, node, numbers, IsPathAt, PointsAt, RowIn, Stands, count, leaf_content, numbers_of, Moved, Over, Table, IsUnion, is_root, slot, tree_of}
+use Rattle.bforest_core.proofs.Words.{heads, node, numbers, IsFit, IsIn, IsPathAt, PointsAt, Stands, count, leaf_content, numbers_of, Moved, Over, Table, IsUnion, is_root, slot, tree_of}
 use Rattle.bforest_core.specs.Paths.{IsPlaced}
 use Rattle.bforest_core.proofs.walks.Descent.{some_leaf}
 use Rattle.bforest_core.proofs.walks.Leading.{LeadsFirst, led_leaf}
@@ -9,12 +9,12 @@ use Rattle.bforest_core.proofs.walks.TopNode.{SameBut, node_under}
 use Rattle.bforest_core.proofs.table.Read.{slot-is}
 use Rattle.bforest_core.proofs.rows.LevelRows.{flat-append}
 use Rattle.bforest_core.proofs.rows.Tops.{root-points}
-use Rattle.bforest_core.proofs.table.Tables.{count-append, count-same, row-split}
+use Rattle.bforest_core.proofs.table.Tables.{absent_ne, count-append, count-row, count-same}
 use Rattle.bforest_core.proofs.walks.Backward.{at_end, at_entry}
-use Rattle.bforest_core.proofs.walks.Entered.{first_behind}
-use Rattle.bforest_core.proofs.walks.Steps.{fit_full, none_behind, not_less}
+use Rattle.bforest_core.proofs.walks.Entered.{InLeaf, first_behind, in_leaf, leaf_here, leaf_last}
+use Rattle.bforest_core.proofs.walks.Steps.{not_less}
 use Rattle.bforest_core.proofs.union.Unions.{is-rooted, rooted}
-use Rattle.bforest_core.proofs.walks.Whole.{led_stands, whole_top, whole_under}
+use Rattle.bforest_core.proofs.walks.Whole.{led_stands, stands-pointed, whole_top, whole_under}
 
 module _ {K V : Type 0} (path indices : List ℕ) (tree : Tree K V) (place : ℕ) where
   -- a path on an entry points to it
@@ -40,11 +40,6 @@ module _ {K V : Type 0} (path indices : List ℕ) (tree : Tree K V) (place : ℕ
   path-ended zero none e = e
   path-ended (suc size) none e = absurd (omega (arith, none))
 
-module _ {K V : Type 0} (most : ℕ) (table : Table K V) (root place : ℕ) (path indices : List ℕ) (size : ℕ) where
-  -- a path on an entry has at most 17 levels
-  pub on-low : IsUnion most table → StandsUnder table.nodes root path indices size place → size ≤ 17
-  on-low union on = let w = is-rooted most table root union on.root_is in omega (arith, on.stands.size_is, w.low)
-
 -- what lies under a root
 pub record UnderRoot {K V : Type 0} (most : ℕ) (table : Table K V) (root : ℕ) : Type 0 where
   pub first : K
@@ -66,39 +61,23 @@ led-first most table root union is path indices path' indices' level leads =
 -- a path of one level at the front of a root that is a leaf is on the first entry
 pub on-leaf : {K V : Type 0} (most : ℕ) (table : Table K V) (root : ℕ) (path indices : List ℕ) → IsUnion most table → IsTrue (is_root table.nodes root) → IsLeaf (slot table.nodes root) → get_or path 0 0 ≡ root → get_or indices 0 0 ≡ 0 → StandsUnder table.nodes root path indices 1 0
 on-leaf most table root path indices union is leaf node_is index_is =
-    let slots = table.nodes in
-    let tree = tree_of slots root in
-    let w = is-rooted most table root union is in
-    let one = some_leaf most union.1.capacity in
-    elim (node_under most one slots tree.leaves tree.above [] (whole_top most slots root tree w).first root [] (whole_under most slots root tree w)) [
-      | inl s ↦ record {
-        root_is = is;
-        stands = led_stands tree path indices path indices 1 (led_leaf most one slots tree.leaves tree.above _ root [] s path indices path indices node_is index_is (λ i ne. refl) (λ i ne. refl)) (omega (arith, ap length s.lower_is));
-      }
-      | inr s ↦ absurd (subst IsLeaf (slot-is slots root _ s.slot_is) leaf)
+    let u = under-root most table root union is in
+    elim (node_under most (some_leaf most union.1.capacity) table.nodes _ _ [] u.first root [] u.under) [
+      | inl s ↦ (let d = led_leaf most (some_leaf most union.1.capacity) table.nodes _ _ _ root [] s path indices path indices node_is index_is (λ i ne. refl) (λ i ne. refl) in record { root_is = is; stands = led_stands _ path indices path indices 1 d.1 (omega (arith, d.0)) })
+      | inr s ↦ absurd (subst IsLeaf (slot-is table.nodes root _ s.slot_is) leaf)
     ]
 
 module _ {K X : Type 0} where
-  -- the number of a node stands in its row
-  number_there : (before : List (LevelNode K X)) (n : ℕ) (es : List (K × X)) (after : List (LevelNode K X)) → 1 ≤ count n (numbers (before ++ node n es ∷ after))
-  number_there [] n es after = omega (arith, count-same n (numbers after))
-  number_there (node m xs ∷ before) n es after = omega (arith, number_there before n es after, count-append n (m ∷ []) (numbers (before ++ node n es ∷ after)))
-
-  -- the place of an entry by its node's number, where that stands in the row once
-  place_by : (before : List (LevelNode K X)) (n : ℕ) (es : List (K × X)) (after : List (LevelNode K X)) (index : ℕ) → count n (numbers (before ++ node n es ∷ after)) ≤ 1 → place_in (before ++ node n es ∷ after) n index ≡ length (flat before) + index
-  place_by [] n es after index once =
-      elim (eqb_tells n n) [
-        | inl w ↦ (let z : index ≡ 0 + index = omega arith in (λ j. if w.0 j then index else length es + place_in after n index) ∙ z)
-        | inr w ↦ absurd (w.1 refl)
-      ]
-  place_by (node m xs ∷ before) n es after index once =
+  -- the place of an entry by its node's number, which does not stand before
+  place_by : (before : List (LevelNode K X)) (n : ℕ) (es : List (K × X)) (after : List (LevelNode K X)) (index : ℕ) → count n (numbers before) ≡ 0 → place_in (before ++ node n es ∷ after) n index ≡ length (flat before) + index
+  place_by [] n es after index none =
+      elim (eqb_tells n n) [ inl w ↦ (let z : index ≡ 0 + index = omega arith in (λ j. if w.0 j then index else length es + place_in after n index) ∙ z) | inr w ↦ absurd (w.1 refl) ]
+  place_by (node m xs ∷ before) n es after index none =
       let rest = before ++ node n es ∷ after in
+      let ih = place_by before n es after index (omega (arith, none)) in
       elim (eqb_tells m n) [
-        | inl w ↦ absurd (let two = count-same n (numbers rest) in let e = ap (λ z. count n (z ∷ numbers rest)) w.1 in omega (arith, two, e, once, number_there before n es after))
-        | inr w ↦ (
-            let ih = place_by before n es after index (omega (arith, once, count-append n (m ∷ []) (numbers rest))) in
-            (λ j. if w.0 j then index else length xs + place_in rest n index) ∙ omega (arith, ih, length-append xs (flat before))
-            )
+        | inl w ↦ absurd (absent_ne n m (numbers before) none (sym w.1))
+        | inr w ↦ (λ j. if w.0 j then index else length xs + place_in rest n index) ∙ omega (arith, ih, length-append xs (flat before))
       ]
 
 module _ {K V : Type 0} {n : ℕ} (table : Table K V) (root : ℕ) (path : Path K V n) (place : ℕ) where
@@ -129,14 +108,33 @@ module _ {K V : Type 0} {n : ℕ} (table : Table K V) (root : ℕ) (path : Path 
   pub placed-points : IsPlaced table root path place → PointsTo table root path place
   placed-points p = record { root_is = p.root_is; points = p.at.points }
 
+-- in a union of trees, a path on an entry
+module _ {K V : Type 0} {n : ℕ} {table : Table K V} (union : IsUnion n table) {root place : ℕ} (path : Path K V n) (on : StandsOn table root path place) where
+  abbrev pub on-tree : IsRooted n table.nodes root (tree_of table.nodes root)
+  on-tree = is-rooted n table root union on.root_is
+
+  -- its leaf, and the rows above
+  abbrev pub on-leaf-in : InLeaf (some_leaf n union.1.capacity) on-tree.fit on-tree.inside path.node path.entry (length on.stands.leaf.before)
+  on-leaf-in = leaf_here (some_leaf n union.1.capacity) on-tree.fit on-tree.inside on.stands
+
+  -- what a step is asked, and what it says of each tree in which the path stands
+  pub on-asks : (path.size ≤ 17) × ((tree : Tree K V) × (place : ℕ) × IsFit n tree × IsIn table.nodes tree × Stands path.node path.entry path.size tree place)
+  on-asks = (omega (arith, on.stands.size_is, on-tree.low), (tree_of table.nodes root, place, on-tree.fit, on-tree.inside, on.stands))
+
+  pub said : {Says : Tree K V → ℕ → Type 0} → ((tree : Tree K V) (place : ℕ) → IsFit n tree → IsIn table.nodes tree → Stands path.node path.entry path.size tree place → Says tree place) → Says (tree_of table.nodes root) place
+  said says = says (tree_of table.nodes root) place on-tree.fit on-tree.inside on.stands
+
 -- a path at an entry of a leaf, or behind a leaf's last one
-module _ {K V : Type 0} {n : ℕ} (table : Table K V) (union : IsUnion n table) (root place : ℕ) (path : Path K V n) (to : PointsTo table root path place) where
+module _ {K V : Type 0} {n : ℕ} {table : Table K V} (union : IsUnion n table) {root place : ℕ} (path : Path K V n) (to : PointsTo table root path place) where
   abbrev tree_is : IsRooted n table.nodes root (tree_of table.nodes root)
   tree_is = is-rooted n table root union to.root_is
 
+  abbrev pointed : InLeaf (some_leaf n union.1.capacity) tree_is.fit tree_is.inside path.node path.entry (length to.points.before)
+  pointed = in_leaf (some_leaf n union.1.capacity) tree_is.fit tree_is.inside path.node path.entry to.points.before to.points.entries to.points.after to.points.leaves_are to.points.above
+
   -- what the leaf's slot holds
-  abbrev pub pointed-leaf : (entries : List (K × V)) × (slice_get table.nodes (leaf_of path) ≡ Some (leaf_content entries))
-  pointed-leaf = (to.points.entries, (row-split leaf_content table.nodes to.points.before (node (leaf_of path) to.points.entries ∷ to.points.after) (subst (λ (z : List (LevelNode K V)). RowIn leaf_content table.nodes z) to.points.leaves_are tree_is.inside.leaves_in)).1.0)
+  pub pointed-leaf : (entries : List (K × V)) × (slice_get table.nodes (leaf_of path) ≡ Some (leaf_content entries))
+  pointed-leaf = (to.points.entries, pointed.slot_is)
 
   pointed-over : Over table.nodes path.node path.entry 1 path.size (tree_of table.nodes root).above (heads (tree_of table.nodes root).leaves) (length to.points.before)
   pointed-over = record { stacked = tree_is.fit.stacked; inside = tree_is.inside.rows_in; stands = to.points.above; height = omega (arith, to.points.size_is) }
@@ -148,30 +146,23 @@ module _ {K V : Type 0} {n : ℕ} (table : Table K V) (union : IsUnion n table) 
   module _ (has : Bool) (test : (entries : List (K × V)) → slice_get table.nodes (leaf_of path) ≡ Some (leaf_content entries) → IsTrue has ↔ (index_of path < length entries)) where
     -- at an entry of the leaf
     pub pointed-here : has ≡ true → StandsAt table root path place
-    pointed-here is =
-        let p = to.points in
-        on-at table root path place (record { root_is = to.root_is; stands = record { leaf = record { before = p.before; entries = p.entries; after = p.after; row_is = p.leaves_are; within = (test p.entries pointed-leaf.1).0 is; place_is = p.place_is }; above = p.above; size_is = p.size_is } })
+    pointed-here is = on-at table root path place (record { root_is = to.root_is; stands = stands-pointed to.points ((test to.points.entries pointed.slot_is).0 is) })
 
     behind : has ≡ false → place ≡ length (flat to.points.before) + length to.points.entries
-    behind none = omega (arith, to.points.place_is, to.points.within, not_less (index_of path) (length to.points.entries) (λ low. false≢true (sym none ∙ (test to.points.entries pointed-leaf.1).1 low)))
+    behind none = omega (arith, to.points.place_is, to.points.within, not_less (index_of path) (length to.points.entries) (λ low. false≢true (sym none ∙ (test to.points.entries pointed.slot_is).1 low)))
 
     -- behind the last entry, the first of the next leaf is at the same place
     pub pointed-next : has ≡ false → (moved new : Path K V n) → ((rows : List (List (LevelNode K ℕ))) (list : List (K × ℕ)) (at : ℕ) → Over table.nodes path.node path.entry 1 path.size rows list at → Moved path.node path.entry moved.node moved.entry 0 rows list (suc at)) →
         new.node ≡ moved.node → get_or new.entry 0 0 ≡ 0 → SameBut 0 moved.entry new.entry → new.size ≡ path.size → StandsAt table root new place
     pointed-next none moved new goes nodes here above size =
-        let tree = tree_of table.nodes root in
-        let p = to.points in
-        let m = goes tree.above (heads tree.leaves) (length p.before) pointed-over in
-        let s = first_behind n (some_leaf n union.1.capacity) path.node path.entry path.size tree tree_is.fit p.size_is p.before (leaf_of path) p.entries p.after p.leaves_are moved.node moved.entry new.node new.entry m nodes here above in
-        on-at table root new place (record { root_is = to.root_is; stands = subst (λ (z : ℕ). Stands new.node new.entry new.size tree z) (sym (behind none)) (record { leaf = s.leaf; above = s.above; size_is = size ∙ s.size_is }) })
+        let m = goes (tree_of table.nodes root).above (heads (tree_of table.nodes root).leaves) (length to.points.before) pointed-over in
+        let s = first_behind (some_leaf n union.1.capacity) tree_is.fit tree_is.inside pointed new.size (size ∙ to.points.size_is) moved.node moved.entry new.node new.entry m nodes here above in
+        on-at table root new place (record { root_is = to.root_is; stands = subst (λ (z : ℕ). Stands new.node new.entry new.size (tree_of table.nodes root) z) (sym (behind none)) s })
 
     -- behind the last entry of all
     pub pointed-last : has ≡ false → ((rows : List (List (LevelNode K ℕ))) (list : List (K × ℕ)) (at : ℕ) → Over table.nodes path.node path.entry 1 path.size rows list at → suc at ≡ length list) → (nodes entries : List ℕ) → AtUnder table.nodes root nodes entries 0 place
     pointed-last none last nodes entries =
-        let tree = tree_of table.nodes root in
-        let p = to.points in
-        let end = last tree.above (heads tree.leaves) (length p.before) pointed-over in
-        record { root_is = to.root_is; at = behind none ∙ sym (none_behind tree.leaves p.before (leaf_of path) p.entries p.after p.leaves_are (end ∙ fit_full (half_of n) n (some_leaf n union.1.capacity) tree.leaves tree_is.fit.leaves_fit)) }
+        record { root_is = to.root_is; at = behind none ∙ leaf_last (some_leaf n union.1.capacity) tree_is.fit tree_is.inside pointed (last (tree_of table.nodes root).above (heads (tree_of table.nodes root).leaves) (length to.points.before) pointed-over) }
 
 -- in a union of trees
 module _ {K V : Type 0} {n : ℕ} (most : ℕ) (table : Table K V) (root : ℕ) (path : Path K V n) (place : ℕ) (union : IsUnion most table) where
@@ -189,11 +180,11 @@ module _ {K V : Type 0} {n : ℕ} (most : ℕ) (table : Table K V) (root : ℕ) 
       let at = to.points in
       let r = rooted most table root union to.root_is in
       let m = leaf_of path in
-      let once : count m (numbers tree.leaves) ≤ 1 = omega (arith, r.apart m, count-append m (numbers_of tree) table.chain, count-append m (numbers tree.leaves) (flat_map numbers tree.above)) in
+      let none : count m (numbers at.before) ≡ 0 = omega (arith, r.apart m, count-append m (numbers_of tree) table.chain, count-append m (numbers tree.leaves) (flat_map numbers tree.above), ap (λ z. count m (numbers z)) at.leaves_are, count-row m at.before m at.entries at.after, count-same m (numbers at.after)) in
       let some : (path.size == 0) ≡ false = elim (eqb_tells path.size 0) [ inl w ↦ absurd (omega (arith, w.1, at.size_is)) | inr w ↦ w.0 ] in
       (λ j. if some j then length (list_under table root) else place_in tree.leaves m (index_of path))
       ∙ ap (λ z. place_in z m (index_of path)) at.leaves_are
-      ∙ place_by at.before m at.entries at.after (index_of path) (subst (λ (z : List (LevelNode K V)). count m (numbers z) ≤ 1) at.leaves_are once)
+      ∙ place_by at.before m at.entries at.after (index_of path) none
       ∙ sym at.place_is
 
   -- so is one that stands on an entry

@@ -1,12 +1,11 @@
 -- A step of a path on one row.
-use Rattle.std.proofs.Common.{◌≡◌, ◌≢◌, ℕ, suc, ◌+◌, ◌≤◌, ◌<◌, List, [], ◌∷◌, ◌++◌, length, get_or, slice_get, Some, refl, sym, ap, subst, ◌∙◌, arith, append_assoc, length-append}
-use Rattle.bforest_core.proofs.Words.{append-nil, slice_get_within, option_map, Content, LevelNode, node, flat, heads, FitRow, Tree, RowIn, inner_content, entry_items, StandsAbove, Stands, SameBelow, Over, Moved}
+use Rattle.std.proofs.Common.{◌≡◌, ◌≢◌, ℕ, suc, ◌+◌, ◌-◌, ◌≤◌, ◌<◌, List, [], ◌∷◌, ◌++◌, length, take, get_or, slice_get, Some, Bool, true, false, refl, sym, ap, subst, ◌∙◌, arith, append_assoc, length-append}
+use Rattle.bforest_core.proofs.Words.{false≢true, entry_count, get_or_default, nil_from_length, take_at, slice_get_within, Content, LevelNode, node, flat, heads, FitRow, RowIn, inner_content, StandsAbove, Over, Moved}
 use Rattle.bforest_core.proofs.rows.LevelRows.{flat-append, least-pos, FitRow-split}
-use Rattle.bforest_core.proofs.walks.LeafSearch.{items-read}
 use Rattle.bforest_core.proofs.table.Lists.{slice_get-append-add, slice_get-append_left}
 use Rattle.bforest_core.proofs.table.Stored.{some_same, slice_get_at}
 use Rattle.bforest_core.proofs.table.Tables.{row-split}
-use Rattle.bforest_core.proofs.rows.Zipper.{cut, stands-same}
+use Rattle.bforest_core.proofs.rows.Zipper.{cut}
 use Rattle.bforest_core.proofs.walks.Downward.{seen}
 
 -- a fit row has no empty node
@@ -14,6 +13,10 @@ pub fit_full : {K X : Type 0} (half most : ℕ) → 1 ≤ half → (row : List (
 fit_full half most one [] f = refl
 fit_full half most one (node m [] ∷ ns) f = absurd (omega (arith, f.0, least-pos half one ns))
 fit_full half most one (node m (e ∷ es) ∷ ns) f = ap suc (fit_full half most one ns f.2)
+
+-- so one that shows no node from above has none
+pub no_heads : {K X : Type 0} (half most : ℕ) → 1 ≤ half → (row : List (LevelNode K X)) → FitRow half most row → heads row ≡ [] → row ≡ []
+no_heads half most one row f none = nil_from_length row (sym (fit_full half most one row f) ∙ ap length none)
 
 -- an entry of a row
 pub entry_at : {K X : Type 0} (row : List (LevelNode K X)) (before : List (LevelNode K X)) (n : ℕ) (es : List (K × X)) (after : List (LevelNode K X)) (i : ℕ) (x : K × X) → row ≡ before ++ node n es ∷ after → slice_get es i ≡ Some x → slice_get (flat row) (length (flat before) + i) ≡ Some x
@@ -24,72 +27,69 @@ entry_at row before n es after i x row_is found =
 pub read : {A : Type 0} (xs : List A) (i : ℕ) → i < length xs → (x : A) × (slice_get xs i ≡ Some x)
 read xs i low = let c = cut xs i low in (c.x, ap (λ z. slice_get z i) c.es_is ∙ slice_get_at c.l c.x c.r i c.place_is)
 
+-- the slot of a path's node, by the number that was read in the path
+pub at_index : {A : Type 0} (slots : List A) (path : List ℕ) {up level : ℕ} (r : ℕ) {x : A} → level < length path → level ≡ up → slice_get slots (get_or path up 0) ≡ Some x → slice_get slots (get_or path level r) ≡ Some x
+at_index slots path {level = level} r low same found = ap (slice_get slots) (get_or_default path level r 0 low ∙ ap (λ z. get_or path z 0) same) ∙ found
+
 pub not_less : (m n : ℕ) → (m < n → ⊥) → n ≤ m
 not_less m n past = omega (arith, past)
 
-module _ {K X : Type 0} where
-  -- the node at a place of a row, as it is seen
-  pub record Nth (row : List (LevelNode K X)) (place : ℕ) (head : K × ℕ) : Type 0 where
+-- a test has one outcome
+pub never : {test : Bool} {A : Type 0} → test ≡ true → test ≡ false → A
+never is not = absurd (false≢true (sym not ∙ is))
+
+module _ {K V X : Type 0} (content : List (K × X) → Content K V) (slots : List (Content K V)) (most : ℕ) where
+  -- a path in the node at a place of a row, and in the rows above
+  pub record Within (path indices : List ℕ) (up : ℕ) (row : List (LevelNode K X)) (rest : List (List (LevelNode K ℕ))) (place : ℕ) : Type 0 where
     pub before : List (LevelNode K X)
-    pub e : K × X
-    pub others : List (K × X)
+    pub entries : List (K × X)
     pub after : List (LevelNode K X)
-    pub row_is : row ≡ before ++ node head.1 (e ∷ others) ∷ after
-    pub place_is : length before ≡ place
+    pub row_is : row ≡ before ++ node (get_or path up 0) entries ∷ after
+    pub at : length before ≡ place
+    pub stands : StandsAbove path indices (suc up) rest place
+    pub slot_is : slice_get slots (get_or path up 0) ≡ Some (content entries)
+    pub some : 1 ≤ length entries
+    pub room : length entries ≤ most
 
-  pub nth : (half most : ℕ) → 1 ≤ half → (row : List (LevelNode K X)) → FitRow half most row → (place : ℕ) (head : K × ℕ) → slice_get (heads row) place ≡ Some head → Nth row place head
-  nth half most one row f place head h =
-      let c = cut (heads row) place (slice_get_within (heads row) place head h) in
-      let same : c.x ≡ head = some_same c.x head (sym (ap (λ z. slice_get z place) c.es_is ∙ slice_get_at c.l c.x c.r place c.place_is) ∙ h) in
-      let s = seen half most one row c.l head.0 head.1 c.r f (c.es_is ∙ ap (λ z. c.l ++ z ∷ c.r) same) in
-      record { before = s.before; e = s.e; others = s.es; after = s.after; row_is = s.row_is; place_is = s.before_is ∙ c.place_is }
+  module _ (half : ℕ) (one : 1 ≤ half) (row : List (LevelNode K X)) (fit : FitRow half most row) (inside : RowIn content slots row) where
+    -- it is, where the node stands in the row
+    abbrev pub within : (path indices : List ℕ) (up : ℕ) (rest : List (List (LevelNode K ℕ))) (place : ℕ) (before : List (LevelNode K X)) (entries : List (K × X)) (after : List (LevelNode K X)) → row ≡ before ++ node (get_or path up 0) entries ∷ after → length before ≡ place → StandsAbove path indices (suc up) rest place → Within path indices up row rest place
+    within path indices up rest place before entries after row_is at stands =
+        let f = (FitRow-split half most before (node (get_or path up 0) entries) after (subst (FitRow half most) row_is fit)).1 in
+        let i = (row-split content slots before (node (get_or path up 0) entries ∷ after) (subst (RowIn content slots) row_is inside)).1.0 in
+        record { before = before; entries = entries; after = after; row_is = row_is; at = at; stands = stands; slot_is = i; some = omega (arith, f.0, least-pos half one after); room = f.1 }
 
-  -- two nodes of a row, one behind the other
-  pub next_at : (before : List (LevelNode K X)) (n : ℕ) (es : List (K × X)) (after before2 : List (LevelNode K X)) (m : ℕ) (fs : List (K × X)) (after2 : List (LevelNode K X)) → before ++ node n es ∷ after ≡ before2 ++ node m fs ∷ after2 → length before2 ≡ suc (length before) → flat before2 ≡ flat before ++ es
-  next_at [] n es after [] m fs after2 e l = absurd (omega (arith, l))
-  next_at [] n es after (node k gs ∷ []) m fs after2 e l =
-      let same : node n es ≡ node k gs = cc in
-      ap (λ z. flat (z ∷ [])) (sym same) ∙ append-nil es
-  next_at [] n es after (x ∷ y ∷ before2) m fs after2 e l = absurd (omega (arith, l))
-  next_at (x ∷ before) n es after [] m fs after2 e l = absurd (omega (arith, l))
-  next_at (node k gs ∷ before) n es after (node j hs ∷ before2) m fs after2 e l =
-      let same : node k gs ≡ node j hs = cc in
-      let rest : before ++ node n es ∷ after ≡ before2 ++ node m fs ∷ after2 = cc in
-      let r = next_at before n es after before2 m fs after2 rest (omega (arith, l)) in
-      ap (λ z. flat (z ∷ before2)) (sym same) ∙ ap (λ z. gs ++ z) r ∙ sym (append_assoc gs (flat before) es)
+    -- and where it went to that place
+    pub there : {path indices path1 indices1 : List ℕ} {up : ℕ} {rest : List (List (LevelNode K ℕ))} {place : ℕ} → Moved path indices path1 indices1 up rest (heads row) place → Within path1 indices1 up row rest place
+    there {path1 = path1} {indices1 = indices1} {up = up} {rest = rest} {place = place} m =
+        let c = cut (heads row) place (slice_get_within (heads row) place m.head m.head_is) in
+        let same : c.x ≡ m.head = some_same c.x m.head (sym (ap (λ z. slice_get z place) c.es_is ∙ slice_get_at c.l c.x c.r place c.place_is) ∙ m.head_is) in
+        let s = seen half most one row c.l m.head.0 m.head.1 c.r fit (c.es_is ∙ ap (λ z. c.l ++ z ∷ c.r) same) in
+        within path1 indices1 up rest place s.before (s.e ∷ s.es) s.after (s.row_is ∙ ap (λ z. s.before ++ node z (s.e ∷ s.es) ∷ s.after) (sym m.node_is)) (s.before_is ∙ c.place_is) m.stands
 
-  -- nothing stands behind the last node
-  pub none_behind : (row before : List (LevelNode K X)) (n : ℕ) (es : List (K × X)) (after : List (LevelNode K X)) → row ≡ before ++ node n es ∷ after → suc (length before) ≡ length row → length (flat row) ≡ length (flat before) + length es
-  none_behind row before n es [] row_is l = ap (λ z. length (flat z)) row_is ∙ ap length (flat-append before (node n es ∷ [])) ∙ length-append (flat before) (es ++ []) ∙ ap (λ z. length (flat before) + length z) (append-nil es)
-  none_behind row before n es (x ∷ after) row_is l = absurd (omega (arith, l, ap length row_is, length-append before (node n es ∷ x ∷ after)))
+  module _ {path indices : List ℕ} {up : ℕ} {row : List (LevelNode K X)} {rest : List (List (LevelNode K ℕ))} {place : ℕ} (a : Within path indices up row rest place) where
+    -- the entries of the node are those in front of the next node's
+    pub seam : {path1 indices1 : List ℕ} {place1 : ℕ} (b : Within path1 indices1 up row rest place1) → place1 ≡ suc place → length (flat b.before) ≡ length (flat a.before) + length a.entries
+    seam {path1 = path1} b is =
+        let k = length b.before in
+        let x = node (get_or path up 0) a.entries in
+        let two : b.before ≡ a.before ++ x ∷ [] = sym (take_at b.before (node (get_or path1 up 0) b.entries ∷ b.after) k refl) ∙ ap (λ z. take k z) (sym b.row_is ∙ a.row_is ∙ sym (append_assoc a.before (x ∷ []) a.after)) ∙ take_at (a.before ++ x ∷ []) a.after k (omega (arith, is, a.at, b.at, length-append a.before (x ∷ []))) in
+        omega (arith, ap (λ z. length (flat z)) two, ap length (flat-append a.before (x ∷ [])), length-append (flat a.before) (a.entries ++ []), length-append a.entries [])
 
-module _ {K : Type 0} where
-  -- the path in a node of the row, at one of its children
-  pub arrive : (path indices path' indices' : List ℕ) (level up : ℕ) (rows : List (List (LevelNode K ℕ))) (row : List (LevelNode K ℕ)) (rest : List (List (LevelNode K ℕ))) (list : List (K × ℕ)) (before : List (LevelNode K ℕ)) (number : ℕ) (entries : List (K × ℕ)) (after : List (LevelNode K ℕ)) (index place : ℕ) →
-      up ≡ suc level → rows ≡ row ∷ rest → flat row ≡ list → row ≡ before ++ node number entries ∷ after → get_or path' up 0 ≡ number → get_or indices' up 0 ≡ index → index < length entries → place ≡ length (flat before) + index → slice_get (entry_items entries) index ≡ Some (get_or path' level 0) → StandsAbove path' indices' (suc up) rest (length before) →
-      SameBelow level path path' → SameBelow (suc level) indices indices' → Moved path indices path' indices' level rows list place
-  arrive path indices path' indices' level up rows row rest list before number entries after index place up_is rows_are flat_is row_is number_is index_is low place_is child stands nodes_below entries_below =
-      let e = read entries index low in
-      let child_is : get_or path' level 0 ≡ e.0.1 = some_same (get_or path' level 0) e.0.1 (sym child ∙ items-read entries index ∙ ap (λ z. option_map (λ (w : K × ℕ). w.1) z) e.1) in
-      let stands2 : StandsAbove path' indices' up (row ∷ rest) place = (
-        record {
-          before = before;
-          entries = entries;
-          after = after;
-          row_is = row_is ∙ ap (λ z. before ++ node z entries ∷ after) (sym number_is);
-          within = omega (arith, low, index_is);
-          place_is = place_is ∙ ap (λ z. length (flat before) + z) (sym index_is);
-        },
-        stands,
-      ) in
-      record {
-        head = e.0;
-        head_is = ap (λ z. slice_get z place) (sym flat_is) ∙ ap (λ z. slice_get (flat row) z) place_is ∙ entry_at row before number entries after index e.0 row_is e.1;
-        node_is = child_is;
-        stands = subst (λ (z : ℕ). StandsAbove path' indices' z rows place) up_is (subst (λ (z : List (List (LevelNode K ℕ))). StandsAbove path' indices' up z place) (sym rows_are) stands2);
-        nodes_below = nodes_below;
-        entries_below = entries_below;
-      }
+    -- or the last of the row
+    pub none_behind : (half : ℕ) → 1 ≤ half → FitRow half most row → suc place ≡ length (heads row) → length (flat row) ≡ length (flat a.before) + length a.entries
+    none_behind half one fit last =
+        let x = node (get_or path up 0) a.entries in
+        let none = nil_from_length a.after (omega (arith, last, a.at, fit_full half most one row fit, ap length a.row_is, length-append a.before (x ∷ a.after))) in
+        omega (arith, ap (λ z. length (flat z)) a.row_is, ap length (flat-append a.before (x ∷ a.after)), length-append (flat a.before) (a.entries ++ flat a.after), length-append a.entries (flat a.after), ap (λ z. length (flat z)) none)
+
+    -- what asking for the last index of the node asks, and that index
+    module _ (counts : (es : List (K × X)) → entry_count (content es) ≡ length es) (r : ℕ) (wide : up < length path) where
+      abbrev pub last_asks : (x : Content K V) × (slice_get slots (get_or path up r) ≡ Some x) × (1 ≤ entry_count x)
+      last_asks = (content a.entries, at_index slots path r wide refl a.slot_is, omega (arith, counts a.entries, a.some))
+
+      pub last_is : (last : ℕ) → ((x : Content K V) → slice_get slots (get_or path up r) ≡ Some x → last ≡ entry_count x - 1) → suc last ≡ length a.entries
+      last_is last says = omega (arith, says (content a.entries) last_asks.1, counts a.entries, a.some)
 
 module _ {K V : Type 0} where
   -- where the path stands on a row
@@ -132,64 +132,7 @@ module _ {K V : Type 0} where
         over = record { stacked = p.stacked.2; inside = p.inside.1; stands = p.stands.1; height = omega (arith, p.height) };
       }
 
-  pub over_spot : (slots : List (Content K V)) (path indices : List ℕ) (level up size : ℕ) (rows : List (List (LevelNode K ℕ))) (list : List (K × ℕ)) (place : ℕ) → Over slots path indices (suc level) size rows list place → up ≡ suc level → up ≢ size → Spot slots path indices up size rows list place
-  over_spot slots path indices level up size rows list place p up_is other =
-      spot slots path indices up size rows list place (subst (λ (z : ℕ). Over slots path indices z size rows list place) (sym up_is) p) other
-
-  module _ (slots : List (Content K V)) (path indices : List ℕ) (level up size : ℕ) (rows : List (List (LevelNode K ℕ))) (list : List (K × ℕ)) (place : ℕ) (up_is : up ≡ suc level) (s : Spot slots path indices up size rows list place) where
-    -- to another child of the same node
-    pub step_within : (path' indices' : List ℕ) (index place2 : ℕ) → index < length s.entries → place2 ≡ length (flat s.before) + index → slice_get (entry_items s.entries) index ≡ Some (get_or path' level 0) →
-        ((i : ℕ) → i ≢ level → get_or path' i 0 ≡ get_or path i 0) → get_or indices' (suc level) 0 ≡ index → ((i : ℕ) → i ≢ suc level → get_or indices' i 0 ≡ get_or indices i 0) → Moved path indices path' indices' level rows list place2
-    step_within path' indices' index place2 low place_is child nodes entry entries =
-        arrive path indices path' indices' level up rows s.row s.rest list s.before (get_or path up 0) s.entries s.after index place2 up_is s.rows_are s.flat_is s.row_is (nodes up (λ e. omega (arith, e, up_is))) (ap (λ z. get_or indices' z 0) up_is ∙ entry) low place_is child
-        (stands-same path indices path' indices' (suc up) s.rest (length s.before) (λ i high. nodes i (λ e. omega (arith, e, up_is, high))) (λ i high. entries i (λ e. omega (arith, e, up_is, high))) s.over.stands)
-        (λ i low. nodes i (λ e. omega (arith, e, low)))
-        (λ i low. entries i (λ e. omega (arith, e, low)))
-
-    -- to a child of another node of the row
-    pub step_over : (path1 indices1 path' indices' : List ℕ) (other : ℕ) (m : Moved path indices path1 indices1 up s.rest (heads s.row) other) (n : Nth s.row other m.head) (index place2 : ℕ) → index < length (n.e ∷ n.others) → place2 ≡ length (flat n.before) + index → slice_get (entry_items (n.e ∷ n.others)) index ≡ Some (get_or path' level 0) →
-        ((i : ℕ) → i ≢ level → get_or path' i 0 ≡ get_or path1 i 0) → get_or indices' (suc level) 0 ≡ index → ((i : ℕ) → i ≢ suc level → get_or indices' i 0 ≡ get_or indices1 i 0) → Moved path indices path' indices' level rows list place2
-    step_over path1 indices1 path' indices' other m n index place2 low place_is child nodes entry entries =
-        arrive path indices path' indices' level up rows s.row s.rest list n.before m.head.1 (n.e ∷ n.others) n.after index place2 up_is s.rows_are s.flat_is n.row_is (nodes up (λ e. omega (arith, e, up_is)) ∙ m.node_is) (ap (λ z. get_or indices' z 0) up_is ∙ entry) low place_is child
-        (subst (λ (z : ℕ). StandsAbove path' indices' (suc up) s.rest z) (sym n.place_is) (stands-same path1 indices1 path' indices' (suc up) s.rest other (λ i high. nodes i (λ e. omega (arith, e, up_is, high))) (λ i high. entries i (λ e. omega (arith, e, up_is, high))) m.stands))
-        (λ i low. nodes i (λ e. omega (arith, e, low)) ∙ m.nodes_below i (omega (arith, low, up_is)))
-        (λ i low. entries i (λ e. omega (arith, e, low)) ∙ m.entries_below i (omega (arith, low, up_is)))
-
-    -- the slot of another node of the row
-    pub slot_over : (other : ℕ) (head : K × ℕ) (n : Nth s.row other head) → slice_get slots head.1 ≡ Some (inner_content (n.e ∷ n.others))
-    slot_over other head n = (row-split inner_content slots n.before (node head.1 (n.e ∷ n.others) ∷ n.after) (subst (λ (z : List (LevelNode K ℕ)). RowIn inner_content slots z) n.row_is s.inside)).1.0
-
-    -- the first child of the next node is the next child
-    pub next_place : (head : K × ℕ) (n : Nth s.row (suc (length s.before)) head) → (get_or indices up 0 + 1 < length s.entries → ⊥) → suc place ≡ length (flat n.before) + 0
-    next_place head n past =
-        let f = next_at s.before (get_or path up 0) s.entries s.after n.before head.1 (n.e ∷ n.others) n.after (sym s.row_is ∙ n.row_is) n.place_is in
-        omega (arith, s.place_is, s.within, not_less (get_or indices up 0 + 1) (length s.entries) past, ap length f, length-append (flat s.before) s.entries)
-
-    -- no next node: it was the last child
-    pub last_place : (get_or indices up 0 + 1 < length s.entries → ⊥) → suc (length s.before) ≡ length (heads s.row) → suc place ≡ length list
-    last_place past last =
-        let b = none_behind s.row s.before (get_or path up 0) s.entries s.after s.row_is (last ∙ fit_full 4 8 (omega arith) s.row s.fit) in
-        omega (arith, s.place_is, s.within, not_less (get_or indices up 0 + 1) (length s.entries) past, b, ap length s.flat_is)
-
 -- no row above: the only node
-pub only : {K V : Type 0} (slots : List (Content K V)) (path indices : List ℕ) (level size : ℕ) (rows : List (List (LevelNode K ℕ))) (list : List (K × ℕ)) (place : ℕ) → Over slots path indices level size rows list place → level ≡ size → (place ≡ 0) × (length list ≡ 1)
-only slots path indices level size [] list place p e = (p.stands, p.stacked)
-only slots path indices level size (row ∷ rows) list place p e = absurd (omega (arith, p.height, e))
-
--- a path whose nodes are those of another, and whose indices but the leaf's are, too: it stands in the other's leaf
-pub stands_in : {K V : Type 0} (tree : Tree K V) (size : ℕ) (path indices path' indices' : List ℕ) → path' ≡ path → ((i : ℕ) → i ≢ 0 → get_or indices' i 0 ≡ get_or indices i 0) → size ≡ suc (length tree.above) →
-    (before : List (LevelNode K V)) (number : ℕ) (es : List (K × V)) (after : List (LevelNode K V)) (k place : ℕ) → tree.leaves ≡ before ++ node number es ∷ after → get_or path 0 0 ≡ number → StandsAbove path indices 1 tree.above k → length before ≡ k →
-    get_or indices' 0 0 < length es → place ≡ length (flat before) + get_or indices' 0 0 → Stands path' indices' size tree place
-stands_in tree size path indices path' indices' path_is same size_is before number es after k place row_is number_is above before_is within place_is =
-    record {
-      leaf = record {
-        before = before;
-        entries = es;
-        after = after;
-        row_is = row_is ∙ ap (λ z. before ++ node z es ∷ after) (sym (ap (λ z. get_or z 0 0) path_is ∙ number_is));
-        within = within;
-        place_is = place_is;
-      };
-      above = subst (λ (z : ℕ). StandsAbove path' indices' 1 tree.above z) (sym before_is) (stands-same path indices path' indices' 1 tree.above k (λ i low. ap (λ z. get_or z i 0) path_is) (λ i low. same i (λ e. omega (arith, e, low))) above);
-      size_is = size_is;
-    }
+pub only : {K V : Type 0} {slots : List (Content K V)} {path indices : List ℕ} {level size : ℕ} {rows : List (List (LevelNode K ℕ))} {list : List (K × ℕ)} {place : ℕ} → Over slots path indices level size rows list place → level ≡ size → (place ≡ 0) × (suc place ≡ length list)
+only {rows = []} p e = (p.stands, omega (arith, p.stands, p.stacked))
+only {rows = row ∷ rows} p e = absurd (omega (arith, p.height, e))

@@ -4,7 +4,7 @@ use Rattle.bforest_core.proofs.Words.{get_or-set_other, nil_from_length, slice_g
 use Rattle.bforest_core.proofs.rows.LevelRows.{flat-append}
 use Rattle.bforest_core.proofs.table.Stored.{some_same}
 use Rattle.bforest_core.proofs.table.Tables.{row-split}
-use Rattle.bforest_core.proofs.walks.Downward.{Seen, seen, last_of, stacked_last, in_last}
+use Rattle.bforest_core.proofs.walks.Downward.{Seen, at_node, seen, last_of, stacked_last, in_last}
 
 -- but for this level a list is as before
 abbrev pub SameBut : ℕ → List ℕ → List ℕ → Type 0
@@ -24,14 +24,7 @@ flat_parted before n es l x r after is =
 
 -- a place at the node
 abbrev pub seen_at : {K X : Type 0} {half most : ℕ} {row : List (LevelNode K X)} {a : List (K × ℕ)} {first : K} {number : ℕ} {b : List (K × ℕ)} (at : Seen half most row a first number b) (n j index place : ℕ) → n ≡ number → j ≡ index → index ≤ length at.es → place ≡ length (flat at.before) + index → IsAt row n j place
-seen_at at n j index place n_is j_is within place_is = record {
-  before = at.before;
-  entries = at.e ∷ at.es;
-  after = at.after;
-  row_is = at.row_is ∙ ap (λ z. at.before ++ node z (at.e ∷ at.es) ∷ at.after) (sym n_is);
-  within = omega (arith, j_is, within);
-  place_is = place_is ∙ ap (λ z. length (flat at.before) + z) (sym j_is);
-}
+seen_at {row = row} {number = number} at n j index place n_is j_is within place_is = at_node row at.before number (at.e ∷ at.es) at.after n j index place at.row_is n_is j_is (omega (arith, within)) place_is
 
 pub record LeafUnder {K V : Type 0} (most : ℕ) (slots : List (Content K V)) (leaves : List (LevelNode K V)) (lower : List (List (LevelNode K ℕ))) (a : List (K × ℕ)) (first : K) (number : ℕ) (b : List (K × ℕ)) : Type 0 where
   pub lower_is : lower ≡ []
@@ -49,12 +42,6 @@ pub record InnerUnder {K V : Type 0} (most : ℕ) (slots : List (Content K V)) (
 
 seen_slot : {K V X : Type 0} (content : List (K × X) → Content K V) (slots : List (Content K V)) {half most : ℕ} {row : List (LevelNode K X)} {a : List (K × ℕ)} {first : K} {number : ℕ} {b : List (K × ℕ)} (at : Seen half most row a first number b) → RowIn content slots row → slice_get slots number ≡ Some (content (at.e ∷ at.es))
 seen_slot {K} {V} {X} content slots {number = number} at i = (row-split content slots at.before (node number (at.e ∷ at.es) ∷ at.after) (subst (λ (z : List (LevelNode K X)). RowIn content slots z) at.row_is i)).1.0
-
--- what the slot of a node with entries holds
-pub record Held {K V : Type 0} (slots : List (Content K V)) (number : ℕ) : Type 0 where
-  pub content : Content K V
-  pub slot_is : slice_get slots number ≡ Some content
-  pub some : 1 ≤ entry_count content
 
 module _ {K V : Type 0} (most : ℕ) (one : 1 ≤ half_of most) (slots : List (Content K V)) (leaves : List (LevelNode K V)) where
   pub node_under : (lower : List (List (LevelNode K ℕ))) (a : List (K × ℕ)) (first : K) (number : ℕ) (b : List (K × ℕ)) → Under most slots leaves lower (a ++ (first, number) ∷ b) → LeafUnder most slots leaves lower a first number b ⊎ InnerUnder most slots leaves lower a first number b
@@ -78,15 +65,12 @@ module _ {K V : Type 0} (most : ℕ) (one : 1 ≤ half_of most) (slots : List (C
       })
 
   module _ (lower : List (List (LevelNode K ℕ))) (a : List (K × ℕ)) (first : K) (number : ℕ) (b : List (K × ℕ)) (u : Under most slots leaves lower (a ++ (first, number) ∷ b)) where
-    pub node_held : Held slots number
-    node_held = elim (node_under lower a first number b u) [
-      | inl s ↦ record { content = leaf_content (s.at.e ∷ s.at.es); slot_is = s.slot_is; some = omega arith }
-      | inr s ↦ record { content = inner_content (s.at.e ∷ s.at.es); slot_is = s.slot_is; some = omega arith }
-    ]
+    -- its slot holds a node with entries
+    pub node_held : (content : Content K V) × (slice_get slots number ≡ Some content) × (1 ≤ entry_count content)
+    node_held = elim (node_under lower a first number b u) [ inl s ↦ (leaf_content (s.at.e ∷ s.at.es), s.slot_is, omega arith) | inr s ↦ (inner_content (s.at.e ∷ s.at.es), s.slot_is, omega arith) ]
 
-    -- it has a slot
     pub node_within : number < length slots
-    node_within = slice_get_within slots number node_held.content node_held.slot_is
+    node_within = slice_get_within slots number node_held.0 node_held.1
 
     same_inner : (c d : Content K V) → slice_get slots number ≡ Some c → slice_get slots number ≡ Some d → IsInner d → IsInner c
     same_inner c d e f i = subst IsInner (some_same d c (sym f ∙ e)) i

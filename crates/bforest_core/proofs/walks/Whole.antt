@@ -1,7 +1,7 @@
--- A whole tree as what lies under its root.
-use Rattle.std.proofs.Common.{◌≡◌, ℕ, suc, true, List, [], ◌∷◌, length, ap, arith}
+-- A whole tree as what lies under its root, and a path that was led down from there.
+use Rattle.std.proofs.Common.{◌≡◌, ℕ, suc, true, false, IsTrue, ◌<◌, List, [], ◌∷◌, length, get_or, ap, arith}
 use Rattle.std.specs.declared.cmp.Ordering.{Ordering}
-use Rattle.bforest_core.proofs.Words.{Content, place, is_present, LevelNode, flat, heads, Stacked, Tree, StandsAbove, Stands, root_above, StackedTo, StandsTo, Under, GoesThrough, Descended, Led, IsRooted, StandsFor}
+use Rattle.bforest_core.proofs.Words.{Content, place, is_present, LevelNode, flat, heads, Stacked, Tree, StandsAbove, Stands, root_above, StackedTo, StandsTo, Under, GoesThrough, Descended, Led, IsRooted, PlacedUnder, PointsAt, StandsUnder, is_root, tree_of}
 
 module _ {K : Type 0} where
   -- the root alone is the top
@@ -33,23 +33,17 @@ module _ {K V : Type 0} (most : ℕ) (slots : List (Content K V)) (root : ℕ) (
 pub all_through : {K : Type 0} (cmp : K → K → Ordering) (first key : K) → GoesThrough cmp [] first [] key
 all_through cmp first key = record { from = tt; upto = tt }
 
-module _ {K V : Type 0} (cmp : K → K → Ordering) (tree : Tree K V) (key : K) where
-  pub stands_for : (path indices path' indices' : List ℕ) (size : ℕ) → Descended cmp tree.leaves tree.above key 0 path indices path' indices' → size ≡ suc (length tree.above) → StandsFor cmp path' indices' size tree key
-  stands_for path indices path' indices' size d e =
-      record { leaf = d.leaf; above = stands_above path' indices' 1 tree.above (length d.leaf.before) d.stands; size_is = e }
+-- a path that points to an entry of its leaf stands on it
+pub stands-pointed : {K V : Type 0} {path indices : List ℕ} {size place : ℕ} {tree : Tree K V} (p : PointsAt path indices size tree place) → get_or indices 0 0 < length p.entries → Stands path indices size tree place
+stands-pointed p low = record { leaf = record { before = p.before; entries = p.entries; after = p.after; row_is = p.leaves_are; within = low; place_is = p.place_is }; above = p.above; size_is = p.size_is }
 
-  -- where the key is present, the path stands at its entry
-  pub stands_at : (path indices : List ℕ) (size : ℕ) → StandsFor cmp path indices size tree key → is_present cmp (flat tree.leaves) key ≡ true → Stands path indices size tree (place cmp (flat tree.leaves) key)
-  stands_at path indices size s here =
-      record {
-        leaf = record {
-          before = s.leaf.before;
-          entries = s.leaf.entries;
-          after = s.leaf.after;
-          row_is = s.leaf.row_is;
-          within = s.leaf.found here;
-          place_is = s.leaf.place_is;
-        };
-        above = s.above;
-        size_is = s.size_is;
-      }
+-- where a search under a root ended: at the key's entry where it is present, and else where the key comes in
+module _ {K V : Type 0} (cmp : K → K → Ordering) (slots : List (Content K V)) (root : ℕ) (is : IsTrue (is_root slots root)) {key : K} {path indices path' indices' : List ℕ} {size : ℕ} (d : Descended cmp (tree_of slots root).leaves (tree_of slots root).above key 0 path indices path' indices') (size_is : size ≡ suc (length (tree_of slots root).above)) where
+  abbrev points : PointsAt path' indices' size (tree_of slots root) (place cmp (flat (tree_of slots root).leaves) key)
+  points = record { before = d.leaf.before; entries = d.leaf.entries; after = d.leaf.after; leaves_are = d.leaf.row_is; within = d.leaf.within; place_is = d.leaf.place_is; above = stands_above path' indices' 1 (tree_of slots root).above (length d.leaf.before) d.stands; size_is = size_is }
+
+  pub stands-found : is_present cmp (flat (tree_of slots root).leaves) key ≡ true → StandsUnder slots root path' indices' size (place cmp (flat (tree_of slots root).leaves) key)
+  stands-found here = record { root_is = is; stands = stands-pointed points (d.leaf.found here) }
+
+  pub placed-found : is_present cmp (flat (tree_of slots root).leaves) key ≡ false → PlacedUnder slots root path' indices' size (place cmp (flat (tree_of slots root).leaves) key)
+  placed-found none = record { root_is = is; at = record { points = points; first = d.leaf.first none } }

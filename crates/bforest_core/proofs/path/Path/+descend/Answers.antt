@@ -1,7 +1,6 @@
-use Rattle.std.proofs.Common.{rules, ◌-◌, ◌<◌, ◌∷◌, get_or, sym, ap, ◌∙◌, arith}
-use Rattle.bforest_core.proofs.Words.{get_or-set_same, place}
-use Rattle.bforest_core.proofs.walks.Descent.{some_leaf, leaf_step, inner_step, follow_asks, below, leaf_value, landed, passed}
-use Rattle.bforest_core.proofs.walks.TopNode.{leaf_at, inner_at, set_but}
+use Rattle.std.proofs.Common.{rules, ◌∷◌, sym, ◌∙◌, arith}
+use Rattle.bforest_core.proofs.walks.Descent.{some_leaf, leaf_step, inner_step, follow_asks, below, landed, passed}
+use Rattle.bforest_core.proofs.walks.TopNode.{leaf_at, inner_at}
 use Rattle.bforest_core.proofs.path.Path.+descend.Goals as goal
 
 pub search_leaf-requires : goal.search_leaf-requires
@@ -13,18 +12,7 @@ search_leaf-requires g t c =
 pub returns-then-level-eq0-clause-descended : goal.returns-then-level-eq0-clause-descended
 returns-then-level-eq0-clause-descended g t c = λ leaves lower a first b u inc through level_is.
     let s = leaf_step (g.C.Comparator.order c.args.comp.now) (g.met.C.Comparator.total c.args.comp.now) g.row.N (some_leaf _ c.requires.capacity) c.args.pool.now.nodes leaves lower a first c.args.node b c.args.key inc through (leaf_at g.row.N (some_leaf _ c.requires.capacity) c.args.pool.now.nodes leaves lower a first c.args.node b u (sym level_is ∙ c.if-level-eq0.true)) in
-    let ms = c.args.self.now.node in
-    let js = c.args.self.now.entry in
-    let p = place (g.C.Comparator.order c.args.comp.now) (s.here.at.e ∷ s.here.at.es) c.args.key in
-    let node_is = c.search_leaf.ensures.node in
-    let entry_is = c.search_leaf.ensures.entry (s.here.at.e ∷ s.here.at.es) s.here.slot_is in (
-      c.search_leaf.ensures.value (s.here.at.e ∷ s.here.at.es) s.here.slot_is ∙ sym (leaf_value (g.C.Comparator.order c.args.comp.now) (g.met.C.Comparator.total c.args.comp.now) g.row.N (some_leaf _ c.requires.capacity) c.args.pool.now.nodes leaves lower a first c.args.node b c.args.key s),
-      landed (g.C.Comparator.order c.args.comp.now) (g.met.C.Comparator.total c.args.comp.now) g.row.N (some_leaf _ c.requires.capacity) c.args.pool.now.nodes leaves lower a first c.args.node b c.args.key s ms js c.search_leaf.new.self.node c.search_leaf.new.self.entry
-          (ap (λ z. get_or z 0 0) node_is ∙ get_or-set_same ms 0 c.args.node 0 (omega arith))
-          (ap (λ z. get_or z 0 0) entry_is ∙ get_or-set_same js 0 p 0 (omega arith))
-          (set_but ms _ 0 _ node_is)
-          (set_but js _ 0 _ entry_is),
-    )
+    landed (g.C.Comparator.order c.args.comp.now) (g.met.C.Comparator.total c.args.comp.now) g.row.N (some_leaf _ c.requires.capacity) c.args.pool.now.nodes leaves lower a first c.args.node b c.args.key s c.args.self.now.node c.args.self.now.entry _ _ _ (omega arith) (omega arith) c.search_leaf.ensures.node (c.search_leaf.ensures.entry (s.here.at.e ∷ s.here.at.es) s.here.slot_is) (c.search_leaf.ensures.value (s.here.at.e ∷ s.here.at.es) s.here.slot_is)
 
 pub follow-index-requires : goal.follow-index-requires
 follow-index-requires g t c =
@@ -37,21 +25,12 @@ descend-requires g t c κs within =
     let w = c.requires.under in
     let s = inner_step (g.C.Comparator.order c.args.comp.now) (g.met.C.Comparator.total c.args.comp.now) g.row.N (some_leaf _ c.requires.capacity) c.args.pool.now.nodes w.0 w.1 w.2 w.3 c.args.node w.4 c.args.key w.6 w.7 (inner_at g.row.N (some_leaf _ c.requires.capacity) c.args.pool.now.nodes w.0 w.1 w.2 w.3 c.args.node w.4 w.5 (λ z. c.if-level-eq0.false (w.8 ∙ z))) in
     let d = below (g.C.Comparator.order c.args.comp.now) (g.met.C.Comparator.total c.args.comp.now) g.row.N (some_leaf _ c.requires.capacity) c.args.pool.now.nodes w.0 w.1 w.2 w.3 c.args.node w.4 c.args.key s c.follow-index.result.0 c.follow-index.result.1 c.follow-index.ensures.index c.follow-index.ensures.child in
-    let less : c.args.level - 1 < t = omega (arith, c.decreases, w.8, s.here.count_is) in
-    (less, (within.0, (within.1.0, ((λ a m. search rules), (within.1.1, (search rules, (search rules, (c.requires.capacity, (omega (arith, c.requires.height), (w.0, s.here.rows, d.front, d.head, d.back, d.under, w.6, d.through, omega (arith, w.8, s.here.count_is)))))))))))
+    (omega (arith, c.decreases, w.8, s.here.count_is), (within.0, (within.1.0, ((λ a m. search rules), (within.1.1, (search rules, (search rules, (c.requires.capacity, (omega (arith, c.requires.height), (w.0, s.here.rows, d.front, d.head, d.back, d.under, w.6, d.through, omega (arith, w.8, s.here.count_is)))))))))))
 
 pub returns-clause-descended : goal.returns-clause-descended
 returns-clause-descended g t c = λ leaves lower a first b u inc through level_is.
     let s = inner_step (g.C.Comparator.order c.args.comp.now) (g.met.C.Comparator.total c.args.comp.now) g.row.N (some_leaf _ c.requires.capacity) c.args.pool.now.nodes leaves lower a first c.args.node b c.args.key inc through (inner_at g.row.N (some_leaf _ c.requires.capacity) c.args.pool.now.nodes leaves lower a first c.args.node b u (λ z. c.if-level-eq0.false (level_is ∙ z))) in
-    let index = c.follow-index.result.0 in
-    let d = below (g.C.Comparator.order c.args.comp.now) (g.met.C.Comparator.total c.args.comp.now) g.row.N (some_leaf _ c.requires.capacity) c.args.pool.now.nodes leaves lower a first c.args.node b c.args.key s index c.follow-index.result.1 c.follow-index.ensures.index c.follow-index.ensures.child in
+    let d = below (g.C.Comparator.order c.args.comp.now) (g.met.C.Comparator.total c.args.comp.now) g.row.N (some_leaf _ c.requires.capacity) c.args.pool.now.nodes leaves lower a first c.args.node b c.args.key s c.follow-index.result.0 c.follow-index.result.1 c.follow-index.ensures.index c.follow-index.ensures.child in
     let r = c.descend.ensures.descended leaves s.here.rows d.front d.head d.back d.under inc d.through (omega (arith, level_is, s.here.count_is)) in
-    let ms = c.args.self.now.node in
-    let js = c.args.self.now.entry in (
-      r.0,
-      passed (g.C.Comparator.order c.args.comp.now) (g.met.C.Comparator.total c.args.comp.now) g.row.N (some_leaf _ c.requires.capacity) c.args.pool.now.nodes leaves lower a first c.args.node b c.args.key s index c.follow-index.result.1 d ms js c.set_level.new.self.node c.set_level.new.self.entry c.descend.new.self.node c.descend.new.self.entry c.args.level level_is r.1
-          c.set_level.ensures.here.0
-          c.set_level.ensures.here.1
-          (set_but ms _ c.args.level _ c.set_level.ensures.node)
-          (set_but js _ c.args.level _ c.set_level.ensures.entry),
-    )
+    let set = c.set_level.ensures in
+    (r.0, passed (g.C.Comparator.order c.args.comp.now) (g.met.C.Comparator.total c.args.comp.now) g.row.N (some_leaf _ c.requires.capacity) c.args.pool.now.nodes leaves lower a first c.args.node b c.args.key s _ _ d _ _ _ _ _ _ c.args.level level_is r.1 set.here.0 set.here.1 set.node set.entry)

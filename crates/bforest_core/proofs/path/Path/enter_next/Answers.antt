@@ -21,30 +21,18 @@ moved g c rows a x y b p =
     let yes = must_move c.args.pool.now s0.node s0.entry (suc c.args.level) s0.size rows a x y b c.next_node-moved.result (λ no. c.next_node-moved.ensures.last no rows (a ++ x ∷ y ∷ b) (length a) o) in
     c.next_node-moved.ensures.moved yes rows (a ++ x ∷ y ∷ b) (length a) o
 
-pub returns-clause-first : goal.returns-clause-first
-returns-clause-first g c = get_or-set_same c.next_node-moved.new.self.entry c.args.level 0 0 (omega (arith, c.requires.pending.5.height, c.requires.height))
-
-pub returns-clause-size : goal.returns-clause-size
-returns-clause-size g c = c.next_node-moved.ensures.size
-
-pub returns-clause-moved : goal.returns-clause-moved
-returns-clause-moved g c = λ rows a x y b p.
-    let s0 = c.args.self.now in
-    let s1 = c.next_node-moved.new.self in
-    entered_next c.args.pool.now s0.node s0.entry s1.node s1.entry (set s1.entry c.args.level 0) c.args.level s0.size rows a x y b p (moved g c rows a x y b p) (λ i high. get_or-set_other s1.entry c.args.level i 0 0 (λ same. omega (arith, same, high)))
-
-pub returns-clause-nodes_below : goal.returns-clause-nodes_below
-returns-clause-nodes_below g c = let w = c.requires.pending in (moved g c w.0 w.1 w.2 w.3 w.4 w.5).nodes_below
-
-pub returns-clause-entries_below : goal.returns-clause-entries_below
-returns-clause-entries_below g c = λ below low.
-    let w = c.requires.pending in
-    get_or-set_other c.next_node-moved.new.self.entry c.args.level below 0 0 (λ same. omega (arith, same, low)) ∙ (moved g c w.0 w.1 w.2 w.3 w.4 w.5).entries_below below (omega (arith, low))
-
-pub returns-clause-same_top : goal.returns-clause-same_top
-returns-clause-same_top g c =
+pub returns : goal.returns
+returns g c =
     let w = c.requires.pending in
     let s0 = c.args.self.now in
     let s1 = c.next_node-moved.new.self in
-    let e = entered_next c.args.pool.now s0.node s0.entry s1.node s1.entry s1.entry c.args.level s0.size w.0 w.1 w.2 w.3 w.4 w.5 (moved g c w.0 w.1 w.2 w.3 w.4 w.5) (λ i high. refl) in
-    top-same c.args.pool.now s0.node s0.entry s1.node s1.entry (suc c.args.level) s0.size w.0 (w.1 ++ w.2 ∷ w.3 ∷ w.4) (length w.1) (suc (length w.1)) w.5 e.0 (above_two c.args.pool.now s0.node s0.entry (suc c.args.level) s0.size w.0 w.1 w.2 w.3 w.4 (length w.1) w.5)
+    let m = moved g c w.0 w.1 w.2 w.3 w.4 w.5 in
+    let e = entered_next c.args.pool.now s0.node s0.entry s1.node s1.entry s1.entry c.args.level s0.size w.0 w.1 w.2 w.3 w.4 w.5 m (λ i high. refl) in
+    record {
+      moved = λ rows a x y b p. entered_next c.args.pool.now s0.node s0.entry s1.node s1.entry (set s1.entry c.args.level 0) c.args.level s0.size rows a x y b p (moved g c rows a x y b p) (λ i high. get_or-set_other s1.entry c.args.level i 0 0 (λ same. omega (arith, same, high)));
+      first = get_or-set_same s1.entry c.args.level 0 0 (omega (arith, w.5.height, c.requires.height));
+      nodes_below = m.nodes_below;
+      entries_below = λ below low. get_or-set_other s1.entry c.args.level below 0 0 (λ same. omega (arith, same, low)) ∙ m.entries_below below (omega (arith, low));
+      same_top = top-same c.args.pool.now s0.node s0.entry s1.node s1.entry (suc c.args.level) s0.size w.0 (w.1 ++ w.2 ∷ w.3 ∷ w.4) (length w.1) (suc (length w.1)) w.5 e.0 (above_two c.args.pool.now s0.node s0.entry (suc c.args.level) s0.size w.0 w.1 w.2 w.3 w.4 (length w.1) w.5);
+      size = c.next_node-moved.ensures.size;
+    }

@@ -9,16 +9,12 @@ entry_here-requires g c =
     let at = c.requires.stands (λ e. omega (arith, e, c.if-self-gt0.true)) in
     (search rules, (search rules, here-leaf c.args.pool.now at.root c.args.self.now at.place c.requires.union at.on))
 
-pub returns-else-self-gt0 : goal.returns-else-self-gt0
-returns-else-self-gt0 g c = record {
-  value = λ at.
-      let end = at_end c.args.self.now.node c.args.self.now.entry (tree_of c.args.pool.now.nodes at.root) at.place c.args.self.now.size (omega (arith, c.if-self-gt0.false)) at.at.at in
-      sym (slice_get_past (list_under c.args.pool.now at.root) at.place (omega (arith, end)));
-  end = search rules;
-}
+pub returns-else-self-gt0-clause-value : goal.returns-else-self-gt0-clause-value
+returns-else-self-gt0-clause-value g c = λ at.
+    sym (slice_get_past (list_under c.args.pool.now at.root) at.place (omega (arith, at_end c.args.self.now.node c.args.self.now.entry (tree_of c.args.pool.now.nodes at.root) at.place c.args.self.now.size (omega (arith, c.if-self-gt0.false)) at.at.at)))
 
-pub returns-then-self-gt0 : goal.returns-then-self-gt0
-returns-then-self-gt0 g c = record {
-  value = λ at. sym (here-entry c.args.pool.now at.root c.args.self.now at.place c.requires.union (some-on c.args.pool.now at.root c.args.self.now at.place at.at c.if-self-gt0.true) c.entry_here.result c.entry_here.ensures);
-  end = λ none. absurd (omega (arith, none, c.if-self-gt0.true));
-}
+pub returns-then-self-gt0-clause-value : goal.returns-then-self-gt0-clause-value
+returns-then-self-gt0-clause-value g c = λ at. sym (here-entry c.args.pool.now at.root c.args.self.now at.place c.requires.union (some-on c.args.pool.now at.root c.args.self.now at.place at.at c.if-self-gt0.true) c.entry_here.result c.entry_here.ensures)
+
+pub returns-then-self-gt0-clause-end : goal.returns-then-self-gt0-clause-end
+returns-then-self-gt0-clause-end g c = λ none. absurd (omega (arith, none, c.if-self-gt0.true))

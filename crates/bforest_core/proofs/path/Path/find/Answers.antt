@@ -1,9 +1,7 @@
 use Rattle.std.proofs.Common.{rules, ◌≡◌, ℕ, suc, ◌-◌, [], length, arith}
-use Rattle.bforest_core.proofs.Words.{length-map, value_for, Descended, Tree, flat, sizes, sizes_of, tree_of}
-use Rattle.bforest_core.proofs.walks.Sought.{placed-for, stands-under}
-use Rattle.bforest_core.proofs.walks.Whole.{all_through, stands_for}
+use Rattle.bforest_core.proofs.Words.{length-map, Tree, sizes, sizes_of, tree_of}
+use Rattle.bforest_core.proofs.walks.Whole.{all_through, placed-found, stands-found}
 use Rattle.bforest_core.proofs.walks.Standing.{under-root}
-use Rattle.bforest_core.proofs.path.Path.find.Given.{Over}
 use Rattle.bforest_core.proofs.path.Path.find.Goals as goal
 
 -- the level of the root
@@ -25,24 +23,11 @@ descend-requires g c =
     let levels_is = top_is tree _ c.levels-levels.ensures.value in
     (search rules, (search rules, (c.requires.union.1.capacity, (omega (arith, levels_is, u.low), (tree.leaves, tree.above, [], u.first, [], u.under, c.requires.increasing, all_through order _ c.args.key, levels_is)))))
 
--- what the way down leaves
-found : (g : Over) (c : goal.After-descend g) → (c.descend.result ≡ value_for (g.C.Comparator.order c.args.comp.now) (flat (tree_of c.args.pool.now.nodes c.args.root).leaves) c.args.key) × Descended (g.C.Comparator.order c.args.comp.now) (tree_of c.args.pool.now.nodes c.args.root).leaves (tree_of c.args.pool.now.nodes c.args.root).above c.args.key 0 c.args.self.now.node c.args.self.now.entry c.descend.new.self.node c.descend.new.self.entry
-found g c =
+pub returns : goal.returns
+returns g c =
+    let order = g.C.Comparator.order c.args.comp.now in
     let tree = tree_of c.args.pool.now.nodes c.args.root in
     let u = under-root g.row.N c.args.pool.now c.args.root c.requires.union c.requires.root in
-    c.descend.ensures.descended tree.leaves tree.above [] u.first [] u.under c.requires.increasing (all_through (g.C.Comparator.order c.args.comp.now) _ c.args.key) (top_is tree _ c.levels-levels.ensures.value)
-
-pub returns-clause-value : goal.returns-clause-value
-returns-clause-value g c = (found g c).0
-
-pub returns-clause-present : goal.returns-clause-present
-returns-clause-present g c = λ here.
-    let order = g.C.Comparator.order c.args.comp.now in
-    let tree = tree_of c.args.pool.now.nodes c.args.root in
-    stands-under order c.args.pool.now.nodes c.args.root _ _ _ c.args.key c.requires.root (stands_for order tree c.args.key _ _ _ _ _ (found g c).1 (size_is tree _ _ c.levels-levels.ensures.value c.descend.ensures.size)) here
-
-pub returns-clause-absent : goal.returns-clause-absent
-returns-clause-absent g c = λ here.
-    let order = g.C.Comparator.order c.args.comp.now in
-    let tree = tree_of c.args.pool.now.nodes c.args.root in
-    placed-for order c.args.pool.now.nodes c.args.root _ _ _ c.args.key c.requires.root (stands_for order tree c.args.key _ _ _ _ _ (found g c).1 (size_is tree _ _ c.levels-levels.ensures.value c.descend.ensures.size)) here
+    let d = c.descend.ensures.descended tree.leaves tree.above [] u.first [] u.under c.requires.increasing (all_through order _ c.args.key) (top_is tree _ c.levels-levels.ensures.value) in
+    let levels = size_is tree _ _ c.levels-levels.ensures.value c.descend.ensures.size in
+    record { value = d.0; present = stands-found order c.args.pool.now.nodes c.args.root c.requires.root d.1 levels; absent = placed-found order c.args.pool.now.nodes c.args.root c.requires.root d.1 levels }

@@ -1,20 +1,14 @@
 use Rattle.std.proofs.Common.{rules, subst, arith, ℕ}
 use Rattle.bforest_core.specs.Paths.{StandsOn}
 use Rattle.bforest_core.proofs.walks.Nearby.{here-entry}
-use Rattle.bforest_core.proofs.path.Path.first.Given.{Over}
 use Rattle.bforest_core.proofs.path.Path.first.Goals as goal
-
--- the path stands on the first entry
-on : (g : Over) (c : goal.After-entry_here g) → StandsOn c.args.pool.now c.args.root c.first_leaf.new.self 0
-on g c = subst (λ (z : ℕ). StandsOn c.args.pool.now c.args.root c.first_leaf.new.self z) (omega (arith, c.first_leaf.ensures.index)) c.first_leaf.ensures.stands.1.on
 
 pub entry_here-requires : goal.entry_here-requires
 entry_here-requires g c =
     let leaf = c.first_leaf.ensures.stands in
     (search rules, (search rules, (leaf.0, leaf.1.leaf, leaf.1.within)))
 
-pub returns-clause-value : goal.returns-clause-value
-returns-clause-value g c = here-entry c.args.pool.now c.args.root c.first_leaf.new.self 0 c.requires.union (on g c) c.entry_here.result c.entry_here.ensures
-
-pub returns-clause-stands : goal.returns-clause-stands
-returns-clause-stands g c = on g c
+pub returns : goal.returns
+returns g c =
+    let on = subst (λ (z : ℕ). StandsOn c.args.pool.now c.args.root c.first_leaf.new.self z) (omega (arith, c.first_leaf.ensures.index)) c.first_leaf.ensures.stands.1.on in
+    record { value = here-entry c.args.pool.now c.args.root c.first_leaf.new.self 0 c.requires.union on c.entry_here.result c.entry_here.ensures; stands = on }

@@ -1,18 +1,15 @@
-use Rattle.std.proofs.Common.{rules, ◌≡◌, length, get_or, ◌∙◌, arith}
-use Rattle.bforest_core.proofs.Words.{lt-ltb, ltb-true, get_or_default, inner_content}
+use Rattle.std.proofs.Common.{rules, refl, ◌∙◌, arith}
+use Rattle.bforest_core.proofs.Words.{lt-ltb, ltb-true, inner_content}
 use Rattle.bforest_core.proofs.table.Stored.{item_count}
+use Rattle.bforest_core.proofs.walks.Steps.{at_index}
 use Rattle.bforest_core.proofs.path.Path.has_child.Goals as goal
 
 pub entries-requires : goal.entries-requires
-entries-requires g c =
-    let w = c.requires.inner in
-    let here : get_or c.args.self.now.node c.args.level c.index-self-level.result ≡ get_or c.args.self.now.node c.args.level 0 = get_or_default c.args.self.now.node c.args.level c.index-self-level.result 0 (omega (arith, c.requires.within)) in
-    (search rules, (inner_content w.0, rw here w.1, λ free. free))
+entries-requires g c = (search rules, (inner_content c.requires.inner.0, at_index _ c.args.self.now.node c.index-self-level.result (omega (arith, c.requires.within)) refl c.requires.inner.1, λ free. free))
 
 pub returns-clause-within : goal.returns-clause-within
 returns-clause-within g c = λ entries slot.
-    let here : get_or c.args.self.now.node c.args.level c.index-self-level.result ≡ get_or c.args.self.now.node c.args.level 0 = get_or_default c.args.self.now.node c.args.level c.index-self-level.result 0 (omega (arith, c.requires.within)) in
-    let count : c.entries.result ≡ length entries = c.entries.ensures.value (inner_content entries) (rw here slot) ∙ item_count entries in
+    let count = c.entries.ensures.value (inner_content entries) (at_index _ c.args.self.now.node c.index-self-level.result (omega (arith, c.requires.within)) refl slot) ∙ item_count entries in
     (λ yes. omega (arith, count, ltb-true c.args.index c.entries.result yes), λ low. lt-ltb c.args.index c.entries.result (omega (arith, count, low)))
 
 pub returns-clause-most : goal.returns-clause-most
