@@ -60,7 +60,7 @@ module _ {K V : Type 0} where
 
   -- a free slot names none
   no_children : (content : Content K V) → IsFree content → children_of content ≡ []
-  no_children content f = nil_from_length (children_of content) (sym (childless content (λ inner. inner_used content inner f)))
+  no_children content f = nil_from_length (children_of content) (sym (childless content (λ inner. (inner_used content inner).0 f)))
 
   -- and is no node
   pub free-unused : (content : Content K V) → IsFree content → is_used content ≡ false
