@@ -1,5 +1,5 @@
 -- Bounds on leaves, on levels and on nodes.
-use Rattle.std.proofs.Common.{◌≡◌, ℕ, suc, ◌+◌, ◌*◌, ◌^◌, ◌≤◌, ◌<◌, ◌-◌, nat_lt, true, false, Option, Some, None, List, [], ◌∷◌, ◌++◌, map, length, refl, sym, ap, ◌∙◌, inl, inr, subst, length-append, arith}
+use Rattle.std.proofs.Common.{◌≡◌, ℕ, suc, ◌+◌, ◌*◌, ◌^◌, ◌≤◌, ◌<◌, ◌-◌, nat_lt, true, false, Option, Some, None, List, [], ◌∷◌, ◌++◌, map, length, refl, sym, ap, ◌∙◌, inl, inr, subst, length-append, arith, nat_le}
 use Rattle.bforest_core.proofs.Words.{cases_lt, length-map, LevelNode, node, flat, heads, sizes, FitRow, Stacked, Topped, inner_gain, gain_above}
 use Rattle.std.proofs.Math.Nat.{mul-le-mul_left, pow-succ'}
 use Rattle.bforest_core.proofs.walks.Steps.{fit_full}
@@ -59,6 +59,13 @@ below_lt a b h = grind arith
 -- one not below it
 pub above_lt : (a b : ℕ) → b ≤ a → nat_lt a b ≡ false
 above_lt a b h = grind arith
+
+-- the same of a number that is at most another
+pub upto_le : (a b : ℕ) → a ≤ b → nat_le a b ≡ true
+upto_le a b h = grind arith
+
+pub past_le : (a b : ℕ) → b < a → nat_le a b ≡ false
+past_le a b h = grind arith
 
 -- a node with room stays one
 none_small : (p s : ℕ) → s < 8 → (inner_gain p (s ∷ [])).0 ≡ None

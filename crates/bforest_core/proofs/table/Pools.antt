@@ -3,7 +3,7 @@ use Rattle.std.proofs.Common.{◌≡◌, ℕ, ◌+◌, ◌-◌, ◌<◌, ◌≤�
 use Rattle.bforest_core.proofs.Words.{list_any, IsDistinct, IsSome, length-append, IsDistinct-tail, IsDistinct-head, length-le_from_distinct_below, Content, Free, IsLeafCapacity, next_of, chain_from, IsChain, IsPool, Table, IsUsed}
 use Rattle.bforest_core.proofs.Words.{down_from, front_of, front_of_new, fresh_nodes, or_parts, with_node, without_front, with_front}
 use Rattle.std.proofs.lemmas.Bool.{eqb-false}
-use Rattle.bforest_core.proofs.table.Chains.{none_apart, IsDistinct-front, length-fresh_nodes, length-down_from, chain_from-is, length-chain_from-none, IsChain-set, IsChain-below, IsChain-fresh, IsChain-freed, IsDistinct-fresh}
+use Rattle.bforest_core.proofs.table.Chains.{none_apart, IsDistinct-front, length-fresh_nodes, length-down_from, chain_from-is, IsChain-set, IsChain-below, IsChain-fresh, IsChain-freed, IsDistinct-fresh}
 
 module _ {K V : Type 0} where
   -- a chain, of so many different free nodes, makes a pool, and is the one that is met
@@ -64,7 +64,8 @@ module _ {K V : Type 0} where
 
   -- where nodes lie free, there is a first
   pub first_some : (n : ℕ) (nodes : List (Content K V)) (first : Option ℕ) (free limit : ℕ) → 0 < free → IsPool n nodes first free limit → IsSome first
-  first_some n nodes None free limit some pool = absurd (omega (arith, pool.counted, length-chain_from-none nodes free))
+  first_some n nodes None zero limit some pool = absurd (omega (arith, some))
+  first_some n nodes None (suc count) limit some pool = absurd (omega (arith, pool.counted))
   first_some n nodes (Some node) free limit some pool = refl
 
   -- the front of the chain is a free node
