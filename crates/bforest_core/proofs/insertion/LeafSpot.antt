@@ -179,9 +179,7 @@ module _ {K V : Type 0} where
       let len : length es ≡ suc (length old) = omega (arith, length-append d.l (entry ∷ d.r), length-append d.l d.r) in
       let none2 : count n (flat_map numbers above.rows') ≡ 0 = ap (λ z. count n z) above.numbers_are ∙ d.none_rows in
       let c0 = λ (m : ℕ). ap (λ z. count m (numbers z ++ flat_map numbers tree.above)) d.leaves_are in
-      let c1 = λ (m : ℕ). ap (λ z. count m z) above.numbers_are in
       let c2 = λ (m : ℕ). counts m d.before n old d.after tree.above t.chain in
-      let c3 = λ (m : ℕ). counts m d.before n es d.after above.rows' u.chain in
       let g = room_gain most t ms js tree place d room in
       let fit' : IsFit most (record { leaves = row2; above = above.rows' }) = record { leaves_fit = FitRow-put (half_of most) most d.before d.after n old es len room d.fit.leaves_fit; stacked = above.stacked; topped = above.topped } in
       let stands : Stands ms js size (record { leaves = row2; above = above.rows' }) place = record {
@@ -201,7 +199,7 @@ module _ {K V : Type 0} where
           rows_in = rows-same t.nodes u.nodes above.rows' (λ m some. w.same m (ne_from_count m n (flat_map numbers above.rows') some none2)) above.inside;
         };
         stands = stands;
-        numbers_are = λ m. omega (arith, c0 m, c1 m, c2 m, c3 m);
+        numbers_are = λ m. omega (arith, c0 m, ap (λ z. count m z) above.numbers_are, c2 m, counts m d.before n es d.after above.rows' u.chain);
         taken_is = sym (ap (λ z. need_above z.0 (map sizes tree.above)) g);
         others = λ m z. w.same m (absent_ne m n (numbers d.after) (omega (arith, z, c0 m, c2 m)));
         chain_is = sym w.chain_is;

@@ -52,8 +52,7 @@ module _ {K V : Type 0} where
   -- where a slot is used, fewer nodes lie free than there are slots
   pub free_below : (n : ℕ) (nodes : List (Content K V)) (first : Option ℕ) (free limit at : ℕ) → at < length nodes → list_any (nat_eq at) (chain_from nodes free first) ≡ false → IsPool n nodes first free limit → free < length nodes
   free_below n nodes first free limit at within off pool =
-      let freed = IsPool-freed n nodes first free limit at within off pool in
-      omega (arith, free_within n _ _ _ _ freed.0, length-set nodes at (Free first))
+      omega (arith, free_within n _ _ _ _ (IsPool-freed n nodes first free limit at within off pool).0, length-set nodes at (Free first))
 
   -- new slots, all in front
   pub IsPool-grown : (n : ℕ) (nodes : List (Content K V)) (first : Option ℕ) (free limit count total : ℕ) → total ≡ count + free → length nodes + count ≤ limit → IsPool n nodes first free limit → IsPool n (nodes ++ fresh_nodes (length nodes) count first) (front_of_new (length nodes) count first) total limit × (chain_from (nodes ++ fresh_nodes (length nodes) count first) total (front_of_new (length nodes) count first) ≡ down_from (length nodes) count ++ chain_from nodes free first)
