@@ -63,8 +63,7 @@ module _ {K V : Type 0} where
   -- and has at least one level and at most 17
   pub under-low : (most : ℕ) (table : Table K V) (root place : ℕ) (path indices : List ℕ) (size : ℕ) → IsUnion most table → PlacedUnder table.nodes root path indices size place → (0 < size) × (size ≤ 17)
   under-low most table root place path indices size union p =
-      let r = rooted most table root union p.root_is in
-      (omega (arith, p.at.points.size_is), omega (arith, p.at.points.size_is, r.low))
+      (omega (arith, p.at.points.size_is), omega (arith, p.at.points.size_is, (rooted most table root union p.root_is).low))
 
   -- all that an insertion says of the table and of the path
   pub record Insertion (most : ℕ) (old new : Table K V) (root root' place : ℕ) (entry : K × V) (path' indices' : List ℕ) (size' : ℕ) : Type 0 where

@@ -1,5 +1,5 @@
 -- The leaves after one of them was halved, and the tree after the levels above took the right half in.
-use Rattle.std.proofs.Common.{◌≡◌, ℕ, suc, ◌+◌, ◌-◌, ◌≤◌, ◌<◌, ◌≢◌, Bool, if◌then◌else◌, List, ◌∷◌, ◌++◌, map, length, insert, get_or, slice_get, Option, Some, sym, ap, ◌∙◌, subst, length-append, arith, [], refl}
+use Rattle.std.proofs.Common.{◌≡◌, ℕ, suc, ◌+◌, ◌-◌, ◌≤◌, ◌<◌, ◌≢◌, Bool, if◌then◌else◌, List, ◌∷◌, ◌++◌, map, length, get_or, slice_get, Option, Some, sym, ap, ◌∙◌, subst, length-append, arith, [], refl}
 use Rattle.bforest_core.proofs.Words.{flat_map, length-map, IsLeafCapacity, Table, LevelNode, node, flat, head_of, heads, sizes, numbers, Stacked, Topped, Tree, IsFit, half_of, leaf_gain, gain_above, need_above, leaf_content, count, IsAt}
 use Rattle.bforest_core.proofs.Words.{StandsAbove, Stands, Placed, LeafHalved, Inserted, Grown}
 use Rattle.bforest_core.proofs.rows.LevelRows.{heads-append, sizes-append, FitRow-split}
@@ -26,7 +26,6 @@ module _ {K V : Type 0} where
   leaf_parted most t u ms js ms' js' size tree place entry middle right moved capacity p d full h far_m far_j solid_full stands =
       let n = get_or ms 0 0 in
       let es : List (K × V) = d.l ++ d.r in
-      let row : List (LevelNode K V) = d.before ++ node n es ∷ d.after in
       let up = renewed most t ms js size tree place entry (omega (arith, capacity.least, capacity.odd)) p d in
       let few : half_of most ≤ most = omega (arith, capacity.least, capacity.odd) in
       let nums = λ (m : ℕ). ap (λ z. count m z) up.numbers_are in
@@ -50,7 +49,7 @@ module _ {K V : Type 0} where
         leaves_were = d.leaves_are;
         key_is = h.middle_is;
         flat_is = flat-halved d.before d.after n right (h.z ∷ h.xs) (h.y ∷ h.ys) ∙ ap (λ z. flat d.before ++ (z ++ flat d.after)) (sym h.grown_is)
-            ∙ sym (insert_flat d.before n d.l d.r d.after entry) ∙ ap (λ z. insert (flat row) z entry) (sym d.place_is) ∙ ap (λ z. insert (flat z) place entry) (sym d.leaves_are);
+            ∙ sym (insert_flat d.before n d.l d.r d.after entry) ∙ rw (d.leaves_are, d.place_is) refl;
         fit = FitRow-halved (half_of most) most d.before d.after n right es (h.z ∷ h.xs) (h.y ∷ h.ys) (omega (arith, capacity.least)) d.fit.leaves_fit (omega (arith, h.left_is)) (omega (arith, h.left_is, few)) (omega (arith, h.right_is)) (omega (arith, h.right_is, few));
         inside = row-changed leaf_content t.nodes u.nodes d.before (node n es ∷ []) (node n (h.z ∷ h.xs) ∷ node right (h.y ∷ h.ys) ∷ []) d.after n right d.inside h.two.same (h.two.here, (h.two.there, tt)) d.none none_right;
         gain_is = full_gain most t ms js tree place d full ∙ rw (solid_full, sizes-append d.before (node n (h.z ∷ h.xs) ∷ node right (h.y ∷ h.ys) ∷ d.after), h.left_is, h.right_is) refl;

@@ -173,7 +173,6 @@ module _ {K V : Type 0} where
       let n = get_or ms 0 0 in
       let old : List (K × V) = d.l ++ d.r in
       let es : List (K × V) = d.l ++ entry ∷ d.r in
-      let row : List (LevelNode K V) = d.before ++ node n old ∷ d.after in
       let row2 : List (LevelNode K V) = d.before ++ node n es ∷ d.after in
       let above = renewed most t ms js size tree place entry (omega (arith, room)) p d in
       let len : length es ≡ suc (length old) = omega (arith, length-append d.l (entry ∷ d.r), length-append d.l d.r) in
@@ -190,7 +189,7 @@ module _ {K V : Type 0} where
       record {
         tree' = record { leaves = row2; above = above.rows' };
         taken = [];
-        flat_is = flat-append d.before _ ∙ sym (insert_flat d.before n d.l d.r d.after entry) ∙ ap (λ z. insert (flat row) z entry) (sym d.place_is) ∙ ap (λ z. insert (flat z) place entry) (sym d.leaves_are);
+        flat_is = flat-append d.before _ ∙ sym (insert_flat d.before n d.l d.r d.after entry) ∙ rw (d.leaves_are, d.place_is) refl;
         sizes_are = ap (λ z. z ∷ map sizes above.rows') (sizes-append d.before (node n es ∷ d.after) ∙ ap (λ z. sizes d.before ++ z ∷ sizes d.after) len) ∙ ap (λ z. (sizes d.before ++ suc (length old) ∷ sizes d.after) ∷ z) above.sizes_are
             ∙ sym (ap (λ z. z.1 ∷ gain_above z.0 (map sizes tree.above)) g);
         fit = fit';
