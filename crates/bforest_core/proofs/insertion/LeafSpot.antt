@@ -64,10 +64,8 @@ module _ {K V : Type 0} (slots : List (Content K V)) (ms js : List ℕ) where
         stacked = (ap (λ z. rekey key z) s.0, s.1, r.stacked);
         topped = (omega (arith, t.0, length_rekey key list), r.topped);
         inside = (i.0, r.inside);
-        stands = λ place st. (
-          let a = at_rekey key (node n (e ∷ es) ∷ row) _ _ place st.0.before st.0.entries st.0.after st.0.row_is st.0.within st.0.place_is in
-          (a.0, subst (λ (z : ℕ). StandsAbove ms js (suc up) r.rows' z) (sym a.1) (r.stands (length st.0.before) st.1))
-        );
+        stands = λ place st. (let a = at_rekey key (node n (e ∷ es) ∷ row) _ _ place st.0.before st.0.entries st.0.after st.0.row_is st.0.within st.0.place_is in
+            (a.0, subst (λ (z : ℕ). StandsAbove ms js (suc up) r.rows' z) (sym a.1) (r.stands (length st.0.before) st.1)));
         sizes_are = ap (λ z. (suc (length es) ∷ sizes row) ∷ z) r.sizes_are;
         numbers_are = ap (λ z. (n ∷ numbers row) ++ z) r.numbers_are;
       }
