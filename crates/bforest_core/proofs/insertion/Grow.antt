@@ -1,7 +1,7 @@
 -- One entry more in a row: where its node has room, and where it is halved.
-use Rattle.std.proofs.Common.{◌≡◌, ◌⊎◌, nat_le, ◌/◌, ℕ, suc, ◌+◌, ◌-◌, ◌≤◌, ◌<◌, nat_lt, if◌then◌else◌, Bool, true, false, Option, Some, None, List, [], ◌∷◌, ◌++◌, length, refl, sym, ap, ◌∙◌, inl, inr, append_assoc, length-append, arith}
+use Rattle.std.proofs.Common.{◌≡◌, ◌⊎◌, ◌/◌, ℕ, suc, ◌+◌, ◌-◌, ◌≤◌, ◌<◌, nat_lt, if◌then◌else◌, Bool, true, false, Option, Some, None, List, [], ◌∷◌, ◌++◌, length, refl, sym, ap, ◌∙◌, inl, inr, append_assoc, length-append, arith}
 use Rattle.bforest_core.proofs.Words.{append-nil, LevelNode, node, flat, head_of, heads, sizes, FitRow, inner_gain, past, leaf_gain, IsAt}
-use Rattle.bforest_core.proofs.rows.Bounds.{below_lt, above_lt}
+use Rattle.bforest_core.proofs.rows.Bounds.{below_lt, above_lt, upto_le, past_le}
 use Rattle.bforest_core.proofs.rows.LevelRows.{flat-append, sizes-append, least-le, FitRow-split, FitRow-join, heads-append}
 
 -- one element more
@@ -102,16 +102,14 @@ module _ {K X : Type 0} where
 
   -- an insertion into a leaf, at its front only in the first one
   leaf_behind : (most : ℕ) (before : List (LevelNode K X)) (s e : ℕ) (after : List ℕ) → (before ≡ []) ⊎ (1 ≤ e) → leaf_gain most (length (flat before) + e) (sizes before ++ s ∷ after) ≡ behind before (leaf_gain most e (s ∷ after))
-  leaf_behind most before s e after at = change_behind (leaf_gain most) 1 (λ size p rest high. (let a : nat_le p size ≡ false = grind arith in rw a refl)) before e (s ∷ after) at
+  leaf_behind most before s e after at = change_behind (leaf_gain most) 1 (λ size p rest high. (let a = past_le p size (omega (arith, high)) in rw a refl)) before e (s ∷ after) at
 
   -- the sizes of the leaves with one more entry, in a leaf with room
   pub leaf_room : (most : ℕ) (before : List (LevelNode K X)) (s e : ℕ) (after : List ℕ) → e ≤ s → (before ≡ []) ⊎ (1 ≤ e) → s < most → leaf_gain most (length (flat before) + e) (sizes before ++ s ∷ after) ≡ (None, sizes before ++ suc s ∷ after)
   leaf_room most before s e after low at room =
-      let a : nat_le e s ≡ true = grind arith in
-      rw (leaf_behind most before s e after at, a, below_lt s most room) (behind_none before (suc s ∷ after))
+      rw (leaf_behind most before s e after at, upto_le e s low, below_lt s most room) (behind_none before (suc s ∷ after))
 
   -- in a full leaf
   pub leaf_full : (most : ℕ) (before : List (LevelNode K X)) (s e : ℕ) (after : List ℕ) → e ≤ s → (before ≡ []) ⊎ (1 ≤ e) → s ≡ most → leaf_gain most (length (flat before) + e) (sizes before ++ s ∷ after) ≡ (Some (length before), sizes before ++ (most + 1) / 2 ∷ (most + 1) / 2 ∷ after)
   leaf_full most before s e after low at full =
-      let a : nat_le e s ≡ true = grind arith in
-      rw (leaf_behind most before s e after at, a, above_lt s most (omega (arith, full))) (behind_some before ((most + 1) / 2 ∷ (most + 1) / 2 ∷ after))
+      rw (leaf_behind most before s e after at, upto_le e s low, above_lt s most (omega (arith, full))) (behind_some before ((most + 1) / 2 ∷ (most + 1) / 2 ∷ after))

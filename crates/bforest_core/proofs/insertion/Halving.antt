@@ -1,8 +1,8 @@
 -- A full node that is halved, with a new entry in one half.
-use Rattle.std.proofs.Common.{◌≡◌, ℕ, suc, ◌+◌, ◌-◌, ◌/◌, ◌≤◌, ◌<◌, ◌≢◌, nat_le, true, false, if◌then◌else◌, List, [], ◌∷◌, ◌++◌, length, slice_get, Some, refl, sym, ap, ◌∙◌, subst, append_assoc, length-append, length-set, arith, IsTrue, ◌↔◌, Bool}
+use Rattle.std.proofs.Common.{◌≡◌, ℕ, suc, ◌+◌, ◌-◌, ◌≤◌, ◌<◌, ◌≢◌, true, false, if◌then◌else◌, List, [], ◌∷◌, ◌++◌, length, slice_get, Some, refl, sym, ap, ◌∙◌, subst, append_assoc, length-append, length-set, arith, IsTrue, ◌↔◌, Bool}
 use Rattle.bforest_nodes.specs.declared.node.SplitOff.{SplitOff}
 use Rattle.bforest_core.proofs.Words.{Content, IsCut, left_half, Table, with_node, with_front, front_of, IsUsed, IsFullAt, IsSplitAt, head_of, inner_content, leaf_content, count, false≢true}
-use Rattle.bforest_core.proofs.table.Tables.{Puts, count-same, is_used, puts, takes, length-with_front, with_node_here}
+use Rattle.bforest_core.proofs.table.Tables.{Puts, count-same, is_used, puts, takes, length-with_front, set_here}
 use Rattle.bforest_core.proofs.table.Stored.{Parts, inner_cuts, some_same, item_count}
 use Rattle.bforest_core.proofs.rows.Zipper.{cut}
 use Rattle.bforest_core.proofs.insertion.LeafSpot.{keys_count}
@@ -41,7 +41,7 @@ module _ {K V X : Type 0} (kind : List K → List X → Content K V) where
 
       -- where it did not there is none, and nothing changes
       pub put_past : put ≡ false → (¬ (size keys items < most)) × (u ≡ t)
-      put_past none = (λ fewer. false≢true (sym none ∙ (has keys items slot_is).1 fewer), (rw none at (wrote keys items slot_is)) ∙ with_node_here t number (kind keys items) slot_is)
+      put_past none = (λ fewer. false≢true (sym none ∙ (has keys items slot_is).1 fewer), (rw none at (wrote keys items slot_is)) ∙ ap (λ z. record t { nodes = z }) (set_here t.nodes number (kind keys items) slot_is))
 
 -- two ways to cut one list
 between : {A : Type 0} (p q l r : List A) → p ++ q ≡ l ++ r → length l ≤ length p → (mid : List A) × (p ≡ l ++ mid) × (r ≡ mid ++ q)
@@ -52,13 +52,6 @@ between (y ∷ p) q (z ∷ l) r e low =
     let t : p ++ q ≡ l ++ r = cc in
     let w = between p q l r t (omega arith) in
     (w.0, ap (λ v. v ∷ p) h ∙ ap (λ v. z ∷ v) w.1, w.2)
-
--- how many entries stay in the left half
-pub stay_low : (cap e : ℕ) → e ≤ cap / 2 → (if nat_le e (cap / 2) then cap / 2 else (cap + 1) / 2) ≡ cap / 2
-stay_low cap e h = let a : nat_le e (cap / 2) ≡ true = grind arith in rw a refl
-
-pub stay_high : (cap e : ℕ) → cap / 2 < e → (if nat_le e (cap / 2) then cap / 2 else (cap + 1) / 2) ≡ (cap + 1) / 2
-stay_high cap e h = let a : nat_le e (cap / 2) ≡ false = grind arith in rw a refl
 
 module _ {K V X : Type 0} (content : List (K × X) → Content K V) where
   -- two nodes, of which the right one is in what was the front of the chain

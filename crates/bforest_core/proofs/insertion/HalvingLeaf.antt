@@ -3,12 +3,13 @@ use Rattle.std.proofs.Common.{◌≡◌, ℕ, ◌+◌, ◌-◌, ◌/◌, nat_le,
 use Rattle.bforest_core.proofs.Words.{get_or_default, get_or-set_same, get_or-set_other, Leaf, IsLeafCapacity, with_entry, Table, IsUsed, IsFullAt, IsSplitAt, front_of, with_node, Tree, heads, half_of, leaf_content, entry_keys, Placed}
 use Rattle.bforest_core.proofs.Words.{Inserted, LeafHalved}
 use Rattle.bforest_nodes.specs.declared.node.SplitOff.{SplitOff}
+use Rattle.bforest_core.proofs.rows.Bounds.{past_le, upto_le}
 use Rattle.bforest_core.proofs.rows.LevelRows.{Solid-full}
 use Rattle.bforest_core.proofs.table.Tables.{is_used, puts}
 use Rattle.bforest_core.proofs.table.Stored.{leaf_cuts, with_entry_is}
 use Rattle.bforest_core.proofs.insertion.Grow.{in_left, in_right}
 use Rattle.bforest_core.proofs.insertion.LeafSpot.{LeafSpot, leaf_spot, put_leaf, keys_count}
-use Rattle.bforest_core.proofs.insertion.Halving.{Split, leaf_full_is, counted, split_at, stay_low, stay_high, left_used, into_left, into_right, middle_key, PutAsks, HasRoom, Written, asks_put, put_fewer, put_in, put_past}
+use Rattle.bforest_core.proofs.insertion.Halving.{Split, leaf_full_is, counted, split_at, left_used, into_left, into_right, middle_key, PutAsks, HasRoom, Written, asks_put, put_fewer, put_in, put_past}
 use Rattle.bforest_core.proofs.insertion.LeafParted.{leaf_parted}
 
 module _ {K V : Type 0} where
@@ -61,7 +62,7 @@ module _ {K V : Type 0} where
 
         module _ (low : get_or js 0 0 ≤ cap / 2) where
           low_is : parts.lhs_entries ≡ cap / 2
-          low_is = left_count ∙ stay_low cap (get_or js 0 0) low
+          low_is = rw (upto_le (get_or js 0 0) (cap / 2) low) at left_count
 
           low_cut : Split leaf_content t s (get_or ms 0 0) right parts.lhs_entries (d.l ++ d.r) parts.crit_key
           low_cut = let q = low_is in let f = full_is in cut (omega (arith, capacity.least, capacity.odd))
@@ -81,7 +82,7 @@ module _ {K V : Type 0} where
 
         module _ (high : cap / 2 < get_or js 0 0) where
           high_is : parts.lhs_entries ≡ half_of cap
-          high_is = left_count ∙ stay_high cap (get_or js 0 0) high
+          high_is = rw (past_le (get_or js 0 0) (cap / 2) high) at left_count
 
           pub late_within : parts.lhs_entries ≤ get_or js 0 0
           late_within = let q = high_is in omega (arith, capacity.least, capacity.odd)

@@ -28,7 +28,6 @@ module _ {K V : Type 0} where
       let ab = d.whole in
       let c = λ (m : ℕ). counts m q.before n es q.after q.rest t.chain in
       let c4 = λ (m : ℕ). ap (λ z. count m z) h.two.chain_is in
-      let c5 = λ (m : ℕ). count-append m (flat_map numbers q.rest) u.chain in
       let same_right = count-same right u.chain in
       let none_right : count right (numbers q.before) + count right (numbers q.after) ≡ 0 = omega (arith, ab.apart right, c right, c4 right, same_right) in
       let none_right_rest : count right (flat_map numbers q.rest) ≡ 0 = omega (arith, ab.apart right, c right, c4 right, same_right) in
@@ -58,7 +57,7 @@ module _ {K V : Type 0} where
           inside = rows-same t.nodes u.nodes q.rest (λ m some. h.two.same m (ne_from_count m n (flat_map numbers q.rest) some d.f.none_rest) (ne_from_count m right (flat_map numbers q.rest) some none_right_rest)) ab.inside.1;
           stands = stands-same ms js ms' js' (suc up) q.rest (length (heads q.before)) (λ i high. far_m i (λ (e : i ≡ up). omega (arith, e, high))) (λ i high. far_j i (λ (e : i ≡ up). omega (arith, e, high))) q.stands;
           height = omega (arith, ab.height);
-          apart = λ m. omega (arith, ab.apart m, c m, c4 m, c5 m);
+          apart = λ m. omega (arith, ab.apart m, c m, c4 m, count-append m (flat_map numbers q.rest) u.chain);
         };
         at = at.0;
         at_is = at.1;

@@ -52,8 +52,7 @@ module _ {K V : Type 0} where
   growth-low most table root place union is slots =
       let r = rooted most table root union is in
       let tree = tree_of table.nodes root in
-      let few : length (heads tree.leaves) < 2 ^ 32 = omega (arith, leaves_within most table root tree r, slots) in
-      omega (arith, gain-low (leaf_gain most place (sizes tree.leaves)).0 (heads tree.leaves) tree.above r.fit.stacked r.fit.topped few r.low)
+      omega (arith, gain-low (leaf_gain most place (sizes tree.leaves)).0 (heads tree.leaves) tree.above r.fit.stacked r.fit.topped (omega (arith, leaves_within most table root tree r, slots)) r.low)
 
   -- a path under a root is at a place of its tree, which lies in the table
   pub placed-under : (most : ℕ) (table : Table K V) (root place : ℕ) (path indices : List ℕ) (size : ℕ) → IsUnion most table → PlacedUnder table.nodes root path indices size place → Placed most table path indices size (tree_of table.nodes root) place
@@ -64,8 +63,7 @@ module _ {K V : Type 0} where
   -- and has at least one level and at most 17
   pub under-low : (most : ℕ) (table : Table K V) (root place : ℕ) (path indices : List ℕ) (size : ℕ) → IsUnion most table → PlacedUnder table.nodes root path indices size place → (0 < size) × (size ≤ 17)
   under-low most table root place path indices size union p =
-      let r = rooted most table root union p.root_is in
-      (omega (arith, p.at.points.size_is), omega (arith, p.at.points.size_is, r.low))
+      (omega (arith, p.at.points.size_is), omega (arith, p.at.points.size_is, (rooted most table root union p.root_is).low))
 
   -- all that an insertion says of the table and of the path
   pub record Insertion (most : ℕ) (old new : Table K V) (root root' place : ℕ) (entry : K × V) (path' indices' : List ℕ) (size' : ℕ) : Type 0 where

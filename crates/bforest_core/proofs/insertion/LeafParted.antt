@@ -1,5 +1,5 @@
 -- The leaves after one of them was halved, and the tree after the levels above took the right half in.
-use Rattle.std.proofs.Common.{◌≡◌, ℕ, suc, ◌+◌, ◌-◌, ◌≤◌, ◌<◌, ◌≢◌, Bool, if◌then◌else◌, List, ◌∷◌, ◌++◌, map, length, insert, get_or, slice_get, Option, Some, sym, ap, ◌∙◌, subst, length-append, arith, [], refl}
+use Rattle.std.proofs.Common.{◌≡◌, ℕ, suc, ◌+◌, ◌-◌, ◌≤◌, ◌<◌, ◌≢◌, Bool, if◌then◌else◌, List, ◌∷◌, ◌++◌, map, length, get_or, slice_get, Option, Some, sym, ap, ◌∙◌, subst, length-append, arith, [], refl}
 use Rattle.bforest_core.proofs.Words.{flat_map, length-map, IsLeafCapacity, Table, LevelNode, node, flat, head_of, heads, sizes, numbers, Stacked, Topped, Tree, IsFit, half_of, leaf_gain, gain_above, need_above, leaf_content, count, IsAt}
 use Rattle.bforest_core.proofs.Words.{StandsAbove, Stands, Placed, LeafHalved, Inserted, Grown}
 use Rattle.bforest_core.proofs.rows.LevelRows.{heads-append, sizes-append, FitRow-split}
@@ -26,13 +26,11 @@ module _ {K V : Type 0} where
   leaf_parted most t u ms js ms' js' size tree place entry middle right moved capacity p d full h far_m far_j solid_full stands =
       let n = get_or ms 0 0 in
       let es : List (K × V) = d.l ++ d.r in
-      let row : List (LevelNode K V) = d.before ++ node n es ∷ d.after in
       let up = renewed most t ms js size tree place entry (omega (arith, capacity.least, capacity.odd)) p d in
       let few : half_of most ≤ most = omega (arith, capacity.least, capacity.odd) in
       let nums = λ (m : ℕ). ap (λ z. count m z) up.numbers_are in
       let c = λ (m : ℕ). counts m d.before n es d.after tree.above t.chain in
       let c4 = λ (m : ℕ). ap (λ z. count m z) h.two.chain_is in
-      let c5 = λ (m : ℕ). count-append m (flat_map numbers up.rows') u.chain in
       let same_right = count-same right u.chain in
       let none_right : count right (numbers d.before) + count right (numbers d.after) ≡ 0 = omega (arith, d.apart right, c right, c4 right, same_right) in
       let none_right_rows : count right (flat_map numbers up.rows') ≡ 0 = omega (arith, d.apart right, c right, c4 right, same_right, nums right) in
@@ -51,7 +49,7 @@ module _ {K V : Type 0} where
         leaves_were = d.leaves_are;
         key_is = h.middle_is;
         flat_is = flat-halved d.before d.after n right (h.z ∷ h.xs) (h.y ∷ h.ys) ∙ ap (λ z. flat d.before ++ (z ++ flat d.after)) (sym h.grown_is)
-            ∙ sym (insert_flat d.before n d.l d.r d.after entry) ∙ ap (λ z. insert (flat row) z entry) (sym d.place_is) ∙ ap (λ z. insert (flat z) place entry) (sym d.leaves_are);
+            ∙ sym (insert_flat d.before n d.l d.r d.after entry) ∙ rw (d.leaves_are, d.place_is) refl;
         fit = FitRow-halved (half_of most) most d.before d.after n right es (h.z ∷ h.xs) (h.y ∷ h.ys) (omega (arith, capacity.least)) d.fit.leaves_fit (omega (arith, h.left_is)) (omega (arith, h.left_is, few)) (omega (arith, h.right_is)) (omega (arith, h.right_is, few));
         inside = row-changed leaf_content t.nodes u.nodes d.before (node n es ∷ []) (node n (h.z ∷ h.xs) ∷ node right (h.y ∷ h.ys) ∷ []) d.after n right d.inside h.two.same (h.two.here, (h.two.there, tt)) d.none none_right;
         gain_is = full_gain most t ms js tree place d full ∙ rw (solid_full, sizes-append d.before (node n (h.z ∷ h.xs) ∷ node right (h.y ∷ h.ys) ∷ d.after), h.left_is, h.right_is) refl;
@@ -61,7 +59,7 @@ module _ {K V : Type 0} where
           stands = stands-same ms js ms' js' 1 up.rows' (length (heads d.before)) (λ i high. far_m i (λ (e : i ≡ 0). omega (arith, e, high))) (λ i high. far_j i (λ (e : i ≡ 0). omega (arith, e, high)))
               (subst (λ (z : ℕ). StandsAbove ms js 1 up.rows' z) (sym solid_full) (up.stands (length d.before) d.stands));
           height = omega (arith, p.at.points.size_is, rows_count tree.above up.rows' up.sizes_are);
-          apart = λ m. omega (arith, d.apart m, c m, c4 m, c5 m, nums m);
+          apart = λ m. omega (arith, d.apart m, c m, c4 m, count-append m (flat_map numbers up.rows') u.chain, nums m);
         };
         topped = subst (λ (z : List (K × ℕ)). Topped z up.rows') hs0 up.topped;
         sizes_above = up.sizes_are;
@@ -96,10 +94,8 @@ module _ {K V : Type 0} where
       let c2 = λ (m : ℕ). counts m h.before n h.entries h.after tree.above t.chain in
       let c4 = λ (m : ℕ). counts m h.before n (h.first ∷ h.others) (node right (h.next ∷ h.more) ∷ h.after) g.rows' v.chain in
       let chain_is : t.chain ≡ right ∷ (taken ++ v.chain) = h.chain_is ∙ ap (λ z. right ∷ z) g.chain_is in
-      let c7 = λ (m : ℕ). ap (λ z. count m z) chain_is in
-      let c8 = λ (m : ℕ). count-append m taken v.chain in
       let hs = heads-halved h.before h.after n right h.first h.others h.next h.more key h.key_is in
-      let quiet : (m : ℕ) → 0 < count m (numbers row2) → slice_get v.nodes m ≡ slice_get u.nodes m = λ m some. g.others m (omega (arith, some, p.apart m, leaves_m m, rows_m m, c m, c2 m, c4 m, c7 m, c8 m)) in
+      let quiet : (m : ℕ) → 0 < count m (numbers row2) → slice_get v.nodes m ≡ slice_get u.nodes m = λ m some. g.others m (omega (arith, some, p.apart m, leaves_m m, rows_m m, c m, c2 m, c4 m, ap (λ z. count m z) chain_is, count-append m taken v.chain)) in
       let here_m = g.nodes_below 0 (omega arith) in
       let here_j = g.entries_below 0 (omega arith) in
       let at2 : IsAt row2 (get_or ms'' 0 0) (get_or js'' 0 0) place = record { before = h.at.before; entries = h.at.entries; after = h.at.after; row_is = rw here_m h.at.row_is; within = rw here_j h.at.within; place_is = rw here_j h.at.place_is } in

@@ -64,10 +64,8 @@ module _ {K V : Type 0} (slots : List (Content K V)) (ms js : List ℕ) where
         stacked = (ap (λ z. rekey key z) s.0, s.1, r.stacked);
         topped = (omega (arith, t.0, length_rekey key list), r.topped);
         inside = (i.0, r.inside);
-        stands = λ place st. (
-          let a = at_rekey key (node n (e ∷ es) ∷ row) _ _ place st.0.before st.0.entries st.0.after st.0.row_is st.0.within st.0.place_is in
-          (a.0, subst (λ (z : ℕ). StandsAbove ms js (suc up) r.rows' z) (sym a.1) (r.stands (length st.0.before) st.1))
-        );
+        stands = λ place st. (let a = at_rekey key (node n (e ∷ es) ∷ row) _ _ place st.0.before st.0.entries st.0.after st.0.row_is st.0.within st.0.place_is in
+            (a.0, subst (λ (z : ℕ). StandsAbove ms js (suc up) r.rows' z) (sym a.1) (r.stands (length st.0.before) st.1)));
         sizes_are = ap (λ z. (suc (length es) ∷ sizes row) ∷ z) r.sizes_are;
         numbers_are = ap (λ z. (n ∷ numbers row) ++ z) r.numbers_are;
       }
@@ -173,15 +171,12 @@ module _ {K V : Type 0} where
       let n = get_or ms 0 0 in
       let old : List (K × V) = d.l ++ d.r in
       let es : List (K × V) = d.l ++ entry ∷ d.r in
-      let row : List (LevelNode K V) = d.before ++ node n old ∷ d.after in
       let row2 : List (LevelNode K V) = d.before ++ node n es ∷ d.after in
       let above = renewed most t ms js size tree place entry (omega (arith, room)) p d in
       let len : length es ≡ suc (length old) = omega (arith, length-append d.l (entry ∷ d.r), length-append d.l d.r) in
       let none2 : count n (flat_map numbers above.rows') ≡ 0 = ap (λ z. count n z) above.numbers_are ∙ d.none_rows in
       let c0 = λ (m : ℕ). ap (λ z. count m (numbers z ++ flat_map numbers tree.above)) d.leaves_are in
-      let c1 = λ (m : ℕ). ap (λ z. count m z) above.numbers_are in
       let c2 = λ (m : ℕ). counts m d.before n old d.after tree.above t.chain in
-      let c3 = λ (m : ℕ). counts m d.before n es d.after above.rows' u.chain in
       let g = room_gain most t ms js tree place d room in
       let fit' : IsFit most (record { leaves = row2; above = above.rows' }) = record { leaves_fit = FitRow-put (half_of most) most d.before d.after n old es len room d.fit.leaves_fit; stacked = above.stacked; topped = above.topped } in
       let stands : Stands ms js size (record { leaves = row2; above = above.rows' }) place = record {
@@ -192,7 +187,7 @@ module _ {K V : Type 0} where
       record {
         tree' = record { leaves = row2; above = above.rows' };
         taken = [];
-        flat_is = flat-append d.before _ ∙ sym (insert_flat d.before n d.l d.r d.after entry) ∙ ap (λ z. insert (flat row) z entry) (sym d.place_is) ∙ ap (λ z. insert (flat z) place entry) (sym d.leaves_are);
+        flat_is = flat-append d.before _ ∙ sym (insert_flat d.before n d.l d.r d.after entry) ∙ rw (d.leaves_are, d.place_is) refl;
         sizes_are = ap (λ z. z ∷ map sizes above.rows') (sizes-append d.before (node n es ∷ d.after) ∙ ap (λ z. sizes d.before ++ z ∷ sizes d.after) len) ∙ ap (λ z. (sizes d.before ++ suc (length old) ∷ sizes d.after) ∷ z) above.sizes_are
             ∙ sym (ap (λ z. z.1 ∷ gain_above z.0 (map sizes tree.above)) g);
         fit = fit';
@@ -201,7 +196,7 @@ module _ {K V : Type 0} where
           rows_in = rows-same t.nodes u.nodes above.rows' (λ m some. w.same m (ne_from_count m n (flat_map numbers above.rows') some none2)) above.inside;
         };
         stands = stands;
-        numbers_are = λ m. omega (arith, c0 m, c1 m, c2 m, c3 m);
+        numbers_are = λ m. omega (arith, c0 m, ap (λ z. count m z) above.numbers_are, c2 m, counts m d.before n es d.after above.rows' u.chain);
         taken_is = sym (ap (λ z. need_above z.0 (map sizes tree.above)) g);
         others = λ m z. w.same m (absent_ne m n (numbers d.after) (omega (arith, z, c0 m, c2 m)));
         chain_is = sym w.chain_is;

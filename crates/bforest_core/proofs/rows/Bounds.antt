@@ -1,5 +1,5 @@
 -- Bounds on leaves, on levels and on nodes.
-use Rattle.std.proofs.Common.{◌≡◌, ℕ, suc, ◌+◌, ◌*◌, ◌^◌, ◌≤◌, ◌<◌, ◌-◌, nat_lt, true, false, Option, Some, None, List, [], ◌∷◌, ◌++◌, map, length, refl, sym, ap, ◌∙◌, inl, inr, subst, length-append, arith}
+use Rattle.std.proofs.Common.{◌≡◌, ℕ, suc, ◌+◌, ◌*◌, ◌^◌, ◌≤◌, ◌<◌, ◌-◌, nat_lt, true, false, Option, Some, None, List, [], ◌∷◌, ◌++◌, map, length, refl, sym, ap, ◌∙◌, inl, inr, subst, length-append, arith, nat_le}
 use Rattle.bforest_core.proofs.Words.{cases_lt, length-map, LevelNode, node, flat, heads, sizes, FitRow, Stacked, Topped, inner_gain, gain_above}
 use Rattle.std.proofs.Math.Nat.{mul-le-mul_left, pow-succ'}
 use Rattle.bforest_core.proofs.walks.Steps.{fit_full}
@@ -8,28 +8,20 @@ use Rattle.bforest_core.proofs.walks.Steps.{fit_full}
 pub entries-many : {K X : Type 0} (half most : ℕ) → 1 ≤ half → (m : ℕ) (es : List (K × X)) (ns : List (LevelNode K X)) → FitRow half most (node m es ∷ ns) → half * length ns < length (flat (node m es ∷ ns))
 entries-many {K} {X} half most one m es [] f = let z : half * 0 ≡ 0 = omega arith in omega (arith, f.0, z, length-append es (flat {K = K} {X = X} []))
 entries-many half most one m es (node n fs ∷ ns) f =
-    let r = entries-many half most one n fs ns f.2 in
-    let z : half * suc (length ns) ≡ half * length ns + half = omega arith in
-    omega (arith, r, z, f.0, length-append es (fs ++ flat ns))
+    omega (arith, entries-many half most one n fs ns f.2, f.0, length-append es (fs ++ flat ns))
 
 -- the leaves are at most as many as half full ones would be, rounded up
 pub leaves-few : {K V : Type 0} (half most : ℕ) (leaves : List (LevelNode K V)) → 1 ≤ half → FitRow half most leaves → half * length leaves ≤ length (flat leaves) + (half - 1)
 leaves-few half most [] one f = let z : half * 0 ≡ 0 = omega arith in omega (arith, z)
 leaves-few half most (node m es ∷ ns) one f =
-    let r = entries-many half most one m es ns f in
-    let z : half * suc (length ns) ≡ half * length ns + half = omega arith in
-    omega (arith, r, z)
+    omega (arith, entries-many half most one m es ns f)
 
 -- the levels above a level with more than one node
 pub levels-few : {K : Type 0} (hs : List (K × ℕ)) (row : List (LevelNode K ℕ)) (rows : List (List (LevelNode K ℕ))) → Stacked hs (row ∷ rows) → Topped hs (row ∷ rows) → 4 ^ length rows < length hs
 levels-few hs row [] s t = omega (arith, t.0)
 levels-few hs [] (row2 ∷ rows) s t = let r = levels-few [] row2 rows s.2 t.1 in absurd (omega (arith, r))
 levels-few hs (node m es ∷ ns) (row2 ∷ rows) s t =
-    let r = levels-few (heads (node m es ∷ ns)) row2 rows s.2 t.1 in
-    let e = entries-many 4 8 (omega arith) m es ns s.1 in
-    let full : length (heads (node m es ∷ ns)) ≡ suc (length ns) = fit_full 4 8 (omega arith) (node m es ∷ ns) s.1 in
-    let p : 4 ^ suc (length rows) ≡ 4 * 4 ^ length rows = pow-succ' 4 (length rows) in
-    omega (arith, r, e, full, p, ap length s.0)
+    omega (arith, levels-few (heads (node m es ∷ ns)) row2 rows s.2 t.1, entries-many 4 8 (omega arith) m es ns s.1, fit_full 4 8 (omega arith) (node m es ∷ ns) s.1, pow-succ' 4 (length rows), ap length s.0)
 
 -- a tree with inner levels has more entries than this
 pub depth : {K V : Type 0} (half most : ℕ) → 1 ≤ half → (leaves : List (LevelNode K V)) (above : List (List (LevelNode K ℕ))) → FitRow half most leaves → Stacked (heads leaves) above → Topped (heads leaves) above → 1 ≤ length above → half * 4 ^ (length above - 1) < length (flat leaves)
@@ -37,8 +29,7 @@ depth half most one leaves [] f s t two = absurd (omega arith)
 depth half most one [] (row ∷ rows) f s t two = absurd (omega (arith, t.0))
 depth half most one (node m es ∷ ns) (row ∷ rows) f s t two =
     let e : length (row ∷ rows) - 1 ≡ length rows = omega arith in
-    let r = levels-few (heads (node m es ∷ ns)) row rows s t in
-    let p : half * 4 ^ length rows ≤ half * length ns = mul-le-mul_left half (omega (arith, r, fit_full half most one (node m es ∷ ns) f)) in
+    let p : half * 4 ^ length rows ≤ half * length ns = mul-le-mul_left half (omega (arith, levels-few (heads (node m es ∷ ns)) row rows s t, fit_full half most one (node m es ∷ ns) f)) in
     rw e (omega (arith, p, entries-many half most one m es ns f))
 
 -- one level more, at most
@@ -60,6 +51,13 @@ below_lt a b h = grind arith
 pub above_lt : (a b : ℕ) → b ≤ a → nat_lt a b ≡ false
 above_lt a b h = grind arith
 
+-- the same of a number that is at most another
+pub upto_le : (a b : ℕ) → a ≤ b → nat_le a b ≡ true
+upto_le a b h = grind arith
+
+pub past_le : (a b : ℕ) → b < a → nat_le a b ≡ false
+past_le a b h = grind arith
+
 -- a node with room stays one
 none_small : (p s : ℕ) → s < 8 → (inner_gain p (s ∷ [])).0 ≡ None
 none_small p s room =
@@ -78,16 +76,12 @@ root_full p q (node m es ∷ n ∷ ns) one f e =
 risen : {K : Type 0} (p : ℕ) (hs : List (K × ℕ)) (row : List (LevelNode K ℕ)) (rows : List (List (LevelNode K ℕ))) → Stacked hs (row ∷ rows) → Topped hs (row ∷ rows) → length (gain_above (Some p) (map sizes (row ∷ rows))) ≡ suc (suc (length rows)) → 7 * 4 ^ length rows < length hs
 risen p hs row [] s t e =
     let g = some_grew (inner_gain p (sizes row)).0 [] (omega (arith, e)) in
-    let f = root_full p g.0 row s.2 s.1 g.1 in
-    omega (arith, f, ap length s.0)
+    omega (arith, root_full p g.0 row s.2 s.1 g.1, ap length s.0)
 risen p hs row (row2 ∷ rows) s t e =
-    let len : length (map sizes (row2 ∷ rows)) ≡ suc (length rows) = length-map (row2 ∷ rows) sizes in
-    let g = some_grew (inner_gain p (sizes row)).0 (map sizes (row2 ∷ rows)) (omega (arith, e, len)) in
+    let g = some_grew (inner_gain p (sizes row)).0 (map sizes (row2 ∷ rows)) (omega (arith, e, length-map (row2 ∷ rows) sizes)) in
     let up : length (gain_above (Some g.0) (map sizes (row2 ∷ rows))) ≡ suc (suc (length rows)) = ap (λ z. length (gain_above z (map sizes (row2 ∷ rows)))) (sym g.1) ∙ omega (arith, e) in
     let r = risen g.0 (heads row) row2 rows s.2 t.1 up in
-    let w = wide row s.1 (omega (arith, r)) in
-    let p4 : 4 ^ suc (length rows) ≡ 4 * 4 ^ length rows = pow-succ' 4 (length rows) in
-    omega (arith, r, w, p4, ap length s.0)
+    omega (arith, r, wide row s.1 (omega (arith, r)), pow-succ' 4 (length rows), ap length s.0)
   where
     wide : {K : Type 0} (row : List (LevelNode K ℕ)) → FitRow 4 8 row → 0 < length (heads row) → 4 * length (heads row) < length (flat row) + 4
     wide [] f some = absurd (omega (arith, some))

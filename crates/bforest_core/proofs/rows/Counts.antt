@@ -38,10 +38,6 @@ found-counts n (m ∷ ms) =
       | inr w ↦ (let e = w.0 in let r = found-counts n ms in (λ found. omega (arith, count-other n m ms w.1, r.0 (rw e at found)), λ some. rw e (r.1 (omega (arith, count-other n m ms w.1, some)))))
     ]
 
--- the sum over numbers, split at one
-sum-parts : (f : ℕ → ℕ) (xs : List ℕ) (x : ℕ) (ys : List ℕ) → sum_by f (xs ++ x ∷ ys) ≡ f x + sum_by f (xs ++ ys)
-sum-parts f xs x ys = omega (arith, sum_by-append f xs (x ∷ ys), sum_by-append f xs ys, sum_by-cons f x ys)
-
 -- lists in which each number stands as often have one sum
 pub sum-same : (f : ℕ → ℕ) (xs ys : List ℕ) → ((n : ℕ) → count n xs ≡ count n ys) → sum_by f xs ≡ sum_by f ys
 sum-same f [] [] same = refl
@@ -49,9 +45,7 @@ sum-same f [] (y ∷ ys) same = absurd (omega (arith, same y, count-same y ys))
 sum-same f (x ∷ xs) ys same =
     let s = standing x ys (omega (arith, same x, count-same x xs)) in
     let less : (n : ℕ) → count n xs ≡ count n (s.0 ++ s.1) = λ n. (let a = ap (λ z. count n z) s.2 in omega (arith, same n, a, count-append n s.0 (x ∷ s.1), count-append n s.0 s.1)) in
-    let ih = sum-same f xs (s.0 ++ s.1) less in
-    let a = ap (λ z. sum_by f z) s.2 in
-    omega (arith, ih, a, sum_by-cons f x xs, sum-parts f s.0 x s.1)
+    omega (arith, sum-same f xs (s.0 ++ s.1) less, ap (λ z. sum_by f z) s.2, sum_by-cons f x xs, sum_by-append f s.0 (x ∷ s.1), sum_by-append f s.0 s.1, sum_by-cons f x s.1)
 
 -- how often the numbers of a list name another
 count-named : (f : ℕ → List ℕ) (m : ℕ) (xs : List ℕ) → count m (flat_map f xs) ≡ sum_by (λ (x : ℕ). count m (f x)) xs

@@ -42,13 +42,9 @@ module _ {K V : Type 0} where
 
     -- the level above
     pub level_above : (rows : List (List (LevelNode K ℕ))) × (list : List (K × ℕ)) × (at : ℕ) × Above t ms js (up + 1) size rows list at
-    level_above = (level.rest, heads level.row, length level.before, rw (add-one up) (record {
-      stacked = level.over.stacked;
-      inside = level.over.inside;
-      stands = level.over.stands;
-      height = level.over.height;
-      apart = λ m. omega (arith, ab.apart m, ap (λ z. count m (flat_map numbers z ++ t.chain)) level.rows_are, count-append m (numbers level.row ++ flat_map numbers level.rest) t.chain, count-append m (numbers level.row) (flat_map numbers level.rest), count-append m (flat_map numbers level.rest) t.chain);
-    }))
+    level_above =
+        let above : Above t ms js (suc up) size level.rest (heads level.row) (length level.before) = record { stacked = level.over.stacked; inside = level.over.inside; stands = level.over.stands; height = level.over.height; apart = λ m. omega (arith, ab.apart m, ap (λ z. count m (flat_map numbers z ++ t.chain)) level.rows_are, count-append m (numbers level.row ++ flat_map numbers level.rest) t.chain, count-append m (numbers level.row) (flat_map numbers level.rest), count-append m (flat_map numbers level.rest) t.chain) } in
+        (level.rest, heads level.row, length level.before, rw (add-one up) above)
 
     module _ (content : Content K V) (read : slice_get t.nodes (get_or ms up r) ≡ Some content) where
       content_is : content ≡ inner_content level.entries

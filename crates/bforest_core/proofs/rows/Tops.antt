@@ -44,11 +44,8 @@ module _ {K V : Type 0} where
   -- and of one in which it points to a place
   pub root-points : (most : ℕ) (tree : Tree K V) (ms js : List ℕ) (size place : ℕ) → 1 ≤ most → IsFit most tree → PointsAt ms js size tree place → root_of tree ≡ top_of ms size
   root-points most tree ms js size place one fit at =
-      let n = get_or ms 0 0 in
-      let row = subst (λ (z : List (LevelNode K V)). FitRow (half_of most) most z) at.leaves_are fit.leaves_fit in
-      let f = FitRow-split (half_of most) most at.before (node n at.entries) at.after row in
-      let half : 1 ≤ half_of most = omega (arith, one) in
-      top_tree tree.leaves tree.above ms js size (length at.before) at.before at.entries at.after at.leaves_are (omega (arith, f.1.0, least-pos (half_of most) half at.after)) fit.stacked at.above at.size_is
+      let f = FitRow-split (half_of most) most at.before (node (get_or ms 0 0) at.entries) at.after (subst (λ (z : List (LevelNode K V)). FitRow (half_of most) most z) at.leaves_are fit.leaves_fit) in
+      top_tree tree.leaves tree.above ms js size (length at.before) at.before at.entries at.after at.leaves_are (omega (arith, f.1.0, least-pos (half_of most) (omega (arith, one)) at.after)) fit.stacked at.above at.size_is
 
   -- two paths through the same rows have one root
   pub top-same : (t : Table K V) (path indices path' indices' : List ℕ) (level size : ℕ) (rows : List (List (LevelNode K ℕ))) (list : List (K × ℕ)) (place place' : ℕ) → Above t path indices level size rows list place → Above t path' indices' level size rows list place' → level < size → top_of path' size ≡ top_of path size

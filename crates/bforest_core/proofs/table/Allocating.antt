@@ -1,5 +1,5 @@
 -- Taking a free node, and making sure that there are some, over plain values.
-use Rattle.std.proofs.Common.{◌≡◌, ◌↔◌, ℕ, ◌-◌, ◌≤◌, ◌<◌, List, length, length-set, append-nil, Some, Result, Err, IsErrAnd, sym, ap, ◌∙◌, arith, ◌+◌}
+use Rattle.std.proofs.Common.{◌≡◌, ◌↔◌, ℕ, ◌-◌, ◌≤◌, ◌<◌, List, length, length-set, append-nil, Some, Result, Err, IsErrAnd, sym, ap, ◌∙◌, arith, ◌+◌, refl}
 use Rattle.bforest_core.proofs.Words.{err_from_is_err_and, Content, Table, IsUsed, NeedsGrowth, room, reserved, front_of, with_node, with_front, without_front, free_count, length-append, down_from, slot_count}
 use Rattle.bforest_core.proofs.table.Pools.{with_front-is}
 use Rattle.bforest_core.proofs.table.Chains.{length-down_from}
@@ -33,35 +33,29 @@ module _ {K V : Type 0} where
 
   module _ (t : Table K V) (nodes : List (Content K V)) (chain : List ℕ) (free limit len n : ℕ) (view : record { nodes = nodes; chain = chain; limit = limit } ≡ t) (counted : length chain ≡ free) (len_is : len ≡ length nodes) where
     -- what the fields of a pool say of its table
-    free_is : length t.chain ≡ free
-    free_is = ap (λ z. length z.chain) (sym view) ∙ counted
-
-    limit_is : t.limit ≡ limit
-    limit_is = ap (λ z. z.limit) (sym view)
-
-    slots_are : length t.nodes ≡ len
-    slots_are = ap (λ z. length z.nodes) (sym view) ∙ sym len_is
+    fields_are : (length t.chain ≡ free) × (t.limit ≡ limit) × (length t.nodes ≡ len)
+    fields_are = rw (← view) (counted, refl, sym len_is)
 
     -- enough lie free
     pub has_room : n ≤ free → room t < n → ⊥
-    has_room enough short = omega (arith, free_is)
+    has_room enough short = omega (arith, fields_are.0)
 
     -- too few slots are allowed
     pub lacks_room : free < n → limit - len < n - free → room t < n
-    lacks_room scarce more = omega (arith, free_is, limit_is, slots_are)
+    lacks_room scarce more = omega (arith, fields_are.0, fields_are.1, fields_are.2)
 
     -- enough are
     pub finds_room : n - free ≤ limit - len → room t < n → ⊥
-    finds_room allowed short = omega (arith, free_is, limit_is, slots_are)
+    finds_room allowed short = omega (arith, fields_are.0, fields_are.1, fields_are.2)
 
     pub needs_growth : free < n → n - free ≤ limit - len → NeedsGrowth n t
-    needs_growth scarce allowed = record { scarce = omega (arith, free_is); allowed = omega (arith, free_is, limit_is, slots_are) }
+    needs_growth scarce allowed = record { scarce = omega (arith, fields_are.0); allowed = omega (arith, fields_are.0, fields_are.1, fields_are.2) }
 
     pub not_enough : free < n → n ≤ length t.chain → ⊥
-    not_enough scarce enough = omega (arith, free_is)
+    not_enough scarce enough = omega (arith, fields_are.0)
 
     pub stays_reserved : n ≤ free → t ≡ reserved t n
-    stays_reserved enough = sym (reserved-enough t n (omega (arith, free_is, enough)))
+    stays_reserved enough = sym (reserved-enough t n (omega (arith, fields_are.0, enough)))
 
   -- so few slots can be numbered
   pub few_slots : (t : Table K V) (nodes : List (Content K V)) (chain : List ℕ) (limit : ℕ) → record { nodes = nodes; chain = chain; limit = limit } ≡ t → length nodes ≤ limit → limit ≤ 4294967295 → length t.nodes ≤ 4294967295

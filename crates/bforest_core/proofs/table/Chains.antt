@@ -1,5 +1,5 @@
 -- Chains of free nodes: how each change of the slots keeps them.
-use Rattle.std.proofs.Common.{◌≡◌, inl, inr, ℕ, ◌+◌, ◌<◌, ◌≤◌, zero, suc, true, false, List, [], ◌∷◌, ◌++◌, length, set, nat_eq, Some, None, Option, refl, slice_get, sym, ap, ◌∙◌, subst, arith, append_assoc, append-nil}
+use Rattle.std.proofs.Common.{◌≡◌, inl, inr, ℕ, ◌+◌, ◌<◌, ◌≤◌, zero, suc, true, false, List, [], ◌∷◌, ◌++◌, length, set, nat_eq, Some, Option, refl, slice_get, sym, ap, ◌∙◌, subst, arith, append_assoc, append-nil}
 use Rattle.bforest_core.proofs.Words.{list_any, IsDistinct, AllByRecursion, length-append, length_push, slice_get_within, or_parts, eqb_tells, IsDistinct-cons, Content, Free, chain_from, IsChain, IsFreeAt, front_of, down_from, front_of_new}
 use Rattle.bforest_core.proofs.Words.{fresh_nodes, false_from_ne_true}
 use Rattle.std.proofs.lemmas.Bool.{eqb-false}
@@ -39,11 +39,6 @@ module _ {K V : Type 0} where
   chain_from-is nodes [] first linked = refl
   chain_from-is nodes (node ∷ rest) first linked =
       rw (linked.1, linked.2) (ap (λ ns. node ∷ ns) (chain_from-is nodes rest linked.0 linked.3))
-
-  -- from no number on, no number is met
-  pub length-chain_from-none : (nodes : List (Content K V)) (count : ℕ) → length (chain_from nodes count None) ≡ 0
-  length-chain_from-none nodes zero = refl
-  length-chain_from-none nodes (suc count) = refl
 
   -- the front of the chain is the number that it begins at
   pub front_of-is : (nodes : List (Content K V)) (chain : List ℕ) (first : Option ℕ) → IsChain nodes chain first → front_of chain ≡ first

@@ -3,7 +3,7 @@ use Rattle.std.proofs.Common.{◌≡◌, ℕ, ◌+◌, ◌-◌, ◌<◌, ◌≤�
 use Rattle.bforest_core.proofs.Words.{list_any, IsDistinct, IsSome, length-append, IsDistinct-tail, IsDistinct-head, length-le_from_distinct_below, Content, Free, IsLeafCapacity, next_of, chain_from, IsChain, IsPool, Table, IsUsed}
 use Rattle.bforest_core.proofs.Words.{down_from, front_of, front_of_new, fresh_nodes, or_parts, with_node, without_front, with_front}
 use Rattle.std.proofs.lemmas.Bool.{eqb-false}
-use Rattle.bforest_core.proofs.table.Chains.{none_apart, IsDistinct-front, length-fresh_nodes, length-down_from, chain_from-is, length-chain_from-none, IsChain-set, IsChain-below, IsChain-fresh, IsChain-freed, IsDistinct-fresh}
+use Rattle.bforest_core.proofs.table.Chains.{none_apart, IsDistinct-front, length-fresh_nodes, length-down_from, chain_from-is, IsChain-set, IsChain-below, IsChain-fresh, IsChain-freed, IsDistinct-fresh}
 
 module _ {K V : Type 0} where
   -- a chain, of so many different free nodes, makes a pool, and is the one that is met
@@ -52,8 +52,7 @@ module _ {K V : Type 0} where
   -- where a slot is used, fewer nodes lie free than there are slots
   pub free_below : (n : ℕ) (nodes : List (Content K V)) (first : Option ℕ) (free limit at : ℕ) → at < length nodes → list_any (nat_eq at) (chain_from nodes free first) ≡ false → IsPool n nodes first free limit → free < length nodes
   free_below n nodes first free limit at within off pool =
-      let freed = IsPool-freed n nodes first free limit at within off pool in
-      omega (arith, free_within n _ _ _ _ freed.0, length-set nodes at (Free first))
+      omega (arith, free_within n _ _ _ _ (IsPool-freed n nodes first free limit at within off pool).0, length-set nodes at (Free first))
 
   -- new slots, all in front
   pub IsPool-grown : (n : ℕ) (nodes : List (Content K V)) (first : Option ℕ) (free limit count total : ℕ) → total ≡ count + free → length nodes + count ≤ limit → IsPool n nodes first free limit → IsPool n (nodes ++ fresh_nodes (length nodes) count first) (front_of_new (length nodes) count first) total limit × (chain_from (nodes ++ fresh_nodes (length nodes) count first) total (front_of_new (length nodes) count first) ≡ down_from (length nodes) count ++ chain_from nodes free first)
@@ -64,7 +63,8 @@ module _ {K V : Type 0} where
 
   -- where nodes lie free, there is a first
   pub first_some : (n : ℕ) (nodes : List (Content K V)) (first : Option ℕ) (free limit : ℕ) → 0 < free → IsPool n nodes first free limit → IsSome first
-  first_some n nodes None free limit some pool = absurd (omega (arith, pool.counted, length-chain_from-none nodes free))
+  first_some n nodes None zero limit some pool = absurd (omega (arith, some))
+  first_some n nodes None (suc count) limit some pool = absurd (omega (arith, pool.counted))
   first_some n nodes (Some node) free limit some pool = refl
 
   -- the front of the chain is a free node

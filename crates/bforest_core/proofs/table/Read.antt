@@ -64,9 +64,6 @@ module _ {K V : Type 0} where
       let c : flat_map (λ m. children_of (slot slots m)) (numbers row) ≡ entry_items hs = children-row slots row i.0 ∙ ap entry_items s.0 in
       rw e (r ∙ rw ih (down-row slots f (numbers row) (entry_items hs) (map numbers rows) c (rw length-map one)))
 
-  levels_at : (slots : List (Content K V)) (f : ℕ) (leaves : List (LevelNode K V)) (up : List (List ℕ)) → RowIn leaf_content slots leaves → levels_below slots (suc f) (numbers leaves) up ≡ numbers leaves ∷ up
-  levels_at slots f leaves up l = let e = children-leaves slots leaves l in rw (e, levels_below) refl
-
   -- the rows are read back
   leaves-back : (slots : List (Content K V)) (row : List (LevelNode K V)) → RowIn leaf_content slots row → leaf_row slots (numbers row) ≡ row
   leaves-back slots [] l = refl
@@ -98,5 +95,5 @@ module _ {K V : Type 0} where
       let ef : 17 ≡ suc g + length tree.above = omega arith in
       let d = down-all slots (suc g) (heads tree.leaves) tree.above fit.stacked inside.rows_in (heads-some tree.leaves some) in
       let a : levels_below slots 17 (root_of tree ∷ []) [] ≡ numbers tree.leaves ∷ map numbers tree.above =
-      ap (λ z. levels_below slots z (root_of tree ∷ []) []) ef ∙ d ∙ ap (λ z. levels_below slots (suc g) z (map numbers tree.above)) (items-heads (half_of most) most one tree.leaves fit.leaves_fit) ∙ levels_at slots g tree.leaves (map numbers tree.above) inside.leaves_in in
+      ap (λ z. levels_below slots z (root_of tree ∷ []) []) ef ∙ d ∙ ap (λ z. levels_below slots (suc g) z (map numbers tree.above)) (items-heads (half_of most) most one tree.leaves fit.leaves_fit) ∙ (let e = children-leaves slots tree.leaves inside.leaves_in in rw (e, levels_below) refl) in
       rw a (let b = leaves-back slots tree.leaves inside.leaves_in in rw (b, rows-back slots (heads tree.leaves) tree.above fit.stacked inside.rows_in) refl)

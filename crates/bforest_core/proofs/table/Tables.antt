@@ -46,9 +46,6 @@ set_here (y ∷ xs) zero x e = let same : y ≡ x = cc in ap (λ z. z ∷ xs) (s
 set_here (y ∷ xs) (suc i) x e = ap (λ z. y ∷ z) (set_here xs i x e)
 
 module _ {K V : Type 0} where
-  pub with_node_here : (t : Table K V) (n : ℕ) (c : Content K V) → slice_get t.nodes n ≡ Some c → with_node t n c ≡ t
-  with_node_here t n c e = ap (λ z. record t { nodes = z }) (set_here t.nodes n c e)
-
   pub is_used : (t : Table K V) (n : ℕ) (c : Content K V) → slice_get t.nodes n ≡ Some c → count n t.chain ≡ 0 → IsUsed t n
   is_used t n c found none = record { within = slice_get_within t.nodes n c found; off_chain = off_chain n t.chain none }
 

@@ -1,4 +1,4 @@
-use Rattle.std.proofs.Common.{rules, ◌+◌, ◌-◌, ◌<◌, arith, sym}
+use Rattle.std.proofs.Common.{rules, arith, sym}
 use Rattle.bforest_core.proofs.rows.Needs.{level_above, level_full, level_room, level_used, level_within}
 use Rattle.bforest_core.proofs.insertion.Rise.{need_top}
 use Rattle.bforest_core.proofs.path.Path.+needed_above.Goals as goal
@@ -16,8 +16,7 @@ is_full-requires g t c =
 pub needed_above-requires : goal.needed_above-requires
 needed_above-requires g t c κs within =
     let w = c.requires.pending in
-    let less : c.args.self.now.size - (c.args.up + 1) < t = omega (arith, c.decreases, w.3.height, c.if-up-self.false) in
-    (less, (within.0, (within.1, ((λ a m. search rules), (search rules, (search rules, (c.requires.height, level_above c.args.pool.now c.args.self.now.node c.args.self.now.entry c.args.up c.args.self.now.size w.0 w.1 w.2 w.3 c.if-up-self.false (omega (arith, c.requires.height)) c.index-self-up.result)))))))
+    (omega (arith, c.decreases, w.3.height, c.if-up-self.false), (within.0, (within.1, ((λ a m. search rules), (search rules, (search rules, (c.requires.height, level_above c.args.pool.now c.args.self.now.node c.args.self.now.entry c.args.up c.args.self.now.size w.0 w.1 w.2 w.3 c.if-up-self.false (omega (arith, c.requires.height)) c.index-self-up.result)))))))
 
 pub returns-then-is_full-clause-value : goal.returns-then-is_full-clause-value
 returns-then-is_full-clause-value g t c = λ rows list place p.

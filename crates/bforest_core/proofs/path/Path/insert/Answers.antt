@@ -16,8 +16,7 @@ put_here-requires g c =
 pub needed_here-requires : goal.needed_here-requires
 needed_here-requires g c =
     let w = c.requires.placed in
-    let placed = placed-under _ _ w.root w.place _ _ _ c.requires.union w.placed in
-    (search rules, (search rules, rw (c.put_here.ensures.pool c.if-not-put_here.true) ((under-low _ _ w.root w.place _ _ _ c.requires.union w.placed).1, (tree_of c.args.pool.now.nodes w.root, w.place, placed))))
+    (search rules, (search rules, rw (c.put_here.ensures.pool c.if-not-put_here.true) ((under-low _ _ w.root w.place _ _ _ c.requires.union w.placed).1, (tree_of c.args.pool.now.nodes w.root, w.place, placed-under _ _ w.root w.place _ _ _ c.requires.union w.placed))))
 
 pub split_leaf-requires : goal.split_leaf-requires
 split_leaf-requires g c =
@@ -34,10 +33,8 @@ split_leaf-requires g c =
     let mid_is : c.reserve.new.self ≡ reserved t0 n = mid ∙ ap (λ z. reserved t0 z) (needs tree w.place here) in
     let d = leaf_spot _ _ _ _ _ tree w.place here in
     let full = full-reserved g.row.N t0 n (get_or ms 0 0) (leaf_content (d.l ++ d.r)) d.slot_is (c.put_here.ensures.full c.if-not-put_here.true) in
-    let slots = ap (λ (z : Table g.row.K.Denot g.row.V.Denot). length z.nodes) pool_is in
-    let levels = under-low _ _ w.root w.place _ _ _ union w.placed in
     let placed = placed-mid _ t0 c.reserve.new.self w.root w.place _ _ _ n union w.placed mid_is in
-    (search rules, (search rules, (levels.1, (rw mid_is full, (tree, w.place, placed, omega (arith, ap (λ z. length z.chain) mid_is, reserved-free t0 n), growth-low _ t0 w.root w.place union w.placed.root_is (omega (arith, slots, c.in_ok-reserve.ensures.numbers)))))))
+    (search rules, (search rules, ((under-low _ _ w.root w.place _ _ _ union w.placed).1, (rw mid_is full, (tree, w.place, placed, omega (arith, ap (λ z. length z.chain) mid_is, reserved-free t0 n), growth-low _ t0 w.root w.place union w.placed.root_is (omega (arith, ap (λ (z : Table g.row.K.Denot g.row.V.Denot). length z.nodes) pool_is, c.in_ok-reserve.ensures.numbers)))))))
 
 pub root-requires : goal.root-requires
 root-requires g c =

@@ -1,4 +1,4 @@
-use Rattle.std.proofs.Common.{rules, ◌+◌, ◌-◌, ◌<◌, [], length, sym, ap, ◌∙◌, arith}
+use Rattle.std.proofs.Common.{rules, [], length, sym, ap, ◌∙◌, arith}
 use Rattle.std.proofs.lemmas.Bool.{false≢true}
 use Rattle.bforest_core.proofs.walks.Descent.{some_leaf}
 use Rattle.bforest_core.proofs.walks.Leading.{front_asks, front_below}
@@ -24,8 +24,7 @@ pub levels_from-requires : goal.levels_from-requires
 levels_from-requires g t c κs within =
     let w = c.requires.under in
     let b = front_below g.row.N (some_leaf _ c.requires.capacity) c.args.self.now.nodes w.0 w.1 w.2 c.args.node w.3 w.4 c.node.result.now c.node-then-is_inner.result.now c.node.ensures.value (c.is_inner.ensures.inner.0 c.if-is_inner.true) c.node-then-is_inner.ensures.value c.child.result c.child.ensures.child in
-    let less : 17 - (c.args.depth + 1) < t = omega (arith, c.decreases, w.5, b.count_is) in
-    (less, (within.0, (within.1, ((λ a m. search rules), (search rules, (c.requires.capacity, (w.0, b.rows, b.first, b.rest, b.under, omega (arith, w.5, b.count_is))))))))
+    (omega (arith, c.decreases, w.5, b.count_is), (within.0, (within.1, ((λ a m. search rules), (search rules, (c.requires.capacity, (w.0, b.rows, b.first, b.rest, b.under, omega (arith, w.5, b.count_is))))))))
 
 pub overflow_add-result : goal.overflow_add-result
 overflow_add-result g t c =

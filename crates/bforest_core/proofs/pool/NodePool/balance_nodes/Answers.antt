@@ -1,5 +1,4 @@
-use Rattle.std.proofs.Common.{rules, arith, ◌∙◌, ◌≡◌, ◌<◌, ◌*◌, ℕ, List, Some, sym, slice_get, vec_len}
-use Rattle.bforest_core.proofs.Words.{Content, IsSameKind, entry_count, entry_capacity, IsUnderflowedAt}
+use Rattle.std.proofs.Common.{rules, arith, ◌∙◌, ◌≡◌, Some, sym, slice_get, vec_len}
 use Rattle.bforest_core.proofs.table.Lists.{refilled_two}
 use Rattle.bforest_core.proofs.table.Stored.{read_same}
 use Rattle.bforest_core.proofs.table.Pools.{IsPool-set_two}
@@ -16,20 +15,14 @@ two_nodes-lhs-requires-clause-right_within g c =
 pub two_nodes-lhs-requires-clause-apart : goal.two_nodes-lhs-requires-clause-apart
 two_nodes-lhs-requires-clause-apart g c = λ same. c.requires.apart (sym c.number.ensures.value ∙ same ∙ c.number-2.ensures.value)
 
--- what the two slots are read as
-as_read : {K V : Type 0} (n : ℕ) (nodes : List (Content K V)) (left right : ℕ) (under neighbour : Content K V) → IsUnderflowedAt n nodes left right → slice_get nodes left ≡ Some under → slice_get nodes right ≡ Some neighbour →
-    IsSameKind under neighbour × (0 < entry_count under) × (0 < entry_count neighbour) × (2 * entry_count under < entry_capacity n under)
-as_read n nodes left right under neighbour w l r =
-    let a = read_same nodes left under w.under l w.left_is in
-    let b = read_same nodes right neighbour w.neighbour r w.right_is in
-    (rw (a, b) at w.kind, rw a at w.filled, rw b at w.neighbour_filled, rw a at w.underflowed)
-
 pub balance-requires : goal.balance-requires
 balance-requires g c =
     let left : slice_get c.args.self.now.nodes c.args.left ≡ Some c.two_nodes-lhs.result.0.now = rw (← c.self.view_is, ← c.number.ensures.value, ← c.as_mut_slice.ensures.value) c.two_nodes-lhs.ensures.left in
     let right : slice_get c.args.self.now.nodes c.args.right ≡ Some c.two_nodes-lhs.result.1.now = rw (← c.self.view_is, ← c.number-2.ensures.value, ← c.as_mut_slice.ensures.value) c.two_nodes-lhs.ensures.right in
-    let w = as_read g.row.N c.args.self.now.nodes c.args.left c.args.right c.two_nodes-lhs.result.0.now c.two_nodes-lhs.result.1.now c.requires.balanceable left right in
-    (search rules, (w.0, (w.1, (w.2, w.3))))
+    let w = c.requires.balanceable in
+    let under = read_same c.args.self.now.nodes c.args.left c.two_nodes-lhs.result.0.now w.under left w.left_is in
+    let neighbour = read_same c.args.self.now.nodes c.args.right c.two_nodes-lhs.result.1.now w.neighbour right w.right_is in
+    (search rules, (rw (under, neighbour) at w.kind, (rw under at w.filled, (rw neighbour at w.neighbour_filled, rw under at w.underflowed))))
 
 pub invariant_of-self : goal.invariant_of-self
 invariant_of-self g c =

@@ -1,4 +1,4 @@
-use Rattle.std.proofs.Common.{◌≡◌, ℕ, zero, suc, ◌<◌, ◌≤◌, ◌↔◌, IsTrue, Bool, true, false, not, nat_eq, nat_lt, List, length, slice_get, Some, None, refl, sym, ap, ◌∙◌, arith}
+use Rattle.std.proofs.Common.{◌≡◌, ℕ, zero, suc, ◌<◌, ◌↔◌, IsTrue, Bool, true, false, not, nat_eq, nat_lt, List, slice_get, Some, None, refl, sym, ap, ◌∙◌, arith}
 use Rattle.bforest_core.proofs.Words.{flat_map, false≢true, false_from_ne_true, not_from_false, not_from_true, get_or_past, Content, Inner, Leaf, Free, IsFree, children_of, count, slot, is_used, is_root}
 use Rattle.bforest_core.proofs.table.Read.{slot-is}
 use Rattle.bforest_core.proofs.pool.NodePool.is_root.Goals as goal
@@ -23,19 +23,10 @@ module _ {K V : Type 0} where
       let b = none_named (count n (flat_map children_of slots)) child c in
       rw (a, b) refl
 
-  -- a free slot
-  not_root : (slots : List (Content K V)) (n : ℕ) (content : Content K V) (free : Bool) → slice_get slots n ≡ Some content → (IsTrue free ↔ IsFree content) → not free ≡ false → false ≡ is_root slots n
+  -- a free slot, or none
+  unused_root : (slots : List (Content K V)) (n : ℕ) → is_used (slot slots n) ≡ false → false ≡ is_root slots n
   unfolding is_root
-  not_root slots n content free found f used =
-      let a : is_used (slot slots n) ≡ false = ap is_used (slot-is slots n content found) ∙ used_of content free f ∙ used in
-      rw a refl
-
-  -- no slot
-  past_root : (slots : List (Content K V)) (n : ℕ) → length slots ≤ n → false ≡ is_root slots n
-  unfolding is_root
-  past_root slots n past =
-      let a : is_used (slot slots n) ≡ false = ap is_used (get_or_past slots n (Free None) past) in
-      rw a refl
+  unused_root slots n unused = rw unused refl
 
 pub returns-then-not-is_free : goal.returns-then-not-is_free
 returns-then-not-is_free g c = record {
@@ -48,7 +39,7 @@ returns-then-not-is_free g c = record {
 pub returns-else-not-is_free : goal.returns-else-not-is_free
 returns-else-not-is_free g c = record {
   value = c.if-not-is_free.false ∙ elim c.if-number-slots.branch [
-    | then-number-slots w ↦ not_root c.args.self.now.nodes c.args.node w.node.result.now w.is_free.result w.node.ensures.value w.is_free.ensures.free (sym w.value-is ∙ c.if-not-is_free.false)
-    | else-number-slots w ↦ past_root c.args.self.now.nodes c.args.node (omega (arith, w.if-number-slots.false, c.slots.ensures.value, c.number.ensures.value))
+    | then-number-slots w ↦ unused_root c.args.self.now.nodes c.args.node (ap is_used (slot-is c.args.self.now.nodes c.args.node w.node.result.now w.node.ensures.value) ∙ used_of w.node.result.now w.is_free.result w.is_free.ensures.free ∙ sym w.value-is ∙ c.if-not-is_free.false)
+    | else-number-slots w ↦ unused_root c.args.self.now.nodes c.args.node (ap is_used (get_or_past c.args.self.now.nodes c.args.node (Free None) (omega (arith, w.if-number-slots.false, c.slots.ensures.value, c.number.ensures.value))))
   ];
 }

@@ -1,11 +1,7 @@
-use Rattle.std.proofs.Common.{rules, slice_get, Some, arith, refl, ◌∙◌, ◌≡◌, ℕ, ◌<◌, List, length, length-set, vec_len, slice_set, sym}
+use Rattle.std.proofs.Common.{rules, slice_get, Some, arith, refl, ◌∙◌, ◌≡◌, length-set, vec_len, sym}
 use Rattle.bforest_core.proofs.table.Lists.{refilled_two}
 use Rattle.bforest_core.proofs.table.Pools.{IsPool-set_two, nodes-without_front, off-without_front, with_front-is, apart_front}
 use Rattle.bforest_core.proofs.pool.NodePool.split_node.Goals as goal
-
--- a number within a list is within it after two writes
-still_within : {X : Type 0} (xs : List X) (i j : ℕ) (x y : X) (n : ℕ) → n < length xs → n < length (slice_set (slice_set xs i x) j y)
-still_within xs i j x y n within = omega (arith, length-set (slice_set xs i x) j y, length-set xs i x, within)
 
 pub split-requires : goal.split-requires
 split-requires g c =
@@ -38,7 +34,7 @@ returns g c =
         after = rw (with_front-is c.args.self.now c.args.self.now.chain c.take_slot-right.result c.split.new.rhs c.take_slot-right.ensures.node, ← c.take_slot-right.ensures.table, c.as_mut_slice.ensures.value, refilled_two c.self.inside.nodes.items c.number.result c.number-2.result c.split.new.rhs c.split.new.self (vec_len c.self.inside.nodes) (omega arith), pair.1, ← c.self.view_is, c.number.ensures.value, c.number-2.ensures.value);
       };
       used = rw (c.as_mut_slice.ensures.value, refilled_two c.self.inside.nodes.items c.number.result c.number-2.result c.split.new.rhs c.split.new.self (vec_len c.self.inside.nodes) (omega arith))
-          (record { within = still_within c.self.inside.nodes.items c.number.result c.number-2.result c.split.new.rhs c.split.new.self _ within; off_chain = rw pair.1 off });
+          (record { within = rw (length-set, length-set) within; off_chain = rw pair.1 off });
       capacity = c.self.invariant.capacity;
     }
 
