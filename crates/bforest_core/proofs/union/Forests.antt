@@ -110,16 +110,6 @@ module _ {K V : Type 0} where
   used_within slots m used =
       elim (cases_lt m (length slots)) [ inl low ↦ low | inr past ↦ absurd (let e = ap is_used (get_or_past slots m (Free None) past) in cc) ]
 
-  -- and no other number is
-  root_only : (most : ℕ) (table : Table K V) (trees : List (Tree K V)) → IsForest most table trees → (m : ℕ) → IsTrue (is_root table.nodes m) → 0 < count m (map root_of trees)
-  unfolding is_root
-  root_only most table trees f m root =
-      let parts = and_parts (is_used (slot table.nodes m)) (nat_eq (count m (flat_map children_of table.nodes)) 0) root in
-      let none : count m (flat_map children_of table.nodes) ≡ 0 = elim (eqb_tells (count m (flat_map children_of table.nodes)) 0) [ inl w ↦ w.1 | inr w ↦ absurd (let e = w.0 in let d = parts.1 in cc) ] in
-      let low = used_within table.nodes m parts.0 in
-      let off : count m table.chain ≡ 0 = elim (cases_lt 0 (count m table.chain)) [ inl on ↦ absurd (let e = free-unused (slot table.nodes m) (free-at table.nodes table.chain f.free m on) in let d = parts.0 in cc) | inr off ↦ omega (arith, off) ] in
-      omega (arith, none, off, f.account m, below-one m (length table.nodes) low, count-append m (flat_map numbers_of trees) table.chain, named_all most table trees f m)
-
   -- the tree of a root
   pub tree-with : (trees : List (Tree K V)) (m : ℕ) → 0 < count m (map root_of trees) → (before : List (Tree K V)) × (tree : Tree K V) × (after : List (Tree K V)) × (trees ≡ before ++ tree ∷ after) × (root_of tree ≡ m)
   tree-with [] m some = absurd (omega (arith, some))
@@ -129,14 +119,12 @@ module _ {K V : Type 0} where
         | inr w ↦ (let r = tree-with trees m (omega (arith, some, count-other m (root_of tree) (map root_of trees) w.1)) in (tree ∷ r.0, r.1, r.2, ap (λ z. tree ∷ z) r.3, r.4))
       ]
 
-  -- each root is that of a tree of the witness
-  pub root-tree : (most : ℕ) (table : Table K V) (trees : List (Tree K V)) (number : ℕ) → IsForest most table trees → IsTrue (is_root table.nodes number) →
-      (before : List (Tree K V)) × (tree : Tree K V) × (after : List (Tree K V)) × (trees ≡ before ++ tree ∷ after) × (root_of tree ≡ number)
-  root-tree most table trees number f root = tree-with trees number (root_only most table trees f number root)
-
-  tree_back : (most : ℕ) (table : Table K V) (before : List (Tree K V)) (tree : Tree K V) (after : List (Tree K V)) → IsForest most table (before ++ tree ∷ after) → (tree_of table.nodes (root_of tree) ≡ tree) × IsTrue (is_root table.nodes (root_of tree))
+  -- a tree of the witness is the one that is computed from its root, which is a root
+  pub tree-back : (most : ℕ) (table : Table K V) (trees before : List (Tree K V)) (tree : Tree K V) (after : List (Tree K V)) (root : ℕ) → IsForest most table trees → trees ≡ before ++ tree ∷ after → root_of tree ≡ root →
+      (tree_of table.nodes root ≡ tree) × IsTrue (is_root table.nodes root)
   unfolding is_root
-  tree_back most table before tree after f =
+  tree-back most table trees before tree after root given split is =
+      let f = subst (λ (z : List (Tree K V)). IsForest most table z) split given in
       let fit = (every-append (IsFit most) before (tree ∷ after) f.fit).1.0 in
       let inside = (every-append (IsIn table.nodes) before (tree ∷ after) f.inside).1.0 in
       let some = (every-append (λ (tree : Tree K V). 1 ≤ length (flat tree.leaves)) before (tree ∷ after) f.some).1.0 in
@@ -145,15 +133,18 @@ module _ {K V : Type 0} where
       let here = ap (λ z. count m z) (map-append root_of before (tree ∷ after)) ∙ count-append m (map root_of before) (m ∷ map root_of after) in
       let none : count m (flat_map children_of table.nodes) ≡ 0 = omega (arith, here, count-same m (map root_of after), named_all most table (before ++ tree ∷ after) f m, once most table (before ++ tree ∷ after) f m) in
       let used = root_used most (omega (arith, f.capacity.least)) table.nodes tree (record { fit = fit; inside = inside; root_is = refl; some = some; low = low }) in
-      (read-back most table.nodes tree fit inside some low, rw (used, none) refl)
-
-  -- a tree of the witness is the one that is computed from its root, which is a root
-  pub tree-back : (most : ℕ) (table : Table K V) (trees before : List (Tree K V)) (tree : Tree K V) (after : List (Tree K V)) (root : ℕ) → IsForest most table trees → trees ≡ before ++ tree ∷ after → root_of tree ≡ root →
-      (tree_of table.nodes root ≡ tree) × IsTrue (is_root table.nodes root)
-  tree-back most table trees before tree after root f split is =
-      subst (λ (z : ℕ). (tree_of table.nodes z ≡ tree) × IsTrue (is_root table.nodes z)) is
-      (tree_back most table before tree after (subst (λ (z : List (Tree K V)). IsForest most table z) split f))
+      subst (λ (z : ℕ). (tree_of table.nodes z ≡ tree) × IsTrue (is_root table.nodes z)) is (read-back most table.nodes tree fit inside some low, rw (used, none) refl)
 
   -- a number is a root exactly if it is that of a tree
   pub root-counts : (most : ℕ) (table : Table K V) (trees : List (Tree K V)) → IsForest most table trees → (m : ℕ) → IsTrue (is_root table.nodes m) ↔ (0 < count m (map root_of trees))
-  root-counts most table trees f m = (root_only most table trees f m, λ some. (let r = tree-with trees m some in (tree-back most table trees r.0 r.1 r.2 m f r.3 r.4).1))
+  unfolding is_root
+  root-counts most table trees f m = (
+    λ root. (
+        let parts = and_parts (is_used (slot table.nodes m)) (nat_eq (count m (flat_map children_of table.nodes)) 0) root in
+        let none : count m (flat_map children_of table.nodes) ≡ 0 = elim (eqb_tells (count m (flat_map children_of table.nodes)) 0) [ inl w ↦ w.1 | inr w ↦ absurd (let e = w.0 in let d = parts.1 in cc) ] in
+        let low = used_within table.nodes m parts.0 in
+        let off : count m table.chain ≡ 0 = elim (cases_lt 0 (count m table.chain)) [ inl on ↦ absurd (let e = free-unused (slot table.nodes m) (free-at table.nodes table.chain f.free m on) in let d = parts.0 in cc) | inr off ↦ omega (arith, off) ] in
+        omega (arith, none, off, f.account m, below-one m (length table.nodes) low, count-append m (flat_map numbers_of trees) table.chain, named_all most table trees f m)
+        ),
+    λ some. (let r = tree-with trees m some in (tree-back most table trees r.0 r.1 r.2 m f r.3 r.4).1),
+  )

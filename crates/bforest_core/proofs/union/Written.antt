@@ -1,5 +1,5 @@
 -- A value written at an entry of a tree: the same nodes, under the same keys.
-use Rattle.std.proofs.Common.{◌≡◌, ℕ, zero, suc, ◌+◌, ◌<◌, List, [], ◌∷◌, ◌++◌, map, length, get_or, set, slice_get, option_map, option_and_then, Some, refl, sym, ap, ◌∙◌, subst, arith}
+use Rattle.std.proofs.Common.{◌≡◌, ℕ, zero, suc, ◌+◌, ◌<◌, List, [], ◌∷◌, ◌++◌, map, length, get_or, set, slice_get, option_map, option_and_then, Some, refl, sym, ap, ◌∙◌, subst, length-set, arith}
 use Rattle.bforest_core.proofs.Words.{flat_map, Leaf, vals_of, Table, IsUsed, IsEntryAt, value_at, with_node, with_value_at, value_at_place, LevelNode, node, flat, head_of, heads, sizes, sizes_of, numbers, FitRow, Stacked, Topped, Tree}
 use Rattle.bforest_core.proofs.Words.{half_of, RowIn, leaf_content, entry_keys, entry_items, count, Distinct, IsAt, numbers_of, root_of, root_above, Stands, tree_of, IsUnion, Changes, StandsUnder}
 use Rattle.bforest_nodes.specs.Content.{with_value as content_with}
@@ -12,17 +12,13 @@ use Rattle.bforest_core.proofs.rows.Zipper.{apart_here}
 use Rattle.bforest_core.proofs.walks.Descent.{some_leaf}
 use Rattle.bforest_core.proofs.walks.Entered.{leaf_here}
 use Rattle.bforest_core.proofs.walks.Steps.{entry_at, read}
+use Rattle.bforest_core.proofs.table.Stored.{item_count}
 use Rattle.bforest_core.proofs.table.Read.{slot-is}
 use Rattle.bforest_core.proofs.union.Exchange.{IsPlanted}
 use Rattle.bforest_core.proofs.union.Unions.{Rooted, rooted}
 use Rattle.bforest_core.proofs.union.Roots.{exchanged, exchanged-changes}
 
 module _ {K X : Type 0} where
-  length-written : (es : List (K × X)) (i : ℕ) (v : X) → length (with_value es i v) ≡ length es
-  length-written [] i v = refl
-  length-written (e ∷ es) zero v = refl
-  length-written (e ∷ es) (suc i) v = ap suc (length-written es i v)
-
   keys-written : (es : List (K × X)) (i : ℕ) (v : X) → entry_keys (with_value es i v) ≡ entry_keys es
   keys-written [] i v = refl
   keys-written (e ∷ es) zero v = refl
@@ -32,6 +28,9 @@ module _ {K X : Type 0} where
   items-written [] i v = refl
   items-written (e ∷ es) zero v = refl
   items-written (e ∷ es) (suc i) v = ap (λ z. e.1 ∷ z) (items-written es i v)
+
+  length-written : (es : List (K × X)) (i : ℕ) (v : X) → length (with_value es i v) ≡ length es
+  length-written es i v = omega (arith, item_count (with_value es i v), ap length (items-written es i v), length-set (entry_items es) i v, item_count es)
 
   head-written : (n : ℕ) (es : List (K × X)) (i : ℕ) (v : X) → head_of n (with_value es i v) ≡ head_of n es
   head-written n [] i v = refl

@@ -24,11 +24,8 @@ module _ {K X : Type 0} (cmp : K → K → Ordering) (es : List (K × X)) (key :
 
 -- a key without a value is not present
 pub no-value : {K X : Type 0} (cmp : K → K → Ordering) (key : K) (es : List (K × X)) → None ≡ value_for cmp es key → is_present cmp es key ≡ true → ⊥
-no-value {K} {X} cmp key es none here = go (entry_for cmp es key) none here
-  where
-    go : (o : Option (K × X)) → None ≡ option_map (λ e. e.1) o → is_some o ≡ true → ⊥
-    go None none here = absurd (cc)
-    go (Some e) none here = absurd (cc)
+no-value {K} {X} cmp key es none here =
+    (elim (entry_for cmp es key) as (λ (o : Option (K × X)). None ≡ option_map (λ e. e.1) o → is_some o ≡ true → ⊥) [ None ↦ λ n h. never h refl | Some e ↦ λ n h. absurd (cc) ]) none here
 
 -- the key is less than the entries from one on that is greater
 upto_at : {K X : Type 0} (cmp : K → K → Ordering) (key : K) (es : List (K × X)) (p : ℕ) (e : K × X) → slice_get es p ≡ Some e → cmp e.0 key ≡ Greater → IsUpTo cmp (drop p es) key
