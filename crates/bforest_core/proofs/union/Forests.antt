@@ -8,7 +8,7 @@ use Rattle.bforest_core.proofs.table.Stored.{childless, inner_used}
 use Rattle.bforest_core.proofs.union.FreeSlots.{free-at}
 use Rattle.bforest_core.proofs.rows.Counts.{below-one, past-none, at-most-one, named_by, all-named}
 use Rattle.bforest_core.proofs.walks.TopNode.{node_held}
-use Rattle.bforest_core.proofs.walks.Whole.{whole_top, whole_under}
+use Rattle.bforest_core.proofs.walks.Whole.{whole_under}
 
 -- what holds of each in a list, of each of its parts
 pub every-append : {X : Type 0} (P : X → Type 0) (xs ys : List X) → Every P (xs ++ ys) → Every P xs × Every P ys
@@ -81,7 +81,8 @@ module _ {K V : Type 0} where
   -- the root of a tree is a node
   root_used : (most : ℕ) → 1 ≤ half_of most → (slots : List (Content K V)) (tree : Tree K V) → IsRooted most slots (root_of tree) tree → is_used (slot slots (root_of tree)) ≡ true
   root_used most one slots tree r =
-      let h = node_held most one slots tree.leaves tree.above [] (whole_top most slots (root_of tree) tree r).first (root_of tree) [] (whole_under most slots (root_of tree) tree r) in
+      let u = whole_under most slots (root_of tree) tree r in
+      let h = node_held most one slots tree.leaves tree.above [] u.0 (root_of tree) [] u.1 in
       ap is_used (slot-is slots (root_of tree) h.0 h.1) ∙ used_some h.0 h.2
 
   -- what the slots of a table name: each number of its trees but the roots
