@@ -5,7 +5,7 @@ use Rattle.bforest_core.proofs.Words.{half_of, RowIn, leaf_content, entry_keys, 
 use Rattle.bforest_nodes.specs.Content.{with_value as content_with}
 use Rattle.bforest_nodes.specs.Entries.{with_value}
 use Rattle.bforest_core.proofs.rows.LevelRows.{flat-append, heads-append, sizes-append, numbers-append, FitRow-split, FitRow-join}
-use Rattle.bforest_core.proofs.table.Tables.{count-append, count-same, count-row, row-put, rows-same, ne_from_count, is_used, Puts, puts}
+use Rattle.bforest_core.proofs.table.Tables.{count-append, count-same, count-row, row-put, rows-same, ne_from_count, is_used, puts}
 use Rattle.bforest_core.proofs.walks.LeafSearch.{items-read}
 use Rattle.bforest_core.proofs.insertion.LeafSpot.{keys_count}
 use Rattle.bforest_core.proofs.rows.Zipper.{apart_here}
@@ -49,20 +49,7 @@ module _ {K X : Type 0} where
   written-behind (e ∷ es) fs zero i v is = absurd (omega (arith, is))
   written-behind (e ∷ es) fs (suc p) i v is = ap (λ z. e ∷ z) (written-behind es fs p i v (omega (arith, is)))
 
-  -- in a row
-  flat-written : (row before : List (LevelNode K X)) (n : ℕ) (es : List (K × X)) (after : List (LevelNode K X)) (p i : ℕ) (v : X) → row ≡ before ++ node n es ∷ after → p ≡ length (flat before) + i → i < length es →
-      flat (before ++ node n (with_value es i v) ∷ after) ≡ with_value (flat row) p v
-  flat-written row before n es after p i v row_is p_is low =
-      flat-append before _ ∙ ap (λ z. flat before ++ z) (sym (written-front es (flat after) i v low)) ∙ sym (written-behind (flat before) (es ++ flat after) p i v p_is)
-      ∙ ap (λ z. with_value z p v) (sym (flat-append before (node n es ∷ after))) ∙ ap (λ z. with_value (flat z) p v) (sym row_is)
-
 module _ {K V : Type 0} where
-  -- one slot is written
-  value_puts : (table : Table K V) (n i : ℕ) (v : V) (es : List (K × V)) → slice_get table.nodes n ≡ Some (leaf_content es) → Puts table (with_value_at table n i v) n (leaf_content (with_value es i v))
-  value_puts table n i v es found =
-      puts table (with_value_at table n i v) n (leaf_content (with_value es i v)) (leaf_content es) found
-      (ap (λ z. with_node table n z) (ap (λ z. content_with z i v) (slot-is table.nodes n (leaf_content es) found) ∙ ap (λ z. Leaf z (set (entry_items es) i v)) (sym (keys-written es i v)) ∙ ap (λ z. Leaf (entry_keys (with_value es i v)) z) (sym (items-written es i v))))
-
   module _ (most : ℕ) (table : Table K V) (root place : ℕ) (path indices : List ℕ) (size : ℕ) (union : IsUnion most table) (s : StandsUnder table.nodes root path indices size place) where
     abbrev r : Rooted most table root (tree_of table.nodes root)
     r = rooted most table root union s.root_is
@@ -96,12 +83,15 @@ module _ {K V : Type 0} where
         let i = get_or indices 0 0 in
         let tree = tree_of table.nodes root in
         let new = with_value_at table n i v in
-        let w = value_puts table n i v at.entries leaf_at in
+        let w = puts table new n (leaf_content (with_value at.entries i v)) (leaf_content at.entries) leaf_at
+        (ap (λ z. with_node table n z) (ap (λ z. content_with z i v) (slot-is table.nodes n (leaf_content at.entries) leaf_at) ∙ ap (λ z. Leaf z (set (entry_items at.entries) i v)) (sym (keys-written at.entries i v)) ∙ ap (λ z. Leaf (entry_keys (with_value at.entries i v)) z) (sym (items-written at.entries i v)))) in
         let row' : List (LevelNode K V) = at.before ++ node n (with_value at.entries i v) ∷ at.after in
         let tree' : Tree K V = record { leaves = row'; above = tree.above } in
         let hs : heads row' ≡ heads tree.leaves = heads-append at.before _ ∙ ap (λ z. heads at.before ++ (z ++ heads at.after)) (head-written n at.entries i v) ∙ sym (ap heads at.row_is ∙ heads-append at.before (node n at.entries ∷ at.after)) in
         let ns : numbers row' ≡ numbers tree.leaves = numbers-append at.before _ ∙ sym (ap numbers at.row_is ∙ numbers-append at.before (node n at.entries ∷ at.after)) in
-        let fl : flat row' ≡ with_value (flat tree.leaves) place v = flat-written tree.leaves at.before n at.entries at.after place i v at.row_is at.place_is at.within in
+        let fl : flat row' ≡ with_value (flat tree.leaves) place v =
+        flat-append at.before _ ∙ ap (λ z. flat at.before ++ z) (sym (written-front at.entries (flat at.after) i v at.within)) ∙ sym (written-behind (flat at.before) (at.entries ++ flat at.after) place i v at.place_is)
+        ∙ ap (λ z. with_value z place v) (sym (ap flat at.row_is ∙ flat-append at.before (node n at.entries ∷ at.after))) in
         let ss : sizes_of tree' ≡ sizes_of tree = ap (λ z. z ∷ map sizes tree.above) (sizes-append at.before _ ∙ ap (λ z. sizes at.before ++ z ∷ sizes at.after) (length-written at.entries i v) ∙ sym (ap sizes at.row_is ∙ sizes-append at.before (node n at.entries ∷ at.after))) in
         let fit = FitRow-split (half_of most) most at.before (node n at.entries) at.after (subst (λ (z : List (LevelNode K V)). FitRow (half_of most) most z) at.row_is r.fit.leaves_fit) in
         let p : IsPlanted most new.nodes tree' = record {
