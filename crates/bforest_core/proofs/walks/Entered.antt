@@ -54,7 +54,8 @@ module _ {K V : Type 0} {most : ℕ} (one : 1 ≤ half_of most) {slots : List (C
   stands_in w size size_is path' indices' place path_is same low place_is = stands-pointed (points_in w size size_is path' indices' place path_is same (omega (arith, low)) place_is) low
 
   -- a path that went to the leaf behind one, and to the front there, stands on the entry that follows
-  pub first_behind : {path indices : List ℕ} {leaf : ℕ} (w : InLeaf path indices leaf) (size : ℕ) → size ≡ suc (length tree.above) → (path1 indices1 path' indices' : List ℕ) → Moved path indices path1 indices1 0 tree.above (heads tree.leaves) (suc leaf) → path' ≡ path1 → get_or indices' 0 0 ≡ 0 → SameBut 0 indices1 indices' → Stands path' indices' size tree (length (flat w.before) + length w.entries)
+  pub first_behind : {path indices : List ℕ} {leaf : ℕ} (w : InLeaf path indices leaf) (size : ℕ) → size ≡ suc (length tree.above) → (path1 indices1 path' indices' : List ℕ) →
+      Moved path indices path1 indices1 0 tree.above (heads tree.leaves) (suc leaf) → path' ≡ path1 → get_or indices' 0 0 ≡ 0 → SameBut 0 indices1 indices' → Stands path' indices' size tree (length (flat w.before) + length w.entries)
   first_behind w size size_is path1 indices1 path' indices' m path_is here above =
       let next : InLeaf path1 indices1 _ = there leaf_content slots most (half_of most) one tree.leaves fit.leaves_fit inside.leaves_in m in
       stands_in next size size_is path' indices' (length (flat w.before) + length w.entries) path_is above (omega (arith, here, next.some)) (omega (arith, here, seam leaf_content slots most w next refl))
