@@ -1,13 +1,13 @@
 -- The trees of a table as a witness and as computed: a number is a root exactly if it is that of a tree.
 use Rattle.std.proofs.Common.{◌≡◌, ℕ, ◌+◌, ◌≤◌, ◌<◌, ◌↔◌, nat_eq, IsTrue, true, false, List, [], ◌∷◌, ◌++◌, map, length, None, refl, sym, ap, ◌∙◌, subst, inl, inr, arith}
 use Rattle.bforest_core.proofs.Words.{nil_from_length, flat_map, map-append, get_or_past, flat_map-append, and_parts, cases_lt, eqb_tells, Content, Inner, Leaf, Free, IsFree, children_of, Table, LevelNode, flat, heads, numbers, Stacked, Tree, IsFit}
-use Rattle.bforest_core.proofs.Words.{entry_count, half_of, IsRooted, RowsIn, IsIn, entry_items, count, root_above, root_of, numbers_of, slot, is_used, tree_of, is_root, Every, IsForest}
+use Rattle.bforest_core.proofs.Words.{half_of, IsRooted, RowsIn, IsIn, entry_items, count, root_above, root_of, numbers_of, slot, is_used, tree_of, is_root, Every, IsForest}
 use Rattle.bforest_core.proofs.table.Tables.{count-append, count-same, count-other}
 use Rattle.bforest_core.proofs.table.Read.{items-heads, half-some, slot-is, children-row, children-leaves, read-back}
 use Rattle.bforest_core.proofs.table.Stored.{childless, inner_used}
 use Rattle.bforest_core.proofs.union.FreeSlots.{free-at}
 use Rattle.bforest_core.proofs.rows.Counts.{below-one, past-none, at-most-one, named_by, all-named}
-use Rattle.bforest_core.proofs.walks.TopNode.{node_held}
+use Rattle.bforest_core.proofs.walks.TopNode.{node_under}
 use Rattle.bforest_core.proofs.walks.Whole.{whole_under}
 
 -- what holds of each in a list, of each of its parts
@@ -73,17 +73,11 @@ module _ {K V : Type 0} where
   named_free slots [] f = refl
   named_free slots (m ∷ ms) f = let e = no_children (slot slots m) f.0 in rw e (named_free slots ms f.1)
 
-  used_some : (content : Content K V) → 1 ≤ entry_count content → is_used content ≡ true
-  used_some (Inner keys children) some = refl
-  used_some (Leaf keys vals) some = refl
-  used_some (Free next) some = absurd (omega (arith, some))
-
   -- the root of a tree is a node
   root_used : (most : ℕ) → 1 ≤ half_of most → (slots : List (Content K V)) (tree : Tree K V) → IsRooted most slots (root_of tree) tree → is_used (slot slots (root_of tree)) ≡ true
   root_used most one slots tree r =
       let u = whole_under most slots (root_of tree) tree r in
-      let h = node_held most one slots tree.leaves tree.above [] u.0 (root_of tree) [] u.1 in
-      ap is_used (slot-is slots (root_of tree) h.0 h.1) ∙ used_some h.0 h.2
+      elim (node_under most one slots tree.leaves tree.above [] u.0 (root_of tree) [] u.1) [ inl w ↦ ap is_used (slot-is slots (root_of tree) _ w.slot_is) | inr w ↦ ap is_used (slot-is slots (root_of tree) _ w.slot_is) ]
 
   -- what the slots of a table name: each number of its trees but the roots
   named_all : (most : ℕ) (table : Table K V) (trees : List (Tree K V)) → IsForest most table trees → (m : ℕ) → count m (flat_map children_of table.nodes) + count m (map root_of trees) ≡ count m (flat_map numbers_of trees)

@@ -37,7 +37,7 @@ module _ {K V : Type 0} {most : ℕ} (one : 1 ≤ half_of most) {slots : List (C
   in_leaf path indices before entries after row_is above = within leaf_content slots most (half_of most) one tree.leaves fit.leaves_fit inside.leaves_in path indices 0 tree.above (length before) before entries after row_is refl above
 
   -- a path with the same nodes, and but for the leaf's with the same indices, points into that leaf too
-  pub points_in : {path indices : List ℕ} {leaf : ℕ} (w : InLeaf path indices leaf) (size : ℕ) → size ≡ suc (length tree.above) → (path' indices' : List ℕ) (place : ℕ) → path' ≡ path → SameBut 0 indices indices' → get_or indices' 0 0 ≤ length w.entries → place ≡ length (flat w.before) + get_or indices' 0 0 → PointsAt path' indices' size tree place
+  abbrev pub points_in : {path indices : List ℕ} {leaf : ℕ} (w : InLeaf path indices leaf) (size : ℕ) → size ≡ suc (length tree.above) → (path' indices' : List ℕ) (place : ℕ) → path' ≡ path → SameBut 0 indices indices' → get_or indices' 0 0 ≤ length w.entries → place ≡ length (flat w.before) + get_or indices' 0 0 → PointsAt path' indices' size tree place
   points_in {path} {indices} {leaf} w size size_is path' indices' place path_is same low place_is = record {
     before = w.before;
     entries = w.entries;
@@ -50,7 +50,6 @@ module _ {K V : Type 0} {most : ℕ} (one : 1 ≤ half_of most) {slots : List (C
   }
 
   stands_in : {path indices : List ℕ} {leaf : ℕ} (w : InLeaf path indices leaf) (size : ℕ) → size ≡ suc (length tree.above) → (path' indices' : List ℕ) (place : ℕ) → path' ≡ path → SameBut 0 indices indices' → get_or indices' 0 0 < length w.entries → place ≡ length (flat w.before) + get_or indices' 0 0 → Stands path' indices' size tree place
-  unfolding points_in
   stands_in w size size_is path' indices' place path_is same low place_is = stands-pointed (points_in w size size_is path' indices' place path_is same (omega (arith, low)) place_is) low
 
   -- a path that went to the leaf behind one, and to the front there, stands on the entry that follows

@@ -18,7 +18,7 @@ use Rattle.bforest_core.proofs.walks.Whole.{led_stands, stands-pointed, whole_un
 
 module _ {K V : Type 0} (path indices : List ℕ) (tree : Tree K V) (place : ℕ) where
   -- a path on an entry points to it
-  unfoldable pub points-stands : (size : ℕ) → Stands path indices size tree place → PointsAt path indices size tree place
+  abbrev pub points-stands : (size : ℕ) → Stands path indices size tree place → PointsAt path indices size tree place
   points-stands size s = record {
     before = s.leaf.before;
     entries = s.leaf.entries;
