@@ -16,6 +16,7 @@ pair_answer (y ∷ es) zero None k x = absurd cc
 pair_answer (y ∷ es) zero (Some e) k x = ap (λ z. Some (z, e.1)) (some_same e.0 y.0 k) ∙ ap (λ z. Some (y.0, z)) (some_same e.1 y.1 x)
 pair_answer (y ∷ es) (suc i) o k x = pair_answer es i o k x
 
+-- an entry from its key and its value
 pub pair_read : {K X : Type 0} (es : List (K × X)) (i : ℕ) (k : K) (x : X) → slice_get (entry_keys es) i ≡ Some k → slice_get (entry_items es) i ≡ Some x → slice_get es i ≡ Some (k, x)
 pair_read es i k x e f = sym (pair_answer es i (Some (k, x)) (sym e) (sym f))
 
