@@ -1,14 +1,14 @@
 -- The trees of a table as a witness and as computed: a number is a root exactly if it is that of a tree.
 use Rattle.std.proofs.Common.{◌≡◌, ℕ, ◌+◌, ◌≤◌, ◌<◌, ◌↔◌, nat_eq, IsTrue, true, false, List, [], ◌∷◌, ◌++◌, map, length, None, refl, sym, ap, ◌∙◌, subst, inl, inr, arith}
 use Rattle.bforest_core.proofs.Words.{nil_from_length, flat_map, map-append, get_or_past, flat_map-append, and_parts, cases_lt, eqb_tells, Content, Inner, Leaf, Free, IsFree, children_of, Table, LevelNode, flat, heads, numbers, Stacked, Tree, IsFit}
-use Rattle.bforest_core.proofs.Words.{entry_count, half_of, IsRooted, RowsIn, IsIn, entry_items, count, root_above, root_of, numbers_of, slot, is_used, tree_of, is_root, Every, IsForest}
+use Rattle.bforest_core.proofs.Words.{half_of, IsRooted, RowsIn, IsIn, entry_items, count, root_above, root_of, numbers_of, slot, is_used, tree_of, is_root, Every, IsForest}
 use Rattle.bforest_core.proofs.table.Tables.{count-append, count-same, count-other}
 use Rattle.bforest_core.proofs.table.Read.{items-heads, half-some, slot-is, children-row, children-leaves, read-back}
 use Rattle.bforest_core.proofs.table.Stored.{childless, inner_used}
 use Rattle.bforest_core.proofs.union.FreeSlots.{free-at}
 use Rattle.bforest_core.proofs.rows.Counts.{below-one, past-none, at-most-one, named_by, all-named}
-use Rattle.bforest_core.proofs.walks.TopNode.{node_held}
-use Rattle.bforest_core.proofs.walks.Whole.{whole_top, whole_under}
+use Rattle.bforest_core.proofs.walks.TopNode.{node_under}
+use Rattle.bforest_core.proofs.walks.Whole.{whole_under}
 
 -- what holds of each in a list, of each of its parts
 pub every-append : {X : Type 0} (P : X → Type 0) (xs ys : List X) → Every P (xs ++ ys) → Every P xs × Every P ys
@@ -73,16 +73,11 @@ module _ {K V : Type 0} where
   named_free slots [] f = refl
   named_free slots (m ∷ ms) f = let e = no_children (slot slots m) f.0 in rw e (named_free slots ms f.1)
 
-  used_some : (content : Content K V) → 1 ≤ entry_count content → is_used content ≡ true
-  used_some (Inner keys children) some = refl
-  used_some (Leaf keys vals) some = refl
-  used_some (Free next) some = absurd (omega (arith, some))
-
   -- the root of a tree is a node
   root_used : (most : ℕ) → 1 ≤ half_of most → (slots : List (Content K V)) (tree : Tree K V) → IsRooted most slots (root_of tree) tree → is_used (slot slots (root_of tree)) ≡ true
   root_used most one slots tree r =
-      let h = node_held most one slots tree.leaves tree.above [] (whole_top most slots (root_of tree) tree r).first (root_of tree) [] (whole_under most slots (root_of tree) tree r) in
-      ap is_used (slot-is slots (root_of tree) h.0 h.1) ∙ used_some h.0 h.2
+      let u = whole_under most slots (root_of tree) tree r in
+      elim (node_under most one slots tree.leaves tree.above [] u.0 (root_of tree) [] u.1) [ inl w ↦ ap is_used (slot-is slots (root_of tree) _ w.slot_is) | inr w ↦ ap is_used (slot-is slots (root_of tree) _ w.slot_is) ]
 
   -- what the slots of a table name: each number of its trees but the roots
   named_all : (most : ℕ) (table : Table K V) (trees : List (Tree K V)) → IsForest most table trees → (m : ℕ) → count m (flat_map children_of table.nodes) + count m (map root_of trees) ≡ count m (flat_map numbers_of trees)
@@ -110,16 +105,6 @@ module _ {K V : Type 0} where
   used_within slots m used =
       elim (cases_lt m (length slots)) [ inl low ↦ low | inr past ↦ absurd (let e = ap is_used (get_or_past slots m (Free None) past) in cc) ]
 
-  -- and no other number is
-  root_only : (most : ℕ) (table : Table K V) (trees : List (Tree K V)) → IsForest most table trees → (m : ℕ) → IsTrue (is_root table.nodes m) → 0 < count m (map root_of trees)
-  unfolding is_root
-  root_only most table trees f m root =
-      let parts = and_parts (is_used (slot table.nodes m)) (nat_eq (count m (flat_map children_of table.nodes)) 0) root in
-      let none : count m (flat_map children_of table.nodes) ≡ 0 = elim (eqb_tells (count m (flat_map children_of table.nodes)) 0) [ inl w ↦ w.1 | inr w ↦ absurd (let e = w.0 in let d = parts.1 in cc) ] in
-      let low = used_within table.nodes m parts.0 in
-      let off : count m table.chain ≡ 0 = elim (cases_lt 0 (count m table.chain)) [ inl on ↦ absurd (let e = free-unused (slot table.nodes m) (free-at table.nodes table.chain f.free m on) in let d = parts.0 in cc) | inr off ↦ omega (arith, off) ] in
-      omega (arith, none, off, f.account m, below-one m (length table.nodes) low, count-append m (flat_map numbers_of trees) table.chain, named_all most table trees f m)
-
   -- the tree of a root
   pub tree-with : (trees : List (Tree K V)) (m : ℕ) → 0 < count m (map root_of trees) → (before : List (Tree K V)) × (tree : Tree K V) × (after : List (Tree K V)) × (trees ≡ before ++ tree ∷ after) × (root_of tree ≡ m)
   tree-with [] m some = absurd (omega (arith, some))
@@ -129,14 +114,12 @@ module _ {K V : Type 0} where
         | inr w ↦ (let r = tree-with trees m (omega (arith, some, count-other m (root_of tree) (map root_of trees) w.1)) in (tree ∷ r.0, r.1, r.2, ap (λ z. tree ∷ z) r.3, r.4))
       ]
 
-  -- each root is that of a tree of the witness
-  pub root-tree : (most : ℕ) (table : Table K V) (trees : List (Tree K V)) (number : ℕ) → IsForest most table trees → IsTrue (is_root table.nodes number) →
-      (before : List (Tree K V)) × (tree : Tree K V) × (after : List (Tree K V)) × (trees ≡ before ++ tree ∷ after) × (root_of tree ≡ number)
-  root-tree most table trees number f root = tree-with trees number (root_only most table trees f number root)
-
-  tree_back : (most : ℕ) (table : Table K V) (before : List (Tree K V)) (tree : Tree K V) (after : List (Tree K V)) → IsForest most table (before ++ tree ∷ after) → (tree_of table.nodes (root_of tree) ≡ tree) × IsTrue (is_root table.nodes (root_of tree))
+  -- a tree of the witness is the one that is computed from its root, which is a root
+  pub tree-back : (most : ℕ) (table : Table K V) (trees before : List (Tree K V)) (tree : Tree K V) (after : List (Tree K V)) (root : ℕ) → IsForest most table trees → trees ≡ before ++ tree ∷ after → root_of tree ≡ root →
+      (tree_of table.nodes root ≡ tree) × IsTrue (is_root table.nodes root)
   unfolding is_root
-  tree_back most table before tree after f =
+  tree-back most table trees before tree after root given split is =
+      let f = subst (λ (z : List (Tree K V)). IsForest most table z) split given in
       let fit = (every-append (IsFit most) before (tree ∷ after) f.fit).1.0 in
       let inside = (every-append (IsIn table.nodes) before (tree ∷ after) f.inside).1.0 in
       let some = (every-append (λ (tree : Tree K V). 1 ≤ length (flat tree.leaves)) before (tree ∷ after) f.some).1.0 in
@@ -145,15 +128,18 @@ module _ {K V : Type 0} where
       let here = ap (λ z. count m z) (map-append root_of before (tree ∷ after)) ∙ count-append m (map root_of before) (m ∷ map root_of after) in
       let none : count m (flat_map children_of table.nodes) ≡ 0 = omega (arith, here, count-same m (map root_of after), named_all most table (before ++ tree ∷ after) f m, once most table (before ++ tree ∷ after) f m) in
       let used = root_used most (omega (arith, f.capacity.least)) table.nodes tree (record { fit = fit; inside = inside; root_is = refl; some = some; low = low }) in
-      (read-back most table.nodes tree fit inside some low, rw (used, none) refl)
-
-  -- a tree of the witness is the one that is computed from its root, which is a root
-  pub tree-back : (most : ℕ) (table : Table K V) (trees before : List (Tree K V)) (tree : Tree K V) (after : List (Tree K V)) (root : ℕ) → IsForest most table trees → trees ≡ before ++ tree ∷ after → root_of tree ≡ root →
-      (tree_of table.nodes root ≡ tree) × IsTrue (is_root table.nodes root)
-  tree-back most table trees before tree after root f split is =
-      subst (λ (z : ℕ). (tree_of table.nodes z ≡ tree) × IsTrue (is_root table.nodes z)) is
-      (tree_back most table before tree after (subst (λ (z : List (Tree K V)). IsForest most table z) split f))
+      subst (λ (z : ℕ). (tree_of table.nodes z ≡ tree) × IsTrue (is_root table.nodes z)) is (read-back most table.nodes tree fit inside some low, rw (used, none) refl)
 
   -- a number is a root exactly if it is that of a tree
   pub root-counts : (most : ℕ) (table : Table K V) (trees : List (Tree K V)) → IsForest most table trees → (m : ℕ) → IsTrue (is_root table.nodes m) ↔ (0 < count m (map root_of trees))
-  root-counts most table trees f m = (root_only most table trees f m, λ some. (let r = tree-with trees m some in (tree-back most table trees r.0 r.1 r.2 m f r.3 r.4).1))
+  unfolding is_root
+  root-counts most table trees f m = (
+    λ root. (
+        let parts = and_parts (is_used (slot table.nodes m)) (nat_eq (count m (flat_map children_of table.nodes)) 0) root in
+        let none : count m (flat_map children_of table.nodes) ≡ 0 = elim (eqb_tells (count m (flat_map children_of table.nodes)) 0) [ inl w ↦ w.1 | inr w ↦ absurd (let e = w.0 in let d = parts.1 in cc) ] in
+        let low = used_within table.nodes m parts.0 in
+        let off : count m table.chain ≡ 0 = elim (cases_lt 0 (count m table.chain)) [ inl on ↦ absurd (let e = free-unused (slot table.nodes m) (free-at table.nodes table.chain f.free m on) in let d = parts.0 in cc) | inr off ↦ omega (arith, off) ] in
+        omega (arith, none, off, f.account m, below-one m (length table.nodes) low, count-append m (flat_map numbers_of trees) table.chain, named_all most table trees f m)
+        ),
+    λ some. (let r = tree-with trees m some in (tree-back most table trees r.0 r.1 r.2 m f r.3 r.4).1),
+  )

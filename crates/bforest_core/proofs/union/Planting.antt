@@ -1,5 +1,5 @@
 -- A table of no tree, a first entry of a tree, and what a tree under a root has.
-use Rattle.std.proofs.Common.{◌≡◌, ℕ, ◌-◌, ◌≤◌, IsTrue, Some, List, [], ◌∷◌, drop, length, refl, sym, ap, ◌∙◌, subst, length-append, arith}
+use Rattle.std.proofs.Common.{◌≡◌, ℕ, ◌-◌, IsTrue, Some, List, [], ◌∷◌, drop, length, refl, sym, ap, ◌∙◌, subst, length-append, arith}
 use Rattle.bforest_core.proofs.Words.{IsLeafCapacity, Leaf, Table, front_of, free_count, slot_count, fresh_nodes, down_from, with_front, reserved, node, flat, sizes_of, Tree, count, numbers_of, is_root, IsUnion, Plants}
 use Rattle.bforest_core.proofs.table.Tables.{count-same, absent_ne, takes}
 use Rattle.bforest_core.proofs.table.Chains.{length-fresh_nodes, length-down_from}
@@ -28,14 +28,13 @@ module _ {K V : Type 0} where
   pub planted-alloc : (most : ℕ) (old new : Table K V) (number : ℕ) (key : K) (value : V) → IsUnion most old → front_of (reserved old 1).chain ≡ Some number → new ≡ with_front (reserved old 1) (reserved old 1).chain (Leaf (key ∷ []) (value ∷ [])) →
       Plants most old new number (key, value)
   planted-alloc most old new number key value union front is =
-      let one : 1 ≤ most = omega (arith, union.1.capacity.least) in
       let mid = reserved old 1 in
       let u = reserved-union most old 1 union in
       let f = front_rest number mid.chain front in
       let t = takes mid new number (Leaf (key ∷ []) (value ∷ [])) front is (within-slots most mid u.0 u.1 number (omega (arith, ap (λ z. count number z) f.1, count-same number f.0))) in
       let tree : Tree K V = record { leaves = node number ((key, value) ∷ []) ∷ []; above = [] } in
       let p : IsPlanted most new.nodes tree = record {
-        fit = record { leaves_fit = (omega arith, omega (arith, one), tt); stacked = refl; topped = tt };
+        fit = record { leaves_fit = (omega arith, omega (arith, union.1.capacity.least), tt); stacked = refl; topped = tt };
         inside = record { leaves_in = (t.here, tt); rows_in = tt };
         some = omega arith;
         low = omega arith;

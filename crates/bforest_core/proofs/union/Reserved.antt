@@ -16,17 +16,13 @@ every-down : (P : ℕ → Type 0) (first : ℕ) → ((m : ℕ) → first ≤ m �
 every-down P first f zero = tt
 every-down P first f (suc n) = (f (first + n) (omega arith), every-down P first f n)
 
--- one slot more
-once-suc : (m n : ℕ) → once_below m (suc n) ≡ once_below m n + count m (n ∷ [])
-once-suc m n = omega (arith, count-upto m (suc n), count-upto m n, count-append m (upto n) (n ∷ []))
-
 -- the new numbers are those that so many more slots have
 count-down : (m first n : ℕ) → count m (down_from first n) + once_below m first ≡ once_below m (first + n)
 count-down m first zero = let e : first + 0 ≡ first = omega arith in rw e (omega arith)
 count-down m first (suc n) =
     let e : first + suc n ≡ suc (first + n) = omega arith in
     let a = ap (λ z. once_below m z) e in
-    omega (arith, a, once-suc m (first + n), count-down m first n)
+    omega (arith, a, count-upto m (suc (first + n)), count-upto m (first + n), count-append m (upto (first + n)) ((first + n) ∷ []), count-down m first n)
 
 module _ {K V : Type 0} where
   -- one more free slot

@@ -2,7 +2,7 @@
 use Rattle.std.proofs.Common.{◌≡◌, ℕ, ◌≤◌, ◌<◌, IsTrue, List, ◌∷◌, ◌++◌, length, refl, sym, ap, subst, arith}
 use Rattle.bforest_core.proofs.Words.{flat_map, flat_map-append, Table, flat, Tree, IsFit, IsIn, count, Distinct, root_of, numbers_of, IsRooted, tree_of, is_root, IsForest, IsUnion}
 use Rattle.bforest_core.proofs.table.Tables.{count-append}
-use Rattle.bforest_core.proofs.union.Forests.{every-append, once, root-tree, tree-back, within-slots}
+use Rattle.bforest_core.proofs.union.Forests.{every-append, once, root-counts, tree-back, tree-with, within-slots}
 
 module _ {K V : Type 0} where
   -- a tree stands under a root of a table, among these trees
@@ -42,7 +42,7 @@ module _ {K V : Type 0} where
   -- where the used slots are a union of trees, the tree that is computed from a root stands under it
   pub rooted : (most : ℕ) (table : Table K V) (root : ℕ) → IsUnion most table → IsTrue (is_root table.nodes root) → Rooted most table root (tree_of table.nodes root)
   rooted most table root union root_there =
-      let r = root-tree most table union.0 root union.1 root_there in
+      let r = tree-with union.0 root ((root-counts most table union.0 union.1 root).0 root_there) in
       let s = rooted_at most table root r.0 r.1 r.2 r.4 (subst (λ (z : List (Tree K V)). IsForest most table z) r.3 union.1) in
       subst (λ (z : Tree K V). Rooted most table root z) (sym s.tree_is) s
 

@@ -158,7 +158,7 @@ module _ {K V : Type 0} (cmp : K → K → Ordering) (o : IsTotalOrder cmp) (mos
     pub leaf_value : value_for cmp (flat leaves) key ≡ value_for cmp entries key
     leaf_value = ap (λ z. value_for cmp z key) all_are ∙ ap (λ z. option_map (λ (e : K × V). e.1) z) (entry_between cmp o (flat s.here.at.before) entries (flat s.here.at.after) key s.increasing_after s.low s.high)
 
-    pub placed : (m j : ℕ) → m ≡ number → j ≡ place cmp entries key → IsPlaced cmp leaves key m j
+    abbrev placed : (m j : ℕ) → m ≡ number → j ≡ place cmp entries key → IsPlaced cmp leaves key m j
     placed m j m_is j_is =
         let at = s.here.at in
         let same : is_present cmp (flat leaves) key ≡ is_present cmp entries key = ap (λ z. is_present cmp z key) all_are ∙ ap is_some (entry_between cmp o (flat at.before) entries (flat at.after) key s.increasing_after s.low s.high) in
@@ -175,7 +175,6 @@ module _ {K V : Type 0} (cmp : K → K → Ordering) (o : IsTotalOrder cmp) (mos
 
     -- the end of the descent
     pub landed : (path indices path' indices' : List ℕ) (answer : Option V) → 0 < length path → 0 < length indices → path' ≡ set path 0 number → indices' ≡ set indices 0 (place cmp entries key) → answer ≡ value_for cmp entries key → (answer ≡ value_for cmp (flat leaves) key) × Descended cmp leaves lower key (length a) path indices path' indices'
-    unfolding placed
     landed path indices path' indices' answer wide wide' nodes indices_are answer_is = (
       answer_is ∙ sym leaf_value,
       subst (λ (z : List (List (LevelNode K ℕ))). Descended cmp leaves z key (length a) path indices path' indices') (sym s.here.lower_is) (record {

@@ -16,6 +16,7 @@ pair_answer (y ∷ es) zero None k x = absurd cc
 pair_answer (y ∷ es) zero (Some e) k x = ap (λ z. Some (z, e.1)) (some_same e.0 y.0 k) ∙ ap (λ z. Some (y.0, z)) (some_same e.1 y.1 x)
 pair_answer (y ∷ es) (suc i) o k x = pair_answer es i o k x
 
+-- an entry from its key and its value
 pub pair_read : {K X : Type 0} (es : List (K × X)) (i : ℕ) (k : K) (x : X) → slice_get (entry_keys es) i ≡ Some k → slice_get (entry_items es) i ≡ Some x → slice_get es i ≡ Some (k, x)
 pair_read es i k x e f = sym (pair_answer es i (Some (k, x)) (sym e) (sym f))
 
@@ -37,7 +38,7 @@ module _ {K V : Type 0} {most : ℕ} (one : 1 ≤ half_of most) {slots : List (C
   in_leaf path indices before entries after row_is above = within leaf_content slots most (half_of most) one tree.leaves fit.leaves_fit inside.leaves_in path indices 0 tree.above (length before) before entries after row_is refl above
 
   -- a path with the same nodes, and but for the leaf's with the same indices, points into that leaf too
-  pub points_in : {path indices : List ℕ} {leaf : ℕ} (w : InLeaf path indices leaf) (size : ℕ) → size ≡ suc (length tree.above) → (path' indices' : List ℕ) (place : ℕ) → path' ≡ path → SameBut 0 indices indices' → get_or indices' 0 0 ≤ length w.entries → place ≡ length (flat w.before) + get_or indices' 0 0 → PointsAt path' indices' size tree place
+  abbrev pub points_in : {path indices : List ℕ} {leaf : ℕ} (w : InLeaf path indices leaf) (size : ℕ) → size ≡ suc (length tree.above) → (path' indices' : List ℕ) (place : ℕ) → path' ≡ path → SameBut 0 indices indices' → get_or indices' 0 0 ≤ length w.entries → place ≡ length (flat w.before) + get_or indices' 0 0 → PointsAt path' indices' size tree place
   points_in {path} {indices} {leaf} w size size_is path' indices' place path_is same low place_is = record {
     before = w.before;
     entries = w.entries;
@@ -50,11 +51,11 @@ module _ {K V : Type 0} {most : ℕ} (one : 1 ≤ half_of most) {slots : List (C
   }
 
   stands_in : {path indices : List ℕ} {leaf : ℕ} (w : InLeaf path indices leaf) (size : ℕ) → size ≡ suc (length tree.above) → (path' indices' : List ℕ) (place : ℕ) → path' ≡ path → SameBut 0 indices indices' → get_or indices' 0 0 < length w.entries → place ≡ length (flat w.before) + get_or indices' 0 0 → Stands path' indices' size tree place
-  unfolding points_in
   stands_in w size size_is path' indices' place path_is same low place_is = stands-pointed (points_in w size size_is path' indices' place path_is same (omega (arith, low)) place_is) low
 
   -- a path that went to the leaf behind one, and to the front there, stands on the entry that follows
-  pub first_behind : {path indices : List ℕ} {leaf : ℕ} (w : InLeaf path indices leaf) (size : ℕ) → size ≡ suc (length tree.above) → (path1 indices1 path' indices' : List ℕ) → Moved path indices path1 indices1 0 tree.above (heads tree.leaves) (suc leaf) → path' ≡ path1 → get_or indices' 0 0 ≡ 0 → SameBut 0 indices1 indices' → Stands path' indices' size tree (length (flat w.before) + length w.entries)
+  pub first_behind : {path indices : List ℕ} {leaf : ℕ} (w : InLeaf path indices leaf) (size : ℕ) → size ≡ suc (length tree.above) → (path1 indices1 path' indices' : List ℕ) →
+      Moved path indices path1 indices1 0 tree.above (heads tree.leaves) (suc leaf) → path' ≡ path1 → get_or indices' 0 0 ≡ 0 → SameBut 0 indices1 indices' → Stands path' indices' size tree (length (flat w.before) + length w.entries)
   first_behind w size size_is path1 indices1 path' indices' m path_is here above =
       let next : InLeaf path1 indices1 _ = there leaf_content slots most (half_of most) one tree.leaves fit.leaves_fit inside.leaves_in m in
       stands_in next size size_is path' indices' (length (flat w.before) + length w.entries) path_is above (omega (arith, here, next.some)) (omega (arith, here, seam leaf_content slots most w next refl))

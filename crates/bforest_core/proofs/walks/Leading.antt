@@ -52,15 +52,6 @@ module _ {K V : Type 0} (most : ℕ) (slots : List (Content K V)) (leaves : List
         entries_above = λ i low. entries i (λ z. omega (arith, z, low, high_is, s.count_is)) ∙ d.entries_above i (omega (arith, low, s.count_is));
       }
 
--- what lies under a child of an inner node
-record ChildUnder {K V : Type 0} (most : ℕ) (slots : List (Content K V)) (leaves : List (LevelNode K V)) (lower rows : List (List (LevelNode K ℕ))) (child before behind : ℕ) : Type 0 where
-  front : List (K × ℕ)
-  key : K
-  back : List (K × ℕ)
-  under : Under most slots leaves rows (front ++ (key, child) ∷ back)
-  front_is : length front ≡ before
-  back_is : length front + suc (length back) ≡ behind
-
 module _ {K V : Type 0} (most : ℕ) (slots : List (Content K V)) (leaves : List (LevelNode K V)) (lower : List (List (LevelNode K ℕ))) (a : List (K × ℕ)) (first : K) (number : ℕ) (b : List (K × ℕ)) (s : InnerUnder most slots leaves lower a first number b)
     (content2 : Content K V) (read2 : slice_get slots number ≡ Some content2) where
   content_is : content2 ≡ inner_content (s.at.e ∷ s.at.es)
@@ -70,18 +61,15 @@ module _ {K V : Type 0} (most : ℕ) (slots : List (Content K V)) (leaves : List
   child_asks : (index : ℕ) → index ≤ length s.at.es → IsInner content2 × (index < entry_count content2)
   child_asks index within = (subst IsInner (sym content_is) tt, subst (λ (z : Content K V). index < entry_count z) (sym content_is) (omega (arith, within, item_count (s.at.e ∷ s.at.es))))
 
-  child_under : (index child : ℕ) → slice_get (children_of content2) index ≡ Some child → ChildUnder most slots leaves lower s.rows child (length (flat s.at.before) + index) (length (flat s.row))
+  -- what lies under a child
+  child_under : (index child : ℕ) → slice_get (children_of content2) index ≡ Some child → (front : List (K × ℕ)) × (key : K) × (back : List (K × ℕ)) × Under most slots leaves s.rows (front ++ (key, child) ∷ back) × (length front ≡ length (flat s.at.before) + index) × (length front + suc (length back) ≡ length (flat s.row))
   child_under index child found =
       let c = child_cut (s.at.e ∷ s.at.es) index child (ap (λ z. slice_get (children_of z) index) (sym content_is) ∙ found) in
+      let front = flat s.at.before ++ c.0 in
+      let back = c.2 ++ flat s.at.after in
       let flat_is = ap flat s.at.row_is ∙ flat_parted s.at.before number (s.at.e ∷ s.at.es) c.0 (c.1, child) c.2 s.at.after c.3 in
-      record {
-        front = flat s.at.before ++ c.0;
-        key = c.1;
-        back = c.2 ++ flat s.at.after;
-        under = subst (λ (z : List (K × ℕ)). Under most slots leaves s.rows z) flat_is s.under;
-        front_is = length-append (flat s.at.before) c.0 ∙ ap (λ z. length (flat s.at.before) + z) c.4;
-        back_is = sym (ap length flat_is ∙ length-append (flat s.at.before ++ c.0) ((c.1, child) ∷ (c.2 ++ flat s.at.after)));
-      }
+      let under = subst (λ (z : List (K × ℕ)). Under most slots leaves s.rows z) flat_is s.under in
+      (front, c.1, back, under, length-append (flat s.at.before) c.0 ∙ ap (λ z. length (flat s.at.before) + z) c.4, sym (ap length flat_is ∙ length-append front ((c.1, child) ∷ back)))
 
 module _ {K V : Type 0} (most : ℕ) (slots : List (Content K V)) where
   -- what the call one level down the first nodes is asked
@@ -120,8 +108,8 @@ module _ {K V : Type 0} (most : ℕ) (one : 1 ≤ half_of most) (slots : List (C
       pub front_below : FrontBelow most slots leaves lower child
       front_below =
           let c = child_under most slots leaves lower [] first number b front_node content2 read2 0 child child_read in
-          let none = nil_from_length c.front (omega (arith, c.front_is, none_flat front_node.at.before front_node.at.before_is)) in
-          record { rows = front_node.rows; first = c.key; rest = c.back; under = subst (λ (z : List (K × ℕ)). Under most slots leaves front_node.rows (z ++ (c.key, child) ∷ c.back)) none c.under; count_is = front_node.count_is }
+          let none = nil_from_length c.0 (omega (arith, c.4, none_flat front_node.at.before front_node.at.before_is)) in
+          record { rows = front_node.rows; first = c.1; rest = c.2; under = subst (λ (z : List (K × ℕ)). Under most slots leaves front_node.rows (z ++ (c.1, child) ∷ c.2)) none c.3; count_is = front_node.count_is }
 
       module _ {path indices path1 indices1 : List ℕ} {below : ℕ} (leads : LeadsFirst most slots path indices path1 indices1 child below) where
         led : (below ≡ length front_below.rows) × Led leaves front_below.rows path indices path1 indices1
@@ -160,13 +148,11 @@ module _ {K V : Type 0} (most : ℕ) (one : 1 ≤ half_of most) (slots : List (C
     back_asks = child_asks most slots leaves lower a first number [] back_node content2 read2 last (omega (arith, index))
 
     module _ (child : ℕ) (child_read : slice_get (children_of content2) last ≡ Some child) where
-      c : ChildUnder most slots leaves lower back_node.rows child (length (flat back_node.at.before) + last) (length (flat back_node.row))
-      c = child_under most slots leaves lower a first number [] back_node content2 read2 last child child_read
-
-      pub back_below : (rows : List (List (LevelNode K ℕ))) × (before : List (K × ℕ)) × (first : K) × Under most slots leaves rows (before ++ (first, child) ∷ []) × (length lower ≡ suc (length rows))
+      pub back_below : (rows : List (List (LevelNode K ℕ))) × (before : List (K × ℕ)) × (first : K) × Under most slots leaves rows (before ++ (first, child) ∷ []) × (length lower ≡ suc (length rows)) × (length before ≡ length (flat back_node.at.before) + last)
       back_below =
-          let none = nil_from_length c.back (omega (arith, c.front_is, c.back_is, index, last_place 4 8 (omega arith) back_node.row a first number back_node.at)) in
-          (back_node.rows, c.front, c.key, subst (λ (z : List (K × ℕ)). Under most slots leaves back_node.rows (c.front ++ (c.key, child) ∷ z)) none c.under, back_node.count_is)
+          let c = child_under most slots leaves lower a first number [] back_node content2 read2 last child child_read in
+          let none = nil_from_length c.2 (omega (arith, c.4, c.5, index, last_place 4 8 (omega arith) back_node.row a first number back_node.at)) in
+          (back_node.rows, c.0, c.1, subst (λ (z : List (K × ℕ)). Under most slots leaves back_node.rows (c.0 ++ (c.1, child) ∷ z)) none c.3, back_node.count_is, c.4)
 
       module _ {path indices path1 indices1 : List ℕ} {below : ℕ} (leads : LeadsLast most slots path indices path1 indices1 child below) where
         led_last : (below ≡ length back_below.0) × LedLast leaves back_below.0 (length back_below.1) path indices path1 indices1
@@ -179,7 +165,7 @@ module _ {K V : Type 0} (most : ℕ) (one : 1 ≤ half_of most) (slots : List (C
         pub leads_here : (path2 indices2 : List ℕ) → get_or path2 (below + 1) 0 ≡ number → get_or indices2 (below + 1) 0 ≡ last → path2 ≡ set path1 (below + 1) number → indices2 ≡ set indices1 (below + 1) last → (below + 1 ≡ length lower) × LedLast leaves lower (length a) path indices path2 indices2
         unfolding back_below
         leads_here path2 indices2 node_here entry_here path_is indices_are =
-            let l = inner_led most slots leaves lower a first number [] path indices back_node path1 indices1 path2 indices2 (below + 1) last (length (flat leaves) - 1) (length c.front) (omega (arith, led_last.0)) (omega (arith, index)) c.front_is
+            let l = inner_led most slots leaves lower a first number [] path indices back_node path1 indices1 path2 indices2 (below + 1) last (length (flat leaves) - 1) (length back_below.1) (omega (arith, led_last.0)) (omega (arith, index)) back_below.5
             (record { leaf = led_last.1.leaf; stands = led_last.1.stands; nodes_above = led_last.1.nodes_above; entries_above = led_last.1.entries_above }) node_here entry_here (set_but path1 path2 (below + 1) number path_is) (set_but indices1 indices2 (below + 1) last indices_are) in
             (back_level, record { leaf = l.leaf; stands = l.stands; nodes_above = l.nodes_above; entries_above = l.entries_above })
 

@@ -10,7 +10,7 @@ use Rattle.bforest_core.proofs.walks.Entered.{first_behind, leaf_last, over_leav
 use Rattle.bforest_core.proofs.walks.Standing.{on-leaf-in, on-tree}
 use Rattle.bforest_core.proofs.walks.TopNode.{leaf_under}
 use Rattle.bforest_core.proofs.walks.Steps.{only}
-use Rattle.bforest_core.proofs.walks.Whole.{whole_top, whole_under}
+use Rattle.bforest_core.proofs.walks.Whole.{whole_under}
 
 -- from its leaf's first entry on the list is the leaf's entries, and what follows
 leaf-rest : {K V : Type 0} (path indices : List ℕ) (size : ℕ) (tree : Tree K V) (place : ℕ) (s : Stands path indices size tree place) → drop (length (flat s.leaf.before)) (flat tree.leaves) ≡ s.leaf.entries ++ drop (length (flat s.leaf.before) + length s.leaf.entries) (flat tree.leaves)
@@ -33,8 +33,8 @@ pub root-leaf : {K V : Type 0} (most : ℕ) (table : Table K V) (union : IsUnion
 root-leaf most table union root content is found other =
     let tree = tree_of table.nodes root in
     let w = is-rooted most table root union is in
-    let t = whole_top most table.nodes root tree w in
-    let f = leaf_under most (some_leaf most union.1.capacity) table.nodes tree.leaves tree.above [] t.first root [] (whole_under most table.nodes root tree w) content found other in
+    let u = whole_under most table.nodes root tree w in
+    let f = leaf_under most (some_leaf most union.1.capacity) table.nodes tree.leaves tree.above [] u.0 root [] u.1 content found other in
     subst IsLeaf (sym (slot-is table.nodes root _ f.slot_is)) tt
 
 module _ {K V : Type 0} {n : ℕ} {table : Table K V} (union : IsUnion n table) {root : ℕ} where

@@ -24,11 +24,8 @@ module _ {K X : Type 0} (cmp : K → K → Ordering) (es : List (K × X)) (key :
 
 -- a key without a value is not present
 pub no-value : {K X : Type 0} (cmp : K → K → Ordering) (key : K) (es : List (K × X)) → None ≡ value_for cmp es key → is_present cmp es key ≡ true → ⊥
-no-value {K} {X} cmp key es none here = go (entry_for cmp es key) none here
-  where
-    go : (o : Option (K × X)) → None ≡ option_map (λ e. e.1) o → is_some o ≡ true → ⊥
-    go None none here = absurd (cc)
-    go (Some e) none here = absurd (cc)
+no-value {K} {X} cmp key es none here =
+    (elim (entry_for cmp es key) as (λ (o : Option (K × X)). None ≡ option_map (λ e. e.1) o → is_some o ≡ true → ⊥) [ None ↦ λ n h. never h refl | Some e ↦ λ n h. absurd (cc) ]) none here
 
 -- the key is less than the entries from one on that is greater
 upto_at : {K X : Type 0} (cmp : K → K → Ordering) (key : K) (es : List (K × X)) (p : ℕ) (e : K × X) → slice_get es p ≡ Some e → cmp e.0 key ≡ Greater → IsUpTo cmp (drop p es) key
@@ -92,7 +89,6 @@ module _ {K V : Type 0} {n : ℕ} (table : Table K V) (root : ℕ) (path : Path 
 
     -- or in front of the first of all
     pub placed-first : StandsOn table root path 0 → IsPlaced table root path 0
-    unfolding points-stands
     placed-first on =
         let s = on.stands in
         let solid = (FitRow-split (half_of n) n s.leaf.before (node (leaf_of path) s.leaf.entries) s.leaf.after (subst (λ (z : List (LevelNode K V)). FitRow (half_of n) n z) s.leaf.row_is (on-tree union path on).fit.leaves_fit)).0 in
@@ -148,8 +144,7 @@ module _ {K V : Type 0} {n : ℕ} (table : Table K V) (root : ℕ) (path : Path 
   -- at the end no entry is left
   pub none-left : (cmp : K → K → Ordering) (key : K) → path.size ≡ 0 → IsUpTo cmp (drop p (list_under table root)) key
   none-left cmp key none =
-      let end = at_end path.node path.entry (tree_of table.nodes root) p path.size none at.at in
-      subst (λ (z : List (K × V)). IsUpTo cmp z key) (sym (drop_all p (list_under table root) (omega (arith, end)))) tt
+      subst (λ (z : List (K × V)). IsUpTo cmp z key) (sym (drop_all p (list_under table root) (omega (arith, at_end path.node path.entry (tree_of table.nodes root) p path.size none at.at)))) tt
 
   -- elsewhere it is on an entry
   pub some-on : 0 < path.size → StandsOn table root path p

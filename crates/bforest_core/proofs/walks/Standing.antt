@@ -14,11 +14,11 @@ use Rattle.bforest_core.proofs.walks.Backward.{at_end, at_entry}
 use Rattle.bforest_core.proofs.walks.Entered.{InLeaf, first_behind, in_leaf, leaf_here, leaf_last}
 use Rattle.bforest_core.proofs.walks.Steps.{not_less}
 use Rattle.bforest_core.proofs.union.Unions.{is-rooted, rooted}
-use Rattle.bforest_core.proofs.walks.Whole.{led_stands, stands-pointed, whole_top, whole_under}
+use Rattle.bforest_core.proofs.walks.Whole.{led_stands, stands-pointed, whole_under}
 
 module _ {K V : Type 0} (path indices : List ℕ) (tree : Tree K V) (place : ℕ) where
   -- a path on an entry points to it
-  unfoldable pub points-stands : (size : ℕ) → Stands path indices size tree place → PointsAt path indices size tree place
+  abbrev pub points-stands : (size : ℕ) → Stands path indices size tree place → PointsAt path indices size tree place
   points-stands size s = record {
     before = s.leaf.before;
     entries = s.leaf.entries;
@@ -49,7 +49,8 @@ pub record UnderRoot {K V : Type 0} (most : ℕ) (table : Table K V) (root : ℕ
 pub under-root : {K V : Type 0} (most : ℕ) (table : Table K V) (root : ℕ) → IsUnion most table → IsTrue (is_root table.nodes root) → UnderRoot most table root
 under-root most table root union is =
     let w = is-rooted most table root union is in
-    record { first = (whole_top most table.nodes root (tree_of table.nodes root) w).first; under = whole_under most table.nodes root (tree_of table.nodes root) w; low = w.low }
+    let u = whole_under most table.nodes root (tree_of table.nodes root) w in
+    record { first = u.0; under = u.1; low = w.low }
 
 -- a path that was led from a root down to the first entry
 pub led-first : {K V : Type 0} (most : ℕ) (table : Table K V) (root : ℕ) → IsUnion most table → IsTrue (is_root table.nodes root) → (path indices path' indices' : List ℕ) (level : ℕ) → LeadsFirst most table.nodes path indices path' indices' root level → (level ≤ 16) × StandsUnder table.nodes root path' indices' (level + 1) 0

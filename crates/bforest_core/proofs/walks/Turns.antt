@@ -44,11 +44,13 @@ module _ {K V : Type 0} where
       child_asks : (index : ℕ) → index ≤ 255 → index < length w.entries → ChildAt slots path1 level index
       child_asks index most low = (omega (arith, up_is, height, here.over.height), (most, (w.entries, slot_below, low)))
 
-      child_moves : SameBelow up path path1 → SameBelow (suc up) indices indices1 → (path' indices' : List ℕ) (index to : ℕ) → index < length w.entries → to ≡ length (flat w.before) + index → Reads slots path1 path' level index → SameBut level path1 path' → get_or indices' (suc level) 0 ≡ index → SameBut (suc level) indices1 indices' → Moved path indices path' indices' level rows list to
+      child_moves : SameBelow up path path1 → SameBelow (suc up) indices indices1 → (path' indices' : List ℕ) (index to : ℕ) → index < length w.entries → to ≡ length (flat w.before) + index →
+          Reads slots path1 path' level index → SameBut level path1 path' → get_or indices' (suc level) 0 ≡ index → SameBut (suc level) indices1 indices' → Moved path indices path' indices' level rows list to
       child_moves nodes_below entries_below path' indices' index to low to_is reads nodes entry entries =
           let e = read w.entries index low in
           let above = stands-same path1 indices1 path' indices' (suc up) here.rest q (λ i high. nodes i (λ e. omega (arith, e, up_is, high))) (λ i high. entries i (λ e. omega (arith, e, up_is, high))) w.stands in
-          let stands : StandsAbove path' indices' up (here.row ∷ here.rest) to = (at_node here.row w.before (get_or path1 up 0) w.entries w.after (get_or path' up 0) (get_or indices' up 0) index to w.row_is (nodes up (λ e. omega (arith, e, up_is))) (ap (λ z. get_or indices' z 0) up_is ∙ entry) low to_is, subst (λ (z : ℕ). StandsAbove path' indices' (suc up) here.rest z) (sym w.at) above) in
+          let at = at_node here.row w.before (get_or path1 up 0) w.entries w.after (get_or path' up 0) (get_or indices' up 0) index to w.row_is (nodes up (λ e. omega (arith, e, up_is))) (ap (λ z. get_or indices' z 0) up_is ∙ entry) low to_is in
+          let stands : StandsAbove path' indices' up (here.row ∷ here.rest) to = (at, subst (λ (z : ℕ). StandsAbove path' indices' (suc up) here.rest z) (sym w.at) above) in
           record {
             head = e.0;
             head_is = ap (λ z. slice_get z to) (sym here.flat_is) ∙ ap (λ z. slice_get (flat here.row) z) to_is ∙ entry_at here.row w.before (get_or path1 up 0) w.entries w.after index e.0 w.row_is e.1;
@@ -120,6 +122,7 @@ module _ {K V : Type 0} where
       pub first_child_asks : ChildAt slots path1 level 0
       first_child_asks = child_asks on_node 0 (omega arith) on_node.some
 
-      pub first_child_moves : (path' indices' : List ℕ) (has : Bool) → ((entries : List (K × ℕ)) → slice_get slots (get_or path up 0) ≡ Some (inner_content entries) → IsTrue has ↔ (get_or indices up 0 + 1 < length entries)) → has ≡ false → Reads slots path1 path' level 0 → SameBut level path1 path' → get_or indices' (suc level) 0 ≡ 0 → SameBut (suc level) indices1 indices' → Moved path indices path' indices' level rows list (suc place)
+      pub first_child_moves : (path' indices' : List ℕ) (has : Bool) → ((entries : List (K × ℕ)) → slice_get slots (get_or path up 0) ≡ Some (inner_content entries) → IsTrue has ↔ (get_or indices up 0 + 1 < length entries)) → has ≡ false →
+          Reads slots path1 path' level 0 → SameBut level path1 path' → get_or indices' (suc level) 0 ≡ 0 → SameBut (suc level) indices1 indices' → Moved path indices path' indices' level rows list (suc place)
       first_child_moves path' indices' has test is =
           child_moves on_node on.nodes_below on.entries_below path' indices' 0 (suc place) on_node.some (omega (arith, here.place_is, here.within, past_all has test is, seam inner_content slots 8 stay on_node refl))

@@ -5,15 +5,11 @@ use Rattle.bforest_core.proofs.Words.{Content, place, is_present, LevelNode, fla
 
 module _ {K : Type 0} where
   -- the root alone is the top
-  pub record Top (list : List (K × ℕ)) (rows : List (List (LevelNode K ℕ))) (root : ℕ) : Type 0 where
-    pub first : K
-    pub stacked : StackedTo list rows ((first, root) ∷ [])
-
-  pub top : (list : List (K × ℕ)) (rows : List (List (LevelNode K ℕ))) (root : ℕ) → Stacked list rows → root_above list rows ≡ root → Top list rows root
+  top : (list : List (K × ℕ)) (rows : List (List (LevelNode K ℕ))) (root : ℕ) → Stacked list rows → root_above list rows ≡ root → (first : K) × StackedTo list rows ((first, root) ∷ [])
   top [] [] root s e = absurd (omega (arith, s))
   top (x ∷ y ∷ list) [] root s e = absurd (omega (arith, s))
-  top (x ∷ []) [] root s e = record { first = x.0; stacked = ap (λ z. (x.0, z) ∷ []) e }
-  top list (row ∷ rows) root s e = let t = top (heads row) rows root s.2 e in record { first = t.first; stacked = (s.0, s.1, t.stacked) }
+  top (x ∷ []) [] root s e = (x.0, ap (λ z. (x.0, z) ∷ []) e)
+  top list (row ∷ rows) root s e = let t = top (heads row) rows root s.2 e in (t.0, (s.0, s.1, t.1))
 
   -- a path up to the root stands on all rows
   pub stands_above : (path indices : List ℕ) (level : ℕ) (rows : List (List (LevelNode K ℕ))) (place : ℕ) → StandsTo path indices level rows place 0 → StandsAbove path indices level rows place
@@ -24,11 +20,9 @@ pub led_stands : {K V : Type 0} (tree : Tree K V) (path indices path' indices' :
 led_stands tree path indices path' indices' size d e = record { leaf = d.leaf; above = stands_above path' indices' 1 tree.above (length d.leaf.before) d.stands; size_is = e }
 
 module _ {K V : Type 0} (most : ℕ) (slots : List (Content K V)) (root : ℕ) (tree : Tree K V) (r : IsRooted most slots root tree) where
-  pub whole_top : Top (heads tree.leaves) tree.above root
-  whole_top = top (heads tree.leaves) tree.above root r.fit.stacked r.root_is
-
-  pub whole_under : Under most slots tree.leaves tree.above ((whole_top.first, root) ∷ [])
-  whole_under = record { leaves_fit = r.fit.leaves_fit; leaves_in = r.inside.leaves_in; stacked = whole_top.stacked; rows_in = r.inside.rows_in }
+  -- what lies under its root is all of it
+  pub whole_under : (first : K) × Under most slots tree.leaves tree.above ((first, root) ∷ [])
+  whole_under = let t = top (heads tree.leaves) tree.above root r.fit.stacked r.root_is in (t.0, record { leaves_fit = r.fit.leaves_fit; leaves_in = r.inside.leaves_in; stacked = t.1; rows_in = r.inside.rows_in })
 
 pub all_through : {K : Type 0} (cmp : K → K → Ordering) (first key : K) → GoesThrough cmp [] first [] key
 all_through cmp first key = record { from = tt; upto = tt }
@@ -38,7 +32,8 @@ pub stands-pointed : {K V : Type 0} {path indices : List ℕ} {size place : ℕ}
 stands-pointed p low = record { leaf = record { before = p.before; entries = p.entries; after = p.after; row_is = p.leaves_are; within = low; place_is = p.place_is }; above = p.above; size_is = p.size_is }
 
 -- where a search under a root ended: at the key's entry where it is present, and else where the key comes in
-module _ {K V : Type 0} (cmp : K → K → Ordering) (slots : List (Content K V)) (root : ℕ) (is : IsTrue (is_root slots root)) {key : K} {path indices path' indices' : List ℕ} {size : ℕ} (d : Descended cmp (tree_of slots root).leaves (tree_of slots root).above key 0 path indices path' indices') (size_is : size ≡ suc (length (tree_of slots root).above)) where
+module _ {K V : Type 0} (cmp : K → K → Ordering) (slots : List (Content K V)) (root : ℕ) (is : IsTrue (is_root slots root)) {key : K} {path indices path' indices' : List ℕ} {size : ℕ}
+    (d : Descended cmp (tree_of slots root).leaves (tree_of slots root).above key 0 path indices path' indices') (size_is : size ≡ suc (length (tree_of slots root).above)) where
   abbrev points : PointsAt path' indices' size (tree_of slots root) (place cmp (flat (tree_of slots root).leaves) key)
   points = record { before = d.leaf.before; entries = d.leaf.entries; after = d.leaf.after; leaves_are = d.leaf.row_is; within = d.leaf.within; place_is = d.leaf.place_is; above = stands_above path' indices' 1 (tree_of slots root).above (length d.leaf.before) d.stands; size_is = size_is }
 

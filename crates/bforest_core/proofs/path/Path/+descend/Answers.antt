@@ -12,7 +12,8 @@ search_leaf-requires g t c =
 pub returns-then-level-eq0-clause-descended : goal.returns-then-level-eq0-clause-descended
 returns-then-level-eq0-clause-descended g t c = λ leaves lower a first b u inc through level_is.
     let s = leaf_step (g.C.Comparator.order c.args.comp.now) (g.met.C.Comparator.total c.args.comp.now) g.row.N (some_leaf _ c.requires.capacity) c.args.pool.now.nodes leaves lower a first c.args.node b c.args.key inc through (leaf_at g.row.N (some_leaf _ c.requires.capacity) c.args.pool.now.nodes leaves lower a first c.args.node b u (sym level_is ∙ c.if-level-eq0.true)) in
-    landed (g.C.Comparator.order c.args.comp.now) (g.met.C.Comparator.total c.args.comp.now) g.row.N (some_leaf _ c.requires.capacity) c.args.pool.now.nodes leaves lower a first c.args.node b c.args.key s c.args.self.now.node c.args.self.now.entry _ _ _ (omega arith) (omega arith) c.search_leaf.ensures.node (c.search_leaf.ensures.entry (s.here.at.e ∷ s.here.at.es) s.here.slot_is) (c.search_leaf.ensures.value (s.here.at.e ∷ s.here.at.es) s.here.slot_is)
+    landed (g.C.Comparator.order c.args.comp.now) (g.met.C.Comparator.total c.args.comp.now) g.row.N (some_leaf _ c.requires.capacity) c.args.pool.now.nodes leaves lower a first c.args.node b c.args.key s c.args.self.now.node c.args.self.now.entry _ _ _ (omega arith) (omega arith)
+    c.search_leaf.ensures.node (c.search_leaf.ensures.entry (s.here.at.e ∷ s.here.at.es) s.here.slot_is) (c.search_leaf.ensures.value (s.here.at.e ∷ s.here.at.es) s.here.slot_is)
 
 pub follow-index-requires : goal.follow-index-requires
 follow-index-requires g t c =

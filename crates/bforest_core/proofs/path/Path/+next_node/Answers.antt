@@ -32,7 +32,11 @@ pub go_to_child-requires-then-moved : goal.go_to_child-requires-then-moved
 go_to_child-requires-then-moved g t c = (search rules, (search rules, first_child_asks c.requires.over.3 (add-one _) c.if-level-self.false c.requires.height c.next_node-moved.new.self.node c.next_node-moved.new.self.entry (c.next_node-moved.ensures.moved c.if-moved.true)))
 
 pub returns-then-moved : goal.returns-then-moved
-returns-then-moved g t c = record { moved = λ yes rows list place p. first_child_moves p (add-one _) c.if-level-self.false c.requires.height c.next_node-moved.new.self.node c.next_node-moved.new.self.entry (c.next_node-moved.ensures.moved c.if-moved.true) c.go_to_child-then-moved.new.self.node c.go_to_child-then-moved.new.self.entry c.has_child.result c.has_child.ensures.within c.if-has_child.false c.go_to_child-then-moved.ensures.child c.go_to_child-then-moved.ensures.nodes c.go_to_child-then-moved.ensures.entry c.go_to_child-then-moved.ensures.entries; last = never c.if-moved.true; same = never c.if-moved.true; size = c.go_to_child-then-moved.ensures.size ∙ c.next_node-moved.ensures.size }
+returns-then-moved g t c =
+    let up = c.next_node-moved.new.self in
+    let new = c.go_to_child-then-moved.new.self in
+    let went = c.go_to_child-then-moved.ensures in
+    record { moved = λ yes rows list place p. first_child_moves p (add-one _) c.if-level-self.false c.requires.height up.node up.entry (c.next_node-moved.ensures.moved c.if-moved.true) new.node new.entry c.has_child.result c.has_child.ensures.within c.if-has_child.false went.child went.nodes went.entry went.entries; last = never c.if-moved.true; same = never c.if-moved.true; size = went.size ∙ c.next_node-moved.ensures.size }
 
 pub returns-else-moved : goal.returns-else-moved
 returns-else-moved g t c = record { moved = λ yes. never yes c.if-moved.false; last = λ no rows list place p. last_moves p (add-one _) c.if-level-self.false c.requires.height c.has_child.result c.has_child.ensures.within (c.next_node-moved.ensures.last c.if-moved.false) c.if-has_child.false; same = λ no. c.next_node-moved.ensures.same c.if-moved.false; size = c.next_node-moved.ensures.size }

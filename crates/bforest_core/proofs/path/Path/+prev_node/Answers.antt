@@ -31,7 +31,11 @@ go_to_child-requires-then-moved g t c =
     (search rules, (search rules, last_child_asks c.requires.over.3 (add-one _) c.if-level-self.false c.requires.height c.prev_node-moved.new.self.node c.prev_node-moved.new.self.entry (c.prev_node-moved.ensures.moved c.if-moved.true) c.index-self-level.result (omega arith) c.last_index-last.result c.last_index-last.ensures.last c.last_index-last.ensures.most))
 
 pub returns-then-moved : goal.returns-then-moved
-returns-then-moved g t c = record { moved = λ yes rows list place p. last_child_moves p (add-one _) c.if-level-self.false c.requires.height c.prev_node-moved.new.self.node c.prev_node-moved.new.self.entry (c.prev_node-moved.ensures.moved c.if-moved.true) c.index-self-level.result (omega arith) c.last_index-last.result c.last_index-last.ensures.last c.go_to_child-then-moved.new.self.node c.go_to_child-then-moved.new.self.entry c.if-entry-gt0.false c.go_to_child-then-moved.ensures.child c.go_to_child-then-moved.ensures.nodes c.go_to_child-then-moved.ensures.entry c.go_to_child-then-moved.ensures.entries; first = never c.if-moved.true; same = never c.if-moved.true; size = c.go_to_child-then-moved.ensures.size ∙ c.prev_node-moved.ensures.size }
+returns-then-moved g t c =
+    let up = c.prev_node-moved.new.self in
+    let new = c.go_to_child-then-moved.new.self in
+    let went = c.go_to_child-then-moved.ensures in
+    record { moved = λ yes rows list place p. last_child_moves p (add-one _) c.if-level-self.false c.requires.height up.node up.entry (c.prev_node-moved.ensures.moved c.if-moved.true) c.index-self-level.result (omega arith) c.last_index-last.result c.last_index-last.ensures.last new.node new.entry c.if-entry-gt0.false went.child went.nodes went.entry went.entries; first = never c.if-moved.true; same = never c.if-moved.true; size = went.size ∙ c.prev_node-moved.ensures.size }
 
 pub returns-else-moved : goal.returns-else-moved
 returns-else-moved g t c = record { moved = λ yes. never yes c.if-moved.false; first = λ no rows list place p. first_moves p (add-one _) c.if-level-self.false c.requires.height (c.prev_node-moved.ensures.first c.if-moved.false) c.if-entry-gt0.false; same = λ no. c.prev_node-moved.ensures.same c.if-moved.false; size = c.prev_node-moved.ensures.size }

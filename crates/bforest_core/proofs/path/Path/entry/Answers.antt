@@ -1,5 +1,6 @@
-use Rattle.std.proofs.Common.{rules, sym, arith}
+use Rattle.std.proofs.Common.{rules, refl, sym, arith}
 use Rattle.bforest_core.proofs.Words.{slice_get_past, list_under, tree_of}
+use Rattle.bforest_core.specs.Paths.{Standing}
 use Rattle.bforest_core.proofs.walks.Backward.{at_end}
 use Rattle.bforest_core.proofs.walks.Nearby.{here-entry, here-leaf, some-on}
 use Rattle.bforest_core.proofs.path.Path.entry.Goals as goal
@@ -9,12 +10,12 @@ entry_here-requires g c =
     let at = c.requires.stands (λ e. omega (arith, e, c.if-self-gt0.true)) in
     (search rules, (search rules, here-leaf c.args.pool.now at.root c.args.self.now at.place c.requires.union at.on))
 
-pub returns-else-self-gt0-clause-value : goal.returns-else-self-gt0-clause-value
-returns-else-self-gt0-clause-value g c = λ at.
-    sym (slice_get_past (list_under c.args.pool.now at.root) at.place (omega (arith, at_end c.args.self.now.node c.args.self.now.entry (tree_of c.args.pool.now.nodes at.root) at.place c.args.self.now.size (omega (arith, c.if-self-gt0.false)) at.at.at)))
+pub returns-else-self-gt0 : goal.returns-else-self-gt0
+returns-else-self-gt0 g c =
+    let past = λ (at : Standing c.args.pool.now c.args.self.now). at_end c.args.self.now.node c.args.self.now.entry (tree_of c.args.pool.now.nodes at.root) at.place c.args.self.now.size (omega (arith, c.if-self-gt0.false)) at.at.at in
+    record { value = λ at. sym (slice_get_past (list_under c.args.pool.now at.root) at.place (omega (arith, past at))); end = λ none. refl }
 
-pub returns-then-self-gt0-clause-value : goal.returns-then-self-gt0-clause-value
-returns-then-self-gt0-clause-value g c = λ at. sym (here-entry c.args.pool.now at.root c.args.self.now at.place c.requires.union (some-on c.args.pool.now at.root c.args.self.now at.place at.at c.if-self-gt0.true) c.entry_here.result c.entry_here.ensures)
-
-pub returns-then-self-gt0-clause-end : goal.returns-then-self-gt0-clause-end
-returns-then-self-gt0-clause-end g c = λ none. absurd (omega (arith, none, c.if-self-gt0.true))
+pub returns-then-self-gt0 : goal.returns-then-self-gt0
+returns-then-self-gt0 g c =
+    let on = λ (at : Standing c.args.pool.now c.args.self.now). some-on c.args.pool.now at.root c.args.self.now at.place at.at c.if-self-gt0.true in
+    record { value = λ at. sym (here-entry c.args.pool.now at.root c.args.self.now at.place c.requires.union (on at) c.entry_here.result c.entry_here.ensures); end = λ none. absurd (omega (arith, none, c.if-self-gt0.true)) }

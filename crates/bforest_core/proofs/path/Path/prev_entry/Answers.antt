@@ -18,7 +18,10 @@ last_index-last-requires g c =
     (search rules, back_asks (some_leaf _ c.requires.capacity) c.requires.stands.2 c.requires.stands.3 c.requires.stands.4 c.prev_node-moved.new.self.node c.prev_node-moved.new.self.entry (c.prev_node-moved.ensures.moved c.if-moved.true) c.index-self-0.result (omega arith))
 
 pub returns-then-moved : goal.returns-then-moved
-returns-then-moved g c = record { moved = λ yes tree place fit inside s. back_over (some_leaf _ c.requires.capacity) fit inside s c.prev_node-moved.new.self.node c.prev_node-moved.new.self.entry (c.prev_node-moved.ensures.moved c.if-moved.true) c.index-self-0.result (omega arith) c.set_entry-then-moved.new.self.node c.set_entry-then-moved.new.self.entry c.last_index-last.result c.last_index-last.ensures.last c.set_entry-then-moved.ensures.nodes c.if-here-gt0.false c.set_entry-then-moved.ensures.here c.set_entry-then-moved.ensures.above; first = never c.if-moved.true; same = never c.if-moved.true; size = c.set_entry-then-moved.ensures.size ∙ c.prev_node-moved.ensures.size }
+returns-then-moved g c =
+    let new = c.set_entry-then-moved.new.self in
+    let set = c.set_entry-then-moved.ensures in
+    record { moved = λ yes tree place fit inside s. back_over (some_leaf _ c.requires.capacity) fit inside s c.prev_node-moved.new.self.node c.prev_node-moved.new.self.entry (c.prev_node-moved.ensures.moved c.if-moved.true) c.index-self-0.result (omega arith) new.node new.entry c.last_index-last.result c.last_index-last.ensures.last set.nodes c.if-here-gt0.false set.here set.above; first = never c.if-moved.true; same = never c.if-moved.true; size = set.size ∙ c.prev_node-moved.ensures.size }
 
 pub returns-else-moved : goal.returns-else-moved
 returns-else-moved g c = record { moved = λ yes. never yes c.if-moved.false; first = λ no tree place fit inside s. back_first (some_leaf _ c.requires.capacity) fit inside s (c.prev_node-moved.ensures.first c.if-moved.false) c.if-here-gt0.false; same = λ no. c.prev_node-moved.ensures.same c.if-moved.false; size = c.prev_node-moved.ensures.size }
