@@ -61,19 +61,16 @@ fn nodes_are_reserved_up_to_the_limit(rt: HostRuntime) {
 
 #[test]
 fn a_freed_node_is_handed_out_first(rt: HostRuntime) -> Result<(), Fail> {
-    let mut pool: Pool = NodePool::with_limit(rt.alloc(), 3);
-    assert_eq!(rt; pool.reserve(3), Ok(()));
+    let mut pool: Pool = NodePool::with_limit(rt.alloc(), 2);
+    assert_eq!(rt; pool.reserve(2), Ok(()));
     let first = pool.alloc_node(5, 50).ok().ok_or("no node")?;
-    assert_eq!(rt; first.number(), 2);
-    assert_eq!(rt; pool.free(), 2);
-    assert_eq!(rt; pool.node(first).entries(), 1);
-    let second = pool.alloc_node(6, 60).ok().ok_or("no node")?;
-    assert_eq!(rt; second.number(), 1);
+    assert_eq!(rt; first.number(), 1);
+    assert_eq!(rt; pool.free(), 1);
     pool.free_node(first);
     assert_eq!(rt; pool.free(), 2);
-    let third = pool.alloc_node(7, 70).ok().ok_or("no node")?;
-    assert!(rt; third == first);
-    assert_eq!(rt; pool.slots(), 3);
+    let second = pool.alloc_node(6, 60).ok().ok_or("no node")?;
+    assert!(rt; second == first);
+    assert_eq!(rt; pool.slots(), 2);
     Ok(())
 }
 
@@ -93,15 +90,24 @@ fn a_pool_is_ended(rt: HostRuntime) -> Result<(), Fail> {
 #[test]
 fn a_node_is_halved_into_the_front_of_the_chain(rt: HostRuntime) -> Result<(), Fail> {
     let mut pool: Pool = NodePool::new(rt.alloc());
-    assert_eq!(rt; pool.reserve(3), Ok(()));
+    assert_eq!(rt; pool.reserve(2), Ok(()));
     let left = pool.alloc_node(10, 10).ok().ok_or("no node")?;
     write_leaf(&mut pool, left, &[10, 20, 30, 40, 50, 60, 70]);
     let (right, halves) = pool.split_node(left, 3);
     assert_eq!(rt; halves.crit_key, 40);
     assert_leaf(&rt, pool.node(left), &[10, 20, 30]);
     assert_leaf(&rt, pool.node(right), &[40, 50, 60, 70]);
-    assert_eq!(rt; pool.free(), 1);
-    let root = pool.inner_node(left, halves.crit_key, right);
+    assert_eq!(rt; pool.free(), 0);
+    Ok(())
+}
+
+#[test]
+fn an_inner_node_is_made_of_two(rt: HostRuntime) -> Result<(), Fail> {
+    let mut pool: Pool = NodePool::new(rt.alloc());
+    assert_eq!(rt; pool.reserve(3), Ok(()));
+    let left = pool.alloc_node(10, 10).ok().ok_or("no node")?;
+    let right = pool.alloc_node(40, 40).ok().ok_or("no node")?;
+    let root = pool.inner_node(left, 40, right);
     assert_eq!(rt; pool.free(), 0);
     let (keys, children) = pool.node(root).unwrap_inner();
     assert_eq!(rt; keys, [40u32].as_slice());
