@@ -4,7 +4,7 @@ use Rattle.bforest_core.proofs.Words.{is_some, Table, node, flat, head_of, heads
 use Rattle.bforest_core.proofs.rows.LevelRows.{heads-append, HeadIs, head-is}
 use Rattle.bforest_core.proofs.table.Tables.{row-split}
 use Rattle.bforest_core.proofs.removal.Asked.{NodeAt, OneAbove, Beside}
-use Rattle.bforest_core.proofs.removal.LeafLoss.{no_nodes, leaf_keys}
+use Rattle.bforest_core.proofs.removal.Taking.{no_nodes, leaf_keys}
 use Rattle.bforest_core.proofs.removal.Collapse.{heads-flat}
 
 module _ {K V : Type 0} (most : ℕ) (t v : Table K V) (path indices : List ℕ) (size : ℕ) (tree : Tree K V) (place : ℕ) (l : LeafLoss most t v path indices size tree place) where

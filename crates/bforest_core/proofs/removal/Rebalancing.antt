@@ -4,7 +4,7 @@ use Rattle.bforest_core.proofs.Words.{get_or_default, flat_map, Content, Table, 
 use Rattle.bforest_core.proofs.rows.LevelRows.{heads-append, least-pos, head-is, HeadIs}
 use Rattle.bforest_core.proofs.table.Tables.{row-split, is_used}
 use Rattle.bforest_core.proofs.rows.Zipper.{apart_here}
-use Rattle.bforest_core.proofs.removal.LeafLoss.{no_nodes}
+use Rattle.bforest_core.proofs.removal.Taking.{no_nodes}
 use Rattle.bforest_core.proofs.removal.Lifted.{NextNode, next_of}
 use Rattle.bforest_core.proofs.removal.Balance.{IsHalf, IsStored, AllRight, Spread, all_right_at, spread_at}
 use Rattle.bforest_core.proofs.removal.Asked.{NodeAt, Counts, OneAbove, NextAbove, TwoAbove, Beside, Rekeys, Enters}
@@ -125,22 +125,20 @@ module _ {K V X : Type 0} (content : List (K × X) → Content K V) (half most c
     -- what balancing asks
     pub balance_asks : IsUsed t (get_or path up r) × (IsUsed t next.1 × ((get_or path up r ≢ next.1) × IsUnderflowedAt cap t.nodes (get_or path up r) next.1))
     balance_asks =
-        let e = sym num_is in
         let d = near_is in
         let ce = s.count_is (named.first ∷ named.others) in
-        let cf = s.count_is (d.f ∷ d.fs) in (
-          subst (λ (z : ℕ). IsUsed t z) e (is_used t n (content es) slot_here none_here),
-          (is_used t next.1 (content (d.f ∷ d.fs)) slots.1 lies.3, (subst (λ (z : ℕ). z ≢ next.1) e lies.0, record {
-            under = content (named.first ∷ named.others);
-            neighbour = content (d.f ∷ d.fs);
-            left_is = ap (λ z. slice_get t.nodes z) num_is ∙ slots.0;
-            right_is = slots.1;
-            kind = s.kind (named.first ∷ named.others) (d.f ∷ d.fs);
-            filled = omega (arith, ce);
-            neighbour_filled = omega (arith, cf);
-            underflowed = omega (arith, ce, s.capacity_is (named.first ∷ named.others), under_is, hm.hi);
-          })),
-        )
+        let cf = s.count_is (d.f ∷ d.fs) in
+        let both : IsUnderflowedAt cap t.nodes n next.1 = record {
+          under = content (named.first ∷ named.others);
+          neighbour = content (d.f ∷ d.fs);
+          left_is = slots.0;
+          right_is = slots.1;
+          kind = s.kind (named.first ∷ named.others) (d.f ∷ d.fs);
+          filled = omega (arith, ce);
+          neighbour_filled = omega (arith, cf);
+          underflowed = omega (arith, ce, s.capacity_is (named.first ∷ named.others), under_is, hm.hi);
+        } in
+        rw num_is (is_used t n (content es) slot_here none_here, (is_used t next.1 (content (d.f ∷ d.fs)) slots.1 lies.3, (lies.0, both)))
 
     module _ (u : Table K V) (got : Option K) (balanced : IsBalancedAt cap t (get_or path up r) next.0 next.1 got u) where
       balanced_as : (o : Option K) → got ≡ o → IsBalancedAt cap t n near_is.f.0 next.1 o u

@@ -8,7 +8,7 @@ use Rattle.bforest_core.proofs.removal.Frees.{frees-puts, freed_other, frees-fir
 use Rattle.bforest_core.proofs.rows.Zipper.{Cut_above, Facts, facts, Spot, above_two}
 use Rattle.bforest_core.proofs.rows.Contents.{removed_last}
 use Rattle.bforest_core.proofs.removal.Lifted.{heads-put, above_same, rows_above}
-use Rattle.bforest_core.proofs.removal.LeafLoss.{some_first}
+use Rattle.bforest_core.proofs.removal.Taking.{some_first}
 use Rattle.bforest_core.proofs.removal.Merge.{loss_level}
 use Rattle.bforest_core.proofs.removal.Asked.{Counts, Removes, LastTwo, Seen, seen}
 use Rattle.bforest_core.proofs.rows.Tops.{top_rows}
