@@ -1,7 +1,7 @@
 -- The rows above a level: in another table, and under a row whose keys were written.
 use Rattle.std.proofs.Common.{◌≡◌, ℕ, suc, ◌+◌, ◌<◌, ◌≤◌, List, [], ◌∷◌, ◌++◌, map, length, set, get_or, slice_get, refl, sym, ap, ◌∙◌, subst, append_assoc, length-append, arith}
 use Rattle.bforest_core.proofs.Words.{flat_map, Content, Table, LevelNode, node, flat, heads, head_of, sizes, numbers, FitRow, Stacked, RowIn, inner_content, count, Distinct, Above, Rebuilt, Frees, with_key, with_node, entry_keys, entry_items}
-use Rattle.bforest_core.proofs.rows.LevelRows.{least-pos, flat-append, heads-append, sizes-append, FitRow-join}
+use Rattle.bforest_core.proofs.rows.LevelRows.{HeadIs, least-pos, flat-append, heads-append, sizes-append, FitRow-join}
 use Rattle.bforest_core.proofs.table.Tables.{count-append, count-same, count-row, counts, row-put, row-same, rows-same, ne_from_count, Puts, puts}
 use Rattle.bforest_core.proofs.rows.Zipper.{Spot, stands_here}
 use Rattle.bforest_core.proofs.removal.Frees.{frees-puts, frees-refl, frees-wider}
@@ -59,6 +59,12 @@ module _ {K V : Type 0} where
       Distinct (flat_map numbers rows ++ u.chain) →
       Above t path indices up size rows list p → Above u path indices up size rows list p
   above_same t u path indices up size rows list p same apart a = record { stacked = a.stacked; inside = rows-same t.nodes u.nodes rows same a.inside; stands = a.stands; height = a.height; apart = apart }
+
+  -- where they name a node of the level
+  pub headed : {X : Type 0} (t : Table K V) (path indices : List ℕ) (up size : ℕ) (before : List (LevelNode K X)) (n : ℕ) (es : List (K × X)) (after : List (LevelNode K X)) (rest : List (List (LevelNode K ℕ))) (h : HeadIs n es) → Above t path indices up size rest (heads (before ++ node n es ∷ after)) (length (heads before)) →
+      Above t path indices up size rest (heads before ++ (h.first.0, n) ∷ heads after) (length (heads before))
+  headed t path indices up size before n es after rest h p =
+      subst (λ (z : List (K × ℕ)). Above t path indices up size rest z (length (heads before))) (heads-append before (node n es ∷ after) ∙ ap (λ z. heads before ++ (head_of n z ++ heads after)) h.es_is) p
 
   -- where one slot was written
   pub above_written : (t u : Table K V) (n : ℕ) (c : Content K V) (path indices : List ℕ) (up size : ℕ) (rows : List (List (LevelNode K ℕ))) (list : List (K × ℕ)) (p : ℕ) → Puts t u n c → count n (flat_map numbers rows) ≡ 0 →

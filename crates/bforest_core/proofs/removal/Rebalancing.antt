@@ -1,11 +1,11 @@
 -- Settling a level, with what the calls on the way say: each answer of `rebalance_leaf` and `rebalance_inner` is one of these.
 use Rattle.std.proofs.Common.{◌≡◌, suc, ◌+◌, ◌≤◌, ◌<◌, ◌≢◌, List, [], ◌∷◌, ◌++◌, length, set, get_or, slice_get, Some, None, Option, refl, sym, ap, ◌∙◌, subst, inl, inr, length-append, arith, ℕ}
-use Rattle.bforest_core.proofs.Words.{get_or_default, flat_map, Content, Table, IsUsed, IsUnderflowedAt, IsBalancedAt, with_freed, LevelNode, node, flat, heads, head_of, numbers, FitRow, count, Above, NextIs, SameBelow, top_of, OnLevel, Healed, Joined}
-use Rattle.bforest_core.proofs.rows.LevelRows.{heads-append, least-pos, head-is, HeadIs}
+use Rattle.bforest_core.proofs.Words.{get_or_default, flat_map, Content, Table, IsUsed, IsUnderflowedAt, IsBalancedAt, with_freed, LevelNode, node, flat, heads, numbers, FitRow, count, Above, NextIs, SameBelow, top_of, OnLevel, Healed, Joined}
+use Rattle.bforest_core.proofs.rows.LevelRows.{least-pos, head-is, HeadIs}
 use Rattle.bforest_core.proofs.table.Tables.{row-split, is_used}
 use Rattle.bforest_core.proofs.rows.Zipper.{apart_here}
 use Rattle.bforest_core.proofs.removal.Taking.{no_nodes}
-use Rattle.bforest_core.proofs.removal.Lifted.{NextNode, next_of}
+use Rattle.bforest_core.proofs.removal.Lifted.{headed, NextNode, next_of}
 use Rattle.bforest_core.proofs.removal.Balance.{IsHalf, IsStored, AllRight, Spread, all_right_at, spread_at}
 use Rattle.bforest_core.proofs.removal.Asked.{NodeAt, Counts, OneAbove, NextAbove, TwoAbove, Beside, Rekeys, Enters}
 use Rattle.bforest_core.proofs.removal.Rebalance.{settle_stay, above_both, settle_move, apart, above_two_put, settle_spread, settle_join}
@@ -84,9 +84,7 @@ module _ {K V X : Type 0} (content : List (K × X) → Content K V) (half most c
 
   -- the level above names the node
   above_high : Above t path indices high size rest (heads before ++ (named.first.0, n) ∷ heads after) (length (heads before))
-  above_high =
-      subst (λ (z : ℕ). Above t path indices z size rest (heads before ++ (named.first.0, n) ∷ heads after) (length (heads before))) (sym high_is)
-      (subst (λ (z : List (K × ℕ)). Above t path indices (suc up) size rest z (length (heads before))) (heads-append before (node n es ∷ after) ∙ ap (λ z. heads before ++ (head_of n z ++ heads after)) named.es_is) p.above)
+  above_high = subst (λ (z : ℕ). Above t path indices z size rest (heads before ++ (named.first.0, n) ∷ heads after) (length (heads before))) (sym high_is) (headed t path indices (suc up) size before n es after rest named p.above)
 
   -- what the call for the right neighbour asks
   pub beside_asks : OneAbove t path indices high size
