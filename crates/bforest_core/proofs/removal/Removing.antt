@@ -4,11 +4,11 @@ use Rattle.bforest_core.proofs.Words.{flat_map, remove, flat_map-append, Table, 
 use Rattle.bforest_core.proofs.Words.{IsPathAt, nodes_up, Above, top_of, Frees, Rebuilt, Healed, Joined, UpTo, Trimmed, StandsIn, LeafLoss, Removed, OnLevel}
 use Rattle.bforest_core.proofs.rows.LevelRows.{flat-append, heads-append, sizes-append, FitRow-split, FitRow-join, Solid-full, least-pos}
 use Rattle.bforest_core.proofs.walks.Steps.{fit_full}
-use Rattle.bforest_core.proofs.table.Tables.{count-append, counts, row-same, rows-same}
+use Rattle.bforest_core.proofs.table.Tables.{count-append, row-same, rows-same}
 use Rattle.bforest_core.proofs.rows.Tops.{root-stands, top_tree}
 use Rattle.bforest_core.proofs.removal.Losses.{loss_at, placed}
 use Rattle.bforest_core.proofs.removal.Frees.{frees-refl, frees-then, frees-after}
-use Rattle.bforest_core.proofs.removal.Merge.{joined_flat, joined_above, joined_numbers, joined_inside, joined_frees, joined_sizes, healed_sizes, nodes_up-same, merge_asks}
+use Rattle.bforest_core.proofs.removal.Merge.{Settled, healed_settled, joined_settled, nodes_up-same, merge_asks}
 use Rattle.bforest_core.proofs.removal.Rebalance.{enough, judged}
 use Rattle.bforest_core.proofs.removal.PastEnd.{loss_half, on_leaf}
 use Rattle.bforest_core.proofs.removal.Collapse.{length-sizes, trimmed-is, topped-sizes, stands-below, rows-parts, trim_none}
@@ -109,28 +109,25 @@ module _ {K V : Type 0} (most : ℕ) (old mid : Table K V) (path indices : List 
   full = Solid-full (half_of most) most half l.before l.solid
 
   -- the tree after the leaf was settled, and the rows above it
-  settled : (new : Table K V) (path' indices' : List ℕ) (front : List (LevelNode K V)) (m : ℕ) (es : List (K × V)) (back : List (LevelNode K V)) (rest : List (List (LevelNode K ℕ))) (freed : List ℕ) → flat (front ++ node m es ∷ back) ≡ flat (l.before ++ node (get_or path 0 0) l.entries ∷ l.after) →
-      FitRow (half_of most) most (front ++ node m es ∷ back) → RowIn leaf_content new.nodes (front ++ node m es ∷ back) → Above new path' indices' 1 size rest (heads (front ++ node m es ∷ back)) (length (heads front)) → get_or path' 0 0 ≡ m → 1 ≤ length es →
-      sizes (front ++ node m es ∷ back) ∷ map sizes rest ≡ (sizes l.before ++ (rebalanced most (length l.entries) (sizes l.after)).1) ∷ loss_above (placed (length l.before) (rebalanced most (length l.entries) (sizes l.after)).0) (map sizes l.rest) →
-      ((i : ℕ) → count i (numbers (front ++ node m es ∷ back) ++ flat_map numbers rest) + count i freed ≡ count i (numbers (l.before ++ node (get_or path 0 0) l.entries ∷ l.after) ++ flat_map numbers l.rest)) → Frees mid new (numbers (l.before ++ node (get_or path 0 0) l.entries ∷ l.after) ++ flat_map numbers l.rest) freed →
-      top_of path' size ≡ top_of path size → Untrimmed most old new tree place (front ++ node m es ∷ back) rest freed
-  settled new path' indices' front m es back rest freed list fit inside above m_is some sizes_are numbers_are frees top =
+  settled : (new : Table K V) (path' indices' : List ℕ) (front : List (LevelNode K V)) (m : ℕ) (es : List (K × V)) (back : List (LevelNode K V)) (rest : List (List (LevelNode K ℕ))) (freed : List ℕ) →
+      Settled leaf_content (half_of most) most mid new path' indices' 0 size l.before (get_or path 0 0) l.entries l.after l.rest front (front ++ node m es ∷ back) rest freed → get_or path' 0 0 ≡ m → 1 ≤ length es → top_of path' size ≡ top_of path size → Untrimmed most old new tree place (front ++ node m es ∷ back) rest freed
+  settled new path' indices' front m es back rest freed k m_is some top =
       let row : List (LevelNode K V) = front ++ node m es ∷ back in
       let lost =
       ap (λ z. loss most place z) l.sizes_were ∙ ap (λ z. loss most z (sizes l.before ++ suc (length l.entries) ∷ sizes l.after)) l.place_is ∙ loss_at most l.before (length l.entries) (get_or indices 0 0) (sizes l.after) (omega (arith, l.entry_was)) in
       record {
-        flat_is = list ∙ l.flat_is;
-        sizes_are = sizes_are ∙ ap (λ z. (sizes l.before ++ (rebalanced most (length l.entries) (sizes l.after)).1) ∷ loss_above (placed (length l.before) (rebalanced most (length l.entries) (sizes l.after)).0) z) l.rest_sizes ∙ sym (ap (λ z. z.1 ∷ loss_above z.0 (map sizes tree.above)) lost);
+        flat_is = k.list_is ∙ l.flat_is;
+        sizes_are = k.sizes_are ∙ ap (λ z. (sizes l.before ++ (rebalanced most (length l.entries) (sizes l.after)).1) ∷ loss_above (placed (length l.before) (rebalanced most (length l.entries) (sizes l.after)).0) z) l.rest_sizes ∙ sym (ap (λ z. z.1 ∷ loss_above z.0 (map sizes tree.above)) lost);
         half = half;
-        leaves_fit = fit;
-        leaves_in = inside;
+        leaves_fit = k.fit;
+        leaves_in = k.inside;
         some = omega (arith, ap length (flat-append front (node m es ∷ back)), length-append (flat front) (es ++ flat back), length-append es (flat back), some);
-        stacked = above.stacked;
-        rows_in = above.inside;
-        height = omega (arith, above.height, s.stands.size_is);
-        numbers_are = λ i. omega (arith, numbers_are i, l.numbers_are i);
-        root_is = top_tree row rest path' indices' size (length (heads front)) front es back (ap (λ z. front ++ node z es ∷ back) (sym m_is)) some above.stacked above.stands (omega (arith, above.height)) ∙ top ∙ sym (root-stands most tree path indices size place s.fit s.stands);
-        frees = frees-after old mid new (numbers_of tree) _ freed (λ i none. omega (arith, none, l.numbers_are i)) l.frees frees;
+        stacked = k.above.stacked;
+        rows_in = k.above.inside;
+        height = omega (arith, k.above.height, s.stands.size_is);
+        numbers_are = λ i. omega (arith, k.numbers_are i, l.numbers_are i);
+        root_is = top_tree row rest path' indices' size (length (heads front)) front es back (ap (λ z. front ++ node z es ∷ back) (sym m_is)) some k.above.stacked k.above.stands (omega (arith, k.above.height)) ∙ top ∙ sym (root-stands most tree path indices size place s.fit s.stands);
+        frees = frees-after old mid new (numbers_of tree) _ freed (λ i none. omega (arith, none, l.numbers_are i)) l.frees k.frees;
       }
 
   -- the leaf is half full yet or the last, and stays as it is
@@ -138,8 +135,16 @@ module _ {K V : Type 0} (most : ℕ) (old mid : Table K V) (path indices : List 
   kept_untrimmed why =
       let n = get_or path 0 0 in
       let outcome = judged (half_of most) most l.entries l.after (omega arith) l.some why in
-      settled mid path indices l.before n l.entries l.after l.rest [] refl (FitRow-join (half_of most) most l.before (node n l.entries) l.after l.solid (enough (half_of most) l.entries l.after l.some why, l.most_is, l.fits)) l.inside l.above refl l.some
-      (ap (λ z. z ∷ map sizes l.rest) (sizes-append l.before (node n l.entries ∷ l.after)) ∙ sym (ap (λ z. (sizes l.before ++ z.1) ∷ loss_above (placed (length l.before) z.0) (map sizes l.rest)) outcome)) (λ i. omega arith) (frees-refl mid _) refl
+      let k : Settled leaf_content (half_of most) most mid mid path indices 0 size l.before n l.entries l.after l.rest l.before (l.before ++ node n l.entries ∷ l.after) l.rest [] = record {
+        list_is = refl;
+        fit = FitRow-join (half_of most) most l.before (node n l.entries) l.after l.solid (enough (half_of most) l.entries l.after l.some why, l.most_is, l.fits);
+        inside = l.inside;
+        above = l.above;
+        sizes_are = ap (λ z. z ∷ map sizes l.rest) (sizes-append l.before (node n l.entries ∷ l.after)) ∙ sym (ap (λ z. (sizes l.before ++ z.1) ∷ loss_above (placed (length l.before) z.0) (map sizes l.rest)) outcome);
+        numbers_are = λ i. omega arith;
+        frees = frees-refl mid (numbers (l.before ++ node n l.entries ∷ l.after) ++ flat_map numbers l.rest);
+      } in
+      settled mid path indices l.before n l.entries l.after l.rest [] k refl l.some refl
 
   module _ (new : Table K V) (path' indices' : List ℕ) (h : Healed leaf_content (half_of most) most mid new path indices path' indices' 0 size l.before (get_or path 0 0) l.entries l.after l.rest) where
     full_healed : length (heads h.before') ≡ length h.before'
@@ -148,9 +153,8 @@ module _ {K V : Type 0} (most : ℕ) (old mid : Table K V) (path indices : List 
     -- the leaf stays, healed by its neighbour or not at all
     pub healed_untrimmed : Untrimmed most old new tree place (h.before' ++ node h.number' h.entries' ∷ h.after') h.rest' []
     healed_untrimmed =
-        let n = get_or path 0 0 in
-        settled new path' indices' h.before' h.number' h.entries' h.after' h.rest' [] h.list_is h.fit h.inside h.above h.number_is (omega (arith, h.within)) (healed_sizes leaf_content (half_of most) most mid new path indices path' indices' 0 size l.before n l.entries l.after l.rest h)
-        (λ i. omega (arith, counts i l.before n l.entries l.after l.rest mid.chain, counts i h.before' h.number' h.entries' h.after' h.rest' new.chain, ap (λ z. count i z) h.row_numbers, h.rest_numbers i)) h.frees h.same_top
+        let k = healed_settled leaf_content (half_of most) most mid path indices 0 size l.before (get_or path 0 0) l.entries l.after l.rest new path' indices' h in
+        settled new path' indices' h.before' h.number' h.entries' h.after' h.rest' [] k h.number_is (omega (arith, h.within)) h.same_top
 
     -- and the path stands at the place
     pub healed_stands : (size1 : ℕ) → size1 ≡ size → Stands path' indices' size1 (record { leaves = h.before' ++ node h.number' h.entries' ∷ h.after'; above = h.rest' }) place
@@ -170,14 +174,8 @@ module _ {K V : Type 0} (most : ℕ) (old mid : Table K V) (path indices : List 
     -- the leaf went into its neighbour, and the rows above lost its entry
     pub joined_untrimmed : Untrimmed most old new tree place (l.before ++ node j.right (l.entries ++ j.right_entries) ∷ j.after') r.rows' (freed ++ get_or path 0 0 ∷ [])
     joined_untrimmed =
-        let n = get_or path 0 0 in
-        settled new path' indices' l.before j.right (l.entries ++ j.right_entries) j.after' r.rows' (freed ++ n ∷ [])
-        (joined_flat leaf_content (half_of most) most mid mid2 new path indices path1 indices1 path' indices' 0 size l.before n l.entries l.after l.rest freed j r l.apart) j.fit
-        (joined_inside leaf_content (half_of most) most mid mid2 new path indices path1 indices1 path' indices' 0 size l.before n l.entries l.after l.rest freed j r l.apart)
-        (joined_above leaf_content (half_of most) most mid mid2 new path indices path1 indices1 path' indices' 0 size l.before n l.entries l.after l.rest freed j r l.apart) number_is (omega (arith, l.some, length-append l.entries j.right_entries))
-        (joined_sizes leaf_content (half_of most) most mid mid2 new path indices path1 indices1 path' indices' 0 size l.before n l.entries l.after l.rest freed j r l.apart full)
-        (joined_numbers leaf_content (half_of most) most mid mid2 new path indices path1 indices1 path' indices' 0 size l.before n l.entries l.after l.rest freed j r l.apart)
-        (joined_frees leaf_content (half_of most) most mid mid2 new path indices path1 indices1 path' indices' 0 size l.before n l.entries l.after l.rest freed j r l.apart) (r.same_top ∙ j.same_top)
+        let k = joined_settled leaf_content (half_of most) most mid path indices 0 size l.before (get_or path 0 0) l.entries l.after l.rest mid2 path1 indices1 j new path' indices' freed r l.apart full in
+        settled new path' indices' l.before j.right (l.entries ++ j.right_entries) j.after' r.rows' (freed ++ get_or path 0 0 ∷ []) k number_is (omega (arith, l.some, length-append l.entries j.right_entries)) (r.same_top ∙ j.same_top)
 
     -- and the path stands at the place, in what is left of the rows
     pub joined_stands : (new2 : Table K V) (size1 size2 root root' : ℕ) (gone : List ℕ) → (t : Trimmed new new2 size1 size2 r.rows' (heads (l.before ++ node j.right (l.entries ++ j.right_entries) ∷ j.after')) root root' gone) →
@@ -238,7 +236,7 @@ module _ {K V : Type 0} (most : ℕ) (old mid : Table K V) (path indices : List 
 
         -- the rows above wait to lose its entry
         pub leaf_merge_asks : MergeAbove mid2 path1 indices1 1 size1
-        leaf_merge_asks = merge_asks leaf_content (half_of most) most mid mid2 path indices path1 indices1 0 size l.before (get_or path 0 0) l.entries l.after l.rest j 1 size1 refl size_is
+        leaf_merge_asks = merge_asks leaf_content (half_of most) most mid path indices 0 size l.before (get_or path 0 0) l.entries l.after l.rest mid2 path1 indices1 j 1 size1 refl size_is
 
         -- and they lost it
         module _ (new : Table K V) (path' indices' : List ℕ) (merged : (rows : List (List (LevelNode K ℕ))) (a : List (K × ℕ)) (k : K) (m : ℕ) (k2 : K) (n : ℕ) (b : List (K × ℕ)) → Above mid2 path1 indices1 1 size1 rows (a ++ (k, m) ∷ (k2, n) ∷ b) (length a) →
