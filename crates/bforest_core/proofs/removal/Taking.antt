@@ -1,6 +1,6 @@
 -- The entry where a path stands, taken out of its leaf, which has others: the answers of `remove`, `remove_only` and `take_entry` are these.
 use Rattle.std.proofs.Common.{◌≡◌, ℕ, suc, ◌+◌, ◌≤◌, ◌<◌, Some, Option, List, [], ◌∷◌, ◌++◌, map, length, get_or, slice_get, refl, sym, ap, ◌∙◌, subst, append_assoc, length-append, arith, ◌≢◌}
-use Rattle.bforest_core.proofs.Words.{flat_map, remove, length-map, Content, Leaf, without_entry, Table, LevelNode, node, flat, heads, sizes, numbers, FitRow, Solid, Stacked, Tree, half_of, RowIn, leaf_content, entry_keys, count, Distinct, numbers_of, Above, Rebuilt, StandsIn, LeafLoss}
+use Rattle.bforest_core.proofs.Words.{map-append, flat_map, remove, length-map, Content, Leaf, without_entry, Table, LevelNode, node, flat, heads, sizes, numbers, FitRow, Solid, Stacked, Tree, half_of, RowIn, leaf_content, entry_keys, count, Distinct, numbers_of, Above, Rebuilt, StandsIn, LeafLoss}
 use Rattle.bforest_core.proofs.Words.{nil_from_length, get_or_default, entry_count, IsUsed, with_node, head_of, entry_items}
 use Rattle.bforest_core.proofs.rows.LevelRows.{flat-append, sizes-append, FitRow-split, Solid-full, least-pos, heads-append}
 use Rattle.bforest_core.proofs.table.Tables.{count-append, counts, count-same, row-split, row-put, row-same, Puts, is_used, puts}
@@ -12,8 +12,7 @@ use Rattle.bforest_core.proofs.removal.Asked.{NodeAt}
 use Rattle.bforest_core.proofs.removal.Lifted.{above_written, rebuilt_same}
 
 remove_map : {X Y : Type 0} (f : X → Y) (l r : List X) (x : X) → remove (map f (l ++ x ∷ r)) (length l) ≡ map f (l ++ r)
-remove_map f [] r x = refl
-remove_map f (z ∷ l) r x = ap (λ w. f z ∷ w) (remove_map f l r x)
+remove_map f l r x = ap (λ z. remove z (length l)) (map-append f l (x ∷ r)) ∙ remove_at (map f l) (f x) (map f r) (length l) (length-map l f) ∙ sym (map-append f l r)
 
 -- an entry out of a node
 pub remove_flat : {K V : Type 0} (before : List (LevelNode K V)) (n : ℕ) (l : List (K × V)) (x : K × V) (r : List (K × V)) (after : List (LevelNode K V)) →
