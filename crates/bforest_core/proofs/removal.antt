@@ -1,6 +1,5 @@
 -- Lemmas on a removal.
 pub mod Frees
-pub mod Losses
 pub mod Collapse
 pub mod PastEnd
 pub mod Removing

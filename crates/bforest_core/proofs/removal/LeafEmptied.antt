@@ -6,7 +6,7 @@ use Rattle.bforest_core.proofs.rows.LevelRows.{flat-append, heads-append, sizes-
 use Rattle.bforest_core.proofs.table.Tables.{count-append, counts, count-same, row-split, row-same, is_used, ne_from_count}
 use Rattle.bforest_core.proofs.rows.Tops.{root-stands}
 use Rattle.bforest_core.proofs.removal.Asked.{LastTwo}
-use Rattle.bforest_core.proofs.removal.Losses.{loss_at}
+use Rattle.bforest_core.proofs.removal.Merge.{loss_at}
 use Rattle.bforest_core.proofs.removal.Frees.{freed_other, frees-one, frees-first}
 use Rattle.bforest_core.proofs.removal.RemovingEmptied.{fit_solid, LastOf, last_of_solid, last_heads, above_freed, Drops}
 use Rattle.bforest_core.proofs.removal.Collapse.{heads-flat}

@@ -1,12 +1,34 @@
--- An entry out of the rows above a level: its row rebalanced, then those above.
-use Rattle.std.proofs.Common.{◌≡◌, ℕ, zero, suc, ◌+◌, ◌≤◌, ◌<◌, List, [], ◌∷◌, ◌++◌, map, length, get_or, Some, refl, sym, ap, ◌∙◌, subst, append_assoc, length-append, arith}
-use Rattle.bforest_core.proofs.Words.{flat_map, Content, Table, LevelNode, node, flat, heads, head_of, sizes, numbers, FitRow, rebalanced, loss_above, RowIn, inner_content, count, Distinct, nodes_up, Above, SameBelow, top_of, Frees, Rebuilt, Loosened, Healed, Joined}
+-- An entry out of a level, in the sizes of SHRINK and in the rows: its row settled, then those above.
+use Rattle.std.proofs.Common.{◌≡◌, ℕ, zero, suc, ◌+◌, ◌-◌, ◌≤◌, ◌<◌, Option, None, true, false, Bool, if◌then◌else◌, option_map, List, [], ◌∷◌, ◌++◌, map, length, get_or, Some, refl, sym, ap, ◌∙◌, subst, append_assoc, length-append, arith}
+use Rattle.std.proofs.lemmas.Bool.{lt-ltb, le-ltb}
+use Rattle.bforest_core.proofs.Words.{loss, past, flat_map, Content, Table, LevelNode, node, flat, heads, head_of, sizes, numbers, FitRow, rebalanced, loss_above, RowIn, inner_content, count, Distinct, nodes_up, Above, SameBelow, top_of, Frees, Rebuilt, Loosened, Healed, Joined}
 use Rattle.bforest_core.proofs.rows.LevelRows.{flat-append, heads-append, sizes-append, FitRow-split, Solid-full, least-pos}
 use Rattle.bforest_core.proofs.table.Tables.{count-append, count-same, count-row, counts, row-same}
 use Rattle.bforest_core.proofs.rows.Zipper.{stands_here}
 use Rattle.bforest_core.proofs.removal.Asked.{MergeAbove}
-use Rattle.bforest_core.proofs.removal.Losses.{loss_at, placed}
 use Rattle.bforest_core.proofs.removal.Frees.{only_here, frees-then, frees-after, frees-wider}
+
+-- the node that so many others stand before
+abbrev pub placed : ℕ → Bool → Option ℕ
+placed k b = if b then Some k else None
+
+one_placed : (k : ℕ) (b : Bool) → option_map (λ index. suc index) (placed k b) ≡ placed (suc k) b
+one_placed k true = refl
+one_placed k false = refl
+
+-- the sizes after the node behind these lost an entry
+pub loss_at : {K X : Type 0} (q : ℕ) (before : List (LevelNode K X)) (m e : ℕ) (after : List ℕ) → e < suc m → loss q (length (flat before) + e) (sizes before ++ suc m ∷ after) ≡ (placed (length before) (rebalanced q m after).0, sizes before ++ (rebalanced q m after).1)
+loss_at q [] m e after low =
+    let z : 0 + e ≡ e = omega arith in
+    let a = lt-ltb e (suc m) low in
+    let s : suc m - 1 ≡ m = omega arith in
+    rw (z, a, s) refl
+loss_at {K} {X} q (node k fs ∷ before) m e after low =
+    let len : length (flat (node k fs ∷ before)) + e ≡ length fs + (length (flat before) + e) = omega (arith, length-append fs (flat before)) in
+    let a = le-ltb (length fs + (length (flat before) + e)) (length fs) (omega arith) in
+    let s : length fs + (length (flat before) + e) - length fs ≡ length (flat before) + e = omega arith in
+    let ih = loss_at {K = K} {X = X} q before m e after low in
+    rw (len, a, s) (ap (λ z. past (length fs) z) ih ∙ ap (λ z. (z, length fs ∷ (sizes before ++ (rebalanced q m after).1))) (one_placed (length before) (rebalanced q m after).0))
 
 -- SHRINK one level, with its outcome known
 pub loss_level : {K X : Type 0} (q : ℕ) (before : List (LevelNode K X)) (m e p : ℕ) (after : List ℕ) (levels all : List (List ℕ)) → all ≡ (sizes before ++ suc m ∷ after) ∷ levels → e ≤ m → p ≡ length (flat before) + e → q ≡ 8 →

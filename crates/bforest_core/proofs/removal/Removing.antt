@@ -6,9 +6,8 @@ use Rattle.bforest_core.proofs.rows.LevelRows.{flat-append, heads-append, sizes-
 use Rattle.bforest_core.proofs.walks.Steps.{fit_full}
 use Rattle.bforest_core.proofs.table.Tables.{count-append, row-same, rows-same}
 use Rattle.bforest_core.proofs.rows.Tops.{root-stands, top_tree}
-use Rattle.bforest_core.proofs.removal.Losses.{loss_at, placed}
 use Rattle.bforest_core.proofs.removal.Frees.{frees-refl, frees-then, frees-after}
-use Rattle.bforest_core.proofs.removal.Merge.{Settled, healed_settled, joined_settled, nodes_up-same, merge_asks}
+use Rattle.bforest_core.proofs.removal.Merge.{loss_at, placed, Settled, healed_settled, joined_settled, nodes_up-same, merge_asks}
 use Rattle.bforest_core.proofs.removal.Rebalance.{enough, judged}
 use Rattle.bforest_core.proofs.removal.PastEnd.{loss_half, on_leaf}
 use Rattle.bforest_core.proofs.removal.Collapse.{length-sizes, trimmed-is, topped-sizes, stands-below, rows-parts, trim_none}

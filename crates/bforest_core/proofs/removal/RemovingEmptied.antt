@@ -10,10 +10,9 @@ use Rattle.bforest_core.proofs.rows.Contents.{removed_last}
 use Rattle.bforest_core.proofs.removal.Lifted.{heads-put, above_same, rows_above}
 use Rattle.bforest_core.proofs.removal.Taking.{some_first, no_nodes}
 use Rattle.bforest_core.proofs.removal.Collapse.{heads-flat}
-use Rattle.bforest_core.proofs.removal.Merge.{loss_level}
+use Rattle.bforest_core.proofs.removal.Merge.{placed, loss_level}
 use Rattle.bforest_core.proofs.removal.Asked.{Counts, Removes, LastTwo, Seen, seen}
 use Rattle.bforest_core.proofs.rows.Tops.{top_rows}
-use Rattle.bforest_core.proofs.removal.Losses.{placed}
 use Rattle.bforest_core.proofs.removal.Rebalance.{rebalanced_last}
 
 -- solid nodes fit as a row
