@@ -217,7 +217,9 @@ module _ {K V : Type 0} (most : ℕ) (old mid : Table K V) (path indices : List 
     -- the path is at an entry, and the leaf was settled
     module _ (low : get_or indices 0 0 < length (l.entries ++ flat l.after)) where
       -- the leaf stayed
-      pub healed_removed : (new : Table K V) (path' indices' : List ℕ) (size1 : ℕ) → ((before : List (LevelNode K V)) (n : ℕ) (es : List (K × V)) (after : List (LevelNode K V)) (rest : List (List (LevelNode K ℕ))) → OnLevel leaf_content (half_of most) most mid path indices 0 size before n es after rest → Healed leaf_content (half_of most) most mid new path indices path' indices' 0 size before n es after rest) → size1 ≡ size → Removed most old new path (λ z. IsPathAt path' indices' size1 z place) tree place root
+      pub healed_removed : (new : Table K V) (path' indices' : List ℕ) (size1 : ℕ) → ((before : List (LevelNode K V)) (n : ℕ) (es : List (K × V)) (after : List (LevelNode K V)) (rest : List (List (LevelNode K ℕ))) → OnLevel leaf_content (half_of most) most mid path indices 0 size before n es after rest →
+          Healed leaf_content (half_of most) most mid new path indices path' indices' 0 size before n es after rest) →
+          size1 ≡ size → Removed most old new path (λ z. IsPathAt path' indices' size1 z place) tree place root
       healed_removed new path' indices' size1 heals size_is =
           let h = heals l.before (get_or path 0 0) l.entries l.after l.rest (on_leaf most old mid path indices size tree place l low) in
           let row : List (LevelNode K V) = l.before ++ node (get_or path 0 0) l.entries ∷ l.after in
@@ -229,7 +231,8 @@ module _ {K V : Type 0} (most : ℕ) (old mid : Table K V) (path indices : List 
           (path-at path' indices' size1 (record { leaves = row2; above = h.rest' }) place st)
 
       -- the leaf went into its neighbour
-      module _ (mid2 : Table K V) (path1 indices1 : List ℕ) (size1 : ℕ) (size_is : size1 ≡ size) (joins : (before : List (LevelNode K V)) (n : ℕ) (es : List (K × V)) (after : List (LevelNode K V)) (rest : List (List (LevelNode K ℕ))) → OnLevel leaf_content (half_of most) most mid path indices 0 size before n es after rest → Joined leaf_content (half_of most) most mid mid2 path indices path1 indices1 0 size before n es after rest) where
+      module _ (mid2 : Table K V) (path1 indices1 : List ℕ) (size1 : ℕ) (size_is : size1 ≡ size)
+          (joins : (before : List (LevelNode K V)) (n : ℕ) (es : List (K × V)) (after : List (LevelNode K V)) (rest : List (List (LevelNode K ℕ))) → OnLevel leaf_content (half_of most) most mid path indices 0 size before n es after rest → Joined leaf_content (half_of most) most mid mid2 path indices path1 indices1 0 size before n es after rest) where
         abbrev j : Joined leaf_content (half_of most) most mid mid2 path indices path1 indices1 0 size l.before (get_or path 0 0) l.entries l.after l.rest
         j = joins l.before (get_or path 0 0) l.entries l.after l.rest (on_leaf most old mid path indices size tree place l low)
 
