@@ -1,10 +1,7 @@
 -- Lemmas on a removal.
 pub mod Frees
-pub mod Losses
 pub mod Collapse
-pub mod LeafLoss
 pub mod PastEnd
-pub mod Shrunk
 pub mod Removing
 pub mod LeafEmptied
 pub mod Removal

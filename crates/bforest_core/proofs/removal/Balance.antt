@@ -24,12 +24,6 @@ pub record IsStored {K V X : Type 0} (content : List (K × X) → Content K V) (
   pub cuts : (x : K × X) (xs : List (K × X)) (y : K × X) (ys : List (K × X)) (q : ℕ) (left right : Content K V) (key : K) → length (x ∷ xs) ≡ q → IsCut (content ((x ∷ xs) ++ y ∷ ys)) q left key right → Parts content (x ∷ xs) y ys left right key
 
 module _ {K : Type 0} where
-  keys-app : {X : Type 0} (xs ys : List (K × X)) → entry_keys (xs ++ ys) ≡ entry_keys xs ++ entry_keys ys
-  keys-app xs ys = map-append (λ w. w.0) xs ys
-
-  items-app : {X : Type 0} (xs ys : List (K × X)) → entry_items (xs ++ ys) ≡ entry_items xs ++ entry_items ys
-  items-app xs ys = map-append (λ w. w.1) xs ys
-
   -- inner nodes are
   pub inner_stored : {V : Type 0} (n : ℕ) → IsStored {K = K} {V = V} inner_content n 8
   inner_stored {V} n = record {
@@ -37,7 +31,7 @@ module _ {K : Type 0} where
     capacity_is = λ es. refl;
     used = λ es free. free;
     kind = λ es fs. tt;
-    joins = λ e es f fs. sym (ap (λ w. Inner w (entry_items ((e ∷ es) ++ f ∷ fs))) (keys-app es (f ∷ fs)) ∙ ap (λ w. Inner (entry_keys es ++ f.0 ∷ entry_keys fs) w) (items-app (e ∷ es) (f ∷ fs)));
+    joins = λ e es f fs. sym (ap (λ w. Inner w (entry_items ((e ∷ es) ++ f ∷ fs))) (map-append (λ w. w.0) es (f ∷ fs)) ∙ ap (λ w. Inner (entry_keys es ++ f.0 ∷ entry_keys fs) w) (map-append (λ w. w.1) (e ∷ es) (f ∷ fs)));
     cuts = inner_cuts V;
   }
 
@@ -48,7 +42,7 @@ module _ {K : Type 0} where
     capacity_is = λ es. refl;
     used = λ es free. free;
     kind = λ es fs. tt;
-    joins = λ e es f fs. sym (ap (λ w. Leaf w (entry_items ((e ∷ es) ++ f ∷ fs))) (keys-app (e ∷ es) (f ∷ fs)) ∙ ap (λ w. Leaf (entry_keys (e ∷ es) ++ f.0 ∷ entry_keys fs) w) (items-app (e ∷ es) (f ∷ fs)));
+    joins = λ e es f fs. sym (ap (λ w. Leaf w (entry_items ((e ∷ es) ++ f ∷ fs))) (map-append (λ w. w.0) (e ∷ es) (f ∷ fs)) ∙ ap (λ w. Leaf (entry_keys (e ∷ es) ++ f.0 ∷ entry_keys fs) w) (map-append (λ w. w.1) (e ∷ es) (f ∷ fs)));
     cuts = λ x xs y ys q left right key e c. leaf_cuts V (x ∷ xs) y ys q left right key e c;
   }
 

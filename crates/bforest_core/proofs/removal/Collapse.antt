@@ -41,15 +41,10 @@ module _ {K : Type 0} where
       let t = top_of_rows (heads row) next rows root s.2 is in
       record { init = row ∷ t.init; entries = t.entries; rows_are = ap (λ z. row ∷ z) t.rows_are; some = t.some }
 
-  -- the rows below a root with a single child
-  pub stacked-init : (list : List (K × ℕ)) (init : List (List (LevelNode K ℕ))) (root : ℕ) (x : K × ℕ) → Stacked list (init ++ (node root (x ∷ []) ∷ []) ∷ []) → Stacked list init
-  stacked-init list [] root x s = ap length (sym s.0)
-  stacked-init list (row ∷ init) root x s = (s.0, s.1, stacked-init (heads row) init root x s.2)
-
-  -- have the child as their root
-  pub root-init : (list : List (K × ℕ)) (init : List (List (LevelNode K ℕ))) (root : ℕ) (x : K × ℕ) → Stacked list (init ++ (node root (x ∷ []) ∷ []) ∷ []) → root_above list init ≡ x.1
-  root-init list [] root x s = ap first_number (sym s.0)
-  root-init list (row ∷ init) root x s = root-init (heads row) init root x s.2
+  -- the rows below a root with a single child have the child as their root
+  below-root : (list : List (K × ℕ)) (init : List (List (LevelNode K ℕ))) (root : ℕ) (x : K × ℕ) → Stacked list (init ++ (node root (x ∷ []) ∷ []) ∷ []) → Stacked list init × (root_above list init ≡ x.1)
+  below-root list [] root x s = (ap length (sym s.0), ap first_number (sym s.0))
+  below-root list (row ∷ init) root x s = let r = below-root (heads row) init root x s.2 in ((s.0, s.1, r.0), r.1)
 
   -- a root with more children than one stands over levels of two nodes or more
   topped-here : (list : List (K × ℕ)) (init : List (List (LevelNode K ℕ))) (root : ℕ) (es : List (K × ℕ)) → 2 ≤ length es → Stacked list (init ++ (node root es ∷ []) ∷ []) → (2 ≤ length list) × Topped list (init ++ (node root es ∷ []) ∷ [])
@@ -177,16 +172,16 @@ module _ {K V : Type 0} where
           only_is : child.0.1 ≡ only
           only_is = some_same child.0.1 only (ap (λ z. slice_get (entry_items z) 0) (sym child.1) ∙ reads (drop 1 (entry_keys top.entries)) (entry_items top.entries) slot_is)
 
-          stacked : Stacked list (top.init ++ (node root (child.0 ∷ []) ∷ []) ∷ [])
-          stacked = subst (λ (z : List (K × ℕ)). Stacked list (top.init ++ (node root z ∷ []) ∷ [])) child.1 whole.stacked
+          below : Stacked list top.init × (root_above list top.init ≡ child.0.1)
+          below = below-root list top.init root child.0 (subst (λ (z : List (K × ℕ)). Stacked list (top.init ++ (node root z ∷ []) ∷ [])) child.1 whole.stacked)
 
           -- the rows below it, after it was freed
           pub trim_down : UpTo v (size - 1) top.init list only
           trim_down = record {
-            stacked = stacked-init list top.init root child.0 stacked;
+            stacked = below.0;
             inside = rows-same t.nodes v.nodes top.init (λ m some. freed_other t v root freed m (ne_from_count m root (flat_map numbers top.init) some none_else.0)) inside.0;
             height = omega (arith, whole.height, length-append top.init ((node root top.entries ∷ []) ∷ []));
-            root_is = root-init list top.init root child.0 stacked ∙ only_is;
+            root_is = below.1 ∙ only_is;
             apart = λ m. omega (arith, whole.apart m, count-append m (flat_map numbers (top.init ++ (node root top.entries ∷ []) ∷ [])) t.chain, count_top m top.init root top.entries, count-append m (flat_map numbers top.init) v.chain, ap (λ z. count m z.chain) freed);
           }
 

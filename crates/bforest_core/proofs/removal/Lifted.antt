@@ -1,7 +1,7 @@
 -- The rows above a level: in another table, and under a row whose keys were written.
 use Rattle.std.proofs.Common.{◌≡◌, ℕ, suc, ◌+◌, ◌<◌, ◌≤◌, List, [], ◌∷◌, ◌++◌, map, length, set, get_or, slice_get, refl, sym, ap, ◌∙◌, subst, append_assoc, length-append, arith}
-use Rattle.bforest_core.proofs.Words.{flat_map, Content, Table, LevelNode, node, flat, heads, head_of, sizes, numbers, FitRow, Stacked, RowIn, inner_content, count, Distinct, Above, Rebuilt, Frees, with_key, with_node, entry_keys, entry_items}
-use Rattle.bforest_core.proofs.rows.LevelRows.{least-pos, flat-append, heads-append, sizes-append, FitRow-join}
+use Rattle.bforest_core.proofs.Words.{set_at, length-map, map-append, flat_map, Content, Table, LevelNode, node, flat, heads, head_of, sizes, numbers, FitRow, Stacked, RowIn, inner_content, count, Distinct, Above, Rebuilt, Frees, with_key, with_node, entry_keys, entry_items}
+use Rattle.bforest_core.proofs.rows.LevelRows.{HeadIs, least-pos, flat-append, heads-append, sizes-append, FitRow-join}
 use Rattle.bforest_core.proofs.table.Tables.{count-append, count-same, count-row, counts, row-put, row-same, rows-same, ne_from_count, Puts, puts}
 use Rattle.bforest_core.proofs.rows.Zipper.{Spot, stands_here}
 use Rattle.bforest_core.proofs.removal.Frees.{frees-puts, frees-refl, frees-wider}
@@ -19,20 +19,15 @@ head-kept : {K X : Type 0} (n : ℕ) (p r s : List (K × X)) → 1 ≤ length p 
 head-kept n [] r s some = absurd (omega (arith, some))
 head-kept n (z ∷ p) r s some = refl
 
-set_here : {K : Type 0} (p : List (K × ℕ)) (y : K × ℕ) (s : List (K × ℕ)) (key : K) → set (entry_keys (p ++ y ∷ s)) (length p) key ≡ entry_keys (p ++ (key, y.1) ∷ s)
-set_here [] y s key = refl
-set_here (z ∷ p) y s key = ap (λ w. z.0 ∷ w) (set_here p y s key)
-
-items_here : {K : Type 0} (p : List (K × ℕ)) (y : K × ℕ) (s : List (K × ℕ)) (key : K) → entry_items (p ++ y ∷ s) ≡ entry_items (p ++ (key, y.1) ∷ s)
-items_here [] y s key = refl
-items_here (z ∷ p) y s key = ap (λ w. z.1 ∷ w) (items_here p y s key)
-
 -- the key before an entry behind others
 with_key_is : {K V : Type 0} (p : List (K × ℕ)) (y : K × ℕ) (s : List (K × ℕ)) (e : ℕ) (key : K) → suc e ≡ length p → with_key {V = V} (inner_content (p ++ y ∷ s)) e key ≡ inner_content (p ++ (key, y.1) ∷ s)
 with_key_is [] y s e key p_is = absurd (omega (arith, p_is))
-with_key_is (z ∷ p) y s e key p_is =
+with_key_is {K} (z ∷ p) y s e key p_is =
     let e_is : e ≡ length p = omega (arith, p_is) in
-    rw (e_is, set_here p y s key, items_here (z ∷ p) y s key) refl
+    let keys : set (entry_keys (p ++ y ∷ s)) (length p) key ≡ entry_keys (p ++ (key, y.1) ∷ s) =
+    ap (λ w. set w (length p) key) (map-append (λ (w : K × ℕ). w.0) p (y ∷ s)) ∙ set_at (entry_keys p) y.0 (entry_keys s) key (length p) (length-map p (λ (w : K × ℕ). w.0)) ∙ sym (map-append (λ (w : K × ℕ). w.0) p ((key, y.1) ∷ s)) in
+    let items : entry_items ((z ∷ p) ++ y ∷ s) ≡ entry_items ((z ∷ p) ++ (key, y.1) ∷ s) = map-append (λ (w : K × ℕ). w.1) (z ∷ p) (y ∷ s) ∙ sym (map-append (λ (w : K × ℕ). w.1) (z ∷ p) ((key, y.1) ∷ s)) in
+    rw (e_is, keys, items) refl
 
 -- the next node of a row, under its first key
 pub record NextNode {K X : Type 0} (after : List (LevelNode K X)) (k : K) (q : ℕ) : Type 0 where
@@ -42,15 +37,12 @@ pub record NextNode {K X : Type 0} (after : List (LevelNode K X)) (k : K) (q : �
   pub after_is : after ≡ node q (f ∷ fs) ∷ rest
   pub k_is : k ≡ f.0
 
-same_head : {A : Type 0} (p q : A) (xs ys : List A) → p ∷ xs ≡ q ∷ ys → p ≡ q
-same_head p q xs ys e = cc
-
 -- a row that is not empty as it is seen
 pub next_of : {K X : Type 0} (half most : ℕ) → 1 ≤ half → (after : List (LevelNode K X)) (k : K) (q : ℕ) (cs : List (K × ℕ)) → FitRow half most after → heads after ≡ (k, q) ∷ cs → NextNode after k q
 next_of half most one [] k q cs f e = absurd cc
 next_of half most one (node m [] ∷ after) k q cs f e = absurd (let g = f.0 in omega (arith, g, least-pos half one after))
 next_of {K} half most one (node m (x ∷ xs) ∷ after) k q cs f e =
-    let kq = same_head {A = K × ℕ} (x.0, m) (k, q) (heads after) cs e in
+    let kq : ◌≡◌ {A = K × ℕ} (x.0, m) (k, q) = cc in
     record { f = x; fs = xs; rest = after; after_is = ap (λ z. node z (x ∷ xs) ∷ after) (ap (λ z. z.1) kq); k_is = ap (λ z. z.0) (sym kq) }
 
 module _ {K V : Type 0} where
@@ -59,6 +51,12 @@ module _ {K V : Type 0} where
       Distinct (flat_map numbers rows ++ u.chain) →
       Above t path indices up size rows list p → Above u path indices up size rows list p
   above_same t u path indices up size rows list p same apart a = record { stacked = a.stacked; inside = rows-same t.nodes u.nodes rows same a.inside; stands = a.stands; height = a.height; apart = apart }
+
+  -- where they name a node of the level
+  pub headed : {X : Type 0} (t : Table K V) (path indices : List ℕ) (up size : ℕ) (before : List (LevelNode K X)) (n : ℕ) (es : List (K × X)) (after : List (LevelNode K X)) (rest : List (List (LevelNode K ℕ))) (h : HeadIs n es) → Above t path indices up size rest (heads (before ++ node n es ∷ after)) (length (heads before)) →
+      Above t path indices up size rest (heads before ++ (h.first.0, n) ∷ heads after) (length (heads before))
+  headed t path indices up size before n es after rest h p =
+      subst (λ (z : List (K × ℕ)). Above t path indices up size rest z (length (heads before))) (heads-append before (node n es ∷ after) ∙ ap (λ z. heads before ++ (head_of n z ++ heads after)) h.es_is) p
 
   -- where one slot was written
   pub above_written : (t u : Table K V) (n : ℕ) (c : Content K V) (path indices : List ℕ) (up size : ℕ) (rows : List (List (LevelNode K ℕ))) (list : List (K × ℕ)) (p : ℕ) → Puts t u n c → count n (flat_map numbers rows) ≡ 0 →

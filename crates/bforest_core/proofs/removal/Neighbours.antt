@@ -1,13 +1,13 @@
 -- The right neighbour of a node, under the same parent or another: the answers of `right_sibling` are these. The path moved to it.
 use Rattle.std.proofs.Common.{◌≡◌, ◌≢◌, ℕ, suc, ◌+◌, ◌-◌, ◌≤◌, ◌<◌, true, false, Option, List, [], ◌∷◌, ◌++◌, map, length, drop, get_or, slice_get, Some, None, refl, sym, ap, ◌∙◌, subst, append_assoc, length-append, arith, add-one}
-use Rattle.bforest_core.proofs.Words.{Table, LevelNode, node, flat, heads, head_of, RowIn, inner_content, entry_keys, entry_items, Above, NextIs, Bool, Over, Moved, nil_from_length}
-use Rattle.bforest_core.proofs.rows.LevelRows.{heads-append, head-is}
+use Rattle.bforest_core.proofs.Words.{Table, LevelNode, node, flat, heads, RowIn, inner_content, entry_keys, entry_items, Above, NextIs, Bool, Over, Moved, nil_from_length}
+use Rattle.bforest_core.proofs.rows.LevelRows.{head-is}
 use Rattle.bforest_core.proofs.table.Tables.{row-split}
 use Rattle.bforest_core.proofs.rows.Zipper.{Spot, stands-same}
 use Rattle.bforest_core.proofs.table.Stored.{item_count, slice_get_at, some_same}
 use Rattle.bforest_core.proofs.removal.Asked.{ChildAt, Counts, ReadsKey, ReadsChild, OneAbove, Beside, Seen, seen}
-use Rattle.bforest_core.proofs.removal.LeafLoss.{no_nodes, some_first}
-use Rattle.bforest_core.proofs.removal.Lifted.{NextNode, next_of, rows_above}
+use Rattle.bforest_core.proofs.removal.Taking.{no_nodes, some_first}
+use Rattle.bforest_core.proofs.removal.Lifted.{headed, NextNode, next_of, rows_above}
 
 second : {X Y : Type 0} (f : X → Y) (l : List X) (x y : X) (r : List X) → slice_get (map f (l ++ x ∷ y ∷ r)) (suc (length l)) ≡ Some (f y)
 second f [] x y r = refl
@@ -21,11 +21,8 @@ module _ {K V : Type 0} where
   -- the rows one level up, under the path's node
   pub up_above : (t : Table K V) (path indices : List ℕ) (up size : ℕ) (rows : List (List (LevelNode K ℕ))) (a : List (K × ℕ)) (x : K × ℕ) (b : List (K × ℕ)) → (d : Spot t path indices up size rows a x b) → (k : K) × Above t path indices (suc up) size d.q.rest (heads d.q.before ++ (k, get_or path up 0) ∷ heads d.q.after) (length (heads d.q.before))
   up_above t path indices up size rows a x b d =
-      let n = get_or path up 0 in
-      let es : List (K × ℕ) = d.q.l ++ x ∷ d.q.r in
-      let h = head-is n es (omega (arith, d.count_is)) in
-      let list = heads-append d.q.before (node n es ∷ d.q.after) ∙ ap (λ z. heads d.q.before ++ (head_of n z ++ heads d.q.after)) h.es_is in
-      (h.first.0, subst (λ (z : List (K × ℕ)). Above t path indices (suc up) size d.q.rest z (length (heads d.q.before))) list (rows_above t path indices up size rows a x b d))
+      let h = head-is (get_or path up 0) (d.q.l ++ x ∷ d.q.r) (omega (arith, d.count_is)) in
+      (h.first.0, headed t path indices (suc up) size d.q.before (get_or path up 0) (d.q.l ++ x ∷ d.q.r) d.q.after d.q.rest h (rows_above t path indices up size rows a x b d))
 
   -- rows above a level, for a step on it
   pub over-above : (t : Table K V) (path indices : List ℕ) (level size : ℕ) (rows : List (List (LevelNode K ℕ))) (list : List (K × ℕ)) (place : ℕ) → Above t path indices level size rows list place → Over t.nodes path indices level size rows list place

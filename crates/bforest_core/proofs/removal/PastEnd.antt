@@ -1,10 +1,11 @@
 -- After an entry went out of its leaf: whether the path is behind all entries, and the leaf as a level that may need healing.
-use Rattle.std.proofs.Common.{◌≡◌, ℕ, ◌≤◌, ◌<◌, Some, None, Option, Bool, true, false, not, List, [], ◌∷◌, ◌++◌, length, get_or, slice_get, refl, ap, ◌∙◌, subst, length-append, arith}
-use Rattle.bforest_core.proofs.Words.{is_some, Table, node, flat, head_of, heads, Tree, half_of, leaf_content, Above, NextIs, LeafLoss, OnLevel, get_or_default, Content, entry_count}
-use Rattle.bforest_core.proofs.rows.LevelRows.{heads-append, HeadIs, head-is}
+use Rattle.std.proofs.Common.{◌≡◌, ℕ, ◌≤◌, ◌<◌, Some, None, Option, Bool, true, false, not, List, [], ◌∷◌, ◌++◌, length, get_or, slice_get, refl, ap, ◌∙◌, length-append, arith}
+use Rattle.bforest_core.proofs.Words.{is_some, Table, node, flat, heads, Tree, half_of, leaf_content, Above, NextIs, LeafLoss, OnLevel, get_or_default, Content, entry_count}
+use Rattle.bforest_core.proofs.rows.LevelRows.{HeadIs, head-is}
 use Rattle.bforest_core.proofs.table.Tables.{row-split}
+use Rattle.bforest_core.proofs.removal.Lifted.{headed}
 use Rattle.bforest_core.proofs.removal.Asked.{NodeAt, OneAbove, Beside}
-use Rattle.bforest_core.proofs.removal.LeafLoss.{no_nodes, leaf_keys}
+use Rattle.bforest_core.proofs.removal.Taking.{no_nodes, leaf_keys}
 use Rattle.bforest_core.proofs.removal.Collapse.{heads-flat}
 
 module _ {K V : Type 0} (most : ℕ) (t v : Table K V) (path indices : List ℕ) (size : ℕ) (tree : Tree K V) (place : ℕ) (l : LeafLoss most t v path indices size tree place) where
@@ -13,9 +14,7 @@ module _ {K V : Type 0} (most : ℕ) (t v : Table K V) (path indices : List ℕ)
 
   -- the list of leaves, as the call that looks for the next one asks for it
   above : Above v path indices 1 size l.rest (heads l.before ++ (named.first.0, get_or path 0 0) ∷ heads l.after) (length (heads l.before))
-  above =
-      subst (λ (z : List (K × ℕ)). Above v path indices 1 size l.rest z (length (heads l.before)))
-      (heads-append l.before (node (get_or path 0 0) l.entries ∷ l.after) ∙ ap (λ z. heads l.before ++ (head_of (get_or path 0 0) z ++ heads l.after)) named.es_is) l.above
+  above = headed v path indices 1 size l.before (get_or path 0 0) l.entries l.after l.rest named l.above
 
   -- what looking for it asks
   pub beside_asks : OneAbove v path indices 1 size

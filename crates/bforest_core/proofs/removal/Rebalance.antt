@@ -1,5 +1,6 @@
 -- A node that lost an entry: it stays, or is balanced with its right neighbour.
-use Rattle.std.proofs.Common.{◌≡◌, ℕ, zero, suc, ◌+◌, ◌-◌, ◌*◌, ◌/◌, ◌≤◌, ◌<◌, ◌≢◌, ◌⊎◌, true, false, nat_le, List, [], ◌∷◌, ◌++◌, map, length, set, get_or, slice_get, refl, sym, ap, ◌∙◌, subst, inl, inr, append_assoc, length-append, arith}
+use Rattle.std.proofs.Common.{◌≡◌, ℕ, zero, suc, ◌+◌, ◌-◌, ◌*◌, ◌/◌, ◌≤◌, ◌<◌, ◌≢◌, ◌⊎◌, true, false, List, [], ◌∷◌, ◌++◌, map, length, set, get_or, slice_get, refl, sym, ap, ◌∙◌, subst, inl, inr, append_assoc, length-append, arith}
+use Rattle.std.proofs.lemmas.Bool.{le-leb, lt-leb, lt-ltb, le-ltb}
 use Rattle.bforest_core.proofs.Words.{flat_map, append-nil, get_or-set_other, get_or-set_same, Content, Table, with_freed, LevelNode, node, flat, heads, sizes, numbers, least, rebalanced, RowIn, Frees}
 use Rattle.bforest_core.proofs.Words.{count, Above, SameBelow, top_of, Rebuilt, OnLevel, Healed, Joined}
 use Rattle.bforest_core.proofs.rows.LevelRows.{flat-append, heads-append, sizes-append, numbers-append, FitRow-join, least-le}
@@ -7,14 +8,7 @@ use Rattle.bforest_core.proofs.table.Tables.{count-append, counts, count-same, c
 use Rattle.bforest_core.proofs.rows.Zipper.{above_two, stands-same}
 use Rattle.bforest_core.proofs.removal.Frees.{frees-refl, frees-after, frees-wider, frees-one, freed_other}
 use Rattle.bforest_core.proofs.removal.Lifted.{above_same}
-use Rattle.bforest_core.proofs.removal.Losses.{here_lt, past_lt}
 use Rattle.bforest_core.proofs.removal.Balance.{IsHalf, PutsTwo, AllRight, Spread}
-
-yes_le : (a b : ℕ) → a ≤ b → nat_le a b ≡ true
-yes_le a b h = grind arith
-
-no_le : (a b : ℕ) → b < a → nat_le a b ≡ false
-no_le a b h = grind arith
 
 -- what SHRINK says of it
 pub rebalanced_last : (q m : ℕ) → 1 ≤ m → rebalanced q m [] ≡ (false, m ∷ [])
@@ -23,15 +17,13 @@ rebalanced_last q (suc m) one = refl
 
 rebalanced_healthy : (q m r : ℕ) (after : List ℕ) → 1 ≤ m → q ≤ 2 * m → rebalanced q m (r ∷ after) ≡ (false, m ∷ r ∷ after)
 rebalanced_healthy q zero r after one h = absurd (omega arith)
-rebalanced_healthy q (suc m) r after one h = let e = past_lt (2 * suc m) q h in rw e refl
+rebalanced_healthy q (suc m) r after one h = let e = le-ltb (2 * suc m) q h in rw e refl
 
-rebalanced_joined : (q m r : ℕ) (after : List ℕ) → 1 ≤ m → 2 * m < q → m + r ≤ q → rebalanced q m (r ∷ after) ≡ (true, (m + r) ∷ after)
-rebalanced_joined q zero r after one h fits = absurd (omega arith)
-rebalanced_joined q (suc m) r after one h fits = let e = here_lt (2 * suc m) q h in let f = yes_le (suc m + r) q fits in rw (e, f) refl
+rebalanced_joined : (q m r : ℕ) (after : List ℕ) → 2 * suc m < q → suc m + r ≤ q → rebalanced q (suc m) (r ∷ after) ≡ (true, (suc m + r) ∷ after)
+rebalanced_joined q m r after h fits = let e = lt-ltb (2 * suc m) q h in let f = le-leb (suc m + r) q fits in rw (e, f) refl
 
-rebalanced_spread : (q m r : ℕ) (after : List ℕ) → 1 ≤ m → 2 * m < q → q < m + r → rebalanced q m (r ∷ after) ≡ (false, ((m + r) - (m + r) / 2) ∷ (m + r) / 2 ∷ after)
-rebalanced_spread q zero r after one h more = absurd (omega arith)
-rebalanced_spread q (suc m) r after one h more = let e = here_lt (2 * suc m) q h in let f = no_le (suc m + r) q more in rw (e, f) refl
+rebalanced_spread : (q m r : ℕ) (after : List ℕ) → 2 * suc m < q → q < suc m + r → rebalanced q (suc m) (r ∷ after) ≡ (false, ((suc m + r) - (suc m + r) / 2) ∷ (suc m + r) / 2 ∷ after)
+rebalanced_spread q m r after h more = let e = lt-ltb (2 * suc m) q h in let f = lt-leb (suc m + r) q more in rw (e, f) refl
 
 -- a node that is half full or the last is large enough
 pub enough : {K X : Type 0} (half : ℕ) (es : List (K × X)) (after : List (LevelNode K X)) → 1 ≤ length es → (half ≤ length es) ⊎ (after ≡ []) → least half after ≤ length es
@@ -129,7 +121,7 @@ module _ {K V X : Type 0} (content : List (K × X) → Content K V) (half most :
       settle_spread key s b =
           let both = length (e ∷ es) + length (f ∷ fs) in
           let row2 : List (LevelNode K X) = before ++ node n (s.x ∷ s.xs) ∷ node q (s.y ∷ s.ys) ∷ after in
-          let outcome : rebalanced most (length (e ∷ es)) (length (f ∷ fs) ∷ sizes after) ≡ (false, (both - both / 2) ∷ both / 2 ∷ sizes after) = rebalanced_spread most (length (e ∷ es)) (length (f ∷ fs)) (sizes after) p.some (omega (arith, hm.hi, under)) s.more in
+          let outcome : rebalanced most (length (e ∷ es)) (length (f ∷ fs) ∷ sizes after) ≡ (false, (both - both / 2) ∷ both / 2 ∷ sizes after) = rebalanced_spread most (length es) (length (f ∷ fs)) (sizes after) (omega (arith, hm.hi, under)) s.more in
           let fit_q = p.fits in
           let x_is : e ≡ s.x = (let w = s.whole in cc) in
           let lo : half ≤ suc (length s.xs) = omega (arith, s.left_is, s.more, hm.lo, hm.hi) in
@@ -170,7 +162,7 @@ module _ {K V X : Type 0} (content : List (K × X) → Content K V) (half most :
       pub settle_join : AllRight content t u most n q (e ∷ es) (f ∷ fs) → v ≡ with_freed u n → up < length path → Joined content half most t v path indices (set path up q) indices up size before n (e ∷ es) (node q (f ∷ fs) ∷ after) rest
       settle_join s v_is low =
           let both : List (K × X) = (e ∷ es) ++ f ∷ fs in
-          let outcome : rebalanced most (length (e ∷ es)) (length (f ∷ fs) ∷ sizes after) ≡ (true, (length (e ∷ es) + length (f ∷ fs)) ∷ sizes after) = rebalanced_joined most (length (e ∷ es)) (length (f ∷ fs)) (sizes after) p.some (omega (arith, hm.hi, under)) s.fits in
+          let outcome : rebalanced most (length (e ∷ es)) (length (f ∷ fs) ∷ sizes after) ≡ (true, (length (e ∷ es) + length (f ∷ fs)) ∷ sizes after) = rebalanced_joined most (length es) (length (f ∷ fs)) (sizes after) (omega (arith, hm.hi, under)) s.fits in
           let len : length both ≡ length (e ∷ es) + length (f ∷ fs) = length-append (e ∷ es) (f ∷ fs) in
           let fit_q = p.fits in
           let a = above_both in

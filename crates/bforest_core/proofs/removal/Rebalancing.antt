@@ -1,11 +1,11 @@
 -- Settling a level, with what the calls on the way say: each answer of `rebalance_leaf` and `rebalance_inner` is one of these.
 use Rattle.std.proofs.Common.{◌≡◌, suc, ◌+◌, ◌≤◌, ◌<◌, ◌≢◌, List, [], ◌∷◌, ◌++◌, length, set, get_or, slice_get, Some, None, Option, refl, sym, ap, ◌∙◌, subst, inl, inr, length-append, arith, ℕ}
-use Rattle.bforest_core.proofs.Words.{get_or_default, flat_map, Content, Table, IsUsed, IsUnderflowedAt, IsBalancedAt, with_freed, LevelNode, node, flat, heads, head_of, numbers, FitRow, count, Above, NextIs, SameBelow, top_of, OnLevel, Healed, Joined}
-use Rattle.bforest_core.proofs.rows.LevelRows.{heads-append, least-pos, head-is, HeadIs}
+use Rattle.bforest_core.proofs.Words.{get_or_default, flat_map, Content, Table, IsUsed, IsUnderflowedAt, IsBalancedAt, with_freed, LevelNode, node, flat, heads, numbers, FitRow, count, Above, NextIs, SameBelow, top_of, OnLevel, Healed, Joined}
+use Rattle.bforest_core.proofs.rows.LevelRows.{least-pos, head-is, HeadIs}
 use Rattle.bforest_core.proofs.table.Tables.{row-split, is_used}
 use Rattle.bforest_core.proofs.rows.Zipper.{apart_here}
-use Rattle.bforest_core.proofs.removal.LeafLoss.{no_nodes}
-use Rattle.bforest_core.proofs.removal.Lifted.{next_of}
+use Rattle.bforest_core.proofs.removal.Taking.{no_nodes}
+use Rattle.bforest_core.proofs.removal.Lifted.{headed, NextNode, next_of}
 use Rattle.bforest_core.proofs.removal.Balance.{IsHalf, IsStored, AllRight, Spread, all_right_at, spread_at}
 use Rattle.bforest_core.proofs.removal.Asked.{NodeAt, Counts, OneAbove, NextAbove, TwoAbove, Beside, Rekeys, Enters}
 use Rattle.bforest_core.proofs.removal.Rebalance.{settle_stay, above_both, settle_move, apart, above_two_put, settle_spread, settle_join}
@@ -13,11 +13,11 @@ use Rattle.bforest_core.proofs.removal.Rebalance.{settle_stay, above_both, settl
 both_back : {A B : Type 0} (P : A → B → Type 0) (a c : A) (b d : B) → a ≡ c → b ≡ d → P c d → P a b
 both_back P a c b d e f w = rw (e, f) w
 
--- the first entry of nodes that have one
-first_after : {K X : Type 0} (half most : ℕ) → 1 ≤ half → (after : List (LevelNode K X)) → FitRow half most after → 1 ≤ length (flat after) → (q : ℕ) × (f : K × X) × (fs : List (K × X)) × (rest : List (LevelNode K X)) × (after ≡ node q (f ∷ fs) ∷ rest)
+-- the first of nodes that have an entry
+first_after : {K X : Type 0} (half most : ℕ) → 1 ≤ half → (after : List (LevelNode K X)) → FitRow half most after → 1 ≤ length (flat after) → (k : K) × (q : ℕ) × NextNode after k q
 first_after half most one [] fit some = absurd (omega (arith, some))
 first_after half most one (node q [] ∷ after) fit some = absurd (omega (arith, fit.0, least-pos half one after))
-first_after half most one (node q (f ∷ fs) ∷ after) fit some = (q, f, fs, after, refl)
+first_after half most one (node q (f ∷ fs) ∷ after) fit some = (f.0, q, record { f = f; fs = fs; rest = after; after_is = refl; k_is = refl })
 
 module _ {K V X : Type 0} (content : List (K × X) → Content K V) (half most cap : ℕ) (hm : IsHalf half most) (s : IsStored content cap most)
     (t : Table K V) (path indices : List ℕ) (up size high r : ℕ) (high_is : high ≡ suc up) (wide : length path ≡ 17) (height : size ≤ 17)
@@ -48,58 +48,33 @@ module _ {K V X : Type 0} (content : List (K × X) → Content K V) (half most c
   count_read : (m : ℕ) → Counts t (get_or path up r) m → m ≡ length es
   count_read m value = value (content es) slot_read ∙ s.count_is es
 
-  -- the level, with its first entries and the next node in sight
-  record Near (k : K) (q : ℕ) : Type 0 where
-    pub e : K × X
-    pub es' : List (K × X)
-    pub f : K × X
-    pub fs : List (K × X)
-    pub after' : List (LevelNode K X)
-    pub es_is : es ≡ e ∷ es'
-    pub after_is : after ≡ node q (f ∷ fs) ∷ after'
-    pub k_is : k ≡ f.0
-    pub level : OnLevel content half most t path indices up size before n (e ∷ es') (node q (f ∷ fs) ∷ after') rest
-
   named : HeadIs n es
   named = head-is n es p.some
 
-  near_at : (q : ℕ) (f : K × X) (fs : List (K × X)) (after' : List (LevelNode K X)) (k : K) → after ≡ node q (f ∷ fs) ∷ after' → k ≡ f.0 → Near k q
-  near_at q f fs after' k after_is k_is =
-      let h = named in
-      record {
-        e = h.first;
-        es' = h.others;
-        f = f;
-        fs = fs;
-        after' = after';
-        es_is = h.es_is;
-        after_is = after_is;
-        k_is = k_is;
-        level = subst (λ (z : List (LevelNode K X)). OnLevel content half most t path indices up size before n (h.first ∷ h.others) z rest) after_is (subst (λ (z : List (K × X)). OnLevel content half most t path indices up size before n z after rest) h.es_is p);
-      }
+  -- the level, with its first entries and the next node in sight
+  level : (k : K) (q : ℕ) (d : NextNode after k q) → OnLevel content half most t path indices up size before n (named.first ∷ named.others) (node q (d.f ∷ d.fs) ∷ d.rest) rest
+  level k q d = subst (λ (z : List (LevelNode K X)). OnLevel content half most t path indices up size before n (named.first ∷ named.others) z rest) d.after_is (subst (λ (z : List (K × X)). OnLevel content half most t path indices up size before n z after rest) named.es_is p)
 
   module _ (m : ℕ) (value : Counts t (get_or path up r) m) (past : get_or indices up 0 ≡ m) where
     -- the path is past the node's end, where one stands behind it
-    behind : (q : ℕ) × (f : K × X) × (fs : List (K × X)) × (more : List (LevelNode K X)) × (after ≡ node q (f ∷ fs) ∷ more)
+    behind : (k : K) × (q : ℕ) × NextNode after k q
     behind = first_after half most half_some after p.fits (omega (arith, p.entry_within, past, count_read m value, length-append es (flat after)))
 
-    d : Near behind.1.0 behind.0
-    d = near_at behind.0 behind.1 behind.2 behind.3 behind.1.0 behind.4 refl
-
-    above_past : Above t path indices (suc up) size rest (heads before ++ (d.e.0, n) ∷ (d.f.0, behind.0) ∷ heads d.after') (length (heads before))
-    above_past = above_both content half most hm t path indices up size before n d.e d.es' behind.0 d.f d.fs d.after' rest d.level
+    above_past : Above t path indices (suc up) size rest (heads before ++ (named.first.0, n) ∷ (behind.2.f.0, behind.1) ∷ heads behind.2.rest) (length (heads before))
+    above_past = let d = behind.2 in above_both content half most hm t path indices up size before n named.first named.others behind.1 d.f d.fs d.rest rest (level behind.0 behind.1 d)
 
     -- what entering the next node asks
     pub past_asks : NextAbove t path indices (suc up) size
-    past_asks = (rest, heads before, (d.e.0, n), (d.f.0, behind.0), heads d.after', above_past)
+    past_asks = (rest, heads before, (named.first.0, n), (behind.2.f.0, behind.1), heads behind.2.rest, above_past)
 
     -- what it leaves
     pub past_heals : (path' indices' : List ℕ) → half ≤ m → Enters t path indices path' indices' up size → get_or indices' up 0 ≡ 0 → SameBelow up path path' → SameBelow up indices indices' → top_of path' size ≡ top_of path size → Healed content half most t t path indices path' indices' up size before n es after rest
     past_heals path' indices' healthy moved first below below_too top_is =
-        let k = d in
-        let len : m ≡ length (k.e ∷ k.es') = count_read m value ∙ ap length k.es_is in
-        let w = settle_move content half most hm t path indices up size before n k.e k.es' behind.0 k.f k.fs k.after' rest k.level path' indices' (subst (λ (z : ℕ). half ≤ z) len healthy) (past ∙ len) (moved rest (heads before) (k.e.0, n) (k.f.0, behind.0) (heads k.after') above_past) first below below_too top_is in
-        both_back (λ (y : List (K × X)) (z : List (LevelNode K X)). Healed content half most t t path indices path' indices' up size before n y z rest) es _ after _ k.es_is k.after_is w
+        let d = behind.2 in
+        let len : m ≡ length (named.first ∷ named.others) = count_read m value ∙ ap length named.es_is in
+        let entered = moved rest (heads before) (named.first.0, n) (d.f.0, behind.1) (heads d.rest) above_past in
+        let w = settle_move content half most hm t path indices up size before n named.first named.others behind.1 d.f d.fs d.rest rest (level behind.0 behind.1 d) path' indices' (subst (λ (z : ℕ). half ≤ z) len healthy) (past ∙ len) entered first below below_too top_is in
+        both_back (λ (y : List (K × X)) (z : List (LevelNode K X)). Healed content half most t t path indices path' indices' up size before n y z rest) es _ after _ named.es_is d.after_is w
 
   -- a healthy node in which the path stands
   pub stay_heals : (m : ℕ) → Counts t (get_or path up r) m → half ≤ m → get_or indices up 0 ≢ m → Healed content half most t t path indices path indices up size before n es after rest
@@ -109,9 +84,7 @@ module _ {K V X : Type 0} (content : List (K × X) → Content K V) (half most c
 
   -- the level above names the node
   above_high : Above t path indices high size rest (heads before ++ (named.first.0, n) ∷ heads after) (length (heads before))
-  above_high =
-      subst (λ (z : ℕ). Above t path indices z size rest (heads before ++ (named.first.0, n) ∷ heads after) (length (heads before))) (sym high_is)
-      (subst (λ (z : List (K × ℕ)). Above t path indices (suc up) size rest z (length (heads before))) (heads-append before (node n es ∷ after) ∙ ap (λ z. heads before ++ (head_of n z ++ heads after)) named.es_is) p.above)
+  above_high = subst (λ (z : ℕ). Above t path indices z size rest (heads before ++ (named.first.0, n) ∷ heads after) (length (heads before))) (sym high_is) (headed t path indices (suc up) size before n es after rest named p.above)
 
   -- what the call for the right neighbour asks
   pub beside_asks : OneAbove t path indices high size
@@ -128,44 +101,42 @@ module _ {K V X : Type 0} (content : List (K × X) → Content K V) (half most c
       settle_stay content half most hm t path indices up size before n es after rest p (inr none) (omega (arith, p.entry_within, length-append es (flat after), ap (λ z. length (flat z)) none))
 
   module _ (m : ℕ) (value : Counts t (get_or path up r) m) (under : m < half) (o : Option (K × ℕ)) (next : K × ℕ) (is : o ≡ Some next) (beside : Beside t path indices high size o) where
-    near_is : Near next.0 next.1
+    near_is : NextNode after next.0 next.1
     near_is =
         let nx = subst (λ (z : Option (K × ℕ)). NextIs z (heads after)) is (next_is o beside) in
-        let w = next_of half most half_some after next.0 next.1 nx.0 p.fits nx.1 in
-        near_at next.1 w.f w.fs w.rest next.0 w.after_is w.k_is
+        next_of half most half_some after next.0 next.1 nx.0 p.fits nx.1
 
-    under_is : length (near_is.e ∷ near_is.es') < half
-    under_is = let d = near_is in omega (arith, under, count_read m value, ap length d.es_is)
+    under_is : length (named.first ∷ named.others) < half
+    under_is = let d = near_is in omega (arith, under, count_read m value, ap length named.es_is)
 
     -- how the two lie in the table
-    lies : (n ≢ next.1) × (count n (numbers before) + count n (numbers near_is.after') ≡ 0) × (count next.1 (numbers before) + count next.1 (numbers near_is.after') ≡ 0) × (count next.1 t.chain ≡ 0)
-    lies = let d = near_is in apart content half most hm t path indices up size before n d.e d.es' next.1 d.f d.fs d.after' rest d.level
+    lies : (n ≢ next.1) × (count n (numbers before) + count n (numbers near_is.rest) ≡ 0) × (count next.1 (numbers before) + count next.1 (numbers near_is.rest) ≡ 0) × (count next.1 t.chain ≡ 0)
+    lies = let d = near_is in apart content half most hm t path indices up size before n named.first named.others next.1 d.f d.fs d.rest rest (level next.0 next.1 d)
 
-    slots : (slice_get t.nodes n ≡ Some (content (near_is.e ∷ near_is.es'))) × (slice_get t.nodes next.1 ≡ Some (content (near_is.f ∷ near_is.fs)))
+    slots : (slice_get t.nodes n ≡ Some (content (named.first ∷ named.others))) × (slice_get t.nodes next.1 ≡ Some (content (near_is.f ∷ near_is.fs)))
     slots =
         let d = near_is in
-        let r = (row-split content t.nodes before (node n (d.e ∷ d.es') ∷ node next.1 (d.f ∷ d.fs) ∷ d.after') d.level.inside).1 in
+        let e = level next.0 next.1 d in
+        let r = (row-split content t.nodes before (node n (named.first ∷ named.others) ∷ node next.1 (d.f ∷ d.fs) ∷ d.rest) e.inside).1 in
         (r.0, r.1.0)
 
     -- what balancing asks
     pub balance_asks : IsUsed t (get_or path up r) × (IsUsed t next.1 × ((get_or path up r ≢ next.1) × IsUnderflowedAt cap t.nodes (get_or path up r) next.1))
     balance_asks =
-        let e = sym num_is in
         let d = near_is in
-        let ce = s.count_is (d.e ∷ d.es') in
-        let cf = s.count_is (d.f ∷ d.fs) in (
-          subst (λ (z : ℕ). IsUsed t z) e (is_used t n (content es) slot_here none_here),
-          (is_used t next.1 (content (d.f ∷ d.fs)) slots.1 lies.3, (subst (λ (z : ℕ). z ≢ next.1) e lies.0, record {
-            under = content (d.e ∷ d.es');
-            neighbour = content (d.f ∷ d.fs);
-            left_is = ap (λ z. slice_get t.nodes z) num_is ∙ slots.0;
-            right_is = slots.1;
-            kind = s.kind (d.e ∷ d.es') (d.f ∷ d.fs);
-            filled = omega (arith, ce);
-            neighbour_filled = omega (arith, cf);
-            underflowed = omega (arith, ce, s.capacity_is (d.e ∷ d.es'), under_is, hm.hi);
-          })),
-        )
+        let ce = s.count_is (named.first ∷ named.others) in
+        let cf = s.count_is (d.f ∷ d.fs) in
+        let both : IsUnderflowedAt cap t.nodes n next.1 = record {
+          under = content (named.first ∷ named.others);
+          neighbour = content (d.f ∷ d.fs);
+          left_is = slots.0;
+          right_is = slots.1;
+          kind = s.kind (named.first ∷ named.others) (d.f ∷ d.fs);
+          filled = omega (arith, ce);
+          neighbour_filled = omega (arith, cf);
+          underflowed = omega (arith, ce, s.capacity_is (named.first ∷ named.others), under_is, hm.hi);
+        } in
+        rw num_is (is_used t n (content es) slot_here none_here, (is_used t next.1 (content (d.f ∷ d.fs)) slots.1 lies.3, (lies.0, both)))
 
     module _ (u : Table K V) (got : Option K) (balanced : IsBalancedAt cap t (get_or path up r) next.0 next.1 got u) where
       balanced_as : (o : Option K) → got ≡ o → IsBalancedAt cap t n near_is.f.0 next.1 o u
@@ -173,30 +144,30 @@ module _ {K V X : Type 0} (content : List (K × X) → Content K V) (half most c
 
       -- renewing the key between the two
       module _ (key : K) (got_is : got ≡ Some key) where
-        spread : Spread content t u most n next.1 (near_is.e ∷ near_is.es') (near_is.f ∷ near_is.fs) key
-        spread = let d = near_is in spread_at content t u cap most n next.1 d.e d.es' d.f d.fs s lies.0 (omega (arith, hm.hi, hm.two)) slots.0 slots.1 key (balanced_as (Some key) got_is)
+        spread : Spread content t u most n next.1 (named.first ∷ named.others) (near_is.f ∷ near_is.fs) key
+        spread = let d = near_is in spread_at content t u cap most n next.1 named.first named.others d.f d.fs s lies.0 (omega (arith, hm.hi, hm.two)) slots.0 slots.1 key (balanced_as (Some key) got_is)
 
-        above_is : Above u path indices (suc up) size rest (heads before ++ (near_is.e.0, n) ∷ (near_is.f.0, next.1) ∷ heads near_is.after') (length (heads before))
-        above_is = let d = near_is in above_two_put content half most hm t path indices up size before n d.e d.es' next.1 d.f d.fs d.after' rest d.level u _ _ spread.two
+        above_is : Above u path indices (suc up) size rest (heads before ++ (named.first.0, n) ∷ (near_is.f.0, next.1) ∷ heads near_is.rest) (length (heads before))
+        above_is = let d = near_is in above_two_put content half most hm t path indices up size before n named.first named.others next.1 d.f d.fs d.rest rest (level next.0 next.1 d) u _ _ spread.two
 
         -- what it asks
         pub rekey_asks : TwoAbove u path indices high size
         rekey_asks =
             let d = near_is in
-            (rest, heads before, (d.e.0, n), d.f.0, next.1, heads d.after', subst (λ (z : ℕ). Above u path indices z size rest (heads before ++ (d.e.0, n) ∷ (d.f.0, next.1) ∷ heads d.after') (length (heads before))) (sym high_is) above_is)
+            (rest, heads before, (named.first.0, n), d.f.0, next.1, heads d.rest, subst (λ (z : ℕ). Above u path indices z size rest (heads before ++ (named.first.0, n) ∷ (d.f.0, next.1) ∷ heads d.rest) (length (heads before))) (sym high_is) above_is)
 
         -- what it leaves
         pub rekey_heals : (v : Table K V) → Rekeys u v path indices high size key → Healed content half most t v path indices path indices up size before n es after rest
         rekey_heals v rekeys =
             let d = near_is in
             let rk = subst (λ (z : ℕ). Rekeys u v path indices z size key) high_is rekeys in
-            let w = settle_spread content half most hm t path indices up size before n d.e d.es' next.1 d.f d.fs d.after' rest d.level u v under_is key spread (rk rest (heads before) (d.e.0, n) d.f.0 next.1 (heads d.after') above_is) in
-            both_back (λ (y : List (K × X)) (z : List (LevelNode K X)). Healed content half most t v path indices path indices up size before n y z rest) es _ after _ d.es_is d.after_is w
+            let w = settle_spread content half most hm t path indices up size before n named.first named.others next.1 d.f d.fs d.rest rest (level next.0 next.1 d) u v under_is key spread (rk rest (heads before) (named.first.0, n) d.f.0 next.1 (heads d.rest) above_is) in
+            both_back (λ (y : List (K × X)) (z : List (LevelNode K X)). Healed content half most t v path indices path indices up size before n y z rest) es _ after _ named.es_is d.after_is w
 
       -- freeing the emptied node
       module _ (got_is : got ≡ None) where
-        all_right : AllRight content t u most n next.1 (near_is.e ∷ near_is.es') (near_is.f ∷ near_is.fs)
-        all_right = let d = near_is in all_right_at content t u cap most n next.1 d.e d.es' d.f d.fs s lies.0 (omega (arith, hm.hi, hm.two)) slots.0 slots.1 (balanced_as None got_is)
+        all_right : AllRight content t u most n next.1 (named.first ∷ named.others) (near_is.f ∷ near_is.fs)
+        all_right = let d = near_is in all_right_at content t u cap most n next.1 named.first named.others d.f d.fs s lies.0 (omega (arith, hm.hi, hm.two)) slots.0 slots.1 (balanced_as None got_is)
 
         -- what it asks
         pub free_asks : IsUsed u (get_or path up r)
@@ -208,5 +179,5 @@ module _ {K V X : Type 0} (content : List (K × X) → Content K V) (half most c
         pub free_joins : (v : Table K V) → v ≡ with_freed u (get_or path up r) → Joined content half most t v path indices (set path up next.1) indices up size before n es after rest
         free_joins v freed =
             let d = near_is in
-            let w = settle_join content half most hm t path indices up size before n d.e d.es' next.1 d.f d.fs d.after' rest d.level u v under_is all_right (freed ∙ ap (λ z. with_freed u z) num_is) low in
-            both_back (λ (y : List (K × X)) (z : List (LevelNode K X)). Joined content half most t v path indices (set path up next.1) indices up size before n y z rest) es _ after _ d.es_is d.after_is w
+            let w = settle_join content half most hm t path indices up size before n named.first named.others next.1 d.f d.fs d.rest rest (level next.0 next.1 d) u v under_is all_right (freed ∙ ap (λ z. with_freed u z) num_is) low in
+            both_back (λ (y : List (K × X)) (z : List (LevelNode K X)). Joined content half most t v path indices (set path up next.1) indices up size before n y z rest) es _ after _ named.es_is d.after_is w

@@ -1,5 +1,6 @@
 -- What a removal from the tree under a root says of the table.
-use Rattle.std.proofs.Common.{◌≡◌, ◌≢◌, ℕ, zero, suc, ◌<◌, ◌↔◌, Option, Some, None, IfSome, List, [], ◌∷◌, ◌++◌, length, get_or, refl, sym, ap, ◌∙◌, subst, inl, inr, append_assoc, length-append, arith}
+use Rattle.std.proofs.Common.{◌≡◌, ◌≢◌, ℕ, suc, ◌<◌, ◌↔◌, Option, Some, None, IfSome, List, [], ◌∷◌, ◌++◌, length, get_or, refl, sym, ap, ◌∙◌, subst, inl, inr, append_assoc, length-append, arith}
+use Rattle.std.proofs.lemmas.List.Edits.{length-remove}
 use Rattle.bforest_core.proofs.Words.{remove, eqb_tells, length-map, Table, node, flat, sizes, Tree, sizes_of, nodes_up, shrink, count, root_of, numbers_of, Stands, tree_of, IsUnion, Changes, Ends, GivesInOrder}
 use Rattle.bforest_core.proofs.Words.{GivesNodes, StandsUnder, node_count, StandsIn, Removed, Emptied}
 use Rattle.bforest_core.proofs.rows.LevelRows.{flat-append}
@@ -9,12 +10,6 @@ use Rattle.bforest_core.proofs.union.Exchange.{IsPlanted}
 use Rattle.bforest_core.proofs.union.Unions.{rooted}
 use Rattle.bforest_core.proofs.union.Roots.{exchanged-freed, uprooted-union}
 use Rattle.bforest_core.proofs.union.Account.{length-same, nodes-count}
-
--- one entry fewer
-remove_fewer : {A : Type 0} (xs : List A) (place : ℕ) → place < length xs → suc (length (remove xs place)) ≡ length xs
-remove_fewer [] place low = absurd (omega (arith, low))
-remove_fewer (x ∷ xs) zero low = refl
-remove_fewer (x ∷ xs) (suc place) low = ap suc (remove_fewer xs place (omega (arith, low)))
 
 -- a fact of what there is, if anything, carried over
 pub if_some : {A : Type 0} (P Q : A → Type 0) (found : Option A) → ((x : A) → P x → Q x) → IfSome found P → IfSome found Q
@@ -95,7 +90,7 @@ module _ {K V : Type 0} where
             chain_is = i.frees.chain_is ∙ ap (λ z. z ++ old.chain) i.order.freed_is ∙ append_assoc i.order.roots (nodes_up path 0 i.order.up) old.chain;
             roots_are = omega (arith, i.order.roots_are, levels, levels_were);
           };
-          last = (λ is. absurd cc, λ one. absurd (let low = place_low path indices size tree place s.stands in omega (arith, remove_fewer (flat tree.leaves) place low, one, ap length i.flat_is, i.some)));
+          last = (λ is. absurd cc, λ one. absurd (let low = place_low path indices size tree place s.stands in omega (arith, length-remove (flat tree.leaves) place low, one, ap length i.flat_is, i.some)));
           ended = λ is. absurd cc;
           none_left = λ is. absurd cc;
           freed_root = λ ne. elim (eqb_tells (length i.tree'.above) (length tree.above)) [

@@ -2,17 +2,17 @@
 use Rattle.std.proofs.Common.{◌≡◌, ◌≢◌, ℕ, suc, ◌+◌, ◌-◌, ◌≤◌, ◌<◌, List, [], ◌∷◌, ◌++◌, map, length, drop, get_or, Some, refl, sym, ap, ◌∙◌, subst, append_assoc, length-append, arith}
 use Rattle.bforest_core.proofs.Words.{flat_map, append-nil, nil_from_length, without_child, Table, with_node, with_freed, LevelNode, node, flat, heads, head_of, sizes, numbers, FitRow, Solid, Stacked, loss_above, RowIn, inner_content, entry_keys, entry_items, count}
 use Rattle.bforest_core.proofs.Words.{Distinct, root_above, Above, nodes_up, Dropped, rebalanced}
-use Rattle.bforest_core.proofs.rows.LevelRows.{flat-append, heads-append, sizes-append, FitRow-join, Solid-full, least-pos}
+use Rattle.bforest_core.proofs.rows.LevelRows.{flat-append, heads-append, sizes-append, FitRow-join, Solid-full}
 use Rattle.bforest_core.proofs.table.Tables.{count-append, counts, count-same, row-split, row-put, row-same, rows-same, ne_from_count, puts}
 use Rattle.bforest_core.proofs.removal.Frees.{frees-puts, freed_other, frees-first}
 use Rattle.bforest_core.proofs.rows.Zipper.{Cut_above, Facts, facts, Spot, above_two}
 use Rattle.bforest_core.proofs.rows.Contents.{removed_last}
 use Rattle.bforest_core.proofs.removal.Lifted.{heads-put, above_same, rows_above}
-use Rattle.bforest_core.proofs.removal.LeafLoss.{some_first}
-use Rattle.bforest_core.proofs.removal.Merge.{loss_level}
+use Rattle.bforest_core.proofs.removal.Taking.{some_first, no_nodes}
+use Rattle.bforest_core.proofs.removal.Collapse.{heads-flat}
+use Rattle.bforest_core.proofs.removal.Merge.{placed, loss_level}
 use Rattle.bforest_core.proofs.removal.Asked.{Counts, Removes, LastTwo, Seen, seen}
 use Rattle.bforest_core.proofs.rows.Tops.{top_rows}
-use Rattle.bforest_core.proofs.removal.Losses.{placed}
 use Rattle.bforest_core.proofs.removal.Rebalance.{rebalanced_last}
 
 -- solid nodes fit as a row
@@ -20,13 +20,6 @@ pub fit_solid : {K X : Type 0} (half most : ℕ) → 1 ≤ half → (row : List 
 fit_solid half most one [] s = tt
 fit_solid half most one (node m es ∷ []) s = (omega (arith, s.0, one), s.1, tt)
 fit_solid half most one (node m es ∷ next ∷ ns) s = (s.0, s.1, fit_solid half most one (next ∷ ns) s.2)
-
--- nothing to the right
-nothing : {K : Type 0} (r : List (K × ℕ)) (after : List (LevelNode K ℕ)) → FitRow 4 8 after → [] ≡ r ++ flat after → (r ≡ []) × (after ≡ [])
-nothing [] [] f e = (refl, refl)
-nothing [] (node m [] ∷ after) f e = absurd (let g = f.0 in omega (arith, g, least-pos 4 (omega arith) after))
-nothing [] (node m (x ∷ xs) ∷ after) f e = absurd cc
-nothing (x ∷ r) after f e = absurd cc
 
 -- the last of some nodes
 pub record LastOf {K X : Type 0} (before : List (LevelNode K X)) : Type 0 where
@@ -65,7 +58,9 @@ module _ {K V : Type 0} where
 
   module _ (t : Table K V) (path indices : List ℕ) (up size : ℕ) (rows : List (List (LevelNode K ℕ))) (a : List (K × ℕ)) (x : K × ℕ) (d : Spot t path indices up size rows a x []) where
     ends : (d.q.r ≡ []) × (d.q.after ≡ [])
-    ends = nothing d.q.r d.q.after d.f.fit.2 d.q.b_is
+    ends =
+        let len = length-append d.q.r (flat d.q.after) in
+        (nil_from_length d.q.r (omega (arith, len, ap length d.q.b_is)), no_nodes 4 8 (omega arith) d.q.after d.f.fit.2 (nil_from_length (heads d.q.after) (omega (arith, heads-flat d.q.after, len, ap length d.q.b_is))))
 
     -- the path's row ends with the entry
     whole : Cut_above t path indices up size d.q.before (get_or path up 0) d.q.l x [] [] d.q.rest

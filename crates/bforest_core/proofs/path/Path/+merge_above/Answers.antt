@@ -11,7 +11,7 @@ merge_above-requires g t c κs within =
     let j = c.rebalance_inner.ensures.joined c.if-rebalance_inner.true l.before _ l.entries l.after l.rest l.on_level in
     let less : c.rebalance_inner.new.self.size - (c.args.up + 1) < t = omega (arith, c.decreases, merge_low _ _ _ _ _ w, c.rebalance_inner.ensures.size) in
     let size = c.rebalance_inner.ensures.size in
-    let asked = merge_asks inner_content 4 8 _ _ _ _ _ _ _ _ l.before _ l.entries l.after l.rest j (c.args.up + 1) _ (add-one c.args.up) size in
+    let asked = merge_asks inner_content 4 8 _ _ _ _ _ l.before _ l.entries l.after l.rest _ _ _ j (c.args.up + 1) _ (add-one c.args.up) size in
     (less, (within.0, (within.1, ((λ a m. search rules), (search rules, (search rules, (omega (arith, c.requires.height, size), asked)))))))
 
 pub returns-then-rebalance_inner-clause-merged : goal.returns-then-rebalance_inner-clause-merged

@@ -40,14 +40,14 @@ pub update_next_separator-requires : goal.update_next_separator-requires
 update_next_separator-requires g c =
     let w = c.requires.pending in
     let asked = rekey_asks inner_content 4 8 _ half_inner (inner_stored g.row.N) _ _ _ _ _ _ c.index-self-level.result (add-one c.args.level) (omega arith) c.requires.height w.0 w.1 w.2 w.3 w.4 w.5 c.entries-left.result c.entries-left.ensures.value c.if-left-ge-MIN_CHILDREN.false _ _ c.in-Some.is c.right_sibling.ensures
-        c.balance_nodes.new.self _ c.balance_nodes.ensures.balanced _ c.in-Some-balance_nodes.is in
+    c.balance_nodes.new.self _ c.balance_nodes.ensures.balanced _ c.in-Some-balance_nodes.is in
     (search rules, (search rules, (c.requires.height, asked)))
 
 pub free_node-requires : goal.free_node-requires
 free_node-requires g c =
     let w = c.requires.pending in
     let asked = free_asks inner_content 4 8 _ half_inner (inner_stored g.row.N) _ _ _ _ _ _ c.index-self-level.result (add-one c.args.level) (omega arith) c.requires.height w.0 w.1 w.2 w.3 w.4 w.5 c.entries-left.result c.entries-left.ensures.value c.if-left-ge-MIN_CHILDREN.false _ _ c.in-Some.is c.right_sibling.ensures
-        c.balance_nodes.new.self _ c.balance_nodes.ensures.balanced c.in-None-balance_nodes.is in
+    c.balance_nodes.new.self _ c.balance_nodes.ensures.balanced c.in-None-balance_nodes.is in
     (search rules, asked)
 
 pub returns-in-None-clause-healed : goal.returns-in-None-clause-healed
