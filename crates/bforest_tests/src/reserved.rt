@@ -22,7 +22,10 @@ fn nodes_are_taken_ahead(rt: HostRuntime) {
     ] {
         assert_eq!(rt; forest.reserve_nodes(count), answer);
         for key in next..=last {
-            assert_eq!(rt; insert(&rt, &mut map, (key, key), &mut forest, &()), Ok(None));
+            assert_eq!(rt;
+                insert(&rt, &mut map, (key, key), &mut forest, &()),
+                Ok(None)
+            );
         }
         next = last.wrapping_add(1);
         assert_eq!(rt; forest.slots(), slots);
