@@ -103,10 +103,10 @@ module _ {K X : Type 0} where
   with_value-past (e ∷ es) zero w past = absurd (omega (arith, past))
   with_value-past (e ∷ es) (suc p) w past = ap (λ l. e ∷ l) (with_value-past es p w (omega (arith, past)))
 
-  -- the forest with a value written where a path stands
-  pub written-here : {n : ℕ} (f : Forest K X) (path : Path K X n) (leaf index : ℕ) → (¬ IsAtEnd path) → leaf ≡ leaf_of path → index ≡ index_of path → (w : X) → with_value_at f leaf index w ≡ (if path.size == 0 then f else with_value_at f (leaf_of path) (index_of path) w)
-  written-here f path leaf index some li ii w =
-      let no : (path.size == 0) ≡ false = elim (eqb_tells path.size 0) [ inl z ↦ absurd (some z.1) | inr z ↦ z.0 ] in
+  -- the forest with a value written where a path stands, at a place before the end
+  pub written-here : {n : ℕ} (f : Forest K X) (path : Path K X n) (leaf index p end : ℕ) → p < end → leaf ≡ leaf_of path → index ≡ index_of path → (w : X) → with_value_at f leaf index w ≡ (if p == end then f else with_value_at f (leaf_of path) (index_of path) w)
+  written-here f path leaf index p end within li ii w =
+      let no : (p == end) ≡ false = elim (eqb_tells p end) [ inl z ↦ absurd (omega (arith, within, z.1)) | inr z ↦ z.0 ] in
       (λ j. with_value_at f (li j) (ii j) w) ∙ sym (λ j. if no j then f else with_value_at f (leaf_of path) (index_of path) w)
 
 module _ {K X C : Type 0} (order : C → K → K → Ordering) (c : MapCursorMut K X C) (v : IsCursor order c) where
@@ -135,8 +135,8 @@ module _ {K X C : Type 0} (order : C → K → K → Ordering) (c : MapCursorMut
     unwritten-here w =
         let last = end-place (forest_now c) c.path (map_now c) (spot c) v.stands end in
         let kept = with_value-past (entries c) (spot c) w (omega (arith, last)) in
-        let zero : (c.path.size == 0) ≡ true = elim (eqb_tells c.path.size 0) [ inl z ↦ z.0 | inr z ↦ absurd (z.1 end) ] in
-        let same : c ≡ with_value_here c w = λ j. record c { forest = record c.forest { now = sym (λ i. if zero i then c.forest.now else with_value_at c.forest.now (leaf_of c.path) (index_of c.path) w) j } } in
+        let at-last : (spot c == length (entries c)) ≡ true = elim (eqb_tells (spot c) (length (entries c))) [ inl z ↦ z.0 | inr z ↦ absurd (z.1 last) ] in
+        let same : c ≡ with_value_here c w = λ j. record c { forest = record c.forest { now = sym (λ i. if at-last i then c.forest.now else with_value_at c.forest.now (leaf_of c.path) (index_of c.path) w) j } } in
         let stays : Writes order c c w = record {
           goes = record { map_loan = refl; forest_loan = refl; comparator = refl; spot = refl; valid = v };
           becomes = subst (λ (l : List (K × X)). Becomes (forest_now c) (map_now c) (forest_now c) (map_now c) l) (sym kept) (becomes-same (forest_now c) (map_now c) v.live);

@@ -7,7 +7,7 @@ use Rattle.bforest_nodes.specs.Entries.{IsIncreasing, with_value}
 use Rattle.bforest_trees.specs.Forest.{Becomes, Forest, IsLive, free_of, list_of, sizes_of, slots_of}
 use Rattle.bforest_trees.specs.Place.{IsSpot, spot_of}
 use Rattle.std.specs.Borrow.{GName}
-use Rattle.std.specs.Prelude.{List, Option, if◌then◌else◌, ◌==◌, ◌≡◌, ℕ}
+use Rattle.std.specs.Prelude.{List, Option, if◌then◌else◌, length, ◌==◌, ◌≡◌, ℕ}
 use Rattle.std.specs.declared.cmp.Ordering.{Ordering}
 
 -- a reading cursor: the list, where it stands in it (the number of entries is the end), and its comparator
@@ -53,10 +53,10 @@ module _ {K X C : Type 0} where
   abbrev pub forest_loan : MapCursorMut K X C → GName
   forest_loan c = c.forest.ghost_name
 
-  -- with w as the value at its place
+  -- with w as the value at its place; at the end nothing is written
   abbrev pub with_value_here : MapCursorMut K X C → X → MapCursorMut K X C
   with_value_here c w =
-      record c { forest = record c.forest { now = if c.path.size == 0 then c.forest.now else with_value_at c.forest.now (leaf_of c.path) (index_of c.path) w } }
+      record c { forest = record c.forest { now = if spot c == length (entries c) then c.forest.now else with_value_at c.forest.now (leaf_of c.path) (index_of c.path) w } }
 
   module _ (order : C → K → K → Ordering) where
     -- its handle is live, its list increases, and it stands on an entry or at the end
