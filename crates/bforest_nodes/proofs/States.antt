@@ -1,7 +1,8 @@
 -- What kind of state a content comes from.
-use Rattle.std.proofs.Common.{◌≡◌, ℕ, ◌+◌, ◌*◌, ◌<◌, ◌≤◌, List, arith, length, take, refl}
+use Rattle.std.proofs.Common.{◌≡◌, ℕ, ◌+◌, ◌*◌, ◌<◌, ◌≤◌, List, None, arith, length, slice_get, sym, take, refl}
 use Rattle.std.proofs.lemmas.List.{length-take}
-use Rattle.bforest_nodes.specs.Content.{Content, HasShape, IsFree, IsInner, IsLeaf, entry_count, keys_of}
+use Rattle.std.proofs.lemmas.Option.{slice_get_past}
+use Rattle.bforest_nodes.specs.Content.{Content, HasShape, IsFree, IsInner, IsLeaf, entry_count, keys_of, vals_of}
 use Rattle.bforest_nodes.specs.Layout.{Fits, content_of}
 use Rattle.bforest_nodes.specs.declared.entries.Entries.{Entries as LeafEntries}
 use Rattle.bforest_nodes.specs.declared.number.Node.{Node}
@@ -50,6 +51,13 @@ module _ {K V : Type 0} {n : ℕ} where
   -- an index among a leaf's entries, or behind them
   pub entries_within : (s : State K V n) (e : LeafEntries K V n) (whole : Content K V) (i : ℕ) → content_of s ≡ whole → s ≡ Entries e → i < entry_count whole → i < e.size
   entries_within s e whole i view is within = within_front e.size e.keys.items i (rw (← view, is) at within)
+
+  -- there is no entry behind a leaf's last
+  pub no_key : (s : State K V n) (e : LeafEntries K V n) (whole : Content K V) (i : ℕ) → content_of s ≡ whole → s ≡ Entries e → e.size ≤ i → None ≡ slice_get (keys_of whole) i
+  no_key s e whole i view is behind = rw (← view, is) (sym (slice_get_past (take e.size e.keys.items) i (omega (arith, behind, length-take e.size e.keys.items))))
+
+  pub no_value : (s : State K V n) (e : LeafEntries K V n) (whole : Content K V) (i : ℕ) → content_of s ≡ whole → s ≡ Entries e → e.size ≤ i → None ≡ slice_get (vals_of whole) i
+  no_value s e whole i view is behind = rw (← view, is) (sym (slice_get_past (take e.size e.vals.items) i (omega (arith, behind, length-take e.size e.vals.items))))
 
   -- an index among an inner node's children
   pub children_within : (s : State K V n) (size : ℕ) (keys : Row K 7) (tree : Row Node 8) (whole : Content K V) (i : ℕ) → content_of s ≡ whole → s ≡ Branch size keys tree → i < entry_count whole → i < size + 1

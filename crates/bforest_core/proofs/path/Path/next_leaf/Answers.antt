@@ -15,6 +15,9 @@ pub returns-then-not-next_node-clause-last : goal.returns-then-not-next_node-cla
 returns-then-not-next_node-clause-last g c = λ none root place entries o.
     leaf-end c.requires.union c.args.self.now o (c.next_node.ensures.last c.if-not-next_node.true _ _ _ (leaf-over c.requires.union c.args.self.now o))
 
+pub returns-clause-index : goal.returns-clause-index
+returns-clause-index g c = c.set_entry.ensures.here
+
 pub returns-clause-stands : goal.returns-clause-stands
 returns-clause-stands g c = λ root place entries o.
     let m = c.next_node.ensures.moved (search rules) _ _ _ (leaf-over c.requires.union c.args.self.now o) in

@@ -1,4 +1,5 @@
-use Rattle.std.proofs.Common.{refl, rules}
+use Rattle.std.proofs.lemmas.Bool.{false≢true}
+use Rattle.std.proofs.Common.{refl, rules, sym}
 use Rattle.bforest_trees.specs.Layout.{left_of}
 use Rattle.bforest_trees.proofs.Reading.{all-read, held-same, none-left, on-entry, opens-next}
 use Rattle.bforest_trees.proofs.reader.Reader.is_left.Goals as goal
@@ -34,3 +35,9 @@ returns-in-None-clause-same g c = λ no. rw (c.in-None.ensures.same refl) refl
 
 pub returns-then-self-clause-entered : goal.returns-then-self-clause-entered
 returns-then-self-clause-entered g c = λ yes. record { left_is = refl; reader_is = c.requires.reader; within = c.if-self.true; same = held-same c.args.pool.now c.args.self.now c.requires.reader }
+
+pub returns-in-Some-clause-none : goal.returns-in-Some-clause-none
+returns-in-Some-clause-none g c = λ no. absurd (false≢true (sym no))
+
+pub returns-in-Some-clause-same : goal.returns-in-Some-clause-same
+returns-in-Some-clause-same g c = λ no. absurd (false≢true (sym no))

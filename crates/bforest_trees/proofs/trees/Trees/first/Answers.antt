@@ -1,7 +1,7 @@
 use Rattle.bforest_trees.proofs.Spots.{computed}
 use Rattle.bforest_trees.proofs.Changed.{seen-as}
 use Rattle.bforest_trees.proofs.trees.Trees.first.Goals as goal
-use Rattle.std.proofs.Common.{List, Some, slice_get, subst, sym, ◌∙◌, ◌≡◌}
+use Rattle.std.proofs.Common.{List, Some, slice_get, subst, sym, ◌∙◌, ◌≡◌, rules}
 
 pub returns-clause-value : goal.returns-clause-value
 returns-clause-value g c =
@@ -10,3 +10,6 @@ returns-clause-value g c =
 
 pub returns-clause-computed : goal.returns-clause-computed
 returns-clause-computed g c = rw (← c.self.view_is) (computed g.row.N c.self.inside.pool c.args.handle c.self.invariant)
+
+pub returns-clause-spot : goal.returns-clause-spot
+returns-clause-spot g c = search rules
