@@ -1,4 +1,4 @@
-//! A predicate on keys.
+//! A closure on keys as a predicate on entries.
 use bforest_core::SetValue;
 use bforest_trees::Predicate;
 use std::marker::Model;

@@ -1,4 +1,4 @@
-//! The table of all trees of a forest.
+//! Forests of maps.
 ghost use Rattle.bforest.specs.Forest.{IsAccounted, IsFitFor, IsLive, empty, free_of, limit_of, list_at, list_of, sizes_at, slots_of};
 ghost use Rattle.bforest.specs.Calls.{Reserves};
 ghost use Rattle.bforest.specs.Lending.{lends_value_of};
@@ -16,7 +16,10 @@ use bforest_trees::Trees;
 use std::alloc::Global;
 use std::marker::Model;
 
-/// Many ordered maps in one table of nodes. It owns all entries; a [`Map`] only names a tree in it.
+/// Many ordered maps in one table of nodes. A forest owns all entries; a [`Map`] is a handle to one tree in it.
+///
+/// A slot of the table is the place of one node. Slots that no tree uses form the free list, from which insertions take nodes before the
+/// table grows.
 #[derive(Drop)]
 pub struct MapForest<K: Copy, V: Copy> {
     pub(crate) trees: Trees<K, V, 7>,
@@ -31,14 +34,14 @@ impl<K: Copy, V: Copy> Model for MapForest<K, V> {
 }
 
 impl<K: Copy, V: Copy> MapForest<K, V> {
-    /// An empty forest of at most 4294967295 slots, which is as many as nodes can be named. It takes no memory.
+    /// Returns an empty forest of at most 4294967295 slots, which is how many nodes 32 bits can name. No memory is taken.
     pub fn new(alloc: Global) -> Self
         ensures empty { result ≡ empty u32.MAX }
     {
         MapForest::with_node_limit(alloc, u32::MAX)
     }
 
-    /// An empty forest of at most so many slots. It takes no memory. A limit of 0 is allowed: then each insertion is refused.
+    /// Returns an empty forest of at most `limit` slots. No memory is taken. A limit of 0 is allowed: then each insertion is refused.
     pub fn with_node_limit(alloc: Global, limit: u32) -> Self
         ensures empty { result ≡ empty limit }
     {
@@ -47,8 +50,9 @@ impl<K: Copy, V: Copy> MapForest<K, V> {
         }
     }
 
-    /// Ends all trees: no slot is left, and the limit stays. Only empty handles are live then, until trees are made. The memory of the
-    /// table is kept for later slots. Constant time.
+    /// Removes all maps: the table has no slot then, and the limit stays. Only empty handles are live until new trees are made.
+    ///
+    /// Constant time. The memory of the table is kept for later slots.
     pub fn clear(&mut self)
         ensures empty { self.new ≡ empty (limit_of self.old) }
         ensures lists { (n : ℕ) → list_at self.new n ≡ [] }
@@ -56,7 +60,7 @@ impl<K: Copy, V: Copy> MapForest<K, V> {
         self.trees.clear();
     }
 
-    /// How many slots the table has: one for each node, and one for each node that lies free.
+    /// Returns how many slots the table has, which is the number of nodes in use and of free ones. Constant time.
     pub fn slots(&self) -> u32
         ensures count { result ≡ slots_of self.now }
         ensures within { slots_of self.now ≤ limit_of self.now }
@@ -67,37 +71,39 @@ impl<K: Copy, V: Copy> MapForest<K, V> {
         self.trees.slots()
     }
 
-    /// How many slots lie free. Insertions take these before the table grows.
+    /// Returns how many slots are free. Insertions take these before the table grows. Constant time.
     pub fn free_slots(&self) -> u32
         ensures count { result ≡ free_of self.now }
     {
         self.trees.free()
     }
 
-    /// How many slots the table may have.
+    /// Returns how many slots the table may have. Constant time.
     pub fn node_limit(&self) -> u32
         ensures limit { result ≡ limit_of self.now }
     {
         self.trees.limit()
     }
 
-    /// Makes sure that `n` slots lie free: where fewer do, the table grows once until exactly `n` do. An insertion that needs at most
-    /// so many nodes then succeeds. Where `n` slots lie free already, nothing changes and no memory is taken.
+    /// Makes sure that `n` slots are free: where fewer are, the table grows once until exactly `n` are.
+    ///
+    /// Insertions that need at most `n` nodes in all cannot be refused then. Where `n` slots are free already, nothing changes and no
+    /// memory is taken.
     ///
     /// # Errors
     ///
-    /// `Full` where the limit does not allow so many slots, which is tested first, and `Memory` where the table could not grow. After
-    /// either the forest is as before.
+    /// [`OutOfMemory::Full`] where the limit does not allow that many slots, which is tested first, and [`OutOfMemory::Memory`] where the
+    /// allocator refused the growth. The forest is unchanged then.
     pub fn reserve_nodes(&mut self, n: u32) -> Result<(), OutOfMemory>
         ensures { Reserves self.old n result self.new }
     {
         self.trees.reserve(n)
     }
 
-    /// Whether a handle is empty or names a tree of this forest: the test for what each call on a handle asks. It looks at all nodes, and
-    /// compares no keys.
+    /// Returns whether a handle is live here: whether it is empty or names a tree of this forest, which each call on a handle asks.
     ///
-    /// A handle remembers no forest. One that was made by another forest holds here if this forest has a tree of its number.
+    /// Visits all nodes of the forest. No comparison. A handle does not know its forest: one that was filled in another forest is live
+    /// here if this forest has a tree of its number.
     pub fn holds(&self, map: &Map<K, V>) -> bool
         ensures live { IsTrue result ↔ IsLive self.now map.now }
     {

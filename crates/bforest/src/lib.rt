@@ -1,7 +1,8 @@
-//! A forest of ordered maps: many small maps in one table, each named by a handle, in an order that each call is handed.
+//! Forests of ordered maps and sets: many small ones in one table of nodes, each named by a handle, in an order that is handed to each
+//! call.
 //!
-//! A [`MapForest`] owns all entries. A [`Map`] is a handle: nothing, or the number of its tree's root. A [`Comparator`] orders the
-//! keys, which need no order of their own. What a contract sees of a forest is the list of entries under each number
+//! A [`MapForest`] owns all entries of its maps. A [`Map`] is a handle: nothing, or the number of its tree's root. A [`Comparator`]
+//! orders the keys, which need no order of their own. A contract sees a forest as the list of entries under each number
 //! (`specs/Forest.antt`); docs/MODEL.md reads these definitions aloud.
 #![tactic(auto)]
 

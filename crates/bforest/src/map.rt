@@ -1,4 +1,4 @@
-//! The handle of one map.
+//! Handles of maps.
 ghost use Rattle.bforest_nodes.specs.Entries.{IsIncreasing, value_for};
 ghost use Rattle.bforest.specs.Bounds.{entries_between, entry_at_most};
 ghost use Rattle.bforest.specs.Calls.{Clears, Filters, Inserts, Removes};
@@ -24,11 +24,11 @@ use std::default::Default;
 use std::marker::{Model, PhantomData};
 use std::ops::Bound;
 
-/// The number of a map's tree, or nothing, which is the empty map.
+/// A handle to one ordered map, whose entries lie in a [`MapForest`].
 ///
-/// A handle owns no entries: they lie in a [`MapForest`], which each call is handed. Calls ask that the handle is live there, which
-/// [`MapForest::holds`] tests, and calls that compare keys ask that its list strictly increases under the comparator, which
-/// [`Map::increases`] tests. Dropping a handle ends no tree.
+/// A handle is 4 bytes: the number of its tree's root, or nothing, which is the empty map. Each call is handed the forest. Calls ask that
+/// the handle is live there, which [`MapForest::holds`] tests, and calls that compare keys ask that its list strictly increases under the
+/// comparator, which [`Map::increases`] tests. Dropping a handle frees no node: [`Map::clear`] does.
 #[derive(Drop)]
 pub struct Map<K: Copy, V: Copy> {
     pub(crate) root: PackedNode,
@@ -48,14 +48,14 @@ impl<K: Copy, V: Copy> Default for Map<K, V> {
 
     ghost is_default = { λ m. m ≡ None };
 
-    /// The same as [`Map::new`].
+    /// Returns an empty map, as [`Map::new`] does.
     fn default() -> Self {
         Map::new()
     }
 }
 
 impl<K: Copy, V: Copy> Map<K, V> {
-    /// An empty map. It takes no memory and no node, is live in every forest, and increases under every order.
+    /// Returns an empty map, which is live in every forest and increases under every order. No memory, no node.
     pub fn new() -> Self
         ensures empty { result ≡ None }
         ensures increasing { (forest : Forest K V) (order : K → K → Ordering)
@@ -67,7 +67,10 @@ impl<K: Copy, V: Copy> Map<K, V> {
         }
     }
 
-    /// The same handle once more, which names the same tree. No entry is copied.
+    /// Returns a second handle to the same tree. No entry is copied.
+    ///
+    /// A change through one handle is not seen by the other: after [`Map::clear`], or where the tree gains or loses a level, the other
+    /// one is not live.
     pub fn clone(&self) -> Self
         ensures same { result ≡ self.now }
     {
@@ -77,7 +80,7 @@ impl<K: Copy, V: Copy> Map<K, V> {
         }
     }
 
-    /// Whether the map is empty: whether the handle names no tree.
+    /// Returns whether the map is empty, which is whether the handle names no tree. Constant time.
     pub fn is_empty(&self) -> bool
         ensures handle { IsTrue result ↔ (self.now ≡ None) }
         ensures list { (forest : Forest K V) → IsLive forest self.now
@@ -86,8 +89,10 @@ impl<K: Copy, V: Copy> Map<K, V> {
         self.root.is_none()
     }
 
-    /// The value of the entry whose key compares equal to `key`. One search: about 3 comparisons, or as many as the comparator's own
-    /// search makes.
+    /// Returns the value of the entry whose key compares equal to `key`, or `None`.
+    ///
+    /// One search. It visits one node of each level, at most `1 + log4(n)` nodes for `n` entries, and compares about 3 times in each, or
+    /// as often as the comparator's own search does among at most 7 keys.
     pub fn get<C: Comparator<K>>(&self, key: K, forest: &MapForest<K, V>, comp: &C) -> Option<V>
         requires live { IsLive forest.now self.now }
         requires increasing { IsIncreasing (C.order comp.now) (list_of forest.now self.now) }
@@ -96,8 +101,9 @@ impl<K: Copy, V: Copy> Map<K, V> {
         forest.trees.get(self.root, key, comp)
     }
 
-    /// The last entry whose key is not greater than `key`, as it is stored, or `None` where each key is greater. One search, as in
-    /// [`Map::get`], and at most one step back.
+    /// Returns the last entry whose key is not greater than `key`, as it is stored, or `None` where each key is greater.
+    ///
+    /// One search, as in [`Map::get`], and at most one step back, which compares nothing.
     pub fn get_or_less<C: Comparator<K>>(
         &self,
         key: K,
@@ -111,7 +117,11 @@ impl<K: Copy, V: Copy> Map<K, V> {
         forest.trees.get_or_less(self.root, key, comp)
     }
 
-    /// Puts a value in at a key, and answers the value that was there. The same as [`Map::try_insert`].
+    /// Inserts a value at a key and returns the value that was there, exactly as [`Map::try_insert`] does.
+    ///
+    /// # Errors
+    ///
+    /// [`OutOfMemory`] where the key is absent and too few nodes are available; nothing has changed then.
     pub fn insert<C: Comparator<K>>(
         &mut self,
         key: K,
@@ -126,15 +136,16 @@ impl<K: Copy, V: Copy> Map<K, V> {
         self.try_insert(key, value, forest, comp)
     }
 
-    /// Puts a value in at a key, and answers the value that was there.
+    /// Inserts a value at a key and returns the value that was there.
     ///
-    /// Where a stored key compares equal, its value alone is written, the stored key stays, and no node is needed. Else the entry goes in
-    /// at its place in the order. One search: about 3 comparisons, or as many as the comparator's own search makes.
+    /// Where a stored key compares equal, only its value is replaced: the stored key stays, and no node is needed. Else the entry is
+    /// inserted at its place in the order. One search, as in [`Map::get`]. An absent key needs one node for each full node from its leaf
+    /// up to the first that is not full, and one more for a new root where all of them are: at most one more than [`Map::levels`].
     ///
     /// # Errors
     ///
-    /// `Full` where fewer nodes can be had than the entry needs. `Memory` where the table had to grow and the memory was refused. Nothing has
-    /// changed then.
+    /// [`OutOfMemory::Full`] where the forest's limit does not allow the nodes that the entry needs. [`OutOfMemory::Memory`] where the
+    /// table had to grow and the memory was refused. The map and the forest are unchanged then.
     pub fn try_insert<C: Comparator<K>>(
         &mut self,
         key: K,
@@ -152,10 +163,11 @@ impl<K: Copy, V: Copy> Map<K, V> {
             .insert(&mut self.root, &mut path, Start::Root, key, value, comp)
     }
 
-    /// Takes the entry whose key compares equal to `key` out, and answers its value, or `None` where there is none and nothing changes.
-    /// One search, as in [`Map::get`], and then it takes no memory and reads at most two nodes of each level: a leaf that falls under
-    /// half full is filled from its right neighbour or joined with it, and so on upwards (docs/RULES.md, removal). Nodes that are left
-    /// over lie free.
+    /// Removes the entry whose key compares equal to `key` and returns its value, or returns `None` and changes nothing.
+    ///
+    /// One search, as in [`Map::get`], and then at most two nodes of each level: a leaf that falls below half full is rebalanced with its
+    /// right sibling or merged into it, and so on upwards (docs/RULES.md, removal). No memory is taken, and nodes that become empty join
+    /// the forest's free list.
     pub fn remove<C: Comparator<K>>(
         &mut self,
         key: K,
@@ -169,8 +181,9 @@ impl<K: Copy, V: Copy> Map<K, V> {
         forest.trees.remove(&mut self.root, key, comp)
     }
 
-    /// Ends the map's tree: the handle is empty then, and all nodes of the tree lie free. It reads each node of the tree, compares no
-    /// keys and takes no memory. Other handles of the same number are no longer live.
+    /// Removes all entries. The handle is empty then, and all nodes of the tree are free. Other handles to the tree are not live then.
+    ///
+    /// Visits each node of the tree once. No comparison, no memory.
     pub fn clear(&mut self, forest: &mut MapForest<K, V>)
         requires live { IsLive forest.old self.old }
         ensures { Clears forest.old self.old forest.new self.new }
@@ -178,8 +191,10 @@ impl<K: Copy, V: Copy> Map<K, V> {
         forest.trees.free_tree(&mut self.root);
     }
 
-    /// Asks once for each entry, in order, and keeps those answered `true`, with the value as the predicate left it. It compares no keys
-    /// and takes no memory. Each entry answered `false` is a removal, so nodes are joined and freed as in [`Map::remove`].
+    /// Keeps the entries for which the predicate returns `true`, with the value as the predicate left it, and removes all others.
+    ///
+    /// The predicate is asked once for each entry, in order. No comparison, no memory. Each removed entry may rebalance or merge nodes,
+    /// as in [`Map::remove`].
     pub fn retain<F: FnMut(K, &mut V) -> bool>(
         &mut self,
         forest: &mut MapForest<K, V>,
@@ -193,7 +208,7 @@ impl<K: Copy, V: Copy> Map<K, V> {
         forest.trees.retain(&mut self.root, Asked { predicate });
     }
 
-    /// How many levels of nodes the map's tree has: none where it is empty, and never more than 17. It reads one node of each level.
+    /// Returns how many levels of nodes the map's tree has: 0 where it is empty, and never more than 17. Visits one node of each level.
     ///
     /// A map of `n` entries has at most `(n + 3) / 4` leaves, and with `h` levels, 2 or more, `4 ^ (h - 1)` is less than `n`.
     pub fn levels(&self, forest: &MapForest<K, V>) -> usize
@@ -207,7 +222,7 @@ impl<K: Copy, V: Copy> Map<K, V> {
         forest.trees.levels(self.root)
     }
 
-    /// The entries in order, and then `None` for ever.
+    /// Returns an iterator over the entries in order. Visits one node of each level, and then each leaf once. No comparison.
     pub fn iter<'a>(&self, forest: &'a MapForest<K, V>) -> MapIter<'a, K, V>
         requires live { IsLive forest.now self.now }
         ensures entries { result ≡ list_of forest.now self.now }
@@ -216,7 +231,7 @@ impl<K: Copy, V: Copy> Map<K, V> {
         MapIter::new(self, forest)
     }
 
-    /// The entries in order, and then `None` for ever. The forest, with all its maps, is consumed.
+    /// Returns an iterator over the entries in order that owns the forest. The forest, with all its maps, is consumed. No comparison.
     pub fn into_iter(self, forest: MapForest<K, V>) -> MapIntoIter<K, V>
         requires live { IsLive forest self }
         ensures entries { result ≡ list_of forest self }
@@ -224,8 +239,10 @@ impl<K: Copy, V: Copy> Map<K, V> {
         MapIntoIter::new(self, forest)
     }
 
-    /// The entries within both bounds, in order, from both ends, and then `None` for ever. Two searches, as in [`Map::get`], and one
-    /// comparison; the steps compare nothing. Bounds the wrong way round, and two excluded bounds that compare equal, give nothing.
+    /// Returns a double-ended iterator over the entries within both bounds, in order.
+    ///
+    /// Two searches, as in [`Map::get`], and one comparison; the steps compare nothing. A start behind the end, or two excluded bounds
+    /// that compare equal, give an empty range.
     pub fn range<'a, C: Comparator<K>>(
         &self,
         bounds: (Bound<K>, Bound<K>),
@@ -241,7 +258,7 @@ impl<K: Copy, V: Copy> Map<K, V> {
         MapRange::new(self, bounds, forest, comp)
     }
 
-    /// A cursor that reads, at the end.
+    /// Returns a cursor that reads. It stands at the end, behind the last entry. Constant time.
     pub fn cursor<'a, C: Comparator<K>>(
         &self,
         forest: &'a MapForest<K, V>,
@@ -257,7 +274,7 @@ impl<K: Copy, V: Copy> Map<K, V> {
         MapCursor::new(self, forest, comp)
     }
 
-    /// A cursor that reads and writes, at the end.
+    /// Returns a cursor that reads and writes. It stands at the end, behind the last entry. Constant time.
     pub fn cursor_mut<'a, C: Comparator<K>>(
         &'a mut self,
         forest: &'a mut MapForest<K, V>,
@@ -277,8 +294,9 @@ impl<K: Copy, V: Copy> Map<K, V> {
         MapCursorMut::new(self, forest, comp)
     }
 
-    /// Whether each key is less than the next under the comparator: the test for what each call that compares asks. One comparison
-    /// fewer than there are entries; the empty map and a map of one entry increase under every order.
+    /// Returns whether each key is less than the next under the comparator, which each call that compares asks.
+    ///
+    /// Visits each entry, and compares at most `n - 1` times for `n` entries. A map of at most one entry increases under every order.
     pub fn increases<C: Comparator<K>>(&self, forest: &MapForest<K, V>, comp: &C) -> bool
         requires live { IsLive forest.now self.now }
         ensures increasing { IsTrue result
@@ -295,7 +313,7 @@ impl<K: Copy, V: Copy> Map<K, V> {
     }
 }
 
-/// Whether the key before, if there is one, is less.
+/// Returns whether the key before, if there is one, is less.
 pub(crate) fn follows<K: Copy, C: Comparator<K>>(before: Option<K>, key: K, comp: &C) -> bool
     ensures { result ≡ option_map_or (λ k. is_lt (C.order comp.now k key)) before true }
 {

@@ -12,7 +12,7 @@ use bforest_core::{Comparator, PackedNode, Path};
 use bforest_trees::Trees;
 use std::marker::Model;
 
-/// A place in a map, to read: an entry or the end. Made by [`Map::cursor`], at the end.
+/// A cursor that reads a map: it stands at an entry, or at the end behind the last one. [`Map::cursor`] makes it, at the end.
 #[derive(Drop)]
 pub struct MapCursor<'a, K: Copy, V: Copy, C: Comparator<K>> {
     trees: &'a Trees<K, V, 7>,
@@ -38,7 +38,7 @@ impl<'a, K: Copy, V: Copy, C: Comparator<K>> Model for MapCursor<'a, K, V, C> {
 }
 
 impl<'a, K: Copy, V: Copy, C: Comparator<K>> MapCursor<'a, K, V, C> {
-    /// At the end of a map.
+    /// Returns a cursor at the end of a map.
     pub(crate) fn new(
         map: &Map<K, V>,
         forest: &'a MapForest<K, V>,
@@ -59,7 +59,7 @@ impl<'a, K: Copy, V: Copy, C: Comparator<K>> MapCursor<'a, K, V, C> {
         }
     }
 
-    /// Whether the map is empty. No comparison.
+    /// Returns whether the map is empty. Constant time.
     pub fn is_empty(&self) -> bool
         requires ready { IsReadable K.row V.row }
         ensures empty { IsTrue result ↔ (self.now.entries ≡ []) }
@@ -67,7 +67,8 @@ impl<'a, K: Copy, V: Copy, C: Comparator<K>> MapCursor<'a, K, V, C> {
         self.root.is_none()
     }
 
-    /// Goes to the next entry and answers it. From the last entry it goes to the end, where it answers `None` from then on. No comparison.
+    /// Moves to the next entry and returns it. From the last entry it moves to the end and returns `None`, and at the end it stays. One
+    /// step: no comparison.
     pub fn next(&mut self) -> Option<(K, V)>
         requires ready { IsReadable K.row V.row }
         ensures value { result ≡ slice_get self.old.entries (self.old.spot + 1) }
@@ -76,8 +77,8 @@ impl<'a, K: Copy, V: Copy, C: Comparator<K>> MapCursor<'a, K, V, C> {
         self.trees.next(self.root, &mut self.path)
     }
 
-    /// Goes to the entry before and answers it; from the end it goes to the last. At the first entry it stays, and answers `None`. No
-    /// comparison.
+    /// Moves to the previous entry and returns it. From the end it moves to the last entry; at the first entry it stays and returns
+    /// `None`. One step: no comparison.
     pub fn prev(&mut self) -> Option<(K, V)>
         requires ready { IsReadable K.row V.row }
         ensures value { result ≡ entry_before self.old.entries self.old.spot }
@@ -86,7 +87,7 @@ impl<'a, K: Copy, V: Copy, C: Comparator<K>> MapCursor<'a, K, V, C> {
         self.trees.prev(self.root, &mut self.path)
     }
 
-    /// The entry where it stands, or `None` at the end. No comparison.
+    /// Returns the entry where the cursor stands, or `None` at the end. No comparison.
     pub fn entry(&self) -> Option<(K, V)>
         requires ready { IsReadable K.row V.row }
         ensures entry { result ≡ slice_get self.now.entries self.now.spot }
@@ -94,7 +95,7 @@ impl<'a, K: Copy, V: Copy, C: Comparator<K>> MapCursor<'a, K, V, C> {
         self.trees.entry(self.root, &self.path)
     }
 
-    /// The key of the entry where it stands, or `None` at the end. No comparison.
+    /// Returns the key of the entry where the cursor stands, or `None` at the end. No comparison.
     pub fn key(&self) -> Option<K>
         requires ready { IsReadable K.row V.row }
         ensures key { result ≡ option_map (λ e. e.0) (slice_get self.now.entries self.now.spot) }
@@ -102,7 +103,7 @@ impl<'a, K: Copy, V: Copy, C: Comparator<K>> MapCursor<'a, K, V, C> {
         key_of(self.entry())
     }
 
-    /// The value of the entry where it stands, or `None` at the end. No comparison.
+    /// Returns the value of the entry where the cursor stands, or `None` at the end. No comparison.
     pub fn value(&self) -> Option<V>
         requires ready { IsReadable K.row V.row }
         ensures value { result ≡ value_at_place self.now.entries self.now.spot }
@@ -110,8 +111,8 @@ impl<'a, K: Copy, V: Copy, C: Comparator<K>> MapCursor<'a, K, V, C> {
         value_of(self.entry())
     }
 
-    /// Goes to the entry whose key compares equal and answers its value, or else to the first entry with a greater key, or to the end. One
-    /// search, as in [`Map::get`].
+    /// Moves to the entry whose key compares equal and returns its value. Where there is none, moves to the first entry with a greater
+    /// key, or to the end, and returns `None`. One search, as in [`Map::get`].
     pub fn goto(&mut self, elem: K) -> Option<V>
         requires ready { IsReadable K.row V.row }
         ensures value { result ≡ value_for (C.order self.old.comparator) self.old.entries elem }
@@ -121,7 +122,8 @@ impl<'a, K: Copy, V: Copy, C: Comparator<K>> MapCursor<'a, K, V, C> {
         self.trees.goto(self.root, &mut self.path, elem, self.comp)
     }
 
-    /// Goes to the first entry and answers its value. In an empty map that is the end. No comparison.
+    /// Moves to the first entry and returns its value; in an empty map stays at the end and returns `None`. Visits one node of each
+    /// level. No comparison.
     pub fn goto_first(&mut self) -> Option<V>
         requires ready { IsReadable K.row V.row }
         ensures value { result ≡ value_at_place self.old.entries 0 }
@@ -130,7 +132,7 @@ impl<'a, K: Copy, V: Copy, C: Comparator<K>> MapCursor<'a, K, V, C> {
         value_of(self.trees.first(self.root, &mut self.path))
     }
 
-    /// Goes to the end. No comparison.
+    /// Moves to the end, behind the last entry. Constant time.
     pub fn goto_end(&mut self)
         ensures moves { self.new ≡ at_place self.old (length self.old.entries) }
     {
@@ -138,7 +140,7 @@ impl<'a, K: Copy, V: Copy, C: Comparator<K>> MapCursor<'a, K, V, C> {
     }
 }
 
-// The key of an entry, if there is one.
+// Returns the key of an entry, if there is one.
 pub(crate) fn key_of<K: Copy, V: Copy>(entry: Option<(K, V)>) -> Option<K>
     ensures { result ≡ option_map (λ e. e.0) entry }
 {
@@ -148,7 +150,7 @@ pub(crate) fn key_of<K: Copy, V: Copy>(entry: Option<(K, V)>) -> Option<K>
     }
 }
 
-// Its value.
+// Returns the value of an entry, if there is one.
 pub(crate) fn value_of<K: Copy, V: Copy>(entry: Option<(K, V)>) -> Option<V>
     ensures { result ≡ option_map (λ e. e.1) entry }
 {

@@ -17,10 +17,11 @@ use crate::map_cursor::{key_of, value_of};
 use bforest_core::{Comparator, OutOfMemory, Path};
 use bforest_trees::Start;
 
-/// A place in a map, to read and to write: an entry or the end. Made by [`Map::cursor_mut`], at the end.
+/// A cursor that reads and writes a map: it stands at an entry, or at the end behind the last one. [`Map::cursor_mut`] makes it, at the
+/// end.
 ///
-/// It writes through its two references in each call, and nothing when it ends. So the map and the forest hold then what it last meant. The
-/// map's list increases under its comparator throughout.
+/// Each call writes through to the map and the forest at once. When the cursor is dropped nothing is written: the map and the forest are
+/// as its last call left them. The map's keys increase under the cursor's comparator throughout.
 #[derive(Drop)]
 pub struct MapCursorMut<'a, K: Copy, V: Copy, C: Comparator<K>> {
     map: &'a mut Map<K, V>,
@@ -30,7 +31,7 @@ pub struct MapCursorMut<'a, K: Copy, V: Copy, C: Comparator<K>> {
 }
 
 impl<'a, K: Copy, V: Copy, C: Comparator<K>> MapCursorMut<'a, K, V, C> {
-    /// At the end of a map.
+    /// Returns a cursor at the end of a map.
     pub(crate) fn new(
         map: &'a mut Map<K, V>,
         forest: &'a mut MapForest<K, V>,
@@ -55,7 +56,7 @@ impl<'a, K: Copy, V: Copy, C: Comparator<K>> MapCursorMut<'a, K, V, C> {
         }
     }
 
-    /// Whether the map is empty. No comparison.
+    /// Returns whether the map is empty. Constant time.
     pub fn is_empty(&self) -> bool
         requires valid { IsCursor C.order self.now }
         requires ready { IsReadable K.row V.row }
@@ -64,7 +65,8 @@ impl<'a, K: Copy, V: Copy, C: Comparator<K>> MapCursorMut<'a, K, V, C> {
         self.map.is_empty()
     }
 
-    /// Goes to the next entry and answers it. From the last entry it goes to the end, where it answers `None` from then on. No comparison.
+    /// Moves to the next entry and returns it. From the last entry it moves to the end and returns `None`, and at the end it stays. One
+    /// step: no comparison.
     pub fn next(&mut self) -> Option<(K, V)>
         requires valid { IsCursor C.order self.old }
         requires ready { IsReadable K.row V.row }
@@ -77,8 +79,8 @@ impl<'a, K: Copy, V: Copy, C: Comparator<K>> MapCursorMut<'a, K, V, C> {
         forest.trees.next(map.root, &mut self.path)
     }
 
-    /// Goes to the entry before and answers it; from the end it goes to the last. At the first entry it stays, and answers `None`. No
-    /// comparison.
+    /// Moves to the previous entry and returns it. From the end it moves to the last entry; at the first entry it stays and returns
+    /// `None`. One step: no comparison.
     pub fn prev(&mut self) -> Option<(K, V)>
         requires valid { IsCursor C.order self.old }
         requires ready { IsReadable K.row V.row }
@@ -90,7 +92,7 @@ impl<'a, K: Copy, V: Copy, C: Comparator<K>> MapCursorMut<'a, K, V, C> {
         forest.trees.prev(map.root, &mut self.path)
     }
 
-    /// The entry where it stands, or `None` at the end. No comparison.
+    /// Returns the entry where the cursor stands, or `None` at the end. No comparison.
     pub fn entry(&self) -> Option<(K, V)>
         requires valid { IsCursor C.order self.now }
         requires ready { IsReadable K.row V.row }
@@ -101,7 +103,7 @@ impl<'a, K: Copy, V: Copy, C: Comparator<K>> MapCursorMut<'a, K, V, C> {
         forest.trees.entry(map.root, &self.path)
     }
 
-    /// The key of the entry where it stands, or `None` at the end. No comparison.
+    /// Returns the key of the entry where the cursor stands, or `None` at the end. No comparison.
     pub fn key(&self) -> Option<K>
         requires valid { IsCursor C.order self.now }
         requires ready { IsReadable K.row V.row }
@@ -110,7 +112,7 @@ impl<'a, K: Copy, V: Copy, C: Comparator<K>> MapCursorMut<'a, K, V, C> {
         key_of(self.entry())
     }
 
-    /// The value of the entry where it stands, or `None` at the end. No comparison.
+    /// Returns the value of the entry where the cursor stands, or `None` at the end. No comparison.
     pub fn value(&self) -> Option<V>
         requires valid { IsCursor C.order self.now }
         requires ready { IsReadable K.row V.row }
@@ -119,8 +121,8 @@ impl<'a, K: Copy, V: Copy, C: Comparator<K>> MapCursorMut<'a, K, V, C> {
         value_of(self.entry())
     }
 
-    /// The value of the entry where it stands, for writing, or `None` at the end. What is left in it is the entry's value then; all other
-    /// entries, all keys and the place stay. No comparison.
+    /// Returns a mutable reference to the value of the entry where the cursor stands, or `None` at the end. All other entries, all keys
+    /// and the cursor's place stay. No comparison.
     pub fn value_mut(&mut self) -> Option<&mut V>
         requires valid { IsCursor C.order self.old }
         requires ready { IsReadable K.row V.row }
@@ -135,7 +137,7 @@ impl<'a, K: Copy, V: Copy, C: Comparator<K>> MapCursorMut<'a, K, V, C> {
         }
     }
 
-    // The same on an entry.
+    // Returns a mutable reference to the value of the entry where the cursor stands, which is not at the end.
     fn value_here(&mut self) -> &mut V
         requires on_entry { ¬ IsAtEnd self.old.path }
         requires valid { IsCursor C.order self.old }
@@ -148,8 +150,8 @@ impl<'a, K: Copy, V: Copy, C: Comparator<K>> MapCursorMut<'a, K, V, C> {
         self.forest.value_at(leaf, index)
     }
 
-    /// Goes to the entry whose key compares equal and answers its value, or else to the first entry with a greater key, or to the end. One
-    /// search, as in [`Map::get`].
+    /// Moves to the entry whose key compares equal and returns its value. Where there is none, moves to the first entry with a greater
+    /// key, or to the end, and returns `None`. One search, as in [`Map::get`].
     pub fn goto(&mut self, elem: K) -> Option<V>
         requires valid { IsCursor C.order self.old }
         requires ready { IsReadable K.row V.row }
@@ -162,7 +164,8 @@ impl<'a, K: Copy, V: Copy, C: Comparator<K>> MapCursorMut<'a, K, V, C> {
         forest.trees.goto(map.root, &mut self.path, elem, self.comp)
     }
 
-    /// Goes to the first entry and answers its value. In an empty map that is the end. No comparison.
+    /// Moves to the first entry and returns its value; in an empty map stays at the end and returns `None`. Visits one node of each
+    /// level. No comparison.
     pub fn goto_first(&mut self) -> Option<V>
         requires valid { IsCursor C.order self.old }
         requires ready { IsReadable K.row V.row }
@@ -174,7 +177,11 @@ impl<'a, K: Copy, V: Copy, C: Comparator<K>> MapCursorMut<'a, K, V, C> {
         value_of(forest.trees.first(map.root, &mut self.path))
     }
 
-    /// Puts a value in at a key, and answers the value that was there. The same as [`MapCursorMut::try_insert`].
+    /// Inserts a value at a key and returns the value that was there, exactly as [`MapCursorMut::try_insert`] does.
+    ///
+    /// # Errors
+    ///
+    /// [`OutOfMemory`] where the key is absent and too few nodes are available, as in [`MapCursorMut::try_insert`].
     pub fn insert(&mut self, key: K, value: V) -> Result<Option<V>, OutOfMemory>
         requires valid { IsCursor C.order self.old }
         requires ready { IsReadable K.row V.row }
@@ -186,12 +193,15 @@ impl<'a, K: Copy, V: Copy, C: Comparator<K>> MapCursorMut<'a, K, V, C> {
         self.try_insert(key, value)
     }
 
-    /// Puts a value in at a key as [`Map::try_insert`] does, and goes to the key's entry. Where the key is that of the entry here or of the
-    /// one before, or belongs between them, or behind the last at the end, two comparisons tell it; else it makes one search.
+    /// Inserts a value at a key as [`Map::try_insert`] does, and moves to the key's entry.
+    ///
+    /// At most two comparisons where the key is that of the entry here or of the previous one, or belongs between these two, or behind
+    /// the last entry where the cursor is at the end; else also one search, as in [`Map::get`].
     ///
     /// # Errors
     ///
-    /// Those of [`Map::try_insert`]. Nothing has changed then, but that it stands where [`MapCursorMut::goto`] of the key goes.
+    /// Those of [`Map::try_insert`]. The map and the forest are unchanged then, and the cursor stands where [`MapCursorMut::goto`] of the
+    /// key moves it.
     pub fn try_insert(&mut self, key: K, value: V) -> Result<Option<V>, OutOfMemory>
         requires valid { IsCursor C.order self.old }
         requires ready { IsReadable K.row V.row }
@@ -212,8 +222,8 @@ impl<'a, K: Copy, V: Copy, C: Comparator<K>> MapCursorMut<'a, K, V, C> {
         )
     }
 
-    /// Takes the entry out where it stands, and answers its value. It stands at the one that followed then, or at the end. At the end it
-    /// answers `None`, and nothing changes. No comparison; nodes are joined and freed as in [`Map::remove`].
+    /// Removes the entry where the cursor stands and returns its value. The cursor stands at the entry that followed then, or at the end.
+    /// At the end it returns `None` and changes nothing. No comparison; nodes are rebalanced, merged and freed as in [`Map::remove`].
     pub fn remove(&mut self) -> Option<V>
         requires valid { IsCursor C.order self.old }
         requires ready { IsReadable K.row V.row }

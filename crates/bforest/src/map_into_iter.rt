@@ -8,12 +8,12 @@ use crate::map::Map;
 use bforest_core::Path;
 use std::marker::Model;
 
-/// The entries of a map, in order, and then `None` for ever. It owns the forest, which ends with it. Made by [`Map::into_iter`]. A step
+/// An iterator over the entries of a map, in order, and then `None` for ever, which owns the forest. [`Map::into_iter`] makes it. A step
 /// compares nothing.
 #[derive(Drop)]
 pub struct MapIntoIter<K: Copy, V: Copy> {
     forest: MapForest<K, V>,
-    // On the entry that comes next, or at the end.
+    // The path stands on the next entry to be returned, or at the end.
     path: Path<K, V, 7>,
 }
 
@@ -29,7 +29,7 @@ impl<K: Copy, V: Copy> Model for MapIntoIter<K, V> {
 }
 
 impl<K: Copy, V: Copy> MapIntoIter<K, V> {
-    /// Over the entries of a map.
+    /// Returns an iterator over the entries of a map.
     pub(crate) fn new(map: Map<K, V>, forest: MapForest<K, V>) -> MapIntoIter<K, V>
         requires live { IsLive forest map }
         ensures entries { result ≡ list_of forest map }

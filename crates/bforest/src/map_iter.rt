@@ -9,7 +9,7 @@ use crate::map::Map;
 use bforest_trees::{Reader, Trees};
 use std::marker::Model;
 
-/// The entries of a map, in order, and then `None` for ever. Made by `Map::iter`. A step compares nothing.
+/// An iterator over the entries of a map, in order, and then `None` for ever. [`Map::iter`] makes it. A step compares nothing.
 #[derive(Drop)]
 pub struct MapIter<'a, K: Copy, V: Copy> {
     trees: &'a Trees<K, V, 7>,
@@ -28,14 +28,14 @@ impl<'a, K: Copy, V: Copy> Model for MapIter<'a, K, V> {
 }
 
 impl<'a, K: Copy, V: Copy> MapIter<'a, K, V> {
-    /// Over the entries of a map.
+    /// Returns an iterator over the entries of a map.
     pub(crate) fn new(map: &Map<K, V>, forest: &'a MapForest<K, V>) -> MapIter<'a, K, V>
         requires { IsLive forest.now map.now }
         ensures entries { result ≡ list_of forest.now map.now }
         ensures ready { IsReadable K.row V.row }
     {
         let trees = &forest.trees;
-        // The reader is made where it stays, since it is too long to be moved for nothing.
+        // The reader is made in its final place: it is too long to be moved for nothing.
         let mut iter = MapIter {
             trees,
             reader: Reader::new(),

@@ -13,7 +13,8 @@ use bforest_trees::{Ends, Trees};
 use std::marker::{Model, PhantomData};
 use std::ops::Bound;
 
-/// The entries of a map within bounds, in order, from both ends, and then `None` for ever. Made by [`Map::range`]. A step compares nothing.
+/// A double-ended iterator over the entries of a map within bounds, in order, and then `None` for ever from both ends. [`Map::range`]
+/// makes it. A step compares nothing.
 #[derive(Drop)]
 pub struct MapRange<'a, K: Copy, V: Copy, C: Comparator<K>> {
     trees: &'a Trees<K, V, 7>,
@@ -34,7 +35,7 @@ impl<'a, K: Copy, V: Copy, C: Comparator<K>> Model for MapRange<'a, K, V, C> {
 }
 
 impl<'a, K: Copy, V: Copy, C: Comparator<K>> MapRange<'a, K, V, C> {
-    /// Over the entries within bounds.
+    /// Returns an iterator over the entries within bounds.
     pub(crate) fn new(
         map: &Map<K, V>,
         bounds: (Bound<K>, Bound<K>),

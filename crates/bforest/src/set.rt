@@ -1,4 +1,4 @@
-//! The handle of one set.
+//! Handles of sets.
 ghost use Rattle.bforest_nodes.specs.Entries.{IsIncreasing, is_present};
 ghost use Rattle.bforest.specs.Bounds.{entries_between, entry_at_most};
 ghost use Rattle.bforest.specs.Calls.{Clears, Filters, Inserts, Removes};
@@ -23,11 +23,11 @@ use std::default::Default;
 use std::marker::{Model, PhantomData};
 use std::ops::Bound;
 
-/// The number of a set's tree, or nothing, which is the empty set.
+/// A handle to one ordered set, whose keys lie in a [`SetForest`].
 ///
-/// A handle owns no keys: they lie in a [`SetForest`], which each call is handed. Calls ask that the handle is live there, which
-/// [`SetForest::holds`] tests, and calls that compare keys ask that its list strictly increases under the comparator. Dropping a handle ends
-/// no tree.
+/// A handle is 4 bytes: the number of its tree's root, or nothing, which is the empty set. Each call is handed the forest. Calls ask that
+/// the handle is live there, which [`SetForest::holds`] tests, and calls that compare keys ask that its keys strictly increase under the
+/// comparator, which [`Set::increases`] tests. Dropping a handle frees no node: [`Set::clear`] does.
 #[derive(Drop)]
 pub struct Set<K: Copy> {
     pub(crate) root: PackedNode,
@@ -47,14 +47,14 @@ impl<K: Copy> Default for Set<K> {
 
     ghost is_default = { λ s. s ≡ None };
 
-    /// The same as [`Set::new`].
+    /// Returns an empty set, as [`Set::new`] does.
     fn default() -> Self {
         Set::new()
     }
 }
 
 impl<K: Copy> Set<K> {
-    /// An empty set. It takes no memory and no node, is live in every forest, and increases under every order.
+    /// Returns an empty set, which is live in every forest and increases under every order. No memory, no node.
     pub fn new() -> Self
         ensures empty { result ≡ None }
         ensures increasing { (forest : Forest K (Unit {0})) (order : K → K → Ordering)
@@ -66,7 +66,10 @@ impl<K: Copy> Set<K> {
         }
     }
 
-    /// The same handle once more, which names the same tree. No key is copied.
+    /// Returns a second handle to the same tree. No key is copied.
+    ///
+    /// A change through one handle is not seen by the other: after [`Set::clear`], or where the tree gains or loses a level, the other
+    /// one is not live.
     pub fn clone(&self) -> Self
         ensures same { result ≡ self.now }
     {
@@ -76,7 +79,7 @@ impl<K: Copy> Set<K> {
         }
     }
 
-    /// Whether the set is empty: whether the handle names no tree.
+    /// Returns whether the set is empty, which is whether the handle names no tree. Constant time.
     pub fn is_empty(&self) -> bool
         ensures handle { IsTrue result ↔ (self.now ≡ None) }
         ensures list { (forest : Forest K (Unit {0})) → IsLive forest self.now
@@ -85,7 +88,10 @@ impl<K: Copy> Set<K> {
         self.root.is_none()
     }
 
-    /// Whether a key compares equal to `key`. One search.
+    /// Returns whether the set has a key that compares equal to `key`.
+    ///
+    /// One search. It visits one node of each level, at most `1 + log4(n / 2)` nodes for `n` keys, and compares about 3 times in an inner
+    /// node and 4 times in the leaf, or as often as the comparator's own search does among at most 7 and 15 keys.
     pub fn contains<C: Comparator<K>>(&self, key: K, forest: &SetForest<K>, comp: &C) -> bool
         requires live { IsLive forest.now self.now }
         requires increasing { IsIncreasing (C.order comp.now) (list_of forest.now self.now) }
@@ -94,7 +100,9 @@ impl<K: Copy> Set<K> {
         forest.trees.get(self.root, key, comp).is_some()
     }
 
-    /// The last key that is not greater than `key`, as it is stored, or `None` where each is greater. One search, and at most one step back.
+    /// Returns the last key that is not greater than `key`, as it is stored, or `None` where each key is greater.
+    ///
+    /// One search, as in [`Set::contains`], and at most one step back, which compares nothing.
     pub fn get_or_less<C: Comparator<K>>(
         &self,
         key: K,
@@ -112,7 +120,11 @@ impl<K: Copy> Set<K> {
         }
     }
 
-    /// Puts a key in, and answers whether it was absent. The same as [`Set::try_insert`].
+    /// Inserts a key and returns whether it was absent, exactly as [`Set::try_insert`] does.
+    ///
+    /// # Errors
+    ///
+    /// [`OutOfMemory`] where the key is absent and too few nodes are available; nothing has changed then.
     pub fn insert<C: Comparator<K>>(
         &mut self,
         key: K,
@@ -127,12 +139,15 @@ impl<K: Copy> Set<K> {
         self.try_insert(key, forest, comp)
     }
 
-    /// Puts a key in, and answers whether it was absent. A stored key that compares equal stays. One search.
+    /// Inserts a key and returns whether it was absent. A stored key that compares equal stays.
+    ///
+    /// One search, as in [`Set::contains`]. An absent key needs one node for each full node from its leaf up to the first that is not
+    /// full, and one more for a new root where all of them are: at most one more than [`Set::levels`].
     ///
     /// # Errors
     ///
-    /// `Full` where fewer nodes can be had than the key needs. `Memory` where the table had to grow and the memory was refused. Nothing has
-    /// changed then.
+    /// [`OutOfMemory::Full`] where the forest's limit does not allow the nodes that the key needs. [`OutOfMemory::Memory`] where the
+    /// table had to grow and the memory was refused. The set and the forest are unchanged then.
     pub fn try_insert<C: Comparator<K>>(
         &mut self,
         key: K,
@@ -151,8 +166,10 @@ impl<K: Copy> Set<K> {
         is_new(put)
     }
 
-    /// Takes the key that compares equal to `key` out, and answers whether there was one. One search; it takes no memory, and nodes that are
-    /// left over lie free.
+    /// Removes the key that compares equal to `key` and returns whether there was one.
+    ///
+    /// One search, as in [`Set::contains`], and then at most two nodes of each level, which are rebalanced or merged as in
+    /// [`Map::remove`](crate::Map::remove). No memory is taken, and nodes that become empty join the forest's free list.
     pub fn remove<C: Comparator<K>>(&mut self, key: K, forest: &mut SetForest<K>, comp: &C) -> bool
         requires live { IsLive forest.old self.old }
         requires increasing { IsIncreasing (C.order comp.now) (list_of forest.old self.old) }
@@ -162,8 +179,9 @@ impl<K: Copy> Set<K> {
         forest.trees.remove(&mut self.root, key, comp).is_some()
     }
 
-    /// Ends the set's tree: the handle is empty then, and all nodes of the tree lie free. It compares no keys and takes no memory. Other
-    /// handles of the same number are no longer live.
+    /// Removes all keys. The handle is empty then, and all nodes of the tree are free. Other handles to the tree are not live then.
+    ///
+    /// Visits each node of the tree once. No comparison, no memory.
     pub fn clear(&mut self, forest: &mut SetForest<K>)
         requires live { IsLive forest.old self.old }
         ensures { Clears forest.old self.old forest.new self.new }
@@ -171,8 +189,10 @@ impl<K: Copy> Set<K> {
         forest.trees.free_tree(&mut self.root);
     }
 
-    /// Asks once for each key, in order, and keeps those answered `true`. It compares no keys and takes no memory. Each key answered `false`
-    /// is a removal, so nodes are joined and freed as in [`Set::remove`].
+    /// Keeps the keys for which the predicate returns `true`, and removes all others.
+    ///
+    /// The predicate is asked once for each key, in order. No comparison, no memory. Each removed key may rebalance or merge nodes, as in
+    /// [`Set::remove`].
     pub fn retain<F: FnMut(K) -> bool>(&mut self, forest: &mut SetForest<K>, predicate: F)
         requires live { IsLive forest.old self.old }
         requires callable { MayAskEach (AnswersKey F.FnMut) (MayAskKey F.FnMut) predicate
@@ -182,7 +202,7 @@ impl<K: Copy> Set<K> {
         forest.trees.retain(&mut self.root, AskedKey { predicate });
     }
 
-    /// How many levels of nodes the set's tree has: none where it is empty, and never more than 17. It reads one node of each level.
+    /// Returns how many levels of nodes the set's tree has: 0 where it is empty, and never more than 17. Visits one node of each level.
     ///
     /// A set of `n` keys has at most `(n + 7) / 8` leaves, and with `h` levels, 2 or more, `2 * 4 ^ (h - 1)` is less than `n`.
     pub fn levels(&self, forest: &SetForest<K>) -> usize
@@ -196,7 +216,7 @@ impl<K: Copy> Set<K> {
         forest.trees.levels(self.root)
     }
 
-    /// The keys in order, and then `None` for ever.
+    /// Returns an iterator over the keys in order. Visits one node of each level, and then each leaf once. No comparison.
     pub fn iter<'a>(&self, forest: &'a SetForest<K>) -> SetIter<'a, K>
         requires live { IsLive forest.now self.now }
         ensures keys { result ≡ elements forest.now self.now }
@@ -205,8 +225,10 @@ impl<K: Copy> Set<K> {
         SetIter::new(self, forest)
     }
 
-    /// The keys within both bounds, in order, from both ends, and then `None` for ever. Two searches and one comparison; the steps compare
-    /// nothing. Bounds the wrong way round, and two excluded bounds that compare equal, give nothing.
+    /// Returns a double-ended iterator over the keys within both bounds, in order.
+    ///
+    /// Two searches, as in [`Set::contains`], and one comparison; the steps compare nothing. A start behind the end, or two excluded
+    /// bounds that compare equal, give an empty range.
     pub fn range<'a, C: Comparator<K>>(
         &self,
         bounds: (Bound<K>, Bound<K>),
@@ -222,7 +244,7 @@ impl<K: Copy> Set<K> {
         SetRange::new(self, bounds, forest, comp)
     }
 
-    /// A cursor that reads and writes, at the end.
+    /// Returns a cursor that reads and writes. It stands at the end, behind the last key. Constant time.
     pub fn cursor<'a, C: Comparator<K>>(
         &'a mut self,
         forest: &'a mut SetForest<K>,
@@ -242,8 +264,9 @@ impl<K: Copy> Set<K> {
         SetCursor::new(self, forest, comp)
     }
 
-    /// Whether each key is less than the next under the comparator: the test for what each call that compares asks. One comparison
-    /// fewer than there are keys; the empty set and a set of one key increase under every order.
+    /// Returns whether each key is less than the next under the comparator, which each call that compares asks.
+    ///
+    /// Visits each key, and compares at most `n - 1` times for `n` keys. A set of at most one key increases under every order.
     pub fn increases<C: Comparator<K>>(&self, forest: &SetForest<K>, comp: &C) -> bool
         requires live { IsLive forest.now self.now }
         ensures increasing { IsTrue result
@@ -260,7 +283,7 @@ impl<K: Copy> Set<K> {
     }
 }
 
-// Whether a key was absent, from the value that was there.
+// Returns whether a key was absent, given the value that was stored at it.
 pub(crate) fn is_new(put: Result<Option<SetValue>, OutOfMemory>) -> Result<bool, OutOfMemory>
     ensures { as_put result ≡ put }
 {

@@ -14,10 +14,10 @@ use crate::set_forest::SetForest;
 use bforest_core::{Comparator, OutOfMemory, Path, SetValue};
 use bforest_trees::Start;
 
-/// A place in a set, to read and to write: a key or the end. Made by [`Set::cursor`], at the end.
+/// A cursor that reads and writes a set: it stands at a key, or at the end behind the last one. [`Set::cursor`] makes it, at the end.
 ///
-/// It writes through its two references in each call, and nothing when it ends. So the set and the forest hold then what it last meant. The
-/// set's keys increase under its comparator throughout.
+/// Each call writes through to the set and the forest at once. When the cursor is dropped nothing is written: the set and the forest are
+/// as its last call left them. The set's keys increase under the cursor's comparator throughout.
 #[derive(Drop)]
 pub struct SetCursor<'a, K: Copy, C: Comparator<K>> {
     set: &'a mut Set<K>,
@@ -27,7 +27,7 @@ pub struct SetCursor<'a, K: Copy, C: Comparator<K>> {
 }
 
 impl<'a, K: Copy, C: Comparator<K>> SetCursor<'a, K, C> {
-    /// At the end of a set.
+    /// Returns a cursor at the end of a set.
     pub(crate) fn new(
         set: &'a mut Set<K>,
         forest: &'a mut SetForest<K>,
@@ -52,7 +52,7 @@ impl<'a, K: Copy, C: Comparator<K>> SetCursor<'a, K, C> {
         }
     }
 
-    /// Whether the set is empty. No comparison.
+    /// Returns whether the set is empty. Constant time.
     pub fn is_empty(&self) -> bool
         requires valid { IsCursor C.order self.now }
         requires ready { IsSetReadable K.row }
@@ -61,7 +61,8 @@ impl<'a, K: Copy, C: Comparator<K>> SetCursor<'a, K, C> {
         self.set.is_empty()
     }
 
-    /// Goes to the next key and answers it. From the last key it goes to the end, where it answers `None` from then on. No comparison.
+    /// Moves to the next key and returns it. From the last key it moves to the end and returns `None`, and at the end it stays. One step:
+    /// no comparison.
     pub fn next(&mut self) -> Option<K>
         requires valid { IsCursor C.order self.old }
         requires ready { IsSetReadable K.row }
@@ -73,7 +74,8 @@ impl<'a, K: Copy, C: Comparator<K>> SetCursor<'a, K, C> {
         key_of(forest.trees.next(set.root, &mut self.path))
     }
 
-    /// Goes to the key before and answers it; from the end it goes to the last. At the first key it stays, and answers `None`. No comparison.
+    /// Moves to the previous key and returns it. From the end it moves to the last key; at the first key it stays and returns `None`. One
+    /// step: no comparison.
     pub fn prev(&mut self) -> Option<K>
         requires valid { IsCursor C.order self.old }
         requires ready { IsSetReadable K.row }
@@ -85,7 +87,7 @@ impl<'a, K: Copy, C: Comparator<K>> SetCursor<'a, K, C> {
         key_of(forest.trees.prev(set.root, &mut self.path))
     }
 
-    /// The key where it stands, or `None` at the end. No comparison.
+    /// Returns the key where the cursor stands, or `None` at the end. No comparison.
     pub fn elem(&self) -> Option<K>
         requires valid { IsCursor C.order self.now }
         requires ready { IsSetReadable K.row }
@@ -96,7 +98,8 @@ impl<'a, K: Copy, C: Comparator<K>> SetCursor<'a, K, C> {
         key_of(forest.trees.entry(set.root, &self.path))
     }
 
-    /// Goes to the key that compares equal and answers true, or else to the first greater key, or to the end, and answers false. One search.
+    /// Moves to the key that compares equal and returns `true`. Where there is none, moves to the first greater key, or to the end, and
+    /// returns `false`. One search, as in [`Set::contains`].
     pub fn goto(&mut self, elem: K) -> bool
         requires valid { IsCursor C.order self.old }
         requires ready { IsSetReadable K.row }
@@ -113,7 +116,8 @@ impl<'a, K: Copy, C: Comparator<K>> SetCursor<'a, K, C> {
             .is_some()
     }
 
-    /// Goes to the first key and answers it. In an empty set that is the end. No comparison.
+    /// Moves to the first key and returns it; in an empty set stays at the end and returns `None`. Visits one node of each level. No
+    /// comparison.
     pub fn goto_first(&mut self) -> Option<K>
         requires valid { IsCursor C.order self.old }
         requires ready { IsSetReadable K.row }
@@ -125,7 +129,11 @@ impl<'a, K: Copy, C: Comparator<K>> SetCursor<'a, K, C> {
         key_of(forest.trees.first(set.root, &mut self.path))
     }
 
-    /// Puts a key in, and answers whether it was absent. The same as [`SetCursor::try_insert`].
+    /// Inserts a key and returns whether it was absent, exactly as [`SetCursor::try_insert`] does.
+    ///
+    /// # Errors
+    ///
+    /// [`OutOfMemory`] where the key is absent and too few nodes are available, as in [`SetCursor::try_insert`].
     pub fn insert(&mut self, elem: K) -> Result<bool, OutOfMemory>
         requires valid { IsCursor C.order self.old }
         requires ready { IsSetReadable K.row }
@@ -137,12 +145,15 @@ impl<'a, K: Copy, C: Comparator<K>> SetCursor<'a, K, C> {
         self.try_insert(elem)
     }
 
-    /// Puts a key in as [`Set::try_insert`] does, and goes to it. Where the key is that here or the one before, or belongs between them, or
-    /// behind the last at the end, two comparisons tell it; else it makes one search.
+    /// Inserts a key as [`Set::try_insert`] does, and moves to it.
+    ///
+    /// At most two comparisons where the key is the one here or the previous one, or belongs between these two, or behind the last key
+    /// where the cursor is at the end; else also one search, as in [`Set::contains`].
     ///
     /// # Errors
     ///
-    /// Those of [`Set::try_insert`]. Nothing has changed then, but that it stands where [`SetCursor::goto`] of the key goes.
+    /// Those of [`Set::try_insert`]. The set and the forest are unchanged then, and the cursor stands where [`SetCursor::goto`] of the
+    /// key moves it.
     pub fn try_insert(&mut self, elem: K) -> Result<bool, OutOfMemory>
         requires valid { IsCursor C.order self.old }
         requires ready { IsSetReadable K.row }
@@ -164,8 +175,8 @@ impl<'a, K: Copy, C: Comparator<K>> SetCursor<'a, K, C> {
         is_new(put)
     }
 
-    /// Takes the key out where it stands, and answers it. It stands at the one that followed then, or at the end. At the end it answers
-    /// `None`, and nothing changes. No comparison; nodes are joined and freed as in [`Set::remove`].
+    /// Removes the key where the cursor stands and returns it. The cursor stands at the key that followed then, or at the end. At the end
+    /// it returns `None` and changes nothing. No comparison; nodes are rebalanced, merged and freed as in [`Set::remove`].
     pub fn remove(&mut self) -> Option<K>
         requires valid { IsCursor C.order self.old }
         requires ready { IsSetReadable K.row }

@@ -12,7 +12,7 @@ use bforest_core::SetValue;
 use bforest_trees::{Reader, Trees};
 use std::marker::Model;
 
-/// The keys of a set, in order, and then `None` for ever. Made by [`Set::iter`]. A step compares nothing.
+/// An iterator over the keys of a set, in order, and then `None` for ever. [`Set::iter`] makes it. A step compares nothing.
 #[derive(Drop)]
 pub struct SetIter<'a, K: Copy> {
     trees: &'a Trees<K, SetValue, 15>,
@@ -32,14 +32,14 @@ impl<'a, K: Copy> Model for SetIter<'a, K> {
 }
 
 impl<'a, K: Copy> SetIter<'a, K> {
-    /// Over the keys of a set.
+    /// Returns an iterator over the keys of a set.
     pub(crate) fn new(set: &Set<K>, forest: &'a SetForest<K>) -> SetIter<'a, K>
         requires { IsLive forest.now set.now }
         ensures keys { result ≡ elements forest.now set.now }
         ensures ready { IsSetReadable K.row }
     {
         let trees = &forest.trees;
-        // The reader is made where it stays, since it is too long to be moved for nothing.
+        // The reader is made in its final place: it is too long to be moved for nothing.
         let mut iter = SetIter {
             trees,
             reader: Reader::new(),

@@ -15,7 +15,8 @@ use bforest_trees::{Ends, Trees};
 use std::marker::{Model, PhantomData};
 use std::ops::Bound;
 
-/// The keys of a set within bounds, in order, from both ends, and then `None` for ever. Made by [`Set::range`]. A step compares nothing.
+/// A double-ended iterator over the keys of a set within bounds, in order, and then `None` for ever from both ends. [`Set::range`] makes
+/// it. A step compares nothing.
 #[derive(Drop)]
 pub struct SetRange<'a, K: Copy, C: Comparator<K>> {
     trees: &'a Trees<K, SetValue, 15>,
@@ -37,7 +38,7 @@ impl<'a, K: Copy, C: Comparator<K>> Model for SetRange<'a, K, C> {
 }
 
 impl<'a, K: Copy, C: Comparator<K>> SetRange<'a, K, C> {
-    /// Over the keys within bounds.
+    /// Returns an iterator over the keys within bounds.
     pub(crate) fn new(
         set: &Set<K>,
         bounds: (Bound<K>, Bound<K>),

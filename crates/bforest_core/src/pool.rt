@@ -10,12 +10,12 @@ use bforest_nodes::{Node, NodeData, PackedNode, SplitOff};
 use std::alloc::{AllocError, Global};
 use std::marker::Model;
 
-/// Why no node could be had. The call that answers it changed nothing.
+/// Why an insertion or a reservation was refused. The call that returns it has changed nothing.
 #[derive(Clone, Copy, Debug, PartialEq, Eq)]
 pub enum OutOfMemory {
-    /// The table had to grow and was allowed to, but the memory for it was refused. The same call may succeed later.
+    /// The allocator refused the memory for more nodes, which the limit would allow. The call may succeed when it is made again.
     Memory,
-    /// Fewer nodes can be had than are needed: those that lie free, and those up to the limit, are too few.
+    /// The forest's limit does not allow the nodes that are needed: the free ones and those up to the limit are too few.
     Full,
 }
 

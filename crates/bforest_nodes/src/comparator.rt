@@ -1,4 +1,4 @@
-//! The order of keys.
+//! Comparators of keys.
 ghost use Rattle.bforest_nodes.specs.Search.{count_less, count_up_to, search_of};
 ghost use Rattle.std.specs.Cmp.{IsTotalOrder};
 ghost use Rattle.std.specs.List.Sorted.{IsStrictlySortedBy};
@@ -10,20 +10,20 @@ use std::cmp::{Ord, Ordering};
 
 /// An order of keys, with whatever it needs to compare them.
 ///
-/// Each call that compares is handed one, so that a key can be a bare number whose order only its owner knows. An implementation
+/// Each call that compares is handed a comparator, so that a key can be a bare number whose order only its owner knows. An implementation
 /// proves that `order` is a total order: two keys may compare equal and still be different values.
 pub trait Comparator<K: Copy> {
-    /// How two keys compare.
+    /// The order as a function, which contracts cite.
     ghost order: { Self → K → K → Ordering };
 
     /// Compares two keys.
     fn cmp(&self, a: K, b: K) -> Ordering
         ensures { result ≡ order self.now a b };
 
-    /// Finds a key in a slice whose keys strictly increase: `Ok` of its index, or `Err` of how many keys are less.
+    /// Finds a key in a slice whose keys strictly increase: returns `Ok` of its index, or `Err` of how many keys are less.
     ///
-    /// It compares about log2 of the slice's length times. An implementation may replace it, by a plain scan for example. Of a slice
-    /// whose keys do not strictly increase nothing is said.
+    /// The provided body is a binary search, which compares about log2 of the slice's length times. An implementation may replace it, for
+    /// example by a linear scan. Nothing is said of a slice whose keys do not strictly increase.
     fn search(&self, k: K, s: &[K]) -> Result<usize, usize>
         ensures { IsStrictlySortedBy (order self.now) s.now
             → result ≡ search_of (order self.now) s.now k }
@@ -31,10 +31,10 @@ pub trait Comparator<K: Copy> {
         s.binary_search_by(|x| self.cmp(*x, k))
     }
 
-    /// How many keys of a slice whose keys strictly increase are not greater: among the separators of an inner node the index of the
-    /// child below which `k` belongs. Of a slice whose keys do not strictly increase nothing is said.
+    /// Returns how many keys of a slice whose keys strictly increase are not greater than `k`. Among the separators of an inner node that
+    /// is the index of the child under which `k` belongs. Nothing is said of a slice whose keys do not strictly increase.
     ///
-    /// It compares as often as `search`, which it calls. An implementation that replaces `search` by a scan may replace this by one too.
+    /// The provided body calls `search`. An implementation that replaces `search` by a linear scan may replace this call too.
     fn upper_bound(&self, k: K, s: &[K]) -> usize
         ensures { IsStrictlySortedBy (order self.now) s.now
             → result ≡ count_up_to (order self.now) s.now k }
@@ -45,10 +45,14 @@ pub trait Comparator<K: Copy> {
         }
     }
 
-    /// `search` among the first `len` keys of a row. Of the keys behind them nothing is said, and they change no answer.
+    /// Makes `search` among the first `len` keys of a row. The keys behind them are of any order and do not change the result.
     ///
-    /// A node hands over its whole row, so that an implementation may read at fixed places. Replace it where a comparison costs less
-    /// than a branch that is guessed wrong; the one here searches the part alone, in about log2 of `len` comparisons.
+    /// A node hands over its whole row of keys, so that an implementation may read at fixed places. Replacing it pays where a comparison
+    /// costs less than a mispredicted branch. The provided body searches the first `len` keys alone, in about log2 of `len` comparisons.
+    ///
+    /// # Panics
+    ///
+    /// The provided body panics where `len` is greater than the row's length.
     fn search_prefix(&self, k: K, row: &[K], len: usize) -> Result<usize, usize>
         requires { len ≤ length row.now }
         ensures { IsStrictlySortedBy (order self.now) (take len row.now)
@@ -57,7 +61,11 @@ pub trait Comparator<K: Copy> {
         self.search(k, &row[..len])
     }
 
-    /// `upper_bound` among the first `len` keys of a row, as `search_prefix` is `search` among them.
+    /// Makes `upper_bound` among the first `len` keys of a row, as `search_prefix` makes `search` among them.
+    ///
+    /// # Panics
+    ///
+    /// The provided body panics where `len` is greater than the row's length.
     fn upper_bound_prefix(&self, k: K, row: &[K], len: usize) -> usize
         requires { len ≤ length row.now }
         ensures { IsStrictlySortedBy (order self.now) (take len row.now)
@@ -66,12 +74,15 @@ pub trait Comparator<K: Copy> {
         self.upper_bound(k, &row[..len])
     }
 
-    /// Each key equals itself, swapping two keys reverses the answer, and less than and equal are transitive.
+    /// The proof that the order is total: each key equals itself, swapping two keys reverses the result, and less than and equal are
+    /// transitive.
     ghost total: { (c : Self) → IsTotalOrder (order c) };
 }
 
-/// The order of the keys themselves. Its search in a slice compares with each key once, and then with one of them once more. In a node's
-/// row it compares with the first key and the last that counts, and only between them with all keys of the row but these two.
+/// The keys' own order, by `Ord`.
+///
+/// A search in a slice compares with each key once, and then with one of them once more. A search in a node's row compares with the first
+/// key and the last valid one, and only between these two with all other keys of the row.
 impl<K: Copy + Ord> Comparator<K> for () {
     ghost order = { λ _. K.cmp };
 
@@ -81,7 +92,7 @@ impl<K: Copy + Ord> Comparator<K> for () {
         a.cmp(&b)
     }
 
-    // Counts, since a count of a few cheap comparisons costs less than a guessed branch.
+    // A count of the lesser keys: a few cheap comparisons cost less than a mispredicted branch.
     fn search(&self, k: K, s: &[K]) -> Result<usize, usize> {
         let mut less = 0;
         for x in s {
@@ -122,7 +133,7 @@ impl<K: Copy + Ord> Comparator<K> for () {
     }
 }
 
-// How many of the first `len` keys of a row are less than `k`.
+// Returns how many of the first `len` keys of a row are less than `k`.
 fn lower_bound<K: Copy + Ord>(k: K, row: &[K], len: usize) -> usize
     requires { len ≤ length row.now }
     ensures within { result ≤ len }
@@ -138,8 +149,8 @@ fn lower_bound<K: Copy + Ord>(k: K, row: &[K], len: usize) -> usize
     first_not_less(k, row)
 }
 
-// The least index behind the first whose key is not less than `k`, or the last index where there is none. It looks at the whole row from
-// the right, and chooses without a branch.
+// Returns the least index greater than 0 whose key is not less than `k`, or the last index where there is none. It reads the whole row
+// from the right, and chooses without a branch.
 fn first_not_less<K: Copy + Ord>(k: K, row: &[K]) -> usize
     requires { 0 < length row.now }
     ensures within { result < length row.now }
@@ -155,7 +166,7 @@ fn first_not_less<K: Copy + Ord>(k: K, row: &[K]) -> usize
     at
 }
 
-// The same with a greater key.
+// Returns the least index greater than 0 whose key is greater than `k`, or the last index where there is none, without a branch.
 fn first_greater<K: Copy + Ord>(k: K, row: &[K]) -> usize
     requires { 0 < length row.now }
     ensures within { result < length row.now }
