@@ -1,4 +1,4 @@
--- What a call that changes one tree of a table says of it and of the others.
+-- What a call that changes one tree of a table states of it and of the others.
 use Rattle.std.specs.Prelude.{◌≡◌, ◌≢◌, ℕ, ◌+◌, ◌-◌, ◌++◌, ◌∷◌, [], IsTrue, List, drop, length}
 use Rattle.std.specs.List.{sum_by}
 use Rattle.bforest_core.specs.Table.{Table, slot_count, free_count, reserved}

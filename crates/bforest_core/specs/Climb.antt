@@ -1,4 +1,4 @@
--- What the calls of a path say of the rows above a level, and of a whole tree.
+-- What the calls of a path state of the rows above a level, and of a whole tree.
 use Rattle.std.specs.Prelude.{◌≡◌, ◌≢◌, ℕ, zero, suc, ◌+◌, ◌-◌, ◌≤◌, ◌<◌, Bool, if◌then◌else◌, List, [], ◌∷◌, ◌++◌, map, length, insert, get_or, slice_get, Some, None, Option}
 use Rattle.std.specs.List.{flat_map}
 use Rattle.bforest_core.specs.Table.{Table}
@@ -7,7 +7,7 @@ use Rattle.bforest_core.specs.Sizes.{inner_gain, leaf_gain, growth, need}
 use Rattle.bforest_core.specs.Descent.{SameAbove}
 use Rattle.bforest_core.specs.Place.{RowIn, RowsIn, IsIn, leaf_content, inner_content, count, Distinct, root_of, numbers_of, IsAt, StandsAbove, Stands, PlacedAt}
 
--- the path below a level is as before
+-- the two paths agree below a level
 abbrev pub SameBelow : ℕ → List ℕ → List ℕ → Type 0
 SameBelow level old new = (below : ℕ) → below < level → get_or new below 0 ≡ get_or old below 0
 

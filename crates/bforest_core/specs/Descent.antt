@@ -1,4 +1,4 @@
--- Going down a tree: what lies below some of its nodes, and where a path stands there.
+-- Descending a tree: the leaves and rows below some of its nodes, and where a path stands there.
 use Rattle.std.specs.Prelude.{◌≡◌, ◌≢◌, ℕ, suc, ◌+◌, ◌-◌, ◌≤◌, ◌<◌, true, false, List, [], ◌∷◌, ◌++◌, length, get_or}
 use Rattle.std.specs.declared.cmp.Ordering.{Ordering}
 use Rattle.std.specs.declared.cmp.Ordering.TheVariants.{Greater}
@@ -8,7 +8,7 @@ use Rattle.bforest_nodes.specs.Entries.{place, is_present}
 use Rattle.bforest_core.specs.Levels.{LevelNode, node, flat, heads, FitRow, half_of, Tree, IsFit, top_level}
 use Rattle.bforest_core.specs.Place.{RowIn, RowsIn, leaf_content, IsAt, IsIn, root_of, StandsAbove}
 
--- the path above a level is as before
+-- the two paths agree above a level
 abbrev pub SameAbove : ℕ → List ℕ → List ℕ → Type 0
 SameAbove level old new = (above : ℕ) → level < above → get_or new above 0 ≡ get_or old above 0
 

@@ -1,4 +1,4 @@
--- What a node and a pool end as, where a `&mut` into them is returned.
+-- The final contents of a node and of a pool, where a `&mut` into them is returned.
 use Rattle.std.specs.Prelude.{ℕ}
 use Rattle.std.specs.Borrow.{Lends, Fml, RattleType, MutBor}
 use Rattle.bforest_nodes.specs.Content.{Content}

@@ -1,5 +1,5 @@
--- The sizes of a tree's nodes, level by level, the leaves first: what an insertion and a removal at a place make of them, and how many
--- nodes an insertion needs. Functions of sizes and a place alone.
+-- The sizes of a tree's nodes, level by level, the leaves first: how an insertion and a removal at a place
+-- change them, and how many nodes an insertion needs. Functions of sizes and a place alone.
 use Rattle.bforest_core.specs.Levels.{half_of}
 use Rattle.std.specs.List.{sum_by}
 use Rattle.std.specs.Prelude.{◌≡◌, ◌≤◌, ℕ, zero, suc, ◌+◌, ◌*◌, ◌-◌, ◌/◌, nat_lt, nat_le, Bool, true, false, if◌then◌else◌, Option, None, Some, option_map, List, [], ◌∷◌, length}

@@ -1,4 +1,4 @@
--- The sizes that insertions one after the other leave.
+-- The sizes after a sequence of insertions.
 use Rattle.std.specs.Prelude.{ℕ, List, [], ◌∷◌}
 use Rattle.bforest_core.specs.Sizes.{growth}
 

@@ -1,5 +1,4 @@
--- A `&mut [T; N]` lends an element or its first elements, and the final value of the array follows from
--- theirs.
+-- A `&mut [T; N]` lends an element or its first elements, which determine the final value of the array.
 use mathlib.Core.Path.{◌≡◌, refl, sym, ap, ◌∙◌}
 use Prim.Native.Nat.{ℕ, zero, suc, ◌+◌, ◌*◌, ◌^◌, ◌<◌, ◌≤◌}
 use native.Mathlib.Nat.{mul-le-mul_right}

@@ -76,7 +76,7 @@ module _ {K : Type 0} (cmp : K → K → Ordering) where
     in_row : (j : ℕ) (d : K) → j < len → get_or (take len row) j d ≡ get_or row j d
     in_row j d low = get_or-take len row j d low
 
-    -- where the keys before an index are less and the one there is not, the index counts the lesser keys
+    -- where the keys before an index are less and the one there is not, the index is `count_less`
     pub less-at : (at : ℕ) → at ≤ len → ((j : ℕ) (d : K) → j < at → is_lt (cmp (get_or row j d) k) ≡ true) → ((d : K) → at < len → is_lt (cmp (get_or row at d) k) ≡ false) → at ≡ count_less cmp (take len row) k
     less-at at most low here = sym (count_less-from_parts cmp (take len row) k at (omega (arith, most, size))
         (λ j d lt. ap (λ z. is_lt (cmp z k)) (in_row j d (omega (arith, lt, most))) ∙ low j d lt)
@@ -86,8 +86,7 @@ module _ {K : Type 0} (cmp : K → K → Ordering) where
     pub less-before : (i j : ℕ) (d : K) → j < i → i < len → is_lt (cmp (get_or row i d) k) ≡ true → is_lt (cmp (get_or row j d) k) ≡ true
     less-before i j d lt low less = ap (λ z. is_lt (cmp z k)) (sym (in_row j d (omega (arith, lt, low)))) ∙ before cmp o (take len row) k sorted i j d lt (omega (arith, low, size)) (ap (λ z. is_gt (cmp z k)) (in_row i d low) ∙ not_greater (get_or row i d) k less)
 
-    -- where the keys before an index are not greater and the one there is, the index counts the keys that are
-    -- not greater
+    -- where the keys before an index are not greater and the one there is, the index is `count_up_to`
     pub up_to-at : (at : ℕ) → at ≤ len → ((j : ℕ) (d : K) → j < at → is_gt (cmp (get_or row j d) k) ≡ false) → ((d : K) → at < len → is_gt (cmp (get_or row at d) k) ≡ true) → at ≡ count_up_to cmp (take len row) k
     up_to-at at most low here = sym (count_up_to-from_parts (take len row) k at (omega (arith, most, size))
         (λ j d lt. ap (λ z. is_gt (cmp z k)) (in_row j d (omega (arith, lt, most))) ∙ low j d lt)

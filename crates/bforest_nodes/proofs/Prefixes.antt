@@ -10,8 +10,7 @@ module _ {X : Type 0} where
   get_front (suc n) (x ∷ xs) zero within = refl
   get_front (suc n) (x ∷ xs) (suc i) within = get_front n xs i (omega arith)
 
-  -- after a list was written over the front, the first n elements are the old ones with the list over their
-  -- front
+  -- the first n elements of a list written over another are that list over its first n elements
   pub over_front : (n : ℕ) (xs w : List X) → n ≤ length xs → take n (w ++ drop (length w) xs) ≡ take (length (take n xs)) (w ++ drop (length w) (take n xs))
   over_front n xs [] room = sym (take-length (take n xs))
   over_front zero xs (y ∷ w) room = refl

@@ -4,8 +4,7 @@ use Rattle.std.proofs.lemmas.Bool.Decides.{eqb_tells}
 use Rattle.std.proofs.lemmas.List.{get_or_default}
 
 module _ {K : Type 0} (test : K → Bool) (low high : Bool) (row : List K) where
-  -- the scan tested the `back - 2` keys before the last: `at` is the least of them that answers high, or the
-  -- last
+  -- the `back - 2` keys before the last were tested: `at` is the least that answers high, or else the last
   pub record Scanning (at back : ℕ) : Type 0 where
     pub within : at < length row
     pub beyond : length row < at + back

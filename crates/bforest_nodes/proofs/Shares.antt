@@ -1,5 +1,4 @@
--- The amounts moved from the right neighbour to the left one: the bounds of `balance_inner` and
--- `balance_leaf`.
+-- The amounts moved from the right neighbour to the left: the bounds of `balance_inner` and `balance_leaf`.
 use Rattle.std.proofs.Common.{◌≡◌, ℕ, ◌+◌, ◌-◌, ◌*◌, ◌<◌, ◌≤◌, List, [], ◌∷◌, ◌++◌, length, take, drop, slice_get, Some, sym, ◌∙◌, arith}
 use Rattle.std.proofs.lemmas.List.{length-take-le}
 use Rattle.std.specs.Int.{div_ceil}

@@ -1,4 +1,4 @@
--- What a leaf's entries end as, where a `&mut` to the values is returned. No public clause cites this module.
+-- The final entries of a leaf, where a `&mut` to the values is returned. No public clause cites this module.
 use Rattle.std.specs.Prelude.{List, ◌++◌, drop, length}
 use Rattle.std.specs.Borrow.{Lends, Fml, RattleType, MutBor, Array}
 use Rattle.bforest_nodes.specs.contracts.entries.Entries.{the_row}

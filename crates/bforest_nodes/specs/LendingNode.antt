@@ -1,4 +1,4 @@
--- What a node ends as, where a `&mut` into a leaf is returned.
+-- The final content of a node, where a `&mut` into a leaf is returned.
 use Rattle.std.specs.Prelude.{ℕ, List}
 use Rattle.std.specs.Borrow.{Lends, Fml, RattleType, MutBor, Array}
 use Rattle.bforest_nodes.specs.Content.{Content, with_vals, with_value}

@@ -1,4 +1,4 @@
--- What a row ends as, where a `&mut` into it is returned. No public clause cites this module.
+-- The final elements of a row, where a `&mut` into it is returned. No public clause cites this module.
 use Rattle.std.specs.Prelude.{ℕ, List, ◌++◌, drop, length, slice_set}
 use Rattle.std.specs.Borrow.{Lends, Fml, RattleType, MutBor, Array}
 use Rattle.bforest_nodes.specs.contracts.row.Row.{the_row}

@@ -1,5 +1,4 @@
--- Changes of some slots of a table, some of them freed: no change, changes in sequence, and changes of more
--- slots.
+-- Changes of some slots of a table, some of them freed: none, changes in sequence, and changes of more slots.
 use Rattle.std.proofs.Common.{◌≡◌, ◌≢◌, ℕ, ◌<◌, List, [], ◌∷◌, ◌++◌, length, slice_get, Some, refl, sym, ap, ◌∙◌, subst, inl, inr, append_assoc, append-nil, length-set, arith}
 use Rattle.bforest_core.proofs.Words.{eqb_tells, slice_get_within, Content, Free, IsFree, Table, with_freed, front_of, count, Frees, slot}
 use Rattle.bforest_core.proofs.table.Tables.{Puts, count-other, slice_get-set_apart}

@@ -1,5 +1,4 @@
--- Removing an entry from a level, in the sizes of `shrink` and in the rows: the level's row is rebalanced,
--- then those above.
+-- Removing an entry from a level, in `shrink` and in the rows: its row is rebalanced, then those above.
 use Rattle.std.proofs.Common.{◌≡◌, ℕ, zero, suc, ◌+◌, ◌-◌, ◌≤◌, ◌<◌, Option, None, true, false, Bool, if◌then◌else◌, option_map, List, [], ◌∷◌, ◌++◌, map, length, get_or, Some, refl, sym, ap, ◌∙◌, subst, append_assoc, length-append, arith}
 use Rattle.std.proofs.lemmas.Bool.{lt-ltb, le-ltb}
 use Rattle.bforest_core.proofs.Words.{loss, past, flat_map, Content, Table, LevelNode, node, flat, heads, head_of, sizes, numbers, FitRow, rebalanced, loss_above, RowIn, inner_content, count, Distinct, nodes_up, Above, SameBelow, top_of, Frees, Rebuilt, Loosened, Healed, Joined}
@@ -71,8 +70,7 @@ module _ {K V X : Type 0} (content : List (K × X) → Content K V) (half most :
       }
 
   module _ (w : Table K V) (path1 indices1 : List ℕ) (j : Joined content half most t w path indices path1 indices1 up size before n es after rest) where
-    -- the rows above meet what removing the entry of a merged node requires; the level and the size are given
-    -- as the code has them
+    -- the rows above meet what removing a merged node's entry requires; level and size are as in the code
     pub merge_asks : (up' size' : ℕ) → up' ≡ suc up → size' ≡ size → MergeAbove w path1 indices1 up' size'
     merge_asks up' size' up_is size_is = (rest, heads before, j.first.0, n, j.key, j.right, heads j.after', rw (up_is, size_is) j.above)
 
@@ -128,8 +126,7 @@ module _ {K V : Type 0} (t u v : Table K V) (path indices path' indices' : List 
       let k = healed_settled inner_content 4 8 u path indices up size l.before (get_or path up 0) l.entries l.after l.rest v path' indices' h in
       merged h.before' h.number' h.entries' h.after' h.rest' [] k h.number_is h.within h.place_is h.nodes_below h.entries_below h.same_top
 
-  -- where two nodes of the level merge, the level above loses an entry; the level and the size are given as
-  -- the code has them
+  -- where two nodes of the level merge, the level above loses an entry; level and size are as in the code
   pub merge_joined : (w : Table K V) (path1 indices1 : List ℕ) (up' size' : ℕ) → (j : Joined inner_content 4 8 u w path indices path1 indices1 up size l.before (get_or path up 0) l.entries l.after l.rest) → up' ≡ suc up → size' ≡ size → (levels : ℕ) →
       Rebuilt w v path1 indices1 path' indices' up' size' l.rest (heads l.before ++ (j.first.0, j.right) ∷ heads j.after') (length (heads l.before)) (loss_above (Some (length (heads l.before))) (map sizes l.rest)) (nodes_up path1 up' levels) →
       Rebuilt t v path indices path' indices' up size rows hs p (loss_above (Some p) (map sizes rows)) (nodes_up path up (suc levels))

@@ -1,5 +1,5 @@
--- The leaf after an entry was removed from it: whether the path is past all entries, and the leaf as a level
--- to rebalance.
+-- The leaf after it lost an entry: whether the path is past all entries, and the leaf as a level to
+-- rebalance.
 use Rattle.std.proofs.Common.{◌≡◌, ℕ, ◌≤◌, ◌<◌, Some, None, Option, Bool, true, false, not, List, [], ◌∷◌, ◌++◌, length, get_or, slice_get, refl, ap, ◌∙◌, length-append, arith}
 use Rattle.bforest_core.proofs.Words.{is_some, Table, node, flat, heads, Tree, half_of, leaf_content, Above, NextIs, LeafLoss, OnLevel, get_or_default, Content, entry_count}
 use Rattle.bforest_core.proofs.rows.LevelRows.{HeadIs, head-is}

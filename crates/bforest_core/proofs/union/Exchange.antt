@@ -1,5 +1,4 @@
--- Replacing trees of a table by others, with nodes taken from or put on the chain: all other roots keep their
--- trees.
+-- Replacing trees of a table by others, with nodes from or to the chain: all other roots keep their trees.
 use Rattle.std.proofs.Common.{◌≡◌, ℕ, ◌+◌, ◌≤◌, ◌<◌, ◌↔◌, IsTrue, List, [], ◌∷◌, ◌++◌, map, length, slice_get, sym, ap, ◌∙◌, subst, inl, inr, append_assoc, arith}
 use Rattle.bforest_core.proofs.Words.{flat_map, map-append, flat_map-append, cases_lt, Content, IsFree, Table, flat, numbers, Tree, IsFit, IsIn, Distinct, leaf_content, count, root_of, numbers_of, slot, tree_of, is_root, Every}
 use Rattle.bforest_core.proofs.Words.{IsForest}
@@ -45,8 +44,8 @@ module _ {K V : Type 0} where
       let d = ap (λ z. count m z) (flat_map-append numbers_of some after) ∙ count-append m (flat_map numbers_of some) (flat_map numbers_of after) in
       omega (arith, a, b, c, d)
 
-  -- Some numbers of the trees are replaced by others: with the chain, each number occurs as often as before,
-  -- and only slots of these numbers and of the chain change.
+  -- some numbers of the trees are replaced: with the chain, each occurs as often as before, and other slots
+  -- stay
   pub record Traded (old new : Table K V) (gone come : List ℕ) : Type 0 where
     pub free : Every (λ (number : ℕ). IsFree (slot new.nodes number)) new.chain
     pub slots_are : length new.nodes ≡ length old.nodes

@@ -8,8 +8,7 @@ use Rattle.bforest_core.proofs.walks.Steps.{no_heads}
 use Rattle.bforest_core.proofs.walks.TopNode.{SameBut, none_flat, flat_parted, seen_at, set_but, LeafUnder, InnerUnder, leaf_under, inner_under}
 use Rattle.bforest_core.proofs.walks.Whole.{stands_above}
 
--- the path stands at a place of the leaves, and on the rows from there up to this node of the top; above that
--- it is unchanged
+-- the path stands at a place of the leaves, and on the rows up to this node of the top; above it is unchanged
 pub record LedTo {K V : Type 0} (leaves : List (LevelNode K V)) (lower : List (List (LevelNode K ℕ))) (place top : ℕ) (path indices path' indices' : List ℕ) : Type 0 where
   pub leaf : IsAt leaves (get_or path' 0 0) (get_or indices' 0 0) place
   pub stands : StandsTo path' indices' 1 lower (length leaf.before) top

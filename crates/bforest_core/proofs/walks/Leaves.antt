@@ -69,7 +69,7 @@ module _ {K V : Type 0} {n : ℕ} {table : Table K V} (union : IsUnion n table) 
     pub leaf-only : path.size < 2 → place + length entries ≡ length (list_under table root)
     leaf-only low = leaf-end (only leaf-over (omega (arith, low, o.on.stands.size_is))).1
 
-    -- the step from the last leaf entry to the next leaf leads to the entry that follows
+    -- the step to the next leaf leads to the first entry after those of this leaf
     pub leaf-next : (moved new : Path K V n) → Moved path.node path.entry moved.node moved.entry 0 (tree_of table.nodes root).above (heads (tree_of table.nodes root).leaves) (suc (length o.on.stands.leaf.before)) → new.node ≡ moved.node → get_or new.entry 0 0 ≡ 0 → ((i : ℕ) → i ≢ 0 → get_or new.entry i 0 ≡ get_or moved.entry i 0) → new.size ≡ path.size → (more : List (K × V)) × OnLeaf table root new (place + length entries) more
     leaf-next moved new m nodes first above size =
         let w = on-tree union path o.on in

@@ -31,8 +31,7 @@ all_through cmp first key = record { from = tt; upto = tt }
 pub stands-pointed : {K V : Type 0} {path indices : List ℕ} {size place : ℕ} {tree : Tree K V} (p : PointsAt path indices size tree place) → get_or indices 0 0 < length p.entries → Stands path indices size tree place
 stands-pointed p low = record { leaf = record { before = p.before; entries = p.entries; after = p.after; row_is = p.leaves_are; within = low; place_is = p.place_is }; above = p.above; size_is = p.size_is }
 
--- where a search under a root ended: at the key's entry where the key is present, else where it may be
--- inserted
+-- where a search ended: at the key's entry where the key is present, else where it may be inserted
 module _ {K V : Type 0} (cmp : K → K → Ordering) (slots : List (Content K V)) (root : ℕ) (is : IsTrue (is_root slots root)) {key : K} {path indices path' indices' : List ℕ} {size : ℕ}
     (d : Descended cmp (tree_of slots root).leaves (tree_of slots root).above key 0 path indices path' indices') (size_is : size ≡ suc (length (tree_of slots root).above)) where
   abbrev points : PointsAt path' indices' size (tree_of slots root) (place cmp (flat (tree_of slots root).leaves) key)

@@ -28,7 +28,7 @@ impl<K: Copy, V: Copy, const N: usize> Path<K, V, N> {
         let parent = self.node[up];
         let index = self.entry[up] as usize;
         if index + 1 < entries(pool, parent) {
-            // At the first child the key is removed with it.
+            // Where the child is the first, this key is removed with it.
             let key = separator(pool, parent, index.saturating_sub(1));
             set_separator(pool, parent, index, key);
             let _answer = remove_child(pool, parent, index);
