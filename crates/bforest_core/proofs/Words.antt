@@ -1,4 +1,4 @@
--- The words of the specs that proofs cite, passed on from one place. Declares nothing.
+-- Re-exports the definitions of the specs that proofs cite. Declares nothing.
 pub use Rattle.bforest_core.specs.Chain.{IsChain, IsPool, chain_from, next_of}
 pub use Rattle.bforest_core.specs.Change.{AtUnder, Changes, Ends, GivesInOrder, GivesNodes, KeepsTrees, PlacedUnder, Plants, StandsUnder, TakesNodes}
 pub use Rattle.bforest_core.specs.Change.{node_count}

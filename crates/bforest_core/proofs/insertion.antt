@@ -1,4 +1,4 @@
--- Lemmas on an insertion.
+-- Lemmas on insertion.
 pub mod Grow
 pub mod Rise
 pub mod Halving

@@ -1,4 +1,4 @@
--- Lemmas on a removal.
+-- Lemmas on removal.
 pub mod Frees
 pub mod Collapse
 pub mod PastEnd

@@ -1,4 +1,4 @@
--- Lemmas on going down and stepping.
+-- Lemmas on descending and stepping.
 pub mod LeafSearch
 pub mod Rising
 pub mod Downward

@@ -11,19 +11,19 @@ module _ {K V : Type 0} where
   next_of (Some (Leaf keys vals)) = None
   next_of None = None
 
-  -- the numbers met from this one on, at most so many
+  -- the first `count` numbers of the chain that starts at this one
   abbrev pub chain_from : List (Content K V) → ℕ → Option ℕ → List ℕ
   chain_from nodes zero first = []
   chain_from nodes (suc count) None = []
   chain_from nodes (suc count) (Some node) = node ∷ chain_from nodes count (next_of (slice_get nodes node))
 
-  -- from this number on the free nodes name one another in this order, and the last names none
+  -- starting at this number, the free nodes name one another in this order, and the last names none
   abbrev pub IsChain : List (Content K V) → List ℕ → Option ℕ → Type 0
   IsChain nodes [] first = first ≡ None
   IsChain nodes (node ∷ rest) first =
       (next : Option ℕ) × (first ≡ Some node) × (slice_get nodes node ≡ Some (Free next)) × IsChain nodes rest next
 
-  -- so many nodes lie free from the first on, no slot twice, and the slots are within the limit
+  -- the chain has `free` nodes, no slot is on it twice, and the slots are within the limit
   pub record IsPool (n : ℕ) (nodes : List (Content K V)) (first : Option ℕ) (free limit : ℕ) : Type 0 where
     pub capacity : IsLeafCapacity n
     pub linked : IsChain nodes (chain_from nodes free first) first

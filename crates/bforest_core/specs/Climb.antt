@@ -1,4 +1,4 @@
--- What the calls of a path say of the rows above a level, and of a whole tree.
+-- What the calls of a path state of the rows above a level, and of a whole tree.
 use Rattle.std.specs.Prelude.{◌≡◌, ◌≢◌, ℕ, zero, suc, ◌+◌, ◌-◌, ◌≤◌, ◌<◌, Bool, if◌then◌else◌, List, [], ◌∷◌, ◌++◌, map, length, insert, get_or, slice_get, Some, None, Option}
 use Rattle.std.specs.List.{flat_map}
 use Rattle.bforest_core.specs.Table.{Table}
@@ -7,26 +7,26 @@ use Rattle.bforest_core.specs.Sizes.{inner_gain, leaf_gain, growth, need}
 use Rattle.bforest_core.specs.Descent.{SameAbove}
 use Rattle.bforest_core.specs.Place.{RowIn, RowsIn, IsIn, leaf_content, inner_content, count, Distinct, root_of, numbers_of, IsAt, StandsAbove, Stands, PlacedAt}
 
--- the path below a level is as before
+-- the two paths agree below a level
 abbrev pub SameBelow : ℕ → List ℕ → List ℕ → Type 0
 SameBelow level old new = (below : ℕ) → below < level → get_or new below 0 ≡ get_or old below 0
 
--- the number of the root, where so many levels lie on the path
+-- the number of the root of a path with this many levels
 abbrev pub top_of : List ℕ → ℕ → ℕ
 top_of path size = get_or path (size - 1) 0
 
--- the nodes of a path on so many levels from this one up, the highest first
+-- the `count` nodes of a path from this level up, the highest first
 abbrev pub nodes_up : List ℕ → ℕ → ℕ → List ℕ
 nodes_up path level zero = []
 nodes_up path level (suc count) = nodes_up path (suc level) count ++ get_or path level 0 ∷ []
 
--- the entry that comes next, if any
+-- the next entry, if any, is the first of `rest`
 abbrev pub NextIs : {K : Type 0} → Option (K × ℕ) → List (K × ℕ) → Type 0
 NextIs None rest = rest ≡ []
 NextIs {K} (Some next) rest = (others : List (K × ℕ)) × (rest ≡ next ∷ others)
 
 module _ {K V : Type 0} where
-  -- the rows from a level on stand over these nodes and lie in the table, apart from its chain, and the path goes
+  -- the rows from a level up stand over these nodes and are in the table, off its chain, and the path leads
   -- through them to one of the nodes
   pub record Above (table : Table K V) (path indices : List ℕ) (level size : ℕ) (rows : List (List (LevelNode K ℕ))) (list : List (K × ℕ)) (place : ℕ) : Type 0 where
     pub stacked : Stacked list rows
@@ -35,9 +35,9 @@ module _ {K V : Type 0} where
     pub height : level + length rows ≡ size
     pub apart : Distinct (flat_map numbers rows ++ table.chain)
 
-  -- the rows from a level on after a new node came into the level, whose nodes are the list now and whose path goes to
-  -- the place: the rows have these sizes, and their new numbers are those taken, from the front of the chain. The root
-  -- is the old one, or one of those taken where there is a level more
+  -- the rows from a level up after the level gained a node: `list` is its nodes, the path leads to the place,
+  -- the new numbers are `taken` from the front of the chain, and the root is the old one or, with a level
+  -- more, a taken one
   pub record Grown (old new : Table K V) (path indices path' indices' : List ℕ) (level size size' : ℕ) (rows : List (List (LevelNode K ℕ))) (list : List (K × ℕ)) (place : ℕ) (sizes_after : List (List ℕ)) (taken : List ℕ) : Type 0 where
     pub rows' : List (List (LevelNode K ℕ))
     pub above : Above new path' indices' level size' rows' list place
@@ -53,9 +53,8 @@ module _ {K V : Type 0} where
     pub same_top : size' ≡ size → top_of path' size' ≡ top_of path size
     pub new_top : size' ≢ size → 0 < count (top_of path' size') taken
 
-  -- the path's node on a level was full and became two, with the new child among its entries, which makes this list of
-  -- the level below: the rows above wait for the right half, which has this number and this first key, and the path
-  -- goes to the half of its place
+  -- the path's full node on a level is split, with the new child inserted: the rows above lack only the right
+  -- half, whose number and first key are given, and the path leads to the half with its place
   pub record Halved (old new : Table K V) (path indices path' indices' : List ℕ) (level size : ℕ) (rows : List (List (LevelNode K ℕ))) (list : List (K × ℕ)) (was place : ℕ) (key : K) (right : ℕ) (moved : Bool) : Type 0 where
     pub before : List (LevelNode K ℕ)
     pub entries : List (K × ℕ)
@@ -83,17 +82,15 @@ module _ {K V : Type 0} where
     pub entries_below : SameBelow level indices indices'
     pub nodes_above : SameAbove level path path'
 
-  -- the path is at a place for an entry in a fit tree, whose leaves have at most so many, and which lies in the table,
-  -- apart from its chain
+  -- the path is where an entry may be inserted in a fit tree, which is in the table, off its chain
   pub record Placed (most : ℕ) (table : Table K V) (path indices : List ℕ) (size : ℕ) (tree : Tree K V) (place : ℕ) : Type 0 where
     pub fit : IsFit most tree
     pub inside : IsIn table.nodes tree
     pub apart : Distinct (numbers_of tree ++ table.chain)
     pub at : PlacedAt path indices size tree place
 
-  -- the entry came into the tree at the place, where the path stands now: the nodes have the sizes of `growth`, and the
-  -- new ones are those taken from the front of the chain. The root is the old one, or one of those taken where there is
-  -- a level more
+  -- the entry is inserted at the place, where the path stands: the sizes are those of `growth`, the new nodes
+  -- are `taken` from the front of the chain, and the root is the old one or, with a level more, a taken one
   pub record Inserted (most : ℕ) (old new : Table K V) (path' indices' : List ℕ) (size' : ℕ) (tree : Tree K V) (place : ℕ) (entry : K × V) : Type 0 where
     pub tree' : Tree K V
     pub taken : List ℕ
@@ -111,8 +108,8 @@ module _ {K V : Type 0} where
     pub same_root : length tree'.above ≡ length tree.above → root_of tree' ≡ root_of tree
     pub new_root : length tree'.above ≢ length tree.above → 0 < count (root_of tree') taken
 
-  -- the path's leaf was full and became two, with the entry in one: the rows above, under the first keys of now, wait
-  -- for the right half, which has this number and this first key, and the path goes to the half of its place
+  -- the path's full leaf is split, with the entry inserted: the rows above, under the new first keys, lack
+  -- only the right half, whose number and first key are given, and the path leads to the half with its place
   pub record LeafHalved (most : ℕ) (old new : Table K V) (path path' indices' : List ℕ) (size : ℕ) (tree : Tree K V) (place : ℕ) (entry : K × V) (key : K) (right : ℕ) (moved : Bool) : Type 0 where
     pub before : List (LevelNode K V)
     pub entries : List (K × V)

@@ -1,4 +1,4 @@
--- Going down a tree: what lies below some of its nodes, and where a path stands there.
+-- Descending a tree: the leaves and rows below some of its nodes, and where a path stands there.
 use Rattle.std.specs.Prelude.{◌≡◌, ◌≢◌, ℕ, suc, ◌+◌, ◌-◌, ◌≤◌, ◌<◌, true, false, List, [], ◌∷◌, ◌++◌, length, get_or}
 use Rattle.std.specs.declared.cmp.Ordering.{Ordering}
 use Rattle.std.specs.declared.cmp.Ordering.TheVariants.{Greater}
@@ -8,26 +8,26 @@ use Rattle.bforest_nodes.specs.Entries.{place, is_present}
 use Rattle.bforest_core.specs.Levels.{LevelNode, node, flat, heads, FitRow, half_of, Tree, IsFit, top_level}
 use Rattle.bforest_core.specs.Place.{RowIn, RowsIn, leaf_content, IsAt, IsIn, root_of, StandsAbove}
 
--- the path above a level is as before
+-- the two paths agree above a level
 abbrev pub SameAbove : ℕ → List ℕ → List ℕ → Type 0
 SameAbove level old new = (above : ℕ) → level < above → get_or new above 0 ≡ get_or old above 0
 
 module _ {K : Type 0} where
-  -- the rows over a level whose nodes are listed, up to a level whose nodes are the top: each row's entries are the
-  -- nodes of the row below
+  -- the rows from a level whose nodes are listed up to a level whose nodes are `top`: each row's entries are
+  -- the nodes of the row below
   abbrev pub StackedTo : List (K × ℕ) → List (List (LevelNode K ℕ)) → List (K × ℕ) → Type 0
   StackedTo list [] top = list ≡ top
   StackedTo list (row ∷ rows) top = (flat row ≡ list) × FitRow 4 8 row × StackedTo (heads row) rows top
 
-  -- where a path stands on these rows from a level on: each node is the entry above it, the lowest entry is at the
-  -- place, and the highest node is this one of its level
+  -- where a path stands on these rows from a level up: each node is the entry above it, the lowest entry is
+  -- at the place, and the highest node is number `top` of its level
   abbrev pub StandsTo : List ℕ → List ℕ → ℕ → List (List (LevelNode K ℕ)) → ℕ → ℕ → Type 0
   StandsTo path indices level [] place top = place ≡ top
   StandsTo path indices level (row ∷ rows) place top =
       (at : IsAt row (get_or path level 0) (get_or indices level 0) place) × StandsTo path indices (suc level) rows (length at.before) top
 
 module _ {K : Type 0} (cmp : K → K → Ordering) where
-  -- the child to follow among separators: behind all that are not greater than the key
+  -- the index of the child to follow: the number of separators that are not greater than the key
   abbrev pub child_index : List K → K → ℕ
   child_index keys key = count_up_to cmp keys key
 
@@ -46,7 +46,7 @@ module _ {K : Type 0} (cmp : K → K → Ordering) where
     pub from : IsFrom before first key
     pub upto : IsUpTo after key
 
--- the leaves and the inner rows under a level whose nodes are the top: they fit, and lie in the slots
+-- the leaves and the inner rows under a level whose nodes are `top`: they fit, and are in the slots
 pub record Under {K V : Type 0} (most : ℕ) (slots : List (Content K V)) (leaves : List (LevelNode K V)) (lower : List (List (LevelNode K ℕ))) (top : List (K × ℕ)) : Type 0 where
   pub leaves_fit : FitRow (half_of most) most leaves
   pub leaves_in : RowIn leaf_content slots leaves
@@ -54,9 +54,9 @@ pub record Under {K V : Type 0} (most : ℕ) (slots : List (Content K V)) (leave
   pub rows_in : RowsIn slots lower
 
 module _ {K V : Type 0} (cmp : K → K → Ordering) where
-  -- where a path stands in the leaf in which a search for the key ends: its index there is the key's place. It is
-  -- behind the last entry only where the key is absent, and in front of the first only where the key is present or the
-  -- leaf is the first
+  -- where a path stands in the leaf in which a search for the key ends, at the key's place. It is past the
+  -- last entry only if the key is absent, and before the first only if the key is present or the leaf is the
+  -- first
   pub record IsPlaced (leaves : List (LevelNode K V)) (key : K) (number index : ℕ) : Type 0 where
     pub before : List (LevelNode K V)
     pub entries : List (K × V)
@@ -67,31 +67,31 @@ module _ {K V : Type 0} (cmp : K → K → Ordering) where
     pub found : is_present cmp (flat leaves) key ≡ true → index < length entries
     pub first : is_present cmp (flat leaves) key ≡ false → index ≡ 0 → before ≡ []
 
-  -- the path stands where a search for the key ends, and on the rows from there up to this node of the top; above it is
-  -- as before
+  -- the path stands where a search for the key ends, and on the rows from there up to this node of the top;
+  -- above that it is unchanged
   pub record Descended (leaves : List (LevelNode K V)) (lower : List (List (LevelNode K ℕ))) (key : K) (top : ℕ) (path indices path' indices' : List ℕ) : Type 0 where
     pub leaf : IsPlaced leaves key (get_or path' 0 0) (get_or indices' 0 0)
     pub stands : StandsTo path' indices' 1 lower (length leaf.before) top
     pub nodes_above : SameAbove (length lower) path path'
     pub entries_above : SameAbove (length lower) indices indices'
 
--- the path stands at the first entry of the leaves, and on the rows from there up to the first node of the top; above it
--- is as before
+-- the path stands at the first entry of the leaves, and on the rows from there up to the first node of the
+-- top; above that it is unchanged
 pub record Led {K V : Type 0} (leaves : List (LevelNode K V)) (lower : List (List (LevelNode K ℕ))) (path indices path' indices' : List ℕ) : Type 0 where
   pub leaf : IsAt leaves (get_or path' 0 0) (get_or indices' 0 0) 0
   pub stands : StandsTo path' indices' 1 lower (length leaf.before) 0
   pub nodes_above : SameAbove (length lower) path path'
   pub entries_above : SameAbove (length lower) indices indices'
 
--- the path stands at the last entry of the leaves, and on the rows from there up to this node of the top; above it is as
--- before
+-- the path stands at the last entry of the leaves, and on the rows from there up to this node of the top;
+-- above that it is unchanged
 pub record LedLast {K V : Type 0} (leaves : List (LevelNode K V)) (lower : List (List (LevelNode K ℕ))) (top : ℕ) (path indices path' indices' : List ℕ) : Type 0 where
   pub leaf : IsAt leaves (get_or path' 0 0) (get_or indices' 0 0) (length (flat leaves) - 1)
   pub stands : StandsTo path' indices' 1 lower (length leaf.before) top
   pub nodes_above : SameAbove (length lower) path path'
   pub entries_above : SameAbove (length lower) indices indices'
 
--- the tree lies in the slots under this root: it is fit, not empty, and has at most 17 levels
+-- the tree is in the slots under this root, fit, not empty, and at most 17 levels high
 pub record IsRooted {K V : Type 0} (most : ℕ) (slots : List (Content K V)) (root : ℕ) (tree : Tree K V) : Type 0 where
   pub fit : IsFit most tree
   pub inside : IsIn slots tree

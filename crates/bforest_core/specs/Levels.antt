@@ -1,11 +1,11 @@
 -- A B+-tree, level by level: each level is the row of its nodes from left to right.
 use Rattle.std.specs.Prelude.{◌≡◌, ℕ, ◌+◌, ◌/◌, ◌≤◌, List, [], ◌∷◌, ◌++◌, map, length}
 
--- a tree has at most so many levels, counted from the leaves
+-- the most levels of a tree
 abbrev pub most_levels : ℕ
 most_levels = 17
 
--- the highest of them, where the leaves are level 0
+-- the highest level of a tree, where the leaves are level 0
 abbrev pub top_level : ℕ
 top_level = 16
 
@@ -25,7 +25,7 @@ module _ {K X : Type 0} where
   head_of number [] = []
   head_of number (entry ∷ entries) = (entry.0, number) ∷ []
 
-  -- a row as it is seen from above
+  -- a row as the entries of the level above
   abbrev pub heads : List (LevelNode K X) → List (K × ℕ)
   heads [] = []
   heads (node number entries ∷ rest) = head_of number entries ++ heads rest
@@ -40,26 +40,27 @@ module _ {K X : Type 0} where
   numbers [] = []
   numbers (node number entries ∷ rest) = number ∷ numbers rest
 
-  -- the least size of a node that these follow: only the right-most may be under half full
+  -- the least size of a node before these: only the rightmost node may be less than half full
   abbrev pub least : ℕ → List (LevelNode K X) → ℕ
   least half [] = 1
   least half (next ∷ rest) = half
 
-  -- every node of the row but the last is at least half full, the last is not empty, and none has more than it can
+  -- every node of the row but the last is at least half full, the last is not empty, and none exceeds its
+  -- capacity
   abbrev pub FitRow : ℕ → ℕ → List (LevelNode K X) → Type 0
   FitRow half most [] = Unit {0}
   FitRow half most (node number entries ∷ rest) =
       (least half rest ≤ length entries) × (length entries ≤ most) × FitRow half most rest
 
-  -- every node of the row is at least half full, and none has more than it can
+  -- every node of the row is at least half full, and none exceeds its capacity
   abbrev pub Solid : ℕ → ℕ → List (LevelNode K X) → Type 0
   Solid half most [] = Unit {0}
   Solid half most (node number entries ∷ rest) =
       (half ≤ length entries) × (length entries ≤ most) × Solid half most rest
 
 module _ {K : Type 0} where
-  -- the rows above a level whose nodes are listed: each row's entries are the nodes of the row below, and the top
-  -- level has one node
+  -- the rows above a level whose nodes are listed: each row's entries are the nodes of the row below, and the
+  -- top level has one node
   abbrev pub Stacked : List (K × ℕ) → List (List (LevelNode K ℕ)) → Type 0
   Stacked list [] = length list ≡ 1
   Stacked list (row ∷ rows) = (flat row ≡ list) × FitRow 4 8 row × Stacked (heads row) rows
@@ -74,12 +75,12 @@ pub record Tree (K V : Type 0) : Type 0 where
   pub leaves : List (LevelNode K V)
   pub above : List (List (LevelNode K ℕ))
 
--- at least how many of n entries a leaf has that is not the last
+-- the fewest entries of a leaf that is not the last, where a leaf has at most n
 abbrev pub half_of : ℕ → ℕ
 half_of n = (n + 1) / 2
 
 module _ {K V : Type 0} where
-  -- the leaves are half full to full, the last from one entry on; the rows above them fit, and an inner root has 2
+  -- the leaves are at least half full, the last not empty; the rows above them fit, and an inner root has 2
   -- children or more
   pub record IsFit (most : ℕ) (tree : Tree K V) : Type 0 where
     pub leaves_fit : FitRow (half_of most) most tree.leaves

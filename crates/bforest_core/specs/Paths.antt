@@ -1,4 +1,4 @@
--- Where a path stands in a pool: the words of its public calls. The path is read by these words alone.
+-- Where a path stands in a pool, in the terms of its public calls; contracts read a path only through these.
 use Rattle.std.specs.Prelude.{◌≡◌, ℕ, List, Some, drop, length, get_or, slice_get, if◌then◌else◌, ◌==◌, ◌+◌, ◌++◌, ◌∷◌, [], nat_eq, ◌<◌}
 use Rattle.bforest_core.specs.Change.{AtUnder, PlacedUnder, PointsUnder, StandsUnder}
 use Rattle.bforest_core.specs.Climb.{top_of}
@@ -13,23 +13,23 @@ module _ {K V : Type 0} where
   abbrev pub list_under : Table K V → ℕ → List (K × V)
   list_under table root = flat (tree_of table.nodes root).leaves
 
-  -- the sizes of its nodes, level by level, the leaves first
+  -- the sizes of the nodes of the tree under a root, level by level, the leaves first
   abbrev pub sizes_under : Table K V → ℕ → List (List ℕ)
   sizes_under table root = sizes_of (tree_of table.nodes root)
 
-  -- the leaf of a path
+  -- the number of a path's leaf
   abbrev pub leaf_of : {n : ℕ} → Path K V n → ℕ
   leaf_of path = get_or path.node 0 0
 
-  -- the index in its leaf
+  -- the index of a path in its leaf
   abbrev pub index_of : {n : ℕ} → Path K V n → ℕ
   index_of path = get_or path.entry 0 0
 
-  -- the root of its tree
+  -- the root of a path's tree
   abbrev pub path_root : {n : ℕ} → Path K V n → ℕ
   path_root path = top_of path.node path.size
 
-  -- its nodes, the leaf first
+  -- the nodes of a path, the leaf first
   abbrev pub nodes_of : {n : ℕ} → Path K V n → List ℕ
   nodes_of path = path.node
 
@@ -41,16 +41,17 @@ module _ {K V : Type 0} where
   abbrev pub StandsOn : {n : ℕ} → Table K V → ℕ → Path K V n → ℕ → Type 0
   StandsOn table root path place = StandsUnder table.nodes root path.node path.entry path.size place
 
-  -- it stands on that entry, or at the end, whose place is the list's length
+  -- the path stands on the entry at this place of the list under a root, or at the end, whose place is the
+  -- list's length
   abbrev pub StandsAt : {n : ℕ} → Table K V → ℕ → Path K V n → ℕ → Type 0
   StandsAt table root path place = AtUnder table.nodes root path.node path.entry path.size place
 
-  -- it is in a leaf under the root, where an entry may come in at this place: behind an entry of the leaf, or in front
-  -- of the first leaf
+  -- the path is in a leaf under the root, where an entry may be inserted at this place: after an entry of the
+  -- leaf, or before the first leaf
   abbrev pub IsPlaced : {n : ℕ} → Table K V → ℕ → Path K V n → ℕ → Type 0
   IsPlaced table root path place = PlacedUnder table.nodes root path.node path.entry path.size place
 
-  -- it is on the entry at this place, or behind the last entry of a leaf, which is in front of this place
+  -- the path is on the entry at this place, or past the last entry of the leaf before this place
   abbrev pub PointsTo : {n : ℕ} → Table K V → ℕ → Path K V n → ℕ → Type 0
   PointsTo table root path place = PointsUnder table.nodes root path.node path.entry path.size place
 
@@ -60,18 +61,18 @@ module _ {K V : Type 0} where
     pub place : ℕ
     pub on : StandsOn table root path place
 
-  -- the root and the place where a path stands, the end too
+  -- the root and the place where a path stands, which may be the end
   pub record Standing {n : ℕ} (table : Table K V) (path : Path K V n) : Type 0 where
     pub root : ℕ
     pub place : ℕ
     pub at : StandsAt table root path place
 
-  -- the place where a path stands under this root, the end too
+  -- the place where a path stands under this root, which may be the end
   pub record StandingUnder {n : ℕ} (table : Table K V) (root : ℕ) (path : Path K V n) : Type 0 where
     pub place : ℕ
     pub at : StandsAt table root path place
 
-  -- the root and the place where an entry may come in at a path
+  -- the root and the place where an entry may be inserted at a path
   pub record Placing {n : ℕ} (table : Table K V) (path : Path K V n) : Type 0 where
     pub root : ℕ
     pub place : ℕ
@@ -83,20 +84,21 @@ module _ {K V : Type 0} where
     pub place : ℕ
     pub to : PointsTo table root path place
 
-  -- the path stands in a leaf of these entries, on the one at its index. In the list under a root they stand from this place on
+  -- the path stands at its index in a leaf of these entries, which start at this place of the list under a
+  -- root
   pub record OnLeaf {n : ℕ} (table : Table K V) (root : ℕ) (path : Path K V n) (place : ℕ) (entries : List (K × V)) : Type 0 where
     pub on : StandsOn table root path (place + index_of path)
     pub within : index_of path < length entries
     pub leaf : slice_get table.nodes (leaf_of path) ≡ Some (leaf_content entries)
     pub list : drop place (list_under table root) ≡ entries ++ drop (place + length entries) (list_under table root)
 
-  -- the place in a row of the entry at an index of the node of this number
+  -- the place in a row of the entry at this index of the node with this number
   abbrev pub place_in : List (LevelNode K V) → ℕ → ℕ → ℕ
   place_in [] number index = 0
   place_in (node first entries ∷ rest) number index =
       if nat_eq first number then index else length entries + place_in rest number index
 
-  -- the place under a root where a path stands, from the path's leaf and its index there
+  -- the place where a path stands under a root, computed from the path's leaf and its index there
   abbrev pub spot : {n : ℕ} → Table K V → ℕ → Path K V n → ℕ
   spot table root path =
       if path.size == 0 then length (list_under table root) else place_in (tree_of table.nodes root).leaves (leaf_of path) (index_of path)

@@ -8,7 +8,7 @@ use Rattle.bforest_core.specs.Levels.{LevelNode, node, flat, heads, numbers, Tre
 abbrev pub entry_keys : {K X : Type 0} → List (K × X) → List K
 entry_keys entries = map (λ entry. entry.0) entries
 
--- their values, or children
+-- the values or children of some entries
 abbrev pub entry_items : {K X : Type 0} → List (K × X) → List X
 entry_items entries = map (λ entry. entry.1) entries
 
@@ -16,7 +16,8 @@ entry_items entries = map (λ entry. entry.1) entries
 abbrev pub leaf_content : {K V : Type 0} → List (K × V) → Content K V
 leaf_content entries = Leaf (entry_keys entries) (entry_items entries)
 
--- what an inner node's slot holds: all but the first key, so each stored key is the first below the child to its right
+-- what an inner node's slot holds: all keys but the first, so each stored key is the first below the child to
+-- its right
 abbrev pub inner_content : {K V : Type 0} → List (K × ℕ) → Content K V
 inner_content entries = Inner (drop 1 (entry_keys entries)) (entry_items entries)
 
@@ -26,22 +27,22 @@ RowIn content slots [] = Unit {0}
 RowIn content slots (node number entries ∷ row) =
     (slice_get slots number ≡ Some (content entries)) × RowIn content slots row
 
--- so does that of each node of these inner rows
+-- the slot of each node of these inner rows holds its entries
 abbrev pub RowsIn : {K V : Type 0} → List (Content K V) → List (List (LevelNode K ℕ)) → Type 0
 RowsIn slots [] = Unit {0}
 RowsIn slots (row ∷ rows) = RowIn inner_content slots row × RowsIn slots rows
 
--- the tree lies in these slots
+-- the tree is in these slots
 pub record IsIn {K V : Type 0} (slots : List (Content K V)) (tree : Tree K V) : Type 0 where
   pub leaves_in : RowIn leaf_content slots tree.leaves
   pub rows_in : RowsIn slots tree.above
 
--- how often a number stands in a list
+-- how often a number occurs in a list
 abbrev pub count : ℕ → List ℕ → ℕ
 count number [] = 0
 count number (first ∷ rest) = (if nat_eq first number then 1 else 0) + count number rest
 
--- no number stands in the list twice
+-- no number occurs in the list twice
 abbrev pub Distinct : List ℕ → Type 0
 Distinct list = (number : ℕ) → count number list ≤ 1
 
@@ -72,20 +73,20 @@ pub record IsAt {K X : Type 0} (row : List (LevelNode K X)) (number index place 
   pub within : index < length entries
   pub place_is : place ≡ length (flat before) + index
 
--- where it stands on the rows from a level on: each node is the entry above it, and the lowest entry is at the place.
--- The path is the numbers of its nodes and its index in each, the leaf's first
+-- where a path stands on the rows from a level up: each node is the entry above it, and the lowest entry is
+-- at the place. The path is the numbers of its nodes and its index in each, the leaf's first
 abbrev pub StandsAbove : {K : Type 0} → List ℕ → List ℕ → ℕ → List (List (LevelNode K ℕ)) → ℕ → Type 0
 StandsAbove path indices level [] place = place ≡ 0
 StandsAbove path indices level (row ∷ rows) place =
     (at : IsAt row (get_or path level 0) (get_or indices level 0) place) × StandsAbove path indices (suc level) rows (length at.before)
 
--- the path stands in the tree, at this entry
+-- the path stands at this entry of the tree
 pub record Stands {K V : Type 0} (path indices : List ℕ) (size : ℕ) (tree : Tree K V) (place : ℕ) : Type 0 where
   pub leaf : IsAt tree.leaves (get_or path 0 0) (get_or indices 0 0) place
   pub above : StandsAbove path indices 1 tree.above (length leaf.before)
   pub size_is : size ≡ suc (length tree.above)
 
--- the path stands in the tree at an entry of a leaf, or behind a leaf's last entry
+-- the path stands at an entry of a leaf of the tree, or past a leaf's last entry
 pub record PointsAt {K V : Type 0} (path indices : List ℕ) (size : ℕ) (tree : Tree K V) (place : ℕ) : Type 0 where
   pub before : List (LevelNode K V)
   pub entries : List (K × V)
@@ -96,22 +97,22 @@ pub record PointsAt {K V : Type 0} (path indices : List ℕ) (size : ℕ) (tree 
   pub above : StandsAbove path indices 1 tree.above (length before)
   pub size_is : size ≡ suc (length tree.above)
 
--- there an entry may come in: behind an entry of the leaf, or in front of the first leaf
+-- the path stands where an entry may be inserted: after an entry of the leaf, or before the first leaf
 pub record PlacedAt {K V : Type 0} (path indices : List ℕ) (size : ℕ) (tree : Tree K V) (place : ℕ) : Type 0 where
   pub points : PointsAt path indices size tree place
   pub first : get_or indices 0 0 ≡ 0 → points.before ≡ []
 
--- or at the end, with no node
+-- the path is at the end, with no node
 abbrev pub is_at_end : ℕ → Type 0
 is_at_end size = size ≡ 0
 
 module _ {K V : Type 0} where
-  -- the path stands in the tree at this entry, or with no node at the end, whose place is behind all entries
+  -- the path stands at this entry of the tree, or at the end with no node, whose place is after all entries
   abbrev pub IsPathAt : List ℕ → List ℕ → ℕ → Tree K V → ℕ → Type 0
   IsPathAt path indices zero tree place = place ≡ length (flat tree.leaves)
   IsPathAt path indices (suc size) tree place = Stands path indices (suc size) tree place
 
--- the entry in front of a place
+-- the entry before a place, if any
 abbrev pub entry_before : {X : Type 0} → List X → ℕ → Option X
 entry_before list zero = None
 entry_before list (suc place) = slice_get list place

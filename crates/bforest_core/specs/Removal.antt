@@ -1,4 +1,4 @@
--- What the calls of a path say of the rows above a level, and of a whole tree, when an entry goes.
+-- What the calls of a path state of the rows above a level, and of a whole tree, when an entry is removed.
 use Rattle.std.specs.Prelude.{Some, remove, ◌≡◌, ◌≢◌, ℕ, suc, ◌+◌, ◌-◌, ◌≤◌, ◌<◌, true, false, List, [], ◌∷◌, ◌++◌, map, length, get_or, slice_get}
 use Rattle.std.specs.List.{flat_map}
 use Rattle.bforest_nodes.specs.Content.{Content, IsFree}
@@ -10,11 +10,11 @@ use Rattle.bforest_core.specs.Descent.{SameAbove}
 use Rattle.bforest_core.specs.Climb.{Above, SameBelow, nodes_up, top_of}
 use Rattle.bforest_core.specs.Trees.{slot, Every}
 
--- the numbers of some leaves, and of the inner nodes over them
+-- the numbers of some leaves and of the inner nodes over them
 abbrev pub numbers_under : {K V : Type 0} → List (LevelNode K V) → List (List (LevelNode K ℕ)) → List ℕ
 numbers_under leaves lower = numbers leaves ++ flat_map numbers lower
 
--- freed numbers, the last first: nodes of a path from the leaf up, and in front of them so many roots
+-- freed numbers, the last first: nodes of a path from the leaf up, and in front of them this many roots
 pub record InOrder (path : List ℕ) (levels : ℕ) (freed : List ℕ) : Type 0 where
   pub roots : List ℕ
   pub up : ℕ
@@ -22,7 +22,7 @@ pub record InOrder (path : List ℕ) (levels : ℕ) (freed : List ℕ) : Type 0 
   pub roots_are : length roots ≡ levels
 
 module _ {K V : Type 0} where
-  -- but for the slots of these numbers nothing has changed; the freed ones lie free, in front of the chain
+  -- only slots of the numbers `own` change; the freed ones are free and in front of the chain
   pub record Frees (old new : Table K V) (own freed : List ℕ) : Type 0 where
     pub others : (number : ℕ) → count number own ≡ 0 → slice_get new.nodes number ≡ slice_get old.nodes number
     pub freed_are : Every (λ (number : ℕ). IsFree (slot new.nodes number)) freed
@@ -30,13 +30,13 @@ module _ {K V : Type 0} where
     pub slots_are : length new.nodes ≡ length old.nodes
     pub limit_is : new.limit ≡ old.limit
 
-  -- all these nodes lie free now, in front of the chain in the given order, and nothing else has changed
+  -- all nodes of `own` are free, in front of the chain in the given order, and nothing else changes
   pub record GivesAll (old new : Table K V) (own given : List ℕ) : Type 0 where
     pub frees : Frees old new own given
     pub counted : (number : ℕ) → count number given ≡ count number own
 
-  -- the rows from a level on after a change of the level, whose nodes are the list now and whose path goes to the
-  -- place: the rows have these sizes, and of their numbers those freed have gone
+  -- the rows from a level up after a change of the level: `list` is its nodes, the path leads to the place,
+  -- the rows have these sizes, and they have lost the freed numbers
   pub record Rebuilt (old new : Table K V) (path indices path' indices' : List ℕ) (level size : ℕ) (rows : List (List (LevelNode K ℕ))) (list : List (K × ℕ)) (place : ℕ) (sizes_after : List (List ℕ)) (freed : List ℕ) : Type 0 where
     pub rows' : List (List (LevelNode K ℕ))
     pub above : Above new path' indices' level size rows' list place
@@ -47,8 +47,8 @@ module _ {K V : Type 0} where
     pub entries_below : SameBelow level indices indices'
     pub same_top : top_of path' size ≡ top_of path size
 
-  -- a level with a node that lost an entry and may be under half full: the path goes through it, to an entry of it or,
-  -- behind its last one, to the first of the next node
+  -- a level with a node that lost an entry and may be less than half full: the path goes through it, to one
+  -- of its entries or, past the last, to the first of the next node
   pub record OnLevel {X : Type 0} (content : List (K × X) → Content K V) (half most : ℕ) (table : Table K V) (path indices : List ℕ) (level size : ℕ)
       (before : List (LevelNode K X)) (number : ℕ) (entries : List (K × X)) (after : List (LevelNode K X)) (rest : List (List (LevelNode K ℕ))) : Type 0 where
     pub inside : RowIn content table.nodes (before ++ node number entries ∷ after)
@@ -63,8 +63,8 @@ module _ {K V : Type 0} where
     pub entry_within : get_or indices level 0 < length (entries ++ flat after)
     pub apart : Distinct ((numbers (before ++ node number entries ∷ after) ++ flat_map numbers rest) ++ table.chain)
 
-  -- the rows from a level on after an entry of the level's row was taken out: they stand over this list, but for the
-  -- row's node that lost the entry
+  -- the rows from a level up after an entry of the level's row was removed: they stand over `list`, except
+  -- for the node that lost the entry
   pub record Loosened (old new : Table K V) (path indices : List ℕ) (level size : ℕ) (rows : List (List (LevelNode K ℕ))) (list : List (K × ℕ)) (place : ℕ) : Type 0 where
     pub before : List (LevelNode K ℕ)
     pub entries : List (K × ℕ)
@@ -77,7 +77,7 @@ module _ {K V : Type 0} where
     pub numbers_are : (number : ℕ) → count number (numbers (before ++ node (get_or path level 0) entries ∷ after) ++ flat_map numbers rest) ≡ count number (flat_map numbers rows)
     pub frees : Frees old new (flat_map numbers rows) []
 
-  -- the level healed: its row and those above it fit, and the path goes where it went
+  -- the level is rebalanced: its row and those above it fit, and the path leads to the same entry
   pub record Healed {X : Type 0} (content : List (K × X) → Content K V) (half most : ℕ) (old new : Table K V) (path indices path' indices' : List ℕ) (level size : ℕ)
       (before : List (LevelNode K X)) (number : ℕ) (entries : List (K × X)) (after : List (LevelNode K X)) (rest : List (List (LevelNode K ℕ))) : Type 0 where
     pub before' : List (LevelNode K X)
@@ -102,7 +102,7 @@ module _ {K V : Type 0} where
     pub entries_below : SameBelow level indices indices'
     pub same_top : top_of path' size ≡ top_of path size
 
-  -- the node went into its right neighbour, where the path goes now; the level above names both still
+  -- the node is merged into its right neighbour, to which the path leads; the level above still names both
   pub record Joined {X : Type 0} (content : List (K × X) → Content K V) (half most : ℕ) (old new : Table K V) (path indices path' indices' : List ℕ) (level size : ℕ)
       (before : List (LevelNode K X)) (number : ℕ) (entries : List (K × X)) (after : List (LevelNode K X)) (rest : List (List (LevelNode K ℕ))) : Type 0 where
     pub first : K × X
@@ -125,8 +125,8 @@ module _ {K V : Type 0} where
     pub entries_below : SameBelow level indices indices'
     pub same_top : top_of path' size ≡ top_of path size
 
-  -- the rows from a level on after the level's right-most node went: the path is at the end, and through the rows
-  -- there is none
+  -- the rows from a level up after the level lost its rightmost node: the path is at the end and has no node
+  -- in the rows
   pub record Dropped (old new : Table K V) (path : List ℕ) (size : ℕ) (rows : List (List (LevelNode K ℕ))) (list : List (K × ℕ)) (sizes_after : List (List ℕ)) (freed : List ℕ) : Type 0 where
     pub rows' : List (List (LevelNode K ℕ))
     pub stacked : Stacked list rows'
@@ -137,7 +137,8 @@ module _ {K V : Type 0} where
     pub root_is : root_above list rows' ≡ top_of path size
     pub frees : Frees old new (flat_map numbers rows) freed
 
-  -- the rows over a level, up to this root, where the path has so many levels: they lie in the table, apart from its chain
+  -- the rows over a level up to this root, with this many levels on the path: they are in the table, off its
+  -- chain
   pub record UpTo (table : Table K V) (size : ℕ) (rows : List (List (LevelNode K ℕ))) (list : List (K × ℕ)) (root : ℕ) : Type 0 where
     pub stacked : Stacked list rows
     pub inside : RowsIn table.nodes rows
@@ -145,7 +146,8 @@ module _ {K V : Type 0} where
     pub root_is : root_above list rows ≡ root
     pub apart : Distinct (flat_map numbers rows ++ table.chain)
 
-  -- the rows after roots with a single child went: those up to the first of a single node
+  -- the rows after roots with a single child were discarded: the lowest ones, up to the first of a single
+  -- node
   pub record Trimmed (old new : Table K V) (size size' : ℕ) (rows : List (List (LevelNode K ℕ))) (list : List (K × ℕ)) (root root' : ℕ) (freed : List ℕ) : Type 0 where
     pub rows' : List (List (LevelNode K ℕ))
     pub discarded : List (List (LevelNode K ℕ))
@@ -160,8 +162,7 @@ module _ {K V : Type 0} where
     pub old_root : size' ≢ size → 0 < count root freed
     pub frees : Frees old new (flat_map numbers discarded) freed
 
-  -- the path stands at an entry of a fit tree, whose leaves have at most so many, and which lies in the table, apart from
-  -- its chain
+  -- the path stands at an entry of a fit tree, which is in the table, off its chain
   pub record StandsIn (most : ℕ) (table : Table K V) (path indices : List ℕ) (size : ℕ) (tree : Tree K V) (place : ℕ) : Type 0 where
     pub fit : IsFit most tree
     pub inside : IsIn table.nodes tree
@@ -169,8 +170,8 @@ module _ {K V : Type 0} where
     pub low : length tree.above ≤ top_level
     pub stands : Stands path indices size tree place
 
-  -- the entry at the place went out of the path's leaf, which has others: the path is where it was, at the next entry or
-  -- behind the leaf's last
+  -- the entry at the place is removed from the path's leaf, which has others: the path keeps its index, at
+  -- the next entry or past the leaf's last
   pub record LeafLoss (most : ℕ) (old new : Table K V) (path indices : List ℕ) (size : ℕ) (tree : Tree K V) (place : ℕ) : Type 0 where
     pub before : List (LevelNode K V)
     pub entries : List (K × V)
@@ -193,8 +194,9 @@ module _ {K V : Type 0} where
     pub numbers_are : (number : ℕ) → count number (numbers (before ++ node (get_or path 0 0) entries ∷ after) ++ flat_map numbers rest) ≡ count number (numbers_of tree)
     pub frees : Frees old new (numbers_of tree) []
 
-  -- the entry at the place went out of the tree, which is under this root now and not empty, and of which this holds now:
-  -- the nodes have the sizes of `shrink`, and those freed lie in front of the chain, those of the path from the leaf up
+  -- the entry at the place is removed from the tree, which is not empty, has the root `root'` and satisfies
+  -- `Now`: the sizes are those of `shrink`, and the freed nodes are in front of the chain, those of the path
+  -- from the leaf up
   pub record Removed (most : ℕ) (old new : Table K V) (path : List ℕ) (Now : Tree K V → Type 0) (tree : Tree K V) (place root' : ℕ) : Type 0 where
     pub tree' : Tree K V
     pub freed : List ℕ
@@ -212,7 +214,7 @@ module _ {K V : Type 0} where
     pub order : InOrder path (length tree.above - length tree'.above) freed
     pub frees : Frees old new (numbers_of tree) freed
 
-  -- the only entry of the tree went, and its node
+  -- the only entry of the tree is removed, with its node
   pub record Emptied (most : ℕ) (old new : Table K V) (tree : Tree K V) (place : ℕ) : Type 0 where
     pub single : length (flat tree.leaves) ≡ 1
     pub none_left : shrink most place (sizes_of tree) ≡ []

@@ -1,31 +1,31 @@
--- The sizes of a tree's nodes, level by level, the leaves first: what an insertion and a removal at a place make of them, and how many
--- nodes an insertion needs. Functions of sizes and a place alone.
+-- The sizes of a tree's nodes, level by level, the leaves first: how an insertion and a removal at a place
+-- change them, and how many nodes an insertion needs. Functions of sizes and a place alone.
 use Rattle.bforest_core.specs.Levels.{half_of}
 use Rattle.std.specs.List.{sum_by}
 use Rattle.std.specs.Prelude.{◌≡◌, ◌≤◌, ℕ, zero, suc, ◌+◌, ◌*◌, ◌-◌, ◌/◌, nat_lt, nat_le, Bool, true, false, if◌then◌else◌, Option, None, Some, option_map, List, [], ◌∷◌, length}
 
--- a change of one level is the entry of the level above that it concerns, if any, and the sizes after it: this one
--- lies behind a node of the size
+-- prepends a node of this size to a change of one level, which is the index of the split or removed entry of
+-- the level above, if any, and the new sizes
 abbrev pub past : ℕ → Option ℕ × List ℕ → Option ℕ × List ℕ
 past size change = (option_map (λ index. suc index) change.0, size ∷ change.1)
 
--- an insertion at a place of the leaves, which lies in the left-most leaf such that it and those before it hold at
--- least as many: a full leaf becomes two
+-- an insertion at a place of the leaves, in the leftmost leaf that ends at or after the place: a full leaf is
+-- split in two
 abbrev pub leaf_gain : ℕ → ℕ → List ℕ → Option ℕ × List ℕ
 leaf_gain most place [] = (None, [])
 leaf_gain most place (size ∷ after) =
     if nat_le place size then (if nat_lt size most then (None, suc size ∷ after) else (Some 0, (most + 1) / 2 ∷ (most + 1) / 2 ∷ after))
     else past size (leaf_gain most (place - size) after)
 
--- a new child behind the child at a place: a full node becomes two, of 5 and 4 children where the place is among its
--- first 4, else of 4 and 5
+-- a new child after the child at a place: a full node is split in two, of 5 and 4 children where the place is
+-- among its first 4, else of 4 and 5
 abbrev pub inner_gain : ℕ → List ℕ → Option ℕ × List ℕ
 inner_gain place [] = (None, [])
 inner_gain place (size ∷ after) =
     if nat_lt place size then (if nat_lt size 8 then (None, suc size ∷ after) else (Some 0, (if nat_lt place 4 then 5 ∷ 4 ∷ after else 4 ∷ 5 ∷ after)))
     else past size (inner_gain (place - size) after)
 
--- the levels above one of which this node, if any, became two
+-- the levels above one in which this node, if any, was split
 abbrev pub gain_above : Option ℕ → List (List ℕ) → List (List ℕ)
 gain_above None levels = levels
 gain_above (Some place) [] = (2 ∷ []) ∷ []
@@ -37,8 +37,9 @@ abbrev pub growth : ℕ → ℕ → List (List ℕ) → List (List ℕ)
 growth n place [] = (1 ∷ []) ∷ []
 growth n place (leaves ∷ levels) = (leaf_gain n place leaves).1 ∷ gain_above (leaf_gain n place leaves).0 levels
 
--- a node that lost an entry, before these: whether it goes, and the sizes from it on. An empty one goes; one under
--- half full goes into the next if all fits there, else the two share
+-- a node that lost an entry, before these nodes: whether it is removed, and the sizes from it on. An empty
+-- one is removed; one less than half full is merged into the next if everything fits there, else the two
+-- share
 abbrev pub rebalanced : ℕ → ℕ → List ℕ → Bool × List ℕ
 rebalanced most zero after = (true, after)
 rebalanced most (suc left) [] = (false, suc left ∷ [])
@@ -46,23 +47,23 @@ rebalanced most (suc left) (next ∷ after) =
     if nat_lt (2 * suc left) most then (if nat_le (suc left + next) most then (true, (suc left + next) ∷ after) else (false, ((suc left + next) - (suc left + next) / 2) ∷ (suc left + next) / 2 ∷ after))
     else (false, suc left ∷ next ∷ after)
 
--- as a change of the level, whose first node this one is
+-- a rebalancing of a level's first node as a change of the level
 abbrev pub at_front : Bool × List ℕ → Option ℕ × List ℕ
 at_front outcome = ((if outcome.0 then Some 0 else None), outcome.1)
 
--- the entry at a place goes, and with it the node, perhaps
+-- a level after the removal of the entry at a place, and of its node where rebalancing removes that
 abbrev pub loss : ℕ → ℕ → List ℕ → Option ℕ × List ℕ
 loss most place [] = (None, [])
 loss most place (size ∷ after) =
     if nat_lt place size then at_front (rebalanced most (size - 1) after) else past size (loss most (place - size) after)
 
--- the levels above one of which this node, if any, went
+-- the levels above one from which this node, if any, was removed
 abbrev pub loss_above : Option ℕ → List (List ℕ) → List (List ℕ)
 loss_above None levels = levels
 loss_above (Some place) [] = []
 loss_above (Some place) (level ∷ levels) = (loss 8 place level).1 ∷ loss_above (loss 8 place level).0 levels
 
--- the levels up to the first of one node, since a root with a single child goes; none where all leaves went
+-- the levels up to the first of one node, since a root with a single child is discarded; none without leaves
 abbrev pub trimmed : List (List ℕ) → List (List ℕ)
 trimmed [] = []
 trimmed ([] ∷ levels) = []
@@ -74,8 +75,8 @@ abbrev pub shrink : ℕ → ℕ → List (List ℕ) → List (List ℕ)
 shrink n place [] = []
 shrink n place (leaves ∷ levels) = trimmed ((loss n place leaves).1 ∷ loss_above (loss n place leaves).0 levels)
 
--- how many nodes it takes that this node, if any, becomes two: one for it, one for each above that does too, and one
--- for a new root
+-- how many nodes the split of this node, if any, takes: one for it, one for each node above that is split
+-- too, and one for a new root
 abbrev pub need_above : Option ℕ → List (List ℕ) → ℕ
 need_above None levels = 0
 need_above (Some place) [] = 2
@@ -86,23 +87,24 @@ abbrev pub need : ℕ → ℕ → List (List ℕ) → ℕ
 need n place [] = 1
 need n place (leaves ∷ levels) = need_above (leaf_gain n place leaves).0 levels
 
--- the least size of a node that these follow: only the right-most may be under half full
+-- the least size of a node before these: only the rightmost may be less than half full
 abbrev pub least_size : ℕ → List ℕ → ℕ
 least_size half [] = 1
 least_size half (next ∷ rest) = half
 
--- no node of the level has more than it can, and each but the last is at least half full
+-- no node of the level exceeds its capacity, and each but the last is at least half full
 abbrev pub IsFitLevel : ℕ → ℕ → List ℕ → Type 0
 IsFitLevel half most [] = Unit {0}
 IsFitLevel half most (size ∷ rest) = (least_size half rest ≤ size) × (size ≤ most) × IsFitLevel half most rest
 
--- the levels above one of so many nodes: these are the children of the next level, and so on up to one root
+-- the levels above one of `count` nodes, which are the children of the next level, and so on up to one root
 abbrev pub IsFitAbove : ℕ → List (List ℕ) → Type 0
 IsFitAbove count [] = count ≡ 1
 IsFitAbove count (level ∷ levels) =
     (2 ≤ count) × (sum_by (λ size. size) level ≡ count) × IsFitLevel 4 8 level × IsFitAbove (length level) levels
 
--- the levels of a tree of so many entries, whose leaves have at most `most`; with no entry there is no level
+-- the levels of a tree with this number of entries, whose leaves have at most `most`; without an entry there
+-- is no level
 abbrev pub IsFitFor : ℕ → ℕ → List (List ℕ) → Type 0
 IsFitFor most entries [] = entries ≡ 0
 IsFitFor most entries (leaves ∷ levels) =

@@ -1,11 +1,11 @@
--- What a contract sees of a `NodePool`: numbered nodes, the chain of the free ones, and a limit.
+-- What a contract states of a `NodePool`: numbered nodes, the chain of the free ones, and a limit.
 use Rattle.std.specs.Prelude.{◌≡◌, ℕ, ◌+◌, ◌-◌, ◌*◌, ◌<◌, ◌≤◌, true, false, List, [], ◌∷◌, ◌++◌, length, slice_set, nat_eq, Option, Some, None, IfSome, slice_get, slice_index_or, option_and_then, zero, suc}
 use Rattle.std.specs.List.{list_any, IsDistinct}
 use Rattle.bforest_nodes.specs.Content.{Content, Free, IsLeaf, vals_of, with_value, IsFree, IsCut, entry_count, entry_capacity, left_half, IsSameKind, Balances}
 use Rattle.bforest_nodes.specs.declared.node.SplitOff.{SplitOff}
 
--- the content of each slot, the numbers of the free slots from the front of the chain on, and how
--- many slots there may be
+-- the content of each slot, the numbers of the free slots from the front of the chain on, and the most slots
+-- allowed
 pub record Table (K V : Type 0) : Type 0 where
   pub nodes : List (Content K V)
   pub chain : List ℕ
@@ -16,12 +16,12 @@ abbrev pub front_of : List ℕ → Option ℕ
 front_of [] = None
 front_of (node ∷ rest) = Some node
 
--- the numbers of so many slots from the first on, the greatest in front
+-- the numbers of `count` slots from the first on, the greatest in front
 abbrev pub down_from : ℕ → ℕ → List ℕ
 down_from first zero = []
 down_from first (suc count) = (first + count) ∷ down_from first count
 
--- the front of the chain after so many slots from the first on were added
+-- the front of the chain after `count` slots from the first on were added
 abbrev pub front_of_new : ℕ → ℕ → Option ℕ → Option ℕ
 front_of_new first zero next = next
 front_of_new first (suc count) next = Some (first + count)
@@ -33,11 +33,11 @@ module _ {K V : Type 0} where
   abbrev pub free_count : Table K V → ℕ
   free_count table = length table.chain
 
-  -- how many nodes can be had without a look at memory
+  -- how many nodes can be taken if no memory is refused
   abbrev pub room : Table K V → ℕ
   room table = free_count table + (table.limit - slot_count table)
 
-  -- fewer nodes than these lie free, and the limit allows so many
+  -- fewer than `n` nodes are free, and the limit allows `n`
   pub record NeedsGrowth (n : ℕ) (table : Table K V) : Type 0 where
     pub scarce : free_count table < n
     pub allowed : n ≤ room table
@@ -59,50 +59,51 @@ module _ {K V : Type 0} where
     pub slots_within : slot_count table ≤ table.limit
     pub limit_within : table.limit ≤ 4294967295
 
-  -- the table after the slot was written
+  -- the table with this content written to the slot
   abbrev pub with_node : Table K V → ℕ → Content K V → Table K V
   with_node table node content = record table { nodes = slice_set table.nodes node content }
 
-  -- so many new nodes from this number on, of which each names the one before, and the first `next`
+  -- `count` free nodes from this number on, of which each names the one before, and the first names `next`
   abbrev pub fresh_nodes : ℕ → ℕ → Option ℕ → List (Content K V)
   fresh_nodes first zero next = []
   fresh_nodes first (suc count) next =
       fresh_nodes first count next ++ Free (front_of_new first count next) ∷ []
 
-  -- the table with so many new slots, all in front of the chain
+  -- the table with `count` new slots, all in front of the chain
   abbrev pub with_slots : Table K V → ℕ → Table K V
   with_slots table count = record table {
     nodes = table.nodes ++ fresh_nodes (slot_count table) count (front_of table.chain);
     chain = down_from (slot_count table) count ++ table.chain;
   }
 
-  -- the table in which at least n nodes lie free, with new slots where fewer did
+  -- the table in which at least n nodes are free, with slots added where fewer were
   abbrev pub reserved : Table K V → ℕ → Table K V
   reserved table n = with_slots table (n - free_count table)
 
-  -- the front of the chain has left the chain
+  -- the table without the front of its chain
   abbrev pub without_front : Table K V → List ℕ → Table K V
   without_front table [] = table
   without_front table (node ∷ rest) = record table { chain = rest }
 
-  -- the front of the chain has this content now, and has left the chain
+  -- the table with this content in the front of the chain, which leaves the chain
   abbrev pub with_front : Table K V → List ℕ → Content K V → Table K V
   with_front table [] content = table
   with_front table (node ∷ rest) content =
       record table { nodes = slice_set table.nodes node content; chain = rest }
 
-  -- the node is free now, and in front of the chain
+  -- the table with this node freed and in front of the chain
   abbrev pub with_freed : Table K V → ℕ → Table K V
   with_freed table node = record table {
     nodes = slice_set table.nodes node (Free (front_of table.chain));
     chain = node ∷ table.chain;
   }
 
-  -- the slot holds a node that is not free and has no room
+  -- the slot holds a node that is not free and is full
   abbrev pub IsFullAt : ℕ → List (Content K V) → ℕ → Type 0
   IsFullAt n nodes node = IfSome (slice_get nodes node) (λ content. (¬ IsFree content) × (entry_count content ≡ entry_capacity n content))
 
-  -- the full node was halved into these parts, and its right half is what was the front of the chain
+  -- the full node is split into these parts, and its right half is in the node that was the front of the
+  -- chain
   pub record IsSplitAt (n : ℕ) (old : Table K V) (left index : ℕ) (parts : SplitOff K) (new : Table K V) : Type 0 where
     pub whole : Content K V
     pub was : slice_get old.nodes left ≡ Some whole
@@ -113,7 +114,7 @@ module _ {K V : Type 0} where
     pub cut : IsCut whole parts.lhs_entries left_half_is parts.crit_key right_half_is
     pub after : new ≡ with_node (with_front old old.chain right_half_is) left left_half_is
 
-  -- the two slots hold nodes of one kind that are not empty, the first of which underflowed
+  -- the two slots hold nonempty nodes of one kind, the first of which underflowed
   pub record IsUnderflowedAt (n : ℕ) (nodes : List (Content K V)) (left right : ℕ) : Type 0 where
     pub under : Content K V
     pub neighbour : Content K V
@@ -124,7 +125,7 @@ module _ {K V : Type 0} where
     pub neighbour_filled : 0 < entry_count neighbour
     pub underflowed : 2 * entry_count under < entry_capacity n under
 
-  -- the two neighbours were balanced
+  -- the two neighbours are balanced
   pub record IsBalancedAt (n : ℕ) (old : Table K V) (left : ℕ) (key : K) (right : ℕ) (new_key : Option K) (new : Table K V) : Type 0 where
     pub under : Content K V
     pub neighbour : Content K V
@@ -142,7 +143,7 @@ module _ {K V : Type 0} where
     pub leaf : IsLeaf content
     pub within : index < entry_count content
 
-  -- the value of the entry, if there is one
+  -- the value of the entry, if present
   abbrev pub value_at : List (Content K V) → ℕ → ℕ → Option V
   value_at nodes node index = option_and_then (λ content. slice_get (vals_of content) index) (slice_get nodes node)
 

@@ -7,7 +7,7 @@ use Rattle.bforest_core.specs.Levels.{LevelNode, node, flat, heads, Tree, IsFit,
 use Rattle.bforest_core.specs.Place.{IsIn, numbers_of, count}
 
 module _ {K V : Type 0} where
-  -- what a slot holds; a number past the last slot is as good as free
+  -- what a slot holds; a number past the last slot counts as free
   abbrev pub slot : List (Content K V) → ℕ → Content K V
   slot slots number = slice_index_or slots number (Free None)
 
@@ -17,20 +17,21 @@ module _ {K V : Type 0} where
   entries_of (Leaf keys vals) = zip keys vals
   entries_of (Free next) = []
 
-  -- whether it is a node
+  -- whether the content is a node
   abbrev pub is_used : Content K V → Bool
   is_used (Inner keys children) = true
   is_used (Leaf keys vals) = true
   is_used (Free next) = false
 
-  -- the numbers of so many levels from these nodes downwards, the leaves first, in front of those of the levels above
+  -- the numbers of this many levels from these nodes downwards, the leaves first, before those of the levels
+  -- above
   abbrev pub levels_below : List (Content K V) → ℕ → List ℕ → List (List ℕ) → List (List ℕ)
   levels_below slots zero level above = level ∷ above
   levels_below slots (suc count) level above =
       elim (flat_map (λ number. children_of (slot slots number)) level) [ [] ↦ level ∷ above | first ∷ rest ↦ levels_below slots count (first ∷ rest) (level ∷ above) ]
 
-  -- the number of a node and those so many levels below it, each in front of those below it, and what is below later
-  -- children in front of what is below earlier ones
+  -- the number of a node and those of this many levels below it: each before those below it, and those below
+  -- later children before those below earlier ones
   abbrev pub numbers_down : List (Content K V) → ℕ → ℕ → List ℕ
   numbers_down slots zero number = number ∷ []
   numbers_down slots (suc levels) number =
@@ -66,15 +67,15 @@ module _ {K V : Type 0} where
   unfoldable pub is_root : List (Content K V) → ℕ → Bool
   is_root slots number = is_used (slot slots number) && nat_eq (count number (flat_map children_of slots)) 0
 
--- the property holds of each in the list
+-- the property holds of every element of the list
 abbrev pub Every : {X : Type 0} → (X → Type 0) → List X → Type 0
 Every P [] = Unit {0}
 Every P (first ∷ rest) = P first × Every P rest
 
 module _ {K V : Type 0} where
-  -- these are the trees of a table, where a leaf may have so many entries: each is fit and not empty, lies in it and has
-  -- at most 17 levels, the slots of the chain are free, and the slots are the numbers of the trees and of the chain,
-  -- each once
+  -- the trees of a table, where a leaf has at most `most` entries: each is fit, not empty, in the table and
+  -- at most 17 levels high, the slots of the chain are free, and each slot is in just one of the trees or on
+  -- the chain
   pub record IsForest (most : ℕ) (table : Table K V) (trees : List (Tree K V)) : Type 0 where
     pub capacity : IsLeafCapacity most
     pub fit : Every (IsFit most) trees

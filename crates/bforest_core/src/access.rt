@@ -10,7 +10,7 @@ ghost use Rattle.bforest_core.specs.Table.{IsUsed, with_node};
 use crate::pool::NodePool;
 use bforest_nodes::{Comparator, Node, Removed};
 
-// Puts a child and its first key into an inner node, behind the child at `index`. Whether there was room.
+// Inserts a child and its first key into an inner node, after the child at `index`. Returns whether there was room.
 pub(crate) fn put_child<K: Copy, V: Copy, const N: usize>(
     pool: &mut NodePool<K, V, N>,
     node: Node,
@@ -31,7 +31,7 @@ pub(crate) fn put_child<K: Copy, V: Copy, const N: usize>(
     pool.node_mut(node).try_inner_insert(index, key, child)
 }
 
-// The child of an inner node below which a search for `key` goes on, and its index.
+// The index of the child of an inner node in which a search for `key` continues, and the child.
 pub(crate) fn follow<K: Copy, V: Copy, const N: usize, C: Comparator<K>>(
     pool: &NodePool<K, V, N>,
     node: Node,
@@ -83,7 +83,7 @@ pub(crate) fn last_index<K: Copy, V: Copy, const N: usize>(
     pool.node(node).entries() - 1
 }
 
-// Puts an entry into a leaf at `index`. Whether there was room.
+// Inserts an entry into a leaf at `index`. Returns whether there was room.
 pub(crate) fn put_entry<K: Copy, V: Copy, const N: usize>(
     pool: &mut NodePool<K, V, N>,
     node: Node,
@@ -160,7 +160,7 @@ pub(crate) fn set_separator<K: Copy, V: Copy, const N: usize>(
     pool.node_mut(node).set_separator(index, key);
 }
 
-// Takes out a child of an inner node, and the key before it.
+// Removes a child of an inner node, and the key before it.
 pub(crate) fn remove_child<K: Copy, V: Copy, const N: usize>(
     pool: &mut NodePool<K, V, N>,
     node: Node,
@@ -178,7 +178,7 @@ pub(crate) fn remove_child<K: Copy, V: Copy, const N: usize>(
     pool.node_mut(node).inner_remove(index)
 }
 
-// Takes an entry out of a leaf.
+// Removes an entry of a leaf.
 pub(crate) fn remove_entry<K: Copy, V: Copy, const N: usize>(
     pool: &mut NodePool<K, V, N>,
     node: Node,

@@ -1,4 +1,4 @@
-//! What stands under a forest of ordered maps and sets: orders of keys, and a table of numbered nodes.
+//! The layer under a forest of ordered maps and sets: orders of keys, and a table of numbered nodes.
 //!
 //! A [`Comparator`] orders keys, which need no order of their own. A [`NodeData`] is a node of a B+-tree or a free slot, a [`NodePool`] a table
 //! of them whose free slots form a chain. Contracts see a node as two lists and a pool as the contents of its slots, its chain and its

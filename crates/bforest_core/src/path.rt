@@ -16,14 +16,14 @@ mod value;
 use bforest_nodes::Node;
 use std::marker::PhantomData;
 
-/// The most levels of a tree, which is the most of a path.
+/// The most levels of a tree, and so of a path.
 const MAX_LEVELS: usize = 17;
 
-/// The fewest children of an inner node with a right neighbour: half of the most.
+/// The fewest children of an inner node with a right neighbour: half of its capacity.
 const MIN_CHILDREN: usize = 4;
 
 /// The nodes from a leaf to the root, the leaf first, each with an index: of an entry in the leaf, and in an inner node of the child that
-/// is the node below it. At the end of a list there are none.
+/// is the node below it. At the end of a list a path has no nodes.
 #[derive(Drop)]
 pub struct Path<K, V, const N: usize> {
     size: usize,
@@ -46,7 +46,7 @@ impl<K: Copy, V: Copy, const N: usize> Path<K, V, N> {
         self.entry[0] = 0;
     }
 
-    /// The leaf and the index of the place in it, or nothing at the end.
+    /// The leaf of the path and its index there, or `None` at the end.
     pub fn leaf_pos(&self) -> Option<(Node, usize)>
         ensures end { IsAtEnd self.now → result ≡ None }
         ensures place { (¬ IsAtEnd self.now) → result ≡ Some (leaf_of self.now, index_of self.now) }

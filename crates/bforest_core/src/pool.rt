@@ -50,7 +50,7 @@ impl<K, V, const N: usize> Model for NodePool<K, V, N> {
 impl<K: Copy, V: Copy, const N: usize> NodePool<K, V, N> {
     ghost use Rattle.bforest_core.specs.Lending.{lends_node, lends_value_at};
 
-    /// A pool with no slots, which may have as many as there are numbers. Takes no memory.
+    /// Makes a pool with no slots, which may have at most 4294967295. Takes no memory.
     pub fn new(alloc: Global) -> Self
         requires { IsLeafCapacity N }
         ensures empty { result ≡ record { nodes = []; chain = []; limit = 4294967295 } }
@@ -58,7 +58,7 @@ impl<K: Copy, V: Copy, const N: usize> NodePool<K, V, N> {
         NodePool::with_limit(alloc, u32::MAX)
     }
 
-    /// A pool with no slots, which may have at most `limit`. Takes no memory.
+    /// Makes a pool with no slots, which may have at most `limit`. Takes no memory.
     pub fn with_limit(alloc: Global, limit: u32) -> Self
         requires { IsLeafCapacity N }
         ensures empty { result ≡ record { nodes = []; chain = []; limit = limit } }
@@ -121,7 +121,7 @@ impl<K: Copy, V: Copy, const N: usize> NodePool<K, V, N> {
         self.free = 0;
     }
 
-    /// Frees a used slot: it becomes the front of the chain, and the next that is handed out. Constant time.
+    /// Frees a used slot: it becomes the front of the chain, and the next to be taken. Constant time.
     pub fn free_node(&mut self, node: Node)
         requires used { IsUsed self.old node }
         ensures freed { self.new ≡ with_freed self.old node }
@@ -132,13 +132,13 @@ impl<K: Copy, V: Copy, const N: usize> NodePool<K, V, N> {
         self.free += 1;
     }
 
-    /// Makes sure that `n` nodes lie free: where fewer do, adds slots until exactly `n` do, by one growth of the table.
+    /// Makes sure that `n` nodes are free: if fewer are, adds slots until exactly `n` are, by one growth of the table.
     ///
-    /// No tree changes. Where `n` nodes lie free already, it changes nothing and takes no memory.
+    /// No tree changes. If `n` nodes are free already, it changes nothing and takes no memory.
     ///
     /// # Errors
     ///
-    /// `Full` where the limit does not allow so many slots, which is tested first, and `Memory` where the table could not grow. After
+    /// `Full` where the limit does not allow the slots needed, which is tested first, and `Memory` where the table could not grow. After
     /// either the pool is as before.
     pub fn reserve(&mut self, n: u32) -> Result<(), OutOfMemory>
         ensures ok { OnOk result (self.new ≡ reserved self.old n) }
@@ -167,11 +167,11 @@ impl<K: Copy, V: Copy, const N: usize> NodePool<K, V, N> {
         }
     }
 
-    /// Makes the front of the chain a leaf of one entry, or a new slot where no node lies free, and returns its number.
+    /// Makes the front of the chain a leaf of one entry, or a new slot if no node is free, and returns its number.
     ///
     /// # Errors
     ///
-    /// Those of `reserve(1)`. After either the pool is as before.
+    /// The errors of `reserve(1)`. After either the pool is as before.
     pub fn alloc_node(&mut self, key: K, value: V) -> Result<Node, OutOfMemory>
         ensures node { IfOk result (λ node. front_of (reserved self.old 1).chain ≡ Some node) }
         ensures ok { OnOk result (self.new
@@ -204,8 +204,8 @@ impl<K: Copy, V: Copy, const N: usize> NodePool<K, V, N> {
         node
     }
 
-    /// Halves the full node `left`, at which an insertion at `insert_index` had no room. The right half goes to the front of the chain,
-    /// whose number is returned. Takes no memory.
+    /// Splits the full node `left`, at which an insertion at `insert_index` had no room. The right half is in the front of the chain, whose
+    /// number is returned. Takes no memory.
     pub fn split_node(&mut self, left: Node, insert_index: usize) -> (Node, SplitOff<K>)
         requires used { IsUsed self.old left }
         requires full { IsFullAt N self.old.nodes left }
@@ -252,7 +252,7 @@ impl<K: Copy, V: Copy, const N: usize> NodePool<K, V, N> {
         self.node_mut(node).value_mut(index)
     }
 
-    // Takes the front of the chain: a used slot from now on, which the caller fills.
+    // Takes the front off the chain: a used slot from then on, which the caller fills.
     fn take_slot(&mut self) -> Node
         requires room { 0 < free_count self.old }
         ensures node { front_of self.old.chain ≡ Some result }
@@ -285,7 +285,7 @@ fn two_nodes<T>(nodes: &mut [T], left: usize, right: usize) -> (&mut T, &mut T)
     }
 }
 
-// Adds slots, each of which names the one before and the first of which names `next`, or none where the growth is refused.
+// Adds slots, each of which names the one before and the first of which names `next`; returns `None` if the growth is refused.
 fn add_slots<K: Copy, V: Copy, const N: usize>(
     nodes: &mut Vec<NodeData<K, V, N>>,
     count: u32,

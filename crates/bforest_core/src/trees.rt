@@ -1,4 +1,4 @@
-//! What a pool tells of the trees in it.
+//! Queries on the trees of a pool, and freeing a tree.
 ghost use Rattle.std.specs.Prelude.{◌≡◌, ℕ, ◌+◌, ◌-◌, ◌*◌, ◌/◌, ◌^◌, ◌<◌, ◌≤◌, ◌↔◌, IsTrue, List, [], ◌∷◌, ◌++◌, length, slice_get, Some};
 ghost use Rattle.std.specs.List.{flat_map};
 ghost use Rattle.bforest_nodes.specs.Content.{Content, IsLeafCapacity, children_of};
@@ -14,16 +14,15 @@ use crate::pool::NodePool;
 use bforest_nodes::{Node, NodeData};
 
 impl<K: Copy, V: Copy, const N: usize> NodePool<K, V, N> {
-    /// Whether this is the number of a root: of a used slot that no inner node names. It looks at all slots.
+    /// Whether this is the number of a root: of a used slot that no inner node names. Looks at all slots.
     pub fn is_root(&self, node: Node) -> bool
         ensures value { result ≡ is_root self.now.nodes node }
     {
         node.number() < self.slots() && !self.node(node).is_free() && !self.is_child(node)
     }
 
-    /// Ends the tree under a root: all its nodes are freed, and lie in front of the chain: each in front of
-    /// those below it, and later children in front of earlier ones. It reads each node, and each inner node twice for
-    /// each of its children, and takes no memory.
+    /// Ends the tree under a root: all its nodes are freed and put in front of the chain, each before those below it, and later children
+    /// before earlier ones. Reads each node, and each inner node twice for each of its children, and takes no memory.
     pub fn free_tree(&mut self, root: Node)
         requires union { IsUnion N self.old }
         requires root { IsTrue (is_root self.old.nodes root) }
@@ -35,7 +34,7 @@ impl<K: Copy, V: Copy, const N: usize> NodePool<K, V, N> {
         self.free_below(root, 0);
     }
 
-    // Frees a node and all that are below it. So many levels lie above. Most nodes are leaves, which are freed with no call of their own.
+    // Frees a node at this depth and everything below it. Most nodes are leaves, which are freed without a call of their own.
     #[cycle(freeing)]
     #[inline(always)]
     fn free_below(&mut self, node: Node, depth: usize)
@@ -56,7 +55,7 @@ impl<K: Copy, V: Copy, const N: usize> NodePool<K, V, N> {
         }
     }
 
-    // The same, with a call of its own.
+    // Frees a node and everything below it, in a call of its own.
     #[cycle(freeing)]
     fn free_under(&mut self, node: Node, depth: usize)
         requires capacity { IsLeafCapacity N }
@@ -76,7 +75,7 @@ impl<K: Copy, V: Copy, const N: usize> NodePool<K, V, N> {
         self.free_node(node);
     }
 
-    // How many children a node has: none where it is a leaf.
+    // The number of children of a node: 0 for a leaf.
     fn child_count(&self, node: Node) -> usize
         requires { node < slot_count self.now }
         ensures { (content : Content K V) → slice_get self.now.nodes node ≡ Some content → result
@@ -98,7 +97,7 @@ impl<K: Copy, V: Copy, const N: usize> NodePool<K, V, N> {
         false
     }
 
-    /// How many levels the tree under a root has, the root's and the leaves' counted. One node each.
+    /// How many levels the tree under a root has, including the root's and the leaves'. Reads one node of each.
     pub fn levels(&self, root: Node) -> usize
         requires union { IsUnion N self.now }
         requires root { IsTrue (is_root self.now.nodes root) }
@@ -112,7 +111,7 @@ impl<K: Copy, V: Copy, const N: usize> NodePool<K, V, N> {
         self.levels_from(root, 0)
     }
 
-    // How many levels there are from a node down. So many levels lie above.
+    // The number of levels from a node down; `depth` levels are above it.
     fn levels_from(&self, node: Node, depth: usize) -> usize
         requires capacity { IsLeafCapacity N }
         requires under { (leaves : List (LevelNode K V)) × (lower : List (List (LevelNode K ℕ))) × (first : K)
@@ -130,7 +129,7 @@ impl<K: Copy, V: Copy, const N: usize> NodePool<K, V, N> {
     }
 }
 
-// Whether it is an inner node that names this child.
+// Whether the slot is an inner node that names this child.
 fn names<K: Copy, V: Copy, const N: usize>(slot: &NodeData<K, V, N>, child: Node) -> bool
     ensures { IsTrue result ↔ (0 < count child (children_of slot.now)) }
 {

@@ -11,7 +11,7 @@ use crate::pool::NodePool;
 use bforest_nodes::{Comparator, Node};
 
 impl<K: Copy, V: Copy, const N: usize> NodePool<K, V, N> {
-    /// The value of a key in the tree under `root`. It reads one node of each level, and keeps no path.
+    /// The value of a key in the tree under `root`. Reads one node of each level, and keeps no path.
     pub fn value_of<C: Comparator<K>>(&self, key: K, root: Node, comp: &C) -> Option<V>
         requires union { IsUnion N self.now }
         requires root { IsTrue (is_root self.now.nodes root) }
@@ -22,7 +22,7 @@ impl<K: Copy, V: Copy, const N: usize> NodePool<K, V, N> {
         self.value_below(key, root, 0, comp)
     }
 
-    // The value of a key, the search for which goes through `node`. So many levels lie above.
+    // The value of a key, the search for which goes through `node`; `depth` levels are above it.
     fn value_below<C: Comparator<K>>(&self, key: K, node: Node, depth: usize, comp: &C) -> Option<V>
         requires capacity { IsLeafCapacity N }
         requires under { (leaves : List (LevelNode K V)) × (lower : List (List (LevelNode K ℕ)))

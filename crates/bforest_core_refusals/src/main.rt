@@ -1,21 +1,21 @@
-//! Nodes taken and reserved in a pool, of which one call may be refused for want of memory: nothing changes then, and the same call
-//! succeeds when it is made again. `tools/refuse_each` runs it with each request for memory refused in turn.
+//! Taking and reserving nodes in a pool, where one call may be refused for lack of memory: it changes nothing then, and succeeds when it is
+//! made again. `tools/refuse_each` runs it with each request for memory refused in turn.
 #![tactic(auto)]
 
 use bforest_core::{Node, NodePool, OutOfMemory};
 use std::io;
 
-/// A pool of numbers under numbers.
+/// A pool of numbers keyed by numbers.
 type Pool = NodePool<u32, u32, 7>;
 
-/// What the run saw so far.
+/// The results of the run so far.
 #[derive(Clone, Copy)]
 struct Seen {
     refused: u32,
     is_right: bool,
 }
 
-/// The slots, the free ones, and a number that stands for what the slots hold.
+/// The number of slots, the number of free ones, and a digest of what the slots hold.
 fn state(pool: &Pool) -> (u32, u32, u32) {
     let mut digest = 1u32;
     for number in 0..pool.slots() {
@@ -30,7 +30,7 @@ fn state(pool: &Pool) -> (u32, u32, u32) {
     (pool.slots(), pool.free(), digest)
 }
 
-/// Takes a node, once more where it was refused.
+/// Takes a node, once more if it was refused.
 fn take(pool: &mut Pool, key: u32, seen: &mut Seen) {
     let before = state(pool);
     if let Err(error) = pool.alloc_node(key, key) {
@@ -41,7 +41,7 @@ fn take(pool: &mut Pool, key: u32, seen: &mut Seen) {
     }
 }
 
-/// Sees to it that so many nodes lie free, once more where it was refused.
+/// Reserves `n` free nodes, once more if it was refused.
 fn reserve(pool: &mut Pool, n: u32, seen: &mut Seen) {
     let before = state(pool);
     if let Err(error) = pool.reserve(n) {
@@ -55,7 +55,7 @@ fn reserve(pool: &mut Pool, n: u32, seen: &mut Seen) {
     }
 }
 
-/// That a refusal was for want of memory, and changed nothing.
+/// Checks that a refusal was for lack of memory, and changed nothing.
 fn is_unchanged(pool: &Pool, error: OutOfMemory, before: (u32, u32, u32), seen: &mut Seen) {
     seen.refused = seen.refused.saturating_add(1);
     if error != OutOfMemory::Memory || state(pool) != before {

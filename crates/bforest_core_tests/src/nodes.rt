@@ -1,4 +1,4 @@
-//! Nodes whose contents are known, and what they are compared with.
+//! Nodes of known contents, and assertions on them.
 ghost use Rattle.bforest_nodes.specs.Content.{IsLeaf, IsLeafCapacity, Leaf};
 ghost use Rattle.std.specs.Prelude.{length, ◌<◌, ◌≡◌, ◌≤◌};
 
@@ -6,7 +6,7 @@ use bforest_core::NodeData;
 use std::alloc::Global;
 use std::process::Abort;
 
-/// A node of numbers, of which a leaf holds `N`.
+/// A node of numbers, whose leaf holds at most `N`.
 pub(crate) type Numbers<const N: usize> = NodeData<u32, u32, N>;
 
 /// A leaf of these keys and values.
@@ -39,7 +39,7 @@ pub(crate) fn leaf_of<const N: usize>(alloc: Global, keys: &[u32]) -> Numbers<N>
     leaf_with(alloc, keys, keys)
 }
 
-/// That a leaf has these keys, each of whose values is its key.
+/// Asserts that a leaf has these keys, each of whose values is its key.
 pub(crate) fn assert_leaf<const N: usize>(rt: &impl Abort, node: &Numbers<N>, expected: &[u32])
     requires { IsLeaf node.now }
 {

@@ -1,4 +1,4 @@
-//! The table of nodes: what is reserved, handed out, freed and ended.
+//! The table of nodes: reserving, taking, freeing and clearing.
 ghost use Rattle.bforest_nodes.specs.Content.{Leaf};
 ghost use Rattle.bforest_core.specs.Table.{IsUsed, with_node};
 ghost use Rattle.std.specs.Prelude.{Some, [], length, slice_get, ◌<◌, ◌∷◌, ◌≡◌, ◌≢◌, ◌≤◌};
@@ -7,7 +7,7 @@ use crate::nodes::assert_leaf;
 use bforest_core::{Node, NodePool, OutOfMemory};
 use std::test::Fail;
 
-/// A pool of numbers under numbers.
+/// A pool of numbers keyed by numbers.
 type Pool = NodePool<u32, u32, 7>;
 
 /// Writes a leaf of these keys, each of whose values is its key.

@@ -3,7 +3,7 @@ use crate::nodes::{assert_leaf, leaf_of, leaf_with, numbered};
 use bforest_core::{Node, NodeData, PackedNode, Path, Removed, SetValue};
 use std::mem::size_of;
 
-// A map of small numbers has a node of one cache line, and so has a set of them.
+// A node of a map or a set of small numbers is one cache line.
 const _: () = prove!(size_of::<NodeData<u32, u32, 7>>() == 64);
 
 const _: () = prove!(size_of::<NodeData<u32, SetValue, 15>>() <= 72);

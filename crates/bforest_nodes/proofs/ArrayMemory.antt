@@ -1,4 +1,4 @@
--- A `&mut [T; N]` lends an element, or its first elements, and the array's last value follows what was lent.
+-- A `&mut [T; N]` lends an element or its first elements, which determine the final value of the array.
 use mathlib.Core.Path.{◌≡◌, refl, sym, ap, ◌∙◌}
 use Prim.Native.Nat.{ℕ, zero, suc, ◌+◌, ◌*◌, ◌^◌, ◌<◌, ◌≤◌}
 use native.Mathlib.Nat.{mul-le-mul_right}
@@ -53,7 +53,7 @@ module _ (X : RattleType) (n : ℕ) {M : Type 1} {𝓤 : Ura M} (𝓛 : Logic �
   abbrev elements : List X.Denot → Fml
   elements ws = cells (mem (R X n)) ws b o
 
-  -- the array is its elements side by side, and back
+  -- the array is its elements side by side, and they are the array
   out : ent 𝓤 (sem 𝓛 ((mem (S X n)).own_at xs b o)) (guard 𝓤 (length xs ≡ n) (sem 𝓛 (elements xs)))
   out = qed 𝓛 (‵ (part_at (Array (R X n) n) full_share xs b o) ∷ []) ∵
       use1 𝓛 (‵ (fsep (feq ℕ (length xs) n) (row (R X n) full_share xs b o))) (Array-apart 𝓛 (R X n) full_share tt n xs b o) $ fsplit ! $ feq_l ! (λ long.
@@ -68,7 +68,7 @@ module _ (X : RattleType) (n : ℕ) {M : Type 1} {𝓤 : Ura M} (𝓛 : Logic �
   Lender vs = (MutRef (named 0) κ (S X n)).own_val (record { ref_ptr = (b, o); ghost_name = γ; now = xs }) vs
 
   module _ (m : ℕ) where
-    -- where element m lies, and a value there
+    -- the address of element m, and a value there
     abbrev pub spot : ℕ
     spot = m * size (layout X) + o
 
@@ -78,7 +78,7 @@ module _ (X : RattleType) (n : ℕ) {M : Type 1} {𝓤 : Ura M} (𝓛 : Logic �
     abbrev place : ℕ
     place = at o (mem (R X n)).size m
 
-    -- the other elements, as the way back from each value there
+    -- the other elements, as what gives the array back from a value of this one
     abbrev Way : X.Denot → SProp 𝓤
     Way x = wand 𝓤 (sem 𝓛 (There x place)) (sem 𝓛 (elements (set xs m x)))
 
@@ -89,7 +89,7 @@ module _ (X : RattleType) (n : ℕ) {M : Type 1} {𝓤 : Ura M} (𝓛 : Logic �
         use2 𝓛 (‵ (elements (set xs m x))) (apply∗ 𝓤 (sem 𝓛 (There x place)) (sem 𝓛 (elements (set xs m x)))) $
         by ! (in_again (set xs m x) (length-set xs m x ∙ long))
 
-    -- the element x, lent under the name δ; the token; what the array ends as
+    -- the element x, lent under the name δ; the token; the final value of the array
     abbrev pub element : X.Denot → GName → Item 𝓤
     element x δ = ‵ ((MutRef (named 0) κ (R X n)).own_val (record { ref_ptr = (b, spot); ghost_name = δ; now = x }) (vptr b spot ∷ []))
         ⊛ ‵ (flft κ q) ⊛ ‵ (follows (S X n) (R X n) γ δ (set xs m))
@@ -134,7 +134,7 @@ module _ (X : RattleType) (n : ℕ) {M : Type 1} {𝓤 : Ura M} (𝓛 : Logic �
         rewrite ! 0 (λ (k : ℕ). ‵ (elements (ws ++ drop_list k xs))) (sym count) refl $
         by ! (in_again (over ws) (ap (λ (k : ℕ). length (ws ++ drop_list k xs)) count ∙ same_len m xs ws e ∙ long))
 
-    -- the first m elements, lent under the name δ; the token; what the array ends as
+    -- the first m elements, lent under the name δ; the token; the final value of the array
     abbrev pub front : ℕ → GName → Item 𝓤
     front k δ = ‵ ((MutSlice (named 0) κ (R X n)).own_val (record { ref_ptr = (b, o); ghost_name = δ; now = first }) (slice_val (b, o) k ∷ []))
         ⊛ ‵ (flft κ q) ⊛ ‵ (follows (S X n) (Array (R X n) 0) γ δ over)

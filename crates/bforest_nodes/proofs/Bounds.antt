@@ -1,4 +1,4 @@
--- How many of the first keys of a row are less than a key, or not greater, from what is known of a few.
+-- The number of the first keys of a row that are less than a key, or not greater, from tests of a few keys.
 use Rattle.std.proofs.Common.{◌≡◌, ◌≢◌, Bool, ℕ, zero, suc, ◌-◌, ◌<◌, ◌≤◌, true, false, not, Option, Some, List, [], ◌∷◌, get_or, length, take, refl, sym, ap, ◌∙◌, inl, inr, arith}
 use Rattle.std.proofs.lemmas.Bool.{cases_lt}
 use Rattle.std.proofs.lemmas.Bool.Decides.{eqb_tells}
@@ -12,13 +12,13 @@ use Rattle.std.specs.declared.cmp.Ordering.{Ordering}
 use Rattle.bforest_nodes.specs.Search.{count_less, count_up_to}
 use Rattle.bforest_nodes.proofs.Searched.{before, count_less-from_parts, count_up_to-no, count_up_to-yes, greater, not_before}
 
--- an index of one of the first keys: those before it answer low, and it answers high
+-- an index of one of the first keys: the test is low for those before it, and high for it
 pub record Among {K : Type 0} (test : K → Bool) (low high : Bool) (row : List K) (len at : ℕ) : Type 0 where
   pub within : at < len
   pub before : (j : ℕ) (d : K) → j < at → test (get_or row j d) ≡ low
   pub here : (d : K) → at < len → test (get_or row at d) ≡ high
 
--- what a scan of a row finds is such an index, where the first of these keys answers low and the last high
+-- a scan finds such an index, where the test is low for the first of these keys and high for the last
 module _ {K : Type 0} (test : K → Bool) (low high : Bool) (apart : low ≢ high) (row : List K) (len r : ℕ) (within : len ≤ length row) (some : 0 < len) (first : (d : K) → test (get_or row 0 d) ≡ low) (last : (d : K) → test (get_or row (len - 1) d) ≡ high)
     (before : (j : ℕ) (d : K) → 0 < j → j < r → test (get_or row j d) ≡ low) (here : (d : K) → suc r ≢ length row → test (get_or row r d) ≡ high) where
   scan-within : K → r < len
@@ -46,7 +46,7 @@ module _ {K : Type 0} (test : K → Bool) (low high : Bool) (apart : low ≢ hig
   among d = record { within = scan-within d; before = scan-before; here = scan-here }
 
 module _ {K : Type 0} (cmp : K → K → Ordering) where
-  -- the first i keys are not greater and the others are
+  -- where the first i keys are not greater and the others are, i keys are not greater
   count_up_to-from_parts : (ks : List K) (k : K) (i : ℕ) → i ≤ length ks → ((j : ℕ) (d : K) → j < i → is_gt (cmp (get_or ks j d) k) ≡ false) → ((j : ℕ) (d : K) → i ≤ j → j < length ks → is_gt (cmp (get_or ks j d) k) ≡ true) → count_up_to cmp ks k ≡ i
   count_up_to-from_parts [] k i le low high = omega arith
   count_up_to-from_parts (x ∷ xs) k zero le low high = count_up_to-no cmp x xs k (high 0 x (omega arith) (omega arith)) ∙ count_up_to-from_parts xs k zero (omega arith) (λ j d h. absurd (omega arith)) (λ j d h g. high (suc j) d (omega arith) (omega arith))
@@ -76,17 +76,17 @@ module _ {K : Type 0} (cmp : K → K → Ordering) where
     in_row : (j : ℕ) (d : K) → j < len → get_or (take len row) j d ≡ get_or row j d
     in_row j d low = get_or-take len row j d low
 
-    -- those before an index are less, and the one there is not
+    -- where the keys before an index are less and the one there is not, the index is `count_less`
     pub less-at : (at : ℕ) → at ≤ len → ((j : ℕ) (d : K) → j < at → is_lt (cmp (get_or row j d) k) ≡ true) → ((d : K) → at < len → is_lt (cmp (get_or row at d) k) ≡ false) → at ≡ count_less cmp (take len row) k
     less-at at most low here = sym (count_less-from_parts cmp (take len row) k at (omega (arith, most, size))
         (λ j d lt. ap (λ z. is_lt (cmp z k)) (in_row j d (omega (arith, lt, most))) ∙ low j d lt)
         (λ j d le lt. not_before cmp o (take len row) k sorted at j d le lt (ap (λ z. is_lt (cmp z k)) (in_row at d (omega (arith, le, lt, size))) ∙ here d (omega (arith, le, lt, size)))))
 
-    -- those before a key that is less are
+    -- the keys before a lesser key are less
     pub less-before : (i j : ℕ) (d : K) → j < i → i < len → is_lt (cmp (get_or row i d) k) ≡ true → is_lt (cmp (get_or row j d) k) ≡ true
     less-before i j d lt low less = ap (λ z. is_lt (cmp z k)) (sym (in_row j d (omega (arith, lt, low)))) ∙ before cmp o (take len row) k sorted i j d lt (omega (arith, low, size)) (ap (λ z. is_gt (cmp z k)) (in_row i d low) ∙ not_greater (get_or row i d) k less)
 
-    -- those before an index are not greater, and the one there is
+    -- where the keys before an index are not greater and the one there is, the index is `count_up_to`
     pub up_to-at : (at : ℕ) → at ≤ len → ((j : ℕ) (d : K) → j < at → is_gt (cmp (get_or row j d) k) ≡ false) → ((d : K) → at < len → is_gt (cmp (get_or row at d) k) ≡ true) → at ≡ count_up_to cmp (take len row) k
     up_to-at at most low here = sym (count_up_to-from_parts (take len row) k at (omega (arith, most, size))
         (λ j d lt. ap (λ z. is_gt (cmp z k)) (in_row j d (omega (arith, lt, most))) ∙ low j d lt)
@@ -95,24 +95,24 @@ module _ {K : Type 0} (cmp : K → K → Ordering) where
           | inr less ↦ (let e : at ≡ j = omega (arith, less, le) in ap (λ z. is_gt (cmp (get_or (take len row) z d) k)) (sym e) ∙ ap (λ z. is_gt (cmp z k)) (in_row at d (omega (arith, le, lt, size))) ∙ here d (omega (arith, le, lt, size)))
         ]))
 
-    -- those before a key that is not greater are not
+    -- the keys before one that is not greater are not greater
     pub up_to-before : (i j : ℕ) (d : K) → j < i → i < len → is_gt (cmp (get_or row i d) k) ≡ false → is_gt (cmp (get_or row j d) k) ≡ false
     up_to-before i j d lt low not_more = not_greater (get_or row j d) k (ap (λ z. is_lt (cmp z k)) (sym (in_row j d (omega (arith, lt, low)))) ∙ before cmp o (take len row) k sorted i j d lt (omega (arith, low, size)) (ap (λ z. is_gt (cmp z k)) (in_row i d low) ∙ not_more))
 
--- what a test of a key that was read says of the order
+-- the tests of a key that was read, by the order
 module _ {K : Type 0} (cmp : K → K → Ordering) (partial : K → K → Option Ordering) (matches : (x y : K) → partial x y ≡ Some (cmp x y)) (row : List K) (i : ℕ) (x k : K) (within : i < length row) (read : x ≡ get_or row i x) where
   read_any : (d : K) → get_or row i d ≡ x
   read_any d = get_or_default row i d x within ∙ sym read
 
-  -- less
+  -- a test that the key is less
   pub told-lt : (b : Bool) → b ≡ partial_lt partial x k → (d : K) → is_lt (cmp (get_or row i d) k) ≡ b
   told-lt b is d = ap (λ z. is_lt (cmp z k)) (read_any d) ∙ sym (ap (λ o. is_some_and is_lt o) (matches x k)) ∙ sym is
 
-  -- greater
+  -- a test that the key is greater
   pub told-gt : (b : Bool) → b ≡ partial_gt partial x k → (d : K) → is_gt (cmp (get_or row i d) k) ≡ b
   told-gt b is d = ap (λ z. is_gt (cmp z k)) (read_any d) ∙ sym (ap (λ o. is_some_and is_gt o) (matches x k)) ∙ sym is
 
-  -- not less
+  -- a test that the key is not less
   pub told-ge : (b : Bool) → b ≡ partial_ge partial x k → (d : K) → is_lt (cmp (get_or row i d) k) ≡ not b
   told-ge b is d = ap (λ z. is_lt (cmp z k)) (read_any d) ∙ go (cmp x k) ∙ ap not (sym (ap (λ o. is_some_and is_ge o) (matches x k)) ∙ sym is)
     where
@@ -121,7 +121,7 @@ module _ {K : Type 0} (cmp : K → K → Ordering) (partial : K → K → Option
       go Equal = refl
       go Greater = refl
 
-  -- not greater
+  -- a test that the key is not greater
   pub told-le : (b : Bool) → b ≡ partial_le partial x k → (d : K) → is_gt (cmp (get_or row i d) k) ≡ not b
   told-le b is d = ap (λ z. is_gt (cmp z k)) (read_any d) ∙ go (cmp x k) ∙ ap not (sym (ap (λ o. is_some_and is_le o) (matches x k)) ∙ sym is)
     where

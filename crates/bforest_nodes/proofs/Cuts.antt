@@ -1,4 +1,4 @@
--- Nodes that are cut in two, and joined again.
+-- Nodes that are cut in two and joined again.
 use Rattle.std.proofs.lemmas.Grind.{common_steps}
 use Rattle.std.specs.Prelude.{◌==◌}
 use Rattle.std.proofs.Common.{◌≡◌, false, remove, true, ℕ, ◌+◌, ◌-◌, ◌*◌, ◌<◌, ◌≤◌, suc, List, [], ◌∷◌, ◌++◌, length, take, drop, slice_get, None, Some, refl, sym, ap, ◌∙◌, arith, append_assoc}
@@ -8,7 +8,7 @@ use Rattle.bforest_nodes.proofs.Seams.{around, drop-append-add, front_at, key_at
 use Rattle.bforest_nodes.specs.Content.{Content, Inner, Leaf, Free, IsFree, IsInner, IsLeaf, IsSameKind, entry_capacity, entry_count, left_half, joined, IsCut, Balances, left_share, without_child}
 
 module _ {K V : Type 0} where
-  -- an inner node whose first so many keys end with the separator
+  -- an inner node whose first `count` keys end with the separator is cut there
   pub IsCut-inner : (keys front : List K) (children : List ℕ) (key : K) (count : ℕ) → take count keys ≡ front ++ key ∷ [] → length front + 1 ≡ count → IsCut {V = V} (Inner keys children) count (Inner front (take count children)) key (Inner (drop count keys) (drop count children))
   IsCut-inner keys front children key count e len = record {
     left_is = ap (λ ks. Inner ks (take count children)) (front_at keys front key count e len);
@@ -16,7 +16,7 @@ module _ {K V : Type 0} where
     right_is = refl;
   }
 
-  -- both parts of a cut, joined, are the whole
+  -- joining both parts of a cut gives the whole
   pub joined-cut : (whole left right : Content K V) (key : K) (count : ℕ) → 0 < count → (IsFree whole → ⊥) → IsCut whole count left key right → joined left key right ≡ whole
   joined-cut (Inner keys children) left right key count some used cut =
       let seam : suc (count - 1) ≡ count = omega arith in
@@ -26,7 +26,7 @@ module _ {K V : Type 0} where
       rw (cut.left_is, cut.right_is, take-append-drop count keys, take-append-drop count vals)
   joined-cut (Free next) left right key count some used cut = absurd (used tt)
 
-  -- eight children are cut behind the fourth
+  -- a node of eight children is cut after the fourth
   pub IsCut-branch : (size : ℕ) (keys right_keys : List K) (tree right_tree : List ℕ) (key : K)
       → size ≡ 7
       → slice_get (take size keys) 3 ≡ Some key
@@ -43,7 +43,7 @@ module _ {K V : Type 0} where
         right_is = rw (same, rest, rest_tree);
       }
 
-  -- a leaf's entries are cut behind so many
+  -- a leaf is cut after its first `half` entries
   pub IsCut-entries : (size half : ℕ) (keys right_keys : List K) (vals right_vals : List V) (key : K)
       → half < size
       → slice_get (take size keys) half ≡ Some key
@@ -59,13 +59,13 @@ module _ {K V : Type 0} where
         right_is = rw (rest, rest_vals);
       }
 
-  -- the capacity of an inner node, and what stays in its left half
+  -- the capacity of an inner node, and the size of its left half
   pub capacity_of_inner : (n : ℕ) (whole : Content K V) → IsInner whole → entry_capacity n whole ≡ 8
   capacity_of_inner n (Inner keys children) inner = refl
   capacity_of_inner n (Leaf keys vals) inner = absurd inner
   capacity_of_inner n (Free next) inner = absurd inner
 
-  -- the neighbours of a kind, and that the left one has few
+  -- the kinds of two neighbours, and the size of an underflowed left one
   pub inner_beside : (left right : Content K V) → IsInner left → IsSameKind left right → IsInner right
   inner_beside (Inner keys children) right inner kind = kind
   inner_beside (Leaf keys vals) right inner kind = absurd inner
@@ -135,7 +135,7 @@ module _ {K V : Type 0} where
         shares = λ _. (key, refl, cut, joined-cut (Leaf (kl ++ kr) (vl ++ vr)) _ _ key count (omega arith) (λ free. free) cut);
       }
 
-  -- all entries go to the right neighbour
+  -- all entries move to the right neighbour
   pub Balances-one_leaf : (n size right_size : ℕ) (keys right_keys put : List K) (vals right_vals put_vals : List V) (crit : K) (left : Content K V)
       → size + right_size ≤ n
       → take (size + right_size) put ≡ take size keys ++ take right_size right_keys
@@ -146,7 +146,7 @@ module _ {K V : Type 0} where
     shares = λ many. absurd (omega (arith, length-take size keys, length-take right_size right_keys));
   }
 
-  -- all children go to the right neighbour
+  -- all children move to the right neighbour
   pub Balances-one_inner : (n size right_size : ℕ) (keys pushed right_keys put : List K) (tree right_tree put_tree : List ℕ) (crit : K) (left : Content K V)
       → size + right_size + 2 ≤ 8
       → take (size + 1) pushed ≡ take size keys ++ crit ∷ []
@@ -163,7 +163,7 @@ module _ {K V : Type 0} where
         shares = λ many. absurd (omega (arith, length-take (size + 1) tree, length-take (right_size + 1) right_tree));
       }
 
-  -- a child is gone, and the key before it
+  -- a child is removed, with the key before it
   pub without_child-many : (size index before : ℕ) (keys new_keys : List K) (tree new_tree : List ℕ)
       → 0 < size
       → length (take (size + 1) tree) ≡ size + 1
@@ -176,7 +176,7 @@ module _ {K V : Type 0} where
       let many : (length (take (size + 1) tree) == 1) ≡ false = grind (arith, common_steps) in
       rw (many, place, tree_is, keys_is, at)
 
-  -- the only child stays
+  -- the only child is not removed
   pub without_child-one : (size index : ℕ) (keys : List K) (tree : List ℕ)
       → size ≤ 0
       → length (take (size + 1) tree) ≡ size + 1

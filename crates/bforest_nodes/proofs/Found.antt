@@ -1,4 +1,4 @@
--- What a search among the keys of entries finds.
+-- The results of a search among the keys of entries.
 use Rattle.bforest_nodes.specs.Entries.{cut, entry_for, is_present, place, put, search_for, value_at_place, value_for, with_value}
 use Rattle.bforest_nodes.specs.Search.{count_less, is_equal_at, search_of}
 use Rattle.std.proofs.Common.{Bool, Err, List, None, Ok, Option, Some, [], ap, arith, cond, false, if◌then◌else◌, insert, length, refl, remove, slice_get, suc, sym, true, zero, ◌+◌, ◌<◌, ◌∙◌, ◌∷◌, ◌≡◌, ℕ}
@@ -9,13 +9,13 @@ use Rattle.std.specs.Ordering.{is_eq, is_lt}
 use Rattle.std.specs.declared.cmp.Ordering.{Ordering}
 
 module _ {K X : Type 0} (cmp : K → K → Ordering) where
-  -- how many keys are less, among the keys and among the entries
+  -- as many keys are less as entries have a lesser key
   count_less-keys_of : (es : List (K × X)) (k : K) → count_less cmp (keys_of es) k ≡ place cmp es k
   count_less-keys_of [] k = refl
   count_less-keys_of (e ∷ es) k =
       sum_by-cons (λ y. cond (is_lt (cmp y k)) 1 0) e.0 (keys_of es) ∙ ap (λ n. cond (is_lt (cmp e.0 k)) 1 0 + n) (count_less-keys_of es k) ∙ sym (sum_by-cons (λ (y : K × X). cond (is_lt (cmp y.0 k)) 1 0) e es)
 
-  -- whether the entry at i compares equal to k
+  -- the test whether the key at i compares equal, by the entry at i
   is_equal_at-keys_of : (es : List (K × X)) (k : K) (i : ℕ) → is_equal_at cmp (keys_of es) k i ≡ is_some (option_and_then (λ e. if is_eq (cmp e.0 k) then Some e else None) (slice_get es i))
   is_equal_at-keys_of [] k i = refl
   is_equal_at-keys_of (e ∷ es) k zero = go (is_eq (cmp e.0 k))
@@ -25,12 +25,12 @@ module _ {K X : Type 0} (cmp : K → K → Ordering) where
       go false = refl
   is_equal_at-keys_of (e ∷ es) k (suc i) = is_equal_at-keys_of es k i
 
-  -- a search among the keys finds the place among the entries
+  -- a search among the keys gives the place among the entries
   pub search_of-keys_of : (es : List (K × X)) (k : K) → search_of cmp (keys_of es) k ≡ search_for cmp es k
   search_of-keys_of es k = λ j. if (is_equal_at-keys_of es k (count_less cmp (keys_of es) k) ∙ ap (λ n. is_some (option_and_then (λ e. if is_eq (cmp e.0 k) then Some e else None) (slice_get es n))) (count_less-keys_of es k)) j then Ok (count_less-keys_of es k j) else Err (count_less-keys_of es k j)
 
   module _ (es : List (K × X)) (k : K) where
-    -- `Ok` is answered where the key is present
+    -- the answer is `Ok` where the key is present
     pub present_at : (i : ℕ) → Ok i ≡ search_for cmp es k → (i ≡ place cmp es k) × (is_present cmp es k ≡ true)
     present_at i h = go (is_present cmp es k) h
       where
@@ -38,7 +38,7 @@ module _ {K X : Type 0} (cmp : K → K → Ordering) where
         go true h = (cc, refl)
         go false h = absurd (cc)
 
-    -- `Err` is answered where the key is absent
+    -- the answer is `Err` where the key is absent
     pub absent_at : (i : ℕ) → Err i ≡ search_for cmp es k → (i ≡ place cmp es k) × (is_present cmp es k ≡ false)
     absent_at i h = go (is_present cmp es k) h
       where
@@ -46,7 +46,7 @@ module _ {K X : Type 0} (cmp : K → K → Ordering) where
         go true h = absurd (cc)
         go false h = (cc, refl)
 
-    -- a present key's value is that at its place
+    -- the value of a present key is the one at its place
     pub value_for-present : is_present cmp es k ≡ true → value_for cmp es k ≡ value_at_place es (place cmp es k)
     value_for-present h = go (slice_get es (place cmp es k)) h
       where
@@ -66,7 +66,7 @@ module _ {K X : Type 0} (cmp : K → K → Ordering) where
         go None h = refl
         go (Some e) h = absurd (cc)
 
-    -- a present key's place is that of an entry
+    -- the place of a present key is that of an entry
     pub place-present : is_present cmp es k ≡ true → place cmp es k < length es
     place-present h = go es (place cmp es k) h
       where
@@ -75,18 +75,18 @@ module _ {K X : Type 0} (cmp : K → K → Ordering) where
         go (x ∷ xs) zero h = omega arith
         go (x ∷ xs) (suc i) h = let r = go xs i h in omega (arith, r)
 
-    -- what an insertion does at a present key
+    -- an insertion at a present key writes its value
     pub put-present : (v : X) → is_present cmp es k ≡ true → put cmp es k v ≡ with_value es (place cmp es k) v
     put-present v h = λ j. if h j then with_value es (place cmp es k) v else insert es (place cmp es k) (k, v)
 
-    -- what a removal does at one
+    -- a removal at a present key removes its entry
     pub cut-present : is_present cmp es k ≡ true → cut cmp es k ≡ remove es (place cmp es k)
     cut-present h = λ j. if h j then remove es (place cmp es k) else es
 
-    -- and at an absent one, where nothing goes
+    -- a removal at an absent key changes nothing
     pub cut-absent : is_present cmp es k ≡ false → cut cmp es k ≡ es
     cut-absent h = λ j. if h j then remove es (place cmp es k) else es
 
-    -- what an insertion does at an absent one
+    -- an insertion at an absent key inserts an entry at its place
     pub put-absent : (v : X) → is_present cmp es k ≡ false → put cmp es k v ≡ insert es (place cmp es k) (k, v)
     put-absent v h = λ j. if h j then with_value es (place cmp es k) v else insert es (place cmp es k) (k, v)

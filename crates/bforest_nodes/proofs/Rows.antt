@@ -1,11 +1,11 @@
--- Elements inline, moved up and down.
+-- Inline elements, moved up and down.
 use Rattle.std.proofs.Common.{◌≡◌, ℕ, ◌+◌, ◌-◌, ◌<◌, ◌≤◌, zero, suc, List, [], ◌∷◌, ◌++◌, length, take, drop, insert, remove, slice_set, slice_get, Some, refl, sym, ap, ◌∙◌, arith, append_assoc}
 use Rattle.std.specs.List.{copy_within}
 use Rattle.std.proofs.lemmas.List.{take_at, length-take-le, length-drop, take-take}
 use Rattle.bforest_nodes.proofs.Seams.{last_taken}
 
 module _ {X : Type 0} where
-  -- the elements from i on moved up by one place, and x at i
+  -- moving the elements from i on up by one place and writing x at i inserts x
   pub insert_front : (xs : List X) (n i m : ℕ) (x : X) → n ≡ i + m → n < length xs → take (suc n) (slice_set (take (suc i) xs ++ (take m (drop i xs) ++ drop (suc n) xs)) i x) ≡ take i (take n xs) ++ x ∷ drop i (take n xs)
   insert_front [] n i m x e k = absurd (omega arith)
   insert_front (y ∷ ys) n zero m x e k =
@@ -15,7 +15,7 @@ module _ {X : Type 0} where
   insert_front (y ∷ ys) zero (suc i) m x e k = absurd (omega arith)
   insert_front (y ∷ ys) (suc n) (suc i) m x e k = ap (λ zs. y ∷ zs) (insert_front ys n i m x (omega arith) (omega arith))
 
-  -- the elements after i moved down by one place
+  -- moving the elements after i down by one place removes the one at i
   pub remove_front : (xs : List X) (n i m : ℕ) → suc n ≡ suc i + m → n < length xs → take n (take i xs ++ (take m (drop (suc i) xs) ++ drop n xs)) ≡ take i (take (suc n) xs) ++ drop (suc i) (take (suc n) xs)
   remove_front [] n i m e k = absurd (omega arith)
   remove_front (y ∷ ys) n zero m e k =
@@ -25,7 +25,7 @@ module _ {X : Type 0} where
   remove_front (y ∷ ys) zero (suc i) m e k = absurd (omega arith)
   remove_front (y ∷ ys) (suc n) (suc i) m e k = ap (λ zs. y ∷ zs) (remove_front ys n i m (omega arith) (omega arith))
 
-  -- the same with sums, as contracts have them
+  -- an insertion by moving up, with sums as contracts have them
   pub insert_up : (xs : List X) (n i m : ℕ) (x : X) → n ≡ i + m → n < length xs → take (n + 1) (slice_set (take (i + 1) xs ++ (take m (drop i xs) ++ drop (n + 1) xs)) i x) ≡ take i (take n xs) ++ x ∷ drop i (take n xs)
   insert_up xs n i m x e k =
       let top : n + 1 ≡ suc n = omega arith in
@@ -58,7 +58,7 @@ module _ {X : Type 0} where
       ∙ remove_down xs (n - 1) i (n - (i + 1)) (omega arith) (omega arith)
       ∙ ap (λ j. take i (take j xs) ++ drop (suc i) (take j xs)) whole
 
-  -- a write within the first n
+  -- a write to one of the first n elements
   pub set_front : (xs : List X) (n i : ℕ) (x : X) → i < n → take n (slice_set xs i x) ≡ slice_set (take n xs) i x
   set_front [] zero i x h = refl
   set_front [] (suc n) zero x h = refl
@@ -81,7 +81,7 @@ module _ {X : Type 0} where
       let same : suc n - suc i ≡ n - i = omega arith in
       ap (λ k. take k (drop i ys)) same ∙ drop_front ys n i (omega arith)
 
-  -- the first i of the first n are gone
+  -- removing the first i of the first n elements
   pub removed_front : (xs : List X) (n i : ℕ) → i ≤ n → n ≤ length xs → take (n - i) (copy_within xs i n 0) ≡ drop i (take n xs)
   removed_front xs n i h k =
       let size : length (take (n - i) (drop i xs)) ≡ n - i = length-take-le (n - i) (drop i xs) (omega (arith, length-drop i xs)) in

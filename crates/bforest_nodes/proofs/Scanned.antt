@@ -1,17 +1,17 @@
--- A scan of a row from the right for the least index behind the first whose key passes a test.
+-- A scan of a row from the right for the least index, after the first, whose key passes a test.
 use Rattle.std.proofs.Common.{◌≡◌, ◌≢◌, ℕ, suc, ◌+◌, ◌-◌, ◌<◌, ◌≤◌, Bool, List, length, get_or, sym, ap, ◌∙◌, subst, inl, inr, arith}
 use Rattle.std.proofs.lemmas.Bool.Decides.{eqb_tells}
 use Rattle.std.proofs.lemmas.List.{get_or_default}
 
 module _ {K : Type 0} (test : K → Bool) (low high : Bool) (row : List K) where
-  -- so many keys at the right end were looked at, but for the last: this one is the least that answers high, or the last
+  -- the `back - 2` keys before the last were tested: `at` is the least that answers high, or else the last
   pub record Scanning (at back : ℕ) : Type 0 where
     pub within : at < length row
     pub beyond : length row < at + back
     pub before : (j : ℕ) (d : K) → length row < j + back → j < at → test (get_or row j d) ≡ low
     pub here : (d : K) → suc at ≢ length row → test (get_or row at d) ≡ high
 
-  -- none yet
+  -- no key is tested at first
   pub scanning-first : 0 < length row → (at : ℕ) → at ≡ length row - 1 → Scanning at 2
   scanning-first some at is = record {
     within = omega (arith, some, is);
@@ -21,11 +21,11 @@ module _ {K : Type 0} (test : K → Bool) (low high : Bool) (row : List K) where
   }
 
   module _ (at back : ℕ) (s : Scanning at back) (two : 2 ≤ back) (left : back < length row) (x : K) (read : x ≡ get_or row (length row - back) x) (next : ℕ) where
-    -- what is read does not hang on the default
+    -- the key that is read does not depend on the default
     same : (d : K) → get_or row (length row - back) d ≡ x
     same d = get_or_default row (length row - back) d x (omega (arith, two, left)) ∙ sym read
 
-    -- the key here answers high
+    -- the key here answers high, so the scan moves to it
     pub scanning-here : next ≡ length row - back → test x ≡ high → Scanning next (back + 1)
     scanning-here is high_here = record {
       within = omega (arith, is, two, left);
@@ -34,7 +34,7 @@ module _ {K : Type 0} (test : K → Bool) (low high : Bool) (row : List K) where
       here = λ d ne. ap (λ z. test (get_or row z d)) is ∙ ap test (same d) ∙ high_here;
     }
 
-    -- it answers low
+    -- the key here answers low, so the scan passes it
     pub scanning-past : next ≡ at → test x ≡ low → Scanning next (back + 1)
     scanning-past is low_here = subst (λ (z : ℕ). Scanning z (back + 1)) (sym is) (record {
       within = s.within;

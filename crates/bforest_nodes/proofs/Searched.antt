@@ -1,4 +1,4 @@
--- What a binary search finds among keys that increase.
+-- The results of a binary search among increasing keys.
 use Rattle.std.proofs.Common.{◌≡◌, ℕ, zero, suc, ◌+◌, ◌<◌, ◌≤◌, Bool, true, false, cond, not, List, [], ◌∷◌, length, take, refl, sym, ap, subst, ◌∙◌, arith, Result, Ok, Err, get_or, ⊎_elim, if◌then◌else◌}
 use borrow.Author.Tests.{ltb-true, ltb-false}
 use lib.Dec.{ltb}
@@ -23,18 +23,18 @@ module _ {K : Type 0} (cmp : K → K → Ordering) where
   pub count_less-yes : (x : K) (xs : List K) (k : K) → is_lt (cmp x k) ≡ true → count_less cmp (x ∷ xs) k ≡ suc (count_less cmp xs k)
   count_less-yes x xs k h = sum_by-cons (λ y. cond (is_lt (cmp y k)) 1 0) x xs ∙ ap (λ b. cond b 1 0 + count_less cmp xs k) h ∙ omega arith
 
-  -- and another does not
+  -- a first key that is not less does not count
   pub count_less-no : (x : K) (xs : List K) (k : K) → is_lt (cmp x k) ≡ false → count_less cmp (x ∷ xs) k ≡ count_less cmp xs k
   count_less-no x xs k h = sum_by-cons (λ y. cond (is_lt (cmp y k)) 1 0) x xs ∙ ap (λ b. cond b 1 0 + count_less cmp xs k) h ∙ omega arith
 
-  -- the first i keys are less and the others are not
+  -- where the first i keys are less and the others are not, i keys are less
   pub count_less-from_parts : (ks : List K) (k : K) (i : ℕ) → i ≤ length ks → ((j : ℕ) (d : K) → j < i → is_lt (cmp (get_or ks j d) k) ≡ true) → ((j : ℕ) (d : K) → i ≤ j → j < length ks → is_lt (cmp (get_or ks j d) k) ≡ false) → count_less cmp ks k ≡ i
   count_less-from_parts [] k i le low high = omega arith
   count_less-from_parts (x ∷ xs) k zero le low high = count_less-no x xs k (high 0 x (omega arith) (omega arith)) ∙ count_less-from_parts xs k zero (omega arith) (λ j d h. absurd (omega arith)) (λ j d h g. high (suc j) d (omega arith) (omega arith))
   count_less-from_parts (x ∷ xs) k (suc i) le low high = count_less-yes x xs k (low 0 x (omega arith)) ∙ ap suc (count_less-from_parts xs k i (omega arith) (λ j d h. low (suc j) d (omega arith)) (λ j d h g. high (suc j) d (omega arith) (omega arith)))
 
   module _ (o : IsTotalOrder cmp) (ks : List K) (k : K) (sorted : IsStrictlySortedBy cmp ks) where
-    -- before a key that is not greater all are less
+    -- all keys before one that is not greater are less
     pub before : (i j : ℕ) (d : K) → j < i → i < length ks → is_gt (cmp (get_or ks i d) k) ≡ false → is_lt (cmp (get_or ks j d) k) ≡ true
     before i j d lt within h = go (cmp (get_or ks i d) k) refl h
       where
@@ -43,7 +43,7 @@ module _ {K : Type 0} (cmp : K → K → Ordering) where
         go Equal e h = ap is_lt (sym (alike_right o _ _ (get_or ks j d) e) ∙ Less-from_sorted cmp ks j i d sorted lt within)
         go Greater e h = absurd (cc)
 
-    -- after one that is not less all are not less
+    -- no key after one that is not less is less
     after : (i j : ℕ) (d : K) → i < j → j < length ks → is_lt (cmp (get_or ks i d) k) ≡ false → is_lt (cmp (get_or ks j d) k) ≡ false
     after i j d lt within h = go (cmp (get_or ks j d) k) refl
       where
@@ -52,29 +52,29 @@ module _ {K : Type 0} (cmp : K → K → Ordering) where
         go Equal e = ap is_lt e
         go Greater e = ap is_lt e
 
-    -- the same from it on
+    -- no key from one that is not less on is less
     pub not_before : (i j : ℕ) (d : K) → i ≤ j → j < length ks → is_lt (cmp (get_or ks i d) k) ≡ false → is_lt (cmp (get_or ks j d) k) ≡ false
     not_before i j d le within h = ⊎_elim
         (λ t. after i j d (ltb-true i j t) within h)
         (λ t. let e : i ≡ j = omega (arith, ltb-false i j t) in subst (λ n. is_lt (cmp (get_or ks n d) k) ≡ false) e h)
         (cases_Bool (ltb i j))
 
-    -- the answers rise along the keys
+    -- the comparisons do not decrease along the keys
     rises : IsNonDecreasingBy (λ y. ordering_index (cmp y k)) ks
     rises = searchable_from_sorted o (λ y. y) ks k (λ j d low within. let e = Less-from_sorted cmp ks j (j + 1) d sorted (omega arith) within in ap is_lt (o.antisymm _ _ ∙ ap ordering_reverse e))
 
-    -- a count, and whether the key there compares equal, make the answer
+    -- the count of lesser keys and the test of the next key make the answer
     pub by_test : (i : ℕ) (b : Bool) → count_less cmp ks k ≡ i → is_equal_at cmp ks k i ≡ b → search_of cmp ks k ≡ (if b then Ok i else Err i)
     by_test i b e h = λ j. if both j then Ok (e j) else Err (e j)
       where
         both : is_equal_at cmp ks k (count_less cmp ks k) ≡ b
         both = ap (is_equal_at cmp ks k) e ∙ h
 
-    -- whether the key inside the list compares equal
+    -- the test whether the key at an index within the list compares equal
     pub test_at : (i : ℕ) (b : Bool) → i < length ks → is_eq (cmp (get_or ks i k) k) ≡ b → is_equal_at cmp ks k i ≡ b
     test_at i b within h = ap (λ t. option_map_or (λ x. is_eq (cmp x k)) t false) (slice_get-get_or ks i k within) ∙ h
 
-    -- a binary search's answer
+    -- the answer of a binary search
     pub searched : (r : Result ℕ ℕ) → IsSearchInRange r (length ks) → IsBinarySearchResult (λ y. cmp y k) ks r → r ≡ search_of cmp ks k
     searched (Ok i) within h =
         let count : count_less cmp ks k ≡ i = count_less-from_parts ks k i (omega arith)
@@ -91,7 +91,7 @@ module _ {K : Type 0} (cmp : K → K → Ordering) where
         (λ t. ap (λ o. option_map_or (λ x. is_eq (cmp x k)) o false) (slice_get_past ks i (ltb-false i (length ks) t)))
         (cases_Bool (ltb i (length ks)))))
 
-  -- the answer of a scan of n keys, which are all, by a test of the key behind the lesser ones
+  -- the answer of a scan of all n keys, from a test of the key after the lesser ones
   module _ (ks : List K) (k : K) (n i : ℕ) (all : length ks ≤ n) (count : i ≡ count_less cmp (take n ks) k) where
     counted : count_less cmp ks k ≡ i
     counted = ap (λ xs. count_less cmp xs k) (sym (take_all n ks all)) ∙ sym count
@@ -110,22 +110,22 @@ module _ {K : Type 0} (cmp : K → K → Ordering) where
   pub count_up_to-yes : (x : K) (xs : List K) (k : K) → is_gt (cmp x k) ≡ false → count_up_to cmp (x ∷ xs) k ≡ suc (count_up_to cmp xs k)
   count_up_to-yes x xs k h = sum_by-cons (λ y. cond (not (is_gt (cmp y k))) 1 0) x xs ∙ ap (λ b. cond (not b) 1 0 + count_up_to cmp xs k) h ∙ omega arith
 
-  -- and another does not
+  -- a first key that is greater does not count up to k
   pub count_up_to-no : (x : K) (xs : List K) (k : K) → is_gt (cmp x k) ≡ true → count_up_to cmp (x ∷ xs) k ≡ count_up_to cmp xs k
   count_up_to-no x xs k h = sum_by-cons (λ y. cond (not (is_gt (cmp y k))) 1 0) x xs ∙ ap (λ b. cond (not b) 1 0 + count_up_to cmp xs k) h ∙ omega arith
 
   module _ (k : K) where
-    -- where all are greater none is less
+    -- where all keys are greater none is less
     pub count_less-none : (ks : List K) → AllByRecursion (λ x. cmp x k ≡ Greater) ks → count_less cmp ks k ≡ 0
     count_less-none [] h = refl
     count_less-none (x ∷ ks) h = count_less-no x ks k (ap is_lt h.0) ∙ count_less-none ks h.1
 
-    -- nor counted up to k
+    -- where all keys are greater none counts up to k
     pub count_up_to-none : (ks : List K) → AllByRecursion (λ x. cmp x k ≡ Greater) ks → count_up_to cmp ks k ≡ 0
     count_up_to-none [] h = refl
     count_up_to-none (x ∷ ks) h = count_up_to-no x ks k (ap is_gt h.0) ∙ count_up_to-none ks h.1
 
-    -- behind the lesser keys, and behind an equal one
+    -- the index after the lesser keys and an equal one
     behind : List K → ℕ
     behind ks = if is_equal_at cmp ks k (count_less cmp ks k) then suc (count_less cmp ks k) else count_less cmp ks k
 
@@ -134,7 +134,7 @@ module _ {K : Type 0} (cmp : K → K → Ordering) where
     behind_by ks n b c e = λ j. if ((ap (is_equal_at cmp ks k) c ∙ e) j) then suc (c j) else c j
 
     module _ (o : IsTotalOrder cmp) where
-      -- a key behind one that is not less is greater
+      -- a key after one that is not less is greater
       pub greater : (x q : K) → cmp x q ≡ Less → is_lt (cmp x k) ≡ false → cmp q k ≡ Greater
       greater x q l h = go (cmp x k) refl
         where
@@ -147,12 +147,12 @@ module _ {K : Type 0} (cmp : K → K → Ordering) where
               let less : cmp k x ≡ Less = o.antisymm k x ∙ ap ordering_reverse t in
               o.antisymm q k ∙ ap ordering_reverse (o.trans k x q less l)
 
-      -- so are all keys behind it
+      -- all keys after one that is not less are greater
       pub all_greater_behind : (x : K) (qs : List K) → AllByRecursion (λ q. cmp x q ≡ Less) qs → is_lt (cmp x k) ≡ false → AllByRecursion (λ q. cmp q k ≡ Greater) qs
       all_greater_behind x [] l h = tt
       all_greater_behind x (q ∷ qs) l h = (greater x q l.0 h, all_greater_behind x qs l.1 h)
 
-      -- among keys that increase those that are not greater are the lesser and the equal one
+      -- among increasing keys, those that are not greater are the lesser ones and an equal one
       up_to : (ks : List K) → IsStrictlySortedBy cmp ks → count_up_to cmp ks k ≡ behind ks
       unfolding IsStrictlySortedBy behind
       up_to [] s = refl
@@ -170,7 +170,7 @@ module _ {K : Type 0} (cmp : K → K → Ordering) where
           go Equal t rest = count_up_to-yes x xs k (ap is_gt t) ∙ ap suc (count_up_to-none xs (all_greater_behind x xs s.0 (ap is_lt t))) ∙ sym (behind_by (x ∷ xs) 0 true (first (ap is_lt t)) (ap is_eq t))
           go Greater t rest = count_up_to-no x xs k (ap is_gt t) ∙ count_up_to-none xs (all_greater_behind x xs s.0 (ap is_lt t)) ∙ sym (behind_by (x ∷ xs) 0 false (first (ap is_lt t)) (ap is_eq t))
 
-      -- what a search found tells how many are not greater
+      -- a search that found the key gives the number of keys that are not greater
       pub up_to-found : (ks : List K) (i : ℕ) → IsStrictlySortedBy cmp ks → search_of cmp ks k ≡ Ok i → count_up_to cmp ks k ≡ suc i
       up_to-found ks i s found = go (is_equal_at cmp ks k (count_less cmp ks k)) refl
         where

@@ -1,4 +1,4 @@
--- How much goes from the right neighbour to the left one: each bound of `balance_inner` and `balance_leaf` is one of these.
+-- The amounts moved from the right neighbour to the left: the bounds of `balance_inner` and `balance_leaf`.
 use Rattle.std.proofs.Common.{◌≡◌, ℕ, ◌+◌, ◌-◌, ◌*◌, ◌<◌, ◌≤◌, List, [], ◌∷◌, ◌++◌, length, take, drop, slice_get, Some, sym, ◌∙◌, arith}
 use Rattle.std.proofs.lemmas.List.{length-take-le}
 use Rattle.std.specs.Int.{div_ceil}
@@ -6,7 +6,7 @@ use Rattle.bforest_nodes.proofs.Cuts.{Balances-inner, Balances-leaf}
 use Rattle.bforest_nodes.proofs.Rows.{last_front}
 use Rattle.bforest_nodes.specs.Content.{Balances, Inner, Leaf}
 
--- what putting a row behind another asks
+-- what appending to a row requires
 pub record Appends (len room from_len from_room moved : ℕ) : Type 0 where
   pub fits : len + moved ≤ room
   pub from_fits : from_len ≤ from_room
@@ -25,7 +25,7 @@ module _ (size right : ℕ) where
     one_tree = omega arith
 
   module _ (most : right ≤ 7) (half : ℕ) (half_is : half ≡ div_ceil (size + right + 2) 2) (many : 8 < size + right + 2) where
-    -- of the keys, and of the children
+    -- how many keys and children are moved
     pub from_keys : half - (size + 1) ≤ right
     from_keys = omega arith
 
@@ -69,7 +69,7 @@ module _ (size right : ℕ) where
             rw (behind, rest, tree_is, front_is, front_tree_is)
             (Balances-inner n (half - (size + 1)) (take size keys) (take right rkeys) (take (size + (half - (size + 1))) appended) (take (size + 1) tree) (take (right + 1) rtree) crit key (omega arith) (omega arith) (omega arith) (omega arith) (omega arith) (omega arith) whole)
 
--- of two leaves
+-- the amounts moved between two leaves
 module _ (n size right half : ℕ) (half_is : half ≡ div_ceil (size + right) 2) (small : size ≤ n) (most : right ≤ n) (many : n < size + right) where
   pub leaf_parts : 2 * size < n → size ≤ half
   leaf_parts under = omega arith

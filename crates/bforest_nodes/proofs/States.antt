@@ -1,4 +1,4 @@
--- What kind of state a content comes from.
+-- The kind of state that represents a content.
 use Rattle.std.proofs.Common.{◌≡◌, ℕ, ◌+◌, ◌*◌, ◌<◌, ◌≤◌, List, None, arith, length, slice_get, sym, take, refl}
 use Rattle.std.proofs.lemmas.List.{length-take}
 use Rattle.std.proofs.lemmas.Option.{slice_get_past}
@@ -11,7 +11,7 @@ use Rattle.bforest_nodes.specs.declared.row.Row.{Row}
 use Rattle.bforest_nodes.specs.declared.node.State.TheVariants.{Branch, Entries, Vacant}
 use Rattle.bforest_nodes.specs.declared.node.State.{State}
 
--- an index among the first so many
+-- an index among the first `count` elements
 within_front : {X : Type 0} (count : ℕ) (xs : List X) (i : ℕ) → i < length (take count xs) → i < count
 within_front count xs i within = omega (arith, length-take count xs)
 
@@ -41,14 +41,14 @@ module _ {K V : Type 0} {n : ℕ} where
       let children : length (take (size + 1) tree.items) ≡ 8 = rw (← view, is) at full in
       omega (arith, length-take (size + 1) tree.items)
 
-  -- a leaf of as many entries as fit
+  -- a full leaf has n entries
   pub full_entries : (s : State K V n) (e : LeafEntries K V n) (whole : Content K V) → content_of s ≡ whole → s ≡ Entries e → Fits s → entry_count whole ≡ n → e.size ≡ n
   full_entries s e whole view is fits full =
       let most : e.size ≤ n = rw is at fits in
       let keys : length (take e.size e.keys.items) ≡ n = rw (← view, is) at full in
       omega (arith, length-take e.size e.keys.items)
 
-  -- an index among a leaf's entries, or behind them
+  -- an index among a leaf's entries
   pub entries_within : (s : State K V n) (e : LeafEntries K V n) (whole : Content K V) (i : ℕ) → content_of s ≡ whole → s ≡ Entries e → i < entry_count whole → i < e.size
   entries_within s e whole i view is within = within_front e.size e.keys.items i (rw (← view, is) at within)
 
@@ -67,14 +67,14 @@ module _ {K V : Type 0} {n : ℕ} where
   pub keys_within : (s : State K V n) (size : ℕ) (keys : Row K 7) (tree : Row Node 8) (whole : Content K V) (i : ℕ) → content_of s ≡ whole → s ≡ Branch size keys tree → i < length (keys_of whole) → i < size
   keys_within s size keys tree whole i view is within = within_front size keys.items i (rw (← view, is) at within)
 
-  -- less than half of a leaf's room is taken
+  -- a leaf less than half full has a size below half
   pub under_half : (s : State K V n) (e : LeafEntries K V n) (whole : Content K V) → content_of s ≡ whole → s ≡ Entries e → Fits s → length e.keys.items ≡ n → 2 * entry_count whole < n → 2 * e.size < n
   under_half s e whole view is fits room under =
       let most : e.size ≤ n = rw is at fits in
       let keys : 2 * length (take e.size e.keys.items) < n = rw (← view, is) at under in
       omega (arith, length-take e.size e.keys.items)
 
-  -- less than half of an inner node's children are there
+  -- an inner node less than half full has few children
   pub few_children : (s : State K V n) (size : ℕ) (keys : Row K 7) (tree : Row Node 8) (whole : Content K V) → content_of s ≡ whole → s ≡ Branch size keys tree → Fits s → length tree.items ≡ 8 → entry_count whole < 4 → size + 1 < 4
   few_children s size keys tree whole view is fits room under =
       let most : size ≤ 7 = rw is at fits in
@@ -89,19 +89,19 @@ module _ {K V : Type 0} {n : ℕ} where
   pub entries_most : (s : State K V n) (e : LeafEntries K V n) → s ≡ Entries e → Fits s → e.size ≤ n
   entries_most s e is fits = rw is at fits
 
-  -- a place among an inner node's keys, or behind them
+  -- an index among an inner node's keys, or just past them
   pub keys_upto : (s : State K V n) (size : ℕ) (keys : Row K 7) (tree : Row Node 8) (whole : Content K V) (i : ℕ) → content_of s ≡ whole → s ≡ Branch size keys tree → i ≤ length (keys_of whole) → i ≤ size
   keys_upto s size keys tree whole i view is within =
       let upto : i ≤ length (take size keys.items) = rw (← view, is) at within in
       omega (arith, length-take size keys.items)
 
-  -- a place among a leaf's entries, or behind them
+  -- an index among a leaf's entries, or just past them
   pub entries_upto : (s : State K V n) (e : LeafEntries K V n) (whole : Content K V) (i : ℕ) → content_of s ≡ whole → s ≡ Entries e → i ≤ entry_count whole → i ≤ e.size
   entries_upto s e whole i view is within =
       let upto : i ≤ length (take e.size e.keys.items) = rw (← view, is) at within in
       omega (arith, length-take e.size e.keys.items)
 
-  -- an inner node has room, or none
+  -- whether an inner node has room
   pub branch_room : (s : State K V n) (size : ℕ) (keys : Row K 7) (tree : Row Node 8) (whole : Content K V) → content_of s ≡ whole → s ≡ Branch size keys tree → size < 7 → entry_count whole < 8
   branch_room s size keys tree whole view is room =
       let count : length (take (size + 1) tree.items) < 8 = omega (arith, length-take (size + 1) tree.items) in
@@ -112,7 +112,7 @@ module _ {K V : Type 0} {n : ℕ} where
       let count : length (take (size + 1) tree.items) < 8 = rw (← view, is) at few in
       omega (arith, length-take (size + 1) tree.items)
 
-  -- a leaf has room, or none
+  -- whether a leaf has room
   pub entries_room : (s : State K V n) (e : LeafEntries K V n) (whole : Content K V) → content_of s ≡ whole → s ≡ Entries e → e.size < n → entry_count whole < n
   entries_room s e whole view is room =
       let count : length (take e.size e.keys.items) < n = omega (arith, length-take e.size e.keys.items) in
@@ -123,7 +123,7 @@ module _ {K V : Type 0} {n : ℕ} where
       let count : length (take e.size e.keys.items) < n = rw (← view, is) at few in
       omega (arith, length-take e.size e.keys.items)
 
-  -- the shape of an inner node, whose keys and children were read
+  -- the shape of an inner node whose keys and children were read
   pub branch_shape : (s : State K V n) (size : ℕ) (keys : Row K 7) (tree : Row Node 8) (whole : Content K V) (ks : List K) (cs : List ℕ) → content_of s ≡ whole → s ≡ Branch size keys tree → Fits s → ks ≡ take size keys.items → length ks ≡ size → cs ≡ take (size + 1) tree.items → length cs ≡ size + 1 → HasShape n whole
   branch_shape s size keys tree whole ks cs view is fits keys_are count tree_is children =
       let most : size ≤ 7 = rw is at fits in

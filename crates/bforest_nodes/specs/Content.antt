@@ -1,10 +1,10 @@
--- What a node holds, and what each call makes of it.
+-- What a node holds, and how each call changes it.
 use Rattle.std.specs.Prelude.{◌≡◌, ℕ, ◌+◌, ◌-◌, ◌*◌, ◌/◌, ◌%◌, ◌<◌, ◌≤◌, ◌==◌, nat_lt, nat_le, List, [], ◌∷◌, ◌++◌, length, take, drop, insert, remove, slice_get, slice_set, Option, Some, None, if◌then◌else◌}
 use Rattle.bforest_nodes.specs.declared.node.Removed.TheVariants.{Empty, Healthy, Rightmost, Underflow}
 use Rattle.bforest_nodes.specs.declared.node.Removed.{Removed}
 
--- an inner node has keys and one child more, a leaf has keys and as many values, and a free node
--- names the next free one
+-- an inner node has keys and one child more, a leaf has keys and as many values, and a free node names the
+-- next free one
 pub data Content (K V : Type 0) : Type 0 where
   Inner : List K → List ℕ → Content K V
   Leaf : List K → List V → Content K V
@@ -14,7 +14,7 @@ pub data Content (K V : Type 0) : Type 0 where
 abbrev pub most_children : ℕ
 most_children = 8
 
--- how many of so many children or entries the left neighbour gets
+-- how many of `total` children or entries the left neighbour gets
 abbrev pub left_share : ℕ → ℕ
 left_share total = total - total / 2
 
@@ -63,8 +63,8 @@ module _ {K V : Type 0} where
   keys_of (Leaf keys vals) = keys
   keys_of (Free next) = []
 
-  -- an inner node has a child more than keys, and at most 8; a leaf has as many values as keys, and
-  -- at most n
+  -- an inner node has one child more than keys, and at most 8; a leaf has as many values as keys, and at most
+  -- n
   abbrev pub HasShape : ℕ → Content K V → Type 0
   HasShape n (Inner keys children) = (length children ≡ length keys + 1) × (length children ≤ 8)
   HasShape n (Leaf keys vals) = (length keys ≡ length vals) × (length keys ≤ n)
@@ -80,21 +80,21 @@ module _ {K V : Type 0} where
   children_of (Leaf keys vals) = []
   children_of (Free next) = []
 
-  -- the key stands at this place among the keys, and the child behind it
+  -- the inner node with the key inserted at this index and the child after it
   abbrev pub with_child : Content K V → ℕ → K → ℕ → Content K V
   with_child (Inner keys children) index key child =
       Inner (insert keys index key) (insert children (index + 1) child)
   with_child (Leaf keys vals) index key child = Leaf keys vals
   with_child (Free next) index key child = Free next
 
-  -- the entry stands at this place
+  -- the leaf with the entry inserted at this index
   abbrev pub with_entry : Content K V → ℕ → K → V → Content K V
   with_entry (Inner keys children) index key value = Inner keys children
   with_entry (Leaf keys vals) index key value = Leaf (insert keys index key) (insert vals index value)
   with_entry (Free next) index key value = Free next
 
-  -- the child at this place is gone, and the key before it, which is the first key for the first
-  -- child; the only child stays
+  -- the inner node without the child at this index and without the key before it (the first key for the first
+  -- child); an only child stays
   abbrev pub without_child : Content K V → ℕ → Content K V
   without_child (Inner keys children) index =
       if length children == 1 then Inner keys children
@@ -102,50 +102,50 @@ module _ {K V : Type 0} where
   without_child (Leaf keys vals) index = Leaf keys vals
   without_child (Free next) index = Free next
 
-  -- a leaf with these values in place of as many of its own
+  -- a leaf whose first values are replaced by these
   abbrev pub with_vals : Content K V → List V → Content K V
   with_vals (Inner keys children) vals = Inner keys children
   with_vals (Leaf keys old) vals = Leaf keys (take (length old) (vals ++ drop (length vals) old))
   with_vals (Free next) vals = Free next
 
-  -- a leaf with this value at the entry
+  -- a leaf with this value at the index
   abbrev pub with_value : Content K V → ℕ → V → Content K V
   with_value (Inner keys children) index value = Inner keys children
   with_value (Leaf keys vals) index value = Leaf keys (slice_set vals index value)
   with_value (Free next) index value = Free next
 
-  -- an inner node with this separator at the place
+  -- an inner node with this separator at the index
   abbrev pub with_key : Content K V → ℕ → K → Content K V
   with_key (Inner keys children) index key = Inner (slice_set keys index key) children
   with_key (Leaf keys vals) index key = Leaf keys vals
   with_key (Free next) index key = Free next
 
-  -- the entry at this place is gone
+  -- the leaf without the entry at this index
   abbrev pub without_entry : Content K V → ℕ → Content K V
   without_entry (Inner keys children) index = Inner keys children
   without_entry (Leaf keys vals) index = Leaf (remove keys index) (remove vals index)
   without_entry (Free next) index = Free next
 
-  -- the first children or entries, so many
+  -- the first `count` children or entries
   abbrev pub first_part : ℕ → Content K V → Content K V
   first_part count (Inner keys children) = Inner (take (count - 1) keys) (take count children)
   first_part count (Leaf keys vals) = Leaf (take count keys) (take count vals)
   first_part count (Free next) = Free next
 
-  -- the children or entries after the first so many
+  -- the children or entries after the first `count`
   abbrev pub last_part : ℕ → Content K V → Content K V
   last_part count (Inner keys children) = Inner (drop count keys) (drop count children)
   last_part count (Leaf keys vals) = Leaf (drop count keys) (drop count vals)
   last_part count (Free next) = Free next
 
-  -- the key between the first so many and the rest: for a leaf the first key of the rest, for an
-  -- inner node the key between two children, which is in neither part
+  -- the key between the first `count` and the rest: for a leaf the first key of the rest, for an inner node
+  -- the key between two children, which is in neither part
   abbrev pub separator : ℕ → Content K V → Option K
   separator count (Inner keys children) = slice_get keys (count - 1)
   separator count (Leaf keys vals) = slice_get keys count
   separator count (Free next) = None
 
-  -- two neighbours of one kind as one node, with the key between them, which a leaf does not keep
+  -- two neighbours of one kind merged into one node, with the key between them, which a leaf does not keep
   abbrev pub joined : Content K V → K → Content K V → Content K V
   joined (Inner keys children) key (Inner more_keys more_children) =
       Inner (keys ++ key ∷ more_keys) (children ++ more_children)
@@ -156,22 +156,21 @@ module _ {K V : Type 0} where
   joined (Leaf keys vals) key (Free next) = Free None
   joined (Free first) key other = Free None
 
-  -- the two are what was whole, cut behind the first so many children or entries, with the key
-  -- between them
+  -- `left` and `right` are `whole` cut after its first `count` children or entries, with the key between them
   pub record IsCut (whole : Content K V) (count : ℕ) (left : Content K V) (key : K) (right : Content K V) : Type 0 where
     pub left_is : left ≡ first_part count whole
     pub key_is : separator count whole ≡ Some key
     pub right_is : right ≡ last_part count whole
 
-  -- how many children or entries stay in the left half, where an insertion at this index had no room
+  -- how many children or entries stay in the left half of a node that was full at an insertion at this index
   abbrev pub left_half : ℕ → Content K V → ℕ → ℕ
   left_half n (Inner keys children) index = 4
   left_half n (Leaf keys vals) index = if nat_le index (n / 2) then n / 2 else (n + 1) / 2
   left_half n (Free next) index = 0
 
 module _ {K V : Type 0} where
-  -- what balancing two neighbours makes of them: one where all fits into one, and else two of which
-  -- the left has as many as the right, or one more
+  -- two neighbours after balancing: one node where everything fits into one, else two, of which the left has
+  -- as many as the right or one more
   pub record Balances (n : ℕ) (left : Content K V) (key : K) (right : Content K V) (new_key : Option K) (new_left new_right : Content K V) : Type 0 where
     pub merges : entry_count left + entry_count right ≤ entry_capacity n left
         → (new_key ≡ None) × (new_right ≡ joined left key right)
@@ -180,7 +179,7 @@ module _ {K V : Type 0} where
         × IsCut (joined left key right) (left_share (entry_count left + entry_count right)) new_left kept new_right
         × (joined new_left kept new_right ≡ joined left key right)
 
--- the answer after the entry at this index was removed, where so many are left and at most so many fit
+-- the answer after the entry at this index was removed, with this number left and this capacity
 abbrev pub removed_answer : ℕ → ℕ → ℕ → Removed
 removed_answer most index left =
     if nat_le most (2 * left) then (if index == left then Rightmost else Healthy)

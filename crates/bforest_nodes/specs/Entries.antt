@@ -5,7 +5,7 @@ use Rattle.std.specs.Ordering.{is_eq, is_lt}
 use Rattle.std.specs.Prelude.{Bool, Err, List, Ok, Option, None, Result, Some, [], count_by, if◌then◌else◌, insert, is_some, option_and_then, option_map, remove, slice_get, suc, zero, ◌∷◌, ℕ}
 use Rattle.std.specs.declared.cmp.Ordering.{Ordering}
 
--- with v as the value of the entry at p
+-- the list with v as the value of the entry at p
 abbrev pub with_value : {K X : Type 0} → List (K × X) → ℕ → X → List (K × X)
 with_value [] p v = []
 with_value (e ∷ es) zero v = (e.0, v) ∷ es
@@ -40,10 +40,11 @@ module _ {K X : Type 0} (cmp : K → K → Ordering) where
   abbrev pub search_for : List (K × X) → K → Result ℕ ℕ
   search_for es k = if is_present es k then Ok (place es k) else Err (place es k)
 
-  -- with v as the value of k: written at the entry whose key compares equal, else put in at the place of k
+  -- the list with v as the value of k: written at the entry whose key compares equal, else inserted at the
+  -- place of k
   abbrev pub put : List (K × X) → K → X → List (K × X)
   put es k v = if is_present es k then with_value es (place es k) v else insert es (place es k) (k, v)
 
-  -- without the entry whose key compares equal to k, if there is one
+  -- the list without the entry whose key compares equal to k, if present
   abbrev pub cut : List (K × X) → K → List (K × X)
   cut es k = if is_present es k then remove es (place es k) else es

@@ -1,4 +1,4 @@
-//! The entries of a leaf, as they lie in it.
+//! The entries of a leaf, as they are stored in it.
 ghost use Rattle.std.specs.Borrow.{sem};
 ghost use Rattle.std.specs.Prelude.{◌≡◌, ◌≤◌, take};
 

@@ -1,8 +1,8 @@
 //! Loans out of an array.
 //!
-//! The borrow checker does not show what an array ends as where one of its elements goes to the caller. Where the first ones
-//! go, it shows that for a list of their length alone, and a clause says it of each list. So the two functions here are proved
-//! by hand. Those that call them are not.
+//! The borrow checker does not state the final value of an array of which an element is returned. Where the first elements are returned, it
+//! states it for a list of their length alone, and a clause states it of each list. Therefore the two functions here are proved by hand.
+//! Those that call them are not.
 ghost use Rattle.std.specs.Borrow.{sem, Array, Lends};
 ghost use Rattle.std.specs.Prelude.{◌++◌, ◌<◌, ◌≡◌, ◌≤◌, Some, drop, length, slice_get, slice_set, take};
 

@@ -12,23 +12,23 @@ use crate::row::Row;
 use std::alloc::{AllocError, Global};
 use std::marker::Model;
 
-/// How many children an inner node has at most.
+/// The most children of an inner node.
 const INNER_SIZE: usize = 8;
 
-/// How a node stands after one of its children or entries was removed, by how many are left and how many it can hold.
+/// The state of a node after one of its children or entries was removed, by how many are left and its capacity.
 #[derive(Clone, Copy, Debug, PartialEq, Eq)]
 pub enum Removed {
     /// At least half full, and the removed one was not the last.
     Healthy,
     /// At least half full, and the removed one was the last.
     Rightmost,
-    /// Less than half full, and not empty: the node wants balancing with its right neighbour.
+    /// Less than half full, and not empty: the node has to be balanced with its right neighbour.
     Underflow,
-    /// None is left.
+    /// The node is empty.
     Empty,
 }
 
-/// What `split` made: how many children or entries each half has, and the key between them.
+/// The result of `split`: how many children or entries each half has, and the key between them.
 #[derive(Drop)]
 pub struct SplitOff<K> {
     /// Of the left half.
@@ -89,7 +89,7 @@ impl<K: Copy, V: Copy, const N: usize> NodeData<K, V, N> {
         matches!(self.state, State::Vacant(_))
     }
 
-    /// Whether it is an inner node.
+    /// Whether the slot is an inner node.
     pub fn is_inner(&self) -> bool
         ensures inner { IsTrue result ↔ IsInner self.now }
     {
@@ -122,7 +122,7 @@ impl<K: Copy, V: Copy, const N: usize> NodeData<K, V, N> {
         }
     }
 
-    /// The node, whatever it held, becomes a free one, before this one in the chain. For the pool alone.
+    /// Makes the slot free, whatever it held, with `next` after it in the chain. For the pool alone.
     pub fn make_free(&mut self, next: PackedNode)
         ensures { self.new ≡ Free next }
     {
@@ -140,7 +140,7 @@ impl<K: Copy, V: Copy, const N: usize> NodeData<K, V, N> {
         }
     }
 
-    /// Becomes an inner node of two children, whatever it held.
+    /// Makes the slot an inner node of two children, whatever it held.
     pub fn inner(&mut self, left: Node, key: K, right: Node)
         ensures node { self.new ≡ Inner (key ∷ []) (left ∷ right ∷ []) }
     {
@@ -149,7 +149,7 @@ impl<K: Copy, V: Copy, const N: usize> NodeData<K, V, N> {
         self.state = State::Branch(1, Row { items: [key; 7] }, tree);
     }
 
-    /// Becomes a leaf of one entry, whatever it held.
+    /// Makes the slot a leaf of one entry, whatever it held.
     pub fn leaf(&mut self, key: K, value: V)
         ensures node { self.new ≡ Leaf (key ∷ []) (value ∷ []) }
     {
@@ -194,8 +194,8 @@ impl<K: Copy, V: Copy, const N: usize> NodeData<K, V, N> {
         }
     }
 
-    /// The index of the child of an inner node below which a search for `key` goes on, and the child: so many keys are not greater. It
-    /// compares as `Comparator::upper_bound_prefix` does.
+    /// The index of the child of an inner node in which a search for `key` continues, which is how many keys are not greater, and the
+    /// child. Compares as `Comparator::upper_bound_prefix` does.
     pub fn follow<C: Comparator<K>>(&self, key: K, comp: &C) -> (usize, Node)
         requires inner { IsInner self.now }
         requires sorted { IsStrictlySortedBy (C.order comp.now) (keys_of self.now) }
@@ -213,7 +213,7 @@ impl<K: Copy, V: Copy, const N: usize> NodeData<K, V, N> {
         }
     }
 
-    /// The place of `key` among the keys of a leaf, and its value where it is there. It compares as `Comparator::search_prefix` does.
+    /// The place of `key` among the keys of a leaf, and its value if it is there. Compares as `Comparator::search_prefix` does.
     pub fn look_up<C: Comparator<K>>(&self, key: K, comp: &C) -> (usize, Option<V>)
         requires leaf { IsLeaf self.now }
         requires sorted { IsStrictlySortedBy (C.order comp.now) (keys_of self.now) }
@@ -302,7 +302,7 @@ impl<K: Copy, V: Copy, const N: usize> NodeData<K, V, N> {
         }
     }
 
-    /// The key and the value of a leaf's entry, or nothing where it has no entry of this index.
+    /// The key and the value of a leaf's entry, or `None` if the leaf has no entry at this index.
     pub fn get_entry(&self, index: usize) -> Option<(K, V)>
         requires leaf { IsLeaf self.now }
         ensures key { option_map (λ e. e.0) result ≡ slice_get (keys_of self.now) index }
@@ -347,7 +347,7 @@ impl<K: Copy, V: Copy, const N: usize> NodeData<K, V, N> {
         }
     }
 
-    /// Puts the entry in at `index`. Where the leaf has `N` entries it answers false, and the leaf is unchanged.
+    /// Inserts the entry at `index`. If the leaf has `N` entries it returns false, and leaves the leaf unchanged.
     pub fn try_leaf_insert(&mut self, index: usize, key: K, value: V) -> bool
         requires leaf { IsLeaf self.old }
         requires within { index ≤ entry_count self.old }
@@ -369,7 +369,7 @@ impl<K: Copy, V: Copy, const N: usize> NodeData<K, V, N> {
         }
     }
 
-    /// Puts the key in at `index`, and the node behind it at `index + 1`. Where there are 8 children it answers false, and the node is
+    /// Inserts the key at `index`, and the node after it at `index + 1`. If there are 8 children it returns false, and leaves the node
     /// unchanged.
     pub fn try_inner_insert(&mut self, index: usize, key: K, node: Node) -> bool
         requires inner { IsInner self.old }
@@ -392,7 +392,7 @@ impl<K: Copy, V: Copy, const N: usize> NodeData<K, V, N> {
         }
     }
 
-    /// Takes out the child at `index` and the key before it, which for the first child is the first key. With a single child it answers
+    /// Removes the child at `index` and the key before it, which for the first child is the first key. With a single child it returns
     /// `Empty` and leaves the node as it was.
     pub fn inner_remove(&mut self, index: usize) -> Removed
         requires inner { IsInner self.old }
@@ -414,7 +414,7 @@ impl<K: Copy, V: Copy, const N: usize> NodeData<K, V, N> {
         }
     }
 
-    /// Takes out the entry at `index`.
+    /// Removes the entry at `index`.
     pub fn leaf_remove(&mut self, index: usize) -> Removed
         requires leaf { IsLeaf self.old }
         requires within { index < entry_count self.old }
@@ -433,7 +433,7 @@ impl<K: Copy, V: Copy, const N: usize> NodeData<K, V, N> {
         }
     }
 
-    /// Halves a full node, at which an insertion at `insert_index` had no room. The right half goes to `rhs`, whatever that held.
+    /// Splits a full node, at which an insertion at `insert_index` had no room. The right half is written to `rhs`, whatever that held.
     ///
     /// A leaf keeps `N / 2` entries where the insertion index is at most `N / 2`, else one more, so that both halves have `(N + 1) / 2`
     /// once the insertion is made. An inner node keeps four children, four go to the right, and the key between these stays in neither.
@@ -452,7 +452,7 @@ impl<K: Copy, V: Copy, const N: usize> NodeData<K, V, N> {
         }
     }
 
-    // Cuts a full inner node behind its first four children.
+    // Cuts a full inner node after its first four children.
     fn split_inner(&mut self, rhs: &mut Self) -> SplitOff<K>
         requires inner { IsInner self.old }
         requires full { entry_count self.old ≡ 8 }
@@ -508,11 +508,11 @@ impl<K: Copy, V: Copy, const N: usize> NodeData<K, V, N> {
         }
     }
 
-    /// Balances an underflowed node with its right neighbour, from which `crit_key` separates it, and answers the key that separates them
+    /// Balances an underflowed node with its right neighbour, from which `crit_key` separates it, and returns the key that separates them
     /// afterwards.
     ///
-    /// Where one node can hold everything, all goes to the right one and the answer is `None`; what the left one holds then is left open.
-    /// Otherwise the right one gets half, rounded down, and the left one the rest.
+    /// Where one node can hold everything, all moves to the right one and the result is `None`; what the left one holds then is
+    /// unspecified. Otherwise the right one gets half, rounded down, and the left one the rest.
     pub fn balance(&mut self, crit_key: K, rhs: &mut Self) -> Option<K>
         requires kind { IsSameKind self.old rhs.old }
         requires filled { 0 < entry_count self.old }
@@ -602,7 +602,7 @@ impl<K: Copy, V: Copy, const N: usize> NodeData<K, V, N> {
     }
 }
 
-// How a node of this capacity stands with so many entries, after the one at `index` was removed.
+// The state of a node of this capacity with `left` entries, after the one at `index` was removed.
 fn answer_of(index: usize, left: usize, most: usize) -> Removed
     requires { left < 2 ^ 32 }
     ensures { result ≡ removed_answer most index left }

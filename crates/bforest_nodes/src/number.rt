@@ -1,4 +1,4 @@
-//! A node's number, and a number or none in one word.
+//! A node's number, and an optional number in one word.
 ghost use Rattle.std.specs.Prelude.{◌≡◌, ◌<◌, ◌↔◌, IsTrue, IsNone, None, Some};
 
 use std::marker::Model;
@@ -30,7 +30,7 @@ impl Node {
         Node { number }
     }
 
-    /// Its number.
+    /// The number of the node.
     pub fn number(self) -> u32
         ensures value { result ≡ self }
         ensures below { result < 4294967295 }
@@ -39,7 +39,7 @@ impl Node {
     }
 }
 
-/// A node or none, in 32 bits.
+/// An optional node, in 32 bits.
 #[derive(Clone, Copy, PartialEq, Eq)]
 pub struct PackedNode {
     raw: u32,
@@ -87,14 +87,14 @@ impl PackedNode {
         }
     }
 
-    /// Whether there is none.
+    /// Whether there is no node.
     pub fn is_none(self) -> bool
         ensures none { IsTrue result ↔ IsNone self }
     {
         self.raw == u32::MAX
     }
 
-    /// Takes the node out, and leaves none.
+    /// Removes the node and returns it, if there is one.
     pub fn take(&mut self) -> Option<Node>
         ensures value { result ≡ self.old }
         ensures after { self.new ≡ None }
@@ -105,5 +105,5 @@ impl PackedNode {
     }
 }
 
-/// What the entry of a set has for a value: nothing.
+/// The value of a set's entry: nothing.
 pub type SetValue = ();

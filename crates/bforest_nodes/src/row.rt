@@ -1,14 +1,14 @@
-//! Elements that lie inline in a node, of which the node says how many count.
+//! Elements stored inline in a node, which keeps how many of them count.
 ghost use Rattle.std.specs.Prelude.{◌≡◌, ◌+◌, ◌-◌, ◌<◌, ◌≤◌, ◌∷◌, ◌++◌, [], ℕ, if◌then◌else◌, nat_le, nat_lt, take, drop, insert, remove, length, get_or, slice_get, slice_set, Some};
 ghost use Rattle.std.specs.Borrow.{sem};
 
 use crate::lent;
 
-/// How long a row is at most that moves its elements by a choice for each place. The places are the same at each call, so that the compiler
-/// needs neither a loop nor a branch.
+/// The most elements of a row that moves them by a choice for each place. The places are the same at each call, so that the compiler needs
+/// neither a loop nor a branch.
 const SHORT: usize = 8;
 
-/// Room for `N` elements. What lies behind those that count has no meaning.
+/// Room for `N` elements. Those after the ones that count have no meaning.
 #[derive(Clone, Copy)]
 pub(crate) struct Row<T, const N: usize> {
     pub(crate) items: [T; N],
@@ -26,8 +26,7 @@ impl<T: Copy, const N: usize> Row<T, N> {
         &self.items[..len]
     }
 
-    /// The first `len` elements, as `front` gives them. That they are at most `N` is said to the compiler too, which then
-    /// unrolls a loop over a few.
+    /// The first `len` elements, as `front` gives them. The compiler is given the bound `N` too, and then unrolls a loop over a few.
     pub(crate) fn capped_front(&self, len: usize) -> &[T]
         requires { len ≤ N }
         ensures value { result.now ≡ take len self.now.items }
@@ -74,7 +73,7 @@ impl<T: Copy, const N: usize> Row<T, N> {
         self.items[index] = x;
     }
 
-    /// Puts an element behind the first `len`.
+    /// Appends an element after the first `len`.
     pub(crate) fn push(&mut self, len: usize, x: T)
         requires { len < N }
         ensures { take (len + 1) self.new.items ≡ take len self.old.items ++ x ∷ [] }
@@ -82,7 +81,7 @@ impl<T: Copy, const N: usize> Row<T, N> {
         self.items[len] = x;
     }
 
-    /// Puts an element in at an index of the first `len`.
+    /// Inserts an element at an index of the first `len`.
     pub(crate) fn insert(&mut self, len: usize, index: usize, x: T)
         requires room { len < N }
         requires within { index ≤ len }
@@ -96,7 +95,7 @@ impl<T: Copy, const N: usize> Row<T, N> {
         self.items[index] = x;
     }
 
-    /// Takes out the element at an index of the first `len`.
+    /// Removes the element at an index of the first `len`.
     #[tactic(auto, using(crate::proofs::Rows::removed))]
     pub(crate) fn remove(&mut self, len: usize, index: usize)
         requires room { len ≤ N }
@@ -112,7 +111,7 @@ impl<T: Copy, const N: usize> Row<T, N> {
         }
     }
 
-    /// The elements of the first `len` behind the first `at`.
+    /// The elements of the first `len` after the first `at`.
     #[tactic(auto, using(crate::proofs::Rows::removed_front))]
     pub(crate) fn tail(&self, len: usize, at: usize) -> Self
         requires room { len ≤ N }
@@ -124,7 +123,7 @@ impl<T: Copy, const N: usize> Row<T, N> {
         row
     }
 
-    /// Puts the first `count` elements of `front` before the first `len` of this row.
+    /// Inserts the first `count` elements of `front` before the first `len` of this row.
     pub(crate) fn put_before(&mut self, len: usize, front: &Self, count: usize)
         requires { count + len ≤ N }
         ensures { take (count + len) self.new.items ≡ take count front.now.items ++ take len self.old.items }
@@ -133,7 +132,7 @@ impl<T: Copy, const N: usize> Row<T, N> {
         self.items[..count].copy_from_slice(front.front(count));
     }
 
-    /// Puts the first `count` of the first `from_len` elements of `from` behind the first `len` of this row.
+    /// Appends the first `count` of the first `from_len` elements of `from` after the first `len` of this row.
     pub(crate) fn append(&mut self, len: usize, from: &Self, from_len: usize, count: usize)
         requires room { len + count ≤ N }
         requires from_room { from_len ≤ N }
@@ -145,7 +144,7 @@ impl<T: Copy, const N: usize> Row<T, N> {
         items[len..len + count].copy_from_slice(from.front(count));
     }
 
-    /// Takes out the first `count` of the first `len` elements.
+    /// Removes the first `count` of the first `len` elements.
     #[tactic(auto, using(crate::proofs::Rows::removed_front))]
     pub(crate) fn remove_front(&mut self, len: usize, count: usize)
         requires room { len ≤ N }
@@ -156,7 +155,7 @@ impl<T: Copy, const N: usize> Row<T, N> {
     }
 }
 
-// Moves the elements from an index on up by one place, where the last falls off. The one at the index stays there too.
+// Moves the elements from an index on up by one place, which drops the last. The one at the index stays there too.
 fn shift_up<T: Copy, const N: usize>(items: &mut [T; N], index: usize)
     ensures len { length items.new ≡ length items.old }
     ensures moved { (j : ℕ) (d : T) → j < N
@@ -168,7 +167,7 @@ fn shift_up<T: Copy, const N: usize>(items: &mut [T; N], index: usize)
     }
 }
 
-// Moves the elements behind an index down by one place. The last stays in its place too.
+// Moves the elements after an index down by one place. The last stays in its place too.
 fn shift_down<T: Copy, const N: usize>(items: &mut [T; N], index: usize)
     requires { index < N }
     ensures len { length items.new ≡ length items.old }

@@ -1,6 +1,6 @@
 //! The sizes of the nodes of one level.
 
-/// The node in which a place lies, and the place in it. Where a place behind a node's last counts, `is_behind_allowed`.
+/// The node in which a place is, and the place in it. The place just past a node's last counts as its own if `is_behind_allowed`.
 pub(crate) fn node_at(level: &[usize], place: usize, is_behind_allowed: bool) -> (usize, usize) {
     let mut left = place;
     for (index, size) in level.iter().enumerate() {
@@ -12,12 +12,12 @@ pub(crate) fn node_at(level: &[usize], place: usize, is_behind_allowed: bool) ->
     (0, 0)
 }
 
-/// The sizes of the halves of a full inner node of which the child at an index became two.
+/// The sizes of the halves of a full inner node whose child at an index was split.
 pub(crate) fn halves_of_children(index: usize) -> (usize, usize) {
     if index < 4 { (5, 4) } else { (4, 5) }
 }
 
-/// Takes one away from a node that may have `most`. Says whether the node goes.
+/// Removes one element of a node that may have `most`. Returns whether the node is removed.
 pub(crate) fn lose_one(level: &mut Vec<usize>, index: usize, most: usize) -> bool {
     let Some(size) = level.get_mut(index) else {
         return false;
@@ -36,7 +36,7 @@ pub(crate) fn lose_one(level: &mut Vec<usize>, index: usize, most: usize) -> boo
     true
 }
 
-// Settles a node of less than half of `most` with its right neighbour, if it has one. Says whether the node goes into it.
+// Balances a node of less than half of `most` with its right neighbour, if it has one. Returns whether the node is merged into it.
 fn is_settled(level: &mut [usize], index: usize, most: usize) -> bool {
     let left = level.get(index).copied().unwrap_or(0);
     let Some(next) = level.get_mut(index.saturating_add(1)) else {

@@ -3,8 +3,8 @@
 use crate::level::{halves_of_children, lose_one, node_at};
 use std::alloc::{AllocError, Global};
 
-/// A map as its list, and the sizes of its tree's nodes, level by level, the leaves first. A leaf may have an odd number of entries, from 3
-/// on.
+/// A map as its list, and the sizes of its tree's nodes, level by level, the leaves first. The capacity of a leaf is an odd number of at
+/// least 3.
 #[derive(Drop)]
 pub struct Plain {
     alloc: Global,
@@ -14,7 +14,7 @@ pub struct Plain {
 }
 
 impl Plain {
-    /// No entry, and no node. A leaf may have so many entries.
+    /// Makes an empty map, without nodes, whose leaves have at most `most` entries.
     pub fn new(alloc: Global, most: usize) -> Plain {
         Plain {
             alloc,
@@ -77,7 +77,7 @@ impl Plain {
         full.saturating_add(1)
     }
 
-    /// Puts an entry in, or writes the value where the key is present.
+    /// Inserts an entry, or writes the value if the key is present.
     pub fn insert(&mut self, key: u32, value: u32) -> Result<(), AllocError> {
         let place = self.place(key);
         if self.get(key).is_some() {
@@ -93,7 +93,7 @@ impl Plain {
         Ok(())
     }
 
-    /// Takes an entry out, and answers its value.
+    /// Removes an entry, and returns its value.
     pub fn remove(&mut self, key: u32) -> Option<u32> {
         let old = self.get(key)?;
         let place = self.place(key);
@@ -101,7 +101,7 @@ impl Plain {
         Some(old)
     }
 
-    /// Adds a number to each value, in order, and keeps the entries whose keys leave a rest under a divisor.
+    /// Adds a number to each value, in order, and keeps the entries whose keys leave a remainder under a divisor.
     pub fn retain_rests(&mut self, divisor: u32, added: u32) {
         let mut place = 0usize;
         for _asked in 0..self.list.len() {
@@ -123,12 +123,12 @@ impl Plain {
         self.sizes.clear();
     }
 
-    // How many keys are less.
+    // The number of lesser keys.
     fn place(&self, key: u32) -> usize {
         self.list.iter().filter(|entry| entry.0 < key).count()
     }
 
-    // The most that a node at a height may have.
+    // The capacity of a node at a height.
     fn most_at(&self, height: usize) -> usize {
         if height == 0 { self.most } else { 8 }
     }
@@ -143,7 +143,7 @@ impl Plain {
         }
     }
 
-    // The sizes after an insertion at a place.
+    // Updates the sizes for an insertion at a place.
     fn grow(&mut self, place: usize) -> Result<(), AllocError> {
         let mut at = place;
         for height in 0..self.sizes.len() {
@@ -171,7 +171,7 @@ impl Plain {
         Ok(())
     }
 
-    // The list and the sizes after the entry at a place went.
+    // Updates the list and the sizes for a removal at a place.
     fn remove_at(&mut self, place: usize) {
         if place < self.list.len() {
             self.list.remove(place);
@@ -191,7 +191,7 @@ impl Plain {
         self.trim();
     }
 
-    // Roots that are empty or have a single child go.
+    // Discards roots that are empty or have a single child.
     fn trim(&mut self) {
         for height in (0..self.sizes.len()).rev() {
             match self.level(height) {
@@ -204,7 +204,7 @@ impl Plain {
     }
 }
 
-// A node becomes two, of these sizes.
+// Replaces a node by two of these sizes.
 fn split(
     level: &mut Vec<usize>,
     index: usize,

@@ -1,31 +1,31 @@
--- One entry more in a row: where its node has room, and where it is halved.
+-- A row with one more entry: where its node has room, and where it is split.
 use Rattle.std.proofs.Common.{◌≡◌, ◌⊎◌, ◌/◌, ℕ, suc, ◌+◌, ◌-◌, ◌≤◌, ◌<◌, nat_lt, if◌then◌else◌, Bool, true, false, Option, Some, None, List, [], ◌∷◌, ◌++◌, length, refl, sym, ap, ◌∙◌, inl, inr, append_assoc, length-append, arith}
 use Rattle.bforest_core.proofs.Words.{append-nil, LevelNode, node, flat, head_of, heads, sizes, FitRow, inner_gain, past, leaf_gain, IsAt}
 use Rattle.bforest_core.proofs.rows.Bounds.{below_lt, above_lt, upto_le, past_le}
 use Rattle.bforest_core.proofs.rows.LevelRows.{flat-append, sizes-append, least-le, FitRow-split, FitRow-join, heads-append}
 
--- one element more
+-- a list with one more element is not shorter
 pub one_more : {A : Type 0} (a : List A) (x y : A) (b : List A) → length (a ++ x ∷ b) ≤ length (a ++ x ∷ y ∷ b)
 one_more a x y b = omega (arith, length-append a (x ∷ b), length-append a (x ∷ y ∷ b))
 
 module _ {K X : Type 0} where
-  -- a node's head is that of its first entry
+  -- a node's head depends on its first entry alone
   pub head-grown : (n : ℕ) (l : List (K × X)) (x : K × X) (r s : List (K × X)) → head_of n (l ++ x ∷ r) ≡ head_of n (l ++ x ∷ s)
   head-grown n [] x r s = refl
   head-grown n (z ∷ l) x r s = refl
 
-  -- an entry put into a node with room
+  -- a row fits after an insertion into a node with room
   pub FitRow-put : (half most : ℕ) (before after : List (LevelNode K X)) (m : ℕ) (es fs : List (K × X)) → length fs ≡ suc (length es) → length es < most → FitRow half most (before ++ node m es ∷ after) → FitRow half most (before ++ node m fs ∷ after)
   FitRow-put half most before after m es fs more lt f =
       let s = FitRow-split half most before (node m es) after f in
       FitRow-join half most before (node m fs) after s.0 (omega (arith, more, s.1.0), omega (arith, more, lt), s.1.2)
 
-  -- a node that became two
+  -- splitting a node keeps the entries of the row
   pub flat-halved : (before after : List (LevelNode K X)) (m n : ℕ) (xs ys : List (K × X)) → flat (before ++ node m xs ∷ node n ys ∷ after) ≡ flat before ++ ((xs ++ ys) ++ flat after)
   flat-halved before after m n xs ys =
       flat-append before _ ∙ ap (λ z. flat before ++ z) (sym (append_assoc xs ys (flat after)))
 
-  -- it is seen as two from above
+  -- a split node has two heads in the level above
   pub heads-halved : (before after : List (LevelNode K X)) (m n : ℕ) (x : K × X) (xs : List (K × X)) (y : K × X) (ys : List (K × X)) (key : K) → key ≡ y.0 → heads (before ++ node m (x ∷ xs) ∷ node n (y ∷ ys) ∷ after) ≡ heads before ++ (x.0, m) ∷ (key, n) ∷ heads after
   heads-halved before after m n x xs y ys key is = rw (heads-append before (node m (x ∷ xs) ∷ node n (y ∷ ys) ∷ after), is) refl
 
@@ -35,7 +35,7 @@ module _ {K X : Type 0} where
       FitRow-join half most before (node m xs) (node n ys ∷ after) s.0 (hx, mx, (omega (arith, hy, least-le half one after), my, s.1.2))
 
 module _ {K X : Type 0} where
-  -- where a path stands in a row of which one node became two: in the left half or in the right one
+  -- where a path stands in a row of which one node was split: in the left half or in the right one
   abbrev pub InHalf : List (LevelNode K X) → ℕ → ℕ → List (K × X) → List (K × X) → List (LevelNode K X) → ℕ → ℕ → ℕ → Bool → Type 0
   InHalf before n right xs ys after m j p moved =
       (at : IsAt (before ++ node n xs ∷ node right ys ∷ after) m j p) × (length at.before ≡ (if moved then suc (length (heads before)) else length (heads before)))
@@ -61,7 +61,7 @@ module _ {K X : Type 0} where
         length-append before (node n xs ∷ []) ∙ omega (arith, seen),
       )
 
--- a change of a level behind these nodes
+-- a change of a level, with these nodes before it
 abbrev behind : {K X : Type 0} → List (LevelNode K X) → Option ℕ × List ℕ → Option ℕ × List ℕ
 behind [] change = change
 behind (node m es ∷ before) change = past (length es) (behind before change)
@@ -75,7 +75,7 @@ module _ {K X : Type 0} where
   behind_some [] ss = refl
   behind_some (node m es ∷ before) ss = ap (λ z. past (length es) z) (behind_some before ss)
 
-  -- a level that changes behind a node as it does without it changes behind these nodes so, too
+  -- a change that passes over one node passes over all these nodes
   change_behind : (change : ℕ → List ℕ → Option ℕ × List ℕ) (low : ℕ) → ((s p : ℕ) (after : List ℕ) → low + s ≤ p → change p (s ∷ after) ≡ past s (change (p - s) after)) →
       (before : List (LevelNode K X)) (e : ℕ) (rest : List ℕ) → (before ≡ []) ⊎ (low ≤ e) → change (length (flat before) + e) (sizes before ++ rest) ≡ behind before (change e rest)
   change_behind change low step [] e rest at = let z : 0 + e ≡ e = omega arith in rw z refl
@@ -88,28 +88,28 @@ module _ {K X : Type 0} where
   gain_behind : (before : List (LevelNode K X)) (e : ℕ) (rest : List ℕ) → inner_gain (length (flat before) + e) (sizes before ++ rest) ≡ behind before (inner_gain e rest)
   gain_behind before e rest = change_behind inner_gain 0 (λ s p after high. (let a = above_lt p s (omega (arith, high)) in rw a refl)) before e rest (inr (omega arith))
 
-  -- an entry behind these nodes, and these entries of the next one
+  -- the gain of an insertion depends on the nodes before only through their number
   pub gain_spot : (before : List (LevelNode K X)) (n : ℕ) (es l : List (K × X)) (after : List (LevelNode K X)) → inner_gain (length (flat before ++ l)) (sizes (before ++ node n es ∷ after)) ≡ inner_gain (length (flat before) + length l) (sizes before ++ length es ∷ sizes after)
   gain_spot before n es l after = rw (length-append (flat before) l, sizes-append before (node n es ∷ after)) refl
 
-  -- the sizes of a level with one more entry, in a node with room
+  -- the sizes of a level after an insertion into a node with room
   pub gain_room : (before : List (LevelNode K X)) (s e : ℕ) (after : List ℕ) → e < s → s < 8 → inner_gain (length (flat before) + e) (sizes before ++ s ∷ after) ≡ (None, sizes before ++ suc s ∷ after)
   gain_room before s e after low room = rw (gain_behind before e (s ∷ after), below_lt e s low, below_lt s 8 room) (behind_none before (suc s ∷ after))
 
-  -- in a full node, which becomes two
+  -- the sizes of a level after an insertion that splits a full node
   pub gain_full : (before : List (LevelNode K X)) (s e : ℕ) (after : List ℕ) → e < s → s ≡ 8 → inner_gain (length (flat before) + e) (sizes before ++ s ∷ after) ≡ (Some (length before), sizes before ++ (if nat_lt e 4 then 5 ∷ 4 ∷ after else 4 ∷ 5 ∷ after))
   gain_full before s e after low full = rw (gain_behind before e (s ∷ after), below_lt e s low, above_lt s 8 (omega (arith, full))) (behind_some before (if nat_lt e 4 then 5 ∷ 4 ∷ after else 4 ∷ 5 ∷ after))
 
-  -- an insertion into a leaf, at its front only in the first one
+  -- an insertion into a leaf passes over the leaves before it; it is at the front of the first leaf only
   leaf_behind : (most : ℕ) (before : List (LevelNode K X)) (s e : ℕ) (after : List ℕ) → (before ≡ []) ⊎ (1 ≤ e) → leaf_gain most (length (flat before) + e) (sizes before ++ s ∷ after) ≡ behind before (leaf_gain most e (s ∷ after))
   leaf_behind most before s e after at = change_behind (leaf_gain most) 1 (λ size p rest high. (let a = past_le p size (omega (arith, high)) in rw a refl)) before e (s ∷ after) at
 
-  -- the sizes of the leaves with one more entry, in a leaf with room
+  -- the sizes of the leaves after an insertion into a leaf with room
   pub leaf_room : (most : ℕ) (before : List (LevelNode K X)) (s e : ℕ) (after : List ℕ) → e ≤ s → (before ≡ []) ⊎ (1 ≤ e) → s < most → leaf_gain most (length (flat before) + e) (sizes before ++ s ∷ after) ≡ (None, sizes before ++ suc s ∷ after)
   leaf_room most before s e after low at room =
       rw (leaf_behind most before s e after at, upto_le e s low, below_lt s most room) (behind_none before (suc s ∷ after))
 
-  -- in a full leaf
+  -- the sizes of the leaves after an insertion that splits a full leaf
   pub leaf_full : (most : ℕ) (before : List (LevelNode K X)) (s e : ℕ) (after : List ℕ) → e ≤ s → (before ≡ []) ⊎ (1 ≤ e) → s ≡ most → leaf_gain most (length (flat before) + e) (sizes before ++ s ∷ after) ≡ (Some (length before), sizes before ++ (most + 1) / 2 ∷ (most + 1) / 2 ∷ after)
   leaf_full most before s e after low at full =
       rw (leaf_behind most before s e after at, upto_le e s low, above_lt s most (omega (arith, full))) (behind_some before ((most + 1) / 2 ∷ (most + 1) / 2 ∷ after))

@@ -1,4 +1,4 @@
--- A full node that is halved, with a new entry in one half.
+-- Splitting a full node, with a new entry in one half.
 use Rattle.std.proofs.Common.{◌≡◌, ℕ, suc, ◌+◌, ◌-◌, ◌≤◌, ◌<◌, ◌≢◌, true, false, if◌then◌else◌, List, [], ◌∷◌, ◌++◌, length, slice_get, Some, refl, sym, ap, ◌∙◌, subst, append_assoc, length-append, length-set, arith, IsTrue, ◌↔◌, Bool}
 use Rattle.bforest_nodes.specs.declared.node.SplitOff.{SplitOff}
 use Rattle.bforest_core.proofs.Words.{Content, IsCut, left_half, Table, with_node, with_front, front_of, IsUsed, IsFullAt, IsSplitAt, head_of, inner_content, leaf_content, count, false≢true}
@@ -9,19 +9,19 @@ use Rattle.bforest_core.proofs.insertion.LeafSpot.{keys_count}
 
 -- nodes of one kind, by their keys and their values or children
 module _ {K V X : Type 0} (kind : List K → List X → Content K V) where
-  -- what the call asks
+  -- what a call that inserts into a node requires
   abbrev pub PutAsks : Table K V → ℕ → ℕ → Type 0
   PutAsks t number index = IsUsed t number × ((keys : List K) × (items : List X) × (slice_get t.nodes number ≡ Some (kind keys items)) × (index ≤ length keys))
 
-  -- whether there was room
+  -- the insertion succeeds exactly where the node has room
   abbrev pub HasRoom : (List K → List X → ℕ) → ℕ → Table K V → ℕ → Bool → Type 0
   HasRoom size most t number put = (keys : List K) (items : List X) → slice_get t.nodes number ≡ Some (kind keys items) → IsTrue put ↔ (size keys items < most)
 
-  -- what it leaves
+  -- the insertion writes the node where it succeeds, and else leaves it as it is
   abbrev pub Written : (Content K V → Content K V) → Table K V → Table K V → ℕ → Bool → Type 0
   Written write t u number put = (keys : List K) (items : List X) → slice_get t.nodes number ≡ Some (kind keys items) → u ≡ with_node t number (if put then write (kind keys items) else kind keys items)
 
-  -- the node by its number as it was read
+  -- the node's slot, found by the number that was read
   module _ (t : Table K V) (number n : ℕ) (here : number ≡ n) (keys : List K) (items : List X) (found : slice_get t.nodes n ≡ Some (kind keys items)) where
     slot_is : slice_get t.nodes number ≡ Some (kind keys items)
     slot_is = ap (λ z. slice_get t.nodes z) here ∙ found
@@ -30,7 +30,7 @@ module _ {K V X : Type 0} (kind : List K → List X → Content K V) where
     asks_put index used within = (rw here used, (keys, items, slot_is, within))
 
     module _ (u : Table K V) (size : List K → List X → ℕ) (most : ℕ) (write : Content K V → Content K V) (put : Bool) (has : HasRoom size most t number put) (wrote : Written write t u number put) where
-      -- it came in where there was room
+      -- a successful insertion had room
       pub put_fewer : put ≡ true → size keys items < most
       put_fewer done = (has keys items slot_is).0 done
 
@@ -39,11 +39,11 @@ module _ {K V X : Type 0} (kind : List K → List X → Content K V) where
           let done : put ≡ true = (has keys items slot_is).1 fewer in
           (rw done at (wrote keys items slot_is)) ∙ ap (λ z. with_node t z (write (kind keys items))) here
 
-      -- where it did not there is none, and nothing changes
+      -- a failed insertion had no room and changes nothing
       pub put_past : put ≡ false → (¬ (size keys items < most)) × (u ≡ t)
       put_past none = (λ fewer. false≢true (sym none ∙ (has keys items slot_is).1 fewer), (rw none at (wrote keys items slot_is)) ∙ ap (λ z. record t { nodes = z }) (set_here t.nodes number (kind keys items) slot_is))
 
--- two ways to cut one list
+-- if a list is cut twice, the later cut is in the second part of the earlier one
 between : {A : Type 0} (p q l r : List A) → p ++ q ≡ l ++ r → length l ≤ length p → (mid : List A) × (p ≡ l ++ mid) × (r ≡ mid ++ q)
 between p q [] r e low = (p, refl, sym e)
 between [] q (z ∷ l) r e low = absurd (omega arith)
@@ -54,7 +54,7 @@ between (y ∷ p) q (z ∷ l) r e low =
     (w.0, ap (λ v. v ∷ p) h ∙ ap (λ v. z ∷ v) w.1, w.2)
 
 module _ {K V X : Type 0} (content : List (K × X) → Content K V) where
-  -- two nodes, of which the right one is in what was the front of the chain
+  -- two nodes in slots, the right one in what was the front of the chain
   pub record Two (t u : Table K V) (n right : ℕ) (lefts rights : List (K × X)) : Type 0 where
     pub ne : n ≢ right
     pub here : slice_get u.nodes n ≡ Some (content lefts)
@@ -64,7 +64,7 @@ module _ {K V X : Type 0} (content : List (K × X) → Content K V) where
     pub slots_are : length u.nodes ≡ length t.nodes
     pub limit_is : u.limit ≡ t.limit
 
-  -- a full node in two slots
+  -- a full node split over two slots
   pub record Split (t s : Table K V) (n right left_count : ℕ) (es : List (K × X)) (key : K) : Type 0 where
     pub zs : List (K × X)
     pub y : K × X
@@ -74,7 +74,7 @@ module _ {K V X : Type 0} (content : List (K × X) → Content K V) where
     pub key_is : key ≡ y.0
     pub two : Two t s n right zs (y ∷ ys)
 
-  -- the halves, with one entry more
+  -- the halves of a node, with one more entry
   pub record Halves (t u : Table K V) (n right : ℕ) (middle : K) (grown : List (K × X)) (left_count right_count : ℕ) : Type 0 where
     pub z : K × X
     pub xs : List (K × X)
@@ -86,7 +86,7 @@ module _ {K V X : Type 0} (content : List (K × X) → Content K V) where
     pub middle_is : middle ≡ y.0
     pub two : Two t u n right (z ∷ xs) (y ∷ ys)
 
-  -- how a node of this kind is cut behind so many entries
+  -- how a node of this kind is cut after its first `q` entries
   abbrev pub Cuts : ℕ → Type 0
   Cuts q = (zs : List (K × X)) (y : K × X) (ys : List (K × X)) (left right : Content K V) (key : K) → length zs ≡ q → IsCut (content (zs ++ y ∷ ys)) q left key right → Parts content zs y ys left right key
 
@@ -97,11 +97,11 @@ module _ {K V X : Type 0} (content : List (K × X) → Content K V) where
     whole_is : sp.whole ≡ content es
     whole_is = some_same sp.whole (content es) (sym sp.was ∙ was)
 
-    -- how many entries the left half has
+    -- the number of entries in the left half
     pub counted : parts.lhs_entries ≡ left_half cap (content es) e
     counted = sp.counted ∙ ap (λ v. left_half cap v e) whole_is
 
-    -- what `split_node` leaves of the node
+    -- `split_node` leaves the node split over two slots
     pub split_at : (right : ℕ) → Cuts parts.lhs_entries → parts.lhs_entries < length es → count n t.chain ≡ 0 → front_of t.chain ≡ Some right → right < length s.nodes → Split t s n right parts.lhs_entries es parts.crit_key
     split_at right cuts less none front low =
         let c = cut es parts.lhs_entries less in
@@ -130,11 +130,11 @@ module _ {K V X : Type 0} (content : List (K × X) → Content K V) where
         }
 
   module _ (t s u : Table K V) (n right : ℕ) (lefts rights : List (K × X)) (w : Two t s n right lefts rights) where
-    -- the left one is in use
+    -- the left half is in use
     pub left_used : count n t.chain ≡ 0 → IsUsed s n
     left_used none = is_used s n (content lefts) w.here (omega (arith, none, ap (λ k. count n k) w.chain_is))
 
-    -- one of them was written
+    -- one of the two nodes was written
     two_put : (m : ℕ) (c : Content K V) (xs ys : List (K × X)) → Puts s u m c → slice_get u.nodes n ≡ Some (content xs) → slice_get u.nodes right ≡ Some (content ys) → ((k : ℕ) → k ≢ n → k ≢ right → k ≢ m) → Two t u n right xs ys
     two_put m c xs ys put here there apart = record {
       ne = w.ne;
@@ -146,7 +146,7 @@ module _ {K V X : Type 0} (content : List (K × X) → Content K V) where
       limit_is = put.limit_is ∙ w.limit_is;
     }
 
-  -- two nodes as halves
+  -- two nodes whose sizes are those of halves are halves
   halves : (t u : Table K V) (n right : ℕ) (middle : K) (grown lefts rights : List (K × X)) (left_count right_count : ℕ) → grown ≡ lefts ++ rights → length lefts ≡ left_count → length rights ≡ right_count → 1 ≤ left_count → head_of right rights ≡ (middle, right) ∷ [] → Two t u n right lefts rights → Halves t u n right middle grown left_count right_count
   halves t u n right middle grown [] rights left_count right_count is left_is right_is some head w = absurd (omega (arith, left_is, some))
   halves t u n right middle grown (z ∷ xs) [] left_count right_count is left_is right_is some head w = absurd cc
@@ -154,7 +154,7 @@ module _ {K V X : Type 0} (content : List (K × X) → Content K V) where
       record { z = z; xs = xs; y = y; ys = ys; grown_is = is; left_is = left_is; right_is = right_is; middle_is = (let same : ◌≡◌ {A = K × ℕ} (y.0, right) (middle, right) = cc in ap (λ v. v.0) (sym same)); two = w }
 
   module _ (t s u : Table K V) (n right q : ℕ) (es grown : List (K × X)) (middle : K) (sp : Split t s n right q es middle) (write : Content K V → Content K V) (left_count right_count : ℕ) where
-    -- the entry went into the left half
+    -- the entry was inserted into the left half
     pub into_left : (l l2 r : List (K × X)) → es ≡ l ++ r → grown ≡ l2 ++ r → length l2 ≡ suc (length l) → length l ≤ q → suc q ≡ left_count → q + right_count ≡ length es →
         ((mid : List (K × X)) → write (content (l ++ mid)) ≡ content (l2 ++ mid)) → u ≡ with_node s n (write (content sp.zs)) → Halves t u n right middle grown left_count right_count
     into_left l l2 r es_is grown_is more low left_is right_is wrote after =
@@ -165,7 +165,7 @@ module _ {K V X : Type 0} (content : List (K × X) → Content K V) where
         (omega (arith, ap length sp.es_is, length-append sp.zs (sp.y ∷ sp.ys), sp.count_is, right_is)) (omega (arith, left_is)) (ap (λ v. (v, right) ∷ []) (sym sp.key_is))
         (two_put t s u n right sp.zs (sp.y ∷ sp.ys) sp.two n (content (l2 ++ w.0)) (l2 ++ w.0) (sp.y ∷ sp.ys) put put.here (put.same right (λ (v : right ≡ n). sp.two.ne (sym v)) ∙ sp.two.there) (λ k a b. a))
 
-    -- or into the right one
+    -- the entry was inserted into the right half
     pub into_right : (first : K) (l r r2 : List (K × X)) → es ≡ l ++ r → grown ≡ l ++ r2 → length r2 ≡ suc (length r) → q ≤ length l → 1 ≤ q → q ≡ left_count → q + right_count ≡ suc (length es) →
         ((mid : List (K × X)) → length mid ≡ length l - q → (write (content (mid ++ r)) ≡ content (mid ++ r2)) × (sp.y ∷ sp.ys ≡ mid ++ r → head_of right (mid ++ r2) ≡ (first, right) ∷ [])) →
         u ≡ with_node s right (write (content (sp.y ∷ sp.ys))) → Halves t u n right first grown left_count right_count
@@ -179,7 +179,7 @@ module _ {K V X : Type 0} (content : List (K × X) → Content K V) where
         (two_put t s u n right sp.zs (sp.y ∷ sp.ys) sp.two right (content (w.0 ++ r2)) sp.zs (w.0 ++ r2) put (put.same n sp.two.ne ∙ sp.two.here) put.here (λ k a b. b))
 
 module _ {K V : Type 0} where
-  -- a full leaf has so many entries
+  -- a full leaf has `cap` entries
   pub leaf_full_is : (cap : ℕ) (nodes : List (Content K V)) (n : ℕ) (es : List (K × V)) → slice_get nodes n ≡ Some (leaf_content es) → IsFullAt cap nodes n → length es ≡ cap
   leaf_full_is cap nodes n es was full = let w = rw was at full in sym (keys_count es) ∙ w.1
 
@@ -192,7 +192,7 @@ module _ {K V : Type 0} where
   inner_parts q some [] y ys left right key e c = absurd (omega (arith, e, some))
   inner_parts q some (z ∷ zs) y ys left right key e c = inner_cuts V z zs y ys q left right key e c
 
-  -- the first key of the right half, with the entry
+  -- the first key of the right half, with the new entry
   pub middle_key : (right : ℕ) (mid : List (K × V)) (entry : K × V) (r : List (K × V)) (y : K × V) (ys : List (K × V)) (first : K) → y ∷ ys ≡ mid ++ r → (length mid ≡ 0 → first ≡ entry.0) → (0 < length mid → first ≡ y.0) → head_of right (mid ++ entry ∷ r) ≡ (first, right) ∷ []
   middle_key right [] entry r y ys first q_is zero more = ap (λ v. (v, right) ∷ []) (sym (zero refl))
   middle_key right (m ∷ mid) entry r y ys first q_is zero more = ap (λ v. (v, right) ∷ []) (sym (more (omega arith) ∙ (let same : y ≡ m = cc in ap (λ v. v.0) same)))

@@ -1,4 +1,5 @@
--- Putting an entry into the path's leaf, or halving the leaf and putting it into one half: each answer of `put_here` and of `halve_leaf` is one of these.
+-- Inserting an entry into the path's leaf, or splitting the leaf and inserting it into one half: the answers
+-- of `put_here` and `halve_leaf`.
 use Rattle.std.proofs.Common.{◌≡◌, ℕ, ◌+◌, ◌-◌, ◌/◌, nat_le, ◌≤◌, ◌<◌, true, false, Bool, if◌then◌else◌, List, [], ◌∷◌, ◌++◌, length, set, get_or, Some, refl, sym, ap, ◌∙◌, arith, append_assoc, length-append}
 use Rattle.bforest_core.proofs.Words.{get_or_default, get_or-set_same, get_or-set_other, Leaf, IsLeafCapacity, with_entry, Table, IsUsed, IsFullAt, IsSplitAt, front_of, with_node, Tree, heads, half_of, leaf_content, entry_keys, Placed}
 use Rattle.bforest_core.proofs.Words.{Inserted, LeafHalved}
@@ -13,7 +14,7 @@ use Rattle.bforest_core.proofs.insertion.Halving.{Split, leaf_full_is, counted, 
 use Rattle.bforest_core.proofs.insertion.LeafParted.{leaf_parted}
 
 module _ {K V : Type 0} where
-  -- what halving a node asks
+  -- what splitting a node requires
   abbrev pub FullAt : ℕ → Table K V → ℕ → Type 0
   FullAt cap t number = IsUsed t number × (IsFullAt cap t.nodes number × (0 < length t.chain))
 
@@ -24,12 +25,12 @@ module _ {K V : Type 0} where
     num_is : get_or ms 0 r ≡ get_or ms 0 0
     num_is = get_or_default ms 0 r 0 (omega arith)
 
-    -- what putting the entry in asks
+    -- the leaf meets what inserting the entry requires
     pub put_asks : PutAsks Leaf t (get_or ms 0 r) (get_or js 0 0)
     put_asks = asks_put Leaf t _ _ num_is _ _ d.slot_is (get_or js 0 0) (is_used t (get_or ms 0 0) (leaf_content (d.l ++ d.r)) d.slot_is d.none_chain) (omega (arith, keys_count (d.l ++ d.r), d.index_is, length-append d.l d.r))
 
     module _ (u : Table K V) (key : K) (value : V) (put : Bool) (has : HasRoom Leaf (λ keys vals. length keys) cap t (get_or ms 0 r) put) (wrote : Written Leaf (λ z. with_entry z (get_or js 0 0) key value) t u (get_or ms 0 r) put) where
-      -- it came in
+      -- a successful insertion leaves the tree with the entry inserted
       pub put_inserts : put ≡ true → Inserted cap t u ms js size tree place (key, value)
       put_inserts done =
           let es : List (K × V) = d.l ++ d.r in
@@ -37,7 +38,7 @@ module _ {K V : Type 0} where
           let after = put_in Leaf t _ _ num_is _ _ d.slot_is u (λ keys vals. length keys) cap (λ z. with_entry z (get_or js 0 0) key value) put has wrote fewer ∙ ap (λ z. with_node t (get_or ms 0 0) z) (with_entry_is V d.l d.r key value (get_or js 0 0) d.index_is) in
           put_leaf cap t u ms js size tree place (key, value) p d (omega (arith, keys_count es, fewer)) (puts t u (get_or ms 0 0) (leaf_content (d.l ++ (key, value) ∷ d.r)) (leaf_content es) d.slot_is after)
 
-      -- there was no room
+      -- a failed insertion means that the leaf is full, and changes nothing
       pub put_full : put ≡ false → IsFullAt cap t.nodes (get_or ms 0 0) × (u ≡ t)
       put_full none =
           let past = put_past Leaf t _ _ num_is _ _ d.slot_is u (λ keys vals. length keys) cap (λ z. with_entry z (get_or js 0 0) key value) put has wrote none in

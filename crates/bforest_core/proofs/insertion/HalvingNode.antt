@@ -1,4 +1,5 @@
--- Putting a child into the path's inner node, or halving the node and putting it into one half: each answer of `insert_here` and of `split_here` is one of these.
+-- Inserting a child into the path's inner node, or splitting the node and inserting it into one half: the
+-- answers of `insert_here` and `split_here`.
 use Rattle.std.proofs.Common.{◌≡◌, ℕ, suc, ◌-◌, ◌≤◌, ◌<◌, true, false, Bool, if◌then◌else◌, List, [], ◌∷◌, ◌++◌, map, length, set, get_or, Some, refl, sym, ap, ◌∙◌, subst, append_assoc, length-append, arith, ◌+◌, ◌≢◌, nat_lt}
 use Rattle.bforest_core.proofs.Words.{get_or_default, get_or-set_same, get_or-set_other, Inner, with_child, Table, IsUsed, IsFullAt, IsSplitAt, front_of, with_node, LevelNode, flat, head_of, heads, sizes, need_above, gain_above}
 use Rattle.bforest_core.proofs.Words.{inner_content, entry_items, Above, Grown, Halved, flat_map, node, numbers, Stacked, inner_gain, count}
@@ -14,7 +15,7 @@ use Rattle.bforest_core.proofs.insertion.Rise.{settle_room, step_is, step_most}
 use Rattle.bforest_core.proofs.insertion.HalvingLeaf.{FullAt}
 
 module _ {K V : Type 0} where
-  -- all but where the path stands
+  -- the split level, except for where the path stands
   pub parted : (t u : Table K V) (ms js ms' js' : List ℕ) (up size : ℕ) (rows : List (List (LevelNode K ℕ))) (a : List (K × ℕ)) (x y : K × ℕ) (b : List (K × ℕ)) (middle : K) (right p : ℕ) (moved : Bool) (big small : ℕ) → (4 ≤ big) × (big ≤ 8) × (4 ≤ small) × (small ≤ 8) → ((after : List ℕ) → (if nat_lt (get_or js up 0) 4 then 5 ∷ 4 ∷ after else 4 ∷ 5 ∷ after) ≡ big ∷ small ∷ after) → (d : Spot t ms js up size rows a x b) → length (d.q.l ++ x ∷ d.q.r) ≡ 8 →
       (h : Halves inner_content t u (get_or ms up 0) right middle (d.q.l ++ x ∷ y ∷ d.q.r) big small) →
       ((i : ℕ) → i ≢ up → get_or ms' i 0 ≡ get_or ms i 0) → ((i : ℕ) → i ≢ up → get_or js' i 0 ≡ get_or js i 0) →
@@ -81,12 +82,12 @@ module _ {K V : Type 0} where
     pub index_small : get_or js up 0 < 8
     index_small = omega (arith, d.count_is, d.most_is)
 
-    -- what putting the child in asks
+    -- the node meets what inserting the child requires
     pub put_asks : PutAsks Inner t (get_or ms up r) (get_or js up 0)
     put_asks = asks_put Inner t _ _ num_is _ _ d.f.slot_is (get_or js up 0) (is_used t (get_or ms up 0) (inner_content (d.q.l ++ x ∷ d.q.r)) d.f.slot_is d.f.none_chain) (omega (arith, key_count (d.q.l ++ x ∷ d.q.r), d.count_is))
 
     module _ (u : Table K V) (key : K) (child : ℕ) (put : Bool) (has : HasRoom Inner (λ keys children. length children) 8 t (get_or ms up r) put) (wrote : Written Inner (λ z. with_child z (get_or js up 0) key child) t u (get_or ms up r) put) where
-      -- it came in
+      -- a successful insertion needs one node in all and leaves the rows grown
       pub put_grows : put ≡ true → (moved : Bool) (index : ℕ) → index ≡ (if moved then suc (get_or js up 0) else get_or js up 0) → up < length js →
           (1 ≡ need_above (Some (length a)) (map sizes rows)) × Grown t u ms js ms (set js up index) up size size rows (a ++ x ∷ (key, child) ∷ b) (if moved then suc (length a) else length a) (gain_above (Some (length a)) (map sizes rows)) []
       put_grows done moved index index_is low_js =
@@ -96,7 +97,7 @@ module _ {K V : Type 0} where
           settle_room t u ms js (set js up index) up size rows a x (key, child) b moved d (omega (arith, item_count es)) (puts t u (get_or ms up 0) (inner_content (d.q.l ++ x ∷ (key, child) ∷ d.q.r)) (inner_content es) d.f.slot_is after)
           (get_or-set_same js up index 0 low_js ∙ index_is) (λ i other. get_or-set_other js up i index 0 other)
 
-      -- there was no room
+      -- a failed insertion means that the node is full, and changes nothing
       pub put_full : (cap : ℕ) → put ≡ false → IsFullAt cap t.nodes (get_or ms up 0) × (u ≡ t)
       put_full cap none =
           let past = put_past Inner t _ _ num_is _ _ d.f.slot_is u (λ keys children. length children) 8 (λ z. with_child z (get_or js up 0) key child) put has wrote none in

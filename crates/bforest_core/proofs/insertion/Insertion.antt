@@ -1,4 +1,4 @@
--- What an insertion into the tree under a root says of the table, where nodes were made free for it before.
+-- The effect of an insertion into the tree under a root on the table, where nodes were reserved for it.
 use Rattle.std.proofs.Common.{◌≡◌, ℕ, suc, ◌-◌, ◌^◌, ◌≤◌, ◌<◌, ◌≢◌, ◌↔◌, IsTrue, Option, Some, None, List, [], ◌∷◌, ◌++◌, drop, map, length, insert, slice_get, sym, ap, ◌∙◌, subst, inl, inr, length-append, arith}
 use Rattle.bforest_core.proofs.Words.{flat_map, cases_lt, eqb_tells, length-map, Content, Table, fresh_nodes, front_of, free_count, slot_count, room, reserved, IsFullAt, LevelNode, node, flat, heads, sizes, numbers, Stacked, Topped, Tree}
 use Rattle.bforest_core.proofs.Words.{sizes_of, leaf_gain, gain_above, growth, need, IsAt, Stands, count, root_of, numbers_of, top_of, Placed, Inserted, tree_of, is_root, IsUnion, Changes, TakesNodes, PlacedUnder, StandsUnder}
@@ -17,12 +17,12 @@ use Rattle.bforest_core.proofs.union.Roots.{exchanged}
 use Rattle.bforest_core.proofs.union.Reserved.{reserved-union, reserved-roots, reserved-then}
 use Rattle.bforest_core.proofs.rows.Tops.{root-stands}
 
--- a row has the entries of each of its nodes
+-- a row in which a path stands has an entry
 row_some : {K X : Type 0} (row : List (LevelNode K X)) (n index place : ℕ) → IsAt row n index place → 1 ≤ length (flat row)
 row_some row n index place at =
     omega (arith, ap (λ z. length (flat z)) at.row_is, ap length (flat-append at.before (node n at.entries ∷ at.after)), length-append (flat at.before) (at.entries ++ flat at.after), length-append at.entries (flat at.after), at.within)
 
--- a row is seen as no more nodes than it has
+-- a row has no more heads than nodes
 heads-few : {K X : Type 0} (row : List (LevelNode K X)) → length (heads row) ≤ length (numbers row)
 heads-few [] = omega arith
 heads-few (node n [] ∷ row) = omega (arith, heads-few row)
@@ -54,31 +54,31 @@ module _ {K V : Type 0} where
       let tree = tree_of table.nodes root in
       omega (arith, gain-low (leaf_gain most place (sizes tree.leaves)).0 (heads tree.leaves) tree.above r.fit.stacked r.fit.topped (omega (arith, leaves_within most table root tree r, slots)) r.low)
 
-  -- a path under a root is at a place of its tree, which lies in the table
+  -- a path under a root is where an entry may be inserted in its tree, which is in the table
   pub placed-under : (most : ℕ) (table : Table K V) (root place : ℕ) (path indices : List ℕ) (size : ℕ) → IsUnion most table → PlacedUnder table.nodes root path indices size place → Placed most table path indices size (tree_of table.nodes root) place
   placed-under most table root place path indices size union p =
       let r = rooted most table root union p.root_is in
       record { fit = r.fit; inside = r.inside; apart = r.apart; at = p.at }
 
-  -- and has at least one level and at most 17
+  -- a path under a root has at least one level and at most 17
   pub under-low : (most : ℕ) (table : Table K V) (root place : ℕ) (path indices : List ℕ) (size : ℕ) → IsUnion most table → PlacedUnder table.nodes root path indices size place → (0 < size) × (size ≤ 17)
   under-low most table root place path indices size union p =
       (omega (arith, p.at.points.size_is), omega (arith, p.at.points.size_is, (rooted most table root union p.root_is).low))
 
-  -- all that an insertion says of the table and of the path
+  -- what an insertion states of the table and of the path
   pub record Insertion (most : ℕ) (old new : Table K V) (root root' place : ℕ) (entry : K × V) (path' indices' : List ℕ) (size' : ℕ) : Type 0 where
     pub changes : Changes most old new root root' (insert (flat (tree_of old.nodes root).leaves) place entry) (growth most place (sizes_of (tree_of old.nodes root)))
     pub takes : TakesNodes (need most place (sizes_of (tree_of old.nodes root))) old new
     pub stands : StandsUnder new.nodes root' path' indices' size' place
     pub same_root : (root' ≡ root) ↔ (length (growth most place (sizes_of (tree_of old.nodes root))) ≡ length (sizes_of (tree_of old.nodes root)))
 
-  -- a root that was on the chain is another than before
+  -- a root that was on the chain differs from the old root
   new_ne : (most : ℕ) (table new : Table K V) (root : ℕ) (tree : Tree K V) (root' : ℕ) (taken : List ℕ) → Rooted most table root tree → table.chain ≡ taken ++ new.chain → 0 < count root' taken → root' ≢ root
   new_ne most table new root tree root' taken r chain_is some same =
       let among = subst (λ (z : ℕ). 0 < count z (numbers_of tree)) (r.root_is ∙ sym same) (root-among most table.nodes tree r.fit r.inside r.some) in
       omega (arith, among, some, r.apart root', count-append root' (numbers_of tree) table.chain, ap (λ z. count root' z) chain_is, count-append root' taken new.chain)
 
-  -- an entry came into the tree under a root, after as many nodes were made free as it needs
+  -- inserting an entry into the tree under a root, after the nodes that it needs were reserved
   pub insertion : (most : ℕ) (old new : Table K V) (root place : ℕ) (path' indices' : List ℕ) (size' : ℕ) (entry : K × V) → IsUnion most old → IsTrue (is_root old.nodes root) → size' ≤ 17 →
       Inserted most (reserved old (need most place (sizes_of (tree_of old.nodes root)))) new path' indices' size' (tree_of old.nodes root) place entry → Insertion most old new root (top_of path' size') place entry path' indices' size'
   insertion most old new root place path' indices' size' entry union is low i =
@@ -121,14 +121,14 @@ module _ {K V : Type 0} where
         );
       })
 
-  -- an entry came in, with or without new nodes, and the path has as many levels as it can
+  -- an entry was inserted, with or without new nodes, and the path has at least one level and at most 17
   pub record Put (most : ℕ) (old new : Table K V) (root place : ℕ) (entry : K × V) (path' indices' : List ℕ) (size' : ℕ) : Type 0 where
     pub some : 0 < size'
     pub low : size' ≤ 17
     pub is : Insertion most old new root (top_of path' size') place entry path' indices' size'
     pub enough : need most place (sizes_of (tree_of old.nodes root)) ≤ room old
 
-  -- where the leaf had room
+  -- inserting an entry into a leaf with room
   pub put-here : (most : ℕ) (old new : Table K V) (root place : ℕ) (path indices : List ℕ) (size : ℕ) (entry : K × V) → IsUnion most old → PlacedUnder old.nodes root path indices size place →
       Inserted most old new path indices size (tree_of old.nodes root) place entry → Put most old new root place entry path indices size
   put-here most old new root place path indices size entry union p i =
@@ -142,7 +142,7 @@ module _ {K V : Type 0} where
         enough = omega (arith, enough);
       }
 
-  -- the path is at the place still after nodes were made free
+  -- reserving nodes leaves the path at its place
   pub placed-mid : (most : ℕ) (old mid : Table K V) (root place : ℕ) (path indices : List ℕ) (size n : ℕ) → IsUnion most old → PlacedUnder old.nodes root path indices size place → mid ≡ reserved old n → Placed most mid path indices size (tree_of old.nodes root) place
   placed-mid most old mid root place path indices size n union p mid_is =
       let same = reserved-roots most old n union root in
@@ -150,7 +150,7 @@ module _ {K V : Type 0} where
       let s = subst (λ (z : Tree K V). Rooted most (reserved old n) root z) (same.1 p.root_is) r in
       rw mid_is (record { fit = s.fit; inside = s.inside; apart = s.apart; at = p.at })
 
-  -- where the leaf became two, after so many nodes were made free
+  -- inserting an entry by a split of the leaf, after the nodes were reserved
   pub put-split : (most : ℕ) (old mid new : Table K V) (root place : ℕ) (path indices : List ℕ) (size n : ℕ) (path' indices' : List ℕ) (size' : ℕ) (entry : K × V) → IsUnion most old → PlacedUnder old.nodes root path indices size place → slot_count old ≤ 4294967295 →
       ((tree : Tree K V) (place : ℕ) → Placed most old path indices size tree place → n ≡ need most place (sizes_of tree)) → ¬ (room old < n) → mid ≡ reserved old n →
       ((tree : Tree K V) (place : ℕ) → Placed most mid path indices size tree place → Inserted most mid new path' indices' size' tree place entry) → Put most old new root place entry path' indices' size'
@@ -167,7 +167,7 @@ module _ {K V : Type 0} where
         enough = omega (arith, enough, n_is);
       }
 
-  -- a full leaf is still full after nodes were made free
+  -- a full leaf is full after nodes were reserved
   pub full-reserved : (most : ℕ) (table : Table K V) (n m : ℕ) (content : Content K V) → slice_get table.nodes m ≡ Some content → IsFullAt most table.nodes m → IsFullAt most (reserved table n).nodes m
   full-reserved most table n m content found full =
       rw (slice_get-append_left table.nodes (fresh_nodes (slot_count table) (n - free_count table) (front_of table.chain)) m content found) (rw found at full)

@@ -1,4 +1,4 @@
--- The leaves after one of them was halved, and the tree after the levels above took the right half in.
+-- The leaves after a split of one, and the tree after the right half was inserted into the levels above.
 use Rattle.std.proofs.Common.{◌≡◌, ℕ, suc, ◌+◌, ◌-◌, ◌≤◌, ◌<◌, ◌≢◌, Bool, if◌then◌else◌, List, ◌∷◌, ◌++◌, map, length, get_or, slice_get, Option, Some, sym, ap, ◌∙◌, subst, length-append, arith, [], refl}
 use Rattle.bforest_core.proofs.Words.{flat_map, length-map, IsLeafCapacity, Table, LevelNode, node, flat, head_of, heads, sizes, numbers, Stacked, Topped, Tree, IsFit, half_of, leaf_gain, gain_above, need_above, leaf_content, count, IsAt}
 use Rattle.bforest_core.proofs.Words.{StandsAbove, Stands, Placed, LeafHalved, Inserted, Grown}
@@ -17,7 +17,7 @@ module _ {K V : Type 0} where
   full_gain most t ms js tree place d full =
       rw (d.leaves_are, d.place_is, sizes-append d.before (node (get_or ms 0 0) (d.l ++ d.r) ∷ d.after)) (leaf_full most d.before (length (d.l ++ d.r)) (length d.l) (sizes d.after) (omega (arith, length-append d.l d.r)) d.first full)
 
-  -- all but where the path stands
+  -- the split leaf, except for where the path stands
   pub leaf_parted : (most : ℕ) (t u : Table K V) (ms js ms' js' : List ℕ) (size : ℕ) (tree : Tree K V) (place : ℕ) (entry : K × V) (middle : K) (right : ℕ) (moved : Bool) → IsLeafCapacity most → Placed most t ms js size tree place → (d : LeafSpot most t ms js tree place) → length (d.l ++ d.r) ≡ most →
       (h : Halves leaf_content t u (get_or ms 0 0) right middle (d.l ++ entry ∷ d.r) (half_of most) (half_of most)) →
       ((i : ℕ) → i ≢ 0 → get_or ms' i 0 ≡ get_or ms i 0) → ((i : ℕ) → i ≢ 0 → get_or js' i 0 ≡ get_or js i 0) →
@@ -73,13 +73,13 @@ module _ {K V : Type 0} where
         nodes_above = λ i high. far_m i (λ (e : i ≡ 0). omega (arith, e, high));
       }
 
-  -- the need, or the sizes above, where the leaf becomes two
+  -- the need, or the sizes above, where the leaf is split
   pub above_leaf : {X : Type 0} (change : Option ℕ → List (List ℕ) → X) (most : ℕ) (t u : Table K V) (ms ms' js' : List ℕ) (size : ℕ) (tree : Tree K V) (place : ℕ) (entry : K × V) (key : K) (right : ℕ) (moved : Bool) → (h : LeafHalved most t u ms ms' js' size tree place entry key right moved) →
       change (leaf_gain most place (sizes tree.leaves)).0 (map sizes tree.above) ≡ change (Some (length (heads h.before))) (map sizes h.rows)
   above_leaf change most t u ms ms' js' size tree place entry key right moved h =
       ap (λ z. change z.0 (map sizes tree.above)) h.gain_is ∙ ap (λ z. change (Some (length (heads h.before))) z) (sym h.sizes_above)
 
-  -- the levels above took the right half in
+  -- the tree after the right half was inserted into the levels above
   pub inserted : (most : ℕ) (t u v : Table K V) (ms js ms' js' ms'' js'' : List ℕ) (size size' : ℕ) (tree : Tree K V) (place : ℕ) (entry : K × V) (key : K) (right : ℕ) (moved : Bool) (taken : List ℕ) (size1 left : ℕ) → size1 ≡ size → left ≡ get_or ms 0 0 → Placed most t ms js size tree place → (h : LeafHalved most t u ms ms' js' size tree place entry key right moved) →
       suc (length taken) ≡ need_above (Some (length (heads h.before))) (map sizes h.rows) →
       Grown u v ms' js' ms'' js'' 1 size1 size' h.rows (heads h.before ++ (h.first.0, left) ∷ (key, right) ∷ heads h.after) (if moved then suc (length (heads h.before)) else length (heads h.before)) (gain_above (Some (length (heads h.before))) (map sizes h.rows)) taken →

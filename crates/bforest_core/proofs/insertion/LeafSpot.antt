@@ -1,4 +1,4 @@
--- The leaf of a place for an entry, and the entry put in where there is room.
+-- The leaf where an entry may be inserted, and the insertion where the leaf has room.
 use Rattle.std.proofs.Common.{◌≡◌, ◌⊎◌, ℕ, suc, ◌+◌, ◌≤◌, ◌<◌, List, [], ◌∷◌, ◌++◌, map, length, take, drop, insert, get_or, slice_get, Some, None, inl, inr, refl, sym, ap, ◌∙◌, subst, append_assoc, length-append, length-take-le, take-append-drop, arith}
 use Rattle.bforest_core.proofs.Words.{flat_map, cases_lt, length-map, Table, LevelNode, node, flat, heads, sizes, numbers, Solid, Stacked, Topped, Tree, IsFit, half_of, leaf_gain, gain_above, need_above, RowIn, leaf_content, entry_keys}
 use Rattle.bforest_core.proofs.Words.{count, Distinct, StandsAbove, Stands, Placed, Inserted, Content, RowsIn, IsAt}
@@ -9,12 +9,12 @@ use Rattle.bforest_core.proofs.insertion.Grow.{FitRow-put, leaf_room}
 use Rattle.bforest_core.proofs.rows.Tops.{root-stands, root-points}
 
 module _ {K : Type 0} where
-  -- a list with this first key
+  -- a list with its first key replaced
   abbrev rekey : {X : Type 0} → K → List (K × X) → List (K × X)
   rekey key [] = []
   rekey key (e ∷ es) = (key, e.1) ∷ es
 
-  -- a row
+  -- a row with its first key replaced
   abbrev rekey_row : K → List (LevelNode K ℕ) → List (LevelNode K ℕ)
   rekey_row key [] = []
   rekey_row key (node n es ∷ row) = node n (rekey key es) ∷ row
@@ -41,7 +41,7 @@ module _ {K : Type 0} where
     refl,
   )
 
--- the rows that stand over this list of nodes, and are as before in all that is stored
+-- rows over this list of nodes that are stored exactly as the old ones
 pub record Renewed {K V : Type 0} (slots : List (Content K V)) (ms js : List ℕ) (up : ℕ) (rows : List (List (LevelNode K ℕ))) (list : List (K × ℕ)) : Type 0 where
   pub rows' : List (List (LevelNode K ℕ))
   pub stacked : Stacked list rows'
@@ -52,7 +52,7 @@ pub record Renewed {K V : Type 0} (slots : List (Content K V)) (ms js : List ℕ
   pub numbers_are : flat_map numbers rows' ≡ flat_map numbers rows
 
 module _ {K V : Type 0} (slots : List (Content K V)) (ms js : List ℕ) where
-  -- with another first key
+  -- the rows over a list whose first key was replaced
   renew_first : (up : ℕ) (rows : List (List (LevelNode K ℕ))) (list : List (K × ℕ)) (key : K) → Stacked list rows → Topped list rows → RowsIn slots rows → Renewed slots ms js up rows (rekey key list)
   renew_first up [] list key s t i = record { rows' = []; stacked = length_rekey key list ∙ s; topped = tt; inside = tt; stands = λ place st. st; sizes_are = refl; numbers_are = refl }
   renew_first up ([] ∷ rows) list key s t i = absurd (omega (arith, t.0, ap length s.0))
@@ -70,7 +70,7 @@ module _ {K V : Type 0} (slots : List (Content K V)) (ms js : List ℕ) where
         numbers_are = ap (λ z. (n ∷ numbers row) ++ z) r.numbers_are;
       }
 
-  -- an entry came into a leaf, in front of others only in the first leaf
+  -- the rows over the leaves after an insertion into one, at the front of the first leaf only
   pub renew : (up : ℕ) (rows : List (List (LevelNode K ℕ))) (before : List (LevelNode K V)) (n : ℕ) (l : List (K × V)) (entry : K × V) (r : List (K × V)) (after : List (LevelNode K V)) → (before ≡ []) ⊎ (1 ≤ length l) → 1 ≤ length (l ++ r) →
       Stacked (heads (before ++ node n (l ++ r) ∷ after)) rows → Topped (heads (before ++ node n (l ++ r) ∷ after)) rows → RowsIn slots rows → Renewed slots ms js up rows (heads (before ++ node n (l ++ entry ∷ r) ∷ after))
   renew up rows before n (x ∷ l) entry r after at some s t i =
@@ -85,14 +85,14 @@ insert_between : {A : Type 0} (p s : List A) (x : A) → insert (p ++ s) (length
 insert_between [] s x = refl
 insert_between (z ∷ p) s x = ap (λ w. z ∷ w) (insert_between p s x)
 
--- an entry between two parts of a node
+-- inserting an entry between two parts of a node
 pub insert_flat : {K V : Type 0} (before : List (LevelNode K V)) (n : ℕ) (l r : List (K × V)) (after : List (LevelNode K V)) (x : K × V) →
     insert (flat (before ++ node n (l ++ r) ∷ after)) (length (flat before) + length l) x ≡ flat before ++ ((l ++ x ∷ r) ++ flat after)
 insert_flat before n l r after x =
     let whole : flat (before ++ node n (l ++ r) ∷ after) ≡ (flat before ++ l) ++ (r ++ flat after) = simp (flat-append, append_assoc) in
     rw (whole, ← length-append (flat before) l, insert_between (flat before ++ l) (r ++ flat after) x) (simp append_assoc)
 
--- as many rows
+-- rows of the same sizes are as many
 pub rows_count : {K : Type 0} (xs ys : List (List (LevelNode K ℕ))) → map sizes ys ≡ map sizes xs → length ys ≡ length xs
 rows_count xs ys e = omega (arith, ap length e, length-map xs sizes, length-map ys sizes)
 
@@ -153,14 +153,14 @@ module _ {K V : Type 0} where
         none_chain = d.2;
       }
 
-  -- the rows above, with the entry among those of its leaf
+  -- the rows over the leaves after the insertion
   pub renewed : (most : ℕ) (t : Table K V) (ms js : List ℕ) (size : ℕ) (tree : Tree K V) (place : ℕ) (entry : K × V) → 1 ≤ most → Placed most t ms js size tree place → (d : LeafSpot most t ms js tree place) →
       Renewed t.nodes ms js 1 tree.above (heads (d.before ++ node (get_or ms 0 0) (d.l ++ entry ∷ d.r) ∷ d.after))
   renewed most t ms js size tree place entry one p d =
       let f = FitRow-split (half_of most) most d.before (node (get_or ms 0 0) (d.l ++ d.r)) d.after d.fit.leaves_fit in
       renew t.nodes ms js 1 tree.above d.before (get_or ms 0 0) d.l entry d.r d.after d.first (omega (arith, f.1.0, least-pos (half_of most) (omega (arith, one)) d.after)) d.fit.stacked d.fit.topped p.inside.rows_in
 
-  -- where the leaf has room
+  -- the sizes of the leaves where the leaf has room
   pub room_gain : (most : ℕ) (t : Table K V) (ms js : List ℕ) (tree : Tree K V) (place : ℕ) → (d : LeafSpot most t ms js tree place) → length (d.l ++ d.r) < most → leaf_gain most place (sizes tree.leaves) ≡ (None, sizes d.before ++ suc (length (d.l ++ d.r)) ∷ sizes d.after)
   room_gain most t ms js tree place d room =
       rw (d.leaves_are, d.place_is, sizes-append d.before (node (get_or ms 0 0) (d.l ++ d.r) ∷ d.after)) (leaf_room most d.before (length (d.l ++ d.r)) (length d.l) (sizes d.after) (omega (arith, length-append d.l d.r)) d.first room)
@@ -206,6 +206,6 @@ module _ {K V : Type 0} where
         new_root = λ other. absurd (other (rows_count tree.above above.rows' above.sizes_are));
       }
 
--- how many keys
+-- entries have as many keys
 pub keys_count : {K X : Type 0} → (es : List (K × X)) → length (entry_keys es) ≡ length es
 keys_count es = length-map es (λ w. w.0)

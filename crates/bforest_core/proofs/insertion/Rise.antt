@@ -1,4 +1,4 @@
--- A level whose node became two, and the levels above it.
+-- A level with a split node, and the levels above it.
 use Rattle.std.proofs.Common.{◌≡◌, ℕ, suc, ◌+◌, ◌-◌, ◌≤◌, ◌<◌, ◌≢◌, Bool, if◌then◌else◌, List, [], ◌∷◌, ◌++◌, map, length, get_or, slice_get, Some, refl, sym, ap, ◌∙◌, subst, length-append, arith, true, false, append_assoc}
 use Rattle.bforest_core.proofs.Words.{flat_map, length-map, Inner, Table, LevelNode, node, heads, sizes, numbers, Stacked, Topped, gain_above, need_above, inner_content, count, Distinct, IsAt, StandsAbove, Above, Grown, Halved, flat}
 use Rattle.bforest_core.proofs.rows.LevelRows.{heads-append, flat-append, sizes-append}
@@ -6,7 +6,7 @@ use Rattle.bforest_core.proofs.table.Tables.{counts, count-append, count-same, r
 use Rattle.bforest_core.proofs.rows.Zipper.{Spot, stands_here, stands-same}
 use Rattle.bforest_core.proofs.insertion.Grow.{gain_spot, gain_full, head-grown, FitRow-put, gain_room, heads-halved, one_more}
 
--- one where the path moved on
+-- 1 where the path moved on, else 0
 abbrev pub step : Bool → ℕ
 step moved = if moved then 1 else 0
 
@@ -64,13 +64,13 @@ module _ {K V : Type 0} where
         },
       )
 
--- a level whose node became two has a level above it
+-- a level with a split node has a level above it
 pub gain-some : (p : ℕ) (levels : List (List ℕ)) → 1 ≤ length (gain_above (Some p) levels)
 gain-some p [] = omega arith
 gain-some p (level ∷ levels) = omega arith
 
 module _ {K V : Type 0} where
-  -- the need of a level whose node becomes two, and how many levels stand above it then
+  -- the need and the number of levels above a level with a split node, from those one level up
   pub sizes_halved : (t u : Table K V) (ms js ms' js' : List ℕ) (up size : ℕ) (rows : List (List (LevelNode K ℕ))) (list : List (K × ℕ)) (was p : ℕ) (key : K) (right : ℕ) (moved : Bool) → (h : Halved t u ms js ms' js' up size rows list was p key right moved) →
       (need_above (Some was) (map sizes rows) ≡ suc (need_above (Some (length (heads h.before))) (map sizes h.rest))) × (length (gain_above (Some was) (map sizes rows)) ≡ suc (length (gain_above (Some (length (heads h.before))) (map sizes h.rest))))
   sizes_halved t u ms js ms' js' up size rows list was p key right moved h = (
@@ -78,7 +78,7 @@ module _ {K V : Type 0} where
     ap (λ z. length (gain_above (Some was) (map sizes z))) h.rows_were ∙ ap (λ z. suc (length (gain_above z.0 (map sizes h.rest)))) h.gain_is,
   )
 
-  -- the levels above took the right half in
+  -- the rows from a level up, after the right half was inserted into the levels above
   pub rise : (t u v : Table K V) (ms js ms' js' ms'' js'' : List ℕ) (up size size' : ℕ) (rows : List (List (LevelNode K ℕ))) (hs list : List (K × ℕ)) (q was p : ℕ) (key : K) (right : ℕ) (moved : Bool) (taken : List ℕ) → Above t ms js up size rows hs q → (h : Halved t u ms js ms' js' up size rows list was p key right moved) →
       Grown u v ms' js' ms'' js'' (suc up) size size' h.rest (heads h.before ++ (h.first.0, get_or ms up 0) ∷ (key, right) ∷ heads h.after) (if moved then suc (length (heads h.before)) else length (heads h.before)) (gain_above (Some (length (heads h.before))) (map sizes h.rest)) taken →
       Grown t v ms js ms'' js'' up size size' rows list p (gain_above (Some was) (map sizes rows)) (right ∷ taken)
@@ -125,7 +125,7 @@ module _ {K V : Type 0} where
         new_top = λ other. omega (arith, g.new_top other);
       }
 
-  -- a root that became two gets a new root
+  -- splitting the root adds a new root
   pub settle_root : (t u : Table K V) (ms js ms' js' : List ℕ) (size size' left root : ℕ) (rows : List (List (LevelNode K ℕ))) (a : List (K × ℕ)) (first : K) (b : List (K × ℕ)) (key : K) (child : ℕ) (moved : Bool) → Above t ms js size size rows (a ++ (first, left) ∷ b) (length a) → Takes t u root (Inner (key ∷ []) (left ∷ child ∷ [])) →
       size' ≡ suc size → get_or ms' size 0 ≡ root → get_or js' size 0 ≡ (if moved then 1 else 0) → ((i : ℕ) → i ≢ size → get_or ms' i 0 ≡ get_or ms i 0) → ((i : ℕ) → i ≢ size → get_or js' i 0 ≡ get_or js i 0) →
       (taken : List ℕ) × (suc (length taken) ≡ need_above (Some (length a)) (map sizes rows)) × Grown t u ms js ms' js' size size size' rows (a ++ (first, left) ∷ (key, child) ∷ b) (if moved then suc (length a) else length a) (gain_above (Some (length a)) (map sizes rows)) taken
@@ -163,18 +163,18 @@ module _ {K V : Type 0} where
         },
       )
 
--- the top level needs a new root too
+-- a split of the root takes a node for the new root too
 pub need_top : {K : Type 0} (p : ℕ) (rows : List (List (LevelNode K ℕ))) → length rows ≡ 0 → need_above (Some p) (map sizes rows) ≡ 2
 need_top p [] none = refl
 need_top p (row ∷ rows) none = absurd (omega (arith, none))
 
--- a level whose node becomes two needs a node
+-- a split takes at least one node
 pub need_some : (p : ℕ) (levels : List (List ℕ)) → 1 ≤ need_above (Some p) levels
 need_some p [] = omega arith
 need_some p (level ∷ levels) = omega arith
 
 module _ {K V : Type 0} where
-  -- a level whose node is full needs two or more
+  -- a split below a full node takes at least two nodes
   pub need_full : (t : Table K V) (ms js : List ℕ) (up size : ℕ) (rows : List (List (LevelNode K ℕ))) (a : List (K × ℕ)) (x : K × ℕ) (b : List (K × ℕ)) → (d : Spot t ms js up size rows a x b) → length (d.q.l ++ x ∷ d.q.r) ≡ 8 → 2 ≤ need_above (Some (length a)) (map sizes rows)
   need_full t ms js up size rows a x b d eight =
       let q = d.q in

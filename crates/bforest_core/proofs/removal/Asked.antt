@@ -1,4 +1,5 @@
--- What the calls on the nodes of a path and on the rows above a level ask, in the form in which they ask it, and what they leave.
+-- What the calls on the nodes of a path and on the rows above a level require and ensure, as their contracts
+-- state it.
 use Rattle.std.proofs.Common.{◌≡◌, ℕ, suc, ◌+◌, ◌≤◌, ◌<◌, Option, Some, List, [], ◌∷◌, ◌++◌, map, length, drop, get_or, slice_get, ap, ◌∙◌, arith}
 use Rattle.bforest_core.proofs.Words.{Content, Inner, IsFree, IsUsed, entry_count, with_key, without_child, Table, with_node, LevelNode, sizes, inner_content, entry_keys, entry_items, count, Above, NextIs, Rebuilt, get_or_default}
 use Rattle.bforest_core.proofs.table.Stored.{key_count, item_count}
@@ -6,7 +7,7 @@ use Rattle.bforest_core.proofs.table.Tables.{is_used}
 use Rattle.bforest_core.proofs.rows.Zipper.{Spot, spot, above_two}
 
 module _ {K V : Type 0} where
-  -- a node in use, whose entries are counted
+  -- a used node, whose entries are counted
   abbrev pub NodeAt : Table K V → ℕ → Type 0
   NodeAt t number = (content : Content K V) × (slice_get t.nodes number ≡ Some content) × (¬ IsFree content)
 
@@ -14,73 +15,73 @@ module _ {K V : Type 0} where
   abbrev pub KeyAt : Table K V → ℕ → ℕ → Type 0
   KeyAt t number index = (keys : List K) × (children : List ℕ) × (slice_get t.nodes number ≡ Some (Inner keys children)) × (index < length keys)
 
-  -- or with a child
+  -- an inner node with a child of this index
   abbrev pub ChildAt : Table K V → ℕ → ℕ → Type 0
   ChildAt t number index = (keys : List K) × (children : List ℕ) × (slice_get t.nodes number ≡ Some (Inner keys children)) × (index < length children)
 
-  -- what the call that reads a separator says, and a child
+  -- the answer of a read of a separator
   abbrev pub ReadsKey : Table K V → ℕ → ℕ → K → Type 0
   ReadsKey t number index key = (keys : List K) (children : List ℕ) → slice_get t.nodes number ≡ Some (Inner keys children) → slice_get keys index ≡ Some key
 
   abbrev pub ReadsChild : Table K V → ℕ → ℕ → ℕ → Type 0
   ReadsChild t number index child = (keys : List K) (children : List ℕ) → slice_get t.nodes number ≡ Some (Inner keys children) → slice_get children index ≡ Some child
 
-  -- and that which counts the entries of a node
+  -- the answer of a count of a node's entries
   abbrev pub Counts : Table K V → ℕ → ℕ → Type 0
   Counts t number m = (content : Content K V) → slice_get t.nodes number ≡ Some content → m ≡ entry_count content
 
-  -- what the call that writes a separator leaves
+  -- the effect of writing a separator
   abbrev pub Writes : Table K V → Table K V → ℕ → ℕ → K → Type 0
   Writes t u number index key = (keys : List K) (children : List ℕ) → slice_get t.nodes number ≡ Some (Inner keys children) → u ≡ with_node t number (with_key (Inner keys children) index key)
 
-  -- and the call that takes a child out
+  -- the effect of removing a child
   abbrev pub Removes : Table K V → Table K V → ℕ → ℕ → Type 0
   Removes t u number index = (keys : List K) (children : List ℕ) → slice_get t.nodes number ≡ Some (Inner keys children) → u ≡ with_node t number (without_child (Inner keys children) index)
 
-  -- the rows from a level on, with an entry in sight
+  -- the rows from a level up, cut at one entry
   abbrev pub OneAbove : Table K V → List ℕ → List ℕ → ℕ → ℕ → Type 0
   OneAbove t path indices up size = (rows : List (List (LevelNode K ℕ))) × (before : List (K × ℕ)) × (x : K × ℕ) × (after : List (K × ℕ)) × Above t path indices up size rows (before ++ x ∷ after) (length before)
 
-  -- with two
+  -- the rows from a level up, cut at an entry and the number of the next
   abbrev pub TwoAbove : Table K V → List ℕ → List ℕ → ℕ → ℕ → Type 0
   TwoAbove t path indices up size = (rows : List (List (LevelNode K ℕ))) × (before : List (K × ℕ)) × (x : K × ℕ) × (key : K) × (n : ℕ) × (after : List (K × ℕ)) × Above t path indices up size rows (before ++ x ∷ (key, n) ∷ after) (length before)
 
   pub two_low : (t : Table K V) (path indices : List ℕ) (up size : ℕ) → TwoAbove t path indices up size → up < size
   two_low t path indices up size w = above_two t path indices up size w.0 w.1 w.2 (w.3, w.4) w.5 (length w.1) w.6
 
-  -- the same for another call
+  -- the rows from a level up, cut at an entry and the next
   abbrev pub NextAbove : Table K V → List ℕ → List ℕ → ℕ → ℕ → Type 0
   NextAbove t path indices up size = (rows : List (List (LevelNode K ℕ))) × (before : List (K × ℕ)) × (x : K × ℕ) × (y : K × ℕ) × (after : List (K × ℕ)) × Above t path indices up size rows (before ++ x ∷ y ∷ after) (length before)
 
-  -- or another
+  -- the rows from a level up, cut at two entries given by keys and numbers
   abbrev pub MergeAbove : Table K V → List ℕ → List ℕ → ℕ → ℕ → Type 0
   MergeAbove t path indices up size = (rows : List (List (LevelNode K ℕ))) × (before : List (K × ℕ)) × (k : K) × (m : ℕ) × (k2 : K) × (n : ℕ) × (after : List (K × ℕ)) × Above t path indices up size rows (before ++ (k, m) ∷ (k2, n) ∷ after) (length before)
 
   pub merge_low : (t : Table K V) (path indices : List ℕ) (up size : ℕ) → MergeAbove t path indices up size → up < size
   merge_low t path indices up size w = above_two t path indices up size w.0 w.1 (w.2, w.3) (w.4, w.5) w.6 (length w.1) w.7
 
-  -- or with the last two
+  -- the rows from a level up, cut at the last two entries
   abbrev pub LastTwo : Table K V → List ℕ → List ℕ → ℕ → ℕ → Type 0
   LastTwo t path indices up size = (rows : List (List (LevelNode K ℕ))) × (before : List (K × ℕ)) × (y : K × ℕ) × (x : K × ℕ) × Above t path indices up size rows (before ++ y ∷ x ∷ []) (suc (length before))
 
   pub last_low : (t : Table K V) (path indices : List ℕ) (up size : ℕ) → LastTwo t path indices up size → up < size
   last_low t path indices up size w = above_two t path indices up size w.0 w.1 w.2 w.3 [] (suc (length w.1)) w.4
 
-  -- what the call for the right neighbour answers
+  -- the answer of the call for the right neighbour
   abbrev pub Beside : Table K V → List ℕ → List ℕ → ℕ → ℕ → Option (K × ℕ) → Type 0
   Beside t path indices up size r = (rows : List (List (LevelNode K ℕ))) (before : List (K × ℕ)) (x : K × ℕ) (after : List (K × ℕ)) → Above t path indices up size rows (before ++ x ∷ after) (length before) → NextIs r after
 
-  -- what the call that renews the key between two neighbours leaves
+  -- the effect of the call that updates the key between two neighbours
   abbrev pub Rekeys : Table K V → Table K V → List ℕ → List ℕ → ℕ → ℕ → K → Type 0
   Rekeys u v path indices up size key = (rows : List (List (LevelNode K ℕ))) (before : List (K × ℕ)) (x : K × ℕ) (first : K) (n : ℕ) (after : List (K × ℕ)) → Above u path indices up size rows (before ++ x ∷ (first, n) ∷ after) (length before) →
       Rebuilt u v path indices path indices up size rows (before ++ x ∷ (key, n) ∷ after) (length before) (map sizes rows) []
 
-  -- what the call that enters the next node leaves
+  -- the effect of the call that enters the next node
   abbrev pub Enters : Table K V → List ℕ → List ℕ → List ℕ → List ℕ → ℕ → ℕ → Type 0
   Enters t path indices path' indices' up size = (rows : List (List (LevelNode K ℕ))) (before : List (K × ℕ)) (x : K × ℕ) (y : K × ℕ) (after : List (K × ℕ)) → Above t path indices (suc up) size rows (before ++ x ∷ y ∷ after) (length before) →
       Above t path' indices' (suc up) size rows (before ++ x ∷ y ∷ after) (suc (length before)) × (get_or path' up 0 ≡ y.1)
 
-  -- the path's node on a level above, as a call reads its number, and what the calls on it ask
+  -- the path's node on a level above, by the number that was read, and what the calls on it require
   pub record Seen (t : Table K V) (path indices : List ℕ) (up size : ℕ) (rows : List (List (LevelNode K ℕ))) (a : List (K × ℕ)) (x : K × ℕ) (b : List (K × ℕ)) (r : ℕ) : Type 0 where
     pub d : Spot t path indices up size rows a x b
     pub small : get_or indices up 0 < 8

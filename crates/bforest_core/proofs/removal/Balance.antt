@@ -8,7 +8,7 @@ use Rattle.bforest_core.proofs.rows.LevelRows.{head-is}
 use Rattle.bforest_core.proofs.rows.Zipper.{cut}
 use Rattle.bforest_core.proofs.removal.Frees.{frees-after, frees-puts}
 
--- half and all of a node
+-- half of a node's capacity and the whole of it
 pub record IsHalf (half most : ℕ) : Type 0 where
   pub two : 2 ≤ half
   pub lo : most ≤ half + half
@@ -24,7 +24,7 @@ pub record IsStored {K V X : Type 0} (content : List (K × X) → Content K V) (
   pub cuts : (x : K × X) (xs : List (K × X)) (y : K × X) (ys : List (K × X)) (q : ℕ) (left right : Content K V) (key : K) → length (x ∷ xs) ≡ q → IsCut (content ((x ∷ xs) ++ y ∷ ys)) q left key right → Parts content (x ∷ xs) y ys left right key
 
 module _ {K : Type 0} where
-  -- inner nodes are
+  -- inner nodes are stored with a capacity of 8
   pub inner_stored : {V : Type 0} (n : ℕ) → IsStored {K = K} {V = V} inner_content n 8
   inner_stored {V} n = record {
     count_is = λ es. length-map es (λ (w : K × ℕ). w.1);
@@ -35,7 +35,7 @@ module _ {K : Type 0} where
     cuts = inner_cuts V;
   }
 
-  -- so are leaves
+  -- leaves are stored with a capacity of n
   pub leaf_stored : {V : Type 0} (n : ℕ) → IsStored {K = K} {V = V} leaf_content n n
   leaf_stored {V} n = record {
     count_is = λ es. length-map es (λ (w : K × V). w.0);
@@ -47,14 +47,14 @@ module _ {K : Type 0} where
   }
 
 module _ {K V X : Type 0} (content : List (K × X) → Content K V) where
-  -- two slots written
+  -- two slots were written
   pub record PutsTwo (t u : Table K V) (n q : ℕ) (c d : Content K V) : Type 0 where
     pub here : slice_get u.nodes n ≡ Some c
     pub there : slice_get u.nodes q ≡ Some d
     pub same : (m : ℕ) → m ≢ n → m ≢ q → slice_get u.nodes m ≡ slice_get t.nodes m
     pub frees : Frees t u (n ∷ q ∷ []) []
 
-  -- two writes, one after the other
+  -- two writes in sequence write two slots
   puts_two : (t u : Table K V) (n q : ℕ) (c d old_n old_q : Content K V) → slice_get t.nodes n ≡ Some old_n → slice_get t.nodes q ≡ Some old_q → n ≢ q → u ≡ with_node (with_node t n c) q d → PutsTwo t u n q c d
   puts_two t u n q c d old_n old_q fn fq ne is =
       let v = with_node t n c in
@@ -68,13 +68,13 @@ module _ {K V X : Type 0} (content : List (K × X) → Content K V) where
         frees = frees-after t v u own own [] (λ m none. none) (frees-puts t v n c own (omega (arith, count-same n (q ∷ []))) one) (frees-puts v u q d own (omega (arith, count-same q [])) two);
       }
 
-  -- all in the right one
+  -- both nodes were merged into the right one
   pub record AllRight (t u : Table K V) (most n q : ℕ) (es fs : List (K × X)) : Type 0 where
     pub fits : length es + length fs ≤ most
     pub left_content : Content K V
     pub two : PutsTwo t u n q left_content (content (es ++ fs))
 
-  -- or cut in two
+  -- both nodes share their entries
   pub record Spread (t u : Table K V) (most n q : ℕ) (es fs : List (K × X)) (key : K) : Type 0 where
     pub more : most < length es + length fs
     pub x : K × X
@@ -88,7 +88,7 @@ module _ {K V X : Type 0} (content : List (K × X) → Content K V) where
     pub two : PutsTwo t u n q (content (x ∷ xs)) (content (y ∷ ys))
 
   module _ (t u : Table K V) (cap most n q : ℕ) (e : K × X) (es : List (K × X)) (f : K × X) (fs : List (K × X)) (s : IsStored content cap most) (ne : n ≢ q) (two : 2 ≤ most) (fn : slice_get t.nodes n ≡ Some (content (e ∷ es))) (fq : slice_get t.nodes q ≡ Some (content (f ∷ fs))) where
-    -- what was balanced are these two
+    -- the balanced nodes are these two
     balances_at : (got : Option K) (b : IsBalancedAt cap t n f.0 q got u) → Balances cap (content (e ∷ es)) f.0 (content (f ∷ fs)) got b.new_left b.new_right
     balances_at got b =
         let under_is : b.under ≡ content (e ∷ es) = some_same b.under (content (e ∷ es)) (sym b.left_was ∙ fn) in
@@ -98,7 +98,7 @@ module _ {K V X : Type 0} (content : List (K × X) → Content K V) where
     whole_count : entry_count (content (e ∷ es)) + entry_count (content (f ∷ fs)) ≡ length (e ∷ es) + length (f ∷ fs)
     whole_count = omega (arith, s.count_is (e ∷ es), s.count_is (f ∷ fs))
 
-    -- where all fits, balancing puts all into the right one
+    -- where everything fits, balancing merges into the right node
     pub all_right_at : IsBalancedAt cap t n f.0 q None u → AllRight t u most n q (e ∷ es) (f ∷ fs)
     all_right_at b =
         let bal = balances_at None b in
@@ -110,7 +110,7 @@ module _ {K V X : Type 0} (content : List (K × X) → Content K V) where
               record { fits = less; left_content = b.new_left; two = puts_two t u n q b.new_left (content ((e ∷ es) ++ f ∷ fs)) (content (e ∷ es)) (content (f ∷ fs)) fn fq ne (b.after ∙ ap (λ z. with_node (with_node t n b.new_left) q z) (w.1 ∙ s.joins e es f fs)) })
         ]
 
-    -- else it cuts them in two
+    -- where not everything fits, balancing shares the entries
     pub spread_at : (key : K) → IsBalancedAt cap t n f.0 q (Some key) u → Spread t u most n q (e ∷ es) (f ∷ fs) key
     spread_at key b =
         let bal = balances_at (Some key) b in

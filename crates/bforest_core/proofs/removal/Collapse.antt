@@ -1,4 +1,5 @@
--- Roots with a single child, which go: from the root down, and in the sizes from the leaves up. Each answer of `collapse_root` is one of these.
+-- Discarding roots with a single child: from the root down, and in the sizes from the leaves up. These are
+-- the answers of `collapse_root`.
 use Rattle.std.proofs.Common.{◌≡◌, ◌≢◌, ℕ, suc, ◌+◌, ◌-◌, ◌≤◌, ◌<◌, Some, List, [], ◌∷◌, ◌++◌, map, length, drop, get_or, slice_get, refl, sym, ap, ◌∙◌, subst, append_assoc, append-nil, length-append, arith}
 use Rattle.bforest_core.proofs.Words.{nil_from_length, flat_map, flat_map-append, Content, IsUsed, Table, with_freed, LevelNode, node, flat, heads, sizes, numbers, Stacked, Topped, trimmed, RowsIn, inner_content, entry_keys, entry_items, count, root_above, first_number}
 use Rattle.bforest_core.proofs.Words.{StandsAbove, UpTo, Trimmed}
@@ -9,19 +10,19 @@ use Rattle.bforest_core.proofs.table.Stored.{item_count, some_same}
 use Rattle.bforest_core.proofs.removal.Asked.{NodeAt, ChildAt, ReadsChild, Counts}
 use Rattle.bforest_core.proofs.removal.Frees.{frees-refl, freed_other, frees-first}
 
--- the sizes of a row are as many as its nodes
+-- a row has one size per node
 pub length-sizes : {K X : Type 0} (row : List (LevelNode K X)) → length (sizes row) ≡ length row
 length-sizes [] = refl
 length-sizes (node n es ∷ row) = ap suc (length-sizes row)
 
--- a row has no fewer entries than nodes that are seen from above
+-- a row has no fewer entries than heads
 pub heads-flat : {K X : Type 0} (row : List (LevelNode K X)) → length (heads row) ≤ length (flat row)
 heads-flat [] = omega arith
 heads-flat (node n [] ∷ row) = heads-flat row
 heads-flat (node n (e ∷ es) ∷ row) = omega (arith, heads-flat row, length-append es (flat row))
 
 module _ {K : Type 0} where
-  -- the rows up to a root, cut below its row
+  -- the rows up to a root, split below the root's row
   pub record Top (rows : List (List (LevelNode K ℕ))) (root : ℕ) : Type 0 where
     pub init : List (List (LevelNode K ℕ))
     pub entries : List (K × ℕ)
@@ -34,7 +35,7 @@ module _ {K : Type 0} where
   top_here list (node n (e ∷ es) ∷ []) root s is = record { init = []; entries = e ∷ es; rows_are = ap (λ z. (node z (e ∷ es) ∷ []) ∷ []) is; some = omega arith }
   top_here list (node n (e ∷ es) ∷ next ∷ row) root s is = absurd (omega (arith, s.2, fit_full 4 8 (omega arith) (node n (e ∷ es) ∷ next ∷ row) s.1))
 
-  -- there is one over any rows
+  -- nonempty rows have a root's row on top
   top_of_rows : (list : List (K × ℕ)) (row : List (LevelNode K ℕ)) (rows : List (List (LevelNode K ℕ))) (root : ℕ) → Stacked list (row ∷ rows) → root_above list (row ∷ rows) ≡ root → Top (row ∷ rows) root
   top_of_rows list row [] root s is = top_here list row root s is
   top_of_rows list row (next ∷ rows) root s is =
@@ -46,7 +47,7 @@ module _ {K : Type 0} where
   below-root list [] root x s = (ap length (sym s.0), ap first_number (sym s.0))
   below-root list (row ∷ init) root x s = let r = below-root (heads row) init root x s.2 in ((s.0, s.1, r.0), r.1)
 
-  -- a root with more children than one stands over levels of two nodes or more
+  -- a root with two children or more is over levels of two nodes or more
   topped-here : (list : List (K × ℕ)) (init : List (List (LevelNode K ℕ))) (root : ℕ) (es : List (K × ℕ)) → 2 ≤ length es → Stacked list (init ++ (node root es ∷ []) ∷ []) → (2 ≤ length list) × Topped list (init ++ (node root es ∷ []) ∷ [])
   topped-here list [] root es two s = let low : 2 ≤ length list = omega (arith, two, ap length s.0, length-append es []) in (low, (low, tt))
   topped-here list (row ∷ init) root es two s =
@@ -54,7 +55,7 @@ module _ {K : Type 0} where
       let low : 2 ≤ length list = omega (arith, t.0, heads-flat row, ap length s.0) in
       (low, (low, t.1))
 
-  -- the levels of a tree, up to the first of one node
+  -- the trimmed sizes of a tree are those of its levels up to the first of one node
   pub trimmed-is : (leaves : List ℕ) (list : List (K × ℕ)) (rows gone : List (List (LevelNode K ℕ))) → length leaves ≡ length list → Stacked list (rows ++ gone) → Stacked list rows → Topped list rows →
       trimmed (leaves ∷ map sizes (rows ++ gone)) ≡ leaves ∷ map sizes rows
   trimmed-is (size ∷ []) list [] gone len s one t = refl
@@ -63,7 +64,7 @@ module _ {K : Type 0} where
   trimmed-is leaves list [] gone len s u t = absurd (omega (arith, len, u))
   trimmed-is leaves list (row ∷ rows) gone len s u t = absurd (omega (arith, len, t.0))
 
-  -- rows of the same sizes over as many nodes
+  -- rows of the same sizes over as many nodes have two nodes or more on the same levels
   pub topped-sizes : (list list' : List (K × ℕ)) (rows rows' : List (List (LevelNode K ℕ))) → Stacked list rows → Stacked list' rows' → length list' ≡ length list → map sizes rows' ≡ map sizes rows → Topped list rows → Topped list' rows'
   topped-sizes list list' rows [] s s' len same t = tt
   topped-sizes list list' [] (row' ∷ rows') s s' len same t = absurd cc
@@ -74,7 +75,7 @@ module _ {K : Type 0} where
       let b = fit_full 4 8 (omega arith) row' s'.1 in
       (omega (arith, t.0, len), topped-sizes (heads row) (heads row') rows rows' s.2 s'.2 (omega (arith, a, b, length-sizes row, length-sizes row', ap length here)) rest t.1)
 
-  -- a path through the rows goes through the lower ones
+  -- a path through the rows is a path through the lower ones
   pub stands-below : (path indices : List ℕ) (level : ℕ) (list : List (K × ℕ)) (rows gone : List (List (LevelNode K ℕ))) (place : ℕ) → place < length list → Stacked list rows → StandsAbove path indices level (rows ++ gone) place → StandsAbove path indices level rows place
   stands-below path indices level list [] gone place low s st = omega (arith, low, s)
   stands-below path indices level list (row ∷ rows) gone place low s st =
@@ -83,17 +84,17 @@ module _ {K : Type 0} where
       let within : length at.before < length (heads row) = omega (arith, full, ap length at.row_is, length-append at.before (node (get_or path level 0) at.entries ∷ at.after)) in
       (at, stands-below path indices (suc level) (heads row) rows gone (length at.before) within s.2 st.1)
 
--- how often a number stands in rows with a row of one node on top
+-- how often a number occurs in rows with a row of one node on top
 pub count_top : {K : Type 0} (m : ℕ) (init : List (List (LevelNode K ℕ))) (root : ℕ) (es : List (K × ℕ)) → count m (flat_map numbers (init ++ (node root es ∷ []) ∷ [])) ≡ count m (flat_map numbers init) + count m (root ∷ [])
 count_top m init root es = ap (λ z. count m z) (flat_map-append numbers init ((node root es ∷ []) ∷ [])) ∙ count-append m (flat_map numbers init) (root ∷ [])
 
 module _ {K V : Type 0} where
-  -- the lower of some rows in the table, and the upper
+  -- the lower and the upper rows are each in the table
   pub rows-parts : (slots : List (Content K V)) (rows more : List (List (LevelNode K ℕ))) → RowsIn slots (rows ++ more) → RowsIn slots rows × RowsIn slots more
   rows-parts slots [] more i = (tt, i)
   rows-parts slots (row ∷ rows) more i = let r = rows-parts slots rows more i.1 in ((i.0, r.0), r.1)
 
-  -- no root goes
+  -- no root is discarded
   unfoldable pub trim_none : (t : Table K V) (size : ℕ) (rows : List (List (LevelNode K ℕ))) (list : List (K × ℕ)) (root : ℕ) → UpTo t size rows list root → Topped list rows → Trimmed t t size size rows list root root []
   trim_none t size rows list root u topped = record {
     rows' = rows;
@@ -110,7 +111,7 @@ module _ {K V : Type 0} where
     frees = frees-refl t [];
   }
 
-  -- a leaf as the root stays
+  -- a leaf that is the root stays
   pub trim_leaf : (t : Table K V) (size : ℕ) (rows : List (List (LevelNode K ℕ))) (list : List (K × ℕ)) (root : ℕ) → UpTo t size rows list root → size ≡ 1 → Trimmed t t size size rows list root root []
   trim_leaf t size [] list root u one = trim_none t size [] list root u tt
   trim_leaf t size (row ∷ rows) list root u one = absurd (omega (arith, u.height, one))
@@ -140,7 +141,7 @@ module _ {K V : Type 0} where
         let e = count_top root top.init root top.entries in
         (omega (arith, c, d, e, count-same root []), omega (arith, c, d, e, count-same root []))
 
-    -- what counting the root's children asks
+    -- the root meets what counting its children requires
     pub counted_asks : NodeAt t root
     counted_asks = (inner_content top.entries, slot_is, λ free. free)
 
@@ -148,23 +149,23 @@ module _ {K V : Type 0} where
       count_is : n ≡ length top.entries
       count_is = counted (inner_content top.entries) slot_is ∙ item_count top.entries
 
-      -- a root with more children than one stays
+      -- a root with two children or more stays
       pub trim_stays : 1 < n → Trimmed t t size size rows list root root []
       trim_stays two =
           trim_none t size rows list root u (subst (λ (z : List (List (LevelNode K ℕ))). Topped list z) (sym top.rows_are) (topped-here list top.init root top.entries (omega (arith, two, count_is)) whole.stacked).1)
 
-      -- a root with a single child
+      -- the root has a single child
       module _ (few : n ≤ 1) where
         child : (x : K × ℕ) × (top.entries ≡ x ∷ [])
         child =
             let h = head-is root top.entries top.some in
             (h.first, h.es_is ∙ ap (λ z. h.first ∷ z) (nil_from_length h.others (omega (arith, few, count_is, ap length h.es_is))))
 
-        -- what reading the child asks
+        -- the root meets what reading its child requires
         pub child_asks : ChildAt t root 0
         child_asks = (drop 1 (entry_keys top.entries), entry_items top.entries, slot_is, omega (arith, item_count top.entries, top.some))
 
-        -- and freeing the root
+        -- the root meets what freeing it requires
         pub free_asks : IsUsed t root
         free_asks = is_used t root (inner_content top.entries) slot_is none_else.1
 
@@ -175,7 +176,7 @@ module _ {K V : Type 0} where
           below : Stacked list top.init × (root_above list top.init ≡ child.0.1)
           below = below-root list top.init root child.0 (subst (λ (z : List (K × ℕ)). Stacked list (top.init ++ (node root z ∷ []) ∷ [])) child.1 whole.stacked)
 
-          -- the rows below it, after it was freed
+          -- the rows below the root, after it was freed
           pub trim_down : UpTo v (size - 1) top.init list only
           trim_down = record {
             stacked = below.0;
@@ -185,7 +186,7 @@ module _ {K V : Type 0} where
             apart = λ m. omega (arith, whole.apart m, count-append m (flat_map numbers (top.init ++ (node root top.entries ∷ []) ∷ [])) t.chain, count_top m top.init root top.entries, count-append m (flat_map numbers top.init) v.chain, ap (λ z. count m z.chain) freed);
           }
 
-          -- and after more roots went
+          -- the rows below the root, after further roots were discarded
           pub trim_then : (w : Table K V) (size' root' : ℕ) (gone : List ℕ) → Trimmed v w (size - 1) size' top.init list only root' gone → Trimmed t w size size' rows list root root' (gone ++ root ∷ [])
           trim_then w size' root' gone r =
               let row : List (LevelNode K ℕ) = node root top.entries ∷ [] in

@@ -1,11 +1,11 @@
--- Changes of some numbers of a table, of which some are freed: none, one after another, and of more numbers.
+-- Changes of some slots of a table, some of them freed: none, changes in sequence, and changes of more slots.
 use Rattle.std.proofs.Common.{◌≡◌, ◌≢◌, ℕ, ◌<◌, List, [], ◌∷◌, ◌++◌, length, slice_get, Some, refl, sym, ap, ◌∙◌, subst, inl, inr, append_assoc, append-nil, length-set, arith}
 use Rattle.bforest_core.proofs.Words.{eqb_tells, slice_get_within, Content, Free, IsFree, Table, with_freed, front_of, count, Frees, slot}
 use Rattle.bforest_core.proofs.table.Tables.{Puts, count-other, slice_get-set_apart}
 use Rattle.bforest_core.proofs.union.Forests.{every-join}
 use Rattle.bforest_core.proofs.union.FreeSlots.{free-same, freed-slot}
 
--- a number that one stands among is that one
+-- a number that occurs in a singleton list is its element
 pub only_here : (m n : ℕ) (ms : List ℕ) → 0 < count m (n ∷ []) → count n ms ≡ 0 → count m ms ≡ 0
 only_here m n ms some none =
     elim (eqb_tells n m) [
@@ -14,11 +14,11 @@ only_here m n ms some none =
     ]
 
 module _ {K V : Type 0} where
-  -- nothing has changed
+  -- an unchanged table frees nothing
   pub frees-refl : (t : Table K V) (own : List ℕ) → Frees t t own []
   frees-refl t own = record { others = λ m z. refl; freed_are = tt; chain_is = refl; slots_are = refl; limit_is = refl }
 
-  -- one change after another, which leaves alone what the first freed
+  -- two changes in sequence, the second of which leaves the slots freed by the first
   pub frees-then : (t u v : Table K V) (own wide one two : List ℕ) → ((m : ℕ) → count m own ≡ 0 → count m wide ≡ 0) → ((m : ℕ) → 0 < count m one → count m wide ≡ 0) → Frees t u own one → Frees u v wide two → Frees t v own (two ++ one)
   frees-then t u v own wide one two less quiet p q = record {
     others = λ m z. q.others m (less m z) ∙ p.others m z;
@@ -28,11 +28,11 @@ module _ {K V : Type 0} where
     limit_is = q.limit_is ∙ p.limit_is;
   }
 
-  -- one change after another that freed nothing
+  -- two changes in sequence, the first of which frees nothing
   pub frees-after : (t u v : Table K V) (own wide freed : List ℕ) → ((m : ℕ) → count m own ≡ 0 → count m wide ≡ 0) → Frees t u own [] → Frees u v wide freed → Frees t v own freed
   frees-after t u v own wide freed less p q = subst (λ (z : List ℕ). Frees t v own z) (append-nil freed) (frees-then t u v own wide [] freed less (λ m some. omega (arith, some)) p q)
 
-  -- a change of some numbers is one of more
+  -- a change of some slots is a change of more slots
   pub frees-wider : (t u : Table K V) (own wide freed : List ℕ) → ((m : ℕ) → count m wide ≡ 0 → count m own ≡ 0) → Frees t u own freed → Frees t u wide freed
   frees-wider t u own wide freed w p = record {
     others = λ m z. p.others m (w m z);
@@ -42,7 +42,7 @@ module _ {K V : Type 0} where
     limit_is = p.limit_is;
   }
 
-  -- one slot written
+  -- writing one slot frees nothing
   pub frees-puts : (t u : Table K V) (n : ℕ) (c : Content K V) (own : List ℕ) → 0 < count n own → Puts t u n c → Frees t u own []
   frees-puts t u n c own some p = record {
     others = λ m z. p.same m (λ (e : m ≡ n). let h = ap (λ w. count w own) e in omega (arith, h, z, some));
@@ -52,11 +52,11 @@ module _ {K V : Type 0} where
     limit_is = p.limit_is;
   }
 
-  -- a slot other than the freed one
+  -- freeing a slot leaves every other slot
   pub freed_other : (t v : Table K V) (n : ℕ) → v ≡ with_freed t n → (m : ℕ) → m ≢ n → slice_get v.nodes m ≡ slice_get t.nodes m
   freed_other t v n is m ne = ap (λ z. slice_get z.nodes m) is ∙ slice_get-set_apart t.nodes n m (Free (front_of t.chain)) ne
 
-  -- one freed node
+  -- freeing one used slot frees just it
   pub frees-one : (t v : Table K V) (n : ℕ) (old : Content K V) (own : List ℕ) → slice_get t.nodes n ≡ Some old → v ≡ with_freed t n → 0 < count n own → Frees t v own (n ∷ [])
   frees-one t v n old own found is some = record {
     others = λ m z. freed_other t v n is m (λ (e : m ≡ n). let h = ap (λ w. count w own) e in omega (arith, h, z, some));
@@ -66,7 +66,7 @@ module _ {K V : Type 0} where
     limit_is = ap (λ z. z.limit) is;
   }
 
-  -- and then a change of others
+  -- freeing one slot, followed by a change of others
   pub frees-first : (t v u : Table K V) (n : ℕ) (old : Content K V) (own wide freed : List ℕ) → slice_get t.nodes n ≡ Some old → v ≡ with_freed t n → 0 < count n own → count n wide ≡ 0 →
       ((m : ℕ) → count m own ≡ 0 → count m wide ≡ 0) → Frees v u wide freed → Frees t u own (freed ++ n ∷ [])
   frees-first t v u n old own wide freed found is some none less q =

@@ -1,4 +1,4 @@
--- The only entry of a leaf goes, and the leaf with it: it is the right-most.
+-- Removing the only entry of a leaf together with the leaf, which is the rightmost.
 use Rattle.std.proofs.Common.{◌≡◌, ◌≢◌, suc, ◌+◌, ◌≤◌, Some, List, ◌∷◌, ◌++◌, map, length, get_or, slice_get, refl, sym, ap, ◌∙◌, subst, append-nil, length-append, arith, ℕ, []}
 use Rattle.bforest_core.proofs.Words.{nil_from_length, flat_map, remove, get_or_default, IsLeafCapacity, Table, IsUsed, with_freed, LevelNode, node, flat, heads, sizes, numbers, FitRow, Stacked, Topped, Tree, half_of, sizes_of, loss, loss_above}
 use Rattle.bforest_core.proofs.Words.{shrink, RowIn, leaf_content, count, Distinct, root_above, root_of, numbers_of, IsPathAt, nodes_up, Above, UpTo, Trimmed, StandsIn, Removed, Emptied}
@@ -13,7 +13,7 @@ use Rattle.bforest_core.proofs.removal.Collapse.{heads-flat}
 use Rattle.bforest_core.proofs.removal.Taking.{remove_flat, leaf_count, LeafAt, leaf_at}
 use Rattle.bforest_core.proofs.removal.Removing.{Untrimmed, up_to, trimmed_removed}
 
--- nothing follows a node of one entry
+-- no node follows a node of one entry
 none_after : {K X : Type 0} (half most m : ℕ) (es : List (K × X)) (after : List (LevelNode K X)) → 2 ≤ half → length es ≡ 1 → FitRow half most (node m es ∷ after) → after ≡ []
 none_after half most m es [] two one f = refl
 none_after half most m es (next ∷ after) two one f = absurd (omega (arith, f.0, one, two))
@@ -56,7 +56,7 @@ module _ {K V : Type 0} (most : ℕ) (t : Table K V) (path indices : List ℕ) (
   num_is : get_or path 0 r ≡ get_or path 0 0
   num_is = get_or_default path 0 r 0 (omega (arith, wide))
 
-  -- what freeing it asks
+  -- the leaf meets what freeing it requires
   pub free_asks : IsUsed t (get_or path 0 r)
   free_asks = subst (λ (z : ℕ). IsUsed t z) (sym num_is) (is_used t (get_or path 0 0) (leaf_content (f.l ++ f.x ∷ f.r)) f.slot_is f.none_chain)
 
@@ -64,7 +64,7 @@ module _ {K V : Type 0} (most : ℕ) (t : Table K V) (path indices : List ℕ) (
     freed_is : v ≡ with_freed t (get_or path 0 0)
     freed_is = freed ∙ ap (λ z. with_freed t z) num_is
 
-    -- it was the only leaf
+    -- the only leaf was removed, so the tree is empty
     pub emptied_tree : size ≡ 1 → Emptied most t v tree place
     emptied_tree single =
         let n = get_or path 0 0 in
@@ -86,7 +86,7 @@ module _ {K V : Type 0} (most : ℕ) (t : Table K V) (path indices : List ℕ) (
         }
 
     module _ (more : size ≢ 1) where
-      -- others stand before it
+      -- the last of the leaves before it
       o : LastOf f.before
       o =
           let two = two_leaves (heads tree.leaves) tree.above s.fit.topped (λ (e : length tree.above ≡ 0). more (omega (arith, e, s.stands.size_is))) in
@@ -95,11 +95,11 @@ module _ {K V : Type 0} (most : ℕ) (t : Table K V) (path indices : List ℕ) (
       above_then : Above v path indices 1 size tree.above (heads o.init ++ (o.w.0, o.number) ∷ (f.x.0, get_or path 0 0) ∷ []) (suc (length (heads o.init)))
       above_then = above_freed t v path indices 1 size (get_or path 0 0) f.before f.x tree.above o apart freed_is (subst (λ (z : List (LevelNode K V)). Above t path indices 1 size tree.above (heads z) (length (heads f.before))) row_is f.above)
 
-      -- the rows above wait to lose its entry
+      -- the rows above meet what removing the leaf's entry requires
       pub above_asks : LastTwo v path indices 1 size
       above_asks = (tree.above, heads o.init, (o.w.0, o.number), (f.x.0, get_or path 0 0), above_then)
 
-      -- and they lost it
+      -- the rows above after the leaf's entry was removed
       module _ (u : Table K V) (drops : (rows : List (List (LevelNode K ℕ))) (a : List (K × ℕ)) (y x : K × ℕ) → Above v path indices 1 size rows (a ++ y ∷ x ∷ []) (suc (length a)) → Drops v u path 1 size rows a y) where
         dropped : Drops v u path 1 size tree.above (heads o.init) (o.w.0, o.number)
         dropped = drops tree.above (heads o.init) (o.w.0, o.number) (f.x.0, get_or path 0 0) above_then
@@ -139,11 +139,11 @@ module _ {K V : Type 0} (most : ℕ) (t : Table K V) (path indices : List ℕ) (
           up : UpTo u size dropped.1.rows' (heads f.before) root
           up = up_to most t u path indices size size tree place root f.before dropped.1.rows' (nodes_up path 0 (suc dropped.0)) s untrimmed refl root_is
 
-          -- what the call that discards roots asks for
+          -- the rows above meet what discarding roots requires
           pub collapse_asks : (rows : List (List (LevelNode K ℕ))) × (list : List (K × ℕ)) × UpTo u size rows list root
           collapse_asks = (dropped.1.rows', heads f.before, up)
 
-          -- and roots with a single child went: the path is at the end
+          -- the tree after roots with a single child were discarded: the path is at the end
           pub drop_removed : (u2 : Table K V) (path' indices' : List ℕ) (size2 root' : ℕ) → ((rows : List (List (LevelNode K ℕ))) (list : List (K × ℕ)) → UpTo u size rows list root → (gone : List ℕ) × Trimmed u u2 size size2 rows list root root' gone) → Removed most t u2 path (λ z. IsPathAt path' indices' 0 z place) tree place root'
           drop_removed u2 path' indices' size2 root' trims =
               let g = trims dropped.1.rows' (heads f.before) up in

@@ -11,7 +11,7 @@ pub head-other : {K X : Type 0} (n : ℕ) (l : List (K × X)) (k : K) (x y : X) 
 head-other n [] k x y r s = refl
 head-other n (z ∷ l) k x y r s = refl
 
--- nor do the heads of a row
+-- the heads of a row depend only on the heads of its nodes
 pub heads-put : {K X : Type 0} (before : List (LevelNode K X)) (n : ℕ) (es fs : List (K × X)) (after : List (LevelNode K X)) → head_of n es ≡ head_of n fs → heads (before ++ node n es ∷ after) ≡ heads (before ++ node n fs ∷ after)
 heads-put before n es fs after e = heads-append before _ ∙ ap (λ w. heads before ++ (w ++ heads after)) e ∙ sym (heads-append before _)
 
@@ -19,7 +19,7 @@ head-kept : {K X : Type 0} (n : ℕ) (p r s : List (K × X)) → 1 ≤ length p 
 head-kept n [] r s some = absurd (omega (arith, some))
 head-kept n (z ∷ p) r s some = refl
 
--- the key before an entry behind others
+-- writing the key before an entry that is not the first
 with_key_is : {K V : Type 0} (p : List (K × ℕ)) (y : K × ℕ) (s : List (K × ℕ)) (e : ℕ) (key : K) → suc e ≡ length p → with_key {V = V} (inner_content (p ++ y ∷ s)) e key ≡ inner_content (p ++ (key, y.1) ∷ s)
 with_key_is [] y s e key p_is = absurd (omega (arith, p_is))
 with_key_is {K} (z ∷ p) y s e key p_is =
@@ -29,7 +29,7 @@ with_key_is {K} (z ∷ p) y s e key p_is =
     let items : entry_items ((z ∷ p) ++ y ∷ s) ≡ entry_items ((z ∷ p) ++ (key, y.1) ∷ s) = map-append (λ (w : K × ℕ). w.1) (z ∷ p) (y ∷ s) ∙ sym (map-append (λ (w : K × ℕ). w.1) (z ∷ p) ((key, y.1) ∷ s)) in
     rw (e_is, keys, items) refl
 
--- the next node of a row, under its first key
+-- the next node of a row, whose first key and number these are
 pub record NextNode {K X : Type 0} (after : List (LevelNode K X)) (k : K) (q : ℕ) : Type 0 where
   pub f : K × X
   pub fs : List (K × X)
@@ -37,7 +37,7 @@ pub record NextNode {K X : Type 0} (after : List (LevelNode K X)) (k : K) (q : �
   pub after_is : after ≡ node q (f ∷ fs) ∷ rest
   pub k_is : k ≡ f.0
 
--- a row that is not empty as it is seen
+-- a row with heads has a first node
 pub next_of : {K X : Type 0} (half most : ℕ) → 1 ≤ half → (after : List (LevelNode K X)) (k : K) (q : ℕ) (cs : List (K × ℕ)) → FitRow half most after → heads after ≡ (k, q) ∷ cs → NextNode after k q
 next_of half most one [] k q cs f e = absurd cc
 next_of half most one (node m [] ∷ after) k q cs f e = absurd (let g = f.0 in omega (arith, g, least-pos half one after))
@@ -46,26 +46,26 @@ next_of {K} half most one (node m (x ∷ xs) ∷ after) k q cs f e =
     record { f = x; fs = xs; rest = after; after_is = ap (λ z. node z (x ∷ xs) ∷ after) (ap (λ z. z.1) kq); k_is = ap (λ z. z.0) (sym kq) }
 
 module _ {K V : Type 0} where
-  -- the rows above, in a table that agrees at their numbers
+  -- the rows above, in a table that agrees on their slots
   pub above_same : (t u : Table K V) (path indices : List ℕ) (up size : ℕ) (rows : List (List (LevelNode K ℕ))) (list : List (K × ℕ)) (p : ℕ) → ((m : ℕ) → 0 < count m (flat_map numbers rows) → slice_get u.nodes m ≡ slice_get t.nodes m) →
       Distinct (flat_map numbers rows ++ u.chain) →
       Above t path indices up size rows list p → Above u path indices up size rows list p
   above_same t u path indices up size rows list p same apart a = record { stacked = a.stacked; inside = rows-same t.nodes u.nodes rows same a.inside; stands = a.stands; height = a.height; apart = apart }
 
-  -- where they name a node of the level
+  -- the rows above, cut at a node of the level
   pub headed : {X : Type 0} (t : Table K V) (path indices : List ℕ) (up size : ℕ) (before : List (LevelNode K X)) (n : ℕ) (es : List (K × X)) (after : List (LevelNode K X)) (rest : List (List (LevelNode K ℕ))) (h : HeadIs n es) → Above t path indices up size rest (heads (before ++ node n es ∷ after)) (length (heads before)) →
       Above t path indices up size rest (heads before ++ (h.first.0, n) ∷ heads after) (length (heads before))
   headed t path indices up size before n es after rest h p =
       subst (λ (z : List (K × ℕ)). Above t path indices up size rest z (length (heads before))) (heads-append before (node n es ∷ after) ∙ ap (λ z. heads before ++ (head_of n z ++ heads after)) h.es_is) p
 
-  -- where one slot was written
+  -- the rows above, after a write to a slot that is not theirs
   pub above_written : (t u : Table K V) (n : ℕ) (c : Content K V) (path indices : List ℕ) (up size : ℕ) (rows : List (List (LevelNode K ℕ))) (list : List (K × ℕ)) (p : ℕ) → Puts t u n c → count n (flat_map numbers rows) ≡ 0 →
       Above t path indices up size rows list p → Above u path indices up size rows list p
   above_written t u n c path indices up size rows list p w none a =
       above_same t u path indices up size rows list p (λ m some. w.same m (ne_from_count m n (flat_map numbers rows) some none))
       (λ m. omega (arith, a.apart m, count-append m (flat_map numbers rows) t.chain, count-append m (flat_map numbers rows) u.chain, ap (λ z. count m z) w.chain_is)) a
 
-  -- nothing above has changed
+  -- the rows above, unchanged
   pub rebuilt_same : (u : Table K V) (path indices : List ℕ) (up size : ℕ) (rows : List (List (LevelNode K ℕ))) (list : List (K × ℕ)) (p : ℕ) → Above u path indices up size rows list p →
       Rebuilt u u path indices path indices up size rows list p (map sizes rows) []
   rebuilt_same u path indices up size rows list p a = record {
@@ -88,16 +88,16 @@ module _ {K V : Type 0} where
         let c = λ (m : ℕ). counts m q.before (get_or path up 0) (q.l ++ x ∷ q.r) q.after q.rest t.chain in
         record { stacked = p.stacked.2; inside = p.inside.1; stands = q.stands; height = omega (arith, p.height); apart = λ m. omega (arith, p.apart m, c m, count-append m (flat_map numbers q.rest) t.chain) }
 
-    -- the level's list of nodes, with others from the path's on
+    -- the list of a level's nodes, with other nodes from the path's on
     pub flat_at : (es rest : List (K × ℕ)) (after : List (LevelNode K ℕ)) → es ++ flat after ≡ d.q.l ++ rest → flat (d.q.before ++ node (get_or path up 0) es ∷ after) ≡ a ++ rest
     flat_at es rest after is =
         flat-append d.q.before (node (get_or path up 0) es ∷ after) ∙ ap (λ z. flat d.q.before ++ z) is ∙ sym (append_assoc (flat d.q.before) d.q.l rest) ∙ ap (λ z. z ++ rest) (sym d.q.a_is)
 
-    -- the path's place in it
+    -- the path's place in the list of nodes
     pub place_at : length a ≡ length (flat d.q.before) + get_or indices up 0
     place_at = omega (arith, ap length d.q.a_is, length-append (flat d.q.before) d.q.l, d.q.entry_is)
 
-    -- the row with other keys, under rows above that have them
+    -- the row with other keys, under rows above that have those keys
     pub lifted : (v u : Table K V) (es : List (K × ℕ)) (after : List (LevelNode K ℕ)) (list rest : List (K × ℕ)) → length es ≡ length (d.q.l ++ x ∷ d.q.r) → sizes after ≡ sizes d.q.after → numbers after ≡ numbers d.q.after → es ++ flat after ≡ d.q.l ++ rest →
         list ≡ heads (d.q.before ++ node (get_or path up 0) es ∷ after) → FitRow 4 8 (node (get_or path up 0) es ∷ after) → RowIn inner_content u.nodes (d.q.before ++ node (get_or path up 0) es ∷ after) →
         Frees t u (numbers (d.q.before ++ node (get_or path up 0) (d.q.l ++ x ∷ d.q.r) ∷ d.q.after) ++ flat_map numbers d.q.rest) [] → Rebuilt v u path indices path indices (suc up) size d.q.rest list (length (heads d.q.before)) (map sizes d.q.rest) [] →
@@ -129,7 +129,7 @@ module _ {K V : Type 0} where
           same_top = refl;
         }
 
-    -- where the rows above alone were written
+    -- the row after writes to the rows above it alone
     pub lifted_above : (u : Table K V) (es : List (K × ℕ)) (after : List (LevelNode K ℕ)) (list rest : List (K × ℕ)) → length es ≡ length (d.q.l ++ x ∷ d.q.r) → sizes after ≡ sizes d.q.after → numbers after ≡ numbers d.q.after → es ++ flat after ≡ d.q.l ++ rest →
         list ≡ heads (d.q.before ++ node (get_or path up 0) es ∷ after) → FitRow 4 8 (node (get_or path up 0) es ∷ after) → RowIn inner_content t.nodes (d.q.before ++ node (get_or path up 0) es ∷ after) →
         Rebuilt t u path indices path indices (suc up) size d.q.rest list (length (heads d.q.before)) (map sizes d.q.rest) [] → Rebuilt t u path indices path indices up size rows (a ++ rest) (length a) (map sizes rows) []
@@ -142,7 +142,7 @@ module _ {K V : Type 0} where
         lifted t u es after list rest len sizes_same numbers_same flat_is heads_are fits (row-same inner_content t.nodes u.nodes _ (λ m some. r.frees.others m (omega (arith, some, d.whole.apart m, c m, c2 m, c3 m))) inside)
         (frees-wider t u (flat_map numbers q.rest) (numbers (q.before ++ node n (q.l ++ x ∷ q.r) ∷ q.after) ++ flat_map numbers q.rest) [] (λ m none. omega (arith, none, c m)) r.frees) r
 
-    -- where the key before another entry of the node was
+    -- the row after a write of the key before an entry of the node
     pub renamed : (u : Table K V) (p : List (K × ℕ)) (y : K × ℕ) (s : List (K × ℕ)) (e : ℕ) (key : K) (rest : List (K × ℕ)) → d.q.l ++ x ∷ d.q.r ≡ p ++ y ∷ s → suc e ≡ length p → u ≡ with_node t (get_or path up 0) (with_key (inner_content (d.q.l ++ x ∷ d.q.r)) e key) →
         (p ++ (key, y.1) ∷ s) ++ flat d.q.after ≡ d.q.l ++ rest → Rebuilt t u path indices path indices up size rows (a ++ rest) (length a) (map sizes rows) []
     renamed u p y s e key rest es_is p_is u_is flat_is =

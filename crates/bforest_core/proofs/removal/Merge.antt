@@ -1,4 +1,4 @@
--- An entry out of a level, in the sizes of SHRINK and in the rows: its row settled, then those above.
+-- Removing an entry from a level, in `shrink` and in the rows: its row is rebalanced, then those above.
 use Rattle.std.proofs.Common.{◌≡◌, ℕ, zero, suc, ◌+◌, ◌-◌, ◌≤◌, ◌<◌, Option, None, true, false, Bool, if◌then◌else◌, option_map, List, [], ◌∷◌, ◌++◌, map, length, get_or, Some, refl, sym, ap, ◌∙◌, subst, append_assoc, length-append, arith}
 use Rattle.std.proofs.lemmas.Bool.{lt-ltb, le-ltb}
 use Rattle.bforest_core.proofs.Words.{loss, past, flat_map, Content, Table, LevelNode, node, flat, heads, head_of, sizes, numbers, FitRow, rebalanced, loss_above, RowIn, inner_content, count, Distinct, nodes_up, Above, SameBelow, top_of, Frees, Rebuilt, Loosened, Healed, Joined}
@@ -8,7 +8,7 @@ use Rattle.bforest_core.proofs.rows.Zipper.{stands_here}
 use Rattle.bforest_core.proofs.removal.Asked.{MergeAbove}
 use Rattle.bforest_core.proofs.removal.Frees.{only_here, frees-then, frees-after, frees-wider}
 
--- the node that so many others stand before
+-- the index of the node after `k` others, if it is removed
 abbrev pub placed : ℕ → Bool → Option ℕ
 placed k b = if b then Some k else None
 
@@ -30,20 +30,20 @@ loss_at {K} {X} q (node k fs ∷ before) m e after low =
     let ih = loss_at {K = K} {X = X} q before m e after low in
     rw (len, a, s) (ap (λ z. past (length fs) z) ih ∙ ap (λ z. (z, length fs ∷ (sizes before ++ (rebalanced q m after).1))) (one_placed (length before) (rebalanced q m after).0))
 
--- SHRINK one level, with its outcome known
+-- a removal in one level, for a known outcome of its rebalancing
 pub loss_level : {K X : Type 0} (q : ℕ) (before : List (LevelNode K X)) (m e p : ℕ) (after : List ℕ) (levels all : List (List ℕ)) → all ≡ (sizes before ++ suc m ∷ after) ∷ levels → e ≤ m → p ≡ length (flat before) + e → q ≡ 8 →
     loss_above (Some p) all ≡ (sizes before ++ (rebalanced q m after).1) ∷ loss_above (placed (length before) (rebalanced q m after).0) levels
 loss_level q before m e p after levels all all_is low p_is q_is =
     let l = loss_at q before m e after (omega (arith, low)) in
     ap (λ z. loss_above (Some p) z) all_is ∙ rw (p_is, ← q_is) (ap (λ z. z.1 ∷ loss_above z.0 levels) l)
 
--- the nodes from a level up, on a path that is the same there
+-- two paths that agree from a level up have the same nodes there
 pub nodes_up-same : (path path' : List ℕ) (level count : ℕ) → ((i : ℕ) → level ≤ i → get_or path' i 0 ≡ get_or path i 0) → nodes_up path' level count ≡ nodes_up path level count
 nodes_up-same path path' level zero same = refl
 nodes_up-same path path' level (suc count) same =
     ap (λ z. z ++ get_or path' level 0 ∷ []) (nodes_up-same path path' (suc level) count (λ i above. same i (omega (arith, above)))) ∙ ap (λ z. nodes_up path (suc level) count ++ z ∷ []) (same level (omega arith))
 
--- a level that was settled, and the rows above it, as they lie in the table: nodes of these numbers were freed
+-- a rebalanced level and the rows above it, as stored in the table, where nodes of these numbers were freed
 pub record Settled {K V X : Type 0} (content : List (K × X) → Content K V) (half most : ℕ) (t v : Table K V) (path' indices' : List ℕ) (up size : ℕ) (before : List (LevelNode K X)) (n : ℕ) (es : List (K × X)) (after : List (LevelNode K X)) (rest : List (List (LevelNode K ℕ)))
     (front row : List (LevelNode K X)) (rows : List (List (LevelNode K ℕ))) (freed : List ℕ) : Type 0 where
   pub list_is : flat row ≡ flat (before ++ node n es ∷ after)
@@ -55,7 +55,7 @@ pub record Settled {K V X : Type 0} (content : List (K × X) → Content K V) (h
   pub frees : Frees t v (numbers (before ++ node n es ∷ after) ++ flat_map numbers rest) freed
 
 module _ {K V X : Type 0} (content : List (K × X) → Content K V) (half most : ℕ) (t : Table K V) (path indices : List ℕ) (up size : ℕ) (before : List (LevelNode K X)) (n : ℕ) (es : List (K × X)) (after : List (LevelNode K X)) (rest : List (List (LevelNode K ℕ))) where
-  -- a level that healed is
+  -- a level whose node stays is rebalanced
   pub healed_settled : (v : Table K V) (path' indices' : List ℕ) (h : Healed content half most t v path indices path' indices' up size before n es after rest) → Settled content half most t v path' indices' up size before n es after rest h.before' (h.before' ++ node h.number' h.entries' ∷ h.after') h.rest' []
   healed_settled v path' indices' h =
       let s = rebalanced most (length es) (sizes after) in
@@ -70,11 +70,11 @@ module _ {K V X : Type 0} (content : List (K × X) → Content K V) (half most :
       }
 
   module _ (w : Table K V) (path1 indices1 : List ℕ) (j : Joined content half most t w path indices path1 indices1 up size before n es after rest) where
-    -- the rows above wait to lose the entry of a node that went into its right neighbour; the level and the size are given as the code has them
+    -- the rows above meet what removing a merged node's entry requires; level and size are as in the code
     pub merge_asks : (up' size' : ℕ) → up' ≡ suc up → size' ≡ size → MergeAbove w path1 indices1 up' size'
     merge_asks up' size' up_is size_is = (rest, heads before, j.first.0, n, j.key, j.right, heads j.after', rw (up_is, size_is) j.above)
 
-    -- after they lost it the level is settled
+    -- a level is rebalanced once the rows above lost the entry of a merged node
     pub joined_settled : (v : Table K V) (path' indices' freed : List ℕ) (r : Rebuilt w v path1 indices1 path' indices' (suc up) size rest (heads before ++ (j.first.0, j.right) ∷ heads j.after') (length (heads before)) (loss_above (Some (length (heads before))) (map sizes rest)) freed) →
         Distinct ((numbers (before ++ node n es ∷ after) ++ flat_map numbers rest) ++ t.chain) → length (heads before) ≡ length before → Settled content half most t v path' indices' up size before n es after rest before (before ++ node j.right (es ++ j.right_entries) ∷ j.after') r.rows' (freed ++ n ∷ [])
     joined_settled v path' indices' freed r apart full =
@@ -97,7 +97,7 @@ module _ {K V X : Type 0} (content : List (K × X) → Content K V) (half most :
         }
 
 module _ {K V : Type 0} (t u v : Table K V) (path indices path' indices' : List ℕ) (up size : ℕ) (rows : List (List (LevelNode K ℕ))) (hs : List (K × ℕ)) (p : ℕ) (l : Loosened t u path indices up size rows hs p) where
-  -- the level settled, and the rows above it
+  -- the rebalanced level and the rows above it
   merged : (front : List (LevelNode K ℕ)) (m : ℕ) (es : List (K × ℕ)) (back : List (LevelNode K ℕ)) (rest : List (List (LevelNode K ℕ))) (freed : List ℕ) → Settled inner_content 4 8 u v path' indices' up size l.before (get_or path up 0) l.entries l.after l.rest front (front ++ node m es ∷ back) rest freed →
       get_or path' up 0 ≡ m → get_or indices' up 0 < length es → length (flat front) + get_or indices' up 0 ≡ length (flat l.before) + get_or indices up 0 → SameBelow up path path' → SameBelow up indices indices' → top_of path' size ≡ top_of path size → Rebuilt t v path indices path' indices' up size rows hs p (loss_above (Some p) (map sizes rows)) freed
   merged front m es back rest freed k m_is within place below below_too top =
@@ -120,13 +120,13 @@ module _ {K V : Type 0} (t u v : Table K V) (path indices path' indices' : List 
         same_top = top;
       }
 
-  -- it healed, and all above it stays
+  -- where the node stays, the level above stays too
   pub merge_healed : Healed inner_content 4 8 u v path indices path' indices' up size l.before (get_or path up 0) l.entries l.after l.rest → Rebuilt t v path indices path' indices' up size rows hs p (loss_above (Some p) (map sizes rows)) []
   merge_healed h =
       let k = healed_settled inner_content 4 8 u path indices up size l.before (get_or path up 0) l.entries l.after l.rest v path' indices' h in
       merged h.before' h.number' h.entries' h.after' h.rest' [] k h.number_is h.within h.place_is h.nodes_below h.entries_below h.same_top
 
-  -- two of its nodes joined, and the level above lost one; the level and the size are given as the code has them
+  -- where two nodes of the level merge, the level above loses an entry; level and size are as in the code
   pub merge_joined : (w : Table K V) (path1 indices1 : List ℕ) (up' size' : ℕ) → (j : Joined inner_content 4 8 u w path indices path1 indices1 up size l.before (get_or path up 0) l.entries l.after l.rest) → up' ≡ suc up → size' ≡ size → (levels : ℕ) →
       Rebuilt w v path1 indices1 path' indices' up' size' l.rest (heads l.before ++ (j.first.0, j.right) ∷ heads j.after') (length (heads l.before)) (loss_above (Some (length (heads l.before))) (map sizes l.rest)) (nodes_up path1 up' levels) →
       Rebuilt t v path indices path' indices' up size rows hs p (loss_above (Some p) (map sizes rows)) (nodes_up path up (suc levels))

@@ -1,4 +1,5 @@
--- The right neighbour of a node, under the same parent or another: the answers of `right_sibling` are these. The path moved to it.
+-- The right neighbour of a node, under the same parent or another: the answers of `right_sibling`, and the
+-- move of a path there.
 use Rattle.std.proofs.Common.{◌≡◌, ◌≢◌, ℕ, suc, ◌+◌, ◌-◌, ◌≤◌, ◌<◌, true, false, Option, List, [], ◌∷◌, ◌++◌, map, length, drop, get_or, slice_get, Some, None, refl, sym, ap, ◌∙◌, subst, append_assoc, length-append, arith, add-one}
 use Rattle.bforest_core.proofs.Words.{Table, LevelNode, node, flat, heads, RowIn, inner_content, entry_keys, entry_items, Above, NextIs, Bool, Over, Moved, nil_from_length}
 use Rattle.bforest_core.proofs.rows.LevelRows.{head-is}
@@ -18,17 +19,17 @@ second_key [] x y r = refl
 second_key (z ∷ l) x y r = second (λ w. w.0) l x y r
 
 module _ {K V : Type 0} where
-  -- the rows one level up, under the path's node
+  -- the rows one level up, cut at the path's node
   pub up_above : (t : Table K V) (path indices : List ℕ) (up size : ℕ) (rows : List (List (LevelNode K ℕ))) (a : List (K × ℕ)) (x : K × ℕ) (b : List (K × ℕ)) → (d : Spot t path indices up size rows a x b) → (k : K) × Above t path indices (suc up) size d.q.rest (heads d.q.before ++ (k, get_or path up 0) ∷ heads d.q.after) (length (heads d.q.before))
   up_above t path indices up size rows a x b d =
       let h = head-is (get_or path up 0) (d.q.l ++ x ∷ d.q.r) (omega (arith, d.count_is)) in
       (h.first.0, headed t path indices (suc up) size d.q.before (get_or path up 0) (d.q.l ++ x ∷ d.q.r) d.q.after d.q.rest h (rows_above t path indices up size rows a x b d))
 
-  -- rows above a level, for a step on it
+  -- the rows above a level, as a step on it requires them
   pub over-above : (t : Table K V) (path indices : List ℕ) (level size : ℕ) (rows : List (List (LevelNode K ℕ))) (list : List (K × ℕ)) (place : ℕ) → Above t path indices level size rows list place → Over t.nodes path indices level size rows list place
   over-above t path indices level size rows list place p = record { stacked = p.stacked; inside = p.inside; stands = p.stands; height = p.height }
 
-  -- a step is made where there is a next node
+  -- where there is a next node, a step moves
   pub must_move : (t : Table K V) (path indices : List ℕ) (level size : ℕ) (rows : List (List (LevelNode K ℕ))) (a : List (K × ℕ)) (x y : K × ℕ) (b : List (K × ℕ)) (moved : Bool) →
       (moved ≡ false → suc (length a) ≡ length (a ++ x ∷ y ∷ b)) → moved ≡ true
   must_move t path indices level size rows a x y b true last = refl
@@ -49,7 +50,7 @@ module _ {K V : Type 0} where
     low : up < size
     low = let h = p.height in omega arith
 
-    -- the parent
+    -- the parent of the node
     pub here : Seen t path indices up size rows a x b r
     here = seen t path indices up size rows a x b p low r wide height
 
@@ -62,14 +63,14 @@ module _ {K V : Type 0} where
     above_next : Above t path indices (up + 1) size d.q.rest (heads d.q.before ++ (u.0, get_or path up 0) ∷ heads d.q.after) (length (heads d.q.before))
     above_next = rw add-one u.1
 
-    -- what the call one level up asks
+    -- the rows above meet what the call one level up requires
     pub above_asks : OneAbove t path indices (up + 1) size
     above_asks = (d.q.rest, heads d.q.before, (u.0, get_or path up 0), heads d.q.after, above_next)
 
     pub above_fewer : (n : ℕ) → size - up ≡ n → size - (up + 1) < n
     above_fewer n bound = let l = low in omega arith
 
-    -- what it answers
+    -- the answer of the call one level up
     next_above : (o : Option (K × ℕ)) → Beside t path indices (up + 1) size o → NextIs o (heads d.q.after)
     next_above o beside = beside d.q.rest (heads d.q.before) (u.0, get_or path up 0) (heads d.q.after) above_next
 
@@ -82,12 +83,12 @@ module _ {K V : Type 0} where
           let i = (row-split inner_content t.nodes d.q.before (node (get_or path up 0) (d.q.l ++ x ∷ d.q.r) ∷ d.q.after) d.f.inside).1.1 in
           (subst (λ (z : List (LevelNode K ℕ)). RowIn inner_content t.nodes z) n.after_is i).0
 
-      -- what reading its first child asks
+      -- the next parent meets what reading its first child requires
       pub first_asks : ChildAt t next.1 0
       first_asks = (drop 1 (entry_keys (n.f ∷ n.fs)), entry_items (n.f ∷ n.fs), n_slot, omega arith)
 
     module _ (m : ℕ) (value : Counts t (get_or path up r) m) where
-      -- the neighbour has the same parent
+      -- a neighbour under the same parent meets what reading it requires
       pub item_asks : get_or indices up 0 + 1 < m → ChildAt t (get_or path up r) (get_or indices up 0 + 1)
       item_asks more = (drop 1 (entry_keys (d.q.l ++ x ∷ d.q.r)), entry_items (d.q.l ++ x ∷ d.q.r), here.slot_is, omega (arith, here.counted m value, more, item_count (d.q.l ++ x ∷ d.q.r)))
 
@@ -105,11 +106,11 @@ module _ {K V : Type 0} where
         behind : b ≡ flat d.q.after
         behind = d.q.b_is ∙ ap (λ z. z ++ flat d.q.after) (nil_from_length d.q.r (omega (arith, here.counted m value, less, d.count_is)))
 
-        -- there is none
+        -- there is no right neighbour
         pub none_right : (o : Option (K × ℕ)) → o ≡ None → Beside t path indices (up + 1) size o → NextIs None b
         none_right o is beside = behind ∙ ap (λ z. flat z) (no_nodes 4 8 (omega arith) d.q.after d.f.fit.2 (next_above None (subst (Beside t path indices (up + 1) size) is beside)))
 
-        -- it has another parent
+        -- the right neighbour has another parent
         pub next_parent : (o : Option (K × ℕ)) (next : K × ℕ) (is : o ≡ Some next) (beside : Beside t path indices (up + 1) size o) (child : ℕ) → ReadsChild t next.1 0 child → NextIs (Some (next.0, child)) b
         next_parent o next is beside child reads =
             let w = n o next is beside in

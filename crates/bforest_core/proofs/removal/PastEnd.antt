@@ -1,4 +1,5 @@
--- After an entry went out of its leaf: whether the path is behind all entries, and the leaf as a level that may need healing.
+-- The leaf after it lost an entry: whether the path is past all entries, and the leaf as a level to
+-- rebalance.
 use Rattle.std.proofs.Common.{◌≡◌, ℕ, ◌≤◌, ◌<◌, Some, None, Option, Bool, true, false, not, List, [], ◌∷◌, ◌++◌, length, get_or, slice_get, refl, ap, ◌∙◌, length-append, arith}
 use Rattle.bforest_core.proofs.Words.{is_some, Table, node, flat, heads, Tree, half_of, leaf_content, Above, NextIs, LeafLoss, OnLevel, get_or_default, Content, entry_count}
 use Rattle.bforest_core.proofs.rows.LevelRows.{HeadIs, head-is}
@@ -12,19 +13,19 @@ module _ {K V : Type 0} (most : ℕ) (t v : Table K V) (path indices : List ℕ)
   named : HeadIs (get_or path 0 0) l.entries
   named = head-is (get_or path 0 0) l.entries l.some
 
-  -- the list of leaves, as the call that looks for the next one asks for it
+  -- the rows above the leaf, cut at it
   above : Above v path indices 1 size l.rest (heads l.before ++ (named.first.0, get_or path 0 0) ∷ heads l.after) (length (heads l.before))
   above = headed v path indices 1 size l.before (get_or path 0 0) l.entries l.after l.rest named l.above
 
-  -- what looking for it asks
+  -- the rows above meet what the search for the next leaf requires
   pub beside_asks : OneAbove v path indices 1 size
   beside_asks = (l.rest, heads l.before, (named.first.0, get_or path 0 0), heads l.after, above)
 
-  -- half of a leaf is something
+  -- half of a leaf is at least one entry
   pub loss_half : 1 ≤ half_of most
   loss_half = let one : 1 ≤ most = omega (arith, l.some, l.most_is) in omega (arith, one)
 
-  -- the leaf is a level that may need healing, where an entry follows
+  -- the leaf is a level to rebalance, where an entry follows
   pub on_leaf : get_or indices 0 0 < length (l.entries ++ flat l.after) → OnLevel leaf_content (half_of most) most v path indices 0 size l.before (get_or path 0 0) l.entries l.after l.rest
   on_leaf within = record {
     inside = l.inside;
@@ -45,7 +46,7 @@ module _ {K V : Type 0} (most : ℕ) (t v : Table K V) (path indices : List ℕ)
   none_follows None next is = no_nodes (half_of most) most loss_half l.after l.fits next
   none_follows (Some x) next is = absurd cc
 
-  -- one follows
+  -- a leaf follows
   pub one_follows : (found : Option (K × ℕ)) (none : Bool) → Beside v path indices 1 size found → is_some found ≡ not none → none ≡ false → get_or indices 0 0 < length (l.entries ++ flat l.after)
   one_follows None none beside is so = absurd (let e : not none ≡ true = ap not so in cc)
   one_follows (Some x) none beside is so =
@@ -56,7 +57,7 @@ module _ {K V : Type 0} (most : ℕ) (t v : Table K V) (path indices : List ℕ)
     slot : slice_get v.nodes (get_or path 0 r) ≡ Some (leaf_content l.entries)
     slot = ap (λ z. slice_get v.nodes z) (get_or_default path 0 r 0 (omega (arith, wide))) ∙ (row-split leaf_content v.nodes l.before (node (get_or path 0 0) l.entries ∷ l.after) l.inside).1.0
 
-    -- what counting the leaf's entries asks
+    -- the leaf meets what counting its entries requires
     pub counted_asks : NodeAt v (get_or path 0 r)
     counted_asks = (leaf_content l.entries, slot, λ free. free)
 
@@ -64,11 +65,11 @@ module _ {K V : Type 0} (most : ℕ) (t v : Table K V) (path indices : List ℕ)
       count_is : m ≡ length l.entries
       count_is = value (leaf_content l.entries) slot ∙ leaf_keys l.entries
 
-      -- the path is at one of them
+      -- the path is at an entry of the leaf
       pub in_leaf : get_or indices 0 0 < m → get_or indices 0 0 < length (l.entries ++ flat l.after)
       in_leaf low = omega (arith, low, count_is, length-append l.entries (flat l.after))
 
-      -- or behind all
+      -- the path is past all entries
       pub behind_all : (found : Option (K × ℕ)) (none : Bool) → m ≤ get_or indices 0 0 → Beside v path indices 1 size found → is_some found ≡ not none → none ≡ true → (l.after ≡ []) × (get_or indices 0 0 ≡ length l.entries)
       behind_all found none high beside is so =
           let next = beside l.rest (heads l.before) (named.first.0, get_or path 0 0) (heads l.after) above in

@@ -10,7 +10,7 @@ use Rattle.bforest_core.proofs.removal.Frees.{frees-refl, frees-after, frees-wid
 use Rattle.bforest_core.proofs.removal.Lifted.{above_same}
 use Rattle.bforest_core.proofs.removal.Balance.{IsHalf, PutsTwo, AllRight, Spread}
 
--- what SHRINK says of it
+-- the last node, if not empty, stays
 pub rebalanced_last : (q m : ℕ) → 1 ≤ m → rebalanced q m [] ≡ (false, m ∷ [])
 rebalanced_last q zero one = absurd (omega arith)
 rebalanced_last q (suc m) one = refl
@@ -25,13 +25,13 @@ rebalanced_joined q m r after h fits = let e = lt-ltb (2 * suc m) q h in let f =
 rebalanced_spread : (q m r : ℕ) (after : List ℕ) → 2 * suc m < q → q < suc m + r → rebalanced q (suc m) (r ∷ after) ≡ (false, ((suc m + r) - (suc m + r) / 2) ∷ (suc m + r) / 2 ∷ after)
 rebalanced_spread q m r after h more = let e = lt-ltb (2 * suc m) q h in let f = lt-leb (suc m + r) q more in rw (e, f) refl
 
--- a node that is half full or the last is large enough
+-- a node that is half full or the last meets the least size
 pub enough : {K X : Type 0} (half : ℕ) (es : List (K × X)) (after : List (LevelNode K X)) → 1 ≤ length es → (half ≤ length es) ⊎ (after ≡ []) → least half after ≤ length es
 enough half es [] some w = some
 enough half es (x ∷ xs) some (inl h) = h
 enough half es (x ∷ xs) some (inr e) = absurd cc
 
--- and stays as it is
+-- a node that is half full or the last stays as it is
 pub judged : {K X : Type 0} (half most : ℕ) (es : List (K × X)) (after : List (LevelNode K X)) → most ≤ half + half → 1 ≤ length es → (half ≤ length es) ⊎ (after ≡ []) → rebalanced most (length es) (sizes after) ≡ (false, length es ∷ sizes after)
 judged half most es [] lo some w = rebalanced_last most (length es) some
 judged half most es (node k fs ∷ xs) lo some (inl h) = rebalanced_healthy most (length es) (length fs) (sizes xs) some (omega (arith, lo, h))
@@ -39,7 +39,7 @@ judged half most es (x ∷ xs) lo some (inr e) = absurd cc
 
 module _ {K V X : Type 0} (content : List (K × X) → Content K V) (half most : ℕ) (hm : IsHalf half most) (t : Table K V) (path indices : List ℕ) (up size : ℕ) (before : List (LevelNode K X)) (n : ℕ) where
   module _ (es : List (K × X)) (after : List (LevelNode K X)) (rest : List (List (LevelNode K ℕ))) (p : OnLevel content half most t path indices up size before n es after rest) (why : (half ≤ length es) ⊎ (after ≡ [])) where
-    -- it stays as it is, and the path goes to a node of the row
+    -- the level is unchanged, and the path leads to a node of the row
     settle_same : (path' indices' : List ℕ) (front : List (LevelNode K X)) (m : ℕ) (fs : List (K × X)) (back : List (LevelNode K X)) → front ++ node m fs ∷ back ≡ before ++ node n es ∷ after → Above t path' indices' (suc up) size rest (heads (front ++ node m fs ∷ back)) (length (heads front)) →
         get_or path' up 0 ≡ m → get_or indices' up 0 < length fs → length (flat front) + get_or indices' up 0 ≡ length (flat before) + get_or indices up 0 → SameBelow up path path' → SameBelow up indices indices' → top_of path' size ≡ top_of path size → Healed content half most t t path indices path' indices' up size before n es after rest
     settle_same path' indices' front m fs back same above m_is within place_is below below_too top_is =
@@ -68,7 +68,7 @@ module _ {K V X : Type 0} (content : List (K × X) → Content K V) (half most :
           same_top = top_is;
         }
 
-    -- the path stands where it stood
+    -- the level is unchanged, and so is the path
     pub settle_stay : get_or indices up 0 < length es → Healed content half most t t path indices path indices up size before n es after rest
     settle_stay within = settle_same path indices before n es after refl p.above p.number_is within refl (λ i low. refl) (λ i low. refl) refl
 
@@ -76,11 +76,11 @@ module _ {K V X : Type 0} (content : List (K × X) → Content K V) (half most :
     abbrev row : List (LevelNode K X)
     row = before ++ node n (e ∷ es) ∷ node q (f ∷ fs) ∷ after
 
-    -- the level above, with both nodes in sight
+    -- the level above, cut at both nodes
     pub above_both : Above t path indices (suc up) size rest (heads before ++ (e.0, n) ∷ (f.0, q) ∷ heads after) (length (heads before))
     above_both = subst (λ (z : List (K × ℕ)). Above t path indices (suc up) size rest z (length (heads before))) (heads-append before (node n (e ∷ es) ∷ node q (f ∷ fs) ∷ after)) p.above
 
-    -- the path goes from behind the node to the next
+    -- the path moves from past the node to the next node
     pub settle_move : (path' indices' : List ℕ) → half ≤ length (e ∷ es) → get_or indices up 0 ≡ length (e ∷ es) → Above t path' indices' (suc up) size rest (heads before ++ (e.0, n) ∷ (f.0, q) ∷ heads after) (suc (length (heads before))) × (get_or path' up 0 ≡ q) → get_or indices' up 0 ≡ 0 → SameBelow up path path' →
         SameBelow up indices indices' → top_of path' size ≡ top_of path size → Healed content half most t t path indices path' indices' up size before n (e ∷ es) (node q (f ∷ fs) ∷ after) rest
     settle_move path' indices' healthy e_is above z_is below below_too top_is =
@@ -90,7 +90,7 @@ module _ {K V X : Type 0} (content : List (K × X) → Content K V) (half most :
         let flats : length (flat front) ≡ length (flat before) + length (e ∷ es) = ap length (flat-append before (node n (e ∷ es) ∷ []) ∙ ap (λ z. flat before ++ z) (append-nil (e ∷ es))) ∙ length-append (flat before) (e ∷ es) in
         settle_same (e ∷ es) (node q (f ∷ fs) ∷ after) rest p (inl healthy) path' indices' front q (f ∷ fs) after same (rw (same, heads-append before (node n (e ∷ es) ∷ node q (f ∷ fs) ∷ after), len) above.0) above.1 (omega (arith, z_is)) (omega (arith, z_is, e_is, flats)) below below_too top_is
 
-    -- how the numbers of the two lie apart
+    -- the two nodes are different and in no other row, and the right one is off the chain
     pub apart : (n ≢ q) × (count n (numbers before) + count n (numbers after) ≡ 0) × (count q (numbers before) + count q (numbers after) ≡ 0) × (count q t.chain ≡ 0)
     apart =
         let c = λ (m : ℕ). counts m before n (e ∷ es) (node q (f ∷ fs) ∷ after) rest t.chain in
@@ -102,11 +102,11 @@ module _ {K V X : Type 0} (content : List (K × X) → Content K V) (half most :
           omega (arith, p.apart q, c q, sq),
         )
 
-    -- two slots of the row written
+    -- writing the two slots changes only slots of the row
     two_frees : (u : Table K V) (c d : Content K V) → PutsTwo content t u n q c d → Frees t u (numbers row) []
     two_frees u c d w = frees-wider t u (n ∷ q ∷ []) (numbers row) [] (λ m none. let c = count-row m before n (e ∷ es) (node q (f ∷ fs) ∷ after) in omega (arith, none, c)) w.frees
 
-    -- the rows above then
+    -- the rows above, after a write of the two slots
     pub above_two_put : (u : Table K V) (c d : Content K V) → PutsTwo content t u n q c d → Above u path indices (suc up) size rest (heads before ++ (e.0, n) ∷ (f.0, q) ∷ heads after) (length (heads before))
     above_two_put u c d w =
         let k = λ (m : ℕ). counts m before n (e ∷ es) (node q (f ∷ fs) ∷ after) rest t.chain in
@@ -115,7 +115,7 @@ module _ {K V X : Type 0} (content : List (K × X) → Content K V) (half most :
         (λ m. omega (arith, b.apart m, count-append m (flat_map numbers rest) t.chain, count-append m (flat_map numbers rest) u.chain, ap (λ z. count m z) w.frees.chain_is)) b
 
     module _ (u v : Table K V) (under : length (e ∷ es) < half) where
-      -- it takes entries of its right neighbour, and the key between the two has been renewed above (v)
+      -- the node takes entries of its right neighbour, and the key between the two was updated above
       pub settle_spread : (key : K) (s : Spread content t u most n q (e ∷ es) (f ∷ fs) key) → Rebuilt u v path indices path indices (suc up) size rest (heads before ++ (e.0, n) ∷ (key, q) ∷ heads after) (length (heads before)) (map sizes rest) [] →
           Healed content half most t v path indices path indices up size before n (e ∷ es) (node q (f ∷ fs) ∷ after) rest
       settle_spread key s b =
@@ -158,7 +158,7 @@ module _ {K V X : Type 0} (content : List (K × X) → Content K V) (half most :
             same_top = refl;
           }
 
-      -- it goes into its right neighbour, and its slot to the chain
+      -- the node is merged into its right neighbour, and its slot is freed
       pub settle_join : AllRight content t u most n q (e ∷ es) (f ∷ fs) → v ≡ with_freed u n → up < length path → Joined content half most t v path indices (set path up q) indices up size before n (e ∷ es) (node q (f ∷ fs) ∷ after) rest
       settle_join s v_is low =
           let both : List (K × X) = (e ∷ es) ++ f ∷ fs in

@@ -1,4 +1,4 @@
--- Settling a level, with what the calls on the way say: each answer of `rebalance_leaf` and `rebalance_inner` is one of these.
+-- Rebalancing a level, from what its calls state: the answers of `rebalance_leaf` and `rebalance_inner`.
 use Rattle.std.proofs.Common.{◌≡◌, suc, ◌+◌, ◌≤◌, ◌<◌, ◌≢◌, List, [], ◌∷◌, ◌++◌, length, set, get_or, slice_get, Some, None, Option, refl, sym, ap, ◌∙◌, subst, inl, inr, length-append, arith, ℕ}
 use Rattle.bforest_core.proofs.Words.{get_or_default, flat_map, Content, Table, IsUsed, IsUnderflowedAt, IsBalancedAt, with_freed, LevelNode, node, flat, heads, numbers, FitRow, count, Above, NextIs, SameBelow, top_of, OnLevel, Healed, Joined}
 use Rattle.bforest_core.proofs.rows.LevelRows.{least-pos, head-is, HeadIs}
@@ -28,7 +28,7 @@ module _ {K V X : Type 0} (content : List (K × X) → Content K V) (half most c
   half_some : 1 ≤ half
   half_some = omega (arith, hm.two)
 
-  -- the node as the code reads its number
+  -- the number of the node, as the code reads it
   num_is : get_or path up r ≡ n
   num_is = get_or_default path up r 0 low ∙ p.number_is
 
@@ -41,7 +41,7 @@ module _ {K V X : Type 0} (content : List (K × X) → Content K V) (half most c
   slot_read : slice_get t.nodes (get_or path up r) ≡ Some (content es)
   slot_read = ap (λ z. slice_get t.nodes z) num_is ∙ slot_here
 
-  -- what counting its entries asks
+  -- the node meets what counting its entries requires
   pub counted_asks : NodeAt t (get_or path up r)
   counted_asks = (content es, slot_read, s.used es)
 
@@ -51,23 +51,23 @@ module _ {K V X : Type 0} (content : List (K × X) → Content K V) (half most c
   named : HeadIs n es
   named = head-is n es p.some
 
-  -- the level, with its first entries and the next node in sight
+  -- the level, with the node's first entry and the next node named
   level : (k : K) (q : ℕ) (d : NextNode after k q) → OnLevel content half most t path indices up size before n (named.first ∷ named.others) (node q (d.f ∷ d.fs) ∷ d.rest) rest
   level k q d = subst (λ (z : List (LevelNode K X)). OnLevel content half most t path indices up size before n (named.first ∷ named.others) z rest) d.after_is (subst (λ (z : List (K × X)). OnLevel content half most t path indices up size before n z after rest) named.es_is p)
 
   module _ (m : ℕ) (value : Counts t (get_or path up r) m) (past : get_or indices up 0 ≡ m) where
-    -- the path is past the node's end, where one stands behind it
+    -- there is a next node where the path is past the node's last entry
     behind : (k : K) × (q : ℕ) × NextNode after k q
     behind = first_after half most half_some after p.fits (omega (arith, p.entry_within, past, count_read m value, length-append es (flat after)))
 
     above_past : Above t path indices (suc up) size rest (heads before ++ (named.first.0, n) ∷ (behind.2.f.0, behind.1) ∷ heads behind.2.rest) (length (heads before))
     above_past = let d = behind.2 in above_both content half most hm t path indices up size before n named.first named.others behind.1 d.f d.fs d.rest rest (level behind.0 behind.1 d)
 
-    -- what entering the next node asks
+    -- the rows above meet what entering the next node requires
     pub past_asks : NextAbove t path indices (suc up) size
     past_asks = (rest, heads before, (named.first.0, n), (behind.2.f.0, behind.1), heads behind.2.rest, above_past)
 
-    -- what it leaves
+    -- entering the next node leaves the level rebalanced
     pub past_heals : (path' indices' : List ℕ) → half ≤ m → Enters t path indices path' indices' up size → get_or indices' up 0 ≡ 0 → SameBelow up path path' → SameBelow up indices indices' → top_of path' size ≡ top_of path size → Healed content half most t t path indices path' indices' up size before n es after rest
     past_heals path' indices' healthy moved first below below_too top_is =
         let d = behind.2 in
@@ -76,21 +76,21 @@ module _ {K V X : Type 0} (content : List (K × X) → Content K V) (half most c
         let w = settle_move content half most hm t path indices up size before n named.first named.others behind.1 d.f d.fs d.rest rest (level behind.0 behind.1 d) path' indices' (subst (λ (z : ℕ). half ≤ z) len healthy) (past ∙ len) entered first below below_too top_is in
         both_back (λ (y : List (K × X)) (z : List (LevelNode K X)). Healed content half most t t path indices path' indices' up size before n y z rest) es _ after _ named.es_is d.after_is w
 
-  -- a healthy node in which the path stands
+  -- a healthy node in which the path stands stays
   pub stay_heals : (m : ℕ) → Counts t (get_or path up r) m → half ≤ m → get_or indices up 0 ≢ m → Healed content half most t t path indices path indices up size before n es after rest
   stay_heals m value healthy inside =
       let cnt = count_read m value in
       settle_stay content half most hm t path indices up size before n es after rest p (inl (subst (λ (z : ℕ). half ≤ z) cnt healthy)) (omega (arith, cnt, p.entry_was, inside))
 
-  -- the level above names the node
+  -- the rows above, cut at the node
   above_high : Above t path indices high size rest (heads before ++ (named.first.0, n) ∷ heads after) (length (heads before))
   above_high = subst (λ (z : ℕ). Above t path indices z size rest (heads before ++ (named.first.0, n) ∷ heads after) (length (heads before))) (sym high_is) (headed t path indices (suc up) size before n es after rest named p.above)
 
-  -- what the call for the right neighbour asks
+  -- the rows above meet what the call for the right neighbour requires
   pub beside_asks : OneAbove t path indices high size
   beside_asks = (rest, heads before, (named.first.0, n), heads after, above_high)
 
-  -- what it answers
+  -- the answer of the call for the right neighbour
   next_is : (o : Option (K × ℕ)) → Beside t path indices high size o → NextIs o (heads after)
   next_is o beside = beside rest (heads before) (named.first.0, n) (heads after) above_high
 
@@ -109,7 +109,7 @@ module _ {K V X : Type 0} (content : List (K × X) → Content K V) (half most c
     under_is : length (named.first ∷ named.others) < half
     under_is = let d = near_is in omega (arith, under, count_read m value, ap length named.es_is)
 
-    -- how the two lie in the table
+    -- the two nodes are different and in no other row, and the right one is off the chain
     lies : (n ≢ next.1) × (count n (numbers before) + count n (numbers near_is.rest) ≡ 0) × (count next.1 (numbers before) + count next.1 (numbers near_is.rest) ≡ 0) × (count next.1 t.chain ≡ 0)
     lies = let d = near_is in apart content half most hm t path indices up size before n named.first named.others next.1 d.f d.fs d.rest rest (level next.0 next.1 d)
 
@@ -120,7 +120,7 @@ module _ {K V X : Type 0} (content : List (K × X) → Content K V) (half most c
         let r = (row-split content t.nodes before (node n (named.first ∷ named.others) ∷ node next.1 (d.f ∷ d.fs) ∷ d.rest) e.inside).1 in
         (r.0, r.1.0)
 
-    -- what balancing asks
+    -- the two nodes meet what balancing requires
     pub balance_asks : IsUsed t (get_or path up r) × (IsUsed t next.1 × ((get_or path up r ≢ next.1) × IsUnderflowedAt cap t.nodes (get_or path up r) next.1))
     balance_asks =
         let d = near_is in
@@ -142,7 +142,7 @@ module _ {K V X : Type 0} (content : List (K × X) → Content K V) (half most c
       balanced_as : (o : Option K) → got ≡ o → IsBalancedAt cap t n near_is.f.0 next.1 o u
       balanced_as o got_is = let d = near_is in rw (num_is, d.k_is, got_is) at balanced
 
-      -- renewing the key between the two
+      -- the two nodes share their entries, and the key between them has to be updated
       module _ (key : K) (got_is : got ≡ Some key) where
         spread : Spread content t u most n next.1 (named.first ∷ named.others) (near_is.f ∷ near_is.fs) key
         spread = let d = near_is in spread_at content t u cap most n next.1 named.first named.others d.f d.fs s lies.0 (omega (arith, hm.hi, hm.two)) slots.0 slots.1 key (balanced_as (Some key) got_is)
@@ -150,13 +150,13 @@ module _ {K V X : Type 0} (content : List (K × X) → Content K V) (half most c
         above_is : Above u path indices (suc up) size rest (heads before ++ (named.first.0, n) ∷ (near_is.f.0, next.1) ∷ heads near_is.rest) (length (heads before))
         above_is = let d = near_is in above_two_put content half most hm t path indices up size before n named.first named.others next.1 d.f d.fs d.rest rest (level next.0 next.1 d) u _ _ spread.two
 
-        -- what it asks
+        -- the rows above meet what updating the key requires
         pub rekey_asks : TwoAbove u path indices high size
         rekey_asks =
             let d = near_is in
             (rest, heads before, (named.first.0, n), d.f.0, next.1, heads d.rest, subst (λ (z : ℕ). Above u path indices z size rest (heads before ++ (named.first.0, n) ∷ (d.f.0, next.1) ∷ heads d.rest) (length (heads before))) (sym high_is) above_is)
 
-        -- what it leaves
+        -- updating the key leaves the level rebalanced
         pub rekey_heals : (v : Table K V) → Rekeys u v path indices high size key → Healed content half most t v path indices path indices up size before n es after rest
         rekey_heals v rekeys =
             let d = near_is in
@@ -164,18 +164,18 @@ module _ {K V X : Type 0} (content : List (K × X) → Content K V) (half most c
             let w = settle_spread content half most hm t path indices up size before n named.first named.others next.1 d.f d.fs d.rest rest (level next.0 next.1 d) u v under_is key spread (rk rest (heads before) (named.first.0, n) d.f.0 next.1 (heads d.rest) above_is) in
             both_back (λ (y : List (K × X)) (z : List (LevelNode K X)). Healed content half most t v path indices path indices up size before n y z rest) es _ after _ named.es_is d.after_is w
 
-      -- freeing the emptied node
+      -- all entries are in the right node, and the left one has to be freed
       module _ (got_is : got ≡ None) where
         all_right : AllRight content t u most n next.1 (named.first ∷ named.others) (near_is.f ∷ near_is.fs)
         all_right = let d = near_is in all_right_at content t u cap most n next.1 named.first named.others d.f d.fs s lies.0 (omega (arith, hm.hi, hm.two)) slots.0 slots.1 (balanced_as None got_is)
 
-        -- what it asks
+        -- the left node meets what freeing it requires
         pub free_asks : IsUsed u (get_or path up r)
         free_asks =
             let w = all_right in
             subst (λ (z : ℕ). IsUsed u z) (sym num_is) (is_used u n w.left_content w.two.here (ap (λ z. count n z) w.two.frees.chain_is ∙ none_here))
 
-        -- what it leaves
+        -- freeing the left node leaves the two merged
         pub free_joins : (v : Table K V) → v ≡ with_freed u (get_or path up r) → Joined content half most t v path indices (set path up next.1) indices up size before n es after rest
         free_joins v freed =
             let d = near_is in

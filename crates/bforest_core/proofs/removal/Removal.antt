@@ -1,4 +1,4 @@
--- What a removal from the tree under a root says of the table.
+-- The effect of a removal from the tree under a root on the table.
 use Rattle.std.proofs.Common.{◌≡◌, ◌≢◌, ℕ, suc, ◌<◌, ◌↔◌, Option, Some, None, IfSome, List, [], ◌∷◌, ◌++◌, length, get_or, refl, sym, ap, ◌∙◌, subst, inl, inr, append_assoc, length-append, arith}
 use Rattle.std.proofs.lemmas.List.Edits.{length-remove}
 use Rattle.bforest_core.proofs.Words.{remove, eqb_tells, length-map, Table, node, flat, sizes, Tree, sizes_of, nodes_up, shrink, count, root_of, numbers_of, Stands, tree_of, IsUnion, Changes, Ends, GivesInOrder}
@@ -11,31 +11,31 @@ use Rattle.bforest_core.proofs.union.Unions.{rooted}
 use Rattle.bforest_core.proofs.union.Roots.{exchanged-freed, uprooted-union}
 use Rattle.bforest_core.proofs.union.Account.{length-same, nodes-count}
 
--- a fact of what there is, if anything, carried over
+-- an implication, applied to the value of an option, if any
 pub if_some : {A : Type 0} (P Q : A → Type 0) (found : Option A) → ((x : A) → P x → Q x) → IfSome found P → IfSome found Q
 if_some P Q None h p = p
 if_some P Q (Some x) h p = h x p
 
 module _ {K V : Type 0} where
-  -- a path under a root stands in its tree, which lies in the table
+  -- a path under a root stands in its tree, which is in the table
   pub stands_in : (most : ℕ) (table : Table K V) (root place : ℕ) (path indices : List ℕ) (size : ℕ) → IsUnion most table → StandsUnder table.nodes root path indices size place → StandsIn most table path indices size (tree_of table.nodes root) place
   stands_in most table root place path indices size union s =
       let r = rooted most table root union s.root_is in
       record { fit = r.fit; inside = r.inside; apart = r.apart; low = r.low; stands = s.stands }
 
-  -- the place is one of an entry
+  -- the place where a path stands is that of an entry
   place_low : (path indices : List ℕ) (size : ℕ) (tree : Tree K V) (place : ℕ) → Stands path indices size tree place → place < length (flat tree.leaves)
   place_low path indices size tree place s =
       let at = s.leaf in
       omega (arith, at.place_is, at.within, ap (λ z. length (flat z)) at.row_is, ap length (flat-append at.before (node (get_or path 0 0) at.entries ∷ at.after)), length-append (flat at.before) (at.entries ++ flat at.after), length-append at.entries (flat at.after))
 
-  -- what a removal says where the tree has another entry
+  -- the effect of a removal from a tree that has another entry
   pub record Removal (most : ℕ) (old new : Table K V) (root root' place : ℕ) (Now : Tree K V → Type 0) : Type 0 where
     pub changes : Changes most old new root root' (remove (flat (tree_of old.nodes root).leaves) place) (shrink most place (sizes_of (tree_of old.nodes root)))
     pub at : Now (tree_of new.nodes root')
     pub same_root : (root' ≡ root) ↔ (length (shrink most place (sizes_of (tree_of old.nodes root))) ≡ length (sizes_of (tree_of old.nodes root)))
 
-  -- all that a removal says of the table and of the path, with the root that is left, if any
+  -- the effect of a removal on the table and the path, with the root that is left, if any
   pub record Said (most : ℕ) (old new : Table K V) (path : List ℕ) (root place : ℕ) (Now : Tree K V → Type 0) (found : Option ℕ) : Type 0 where
     pub some : IfSome found (λ root'. Removal most old new root root' place Now)
     pub gives : GivesNodes (sizes_of (tree_of old.nodes root)) (shrink most place (sizes_of (tree_of old.nodes root))) old new
@@ -99,11 +99,11 @@ module _ {K V : Type 0} where
           ];
         }
 
-    -- an entry went out of the tree under a root, which has others
+    -- removing an entry of a tree that has others
     pub removal : (root' : ℕ) → Removed most old new path Now (tree_of old.nodes root) place root' → Said most old new path root place Now (Some root')
     removal root' i = subst (λ (z : ℕ). Said most old new path root place Now (Some z)) i.root_is (removed_root root' i)
 
-    -- the last entry went out of the tree under a root
+    -- removing the last entry of a tree
     ending : Emptied most old new (tree_of old.nodes root) place → Said most old new path root place Now None
     ending i =
         let tree = tree_of old.nodes root in
@@ -125,7 +125,7 @@ module _ {K V : Type 0} where
           freed_root = λ ne. omega (arith, among, i.freed_is root, ap (λ z. count z (numbers_of tree)) r.root_is, ap (λ z. count root z) i.frees.chain_is, count-append root i.freed old.chain);
         }
 
-    -- either of the two, as the call for a leaf of one entry says
+    -- the effect of a removal, from the answer of the call for a leaf of one entry
     pub outcome : (found : Option ℕ) → IfSome found (λ root'. Removed most old new path Now (tree_of old.nodes root) place root') → (found ≡ None → Emptied most old new (tree_of old.nodes root) place) → Said most old new path root place Now found
     outcome None removed emptied = ending (emptied refl)
     outcome (Some root') removed emptied = removal root' removed

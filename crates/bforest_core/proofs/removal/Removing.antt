@@ -1,4 +1,5 @@
--- A tree after an entry went, put together from the calls that take it out: before roots with a single child go, and after.
+-- A tree after a removal, from the calls that make it: before and after roots with a single child are
+-- discarded.
 use Rattle.std.proofs.Common.{◌≡◌, zero, suc, ◌+◌, ◌≤◌, ◌<◌, Some, List, ◌∷◌, ◌++◌, ◌⊎◌, map, length, get_or, refl, sym, ap, ◌∙◌, subst, length-append, arith, ℕ, [], inr}
 use Rattle.bforest_core.proofs.Words.{flat_map, remove, flat_map-append, Table, LevelNode, node, flat, head_of, heads, sizes, numbers, FitRow, Stacked, Tree, half_of, rebalanced, loss, loss_above, trimmed, RowIn, RowsIn, leaf_content, count, root_above, root_of, numbers_of, StandsAbove, Stands}
 use Rattle.bforest_core.proofs.Words.{IsPathAt, nodes_up, Above, top_of, Frees, Rebuilt, Healed, Joined, UpTo, Trimmed, StandsIn, LeafLoss, Removed, OnLevel}
@@ -13,13 +14,13 @@ use Rattle.bforest_core.proofs.removal.PastEnd.{loss_half, on_leaf}
 use Rattle.bforest_core.proofs.removal.Collapse.{length-sizes, trimmed-is, topped-sizes, stands-below, rows-parts, trim_none}
 use Rattle.bforest_core.proofs.removal.Asked.{MergeAbove}
 
--- the numbers of a row are as many as its nodes
+-- a row has one number per node
 length-numbers : {K X : Type 0} (row : List (LevelNode K X)) → length (numbers row) ≡ length row
 length-numbers [] = refl
 length-numbers (node n es ∷ row) = ap suc (length-numbers row)
 
 module _ {K V : Type 0} where
-  -- two trees in which one path stands have one root
+  -- two trees in which one path stands have the same root
   pub stands_root : (most : ℕ) (t : Table K V) (path indices : List ℕ) (size : ℕ) (tree tree1 : Tree K V) (place place1 root : ℕ) → StandsIn most t path indices size tree place → StandsIn most t path indices size tree1 place1 → root_of tree1 ≡ root → root_of tree ≡ root
   stands_root most t path indices size tree tree1 place place1 root s s1 is =
       root-stands most tree path indices size place s.fit s.stands ∙ sym (root-stands most tree1 path indices size place1 s1.fit s1.stands) ∙ is
@@ -44,7 +45,7 @@ module _ {K V : Type 0} where
     pub root_is : root_above (heads leaves) rows ≡ root_of tree
     pub frees : Frees old new (numbers_of tree) freed
 
-  -- its rows, for the call that discards roots
+  -- the rows of the tree meet what discarding roots requires
   pub up_to : (most : ℕ) (old new : Table K V) (path indices : List ℕ) (size size1 : ℕ) (tree : Tree K V) (place root : ℕ) (leaves : List (LevelNode K V)) (rows : List (List (LevelNode K ℕ))) (freed : List ℕ) → StandsIn most old path indices size tree place →
       Untrimmed most old new tree place leaves rows freed → size1 ≡ size → root_of tree ≡ root → UpTo new size1 rows (heads leaves) root
   up_to most old new path indices size size1 tree place root leaves rows freed s u size_is root_is = record {
@@ -55,7 +56,7 @@ module _ {K V : Type 0} where
     apart = λ m. omega (arith, s.apart m, count-append m (numbers_of tree) old.chain, u.numbers_are m, count-append m (numbers leaves) (flat_map numbers rows), count-append m (flat_map numbers rows) new.chain, ap (λ z. count m z) u.frees.chain_is, count-append m freed old.chain);
   }
 
-  -- and after roots went
+  -- the tree after roots were discarded
   pub trimmed_removed : (most : ℕ) (old mid new : Table K V) (path indices : List ℕ) (size : ℕ) (tree : Tree K V) (place root : ℕ) (leaves : List (LevelNode K V)) (rows : List (List (LevelNode K ℕ))) (up size1 size2 root' : ℕ) (gone : List ℕ) (Now : Tree K V → Type 0) →
       StandsIn most old path indices size tree place → Untrimmed most old mid tree place leaves rows (nodes_up path 0 up) → root_of tree ≡ root → (t : Trimmed mid new size1 size2 rows (heads leaves) root root' gone) → size1 ≡ size →
       Now (record { leaves = leaves; above = t.rows' }) → Removed most old new path Now tree place root'
@@ -90,7 +91,7 @@ module _ {K V : Type 0} where
         frees = frees-then old mid new (numbers_of tree) (flat_map numbers t.discarded) freed gone (λ m none. omega (arith, none, u.numbers_are m, c0 m, parts m)) (λ m some. omega (arith, some, u.numbers_are m, c0 m, parts m, c3 m, s.apart m)) u.frees t.frees;
       }
 
-  -- no root goes where each level keeps its nodes
+  -- no root is discarded where each level keeps its nodes
   pub whole_removed : (most : ℕ) (old new : Table K V) (path indices : List ℕ) (size : ℕ) (tree : Tree K V) (place root : ℕ) (leaves : List (LevelNode K V)) (rows : List (List (LevelNode K ℕ))) (Now : Tree K V → Type 0) →
       StandsIn most old path indices size tree place → Untrimmed most old new tree place leaves rows [] → root_of tree ≡ root → length (heads leaves) ≡ length (heads tree.leaves) → map sizes rows ≡ map sizes tree.above →
       Now (record { leaves = leaves; above = rows }) → Removed most old new path Now tree place root
@@ -107,7 +108,7 @@ module _ {K V : Type 0} (most : ℕ) (old mid : Table K V) (path indices : List 
   full : length (heads l.before) ≡ length l.before
   full = Solid-full (half_of most) most half l.before l.solid
 
-  -- the tree after the leaf was settled, and the rows above it
+  -- the tree after the leaf and the rows above it were rebalanced
   settled : (new : Table K V) (path' indices' : List ℕ) (front : List (LevelNode K V)) (m : ℕ) (es : List (K × V)) (back : List (LevelNode K V)) (rest : List (List (LevelNode K ℕ))) (freed : List ℕ) →
       Settled leaf_content (half_of most) most mid new path' indices' 0 size l.before (get_or path 0 0) l.entries l.after l.rest front (front ++ node m es ∷ back) rest freed → get_or path' 0 0 ≡ m → 1 ≤ length es → top_of path' size ≡ top_of path size → Untrimmed most old new tree place (front ++ node m es ∷ back) rest freed
   settled new path' indices' front m es back rest freed k m_is some top =
@@ -129,7 +130,7 @@ module _ {K V : Type 0} (most : ℕ) (old mid : Table K V) (path indices : List 
         frees = frees-after old mid new (numbers_of tree) _ freed (λ i none. omega (arith, none, l.numbers_are i)) l.frees k.frees;
       }
 
-  -- the leaf is half full yet or the last, and stays as it is
+  -- a leaf that is still half full, or the last, stays as it is
   pub kept_untrimmed : (half_of most ≤ length l.entries) ⊎ (l.after ≡ []) → Untrimmed most old mid tree place (l.before ++ node (get_or path 0 0) l.entries ∷ l.after) l.rest []
   kept_untrimmed why =
       let n = get_or path 0 0 in
@@ -149,13 +150,13 @@ module _ {K V : Type 0} (most : ℕ) (old mid : Table K V) (path indices : List 
     full_healed : length (heads h.before') ≡ length h.before'
     full_healed = Solid-full (half_of most) most half h.before' (FitRow-split (half_of most) most h.before' (node h.number' h.entries') h.after' h.fit).0
 
-    -- the leaf stays, healed by its neighbour or not at all
+    -- the tree after a rebalancing in which the leaf stays
     pub healed_untrimmed : Untrimmed most old new tree place (h.before' ++ node h.number' h.entries' ∷ h.after') h.rest' []
     healed_untrimmed =
         let k = healed_settled leaf_content (half_of most) most mid path indices 0 size l.before (get_or path 0 0) l.entries l.after l.rest new path' indices' h in
         settled new path' indices' h.before' h.number' h.entries' h.after' h.rest' [] k h.number_is (omega (arith, h.within)) h.same_top
 
-    -- and the path stands at the place
+    -- the path stands at the place after a rebalancing in which the leaf stays
     pub healed_stands : (size1 : ℕ) → size1 ≡ size → Stands path' indices' size1 (record { leaves = h.before' ++ node h.number' h.entries' ∷ h.after'; above = h.rest' }) place
     healed_stands size1 size_is =
         let st = h.above.stands in
@@ -170,13 +171,13 @@ module _ {K V : Type 0} (most : ℕ) (old mid : Table K V) (path indices : List 
     number_is : get_or path' 0 0 ≡ j.right
     number_is = r.nodes_below 0 (omega arith) ∙ j.number_is
 
-    -- the leaf went into its neighbour, and the rows above lost its entry
+    -- the tree after the leaf was merged into its neighbour and the rows above lost its entry
     pub joined_untrimmed : Untrimmed most old new tree place (l.before ++ node j.right (l.entries ++ j.right_entries) ∷ j.after') r.rows' (freed ++ get_or path 0 0 ∷ [])
     joined_untrimmed =
         let k = joined_settled leaf_content (half_of most) most mid path indices 0 size l.before (get_or path 0 0) l.entries l.after l.rest mid2 path1 indices1 j new path' indices' freed r l.apart full in
         settled new path' indices' l.before j.right (l.entries ++ j.right_entries) j.after' r.rows' (freed ++ get_or path 0 0 ∷ []) k number_is (omega (arith, l.some, length-append l.entries j.right_entries)) (r.same_top ∙ j.same_top)
 
-    -- and the path stands at the place, in what is left of the rows
+    -- the path stands at the place after the leaf was merged into its neighbour, in the remaining rows
     pub joined_stands : (new2 : Table K V) (size1 size2 root root' : ℕ) (gone : List ℕ) → (t : Trimmed new new2 size1 size2 r.rows' (heads (l.before ++ node j.right (l.entries ++ j.right_entries) ∷ j.after')) root root' gone) →
         Stands path' indices' size2 (record { leaves = l.before ++ node j.right (l.entries ++ j.right_entries) ∷ j.after'; above = t.rows' }) place
     joined_stands new2 size1 size2 root root' gone t =
@@ -195,28 +196,28 @@ module _ {K V : Type 0} (most : ℕ) (old mid : Table K V) (path indices : List 
         }
 
   module _ (root : ℕ) (root_is : root_of tree ≡ root) where
-    -- a row of as many leaves as the tree had
+    -- a row of as many leaves as the tree has as many heads
     as_many : (row : List (LevelNode K V)) → FitRow (half_of most) most row → length row ≡ length l.before + suc (length l.after) → length (heads row) ≡ length (heads tree.leaves)
     as_many row fit len =
         omega (arith, fit_full (half_of most) most half row fit, fit_full (half_of most) most half tree.leaves s.fit.leaves_fit, length-sizes tree.leaves, ap length l.sizes_were, length-append (sizes l.before) (suc (length l.entries) ∷ sizes l.after), length-sizes l.before, length-sizes l.after, len)
 
-    -- the leaf is half full yet or the last
+    -- the removal is complete where the leaf is still half full or the last
     pub kept_removed : (Now : Tree K V → Type 0) → (half_of most ≤ length l.entries) ⊎ (l.after ≡ []) → Now (record { leaves = l.before ++ node (get_or path 0 0) l.entries ∷ l.after; above = l.rest }) → Removed most old mid path Now tree place root
     kept_removed Now why now =
         let row : List (LevelNode K V) = l.before ++ node (get_or path 0 0) l.entries ∷ l.after in
         let u = kept_untrimmed why in
         whole_removed most old mid path indices size tree place root row l.rest Now s u root_is (as_many row u.leaves_fit (length-append l.before (node (get_or path 0 0) l.entries ∷ l.after))) l.rest_sizes now
 
-    -- the path was at the last entry
+    -- the removal is complete where the path was at the last entry
     pub past_removed : l.after ≡ [] → get_or indices 0 0 ≡ length l.entries → Removed most old mid path (λ z. IsPathAt path indices 0 z place) tree place root
     past_removed none last =
         let n = get_or path 0 0 in
         let end : place ≡ length (flat (l.before ++ node n l.entries ∷ l.after)) = omega (arith, l.place_is, last, ap length (flat-append l.before (node n l.entries ∷ l.after)), length-append (flat l.before) (l.entries ++ flat l.after), length-append l.entries (flat l.after), ap (λ z. length (flat z)) none) in
         kept_removed (λ z. IsPathAt path indices 0 z place) (inr none) end
 
-    -- the path is at an entry, and the leaf was settled
+    -- the path is at an entry, and the leaf was rebalanced
     module _ (low : get_or indices 0 0 < length (l.entries ++ flat l.after)) where
-      -- the leaf stayed
+      -- the removal is complete where the leaf stays
       pub healed_removed : (new : Table K V) (path' indices' : List ℕ) (size1 : ℕ) → ((before : List (LevelNode K V)) (n : ℕ) (es : List (K × V)) (after : List (LevelNode K V)) (rest : List (List (LevelNode K ℕ))) → OnLevel leaf_content (half_of most) most mid path indices 0 size before n es after rest →
           Healed leaf_content (half_of most) most mid new path indices path' indices' 0 size before n es after rest) →
           size1 ≡ size → Removed most old new path (λ z. IsPathAt path' indices' size1 z place) tree place root
@@ -230,17 +231,17 @@ module _ {K V : Type 0} (most : ℕ) (old mid : Table K V) (path indices : List 
           whole_removed most old new path indices size tree place root row2 h.rest' (λ z. IsPathAt path' indices' size1 z place) s u root_is (as_many row2 u.leaves_fit len) (h.rest_sizes ∙ l.rest_sizes)
           (path-at path' indices' size1 (record { leaves = row2; above = h.rest' }) place st)
 
-      -- the leaf went into its neighbour
+      -- the leaf was merged into its neighbour
       module _ (mid2 : Table K V) (path1 indices1 : List ℕ) (size1 : ℕ) (size_is : size1 ≡ size)
           (joins : (before : List (LevelNode K V)) (n : ℕ) (es : List (K × V)) (after : List (LevelNode K V)) (rest : List (List (LevelNode K ℕ))) → OnLevel leaf_content (half_of most) most mid path indices 0 size before n es after rest → Joined leaf_content (half_of most) most mid mid2 path indices path1 indices1 0 size before n es after rest) where
         abbrev j : Joined leaf_content (half_of most) most mid mid2 path indices path1 indices1 0 size l.before (get_or path 0 0) l.entries l.after l.rest
         j = joins l.before (get_or path 0 0) l.entries l.after l.rest (on_leaf most old mid path indices size tree place l low)
 
-        -- the rows above wait to lose its entry
+        -- the rows above meet what removing the leaf's entry requires
         pub leaf_merge_asks : MergeAbove mid2 path1 indices1 1 size1
         leaf_merge_asks = merge_asks leaf_content (half_of most) most mid path indices 0 size l.before (get_or path 0 0) l.entries l.after l.rest mid2 path1 indices1 j 1 size1 refl size_is
 
-        -- and they lost it
+        -- the rows above after the leaf's entry was removed
         module _ (new : Table K V) (path' indices' : List ℕ) (merged : (rows : List (List (LevelNode K ℕ))) (a : List (K × ℕ)) (k : K) (m : ℕ) (k2 : K) (n : ℕ) (b : List (K × ℕ)) → Above mid2 path1 indices1 1 size1 rows (a ++ (k, m) ∷ (k2, n) ∷ b) (length a) →
             (levels : ℕ) × Rebuilt mid2 new path1 indices1 path' indices' 1 size1 rows (a ++ (k, n) ∷ b) (length a) (loss_above (Some (length a)) (map sizes rows)) (nodes_up path1 1 levels)) (size2 : ℕ) (size2_is : size2 ≡ size) where
           rest : (levels : ℕ) × Rebuilt mid2 new path1 indices1 path' indices' 1 size l.rest (heads l.before ++ (j.first.0, j.right) ∷ heads j.after') (length (heads l.before)) (loss_above (Some (length (heads l.before))) (map sizes l.rest)) (nodes_up path 1 levels)
@@ -255,11 +256,11 @@ module _ {K V : Type 0} (most : ℕ) (old mid : Table K V) (path indices : List 
           up : UpTo new size2 rest.1.rows' (heads (l.before ++ node j.right (l.entries ++ j.right_entries) ∷ j.after')) root
           up = up_to most old new path indices size size2 tree place root _ rest.1.rows' _ s untrimmed size2_is root_is
 
-          -- what the call that discards roots asks for
+          -- the rows above meet what discarding roots requires
           pub collapse_asks : (rows : List (List (LevelNode K ℕ))) × (list : List (K × ℕ)) × UpTo new size2 rows list root
           collapse_asks = (rest.1.rows', heads (l.before ++ node j.right (l.entries ++ j.right_entries) ∷ j.after'), up)
 
-          -- and roots with a single child went
+          -- the removal is complete after roots with a single child were discarded
           pub joined_removed : (new2 : Table K V) (path2 indices2 : List ℕ) (size3 root' : ℕ) → ((rows : List (List (LevelNode K ℕ))) (list : List (K × ℕ)) → UpTo new size2 rows list root → (gone : List ℕ) × Trimmed new new2 size2 size3 rows list root root' gone) → path2 ≡ path' → indices2 ≡ indices' →
               Removed most old new2 path (λ z. IsPathAt path2 indices2 size3 z place) tree place root'
           joined_removed new2 path2 indices2 size3 root' trims path_is indices_is =

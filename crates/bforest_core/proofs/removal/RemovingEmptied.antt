@@ -1,4 +1,5 @@
--- The right-most node of a level went: its entry goes, and the nodes that this leaves empty. Each answer of `remove_emptied` is one of these.
+-- Removing the entry of a level's rightmost node, which was removed, and the nodes that this empties: the
+-- answers of `remove_emptied`.
 use Rattle.std.proofs.Common.{◌≡◌, ◌≢◌, ℕ, suc, ◌+◌, ◌-◌, ◌≤◌, ◌<◌, List, [], ◌∷◌, ◌++◌, map, length, drop, get_or, Some, refl, sym, ap, ◌∙◌, subst, append_assoc, length-append, arith}
 use Rattle.bforest_core.proofs.Words.{flat_map, append-nil, nil_from_length, without_child, Table, with_node, with_freed, LevelNode, node, flat, heads, head_of, sizes, numbers, FitRow, Solid, Stacked, loss_above, RowIn, inner_content, entry_keys, entry_items, count}
 use Rattle.bforest_core.proofs.Words.{Distinct, root_above, Above, nodes_up, Dropped, rebalanced}
@@ -21,7 +22,7 @@ fit_solid half most one [] s = tt
 fit_solid half most one (node m es ∷ []) s = (omega (arith, s.0, one), s.1, tt)
 fit_solid half most one (node m es ∷ next ∷ ns) s = (s.0, s.1, fit_solid half most one (next ∷ ns) s.2)
 
--- the last of some nodes
+-- the last node of a list
 pub record LastOf {K X : Type 0} (before : List (LevelNode K X)) : Type 0 where
   pub init : List (LevelNode K X)
   pub number : ℕ
@@ -37,7 +38,7 @@ last_of_solid half most one (node n (w ∷ ws) ∷ node m es ∷ before) s some 
     let r = last_of_solid half most one (node m es ∷ before) s.2 (omega (arith, s.2.0, one, length-append es (flat before))) in
     record { init = node n (w ∷ ws) ∷ r.init; number = r.number; w = r.w; ws = r.ws; is = ap (λ z. node n (w ∷ ws) ∷ z) r.is }
 
--- it as the last that is seen from above
+-- the last node has the last head
 pub last_heads : {K X : Type 0} (before : List (LevelNode K X)) (o : LastOf before) → heads before ≡ heads o.init ++ (o.w.0, o.number) ∷ []
 last_heads before o = ap (λ z. heads z) o.is ∙ heads-append o.init (node o.number (o.w ∷ o.ws) ∷ [])
 
@@ -52,7 +53,7 @@ module _ {K V : Type 0} where
       let len : length (heads before) ≡ suc (length (heads o.init)) = omega (arith, ap length (last_heads before o), length-append (heads o.init) ((o.w.0, o.number) ∷ [])) in
       above_same t v path indices up size rest _ _ (λ m some. freed_other t v n is m (ne_from_count m n (flat_map numbers rest) some none)) (λ m. omega (arith, apart m, c m, count-append m (flat_map numbers rest) v.chain, ap (λ z. count m z.chain) is)) (rw (list, len) at p)
 
-  -- what the call leaves
+  -- what the call ensures
   abbrev pub Drops : Table K V → Table K V → List ℕ → ℕ → ℕ → List (List (LevelNode K ℕ)) → List (K × ℕ) → K × ℕ → Type 0
   Drops t u path up size rows a y = (levels : ℕ) × Dropped t u path size rows (a ++ y ∷ []) (loss_above (Some (suc (length a))) (map sizes rows)) (nodes_up path up levels)
 
@@ -76,14 +77,14 @@ module _ {K V : Type 0} where
         let len : length (d.q.l ++ x ∷ []) ≡ suc (length d.q.l) = length-append d.q.l (x ∷ []) ∙ omega arith in
         ap (λ z. map sizes z) d.q.rows_are ∙ ap (λ z. z ∷ map sizes d.q.rest) (ap (λ z. sizes z) row ∙ sizes-append d.q.before (node n (d.q.l ++ x ∷ []) ∷ []) ∙ ap (λ z. sizes d.q.before ++ z ∷ []) len)
 
-    -- what SHRINK says of the row
+    -- the sizes of the levels after the row lost the entry
     lost : loss_above (Some (length a)) (map sizes rows) ≡ (sizes d.q.before ++ (rebalanced 8 (length d.q.l) []).1) ∷ loss_above (placed (length d.q.before) (rebalanced 8 (length d.q.l) []).0) (map sizes d.q.rest)
     lost = loss_level 8 d.q.before (length d.q.l) (length d.q.l) (length a) [] (map sizes d.q.rest) (map sizes rows) were (omega arith) (omega (arith, ap length d.q.a_is, length-append (flat d.q.before) d.q.l)) refl
 
     own_is : (m : ℕ) → count m (flat_map numbers rows) ≡ count m (numbers d.q.before) + count m (get_or path up 0 ∷ []) + count m (flat_map numbers d.q.rest)
     own_is m = omega (arith, ap (λ z. count m (flat_map numbers z)) d.q.rows_are, ap (λ z. count m (get_or path up 0 ∷ numbers z)) ends.1, counts m d.q.before (get_or path up 0) (d.q.l ++ x ∷ d.q.r) d.q.after d.q.rest t.chain)
 
-    -- the node keeps others
+    -- the node keeps other entries
     drop_keep : (u : Table K V) → length (d.q.l ++ x ∷ d.q.r) ≢ 1 → u ≡ with_node t (get_or path up 0) (without_child (inner_content (d.q.l ++ x ∷ d.q.r)) (get_or indices up 0)) → Dropped t u path size rows a (loss_above (Some (length a)) (map sizes rows)) []
     drop_keep u more u_is =
         let q = d.q in
@@ -109,7 +110,7 @@ module _ {K V : Type 0} where
           frees = frees-puts t u n (inner_content q.l) (flat_map numbers rows) (omega (arith, own_is n, count-same n [])) w;
         }
 
-    -- it has none: it went (v), and so did its own entry
+    -- the node has no other entry: it was freed (v), and its own entry is removed above
     module _ (v : Table K V) (one : length (d.q.l ++ x ∷ d.q.r) ≡ 1) (some : 1 ≤ length a) (v_is : v ≡ with_freed t (get_or path up 0)) where
       l_none : d.q.l ≡ []
       l_none = nil_from_length d.q.l (omega (arith, one, length-append d.q.l (x ∷ d.q.r)))
@@ -155,7 +156,7 @@ module _ {K V : Type 0} where
     len_is : length (a ++ y ∷ []) ≡ suc (length a)
     len_is = length-append a (y ∷ []) ∙ omega arith
 
-    -- the parent
+    -- the parent of the node
     pub here : Seen t path indices up size rows (a ++ y ∷ []) x [] r
     here = seen t path indices up size rows (a ++ y ∷ []) x [] (rw (append_assoc a (y ∷ []) (x ∷ []), len_is) p) top r wide height
 
@@ -163,7 +164,7 @@ module _ {K V : Type 0} where
     drop_fewer high n high_is bound = let low = top in omega arith
 
     module _ (cnt : ℕ) (value : Counts t (get_or path up r) cnt) where
-      -- the node keeps other entries
+      -- the call ensures its effect where the node keeps other entries
       pub keeps : (u : Table K V) → cnt ≢ 1 → Removes t u (get_or path up r) (get_or indices up 0) → Drops t u path up size rows a y
       keeps u more removes =
           let s = here in
@@ -188,11 +189,11 @@ module _ {K V : Type 0} where
         above_is : Above v path indices high size here.d.q.rest (heads o.init ++ (o.w.0, o.number) ∷ (x.0, get_or path up 0) ∷ []) (suc (length (heads o.init)))
         above_is = subst (λ (z : ℕ). Above v path indices z size here.d.q.rest (heads o.init ++ (o.w.0, o.number) ∷ (x.0, get_or path up 0) ∷ []) (suc (length (heads o.init)))) (sym high_is) (above_then t path indices up size rows (a ++ y ∷ []) x here.d v single some v_is)
 
-        -- what the call one level up asks
+        -- the rows above meet what the call one level up requires
         pub above_asks : LastTwo v path indices high size
         above_asks = (here.d.q.rest, heads o.init, (o.w.0, o.number), (x.0, get_or path up 0), above_is)
 
-        -- what it leaves is what this one leaves
+        -- what the call one level up ensures is what this one has to
         pub empties : (u : Table K V) → ((rows2 : List (List (LevelNode K ℕ))) (a2 : List (K × ℕ)) (y2 x2 : K × ℕ) → Above v path indices high size rows2 (a2 ++ y2 ∷ x2 ∷ []) (suc (length a2)) → Drops v u path high size rows2 a2 y2) → Drops t u path up size rows a y
         empties u drops =
             let w = drops here.d.q.rest (heads o.init) (o.w.0, o.number) (x.0, get_or path up 0) above_is in

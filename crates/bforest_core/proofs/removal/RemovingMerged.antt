@@ -1,4 +1,5 @@
--- An entry taken out of the row above a level, and its key given to the next one: each answer of `remove_merged` is one of these.
+-- Removing an entry from the row above a level, whose key passes to the next entry: the answers of
+-- `remove_merged`.
 use Rattle.std.proofs.Common.{◌≡◌, ℕ, suc, ◌+◌, ◌-◌, ◌≤◌, ◌<◌, List, [], ◌∷◌, ◌++◌, map, length, drop, set, get_or, slice_get, Some, refl, sym, ap, ◌∙◌, subst, append_assoc, length-append, arith}
 use Rattle.bforest_core.proofs.Words.{flat_map, Inner, IsUsed, with_key, without_child, Table, with_node, LevelNode, node, flat, heads, head_of, sizes, numbers, FitRow, RowIn, inner_content, entry_keys, entry_items, count, Above, Rebuilt, Loosened}
 use Rattle.bforest_core.proofs.rows.LevelRows.{heads-append, sizes-append}
@@ -13,7 +14,7 @@ use Rattle.bforest_core.proofs.removal.Asked.{KeyAt, ChildAt, Counts, ReadsKey, 
 
 module _ {K V : Type 0} where
   module _ (t : Table K V) (path indices : List ℕ) (up size : ℕ) (rows : List (List (LevelNode K ℕ))) (a : List (K × ℕ)) (k : K) (m : ℕ) (k2 : K) (n : ℕ) (b : List (K × ℕ)) (d : Spot t path indices up size rows a (k, m) ((k2, n) ∷ b)) where
-    -- the row after an entry of its node went, under rows above that have its keys
+    -- the row after its node lost an entry, under rows above that have its keys
     loosened : (v u : Table K V) (es list : List (K × ℕ)) (after : List (LevelNode K ℕ)) → length (d.q.l ++ (k, m) ∷ d.q.r) ≡ suc (length es) → 1 ≤ length es → length d.q.l ≤ length es → sizes after ≡ sizes d.q.after → numbers after ≡ numbers d.q.after → es ++ flat after ≡ d.q.l ++ (k, n) ∷ b →
         list ≡ heads (d.q.before ++ node (get_or path up 0) es ∷ after) → FitRow 4 8 (node (get_or path up 0) (d.q.l ++ (k, m) ∷ d.q.r) ∷ after) → RowIn inner_content t.nodes (d.q.before ++ node (get_or path up 0) (d.q.l ++ (k, m) ∷ d.q.r) ∷ after) →
         Rebuilt t v path indices path indices (suc up) size d.q.rest list (length (heads d.q.before)) (map sizes d.q.rest) [] → Puts v u (get_or path up 0) (inner_content es) → Loosened t u path indices up size rows (a ++ (k, n) ∷ b) (length a)
@@ -53,7 +54,7 @@ module _ {K V : Type 0} where
           frees = rw q.rows_are (frees-after t v u own own [] (λ i none. none) (frees-wider t v (flat_map numbers q.rest) own [] (λ i none. omega (arith, none, c i)) r.frees) (frees-puts v u num (inner_content es) own (omega (arith, c num, count-same num (numbers q.after))) w));
         }
 
-    -- the key and the entry under one parent
+    -- removing the entry where the next one is in the same parent
     take_same : (s u : Table K V) (key : K) → get_or indices up 0 + 1 < length (d.q.l ++ (k, m) ∷ d.q.r) → slice_get (drop 1 (entry_keys (d.q.l ++ (k, m) ∷ d.q.r))) (get_or indices up 0 - 1) ≡ Some key →
         s ≡ with_node t (get_or path up 0) (Inner (set (drop 1 (entry_keys (d.q.l ++ (k, m) ∷ d.q.r))) (get_or indices up 0) key) (entry_items (d.q.l ++ (k, m) ∷ d.q.r))) →
         u ≡ with_node s (get_or path up 0) (without_child (Inner (set (drop 1 (entry_keys (d.q.l ++ (k, m) ∷ d.q.r))) (get_or indices up 0) key) (entry_items (d.q.l ++ (k, m) ∷ d.q.r))) (get_or indices up 0)) → Loosened t u path indices up size rows (a ++ (k, n) ∷ b) (length a)
@@ -80,11 +81,11 @@ module _ {K V : Type 0} where
       old_is : d.q.l ++ (k, m) ∷ d.q.r ≡ (o.z ∷ o.zs) ++ (k, m) ∷ []
       old_is = ap (λ z. z ++ (k, m) ∷ d.q.r) o.l_is ∙ ap (λ z. (o.z ∷ o.zs) ++ (k, m) ∷ z) o.r_is
 
-      -- the key that the code read is that of the entry which is taken out
+      -- the key that the code read is that of the removed entry
       moved_key : (key : K) → slice_get (drop 1 (entry_keys (d.q.l ++ (k, m) ∷ d.q.r))) (get_or indices up 0 - 1) ≡ Some key → key ≡ k
       moved_key key is = some_same key k (sym is ∙ ap (λ w. slice_get (drop 1 (entry_keys w)) (get_or indices up 0 - 1)) old_is ∙ last_key ℕ o.z o.zs (k, m) (get_or indices up 0) index_is)
 
-      -- the key under the next parent, and then the entry
+      -- removing the entry where the next one is in the next parent, whose key was written first
       take_over : (v u : Table K V) → Rebuilt t v path indices path indices (suc up) size d.q.rest (heads d.q.before ++ (o.z.0, get_or path up 0) ∷ (k, o.q) ∷ heads o.rest) (length (heads d.q.before)) (map sizes d.q.rest) [] → slice_get v.nodes (get_or path up 0) ≡ Some (inner_content (d.q.l ++ (k, m) ∷ d.q.r)) →
           u ≡ with_node v (get_or path up 0) (without_child (inner_content (d.q.l ++ (k, m) ∷ d.q.r)) (get_or indices up 0)) → Loosened t u path indices up size rows (a ++ (k, n) ∷ b) (length a)
       take_over v u r slot u_is =
@@ -103,7 +104,7 @@ module _ {K V : Type 0} where
     top : up < size
     top = above_two t path indices up size rows a (k, m) (k2, n) b (length a) p
 
-    -- the parent
+    -- the parent of the entry
     pub here : Seen t path indices up size rows a (k, m) ((k2, n) ∷ b) r
     here = seen t path indices up size rows a (k, m) ((k2, n) ∷ b) p top r wide height
 

@@ -1,4 +1,5 @@
--- The key of a node, or of the next, renewed in the rows above a level: the answers of `update_separator` and `update_next_separator` are these.
+-- Updating the key of a node, or of the next, in the rows above a level: the answers of `update_separator`
+-- and `update_next_separator`.
 use Rattle.std.proofs.Common.{◌≡◌, ℕ, suc, ◌+◌, ◌-◌, ◌≤◌, ◌<◌, List, [], ◌∷◌, ◌++◌, map, length, drop, set, get_or, refl, sym, ap, ◌∙◌, append_assoc, length-append, arith, add-one}
 use Rattle.bforest_core.proofs.Words.{Inner, Table, with_node, LevelNode, node, flat, heads, head_of, sizes, numbers, FitRow, RowIn, inner_content, entry_keys, entry_items, Above, Rebuilt, nil_from_length}
 use Rattle.bforest_core.proofs.rows.LevelRows.{heads-append, least-pos}
@@ -7,12 +8,12 @@ use Rattle.bforest_core.proofs.rows.Zipper.{Spot, above_two}
 use Rattle.bforest_core.proofs.removal.Asked.{Counts, Writes, TwoAbove, Rekeys, Seen, seen}
 use Rattle.bforest_core.proofs.removal.Lifted.{rebuilt_same, rows_above, lifted_above, renamed}
 
--- the neighbour stands under the same parent
+-- the next node has the same parent
 pub next_in : {K : Type 0} (l : List (K × ℕ)) (x : K × ℕ) (r : List (K × ℕ)) (e : ℕ) (y : K × ℕ) (b more : List (K × ℕ)) → y ∷ b ≡ r ++ more → length l ≡ e → e + 1 < length (l ++ x ∷ r) → (ys : List (K × ℕ)) × (r ≡ y ∷ ys) × (b ≡ ys ++ more)
 next_in l x [] e y b more is l_is high = absurd (omega (arith, high, l_is, length-append l (x ∷ [])))
 next_in l x (w ∷ ys) e y b more is l_is high = (ys, cc, cc)
 
--- or under the next
+-- the next node has the next parent
 pub record Across {K : Type 0} (l : List (K × ℕ)) (r : List (K × ℕ)) (after : List (LevelNode K ℕ)) (y : K × ℕ) (b : List (K × ℕ)) : Type 0 where
   pub z : K × ℕ
   pub zs : List (K × ℕ)
@@ -35,7 +36,7 @@ across n (z ∷ zs) x [] (node q (w ∷ ys) ∷ after) y b f e h =
 
 module _ {K V : Type 0} where
   module _ (t : Table K V) (path indices : List ℕ) (up size : ℕ) (rows : List (List (LevelNode K ℕ))) (a : List (K × ℕ)) (x y : K × ℕ) (b : List (K × ℕ)) (d : Spot t path indices up size rows a x (y ∷ b)) (o : Across d.q.l d.q.r d.q.after y b) where
-    -- no slot holds the first key of the next parent
+    -- the first key of the next parent is in no slot of its row
     pub across_in : (key : K) → RowIn inner_content t.nodes (d.q.before ++ node (get_or path up 0) (d.q.l ++ x ∷ d.q.r) ∷ node o.q ((key, y.1) ∷ o.ys) ∷ o.rest)
     across_in key =
         let s = row-split inner_content t.nodes d.q.before (node (get_or path up 0) (d.q.l ++ x ∷ d.q.r) ∷ d.q.after) d.f.inside in
@@ -45,7 +46,7 @@ module _ {K V : Type 0} where
     pub across_above : Above t path indices (suc up) size d.q.rest (heads d.q.before ++ (o.z.0, get_or path up 0) ∷ (y.0, o.q) ∷ heads o.rest) (length (heads d.q.before))
     across_above = rw (heads-append d.q.before (node (get_or path up 0) (d.q.l ++ x ∷ d.q.r) ∷ d.q.after), o.l_is, o.after_is) at (rows_above t path indices up size rows a x (y ∷ b) d)
 
-  -- no row above
+  -- without a row above there is no key to update
   pub rekey_top : (t : Table K V) (path indices : List ℕ) (up size : ℕ) (rows : List (List (LevelNode K ℕ))) (a : List (K × ℕ)) (k : K) (n : ℕ) (b : List (K × ℕ)) (key : K) → Above t path indices up size rows (a ++ (k, n) ∷ b) (length a) → size ≤ up →
       Rebuilt t t path indices path indices up size rows (a ++ (key, n) ∷ b) (length a) (map sizes rows) []
   rekey_top t path indices up size (row ∷ rows) a k n b key p high = absurd (omega (arith, p.height, high))
@@ -54,12 +55,12 @@ module _ {K V : Type 0} where
       rebuilt_same t path indices up size [] (a ++ (key, n) ∷ b) (length a) (record { stacked = one; inside = tt; stands = p.stands; height = p.height; apart = p.apart })
 
   module _ (t u : Table K V) (path indices : List ℕ) (up size : ℕ) (rows : List (List (LevelNode K ℕ))) (a : List (K × ℕ)) (k : K) (n : ℕ) (b : List (K × ℕ)) (key : K) (d : Spot t path indices up size rows a (k, n) b) where
-    -- the separator in the parent of the path
+    -- updating the key where it is a separator in the path's parent
     pub rekey_parent : 0 < get_or indices up 0 → u ≡ with_node t (get_or path up 0) (Inner (set (drop 1 (entry_keys (d.q.l ++ (k, n) ∷ d.q.r))) (get_or indices up 0 - 1) key) (entry_items (d.q.l ++ (k, n) ∷ d.q.r))) → Rebuilt t u path indices path indices up size rows (a ++ (key, n) ∷ b) (length a) (map sizes rows) []
     rekey_parent some u_is =
         renamed t path indices up size rows a (k, n) b d u d.q.l (k, n) d.q.r (get_or indices up 0 - 1) key ((key, n) ∷ b) refl (omega (arith, d.q.entry_is, some)) u_is (append_assoc d.q.l ((key, n) ∷ d.q.r) (flat d.q.after) ∙ ap (λ z. d.q.l ++ (key, n) ∷ z) (sym d.q.b_is))
 
-    -- no separator there: the key is that of the parent
+    -- updating the key where it is the parent's first, in the rows above
     pub rekey_first : get_or indices up 0 ≤ 0 → Rebuilt t u path indices path indices (suc up) size d.q.rest (heads d.q.before ++ (key, get_or path up 0) ∷ heads d.q.after) (length (heads d.q.before)) (map sizes d.q.rest) [] → Rebuilt t u path indices path indices up size rows (a ++ (key, n) ∷ b) (length a) (map sizes rows) []
     rekey_first none r =
         let q = d.q in
@@ -70,7 +71,7 @@ module _ {K V : Type 0} where
         (sym (heads-append q.before (node num ((key, n) ∷ q.r) ∷ q.after))) (rw l_is at d.f.fit) (row-join inner_content t.nodes q.before (node num ((key, n) ∷ q.r) ∷ q.after) s.0 (rw l_is at s.1)) r
 
   module _ (t u : Table K V) (path indices : List ℕ) (up size : ℕ) (rows : List (List (LevelNode K ℕ))) (a : List (K × ℕ)) (x : K × ℕ) (k : K) (n : ℕ) (b : List (K × ℕ)) (key : K) (d : Spot t path indices up size rows a x ((k, n) ∷ b)) where
-    -- the key of the neighbour under the same parent
+    -- updating the neighbour's key where both have the same parent
     rekey_same : get_or indices up 0 + 1 < length (d.q.l ++ x ∷ d.q.r) → u ≡ with_node t (get_or path up 0) (Inner (set (drop 1 (entry_keys (d.q.l ++ x ∷ d.q.r))) (get_or indices up 0) key) (entry_items (d.q.l ++ x ∷ d.q.r))) → Rebuilt t u path indices path indices up size rows (a ++ x ∷ (key, n) ∷ b) (length a) (map sizes rows) []
     rekey_same more u_is =
         let q = d.q in
@@ -78,7 +79,7 @@ module _ {K V : Type 0} where
         let es_is : q.l ++ x ∷ q.r ≡ (q.l ++ x ∷ []) ++ (k, n) ∷ w.0 = ap (λ z. q.l ++ x ∷ z) w.1 ∙ sym (append_assoc q.l (x ∷ []) ((k, n) ∷ w.0)) in
         renamed t path indices up size rows a x ((k, n) ∷ b) d u (q.l ++ x ∷ []) (k, n) w.0 (get_or indices up 0) key (x ∷ (key, n) ∷ b) es_is (omega (arith, length-append q.l (x ∷ []), q.entry_is)) u_is (simp append_assoc (ap (λ z. q.l ++ x ∷ (key, n) ∷ z) (sym w.2)))
 
-    -- or under the next, whose key was renewed above
+    -- updating the neighbour's key where it is the next parent's, whose key was updated above
     rekey_over : (o : Across d.q.l d.q.r d.q.after (k, n) b) → Rebuilt t u path indices path indices (suc up) size d.q.rest (heads d.q.before ++ (o.z.0, get_or path up 0) ∷ (key, o.q) ∷ heads o.rest) (length (heads d.q.before)) (map sizes d.q.rest) [] → Rebuilt t u path indices path indices up size rows (a ++ x ∷ (key, n) ∷ b) (length a) (map sizes rows) []
     rekey_over o r =
         let q = d.q in
@@ -93,7 +94,7 @@ module _ {K V : Type 0} where
     low : up < size
     low = above_two t path indices up size rows a x (k, n) b (length a) p
 
-    -- the parent of the two
+    -- the parent of the path's node
     pub here : Seen t path indices up size rows a x ((k, n) ∷ b) r
     here = seen t path indices up size rows a x ((k, n) ∷ b) p low r wide height
 
@@ -116,7 +117,7 @@ module _ {K V : Type 0} where
         above_next : Above t path indices (up + 1) size here.d.q.rest (heads here.d.q.before ++ (o.z.0, get_or path up 0) ∷ (k, o.q) ∷ heads o.rest) (length (heads here.d.q.before))
         above_next = rw add-one (across_above t path indices up size rows a x (k, n) b here.d o)
 
-        -- it has another: what the call one level up asks
+        -- the rows above meet what the call one level up requires, where the neighbour has another parent
         pub above_asks : TwoAbove t path indices (up + 1) size
         above_asks = (here.d.q.rest, heads here.d.q.before, (o.z.0, get_or path up 0), k, o.q, heads o.rest, above_next)
 

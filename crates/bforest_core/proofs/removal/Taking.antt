@@ -1,4 +1,5 @@
--- The entry where a path stands, taken out of its leaf, which has others: the answers of `remove`, `remove_only` and `take_entry` are these.
+-- Removing the entry where a path stands from its leaf, which has others: the answers of `remove`,
+-- `remove_only` and `take_entry`.
 use Rattle.std.proofs.Common.{◌≡◌, ℕ, suc, ◌+◌, ◌≤◌, ◌<◌, Some, Option, List, [], ◌∷◌, ◌++◌, map, length, get_or, slice_get, refl, sym, ap, ◌∙◌, subst, append_assoc, length-append, arith, ◌≢◌}
 use Rattle.bforest_core.proofs.Words.{map-append, flat_map, remove, length-map, Content, Leaf, without_entry, Table, LevelNode, node, flat, heads, sizes, numbers, FitRow, Solid, Stacked, Tree, half_of, RowIn, leaf_content, entry_keys, count, Distinct, numbers_of, Above, Rebuilt, StandsIn, LeafLoss}
 use Rattle.bforest_core.proofs.Words.{nil_from_length, get_or_default, entry_count, IsUsed, with_node, head_of, entry_items}
@@ -14,7 +15,7 @@ use Rattle.bforest_core.proofs.removal.Lifted.{above_written, rebuilt_same}
 remove_map : {X Y : Type 0} (f : X → Y) (l r : List X) (x : X) → remove (map f (l ++ x ∷ r)) (length l) ≡ map f (l ++ r)
 remove_map f l r x = ap (λ z. remove z (length l)) (map-append f l (x ∷ r)) ∙ remove_at (map f l) (f x) (map f r) (length l) (length-map l f) ∙ sym (map-append f l r)
 
--- an entry out of a node
+-- removing an entry of a node removes it from the list of the row
 pub remove_flat : {K V : Type 0} (before : List (LevelNode K V)) (n : ℕ) (l : List (K × V)) (x : K × V) (r : List (K × V)) (after : List (LevelNode K V)) →
     remove (flat (before ++ node n (l ++ x ∷ r) ∷ after)) (length (flat before) + length l) ≡ flat (before ++ node n (l ++ r) ∷ after)
 remove_flat before n l x r after =
@@ -23,27 +24,27 @@ remove_flat before n l x r after =
     ap (λ z. remove z (length (flat before) + length l)) whole ∙ ap (λ z. remove ((flat before ++ l) ++ x ∷ (r ++ flat after)) z) (sym (length-append (flat before) l)) ∙ remove_at (flat before ++ l) x (r ++ flat after) (length (flat before ++ l)) refl
     ∙ append_assoc (flat before) l _ ∙ ap (λ z. flat before ++ z) (sym (append_assoc l r (flat after))) ∙ sym (flat-append before (node n (l ++ r) ∷ after))
 
--- the keys of a leaf are as many as its entries
+-- a leaf has as many keys as entries
 pub leaf_keys : {K V : Type 0} (es : List (K × V)) → length (entry_keys es) ≡ length es
 leaf_keys es = length-map es (λ w. w.0)
 
--- a slot holds as many entries as it does
+-- two lists of entries in the same slot are equally long
 pub leaf_count : {K V : Type 0} (es fs : List (K × V)) (c : Option (Content K V)) → c ≡ Some (leaf_content es) → c ≡ Some (leaf_content fs) → length es ≡ length fs
 leaf_count es fs c e f = let same : entry_keys es ≡ entry_keys fs = cc in sym (leaf_keys es) ∙ ap length same ∙ leaf_keys fs
 
--- a row that is not seen from above has no nodes
+-- a row without heads has no nodes
 pub no_nodes : {K X : Type 0} (half most : ℕ) → 1 ≤ half → (row : List (LevelNode K X)) → FitRow half most row → heads row ≡ [] → row ≡ []
 no_nodes half most one [] f e = refl
 no_nodes half most one (node n [] ∷ row) f e = absurd (omega (arith, f.0, least-pos half one row))
 no_nodes half most one (node n (x ∷ es) ∷ row) f e = absurd cc
 
--- a list that is not empty
+-- a nonempty list has a first element
 pub some_first : {A : Type 0} (es : List A) → 0 < length es → (y : A) × (others : List A) × (es ≡ y ∷ others)
 some_first [] low = absurd (omega (arith, low))
 some_first (y ∷ es) low = (y, es, refl)
 
 module _ {K V : Type 0} where
-  -- an entry out of a leaf
+  -- removing an entry from a leaf
   pub without_entry_is : (l : List (K × V)) (x : K × V) (r : List (K × V)) (e : ℕ) → length l ≡ e → without_entry (leaf_content (l ++ x ∷ r)) e ≡ leaf_content (l ++ r)
   without_entry_is l x r e is =
       ap (λ z. without_entry (leaf_content (l ++ x ∷ r)) z) (sym is)
@@ -71,7 +72,7 @@ module _ {K V : Type 0} where
     pub none_rows : count (get_or path 0 0) (flat_map numbers tree.above) ≡ 0
     pub none_chain : count (get_or path 0 0) t.chain ≡ 0
 
-  -- a path that stands in a tree finds this
+  -- a tree in which a path stands can be cut at the path's entry
   pub leaf_at : (most : ℕ) (t : Table K V) (path indices : List ℕ) (size : ℕ) (tree : Tree K V) (place : ℕ) → StandsIn most t path indices size tree place → LeafAt most t path indices size tree place
   leaf_at most t path indices size tree place s =
       let at = s.stands.leaf in
@@ -171,7 +172,7 @@ module _ {K V : Type 0} where
     slot : slice_get t.nodes (get_or path 0 r) ≡ Some (leaf_content es)
     slot = ap (λ z. slice_get t.nodes z) num_is ∙ d.slot_is
 
-    -- what counting the leaf's entries asks
+    -- the leaf meets what counting its entries requires
     pub counted_asks : NodeAt t (get_or path 0 r)
     counted_asks = (leaf_content es, slot, λ free. free)
 
@@ -188,18 +189,18 @@ module _ {K V : Type 0} where
           let h = first in
           (h.0, d.slot_is ∙ ap (λ z. Some (leaf_content z)) (h.2 ∙ ap (λ z. h.0 ∷ z) (nil_from_length h.1 (omega (arith, count_is, one, ap length h.2)))))
 
-      -- or it has one
+      -- the leaf has another entry
       pub others : m ≢ 1 → (x y : K × V) × (rest : List (K × V)) × (slice_get t.nodes (get_or path 0 0) ≡ Some (leaf_content (x ∷ y ∷ rest)))
       others more =
           let h = first in
           let k = some_first h.1 (omega (arith, more, count_is, ap length h.2)) in
           (h.0, k.0, k.1, d.slot_is ∙ ap (λ z. Some (leaf_content z)) (h.2 ∙ ap (λ z. h.0 ∷ z) k.2))
 
-      -- as many as are left, and one
+      -- the leaf had one entry more than it has after the removal
       pub left_is : (u : Table K V) (l : LeafLoss most t u path indices size tree place) → m ≡ suc (length l.entries)
       left_is u l = count_is ∙ l.leaf_was es d.slot_is
 
-    -- what taking the entry out asks
+    -- the leaf meets what removing the entry requires
     pub out_asks : IsUsed t (get_or path 0 r) × LeafKeyAt t (get_or path 0 r) (get_or indices 0 0)
     out_asks = (
       subst (λ (z : ℕ). IsUsed t z) (sym num_is) (is_used t (get_or path 0 0) (leaf_content es) d.slot_is d.none_chain),
@@ -216,13 +217,13 @@ module _ {K V : Type 0} where
           let done = takes (entry_keys es) (entry_items es) slot in
           puts t u (get_or path 0 0) (leaf_content (d.l ++ d.r)) (leaf_content es) d.slot_is ((rw num_is at done) ∙ ap (λ z. with_node t (get_or path 0 0) z) (without_entry_is d.l d.x d.r (get_or indices 0 0) d.index_is))
 
-      -- the rows above, which name the leaf by the key that it had
+      -- the rows above, which name the leaf by its old first key
       above_then : (k : K) → ((rs : List (K × V)) → head_of (get_or path 0 0) (d.l ++ d.x ∷ rs) ≡ (k, get_or path 0 0) ∷ []) → Above u path indices 1 size tree.above (heads d.before ++ (k, get_or path 0 0) ∷ heads d.after) (length (heads d.before))
       above_then k head_is =
           subst (λ (z : List (K × ℕ)). Above u path indices 1 size tree.above z (length (heads d.before))) (heads-append d.before (node (get_or path 0 0) es ∷ d.after) ∙ ap (λ z. heads d.before ++ (z ++ heads d.after)) (head_is d.r))
           (above_written t u (get_or path 0 0) (leaf_content (d.l ++ d.r)) path indices 1 size tree.above _ (length (heads d.before)) w d.none_rows d.above)
 
-      -- an entry behind the first went
+      -- an entry that is not the first was removed
       pub behind : 0 < get_or indices 0 0 → LeafLoss most t u path indices size tree place
       behind high =
           let n = get_or path 0 0 in
@@ -233,7 +234,7 @@ module _ {K V : Type 0} where
           leaf_loss most t u u path indices size tree place d more w (rebuilt_same u path indices 1 size tree.above _ (length (heads d.before)) b)
 
       module _ (first : get_or indices 0 0 ≤ 0) where
-        -- the entry after it
+        -- the entry after the removed one
         next : (y : K × V) × (others : List (K × V)) × (d.l ++ d.r ≡ y ∷ others)
         next = some_first (d.l ++ d.r) more
 
@@ -245,15 +246,15 @@ module _ {K V : Type 0} where
         slot_then : slice_get u.nodes (get_or path 0 r) ≡ Some (leaf_content (next.0 ∷ next.1))
         slot_then = ap (λ z. slice_get u.nodes z) num_is ∙ w.here ∙ ap (λ z. Some (leaf_content z)) next.2
 
-        -- what reading the key of the next asks
+        -- the leaf meets what reading its new first key requires
         pub first_asks : LeafKeyAt u (get_or path 0 r) 0
         first_asks = (entry_keys (next.0 ∷ next.1), entry_items (next.0 ∷ next.1), slot_then, omega (arith, leaf_keys (next.0 ∷ next.1)))
 
-        -- and giving it to the rows above
+        -- the rows above meet what writing the new first key requires
         pub above_asks : (rows : List (List (LevelNode K ℕ))) × (before : List (K × ℕ)) × (k : K) × (n : ℕ) × (after : List (K × ℕ)) × Above u path indices 1 size rows (before ++ (k, n) ∷ after) (length before)
         above_asks = (tree.above, heads d.before, d.x.0, get_or path 0 0, heads d.after, above)
 
-        -- the first went
+        -- the first entry of the leaf was removed
         pub ahead : (v : Table K V) (key : K) → ((keys : List K) (vals : List V) → slice_get u.nodes (get_or path 0 r) ≡ Some (Leaf keys vals) → slice_get keys 0 ≡ Some key) →
             ((rows : List (List (LevelNode K ℕ))) (before : List (K × ℕ)) (k : K) (n : ℕ) (after : List (K × ℕ)) → Above u path indices 1 size rows (before ++ (k, n) ∷ after) (length before) →
             Rebuilt u v path indices path indices 1 size rows (before ++ (key, n) ∷ after) (length before) (map sizes rows) []) →

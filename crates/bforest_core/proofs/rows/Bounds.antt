@@ -4,26 +4,26 @@ use Rattle.bforest_core.proofs.Words.{cases_lt, length-map, LevelNode, node, fla
 use Rattle.std.proofs.Math.Nat.{mul-le-mul_left, pow-succ'}
 use Rattle.bforest_core.proofs.walks.Steps.{fit_full}
 
--- a row has more entries than its nodes but the last would have at half
+-- a row has more entries than half full nodes, one fewer than its nodes, would have
 pub entries-many : {K X : Type 0} (half most : ℕ) → 1 ≤ half → (m : ℕ) (es : List (K × X)) (ns : List (LevelNode K X)) → FitRow half most (node m es ∷ ns) → half * length ns < length (flat (node m es ∷ ns))
 entries-many {K} {X} half most one m es [] f = let z : half * 0 ≡ 0 = omega arith in omega (arith, f.0, z, length-append es (flat {K = K} {X = X} []))
 entries-many half most one m es (node n fs ∷ ns) f =
     omega (arith, entries-many half most one n fs ns f.2, f.0, length-append es (fs ++ flat ns))
 
--- the leaves are at most as many as half full ones would be, rounded up
+-- a row has at most as many nodes as half full ones would be, rounded up
 pub leaves-few : {K V : Type 0} (half most : ℕ) (leaves : List (LevelNode K V)) → 1 ≤ half → FitRow half most leaves → half * length leaves ≤ length (flat leaves) + (half - 1)
 leaves-few half most [] one f = let z : half * 0 ≡ 0 = omega arith in omega (arith, z)
 leaves-few half most (node m es ∷ ns) one f =
     omega (arith, entries-many half most one m es ns f)
 
--- the levels above a level with more than one node
+-- a level with `n` levels above it, `n` not 0, has more than `4 ^ (n - 1)` nodes
 pub levels-few : {K : Type 0} (hs : List (K × ℕ)) (row : List (LevelNode K ℕ)) (rows : List (List (LevelNode K ℕ))) → Stacked hs (row ∷ rows) → Topped hs (row ∷ rows) → 4 ^ length rows < length hs
 levels-few hs row [] s t = omega (arith, t.0)
 levels-few hs [] (row2 ∷ rows) s t = let r = levels-few [] row2 rows s.2 t.1 in absurd (omega (arith, r))
 levels-few hs (node m es ∷ ns) (row2 ∷ rows) s t =
     omega (arith, levels-few (heads (node m es ∷ ns)) row2 rows s.2 t.1, entries-many 4 8 (omega arith) m es ns s.1, fit_full 4 8 (omega arith) (node m es ∷ ns) s.1, pow-succ' 4 (length rows), ap length s.0)
 
--- a tree with inner levels has more entries than this
+-- a lower bound on the entries of a tree with inner levels
 pub depth : {K V : Type 0} (half most : ℕ) → 1 ≤ half → (leaves : List (LevelNode K V)) (above : List (List (LevelNode K ℕ))) → FitRow half most leaves → Stacked (heads leaves) above → Topped (heads leaves) above → 1 ≤ length above → half * 4 ^ (length above - 1) < length (flat leaves)
 depth half most one leaves [] f s t two = absurd (omega arith)
 depth half most one [] (row ∷ rows) f s t two = absurd (omega (arith, t.0))
@@ -32,33 +32,33 @@ depth half most one (node m es ∷ ns) (row ∷ rows) f s t two =
     let p : half * 4 ^ length rows ≤ half * length ns = mul-le-mul_left half (omega (arith, levels-few (heads (node m es ∷ ns)) row rows s t, fit_full half most one (node m es ∷ ns) f)) in
     rw e (omega (arith, p, entries-many half most one m es ns f))
 
--- one level more, at most
+-- an insertion adds at most one level
 pub gain-most : (k : Option ℕ) (levels : List (List ℕ)) → length (gain_above k levels) ≤ suc (length levels)
 gain-most None levels = omega arith
 gain-most (Some p) [] = omega arith
 gain-most (Some p) (level ∷ levels) = omega (arith, gain-most (inner_gain p level).0 levels)
 
--- and that only where the top level became two
+-- an insertion adds a level only where the top level splits
 some_grew : (k : Option ℕ) (levels : List (List ℕ)) → length (gain_above k levels) ≡ suc (length levels) → (q : ℕ) × (k ≡ Some q)
 some_grew None levels e = absurd (omega (arith, e))
 some_grew (Some q) levels e = (q, refl)
 
--- a number below another, as the sizes ask it
+-- `nat_lt` of a lesser number is true
 pub below_lt : (a b : ℕ) → a < b → nat_lt a b ≡ true
 below_lt a b h = grind arith
 
--- one not below it
+-- `nat_lt` of a number that is not less is false
 pub above_lt : (a b : ℕ) → b ≤ a → nat_lt a b ≡ false
 above_lt a b h = grind arith
 
--- the same of a number that is at most another
+-- `nat_le` of a number that is at most another is true
 pub upto_le : (a b : ℕ) → a ≤ b → nat_le a b ≡ true
 upto_le a b h = grind arith
 
 pub past_le : (a b : ℕ) → b < a → nat_le a b ≡ false
 past_le a b h = grind arith
 
--- a node with room stays one
+-- an only node with room does not split
 none_small : (p s : ℕ) → s < 8 → (inner_gain p (s ∷ [])).0 ≡ None
 none_small p s room =
     let b = below_lt s 8 room in
@@ -72,7 +72,7 @@ root_full {K} p q (node m es ∷ []) one f e =
 root_full p q (node m es ∷ n ∷ ns) one f e =
     absurd (omega (arith, one, fit_full 4 8 (omega arith) (node m es ∷ n ∷ ns) f))
 
--- a tree that gets a new root is wide
+-- a tree that gets a new root has many nodes
 risen : {K : Type 0} (p : ℕ) (hs : List (K × ℕ)) (row : List (LevelNode K ℕ)) (rows : List (List (LevelNode K ℕ))) → Stacked hs (row ∷ rows) → Topped hs (row ∷ rows) → length (gain_above (Some p) (map sizes (row ∷ rows))) ≡ suc (suc (length rows)) → 7 * 4 ^ length rows < length hs
 risen p hs row [] s t e =
     let g = some_grew (inner_gain p (sizes row)).0 [] (omega (arith, e)) in
@@ -87,7 +87,7 @@ risen p hs row (row2 ∷ rows) s t e =
     wide [] f some = absurd (omega (arith, some))
     wide (node m es ∷ ns) f some = omega (arith, entries-many 4 8 (omega arith) m es ns f, fit_full 4 8 (omega arith) (node m es ∷ ns) f)
 
--- an insertion leaves a tree of as many levels as a path has room for
+-- an insertion leaves at most as many levels as a path has room for
 pub climb-seventeen : {K : Type 0} (p : ℕ) (hs : List (K × ℕ)) (rows : List (List (LevelNode K ℕ))) → Stacked hs rows → Topped hs rows → length hs < 2 ^ 32 → length rows ≤ 16 → length (gain_above (Some p) (map sizes rows)) ≤ 16
 climb-seventeen p hs [] s t few low = omega arith
 climb-seventeen p hs (row ∷ rows) s t few low =

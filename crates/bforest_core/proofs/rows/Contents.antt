@@ -1,9 +1,9 @@
--- What an inner node holds after a child was taken out.
+-- What an inner node holds after the removal of a child.
 use Rattle.std.proofs.Common.{◌≡◌, ℕ, zero, suc, ◌-◌, ◌≤◌, List, [], ◌∷◌, ◌++◌, length, drop, set, slice_get, Some, refl, sym, ap, ◌∙◌, inl, inr, append_assoc, length-append, arith}
 use Rattle.bforest_core.proofs.Words.{remove, append-nil, length-map, map-append, set_at, eqb_tells, Inner, without_child, inner_content, entry_keys, entry_items}
 use Rattle.bforest_core.proofs.table.Stored.{slice_get_at, some_same}
 
--- an item taken out between two lists
+-- removing the element between two lists
 pub remove_at : {A : Type 0} → (p : List A) (y : A) (ys : List A) (n : ℕ) → length p ≡ n → remove (p ++ y ∷ ys) n ≡ p ++ ys
 remove_at [] y ys zero e = refl
 remove_at [] y ys (suc n) e = absurd (omega (arith, e))
@@ -11,11 +11,11 @@ remove_at (z ∷ p) y ys zero e = absurd (omega (arith, e))
 remove_at (z ∷ p) y ys (suc n) e = ap (λ w. z ∷ w) (remove_at p y ys n (omega (arith, e)))
 
 module _ {K : Type 0} (V : Type 0) where
-  -- of two children or more one goes with the key before it
+  -- removing one of two children or more removes the key before it
   pub without_some : (ks : List K) (cs : List ℕ) (index : ℕ) → 2 ≤ length cs → without_child {V = V} (Inner ks cs) index ≡ Inner (remove ks (index - 1)) (remove cs index)
   without_some ks cs index two = elim (eqb_tells (length cs) 1) [ inl w ↦ absurd (let e = w.1 in omega (arith, e, two)) | inr w ↦ (let e = w.0 in rw e refl) ]
 
-  -- a child that another follows, whose key becomes that one's
+  -- removing a child that another follows, with the removed child's key passed to the next
   pub removed_same : (l : List (K × ℕ)) (x y : K × ℕ) (r : List (K × ℕ)) (key : K) (e : ℕ) → length l ≡ e → slice_get (drop 1 (entry_keys (l ++ x ∷ y ∷ r))) (e - 1) ≡ Some key →
       without_child {V = V} (Inner (set (drop 1 (entry_keys (l ++ x ∷ y ∷ r))) e key) (entry_items (l ++ x ∷ y ∷ r))) e ≡ inner_content (l ++ (x.0, y.1) ∷ r)
   removed_same [] x y r key zero e k = without_some (key ∷ entry_keys r) (x.1 ∷ y.1 ∷ entry_items r) 0 (omega arith)
@@ -34,7 +34,7 @@ module _ {K : Type 0} (V : Type 0) where
       without_some (set (entry_keys (l ++ x ∷ y ∷ r)) (suc n) key) (entry_items ((z ∷ l) ++ x ∷ y ∷ r)) (suc n) two
       ∙ rw (written, less, map-append (λ (w : K × ℕ). w.1) l (x ∷ y ∷ r), remove_at (entry_keys l) x.0 (x.0 ∷ entry_keys r) n kl, remove_at (entry_items l) x.1 (y.1 ∷ entry_items r) n il, map-append (λ (w : K × ℕ). w.0) l ((x.0, y.1) ∷ r), map-append (λ (w : K × ℕ). w.1) l ((x.0, y.1) ∷ r)) refl
 
-  -- the last child
+  -- removing the last child
   pub removed_last : (z : K × ℕ) (l : List (K × ℕ)) (x : K × ℕ) (e : ℕ) → suc (length l) ≡ e → without_child {V = V} (inner_content ((z ∷ l) ++ x ∷ [])) e ≡ inner_content (z ∷ l)
   removed_last z l x zero e = absurd (omega (arith, e))
   removed_last z l x (suc n) e =

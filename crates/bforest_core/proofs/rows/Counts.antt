@@ -1,26 +1,26 @@
--- Counting numbers: lists in which each number stands as often, and what the slots of a table name.
+-- Counting numbers: lists with the same counts, and the numbers that the slots of a table name.
 use Rattle.std.proofs.Common.{◌≡◌, ℕ, zero, suc, ◌+◌, ◌≤◌, ◌<◌, ◌↔◌, IsTrue, nat_eq, nat_lt, if◌then◌else◌, true, false, List, [], ◌∷◌, ◌++◌, length, take, drop, slice_get, Some, None, refl, sym, ap, ◌∙◌, inl, inr, length-append, arith}
 use Rattle.bforest_core.proofs.Words.{flat_map, list_any, sum_by, sum_by-cons, sum_by-append, take_all, flat_map-append, cases_lt, eqb_tells, slice_get-get_or, Content, Free, children_of, count, slot}
 use Rattle.bforest_nodes.proofs.Seams.{around, last_taken}
 use Rattle.bforest_core.proofs.table.Tables.{count-append, count-same, count-other}
 
--- how often a number stands among those below another
+-- how often a number occurs among those below another
 abbrev pub once_below : ℕ → ℕ → ℕ
 once_below m n = if nat_lt m n then 1 else 0
 
--- the number of a slot counts once
+-- a number below n occurs once
 pub below-one : (m n : ℕ) → m < n → once_below m n ≡ 1
 below-one m n low = let e : nat_lt m n ≡ true = grind arith in rw e refl
 
--- every other not at all
+-- a number from n on does not occur
 pub past-none : (m n : ℕ) → n ≤ m → once_below m n ≡ 0
 past-none m n past = let e : nat_lt m n ≡ false = grind arith in rw e refl
 
--- so none counts twice
+-- no number occurs twice
 pub at-most-one : (m n : ℕ) → once_below m n ≤ 1
 at-most-one m n = elim (cases_lt m n) [ inl low ↦ omega (arith, below-one m n low) | inr past ↦ omega (arith, past-none m n past) ]
 
--- a number that counts, with what stands before and after it
+-- a list is cut at a number that occurs in it
 pub standing : (n : ℕ) (ms : List ℕ) → 0 < count n ms → (p : List ℕ) × (q : List ℕ) × (ms ≡ p ++ n ∷ q)
 standing n [] some = absurd (omega (arith, some))
 standing n (m ∷ ms) some =
@@ -29,7 +29,7 @@ standing n (m ∷ ms) some =
       | inr w ↦ (let r = standing n ms (omega (arith, some, count-other n m ms w.1)) in (m ∷ r.0, r.1, ap (λ z. m ∷ z) r.2))
     ]
 
--- a number counts exactly if a search finds it
+-- a number occurs exactly where a search finds it
 pub found-counts : (n : ℕ) (ms : List ℕ) → IsTrue (list_any (λ m. nat_eq m n) ms) ↔ (0 < count n ms)
 found-counts n [] = (λ found. absurd cc, λ some. absurd (omega (arith, some)))
 found-counts n (m ∷ ms) =
@@ -38,7 +38,7 @@ found-counts n (m ∷ ms) =
       | inr w ↦ (let e = w.0 in let r = found-counts n ms in (λ found. omega (arith, count-other n m ms w.1, r.0 (rw e at found)), λ some. rw e (r.1 (omega (arith, count-other n m ms w.1, some)))))
     ]
 
--- lists in which each number stands as often have one sum
+-- lists with the same counts have the same sum
 pub sum-same : (f : ℕ → ℕ) (xs ys : List ℕ) → ((n : ℕ) → count n xs ≡ count n ys) → sum_by f xs ≡ sum_by f ys
 sum-same f [] [] same = refl
 sum-same f [] (y ∷ ys) same = absurd (omega (arith, same y, count-same y ys))
@@ -47,7 +47,7 @@ sum-same f (x ∷ xs) ys same =
     let less : (n : ℕ) → count n xs ≡ count n (s.0 ++ s.1) = λ n. (let a = ap (λ z. count n z) s.2 in omega (arith, same n, a, count-append n s.0 (x ∷ s.1), count-append n s.0 s.1)) in
     omega (arith, sum-same f xs (s.0 ++ s.1) less, ap (λ z. sum_by f z) s.2, sum_by-cons f x xs, sum_by-append f s.0 (x ∷ s.1), sum_by-append f s.0 s.1, sum_by-cons f x s.1)
 
--- how often the numbers of a list name another
+-- how often a number is named by the numbers of a list
 count-named : (f : ℕ → List ℕ) (m : ℕ) (xs : List ℕ) → count m (flat_map f xs) ≡ sum_by (λ (x : ℕ). count m (f x)) xs
 count-named f m [] = refl
 count-named f m (x ∷ xs) = omega (arith, count-append m (f x) (flat_map f xs), count-named f m xs, sum_by-cons (λ (x : ℕ). count m (f x)) x xs)
@@ -55,12 +55,12 @@ count-named f m (x ∷ xs) = omega (arith, count-append m (f x) (flat_map f xs),
 pub named-same : (f : ℕ → List ℕ) (xs ys : List ℕ) → ((n : ℕ) → count n xs ≡ count n ys) → (m : ℕ) → count m (flat_map f xs) ≡ count m (flat_map f ys)
 named-same f xs ys same m = omega (arith, count-named f m xs, count-named f m ys, sum-same (λ (x : ℕ). count m (f x)) xs ys same)
 
--- the numbers below one
+-- the numbers below n
 abbrev pub upto : ℕ → List ℕ
 upto zero = []
 upto (suc n) = upto n ++ n ∷ []
 
--- each counts once
+-- each number below n occurs once
 pub count-upto : (m n : ℕ) → count m (upto n) ≡ once_below m n
 count-upto m zero = sym (past-none m zero (omega arith))
 count-upto m (suc n) =
@@ -74,12 +74,12 @@ count-upto m (suc n) =
       ]
     ]
 
--- so many
+-- there are n numbers below n
 length-upto : (n : ℕ) → length (upto n) ≡ n
 length-upto zero = refl
 length-upto (suc n) = omega (arith, length-append (upto n) (n ∷ []), length-upto n)
 
--- a list is no longer than one in which each number stands as often at least
+-- a list whose counts are at most those of another is not longer
 no-longer : (xs ys : List ℕ) → ((n : ℕ) → count n xs ≤ count n ys) → length xs ≤ length ys
 no-longer [] ys le = omega arith
 no-longer (x ∷ xs) ys le =
@@ -87,7 +87,7 @@ no-longer (x ∷ xs) ys le =
     let less : (n : ℕ) → count n xs ≤ count n (s.0 ++ s.1) = λ n. (let a = ap (λ z. count n z) s.2 in omega (arith, le n, a, count-append n s.0 (x ∷ s.1), count-append n s.0 s.1)) in
     omega (arith, no-longer xs (s.0 ++ s.1) less, ap length s.2, length-append s.0 (x ∷ s.1), length-append s.0 s.1)
 
--- so is a list of numbers below one in which none stands twice
+-- a list of numbers below n, none of which occurs twice, has at most n elements
 pub few-below : (n : ℕ) (xs : List ℕ) → ((m : ℕ) → count m xs ≤ once_below m n) → length xs ≤ n
 few-below n xs once = omega (arith, no-longer xs (upto n) (λ m. omega (arith, once m, count-upto m n)), length-upto n)
 
@@ -96,20 +96,20 @@ module _ {K V : Type 0} where
   abbrev pub named_by : List (Content K V) → List ℕ → List ℕ
   named_by slots ms = flat_map (λ m. children_of (slot slots m)) ms
 
-  -- one slot more names its children too
+  -- the first `k + 1` slots name what the first `k` name, and the children of the next
   pub named-more : (slots : List (Content K V)) (k : ℕ) (content : Content K V) (m : ℕ) → slice_get slots k ≡ Some content → count m (flat_map children_of (take (suc k) slots)) ≡ count m (flat_map children_of (take k slots)) + count m (children_of content)
   named-more slots k content m found =
       let a = ap (λ z. count m (flat_map children_of z)) (last_taken slots k content found) ∙ ap (λ z. count m z) (flat_map-append children_of (take k slots) (content ∷ [])) in
       omega (arith, a, count-append m (flat_map children_of (take k slots)) (children_of content ++ []), count-append m (children_of content) [])
 
-  -- what a slot names, the slots name
+  -- whatever a slot names, the slots name
   pub named-slot : (slots : List (Content K V)) (k : ℕ) (content : Content K V) (m : ℕ) → slice_get slots k ≡ Some content → count m (children_of content) ≤ count m (flat_map children_of slots)
   named-slot slots k content m found =
       let rest = drop (suc k) slots in
       let a = ap (λ z. count m (flat_map children_of z)) (sym (around slots k content found)) ∙ ap (λ z. count m z) (flat_map-append children_of (take k slots) (content ∷ rest)) in
       omega (arith, a, count-append m (flat_map children_of (take k slots)) (children_of content ++ flat_map children_of rest), count-append m (children_of content) (flat_map children_of rest))
 
-  -- the first so many slots name what these numbers name
+  -- the first `n` slots name what the numbers below `n` name
   named-upto : (slots : List (Content K V)) (n : ℕ) → n ≤ length slots → named_by slots (upto n) ≡ flat_map children_of (take n slots)
   named-upto slots zero low = refl
   named-upto slots (suc n) low =
@@ -120,7 +120,7 @@ module _ {K V : Type 0} where
       ∙ sym (flat_map-append children_of (take n slots) (slot slots n ∷ []))
       ∙ ap (λ z. flat_map children_of z) (sym more)
 
-  -- where each slot stands once in a list, the slots of the list name what all slots name
+  -- a list in which each slot occurs once names what all slots name
   pub all-named : (slots : List (Content K V)) (ms : List ℕ) → ((n : ℕ) → count n ms ≡ once_below n (length slots)) → (m : ℕ) → count m (flat_map children_of slots) ≡ count m (named_by slots ms)
   all-named slots ms once m =
       let a = named-same (λ k. children_of (slot slots k)) ms (upto (length slots)) (λ n. once n ∙ sym (count-upto n (length slots))) m in

@@ -10,12 +10,12 @@ use Rattle.bforest_core.proofs.insertion.LeafSpot.{LeafSpot, keys_count, leaf_sp
 use Rattle.bforest_core.proofs.insertion.LeafParted.{full_gain}
 use Rattle.bforest_core.proofs.walks.Steps.{Spot, spot}
 
--- a node that does not say that it is full
+-- a test that answers false disproves its condition
 not_so : {A : Type 0} (full : Bool) → full ≡ false → (IsTrue full ↔ A) → ¬ A
 not_so full none h = λ a. false≢true (sym none ∙ h.1 a)
 
 module _ {K V : Type 0} where
-  -- a full node, and one with room
+  -- the need at a full node, and at one with room
   spot_full : (t : Table K V) (ms js : List ℕ) (up size : ℕ) (rows : List (List (LevelNode K ℕ))) (list : List (K × ℕ)) (p : ℕ) → (f : Spot t.nodes ms js up size rows list p) → length f.entries ≡ 8 → need_above (Some p) (map sizes rows) ≡ suc (need_above (Some (length f.before)) (map sizes f.rest))
   spot_full t ms js up size rows list p f eight =
       rw (f.rows_are, f.row_is, f.place_is, sizes-append f.before (node (get_or ms up 0) f.entries ∷ f.after), gain_full f.before (length f.entries) (get_or js up 0) (sizes f.after) f.within eight) refl
@@ -28,7 +28,7 @@ module _ {K V : Type 0} where
   pub leaf_need_full : (most : ℕ) (t : Table K V) (ms js : List ℕ) (tree : Tree K V) (place : ℕ) → (d : LeafSpot most t ms js tree place) → length (d.l ++ d.r) ≡ most → need_above (leaf_gain most place (sizes tree.leaves)).0 (map sizes tree.above) ≡ need_above (Some (length d.before)) (map sizes tree.above)
   leaf_need_full most t ms js tree place d full = ap (λ z. need_above z.0 (map sizes tree.above)) (full_gain most t ms js tree place d full)
 
-  -- a level above the leaves, and the test of the path's node there
+  -- a level above the leaves, and the test whether the path's node there is full
   module _ (t : Table K V) (ms js : List ℕ) (up size : ℕ) (rows : List (List (LevelNode K ℕ))) (list : List (K × ℕ)) (p : ℕ) (ab : Above t ms js up size rows list p) (other : up ≢ size) (wide : size ≤ length ms) (r : ℕ) where
     abbrev level : Spot t.nodes ms js up size rows list p
     level = spot t.nodes ms js up size rows list p (record { stacked = ab.stacked; inside = ab.inside; stands = ab.stands; height = ab.height }) other
@@ -36,11 +36,11 @@ module _ {K V : Type 0} where
     level_slot : slice_get t.nodes (get_or ms up r) ≡ Some (inner_content level.entries)
     level_slot = ap (λ z. slice_get t.nodes z) (get_or_default ms up r 0 (omega (arith, ab.height, other, wide))) ∙ level.slot_is
 
-    -- reading it
+    -- the slot of the path's node is within the table
     pub level_within : get_or ms up r < length t.nodes
     level_within = slice_get_within t.nodes (get_or ms up r) (inner_content level.entries) level_slot
 
-    -- the level above
+    -- the rows above the level
     pub level_above : (rows : List (List (LevelNode K ℕ))) × (list : List (K × ℕ)) × (at : ℕ) × Above t ms js (up + 1) size rows list at
     level_above =
         let above : Above t ms js (suc up) size level.rest (heads level.row) (length level.before) = record { stacked = level.over.stacked; inside = level.over.inside; stands = level.over.stands; height = level.over.height; apart = λ m. omega (arith, ab.apart m, ap (λ z. count m (flat_map numbers z ++ t.chain)) level.rows_are, count-append m (numbers level.row ++ flat_map numbers level.rest) t.chain, count-append m (numbers level.row) (flat_map numbers level.rest), count-append m (flat_map numbers level.rest) t.chain) } in
@@ -64,12 +64,12 @@ module _ {K V : Type 0} where
         pub level_room : full ≡ false → 1 ≡ need_above (Some p) (map sizes rows)
         level_room none = sym (spot_room t ms js up size rows list p level (omega (arith, not_so full none tells, level.most_is)))
 
-  -- the leaf, and its test
+  -- the leaf, and the test whether it is full
   module _ (most : ℕ) (t : Table K V) (ms js : List ℕ) (size : ℕ) (tree : Tree K V) (place : ℕ) (p : Placed most t ms js size tree place) where
     abbrev leaf : LeafSpot most t ms js tree place
     leaf = leaf_spot most t ms js size tree place p
 
-    -- the level above
+    -- the rows above the leaf
     pub leaf_above : (rows : List (List (LevelNode K ℕ))) × (list : List (K × ℕ)) × (at : ℕ) × Above t ms js 1 size rows list at
     leaf_above =
         let row : List (LevelNode K V) = leaf.before ++ node (get_or ms 0 0) (leaf.l ++ leaf.r) ∷ leaf.after in
@@ -79,7 +79,7 @@ module _ {K V : Type 0} where
       leaf_slot : slice_get t.nodes (get_or ms 0 r) ≡ Some (leaf_content (leaf.l ++ leaf.r))
       leaf_slot = ap (λ z. slice_get t.nodes z) (get_or_default ms 0 r 0 wide) ∙ leaf.slot_is
 
-      -- reading it
+      -- the slot of the leaf is within the table
       pub leaf_within : get_or ms 0 r < length t.nodes
       leaf_within = slice_get_within t.nodes (get_or ms 0 r) (leaf_content (leaf.l ++ leaf.r)) leaf_slot
 

@@ -4,7 +4,7 @@ use Rattle.bforest_core.proofs.Words.{flat_map, Table, LevelNode, node, flat, he
 use Rattle.bforest_core.proofs.rows.LevelRows.{flat-append, FitRow-split, Solid-full}
 use Rattle.bforest_core.proofs.table.Tables.{count-append, count-same, count-row, row-split}
 
--- two ways to cut one list at one place
+-- two ways to cut one list at one place are the same
 pub cut_same : {A : Type 0} (p q : List A) (x y : A) (s t : List A) → p ++ x ∷ s ≡ q ++ y ∷ t → length p ≡ length q → (p ≡ q) × (x ≡ y) × (s ≡ t)
 cut_same [] [] x y s t e h = (refl, cc, cc)
 cut_same [] (z ∷ q) x y s t e h = absurd (omega (arith, h))
@@ -14,7 +14,7 @@ cut_same (z ∷ p) (w ∷ q) x y s t e h =
     let r = cut_same p q x y s t (let g : p ++ x ∷ s ≡ q ++ y ∷ t = cc in g) (omega (arith, h)) in
     ((let k = r.0 in cc), r.1, r.2)
 
--- a list cut at a place within it
+-- a list, cut at a place within it
 pub record Cut {A : Type 0} (es : List A) (j : ℕ) : Type 0 where
   pub l : List A
   pub x : A
@@ -46,7 +46,7 @@ abbrev pub Cut_above : {K V : Type 0} → Table K V → List ℕ → List ℕ �
 Cut_above t ms js up size before n l x r after rest =
     Above t ms js up size ((before ++ node n (l ++ x ∷ r) ∷ after) ∷ rest) ((flat before ++ l) ++ x ∷ (r ++ flat after)) (length (flat before ++ l))
 
--- no number of the rows stands twice
+-- the number of the row's node occurs nowhere else in the rows
 pub apart_here : {K X : Type 0} (n : ℕ) (before : List (LevelNode K X)) (es : List (K × X)) (after : List (LevelNode K X)) (ms fs : List ℕ) → Distinct ((numbers (before ++ node n es ∷ after) ++ ms) ++ fs) →
     (count n (numbers before) + count n (numbers after) ≡ 0) × (count n ms ≡ 0) × (count n fs ≡ 0)
 apart_here n before es after ms fs d =
@@ -90,7 +90,7 @@ module _ {K V : Type 0} where
         stands = rw full p.stands.1;
       }
 
-  -- the rows above a level of two nodes or more
+  -- a level of two nodes or more has a row above it
   pub above_two : (t : Table K V) (ms js : List ℕ) (up size : ℕ) (rows : List (List (LevelNode K ℕ))) (a : List (K × ℕ)) (x y : K × ℕ) (b : List (K × ℕ)) (p : ℕ) → Above t ms js up size rows (a ++ x ∷ y ∷ b) p → up < size
   above_two t ms js up size [] a x y b p h = absurd (omega (arith, h.stacked, length-append a (x ∷ y ∷ b)))
   above_two t ms js up size (row ∷ rest) a x y b p h = omega (arith, h.height)
@@ -98,7 +98,7 @@ module _ {K V : Type 0} where
   cut_above : (t : Table K V) (ms js : List ℕ) (up size : ℕ) (rows : List (List (LevelNode K ℕ))) (a : List (K × ℕ)) (x : K × ℕ) (b : List (K × ℕ)) → Above t ms js up size rows (a ++ x ∷ b) (length a) → (q : Parent ms js up rows a x b) → Cut_above t ms js up size q.before (get_or ms up 0) q.l x q.r q.after q.rest
   cut_above t ms js up size rows a x b p q = rw (q.rows_are, q.a_is, q.b_is) at p
 
-  -- what is known there
+  -- what holds of the rows cut at the path's node
   pub record Facts (t : Table K V) (ms js : List ℕ) (up size : ℕ) (before : List (LevelNode K ℕ)) (n : ℕ) (l : List (K × ℕ)) (x : K × ℕ) (r : List (K × ℕ)) (after : List (LevelNode K ℕ)) (rest : List (List (LevelNode K ℕ))) : Type 0 where
     pub slot_is : slice_get t.nodes n ≡ Some (inner_content (l ++ x ∷ r))
     pub solid : Solid 4 8 before
@@ -123,7 +123,7 @@ module _ {K V : Type 0} where
         none_chain = d.2;
       }
 
-  -- what a call finds on a level of the path
+  -- the path's level as a call finds it: the parent, the rows cut there, and what holds of them
   pub record Spot (t : Table K V) (ms js : List ℕ) (up size : ℕ) (rows : List (List (LevelNode K ℕ))) (a : List (K × ℕ)) (x : K × ℕ) (b : List (K × ℕ)) : Type 0 where
     pub q : Parent ms js up rows a x b
     pub whole : Cut_above t ms js up size q.before (get_or ms up 0) q.l x q.r q.after q.rest
@@ -138,7 +138,7 @@ module _ {K V : Type 0} where
       let f = facts t ms js up size q.before (get_or ms up 0) q.l x q.r q.after q.rest w in
       record { q = q; whole = w; f = f; count_is = omega (arith, length-append q.l (x ∷ q.r), q.entry_is); most_is = f.fit.1 }
 
--- a path that is the same from a level on stands where it stood
+-- two paths that agree from a level up stand at the same place there
 pub stands-same : {K : Type 0} (ms js ms' js' : List ℕ) (up : ℕ) (rows : List (List (LevelNode K ℕ))) (p : ℕ) → ((i : ℕ) → up ≤ i → get_or ms' i 0 ≡ get_or ms i 0) → ((i : ℕ) → up ≤ i → get_or js' i 0 ≡ get_or js i 0) → StandsAbove ms js up rows p → StandsAbove ms' js' up rows p
 stands-same ms js ms' js' up [] p f g s = s
 stands-same ms js ms' js' up (row ∷ rows) p f g s =

@@ -1,50 +1,50 @@
--- Taking a free node, and making sure that there are some, over plain values.
+-- Taking a free node and reserving nodes, over plain values.
 use Rattle.std.proofs.Common.{◌≡◌, ◌↔◌, ℕ, ◌-◌, ◌≤◌, ◌<◌, List, length, length-set, append-nil, Some, Result, Err, IsErrAnd, sym, ap, ◌∙◌, arith, ◌+◌, refl}
 use Rattle.bforest_core.proofs.Words.{err_from_is_err_and, Content, Table, IsUsed, NeedsGrowth, room, reserved, front_of, with_node, with_front, without_front, free_count, length-append, down_from, slot_count}
 use Rattle.bforest_core.proofs.table.Pools.{with_front-is}
 use Rattle.bforest_core.proofs.table.Chains.{length-down_from}
 
--- what the exit of a `?` returns
+-- a result that is an error equal to `y` is `Err y`
 pub err_is : {T E : Type 0} (r : Result T E) (y : E) → IsErrAnd r (λ e. e ≡ y) → r ≡ Err y
 err_is r y h = let e = err_from_is_err_and r h in e.1 ∙ ap Err e.2
 
--- an error that a call hands on is one exactly if the one that it was handed is
+-- an error that a call passes on is a given one exactly if the received one is
 pub err_iff : {A B E : Type 0} (r : Result A E) (e f : E) → r ≡ Err e → (r ≡ Err f) ↔ (◌≡◌ {A = Result B E} (Err e) (Err f))
 err_iff r e f is = (λ same. (let s : e ≡ f = cc in ap Err s), λ same. (let s : e ≡ f = cc in is ∙ ap Err s))
 
 module _ {K V : Type 0} where
-  -- the front of the chain was taken and written
+  -- writing the node taken from the front of the chain
   pub taken_is : (t u : Table K V) (node : ℕ) (c d : Content K V) → front_of t.chain ≡ Some node → u ≡ without_front t t.chain → c ≡ d → with_node u node c ≡ with_front t t.chain d
   taken_is t u node c d front u_is c_is = ap (λ z. with_node z node c) u_is ∙ ap (λ z. with_node (without_front t t.chain) node z) c_is ∙ sym (with_front-is t t.chain node d front)
 
-  -- a used node that was written is used
+  -- a used node stays used when it is written
   pub used_written : (t : Table K V) (node : ℕ) (c : Content K V) → IsUsed t node → IsUsed (with_node t node c) node
   used_written t node c used = record { within = (let w = used.within in omega (arith, length-set t.nodes node c)); off_chain = used.off_chain }
 
-  -- so many lie free after a reservation
+  -- the number of free nodes after a reservation
   pub reserved-free : (table : Table K V) (n : ℕ) → length (reserved table n).chain ≡ (n - free_count table) + free_count table
   reserved-free table n = omega (arith, length-append (down_from (slot_count table) (n - free_count table)) table.chain, length-down_from (slot_count table) (n - free_count table))
 
-  -- where so many lay free already, nothing changed
+  -- a reservation changes nothing where enough nodes are free
   pub reserved-enough : (table : Table K V) (n : ℕ) → n ≤ free_count table → reserved table n ≡ table
   reserved-enough table n enough =
       let none : n - free_count table ≡ 0 = omega (arith, enough) in
       rw none (ap (λ z. record table { nodes = z }) (append-nil table.nodes))
 
   module _ (t : Table K V) (nodes : List (Content K V)) (chain : List ℕ) (free limit len n : ℕ) (view : record { nodes = nodes; chain = chain; limit = limit } ≡ t) (counted : length chain ≡ free) (len_is : len ≡ length nodes) where
-    -- what the fields of a pool say of its table
+    -- the fields of a pool as fields of its table
     fields_are : (length t.chain ≡ free) × (t.limit ≡ limit) × (length t.nodes ≡ len)
     fields_are = rw (← view) (counted, refl, sym len_is)
 
-    -- enough lie free
+    -- with enough free nodes there is room
     pub has_room : n ≤ free → room t < n → ⊥
     has_room enough short = omega (arith, fields_are.0)
 
-    -- too few slots are allowed
+    -- with too few free and allowed slots there is no room
     pub lacks_room : free < n → limit - len < n - free → room t < n
     lacks_room scarce more = omega (arith, fields_are.0, fields_are.1, fields_are.2)
 
-    -- enough are
+    -- with enough allowed slots there is room
     pub finds_room : n - free ≤ limit - len → room t < n → ⊥
     finds_room allowed short = omega (arith, fields_are.0, fields_are.1, fields_are.2)
 
@@ -57,6 +57,6 @@ module _ {K V : Type 0} where
     pub stays_reserved : n ≤ free → t ≡ reserved t n
     stays_reserved enough = sym (reserved-enough t n (omega (arith, fields_are.0, enough)))
 
-  -- so few slots can be numbered
+  -- a table within a limit of 32 bits has at most 4294967295 slots
   pub few_slots : (t : Table K V) (nodes : List (Content K V)) (chain : List ℕ) (limit : ℕ) → record { nodes = nodes; chain = chain; limit = limit } ≡ t → length nodes ≤ limit → limit ≤ 4294967295 → length t.nodes ≤ 4294967295
   few_slots t nodes chain limit view within most = let e = ap (λ z. length z.nodes) view in omega arith

@@ -1,4 +1,4 @@
--- What a `NodePool` keeps of its slots: how each change of them keeps it.
+-- The invariant that a `NodePool` keeps of its slots, and how each change keeps it.
 use Rattle.std.proofs.Common.{◌≡◌, ℕ, ◌+◌, ◌-◌, ◌<◌, ◌≤◌, zero, suc, false, List, [], ◌∷◌, ◌++◌, length, set, slice_get, nat_eq, Some, None, Option, refl, ap, ◌∙◌, arith, length-set, sym}
 use Rattle.bforest_core.proofs.Words.{list_any, IsDistinct, IsSome, length-append, IsDistinct-tail, IsDistinct-head, length-le_from_distinct_below, Content, Free, IsLeafCapacity, next_of, chain_from, IsChain, IsPool, Table, IsUsed}
 use Rattle.bforest_core.proofs.Words.{down_from, front_of, front_of_new, fresh_nodes, or_parts, with_node, without_front, with_front}
@@ -6,25 +6,25 @@ use Rattle.std.proofs.lemmas.Bool.{eqb-false}
 use Rattle.bforest_core.proofs.table.Chains.{none_apart, IsDistinct-front, length-fresh_nodes, length-down_from, chain_from-is, IsChain-set, IsChain-below, IsChain-fresh, IsChain-freed, IsDistinct-fresh}
 
 module _ {K V : Type 0} where
-  -- a chain, of so many different free nodes, makes a pool, and is the one that is met
+  -- a chain of `free` different free nodes makes a pool, which reads back that chain
   pub IsPool-made : (n : ℕ) (nodes : List (Content K V)) (chain : List ℕ) (first : Option ℕ) (free limit : ℕ) → IsLeafCapacity n → IsChain nodes chain first → length chain ≡ free → IsDistinct nat_eq chain → length nodes ≤ limit → limit ≤ 4294967295 →
       IsPool n nodes first free limit × (chain_from nodes free first ≡ chain)
   IsPool-made n nodes chain first free limit capacity linked counted distinct slots most =
       let is : chain_from nodes free first ≡ chain = rw (← counted) (chain_from-is nodes chain first linked) in
       (record { capacity = capacity; linked = rw is linked; counted = rw is counted; distinct = rw is distinct; slots_within = slots; limit_within = most }, is)
 
-  -- no slot
+  -- a pool with no slots
   pub IsPool-empty : (n limit : ℕ) → IsLeafCapacity n → limit ≤ 4294967295 → IsPool {K = K} {V = V} n [] None 0 limit
   unfolding IsDistinct
   IsPool-empty n limit capacity most = (IsPool-made n [] [] None 0 limit capacity refl refl tt (omega arith) most).0
 
-  -- a write at a slot that is not on the chain leaves the chain as it is
+  -- a write to a slot that is not on the chain keeps the chain
   pub IsPool-set : (n : ℕ) (nodes : List (Content K V)) (first : Option ℕ) (free limit at : ℕ) (content : Content K V) → list_any (nat_eq at) (chain_from nodes free first) ≡ false → IsPool n nodes first free limit →
       IsPool n (set nodes at content) first free limit × (chain_from (set nodes at content) free first ≡ chain_from nodes free first)
   IsPool-set n nodes first free limit at content off pool =
       IsPool-made n (set nodes at content) (chain_from nodes free first) first free limit pool.capacity (IsChain-set nodes _ first at content off pool.linked) pool.counted pool.distinct (omega (arith, length-set nodes at content, pool.slots_within)) pool.limit_within
 
-  -- writes at two slots that are not on the chain of the table that the fields show
+  -- writes to two slots that are not on the chain keep the chain
   pub IsPool-set_two : (n : ℕ) (nodes : List (Content K V)) (first : Option ℕ) (free limit left right : ℕ) (l r : Content K V) (t : Table K V) (a b : ℕ) → record { nodes = nodes; chain = chain_from nodes free first; limit = limit } ≡ t → left ≡ a → right ≡ b →
       list_any (nat_eq a) t.chain ≡ false → list_any (nat_eq b) t.chain ≡ false → IsPool n nodes first free limit → IsPool n (set (set nodes left l) right r) first free limit × (chain_from (set (set nodes left l) right r) free first ≡ chain_from nodes free first)
   IsPool-set_two n nodes first free limit left right l r t a b view left_is right_is off_a off_b pool =
@@ -33,35 +33,35 @@ module _ {K V : Type 0} where
       let twice = IsPool-set n (set nodes left l) first free limit right r (ap (list_any (nat_eq right)) once.1 ∙ off_right) once.0 in
       (twice.0, twice.1 ∙ once.1)
 
-  -- a used node by the number that a pool's fields are asked at
+  -- a used node is used in an equal table, under an equal number
   pub used_inside : (t u : Table K V) (node number : ℕ) → u ≡ t → number ≡ node → IsUsed t node → IsUsed u number
   used_inside t u node number same number_is used = rw (same, number_is) used
 
-  -- as many nodes lie free as there are slots, at most
+  -- at most as many nodes are free as there are slots
   pub free_within : (n : ℕ) (nodes : List (Content K V)) (first : Option ℕ) (free limit : ℕ) → IsPool n nodes first free limit → free ≤ length nodes
   free_within n nodes first free limit pool =
       let most = length-le_from_distinct_below (chain_from nodes free first) (length nodes) pool.distinct (IsChain-below nodes _ first pool.linked) in
       omega (arith, most, pool.counted)
 
-  -- a used slot joins the chain in front
+  -- a used slot is freed and put in front of the chain
   pub IsPool-freed : (n : ℕ) (nodes : List (Content K V)) (first : Option ℕ) (free limit at : ℕ) → at < length nodes → list_any (nat_eq at) (chain_from nodes free first) ≡ false → IsPool n nodes first free limit → IsPool n (set nodes at (Free first)) (Some at) (free + 1) limit × (chain_from (set nodes at (Free first)) (free + 1) (Some at) ≡ at ∷ chain_from nodes free first)
   IsPool-freed n nodes first free limit at within off pool =
       IsPool-made n (set nodes at (Free first)) (at ∷ chain_from nodes free first) (Some at) (free + 1) limit pool.capacity (IsChain-freed nodes (chain_from nodes free first) first at within off pool.linked)
       (omega (arith, pool.counted)) (IsDistinct-front at _ off pool.distinct) (omega (arith, length-set nodes at (Free first), pool.slots_within)) pool.limit_within
 
-  -- where a slot is used, fewer nodes lie free than there are slots
+  -- where a slot is used, fewer nodes are free than there are slots
   pub free_below : (n : ℕ) (nodes : List (Content K V)) (first : Option ℕ) (free limit at : ℕ) → at < length nodes → list_any (nat_eq at) (chain_from nodes free first) ≡ false → IsPool n nodes first free limit → free < length nodes
   free_below n nodes first free limit at within off pool =
       omega (arith, free_within n _ _ _ _ (IsPool-freed n nodes first free limit at within off pool).0, length-set nodes at (Free first))
 
-  -- new slots, all in front
+  -- new slots in front of the chain
   pub IsPool-grown : (n : ℕ) (nodes : List (Content K V)) (first : Option ℕ) (free limit count total : ℕ) → total ≡ count + free → length nodes + count ≤ limit → IsPool n nodes first free limit → IsPool n (nodes ++ fresh_nodes (length nodes) count first) (front_of_new (length nodes) count first) total limit × (chain_from (nodes ++ fresh_nodes (length nodes) count first) total (front_of_new (length nodes) count first) ≡ down_from (length nodes) count ++ chain_from nodes free first)
   IsPool-grown n nodes first free limit count total total_is within pool =
       IsPool-made n (nodes ++ fresh_nodes (length nodes) count first) (down_from (length nodes) count ++ chain_from nodes free first) (front_of_new (length nodes) count first) total limit pool.capacity (IsChain-fresh nodes (chain_from nodes free first) first count pool.linked)
       (omega (arith, total_is, length-append (down_from (length nodes) count) (chain_from nodes free first), length-down_from (length nodes) count, pool.counted))
       (IsDistinct-fresh nodes _ first count pool.linked pool.distinct) (omega (arith, length-append nodes (fresh_nodes (length nodes) count first), length-fresh_nodes K V (length nodes) count first)) pool.limit_within
 
-  -- where nodes lie free, there is a first
+  -- where nodes are free, the chain has a first node
   pub first_some : (n : ℕ) (nodes : List (Content K V)) (first : Option ℕ) (free limit : ℕ) → 0 < free → IsPool n nodes first free limit → IsSome first
   first_some n nodes None zero limit some pool = absurd (omega (arith, some))
   first_some n nodes None (suc count) limit some pool = absurd (omega (arith, pool.counted))
@@ -72,7 +72,7 @@ module _ {K V : Type 0} where
   front_is_free n nodes node zero limit some pool = absurd (omega arith)
   front_is_free n nodes node (suc count) limit some pool = (pool.linked.0, pool.linked.2)
 
-  -- the front leaves the chain
+  -- the front of the chain is taken off it
   pub IsPool-taken : (n : ℕ) (nodes : List (Content K V)) (node : ℕ) (next : Option ℕ) (free limit : ℕ) → 0 < free → IsPool n nodes (Some node) free limit → slice_get nodes node ≡ Some (Free next)
       → IsPool n nodes next (free - 1) limit × (chain_from nodes free (Some node) ≡ node ∷ chain_from nodes (free - 1) next) × (list_any (nat_eq node) (chain_from nodes (free - 1) next) ≡ false)
   IsPool-taken n nodes node next zero limit some pool found = absurd (omega arith)
@@ -86,26 +86,26 @@ module _ {K V : Type 0} where
       let made = IsPool-made n nodes tail next count limit pool.capacity (rw (after, same) at pool.linked.3) counted (IsDistinct-tail nat_eq node tail distinct) pool.slots_within pool.limit_within in
       rw (less, after) (made.0, refl, none_apart node tail (IsDistinct-head nat_eq node tail distinct))
 
-  -- the slots are as before
+  -- taking the front off the chain keeps the slots
   pub nodes-without_front : (table : Table K V) (chain : List ℕ) → (without_front table chain).nodes ≡ table.nodes
   nodes-without_front table [] = refl
   nodes-without_front table (node ∷ rest) = refl
 
-  -- a number that was off the chain still is
+  -- a number that is not on the chain is not on the chain without its front
   pub off-without_front : (table : Table K V) (chain : List ℕ) (node : ℕ) → table.chain ≡ chain → list_any (nat_eq node) chain ≡ false → list_any (nat_eq node) (without_front table chain).chain ≡ false
   off-without_front table [] node is off = rw is off
   off-without_front table (front ∷ rest) node is off = (or_parts (nat_eq node front) (list_any (nat_eq node) rest) off).1
 
-  -- a content that is written where the front was
+  -- writing the taken front of the chain
   pub with_front-is : (table : Table K V) (chain : List ℕ) (node : ℕ) (content : Content K V) → front_of chain ≡ Some node → with_front table chain content ≡ with_node (without_front table chain) node content
   with_front-is table [] node content front = cc
   with_front-is table (first ∷ rest) node content front = let same : first ≡ node = cc in rw same
 
-  -- a table with no slots
+  -- a table with no slots, from its fields
   pub empty-is : (table : Table K V) (limit : ℕ) → table.nodes ≡ [] → table.chain ≡ [] → table.limit ≡ limit → table ≡ record { nodes = []; chain = []; limit = limit }
   empty-is table limit nodes_are chain_is limit_is = rw (← nodes_are, ← chain_is, ← limit_is) refl
 
--- a number that is off the chain is not its front
+-- a number that is not on the chain is not its front
 pub apart_front : (chain : List ℕ) (node front : ℕ) → front_of chain ≡ Some front → list_any (nat_eq node) chain ≡ false → front ≡ node → ⊥
 apart_front [] node front is off e = cc
 apart_front (first ∷ rest) node front is off e =

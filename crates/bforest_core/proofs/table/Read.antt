@@ -1,4 +1,4 @@
--- A tree that lies in a table is the one that is computed from the table at its root.
+-- A tree in a table equals the tree that is computed from the table at its root.
 use Rattle.std.proofs.Common.{◌≡◌, ℕ, suc, ◌+◌, ◌-◌, ◌≤◌, List, [], ◌∷◌, ◌++◌, map, length, take, drop, slice_get, Some, None, refl, sym, ap, ◌∙◌, arith}
 use Rattle.bforest_core.proofs.Words.{flat_map, zip, length-map, map-append, take_at, drop_at, get_or_from_slice_get, Content, Free, children_of, LevelNode, node, flat, heads, numbers, FitRow, Stacked, Tree, IsFit, half_of, RowIn, RowsIn}
 use Rattle.bforest_core.proofs.Words.{IsIn, leaf_content, inner_content, entry_keys, entry_items, root_above, root_of, slot, entries_of, levels_below, leaf_row, inner_row, inner_rows, tree_of}
@@ -10,29 +10,29 @@ items-heads half most one [] f = refl
 items-heads half most one (node m [] ∷ ns) f = absurd (omega (arith, f.0, least-pos half one ns))
 items-heads half most one (node m (e ∷ es) ∷ ns) f = ap (λ z. m ∷ z) (items-heads half most one ns f.2)
 
--- a row with an entry is seen from above
+-- a row with an entry has a head
 pub heads-some : {K X : Type 0} (row : List (LevelNode K X)) → 1 ≤ length (flat row) → 1 ≤ length (heads row)
 heads-some [] some = absurd (omega (arith, some))
 heads-some (node m [] ∷ ns) some = heads-some ns some
 heads-some (node m (e ∷ es) ∷ ns) some = omega arith
 
--- a fit row with an entry has nodes of one entry or more
+-- a fit row with an entry has a capacity of at least one
 pub most-some : {K X : Type 0} (half most : ℕ) (row : List (LevelNode K X)) → FitRow half most row → 1 ≤ length (flat row) → 1 ≤ most
 most-some half most [] f some = absurd (omega (arith, some))
 most-some half most (node m [] ∷ ns) f some = most-some half most ns f.2 some
 most-some half most (node m (e ∷ es) ∷ ns) f some = omega (arith, f.1)
 
--- so half of that is one or more
+-- a fit row with an entry has nodes whose half is at least one
 pub half-some : {K X : Type 0} (most : ℕ) (row : List (LevelNode K X)) → FitRow (half_of most) most row → 1 ≤ length (flat row) → 1 ≤ half_of most
 half-some most row f some = let one = most-some (half_of most) most row f some in omega (arith, one)
 
--- the entries of a leaf, read back
+-- the entries of a leaf are read back from its keys and values
 pub zip-back : {K X : Type 0} (es : List (K × X)) → zip (entry_keys es) (entry_items es) ≡ es
 zip-back [] = refl
 zip-back (e ∷ es) = ap (λ z. e ∷ z) (zip-back es)
 
 module _ {K V : Type 0} where
-  -- what a slot holds
+  -- the content of a slot that is read
   pub slot-is : (slots : List (Content K V)) (m : ℕ) (content : Content K V) → slice_get slots m ≡ Some content → slot slots m ≡ content
   slot-is slots m content found = get_or_from_slice_get slots m content (Free None) found
 
@@ -42,12 +42,12 @@ module _ {K V : Type 0} where
   children-row slots (node m es ∷ ns) i =
       rw (slot-is slots m (inner_content es) i.0, map-append (λ (e : K × ℕ). e.1) es (flat ns)) (ap (λ z. entry_items es ++ z) (children-row slots ns i.1))
 
-  -- leaves have none
+  -- leaves have no children
   pub children-leaves : (slots : List (Content K V)) (row : List (LevelNode K V)) → RowIn leaf_content slots row → flat_map (λ m. children_of (slot slots m)) (numbers row) ≡ []
   children-leaves slots [] i = refl
   children-leaves slots (node m es ∷ ns) i = rw (slot-is slots m (leaf_content es) i.0) (children-leaves slots ns i.1)
 
-  -- one level down
+  -- one level down, from the nodes of a level to their children
   down-row : (slots : List (Content K V)) (f : ℕ) (ms cs : List ℕ) (up : List (List ℕ)) → flat_map (λ m. children_of (slot slots m)) ms ≡ cs → 1 ≤ length cs → levels_below slots (suc f) ms up ≡ levels_below slots f cs (ms ∷ up)
   down-row slots f ms [] up e one = absurd (omega arith)
   down-row slots f ms (c ∷ cs) up e one = rw (e, levels_below) refl
@@ -64,7 +64,7 @@ module _ {K V : Type 0} where
       let c : flat_map (λ m. children_of (slot slots m)) (numbers row) ≡ entry_items hs = children-row slots row i.0 ∙ ap entry_items s.0 in
       rw e (r ∙ rw ih (down-row slots f (numbers row) (entry_items hs) (map numbers rows) c (rw length-map one)))
 
-  -- the rows are read back
+  -- the row of the leaves is read back
   leaves-back : (slots : List (Content K V)) (row : List (LevelNode K V)) → RowIn leaf_content slots row → leaf_row slots (numbers row) ≡ row
   leaves-back slots [] l = refl
   leaves-back slots (node m es ∷ ns) l =
@@ -85,7 +85,7 @@ module _ {K V : Type 0} where
       let a : inner_row slots hs (numbers row) ≡ row = ap (λ z. inner_row slots z (numbers row)) (sym s.0) ∙ inners-back slots row i.0 in
       rw (a, rows-back slots (heads row) rows s.2 i.1) refl
 
-  -- a fit tree with an entry, of at most 17 levels, is computed from any table that it lies in
+  -- a fit tree with an entry, at most 17 levels high, is computed from any table that it is in
   pub read-back : (most : ℕ) (slots : List (Content K V)) (tree : Tree K V) → IsFit most tree → IsIn slots tree → 1 ≤ length (flat tree.leaves) → length tree.above ≤ 16 → tree_of slots (root_of tree) ≡ tree
   unfolding tree_of
   read-back most slots tree fit inside some low =

@@ -1,4 +1,4 @@
--- Counting numbers, and rows that a change of the table leaves as they are.
+-- Counting numbers, and rows that a change of the table leaves unchanged.
 use Rattle.std.proofs.Common.{◌≡◌, ℕ, zero, suc, ◌+◌, ◌<◌, ◌≢◌, false, nat_eq, List, [], ◌∷◌, ◌++◌, length, set, slice_get, Some, refl, sym, ap, ◌∙◌, inl, inr, length-set, arith}
 use Rattle.bforest_core.proofs.Words.{flat_map, list_any, eqb_tells, Content, Table, with_node, with_front, front_of, IsUsed, slice_get_within, LevelNode, node, numbers, RowIn, RowsIn, inner_content, count}
 pub use Rattle.bforest_core.proofs.table.Lists.{slice_get-set_apart, slice_get-set_same}
@@ -23,7 +23,7 @@ absent_ne m x ms z = λ (e : m ≡ x). let c = count-same x ms in let f = ap (λ
 pub count-row : {K X : Type 0} (k : ℕ) (before : List (LevelNode K X)) (n : ℕ) (es : List (K × X)) (after : List (LevelNode K X)) → count k (numbers (before ++ node n es ∷ after)) ≡ count k (numbers before) + count k (n ∷ numbers after)
 count-row k before n es after = ap (λ z. count k z) (numbers-append before (node n es ∷ after)) ∙ count-append k (numbers before) _
 
--- how often a number stands in a level, in all rows from it on, and with the chain
+-- how often a number occurs in a level, in all rows from it up, and with the chain
 pub counts : {K X : Type 0} (m : ℕ) (before : List (LevelNode K X)) (n : ℕ) (es : List (K × X)) (after : List (LevelNode K X)) (rest : List (List (LevelNode K ℕ))) (chain : List ℕ) →
     (count m (numbers (before ++ node n es ∷ after)) ≡ count m (numbers before) + count m (n ∷ numbers after))
     × (count m (numbers (before ++ node n es ∷ after) ++ flat_map numbers rest) ≡ count m (numbers (before ++ node n es ∷ after)) + count m (flat_map numbers rest))
@@ -32,14 +32,14 @@ counts m before n es after rest chain =
     let row = numbers (before ++ node n es ∷ after) in
     (count-row m before n es after, count-append m row (flat_map numbers rest), count-append m (row ++ flat_map numbers rest) chain)
 
--- a number that does not stand on the chain
+-- a number that does not occur on the chain is not found there
 pub off_chain : (n : ℕ) (ms : List ℕ) → count n ms ≡ 0 → list_any (nat_eq n) ms ≡ false
 off_chain n [] none = refl
 off_chain n (m ∷ ms) none =
     let rest = off_chain n ms (omega (arith, none)) in
     elim (eqb_tells n m) [ inl w ↦ absurd (absent_ne n m ms none w.1) | inr w ↦ (let e = w.0 in rw (e, rest) refl) ]
 
--- a write of what is there already
+-- writing the element that is already there changes nothing
 pub set_here : {X : Type 0} → (xs : List X) (i : ℕ) (x : X) → slice_get xs i ≡ Some x → set xs i x ≡ xs
 set_here [] i x e = refl
 set_here (y ∷ xs) zero x e = let same : y ≡ x = cc in ap (λ z. z ∷ xs) (sym same)
@@ -50,7 +50,7 @@ module _ {K V : Type 0} where
   is_used t n c found none = record { within = slice_get_within t.nodes n c found; off_chain = off_chain n t.chain none }
 
   module _ {X : Type 0} (content : List (K × X) → Content K V) where
-    -- what lies in a table lies in any other that agrees at its numbers
+    -- a row in a table is in any other table that agrees on its slots
     pub row-same : (t u : List (Content K V)) (row : List (LevelNode K X)) → ((m : ℕ) → 0 < count m (numbers row) → slice_get u m ≡ slice_get t m) → RowIn content t row → RowIn content u row
     row-same t u [] same i = tt
     row-same t u (node n es ∷ ns) same i = (
@@ -66,7 +66,7 @@ module _ {K V : Type 0} where
     row-join t [] ys i j = j
     row-join t (node m es ∷ xs) ys i j = (i.0, row-join t xs ys i.1 j)
 
-    -- nodes changed in their place, where but two slots are as before
+    -- nodes of a row are replaced, where only two slots change
     pub row-changed : (t u : List (Content K V)) (before old new after : List (LevelNode K X)) (n q : ℕ) → RowIn content t (before ++ (old ++ after)) → ((m : ℕ) → m ≢ n → m ≢ q → slice_get u m ≡ slice_get t m) → RowIn content u new →
         count n (numbers before) + count n (numbers after) ≡ 0 → count q (numbers before) + count q (numbers after) ≡ 0 → RowIn content u (before ++ (new ++ after))
     row-changed t u before old new after n q i same here none none_q =
@@ -75,20 +75,20 @@ module _ {K V : Type 0} where
         row-join u before (new ++ after) (row-same t u before (λ m some. kept m (numbers before) some (omega (arith, none)) (omega (arith, none_q))) s.0)
         (row-join u new after here (row-same t u after (λ m some. kept m (numbers after) some (omega (arith, none)) (omega (arith, none_q))) (row-split t old after s.1).1))
 
-    -- one node
+    -- one node of a row is written
     pub row-put : (t u : List (Content K V)) (before : List (LevelNode K X)) (n : ℕ) (es fs : List (K × X)) (after : List (LevelNode K X)) → RowIn content t (before ++ node n es ∷ after) →
         ((m : ℕ) → m ≢ n → slice_get u m ≡ slice_get t m) → slice_get u n ≡ Some (content fs) → count n (numbers before) + count n (numbers after) ≡ 0 → RowIn content u (before ++ node n fs ∷ after)
     row-put t u before n es fs after i same here none =
         row-changed t u before (node n es ∷ []) (node n fs ∷ []) after n n i (λ m a b. same m a) (here, tt) none none
 
-    -- two neighbours
+    -- two neighbours of a row are written
     pub row-put_two : (t u : List (Content K V)) (before : List (LevelNode K X)) (n q : ℕ) (es fs xs ys : List (K × X)) (after : List (LevelNode K X)) → RowIn content t (before ++ node n es ∷ node q fs ∷ after) →
         ((m : ℕ) → m ≢ n → m ≢ q → slice_get u m ≡ slice_get t m) → slice_get u n ≡ Some (content xs) → slice_get u q ≡ Some (content ys) →
         count n (numbers before) + count n (numbers after) ≡ 0 → count q (numbers before) + count q (numbers after) ≡ 0 → RowIn content u (before ++ node n xs ∷ node q ys ∷ after)
     row-put_two t u before n q es fs xs ys after i same here there none none_q =
         row-changed t u before (node n es ∷ node q fs ∷ []) (node n xs ∷ node q ys ∷ []) after n q i same (here, (there, tt)) none none_q
 
-    -- the first of two neighbours gone, the second changed
+    -- the first of two neighbours of a row is removed, the second written
     pub row-drop_put : (t u : List (Content K V)) (before : List (LevelNode K X)) (n q : ℕ) (es fs ys : List (K × X)) (after : List (LevelNode K X)) → RowIn content t (before ++ node n es ∷ node q fs ∷ after) →
         ((m : ℕ) → m ≢ n → m ≢ q → slice_get u m ≡ slice_get t m) → slice_get u q ≡ Some (content ys) →
         count n (numbers before) + count n (numbers after) ≡ 0 → count q (numbers before) + count q (numbers after) ≡ 0 → RowIn content u (before ++ node q ys ∷ after)
@@ -102,7 +102,7 @@ module _ {K V : Type 0} where
     rows-same t u rows (λ m some. same m (omega (arith, some, count-append m (numbers row) (flat_map numbers rows)))) i.1,
   )
 
-  -- one slot written
+  -- one slot was written
   pub record Puts (t u : Table K V) (n : ℕ) (c : Content K V) : Type 0 where
     pub here : slice_get u.nodes n ≡ Some c
     pub same : (m : ℕ) → m ≢ n → slice_get u.nodes m ≡ slice_get t.nodes m
@@ -130,7 +130,7 @@ module _ {K V : Type 0} where
     limit_is = q.limit_is ∙ p.limit_is;
   }
 
-  -- the front of the chain written, and taken off it
+  -- the front of the chain was written, and taken off it
   pub record Takes (t u : Table K V) (n : ℕ) (c : Content K V) : Type 0 where
     pub here : slice_get u.nodes n ≡ Some c
     pub same : (m : ℕ) → m ≢ n → slice_get u.nodes m ≡ slice_get t.nodes m
@@ -154,7 +154,7 @@ module _ {K V : Type 0} where
   pub takes : (t u : Table K V) (n : ℕ) (c : Content K V) → front_of t.chain ≡ Some n → u ≡ with_front t t.chain c → n < length t.nodes → Takes t u n c
   takes t u n c front after low = takes_at t u n c t.chain refl front after low
 
-  -- as many slots as before
+  -- writing the front of the chain keeps the number of slots
   pub length-with_front : (t : Table K V) (chain : List ℕ) (c : Content K V) → length (with_front t chain c).nodes ≡ length t.nodes
   length-with_front t [] c = refl
   length-with_front t (n ∷ chain) c = length-set t.nodes n c

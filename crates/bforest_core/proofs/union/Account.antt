@@ -1,4 +1,4 @@
--- Free nodes and the nodes of all trees add up to the slots.
+-- The free nodes and the nodes of all trees add up to the slots.
 use Rattle.std.proofs.Common.{◌≡◌, ℕ, zero, suc, ◌+◌, ◌<◌, ◌≢◌, if◌then◌else◌, nat_eq, Bool, true, false, List, [], ◌∷◌, ◌++◌, map, length, refl, sym, ap, ◌∙◌, subst, inl, inr, length-append, append_assoc, arith}
 use Rattle.bforest_core.proofs.Words.{flat_map, sum_by, and_parts, cases_lt, false≢true, eqb_tells, sum_by-cons, Content, children_of, Table, LevelNode, node, sizes, numbers, sizes_of, Tree, count, root_of, numbers_of, slot}
 use Rattle.bforest_core.proofs.Words.{is_used, tree_of, is_root, IsForest, IsUnion}
@@ -6,7 +6,7 @@ use Rattle.bforest_core.proofs.table.Tables.{count-other}
 use Rattle.bforest_core.proofs.rows.Counts.{once_below, below-one, sum-same, upto, count-upto}
 use Rattle.bforest_core.proofs.union.Forests.{root-counts, roots-once, tree-back, used_within}
 
--- lists in which each number stands as often have one length
+-- the length of a list is a sum of ones
 length-sum : (xs : List ℕ) → length xs ≡ sum_by (λ (n : ℕ). 1) xs
 length-sum [] = refl
 length-sum (x ∷ xs) = omega (arith, length-sum xs, sum_by-cons (λ (n : ℕ). 1) x xs)
@@ -23,7 +23,7 @@ abbrev kept : (ℕ → Bool) → List ℕ → List ℕ
 kept p [] = []
 kept p (x ∷ xs) = if p x then x ∷ kept p xs else kept p xs
 
--- the sum over those is the sum over all of what the others add nothing to
+-- a sum over the numbers that pass a test is a sum over all, in which the others count as 0
 sum-kept : (p : ℕ → Bool) (f : ℕ → ℕ) (xs : List ℕ) → sum_by f (kept p xs) ≡ sum_by (λ n. if p n then f n else 0) xs
 sum-kept p f [] = refl
 sum-kept p f (x ∷ xs) = by (p x) refl (sum-kept p f xs)
@@ -32,7 +32,7 @@ sum-kept p f (x ∷ xs) = by (p x) refl (sum-kept p f xs)
     by true e ih = let k = ap (λ z. sum_by f (if z then x ∷ kept p xs else kept p xs)) e in let v = ap (λ z. if z then f x else 0) e in omega (arith, k, v, ih, sum_by-cons (λ n. if p n then f n else 0) x xs, sum_by-cons f x (kept p xs))
     by false e ih = let k = ap (λ z. sum_by f (if z then x ∷ kept p xs else kept p xs)) e in let v = ap (λ z. if z then f x else 0) e in omega (arith, k, v, ih, sum_by-cons (λ n. if p n then f n else 0) x xs)
 
--- a number that passes stands among them as often, and no other
+-- a number that passes the test occurs as often among those kept, and no other occurs there
 count-kept : (p : ℕ → Bool) (m : ℕ) (xs : List ℕ) → count m (kept p xs) ≡ (if p m then count m xs else 0)
 count-kept p m [] = elim (p m) as (λ (b : Bool). ◌≡◌ {A = ℕ} 0 (if b then 0 else 0)) [ true ↦ refl | false ↦ refl ]
 count-kept p m (x ∷ xs) =
@@ -50,12 +50,12 @@ count-kept p m (x ∷ xs) =
     there false e ne ih = rw e (ih ∙ ap (λ z. if p m then z else 0) (sym (count-other m x xs ne)))
 
 module _ {K V : Type 0} where
-  -- past the last slot is no root
+  -- a root is the number of a slot
   root-within : (slots : List (Content K V)) (m : ℕ) → is_root slots m ≡ true → m < length slots
   unfolding is_root
   root-within slots m root = used_within slots m (and_parts (is_used (slot slots m)) (nat_eq (count m (flat_map children_of slots)) 0) root).0
 
-  -- how many nodes the tree under a number has
+  -- the number of nodes of the tree under a number
   abbrev pub nodes_under : List (Content K V) → ℕ → ℕ
   nodes_under slots root = length (numbers_of (tree_of slots root))
 
@@ -77,7 +77,7 @@ module _ {K V : Type 0} where
           let k = ap (λ z. if z then once_below m (length table.nodes) else 0) e in
           elim (cases_lt 0 (count m (map root_of trees))) [ inl some ↦ absurd (false≢true (sym e ∙ (root-counts most table trees f m).1 some)) | inr past ↦ omega (arith, k, past) ]
 
-  -- the free nodes and the nodes of the trees under all roots are the slots
+  -- the slots are the free nodes and the nodes of the trees under all roots
   pub account : (most : ℕ) (table : Table K V) → IsUnion most table → length table.nodes ≡ length table.chain + sum_by (λ n. if is_root table.nodes n then length (numbers_of (tree_of table.nodes n)) else 0) (upto (length table.nodes))
   account most table union =
       let trees = union.0 in
@@ -96,6 +96,6 @@ rows-count : {K : Type 0} (rows : List (List (LevelNode K ℕ))) → length (fla
 rows-count [] = refl
 rows-count (row ∷ rows) = omega (arith, length-append (numbers row) (flat_map numbers rows), row-count row, rows-count rows, sum_by-cons (λ (s : List ℕ). length s) (sizes row) (map sizes rows))
 
--- a tree has as many nodes as its levels together
+-- a tree has as many nodes as all its levels together
 pub nodes-count : {K V : Type 0} (tree : Tree K V) → length (numbers_of tree) ≡ sum_by (λ (s : List ℕ). length s) (sizes_of tree)
 nodes-count tree = omega (arith, length-append (numbers tree.leaves) (flat_map numbers tree.above), row-count tree.leaves, rows-count tree.above, sum_by-cons (λ (s : List ℕ). length s) (sizes tree.leaves) (map sizes tree.above))

@@ -1,4 +1,4 @@
--- Some trees of a table exchanged for others, with what the chain gives or takes: all other roots keep their trees.
+-- Replacing trees of a table by others, with nodes from or to the chain: all other roots keep their trees.
 use Rattle.std.proofs.Common.{◌≡◌, ℕ, ◌+◌, ◌≤◌, ◌<◌, ◌↔◌, IsTrue, List, [], ◌∷◌, ◌++◌, map, length, slice_get, sym, ap, ◌∙◌, subst, inl, inr, append_assoc, arith}
 use Rattle.bforest_core.proofs.Words.{flat_map, map-append, flat_map-append, cases_lt, Content, IsFree, Table, flat, numbers, Tree, IsFit, IsIn, Distinct, leaf_content, count, root_of, numbers_of, slot, tree_of, is_root, Every}
 use Rattle.bforest_core.proofs.Words.{IsForest}
@@ -7,7 +7,7 @@ use Rattle.bforest_core.proofs.union.FreeSlots.{free-same}
 use Rattle.bforest_core.proofs.rows.Counts.{once_below, at-most-one}
 use Rattle.bforest_core.proofs.union.Forests.{every-append, every-join, roots-once, root-counts, tree-with, tree-back}
 
--- what holds of each in a list holds of each before and after a part of it, also with another part between them
+-- what holds of every element of a list holds of those before and after a part of it
 every_outer : {X : Type 0} (P : X → Type 0) (before gone after : List X) → Every P (before ++ (gone ++ after)) → Every P before × Every P after
 every_outer P before gone after e = let r = every-append P before (gone ++ after) e in (r.0, (every-append P gone after r.1).1)
 
@@ -19,14 +19,14 @@ every-map P Q f [] e = tt
 every-map P Q f (x ∷ xs) e = (f x e.0, every-map P Q f xs e.1)
 
 module _ {K V : Type 0} where
-  -- a tree lies in any slots that agree at its numbers
+  -- a tree is in any slots that agree on its numbers
   pub tree-same : (old new : List (Content K V)) (tree : Tree K V) → ((m : ℕ) → 0 < count m (numbers_of tree) → slice_get new m ≡ slice_get old m) → IsIn old tree → IsIn new tree
   tree-same old new tree same i = record {
     leaves_in = row-same leaf_content old new tree.leaves (λ m some. same m (omega (arith, some, count-append m (numbers tree.leaves) (flat_map numbers tree.above)))) i.leaves_in;
     rows_in = rows-same old new tree.above (λ m some. same m (omega (arith, some, count-append m (numbers tree.leaves) (flat_map numbers tree.above)))) i.rows_in;
   }
 
-  -- so do trees
+  -- trees are in any slots that agree on their numbers
   pub trees-same : (old new : List (Content K V)) (trees : List (Tree K V)) → ((m : ℕ) → 0 < count m (flat_map numbers_of trees) → slice_get new m ≡ slice_get old m) → Every (IsIn old) trees → Every (IsIn new) trees
   trees-same old new [] same i = tt
   trees-same old new (tree ∷ trees) same i = (
@@ -34,7 +34,7 @@ module _ {K V : Type 0} where
     trees-same old new trees (λ m some. same m (omega (arith, some, count-append m (numbers_of tree) (flat_map numbers_of trees)))) i.1,
   )
 
-  -- how often a number stands in three parts of the trees and in the chain
+  -- how often a number occurs in three parts of the trees and on the chain
   count_parts : (m : ℕ) (before some after : List (Tree K V)) (chain : List ℕ) →
       count m (flat_map numbers_of (before ++ (some ++ after)) ++ chain) ≡ count m (flat_map numbers_of before) + (count m (flat_map numbers_of some) + count m (flat_map numbers_of after)) + count m chain
   count_parts m before some after chain =
@@ -44,15 +44,15 @@ module _ {K V : Type 0} where
       let d = ap (λ z. count m z) (flat_map-append numbers_of some after) ∙ count-append m (flat_map numbers_of some) (flat_map numbers_of after) in
       omega (arith, a, b, c, d)
 
-  -- Numbers gone from the trees of a table, and others come: each stands there and on the chain as often as before, and the
-  -- slots of all but those and the chain's are as before.
+  -- some numbers of the trees are replaced: with the chain, each occurs as often as before, and other slots
+  -- stay
   pub record Traded (old new : Table K V) (gone come : List ℕ) : Type 0 where
     pub free : Every (λ (number : ℕ). IsFree (slot new.nodes number)) new.chain
     pub slots_are : length new.nodes ≡ length old.nodes
     pub nums : (m : ℕ) → count m come + count m new.chain ≡ count m gone + count m old.chain
     pub others : (m : ℕ) → count m gone + count m old.chain ≡ 0 → slice_get new.nodes m ≡ slice_get old.nodes m
 
-  -- the chain gave its first numbers, or got others in front
+  -- the numbers are traded where the chain loses its first ones, or gains others in front
   pub traded : (old new : Table K V) (gone come taken freed rest : List ℕ) → Every (λ (number : ℕ). IsFree (slot old.nodes number)) old.chain → Distinct (gone ++ old.chain) → old.chain ≡ taken ++ rest → new.chain ≡ freed ++ rest → Every (λ (number : ℕ). IsFree (slot new.nodes number)) freed → length new.nodes ≡ length old.nodes →
       ((m : ℕ) → count m come + count m freed ≡ count m gone + count m taken) → ((m : ℕ) → count m gone + count m taken ≡ 0 → slice_get new.nodes m ≡ slice_get old.nodes m) → Traded old new gone come
   traded old new gone come taken freed rest free apart old_is new_is freed_are slots nums others =
@@ -66,14 +66,14 @@ module _ {K V : Type 0} where
         others = λ m none. others m (omega (arith, none, c m));
       }
 
-  -- a fit tree that is not empty, of at most 17 levels, lies in these slots
+  -- a fit tree that is not empty, at most 17 levels high and in these slots
   pub record IsPlanted (most : ℕ) (slots : List (Content K V)) (tree : Tree K V) : Type 0 where
     pub fit : IsFit most tree
     pub inside : IsIn slots tree
     pub some : 1 ≤ length (flat tree.leaves)
     pub low : length tree.above ≤ 16
 
-  -- some trees of a forest exchanged for others that lie in the new table
+  -- replacing trees of a forest by others that are in the new table
   pub exchange-trees : (most : ℕ) (old new : Table K V) (before gone come after : List (Tree K V)) → IsForest most old (before ++ (gone ++ after)) → Every (IsPlanted most new.nodes) come → Traded old new (flat_map numbers_of gone) (flat_map numbers_of come) → IsForest most new (before ++ (come ++ after))
   exchange-trees most old new before gone come after f p t =
       let one : (m : ℕ) → count m (flat_map numbers_of before) + (count m (flat_map numbers_of gone) + count m (flat_map numbers_of after)) + count m old.chain ≤ 1 =
@@ -89,14 +89,14 @@ module _ {K V : Type 0} where
         account = λ m. omega (arith, count_parts m before come after new.chain, count_parts m before gone after old.chain, t.nums m) ∙ f.account m ∙ ap (λ z. once_below m z) (sym t.slots_are);
       }
 
-  -- how often a number is a root of three parts of the trees
+  -- how often a number is a root in three parts of the trees
   count_roots : (m : ℕ) (before some after : List (Tree K V)) → count m (map root_of (before ++ (some ++ after))) ≡ count m (map root_of before) + (count m (map root_of some) + count m (map root_of after))
   count_roots m before some after =
       let a = ap (λ z. count m z) (map-append root_of before (some ++ after)) ∙ count-append m (map root_of before) (map root_of (some ++ after)) in
       let b = ap (λ z. count m z) (map-append root_of some after) ∙ count-append m (map root_of some) (map root_of after) in
       omega (arith, a, b)
 
-  -- a tree before or after the exchanged ones is computed from each table in which these stand
+  -- a tree before or after the replaced ones is computed alike from each table that has it
   outer_tree : (most : ℕ) (before after : List (Tree K V)) (other : ℕ) → 0 < count other (map root_of before) + count other (map root_of after) → (tree : Tree K V) × ((table : Table K V) (some : List (Tree K V)) → IsForest most table (before ++ (some ++ after)) → tree_of table.nodes other ≡ tree)
   outer_tree most before after other there =
       elim (cases_lt 0 (count other (map root_of before))) [
@@ -104,7 +104,7 @@ module _ {K V : Type 0} where
         | inr none ↦ (let r = tree-with after other (omega (arith, there, none)) in (r.1, λ table some f. (tree-back most table (before ++ (some ++ after)) ((before ++ some) ++ r.0) r.1 r.2 other f (ap (λ z. before ++ (some ++ z)) r.3 ∙ sym (append_assoc before some (r.0 ++ r.1 ∷ r.2)) ∙ sym (append_assoc (before ++ some) r.0 (r.1 ∷ r.2))) r.4).0))
       ]
 
-  -- every number but the roots of the exchanged trees is a root as before, and keeps its tree
+  -- every number that is no root of the replaced trees is a root as before, and keeps its tree
   pub others-keep : (most : ℕ) (old new : Table K V) (before gone come after : List (Tree K V)) → IsForest most old (before ++ (gone ++ after)) → IsForest most new (before ++ (come ++ after)) →
       (other : ℕ) → count other (map root_of gone) ≡ 0 → count other (map root_of come) ≡ 0 → (IsTrue (is_root new.nodes other) ↔ IsTrue (is_root old.nodes other)) × (IsTrue (is_root old.nodes other) → tree_of new.nodes other ≡ tree_of old.nodes other)
   others-keep most old new before gone come after f g other none none' =
@@ -116,7 +116,7 @@ module _ {K V : Type 0} where
         λ root. (let t = outer_tree most before after other (omega (arith, cf.0 root, a, none)) in t.1 new come g ∙ sym (t.1 old gone f)),
       )
 
-  -- a root of the exchanged trees that none of the others has is no root any more
+  -- a root of the replaced trees that none of the new ones has is not a root
   pub roots-gone : (most : ℕ) (old new : Table K V) (before gone come after : List (Tree K V)) → IsForest most old (before ++ (gone ++ after)) → IsForest most new (before ++ (come ++ after)) →
       (m : ℕ) → 0 < count m (map root_of gone) → count m (map root_of come) ≡ 0 → ¬ IsTrue (is_root new.nodes m)
   roots-gone most old new before gone come after f g m some none root =

@@ -1,4 +1,4 @@
--- The trees of a table as a witness and as computed: a number is a root exactly if it is that of a tree.
+-- The trees of a table as a witness and as computed: the roots are the roots of the trees.
 use Rattle.std.proofs.Common.{◌≡◌, ℕ, ◌+◌, ◌≤◌, ◌<◌, ◌↔◌, nat_eq, IsTrue, true, false, List, [], ◌∷◌, ◌++◌, map, length, None, refl, sym, ap, ◌∙◌, subst, inl, inr, arith}
 use Rattle.bforest_core.proofs.Words.{nil_from_length, flat_map, map-append, get_or_past, flat_map-append, and_parts, cases_lt, eqb_tells, Content, Inner, Leaf, Free, IsFree, children_of, Table, LevelNode, flat, heads, numbers, Stacked, Tree, IsFit}
 use Rattle.bforest_core.proofs.Words.{half_of, IsRooted, RowsIn, IsIn, entry_items, count, root_above, root_of, numbers_of, slot, is_used, tree_of, is_root, Every, IsForest}
@@ -10,18 +10,18 @@ use Rattle.bforest_core.proofs.rows.Counts.{below-one, past-none, at-most-one, n
 use Rattle.bforest_core.proofs.walks.TopNode.{node_under}
 use Rattle.bforest_core.proofs.walks.Whole.{whole_under}
 
--- what holds of each in a list, of each of its parts
+-- what holds of every element of a list holds of each of its parts
 pub every-append : {X : Type 0} (P : X → Type 0) (xs ys : List X) → Every P (xs ++ ys) → Every P xs × Every P ys
 every-append P [] ys e = (tt, e)
 every-append P (x ∷ xs) ys e = let r = every-append P xs ys e.1 in ((e.0, r.0), r.1)
 
--- and back
+-- what holds of every element of two lists holds of their concatenation
 pub every-join : {X : Type 0} (P : X → Type 0) (xs ys : List X) → Every P xs → Every P ys → Every P (xs ++ ys)
 every-join P [] ys a b = b
 every-join P (x ∷ xs) ys a b = (a.0, every-join P xs ys a.1 b)
 
 module _ {K V : Type 0} where
-  -- the nodes above a level name that level and each other, and not the root
+  -- the nodes above a level name the nodes of that level and each other, but not the root
   named_rows : (slots : List (Content K V)) (hs : List (K × ℕ)) (rows : List (List (LevelNode K ℕ))) → Stacked hs rows → RowsIn slots rows → (m : ℕ) →
       count m (named_by slots (flat_map numbers rows)) + count m (root_above hs rows ∷ []) ≡ count m (entry_items hs) + count m (flat_map numbers rows)
   named_rows slots [] [] s i m = absurd (omega (arith, s))
@@ -44,11 +44,11 @@ module _ {K V : Type 0} where
       let c = ap (λ z. count m z) (items-heads (half_of most) most (half-some most tree.leaves f.leaves_fit some) tree.leaves f.leaves_fit) in
       omega (arith, r, a, b, c, count-append m (numbers tree.leaves) (flat_map numbers tree.above))
 
-  -- so its root is one of them
+  -- the root of a tree is one of its numbers
   pub root-among : (most : ℕ) (slots : List (Content K V)) (tree : Tree K V) → IsFit most tree → IsIn slots tree → 1 ≤ length (flat tree.leaves) → 0 < count (root_of tree) (numbers_of tree)
   root-among most slots tree f i some = omega (arith, named_tree most slots tree f i some (root_of tree), count-same (root_of tree) [])
 
-  -- the same of trees
+  -- each number of some trees but their roots is named by one of their nodes, and no other number is
   named_trees : (most : ℕ) (slots : List (Content K V)) (trees : List (Tree K V)) → Every (IsFit most) trees → Every (IsIn slots) trees → Every (λ (tree : Tree K V). 1 ≤ length (flat tree.leaves)) trees → (m : ℕ) →
       count m (named_by slots (flat_map numbers_of trees)) + count m (map root_of trees) ≡ count m (flat_map numbers_of trees)
   named_trees most slots [] f i some m = omega arith
@@ -58,17 +58,17 @@ module _ {K V : Type 0} where
       let a = ap (λ z. count m z) (flat_map-append (λ k. children_of (slot slots k)) (numbers_of tree) (flat_map numbers_of trees)) ∙ count-append m (named_by slots (numbers_of tree)) (named_by slots (flat_map numbers_of trees)) in
       omega (arith, one, ih, a, count-append m (numbers_of tree) (flat_map numbers_of trees))
 
-  -- a free slot names none
+  -- a free slot names no node
   no_children : (content : Content K V) → IsFree content → children_of content ≡ []
   no_children content f = nil_from_length (children_of content) (sym (childless content (λ inner. (inner_used content inner).0 f)))
 
-  -- and is no node
+  -- a free slot is no node
   pub free-unused : (content : Content K V) → IsFree content → is_used content ≡ false
   free-unused (Inner keys children) f = absurd f
   free-unused (Leaf keys vals) f = absurd f
   free-unused (Free next) f = refl
 
-  -- free slots name none
+  -- free slots name no nodes
   named_free : (slots : List (Content K V)) (ms : List ℕ) → Every (λ (m : ℕ). IsFree (slot slots m)) ms → named_by slots ms ≡ []
   named_free slots [] f = refl
   named_free slots (m ∷ ms) f = let e = no_children (slot slots m) f.0 in rw e (named_free slots ms f.1)
@@ -79,7 +79,7 @@ module _ {K V : Type 0} where
       let u = whole_under most slots (root_of tree) tree r in
       elim (node_under most one slots tree.leaves tree.above [] u.0 (root_of tree) [] u.1) [ inl w ↦ ap is_used (slot-is slots (root_of tree) _ w.slot_is) | inr w ↦ ap is_used (slot-is slots (root_of tree) _ w.slot_is) ]
 
-  -- what the slots of a table name: each number of its trees but the roots
+  -- the slots of a table name each number of its trees except the roots
   named_all : (most : ℕ) (table : Table K V) (trees : List (Tree K V)) → IsForest most table trees → (m : ℕ) → count m (flat_map children_of table.nodes) + count m (map root_of trees) ≡ count m (flat_map numbers_of trees)
   named_all most table trees f m =
       let a = all-named table.nodes (flat_map numbers_of trees ++ table.chain) f.account m in
@@ -87,25 +87,25 @@ module _ {K V : Type 0} where
       let c = ap (λ z. count m z) (named_free table.nodes table.chain f.free) in
       omega (arith, a, b, c, named_trees most table.nodes trees f.fit f.inside f.some m)
 
-  -- a number stands in the trees or on the chain once at most
+  -- a number occurs in the trees or on the chain at most once
   pub once : (most : ℕ) (table : Table K V) (trees : List (Tree K V)) → IsForest most table trees → (m : ℕ) → count m (flat_map numbers_of trees) + count m table.chain ≤ 1
   once most table trees f m = omega (arith, f.account m, at-most-one m (length table.nodes), count-append m (flat_map numbers_of trees) table.chain)
 
-  -- and is that of a slot
+  -- a number in the trees or on the chain is that of a slot
   pub within-slots : (most : ℕ) (table : Table K V) (trees : List (Tree K V)) → IsForest most table trees → (m : ℕ) → 0 < count m (flat_map numbers_of trees) + count m table.chain → m < length table.nodes
   within-slots most table trees f m some =
       elim (cases_lt m (length table.nodes)) [ inl low ↦ low | inr past ↦ absurd (omega (arith, f.account m, past-none m (length table.nodes) past, some, count-append m (flat_map numbers_of trees) table.chain)) ]
 
-  -- no two trees have one root
+  -- no two trees have the same root
   pub roots-once : (most : ℕ) (table : Table K V) (trees : List (Tree K V)) → IsForest most table trees → (m : ℕ) → count m (map root_of trees) ≤ 1
   roots-once most table trees f m = omega (arith, named_all most table trees f m, once most table trees f m)
 
-  -- a node has a slot
+  -- a node is within the slots
   pub used_within : (slots : List (Content K V)) (m : ℕ) → is_used (slot slots m) ≡ true → m < length slots
   used_within slots m used =
       elim (cases_lt m (length slots)) [ inl low ↦ low | inr past ↦ absurd (let e = ap is_used (get_or_past slots m (Free None) past) in cc) ]
 
-  -- the tree of a root
+  -- the trees, cut at the tree of a root
   pub tree-with : (trees : List (Tree K V)) (m : ℕ) → 0 < count m (map root_of trees) → (before : List (Tree K V)) × (tree : Tree K V) × (after : List (Tree K V)) × (trees ≡ before ++ tree ∷ after) × (root_of tree ≡ m)
   tree-with [] m some = absurd (omega (arith, some))
   tree-with (tree ∷ trees) m some =
@@ -114,7 +114,7 @@ module _ {K V : Type 0} where
         | inr w ↦ (let r = tree-with trees m (omega (arith, some, count-other m (root_of tree) (map root_of trees) w.1)) in (tree ∷ r.0, r.1, r.2, ap (λ z. tree ∷ z) r.3, r.4))
       ]
 
-  -- a tree of the witness is the one that is computed from its root, which is a root
+  -- a tree of the witness is computed from its root, which is a root of the table
   pub tree-back : (most : ℕ) (table : Table K V) (trees before : List (Tree K V)) (tree : Tree K V) (after : List (Tree K V)) (root : ℕ) → IsForest most table trees → trees ≡ before ++ tree ∷ after → root_of tree ≡ root →
       (tree_of table.nodes root ≡ tree) × IsTrue (is_root table.nodes root)
   unfolding is_root
@@ -130,7 +130,7 @@ module _ {K V : Type 0} where
       let used = root_used most (omega (arith, f.capacity.least)) table.nodes tree (record { fit = fit; inside = inside; root_is = refl; some = some; low = low }) in
       subst (λ (z : ℕ). (tree_of table.nodes z ≡ tree) × IsTrue (is_root table.nodes z)) is (read-back most table.nodes tree fit inside some low, rw (used, none) refl)
 
-  -- a number is a root exactly if it is that of a tree
+  -- a number is a root exactly if it is the root of one of the trees
   pub root-counts : (most : ℕ) (table : Table K V) (trees : List (Tree K V)) → IsForest most table trees → (m : ℕ) → IsTrue (is_root table.nodes m) ↔ (0 < count m (map root_of trees))
   unfolding is_root
   root-counts most table trees f m = (

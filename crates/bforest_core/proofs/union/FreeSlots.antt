@@ -1,4 +1,4 @@
--- Slots that are free: those of a list, of a node that was freed, and those that a change leaves free.
+-- Free slots: those of a list, of a freed node, and those that a change leaves free.
 use Rattle.std.proofs.Common.{◌≡◌, ℕ, ◌<◌, List, [], ◌∷◌, slice_get, None, sym, ap, ◌∙◌, subst, inl, inr, arith}
 use Rattle.bforest_core.proofs.Words.{unwrap_or, eqb_tells, unwrap_or-slice_get, Content, Free, IsFree, Table, front_of, slot_count, with_freed, count, slot, Every}
 use Rattle.bforest_core.proofs.table.Lists.{slice_get-set_same}
@@ -6,7 +6,7 @@ use Rattle.bforest_core.proofs.table.Tables.{count-same, count-other}
 use Rattle.bforest_core.proofs.table.Read.{slot-is}
 
 module _ {K V : Type 0} where
-  -- where the slots of these numbers are free, so is that of each number among them
+  -- where the slots of a list are free, so is each of them
   pub free-at : (slots : List (Content K V)) (ms : List ℕ) → Every (λ (m : ℕ). IsFree (slot slots m)) ms → (k : ℕ) → 0 < count k ms → IsFree (slot slots k)
   free-at slots [] f k some = absurd (omega (arith, some))
   free-at slots (m ∷ ms) f k some =
@@ -15,7 +15,7 @@ module _ {K V : Type 0} where
         | inr w ↦ free-at slots ms f.1 k (omega (arith, some, count-other k m ms w.1))
       ]
 
-  -- a slot that reads the same holds the same
+  -- two tables with the same entry for a slot have the same content there
   pub slot_same : (old new : List (Content K V)) (m : ℕ) → slice_get new m ≡ slice_get old m → slot new m ≡ slot old m
   slot_same old new m same = sym (unwrap_or-slice_get new m (Free None)) ∙ ap (λ z. unwrap_or z (Free None)) same ∙ unwrap_or-slice_get old m (Free None)
 
@@ -27,7 +27,7 @@ module _ {K V : Type 0} where
     free-same old new ms (λ k some. same k (omega (arith, some))) f.1,
   )
 
-  -- the slot of a node that was freed is free
+  -- the slot of a freed node is free
   pub freed-slot : (table : Table K V) (m : ℕ) → m < slot_count table → IsFree (slot (with_freed table m).nodes m)
   freed-slot table m low =
       let found = slice_get-set_same table.nodes m (Free (front_of table.chain)) low in

@@ -1,4 +1,4 @@
--- A table of no tree, a first entry of a tree, and what a tree under a root has.
+-- A table without trees, the first entry of a tree, and the properties of the tree under a root.
 use Rattle.std.proofs.Common.{◌≡◌, ℕ, ◌-◌, IsTrue, Some, List, [], ◌∷◌, drop, length, refl, sym, ap, ◌∙◌, subst, length-append, arith}
 use Rattle.bforest_core.proofs.Words.{IsLeafCapacity, Leaf, Table, front_of, free_count, slot_count, fresh_nodes, down_from, with_front, reserved, node, flat, sizes_of, Tree, count, numbers_of, is_root, IsUnion, Plants}
 use Rattle.bforest_core.proofs.table.Tables.{count-same, absent_ne, takes}
@@ -9,22 +9,22 @@ use Rattle.bforest_core.proofs.union.Forests.{once, tree-back, within-slots}
 use Rattle.bforest_core.proofs.union.Roots.{not-root, one_root, one_tree}
 use Rattle.bforest_core.proofs.union.Reserved.{reserved-union, reserved-then, reserved-roots}
 
--- a chain with a front
+-- a chain with a front is not empty
 front_rest : (m : ℕ) (chain : List ℕ) → front_of chain ≡ Some m → (rest : List ℕ) × (chain ≡ m ∷ rest)
 front_rest m [] e = absurd cc
 front_rest m (x ∷ rest) e = (rest, (let same : x ≡ m = cc in ap (λ z. z ∷ rest) same))
 
--- no slots have no root
+-- a table without slots has no root
 pub no-root : (K V : Type 0) (number : ℕ) → ¬ IsTrue (is_root {K = K} {V = V} [] number)
 unfolding is_root
 no-root K V number is = absurd cc
 
 module _ {K V : Type 0} where
-  -- a table of no slots has no tree
+  -- a table without slots is a union of no trees
   pub IsUnion-empty : (most n : ℕ) → IsLeafCapacity most → IsUnion {K = K} {V = V} most (record { nodes = []; chain = []; limit = n })
   IsUnion-empty most n capacity = ([], record { capacity = capacity; fit = tt; inside = tt; some = tt; low = tt; free = tt; account = λ m. sym (past-none m 0 (omega arith)) })
 
-  -- what `alloc_node` leaves: a tree of one leaf of one entry, under a number that had no tree, and one node fewer lies free or one slot more is used
+  -- `alloc_node` leaves a tree of one leaf with one entry under a number that had no tree, and takes one node
   pub planted-alloc : (most : ℕ) (old new : Table K V) (number : ℕ) (key : K) (value : V) → IsUnion most old → front_of (reserved old 1).chain ≡ Some number → new ≡ with_front (reserved old 1) (reserved old 1).chain (Leaf (key ∷ []) (value ∷ [])) →
       Plants most old new number (key, value)
   planted-alloc most old new number key value union front is =

@@ -1,4 +1,4 @@
--- New slots in front of the chain leave the trees of a table as they are.
+-- New slots in front of the chain leave the trees of a table unchanged.
 use Rattle.std.proofs.Common.{◌≡◌, ℕ, zero, suc, ◌+◌, ◌-◌, ◌≤◌, ◌<◌, IsTrue, Option, None, List, [], ◌∷◌, ◌++◌, length, get_or, slice_get, refl, sym, ap, ◌∙◌, subst, length-append, arith}
 use Rattle.bforest_core.proofs.Words.{flat_map, get_or-append_right, slice_get-get_or, Content, Free, IsFree, Table, down_from, fresh_nodes, front_of, front_of_new, free_count, slot_count, with_slots, reserved, KeepsTrees, Tree}
 use Rattle.bforest_core.proofs.Words.{count, numbers_of, slot, tree_of, is_root, Every, IsForest, IsUnion, OthersKeep}
@@ -11,12 +11,12 @@ use Rattle.bforest_core.proofs.union.FreeSlots.{free-same}
 use Rattle.bforest_core.proofs.union.Forests.{every-join, within-slots}
 use Rattle.bforest_core.proofs.union.Exchange.{trees-same, others-keep}
 
--- each of so many new numbers is the first or past it
+-- each of `n` new numbers is at least the first
 every-down : (P : ℕ → Type 0) (first : ℕ) → ((m : ℕ) → first ≤ m → P m) → (n : ℕ) → Every P (down_from first n)
 every-down P first f zero = tt
 every-down P first f (suc n) = (f (first + n) (omega arith), every-down P first f n)
 
--- the new numbers are those that so many more slots have
+-- the new numbers are those that `n` more slots have
 count-down : (m first n : ℕ) → count m (down_from first n) + once_below m first ≡ once_below m (first + n)
 count-down m first zero = let e : first + 0 ≡ first = omega arith in rw e (omega arith)
 count-down m first (suc n) =
@@ -25,7 +25,7 @@ count-down m first (suc n) =
     omega (arith, a, count-upto m (suc (first + n)), count-upto m (first + n), count-append m (upto (first + n)) ((first + n) ∷ []), count-down m first n)
 
 module _ {K V : Type 0} where
-  -- one more free slot
+  -- free slots followed by one more free slot
   free_more : (xs : List (Content K V)) (next : Option ℕ) → ((m : ℕ) → IsFree (slot xs m)) → (m : ℕ) → IsFree (slot (xs ++ Free next ∷ []) m)
   free_more [] next f zero = tt
   free_more [] next f (suc m) = tt
@@ -38,17 +38,17 @@ fresh_free K V first zero next m = tt
 fresh_free K V first (suc n) next m = free_more (fresh_nodes {K = K} {V = V} first n next) (front_of_new first n next) (fresh_free K V first n next) m
 
 module _ {K V : Type 0} where
-  -- so is each slot from them on
+  -- each slot from the new ones on is free
   past_free : (xs more : List (Content K V)) → ((m : ℕ) → IsFree (slot more m)) → (m : ℕ) → length xs ≤ m → IsFree (slot (xs ++ more) m)
   past_free xs more f m past = subst IsFree (sym (get_or-append_right xs more (length xs) m (Free None) refl past)) (f (m - length xs))
 
-  -- the slots before them are as they were
+  -- the slots before the new ones are unchanged
   slots_same : (xs more : List (Content K V)) (m : ℕ) → m < length xs → slice_get (xs ++ more) m ≡ slice_get xs m
   slots_same xs more m low =
       let e = slice_get-get_or xs m (Free None) low in
       slice_get-append_left xs more m (get_or xs m (Free None)) e ∙ sym e
 
-  -- the trees of a table with so many new slots
+  -- a table with `n` new slots has the same trees
   with-slots-forest : (most : ℕ) (table : Table K V) (n : ℕ) (trees : List (Tree K V)) → IsForest most table trees → IsForest most (with_slots table n) trees
   with-slots-forest most table n trees f =
       let more : List (Content K V) = fresh_nodes (slot_count table) n (front_of table.chain) in
@@ -67,18 +67,18 @@ module _ {K V : Type 0} where
         account = λ m. omega (arith, count-append m (flat_map numbers_of trees) (down_from (slot_count table) n ++ table.chain), count-append m (down_from (slot_count table) n) table.chain, c m, f.account m, count-down m (slot_count table) n) ∙ ap (λ z. once_below m z) (sym slots);
       }
 
-  -- the used slots are still a union of trees
+  -- the used slots are a union of trees after a reservation
   pub reserved-union : (most : ℕ) (table : Table K V) (n : ℕ) → IsUnion most table → IsUnion most (reserved table n)
   reserved-union most table n union = (union.0, with-slots-forest most table (n - free_count table) union.0 union.1)
 
-  -- and the same roots, with the same trees
+  -- a reservation keeps the roots and their trees
   pub reserved-roots : (most : ℕ) (table : Table K V) (n : ℕ) → IsUnion most table → (number : ℕ) →
       (is_root (reserved table n).nodes number ≡ is_root table.nodes number) × (IsTrue (is_root table.nodes number) → tree_of (reserved table n).nodes number ≡ tree_of table.nodes number)
   reserved-roots most table n union number =
       let k = others-keep most table (reserved table n) [] [] [] union.0 union.1 (with-slots-forest most table (n - free_count table) union.0 union.1) number refl refl in
       (same_from_decides (is_root (reserved table n).nodes number) (is_root table.nodes number) k.0 (λ is. is, λ is. is), k.1)
 
-  -- what keeps other trees of the table with more slots keeps those of the table
+  -- a change that keeps the other trees of the table with more slots keeps those of the table
   pub reserved-then : (most : ℕ) (table : Table K V) (n : ℕ) (new : Table K V) (root root' : ℕ) → IsUnion most table → OthersKeep (reserved table n).nodes new.nodes root root' → OthersKeep table.nodes new.nodes root root'
   reserved-then most table n new root root' union keep other ne ne' =
       let r = reserved-roots most table n union other in
@@ -87,7 +87,7 @@ module _ {K V : Type 0} where
         λ was. k.1 (r.0 ∙ was) ∙ r.1 was,
       )
 
-  -- a table that is the same, and one with nodes made free
+  -- an equal table, or one with reserved nodes, is a union of trees and keeps them
   pub same-keeps : (most : ℕ) (old new : Table K V) → new ≡ old → IsUnion most old → IsUnion most new × KeepsTrees old.nodes new.nodes
   same-keeps most old new is union =
       subst (λ (z : Table K V). IsUnion most z × KeepsTrees old.nodes z.nodes) (sym is) (union, λ n. (refl, λ there. refl))
@@ -96,7 +96,7 @@ module _ {K V : Type 0} where
   reserved-keeps most old new n is union =
       subst (λ (z : Table K V). IsUnion most z × KeepsTrees old.nodes z.nodes) (sym is) (reserved-union most old n union, reserved-roots most old n union)
 
-  -- so many lie free then
+  -- at least `n` nodes are free after a reservation of `n`
   pub reserved-frees : (old new : Table K V) (n : ℕ) → new ≡ reserved old n → n ≤ free_count new
   reserved-frees old new n is =
       omega (arith, ap (λ (z : Table K V). length z.chain) is, length-append (down_from (slot_count old) (n - free_count old)) old.chain, length-down_from (slot_count old) (n - free_count old))

@@ -1,4 +1,4 @@
--- What a change of the tree under a root says to a caller who has no witness: of roots, and of the trees computed from them.
+-- A change of the tree under a root, stated without a witness: by roots and the trees computed from them.
 use Rattle.std.proofs.Common.{◌≡◌, ℕ, ◌+◌, ◌<◌, ◌≢◌, IsTrue, List, [], ◌∷◌, ◌++◌, length, slice_get, refl, sym, ap, subst, append-nil, arith}
 use Rattle.bforest_core.proofs.Words.{Changes, flat, sizes_of, flat_map, Table, Tree, count, root_of, numbers_of, tree_of, is_root, IsUnion, OthersKeep, Frees}
 use Rattle.bforest_core.proofs.table.Tables.{count-same, count-other}
@@ -6,16 +6,16 @@ use Rattle.bforest_core.proofs.union.Forests.{tree-back}
 use Rattle.bforest_core.proofs.union.Exchange.{IsPlanted, Traded, traded, exchange-trees, others-keep, roots-gone}
 use Rattle.bforest_core.proofs.union.Unions.{rooted}
 
--- a root counts
+-- a root occurs in the list of itself
 pub one_root : (root : ℕ) → 0 < count root (root ∷ [])
 one_root root = omega (arith, count-same root [])
 
--- another number than a root
+-- a number other than the root does not occur in the list of the root
 pub not-root : (other root : ℕ) → other ≢ root → count other (root ∷ []) ≡ 0
 not-root other root ne = count-other other root [] (λ (e : root ≡ other). ne (sym e))
 
 module _ {K V : Type 0} where
-  -- the tree under a root was exchanged for another, perhaps under another root
+  -- the tree under a root was replaced by another, perhaps under another root
   pub record Exchanged (most : ℕ) (old new : Table K V) (root : ℕ) (tree' : Tree K V) : Type 0 where
     pub union : IsUnion most new
     pub root_is : IsTrue (is_root new.nodes (root_of tree'))
@@ -24,7 +24,7 @@ module _ {K V : Type 0} where
     pub old_gone : root ≢ root_of tree' → ¬ IsTrue (is_root new.nodes root)
     pub new_came : root ≢ root_of tree' → ¬ IsTrue (is_root old.nodes (root_of tree'))
 
-  -- the numbers of one tree
+  -- the numbers of a list of one tree
   pub one_tree : (tree : Tree K V) → numbers_of tree ≡ flat_map numbers_of (tree ∷ [])
   one_tree tree = sym (append-nil (numbers_of tree))
 
@@ -44,7 +44,7 @@ module _ {K V : Type 0} where
         new_came = λ ne. roots-gone most new old r.before (tree' ∷ []) (tree ∷ []) r.after g r.forest (root_of tree') (one_root (root_of tree')) (not-root (root_of tree') (root_of tree) (λ (e : root_of tree' ≡ root_of tree). ne (sym e)));
       })
 
-  -- an insertion under a root
+  -- the tree after an insertion under a root
   pub exchanged : (most : ℕ) (old new : Table K V) (root : ℕ) (tree' : Tree K V) (taken : List ℕ) → IsUnion most old → IsTrue (is_root old.nodes root) → IsPlanted most new.nodes tree' →
       old.chain ≡ taken ++ new.chain → length new.nodes ≡ length old.nodes →
       ((m : ℕ) → count m (numbers_of tree') ≡ count m (numbers_of (tree_of old.nodes root)) + count m taken) →
@@ -53,13 +53,13 @@ module _ {K V : Type 0} where
   exchanged most old new root tree' taken union is p chain_is slots nums others =
       exchanged_by most old new root tree' union is p (traded old new (numbers_of (tree_of old.nodes root)) (numbers_of tree') taken [] new.chain union.1.free (rooted most old root union is).apart chain_is refl tt slots (λ m. omega (arith, nums m)) others)
 
-  -- a removal under a root
+  -- the tree after a removal under a root
   pub exchanged-freed : (most : ℕ) (old new : Table K V) (root : ℕ) (tree' : Tree K V) (freed : List ℕ) → IsUnion most old → IsTrue (is_root old.nodes root) → IsPlanted most new.nodes tree' → Frees old new (numbers_of (tree_of old.nodes root)) freed →
       ((m : ℕ) → count m (numbers_of tree') + count m freed ≡ count m (numbers_of (tree_of old.nodes root))) → Exchanged most old new root tree'
   exchanged-freed most old new root tree' freed union is p frees nums =
       exchanged_by most old new root tree' union is p (traded old new (numbers_of (tree_of old.nodes root)) (numbers_of tree') [] freed old.chain union.1.free (rooted most old root union is).apart refl frees.chain_is frees.freed_are frees.slots_are (λ m. omega (arith, nums m)) (λ m none. frees.others m (omega (arith, none))))
 
-  -- as a change of a tree
+  -- a replaced tree as a change of the table
   pub exchanged-changes : {most : ℕ} {old new : Table K V} {root root' : ℕ} {tree' : Tree K V} → Exchanged most old new root tree' → root_of tree' ≡ root' → new.limit ≡ old.limit → Changes most old new root root' (flat tree'.leaves) (sizes_of tree')
   exchanged-changes {most} {old} {new} {root} {root'} {tree'} e is limit_is = subst (λ (z : ℕ). Changes most old new root z (flat tree'.leaves) (sizes_of tree')) is (record {
     union = e.union;
@@ -72,7 +72,7 @@ module _ {K V : Type 0} where
     limit_is = limit_is;
   })
 
-  -- all entries gone: the root has no tree any more
+  -- the root whose tree lost all its entries is no root
   pub uprooted-union : (most : ℕ) (old new : Table K V) (root : ℕ) (freed : List ℕ) → IsUnion most old → IsTrue (is_root old.nodes root) → Frees old new (numbers_of (tree_of old.nodes root)) freed → ((m : ℕ) → count m freed ≡ count m (numbers_of (tree_of old.nodes root))) →
       IsUnion most new × (¬ IsTrue (is_root new.nodes root)) × OthersKeep old.nodes new.nodes root root
   uprooted-union most old new root freed union is frees nums =

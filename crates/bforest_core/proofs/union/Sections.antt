@@ -1,11 +1,11 @@
--- A stack of rows cut in two between two nodes of its top.
+-- A stack of rows, cut in two between two nodes of its top level.
 use Rattle.std.proofs.Common.{◌≡◌, ℕ, suc, ◌+◌, ◌≤◌, List, [], ◌∷◌, ◌++◌, length, refl, sym, ap, subst, ◌∙◌, arith}
 use Rattle.bforest_core.proofs.Words.{flat_map, Content, LevelNode, node, flat, heads, numbers, FitRow, half_of, RowIn, RowsIn, leaf_content, inner_content, count, StackedTo, Under, numbers_under}
 use Rattle.bforest_core.proofs.rows.LevelRows.{flat-append, numbers-append, least-pos}
 use Rattle.bforest_core.proofs.table.Tables.{count-append, row-split}
 
 module _ {K X : Type 0} where
-  -- a row cut where it is seen from above
+  -- a row, cut between two of its heads
   pub record RowCut (row : List (LevelNode K X)) (a b : List (K × ℕ)) : Type 0 where
     pub left : List (LevelNode K X)
     pub right : List (LevelNode K X)
@@ -75,7 +75,7 @@ module _ {K V : Type 0} where
       }
 
 module _ {K V : Type 0} (most : ℕ) (slots : List (Content K V)) where
-  -- what lies under some nodes, cut between two of them
+  -- the leaves and rows under some nodes, cut between two of the nodes
   pub record UnderCut (leaves : List (LevelNode K V)) (lower : List (List (LevelNode K ℕ))) (a b : List (K × ℕ)) : Type 0 where
     pub leaves_left : List (LevelNode K V)
     pub leaves_right : List (LevelNode K V)

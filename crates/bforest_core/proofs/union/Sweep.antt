@@ -1,4 +1,4 @@
--- Freeing all that is below a node, child by child.
+-- Freeing everything below a node, child by child.
 use Rattle.std.proofs.Common.{◌≡◌, ℕ, zero, suc, ◌+◌, ◌≤◌, ◌<◌, List, [], ◌∷◌, ◌++◌, length, drop, take, reverse, slice_get, option_map, Some, append-nil, refl, sym, ap, subst, ◌∙◌, inl, inr, arith}
 use Rattle.bforest_core.proofs.Words.{flat_map, cases_lt, flat_map-append, Content, Inner, Leaf, Free, IsInner, children_of, entry_count, Table, with_freed, LevelNode, node, flat, heads, numbers, half_of, leaf_content, inner_content}
 use Rattle.bforest_core.proofs.Words.{entry_items, count, Distinct, StackedTo, Under, numbers_down, slot, Frees, GivesAll, numbers_under, drop_all, length-map, nil_from_length, reverse-append, take_all, slice_get_within}
@@ -16,7 +16,7 @@ use Rattle.bforest_core.proofs.table.Lists.{drop-read}
 use Rattle.bforest_core.proofs.union.Sections.{UnderCut, under-cut}
 use Rattle.bforest_core.proofs.table.Tables.{count-append, count-same}
 
--- rows below no node have none
+-- rows below no nodes have no nodes
 rows_none : {K : Type 0} (list : List (K × ℕ)) (rows : List (List (LevelNode K ℕ))) → StackedTo list rows [] → (list ≡ []) × ((m : ℕ) → count m (flat_map numbers rows) ≡ 0)
 rows_none list [] s = (s, λ m. refl)
 rows_none list (row ∷ rows) s =
@@ -25,7 +25,7 @@ rows_none list (row ∷ rows) s =
     (sym s.0 ∙ ap flat none, λ m. omega (arith, count-append m (numbers row) (flat_map numbers rows), ap (λ z. count m (numbers z)) none, r.1 m))
 
 module _ {K V : Type 0} where
-  -- what lies under some nodes lies there in any slots that agree
+  -- the rows under some nodes are in any slots that agree on their numbers
   under-same : (most : ℕ) (old new : List (Content K V)) (leaves : List (LevelNode K V)) (lower : List (List (LevelNode K ℕ))) (top : List (K × ℕ)) → ((m : ℕ) → 0 < count m (numbers_under leaves lower) → slice_get new m ≡ slice_get old m) → Under most old leaves lower top → Under most new leaves lower top
   under-same most old new leaves lower top same u =
       let i = tree-same old new (record { leaves = leaves; above = lower }) same (record { leaves_in = u.leaves_in; rows_in = u.rows_in }) in
@@ -37,7 +37,7 @@ module _ {K V : Type 0} where
       let none : leaves ≡ [] = no_heads (half_of most) most one leaves u.leaves_fit r.0 in
       omega (arith, count-append m (numbers leaves) (flat_map numbers lower), ap (λ z. count m (numbers z)) none, r.1 m)
 
-  -- the numbers below a node, in slots that agree on them
+  -- the numbers below a node are the same in any slots that agree on them
   down-same : (old new : List (Content K V)) (levels number : ℕ) → ((m : ℕ) → 0 < count m (numbers_down old levels number) → slice_get new m ≡ slice_get old m) → numbers_down new levels number ≡ numbers_down old levels number
   down-same old new zero number same = refl
   down-same old new (suc levels) number same =
@@ -51,7 +51,7 @@ module _ {K V : Type 0} where
           ap (λ z. z ++ flat_map (numbers_down new levels) kids) (again kid (λ m some. same m (omega (arith, some, count-append m (numbers_down old levels kid) (flat_map (numbers_down old levels) kids)))))
           ∙ ap (λ z. numbers_down old levels kid ++ z) (all again kids (λ m some. same m (omega (arith, some, count-append m (numbers_down old levels kid) (flat_map (numbers_down old levels) kids)))))
 
-  -- all below the first so many of the top's nodes is freed, and what is below the others stands as it was
+  -- everything below the first `index` nodes of the top is freed, and everything below the others unchanged
   pub record Swept (most : ℕ) (old now : Table K V) (leaves : List (LevelNode K V)) (rows : List (List (LevelNode K ℕ))) (top : List (K × ℕ)) (index : ℕ) : Type 0 where
     pub left_leaves : List (LevelNode K V)
     pub left_rows : List (List (LevelNode K ℕ))
@@ -69,7 +69,7 @@ module _ {K V : Type 0} where
     pub sweep-first : Under most old.nodes leaves rows top → Swept most old old leaves rows top 0
     sweep-first u = record { left_leaves = leaves; left_rows = rows; own = []; given = []; under = u; height = refl; frees = frees-refl old []; order = refl; counted = λ m. refl; split = λ m. omega arith }
 
-    -- the next child of the top, and what lies below it
+    -- the next child of the top, and everything below it
     pub record Turn (now : Table K V) (index : ℕ) (x : K × ℕ) : Type 0 where
       pub swept : Swept most old now leaves rows top index
       pub found : slice_get top index ≡ Some x
@@ -77,7 +77,7 @@ module _ {K V : Type 0} where
       pub under : Under most now.nodes cut.leaves_left cut.lower_left (x ∷ [])
       pub apart : Distinct (numbers_under cut.leaves_left cut.lower_left ++ now.chain)
 
-    -- there is one as long as the index is one of the top
+    -- while the index is one of the top's, there is a next child
     pub sweep-turn : (now : Table K V) (index : ℕ) (x : K × ℕ) → Distinct (numbers_under leaves rows ++ old.chain) → Swept most old now leaves rows top index → slice_get top index ≡ Some x → Turn now index x
     sweep-turn now index x apart s found =
         let todo : drop index top ≡ x ∷ drop (suc index) top = drop-read top index x found in
@@ -90,7 +90,7 @@ module _ {K V : Type 0} where
           apart = λ m. omega (arith, apart m, count-append m (numbers_under leaves rows) old.chain, s.split m, cut.counted m, s.counted m, ap (λ z. count m z) s.frees.chain_is, count-append m s.given old.chain, count-append m (numbers_under cut.leaves_left cut.lower_left) now.chain);
         }
 
-    -- and then it is freed too
+    -- the next child is freed with everything below it
     pub sweep-next : (now new : Table K V) (index : ℕ) (x : K × ℕ) → Distinct (numbers_under leaves rows ++ old.chain) → (t : Turn now index x) → GivesAll now new (numbers_under t.cut.leaves_left t.cut.lower_left) (numbers_down now.nodes (length t.cut.lower_left) x.1) → Swept most old new leaves rows top (suc index)
     sweep-next now new index x apart t g =
         let own = numbers_under t.cut.leaves_left t.cut.lower_left in
@@ -113,7 +113,7 @@ module _ {K V : Type 0} where
           split = λ m. omega (arith, n m, t.swept.split m, t.cut.counted m);
         }
 
-    -- at last all is freed
+    -- at last everything below the top is freed
     pub sweep-last : (now : Table K V) (index : ℕ) → length top ≤ index → Swept most old now leaves rows top index → GivesAll old now (numbers_under leaves rows) (flat_map (numbers_down old.nodes (length rows)) (reverse (entry_items top)))
     sweep-last now index past s =
         let none : drop index top ≡ [] = drop_all index top past in
@@ -124,25 +124,25 @@ module _ {K V : Type 0} where
           counted = λ m. omega (arith, s.counted m, s.split m, left m);
         })
 
--- the entry whose item stands at an index
+-- the entry whose item is at an index
 item_at : {K : Type 0} (top : List (K × ℕ)) (index child : ℕ) → slice_get (entry_items top) index ≡ Some child → (x : K × ℕ) × (slice_get top index ≡ Some x) × (x.1 ≡ child)
 item_at top index child found =
     let r = read top index (omega (arith, slice_get_within (entry_items top) index child found, length-map top (λ w. w.1))) in
     (r.0, r.1, some_same r.0.1 child (sym (items-read top index ∙ ap (λ z. option_map (λ w. w.1) z) r.1) ∙ found))
 
--- a row of one node seen from above
+-- a row with one head has one node
 one_node : {K X : Type 0} (half most : ℕ) → 1 ≤ half → (row : List (LevelNode K X)) (first : K) (number : ℕ) (at : Seen half most row [] first number []) → row ≡ node number (at.e ∷ at.es) ∷ []
 one_node half most one row first number at =
     at.row_is ∙ ap (λ z. z ++ node number (at.e ∷ at.es) ∷ at.after) (nil_from_length at.before at.before_is) ∙ ap (λ z. node number (at.e ∷ at.es) ∷ z) (no_heads half most one at.after at.after_fit at.after_is)
 
 module _ {K V : Type 0} where
-  -- only an inner node has children, and they are its entries
+  -- only inner nodes have children, which are their entries
   pub inner-children : (content : Content K V) → 0 < length (children_of content) → IsInner content × (entry_count content ≡ length (children_of content))
   inner-children (Inner keys children) some = (tt, refl)
   inner-children (Leaf keys vals) some = absurd (omega (arith, some))
   inner-children (Free next) some = absurd (omega (arith, some))
 
-  -- the node at the top of what lies under it: its content, and what lies under its children, if it has some
+  -- the node on top of the rows below it: its content, and what is below its children, if any
   pub record Opened (most : ℕ) (slots : List (Content K V)) (leaves : List (LevelNode K V)) (lower : List (List (LevelNode K ℕ))) (number : ℕ) : Type 0 where
     pub low : List (LevelNode K V)
     pub rows : List (List (LevelNode K ℕ))
@@ -192,7 +192,7 @@ module _ {K V : Type 0} where
     pub under-open : (lower : List (List (LevelNode K ℕ))) (first : K) (number : ℕ) → Under most slots leaves lower ((first, number) ∷ []) → Opened most slots leaves lower number
     under-open lower first number u = elim (node_under most one slots leaves lower [] first number [] u) [ inl s ↦ open_leaf lower first number s | inr s ↦ open_inner lower first number s ]
 
-  -- the sweep of a node's children, with what it shows of the node itself
+  -- the progress of freeing a node's children, and the node itself
   pub record Sweeping (most : ℕ) (old now : Table K V) (leaves : List (LevelNode K V)) (lower : List (List (LevelNode K ℕ))) (number index : ℕ) : Type 0 where
     pub opened : Opened most old.nodes leaves lower number
     pub swept : Swept most old now opened.low opened.rows opened.top index
@@ -214,7 +214,7 @@ module _ {K V : Type 0} where
         off_chain = omega (arith, a, one, o.counted number, s.split number, s.counted number, ap (λ z. count number z) s.frees.chain_is, count-append number s.given old.chain, count-append number (numbers_under leaves lower) old.chain);
       }
 
-  -- the node, after all its children
+  -- the node is freed after its children
   pub gives-down : (most : ℕ) (old now : Table K V) (leaves : List (LevelNode K V)) (lower : List (List (LevelNode K ℕ))) (number index : ℕ) → (s : Sweeping most old now leaves lower number index) →
       GivesAll old now (numbers_under s.opened.low s.opened.rows) (flat_map (numbers_down old.nodes (length s.opened.rows)) (reverse (entry_items s.opened.top))) → GivesAll old (with_freed now number) (numbers_under leaves lower) (numbers_down old.nodes (length lower) number)
   gives-down most old now leaves lower number index s all =
@@ -227,7 +227,7 @@ module _ {K V : Type 0} where
         counted = λ m. omega (arith, s.opened.counted m, all.counted m, count-append m (number ∷ []) below);
       })
 
-  -- below a leaf lies nothing, so that it is freed alone
+  -- a leaf has nothing below it and is freed alone
   pub gives-leaf : (most : ℕ) (one : 1 ≤ half_of most) (old : Table K V) (leaves : List (LevelNode K V)) (lower : List (List (LevelNode K ℕ))) (number : ℕ) → Distinct (numbers_under leaves lower ++ old.chain) → (o : Opened most old.nodes leaves lower number) → (IsInner o.content → ⊥) → GivesAll old (with_freed old number) (numbers_under leaves lower) (numbers_down old.nodes (length lower) number)
   unfolding sweeping
   gives-leaf most one old leaves lower number apart o other =
@@ -236,7 +236,7 @@ module _ {K V : Type 0} where
       let all = sweep-last most one old o.low o.rows o.top old 0 (omega (arith, childless o.content other, ap length o.children_are, length-map o.top (λ (e : K × ℕ). e.1))) first in
       gives-down most old old leaves lower number 0 s all
 
-  -- the child at the index, and what lies below it
+  -- the child at the index, and everything below it
   pub child_turn : (most : ℕ) (one : 1 ≤ half_of most) (old now : Table K V) (leaves : List (LevelNode K V)) (lower : List (List (LevelNode K ℕ))) (number index child : ℕ) → (s : Sweeping most old now leaves lower number index) → slice_get (children_of s.opened.content) index ≡ Some child → (x : K × ℕ) × (x.1 ≡ child) × (index < length s.opened.top) × Turn most one old s.opened.low s.opened.rows s.opened.top now index x
   child_turn most one old now leaves lower number index child s found =
       let i = item_at s.opened.top index child (ap (λ z. slice_get z index) (sym s.opened.children_are) ∙ found) in

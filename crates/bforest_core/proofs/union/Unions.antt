@@ -1,11 +1,11 @@
--- A tree of a union of trees, under its root.
+-- The tree under a root, as one of a union of trees.
 use Rattle.std.proofs.Common.{◌≡◌, ℕ, ◌≤◌, ◌<◌, IsTrue, List, ◌∷◌, ◌++◌, length, refl, sym, ap, subst, arith}
 use Rattle.bforest_core.proofs.Words.{flat_map, flat_map-append, Table, flat, Tree, IsFit, IsIn, count, Distinct, root_of, numbers_of, IsRooted, tree_of, is_root, IsForest, IsUnion}
 use Rattle.bforest_core.proofs.table.Tables.{count-append}
 use Rattle.bforest_core.proofs.union.Forests.{every-append, once, root-counts, tree-back, tree-with, within-slots}
 
 module _ {K V : Type 0} where
-  -- a tree stands under a root of a table, among these trees
+  -- a tree of a table and its root, among the other trees
   pub record Rooted (most : ℕ) (table : Table K V) (root : ℕ) (tree : Tree K V) : Type 0 where
     pub before : List (Tree K V)
     pub after : List (Tree K V)
@@ -23,7 +23,7 @@ module _ {K V : Type 0} where
   numbers_parts : (m : ℕ) (before : List (Tree K V)) (tree : Tree K V) (after : List (Tree K V)) → count m (numbers_of tree) ≤ count m (flat_map numbers_of (before ++ tree ∷ after))
   numbers_parts m before tree after = omega (arith, ap (λ z. count m z) (flat_map-append numbers_of before (tree ∷ after)), count-append m (flat_map numbers_of before) (flat_map numbers_of (tree ∷ after)), count-append m (numbers_of tree) (flat_map numbers_of after))
 
-  -- a tree of the witness stands under its root
+  -- a tree of the witness is under its root
   rooted_at : (most : ℕ) (table : Table K V) (root : ℕ) (before : List (Tree K V)) (tree : Tree K V) (after : List (Tree K V)) → root_of tree ≡ root → IsForest most table (before ++ tree ∷ after) → Rooted most table root tree
   rooted_at most table root before tree after is f = record {
     before = before;
@@ -39,14 +39,14 @@ module _ {K V : Type 0} where
     within = λ m some. within-slots most table (before ++ tree ∷ after) f m (omega (arith, some, numbers_parts m before tree after));
   }
 
-  -- where the used slots are a union of trees, the tree that is computed from a root stands under it
+  -- in a union of trees, the tree computed from a root is the tree under it
   pub rooted : (most : ℕ) (table : Table K V) (root : ℕ) → IsUnion most table → IsTrue (is_root table.nodes root) → Rooted most table root (tree_of table.nodes root)
   rooted most table root union root_there =
       let r = tree-with union.0 root ((root-counts most table union.0 union.1 root).0 root_there) in
       let s = rooted_at most table root r.0 r.1 r.2 r.4 (subst (λ (z : List (Tree K V)). IsForest most table z) r.3 union.1) in
       subst (λ (z : Tree K V). Rooted most table root z) (sym s.tree_is) s
 
-  -- the tree that is computed from a root lies in the slots
+  -- the tree computed from a root is in the slots
   pub is-rooted : (most : ℕ) (table : Table K V) (root : ℕ) → IsUnion most table → IsTrue (is_root table.nodes root) → IsRooted most table.nodes root (tree_of table.nodes root)
   is-rooted most table root union is =
       let r = rooted most table root union is in

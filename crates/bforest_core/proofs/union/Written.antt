@@ -1,4 +1,4 @@
--- A value written at an entry of a tree: the same nodes, under the same keys.
+-- Writing the value of an entry of a tree, which keeps its nodes and keys.
 use Rattle.std.proofs.Common.{◌≡◌, ℕ, zero, suc, ◌+◌, ◌<◌, List, [], ◌∷◌, ◌++◌, map, length, get_or, set, slice_get, option_map, option_and_then, Some, refl, sym, ap, ◌∙◌, subst, length-set, arith}
 use Rattle.bforest_core.proofs.Words.{flat_map, Leaf, vals_of, Table, IsUsed, IsEntryAt, value_at, with_node, with_value_at, value_at_place, LevelNode, node, flat, head_of, heads, sizes, sizes_of, numbers, FitRow, Stacked, Topped, Tree}
 use Rattle.bforest_core.proofs.Words.{half_of, RowIn, leaf_content, entry_keys, entry_items, count, Distinct, IsAt, numbers_of, root_of, root_above, Stands, tree_of, IsUnion, Changes, StandsUnder}
@@ -37,13 +37,13 @@ module _ {K X : Type 0} where
   head-written n (e ∷ es) zero v = refl
   head-written n (e ∷ es) (suc i) v = refl
 
-  -- in the first of two lists
+  -- writing a value in the first of two lists
   written-front : (es fs : List (K × X)) (i : ℕ) (v : X) → i < length es → with_value (es ++ fs) i v ≡ with_value es i v ++ fs
   written-front [] fs i v low = absurd (omega (arith, low))
   written-front (e ∷ es) fs zero v low = refl
   written-front (e ∷ es) fs (suc i) v low = ap (λ z. e ∷ z) (written-front es fs i v (omega (arith, low)))
 
-  -- in the second
+  -- writing a value in the second of two lists
   written-behind : (es fs : List (K × X)) (p i : ℕ) (v : X) → p ≡ length es + i → with_value (es ++ fs) p v ≡ es ++ with_value fs i v
   written-behind [] fs p i v is = let e : p ≡ i = omega (arith, is) in ap (λ z. with_value fs z v) e
   written-behind (e ∷ es) fs zero i v is = absurd (omega (arith, is))
@@ -59,15 +59,15 @@ module _ {K V : Type 0} (most : ℕ) (table : Table K V) (root place : ℕ) (pat
   leaf_at : slice_get table.nodes (get_or path 0 0) ≡ Some (leaf_content at.entries)
   leaf_at = (leaf_here (some_leaf most union.1.capacity) r.fit r.inside s.stands).slot_is
 
-  -- the leaf stands once among the numbers of the tree and the chain
+  -- the leaf occurs once among the numbers of the tree and the chain
   once_here : (count (get_or path 0 0) (numbers at.before) + count (get_or path 0 0) (numbers at.after) ≡ 0) × (count (get_or path 0 0) (flat_map numbers (tree_of table.nodes root).above) ≡ 0) × (count (get_or path 0 0) table.chain ≡ 0)
   once_here = apart_here (get_or path 0 0) at.before at.entries at.after (flat_map numbers (tree_of table.nodes root).above) table.chain (subst (λ (z : List (LevelNode K V)). Distinct ((numbers z ++ flat_map numbers (tree_of table.nodes root).above) ++ table.chain)) at.row_is r.apart)
 
-  -- the path's leaf is used, and has an entry there
+  -- the path's leaf is used, and has an entry at the path's index
   pub entry-used : IsUsed table (get_or path 0 0) × IsEntryAt table.nodes (get_or path 0 0) (get_or indices 0 0)
   entry-used = (is_used table (get_or path 0 0) (leaf_content at.entries) leaf_at once_here.2, record { content = leaf_content at.entries; is = leaf_at; leaf = tt; within = omega (arith, at.within, keys_count at.entries) })
 
-  -- its value is that at the place
+  -- the value at the path's index is the value at the place
   pub value-under : value_at table.nodes (get_or path 0 0) (get_or indices 0 0) ≡ value_at_place (flat (tree_of table.nodes root).leaves) place
   value-under =
       let x = read at.entries (get_or indices 0 0) at.within in
@@ -75,7 +75,7 @@ module _ {K V : Type 0} (most : ℕ) (table : Table K V) (root place : ℕ) (pat
       ∙ items-read at.entries (get_or indices 0 0)
       ∙ ap (λ z. option_map (λ (e : K × V). e.1) z) (x.1 ∙ sym (ap (λ z. slice_get (flat (tree_of table.nodes root).leaves) z) at.place_is ∙ entry_at (tree_of table.nodes root).leaves at.before (get_or path 0 0) at.entries at.after (get_or indices 0 0) x.0 at.row_is x.1))
 
-  -- another value there: the tree has it at the place, and the path stands where it stood
+  -- writing the value writes it at the place of the tree's list
   pub value-written : (v : V) → Changes most table (with_value_at table (get_or path 0 0) (get_or indices 0 0) v) root root (with_value (flat (tree_of table.nodes root).leaves) place v) (sizes_of (tree_of table.nodes root)) × StandsUnder (with_value_at table (get_or path 0 0) (get_or indices 0 0) v).nodes root path indices size place
   value-written v =
       let n = get_or path 0 0 in

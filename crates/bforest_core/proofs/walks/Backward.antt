@@ -1,8 +1,8 @@
--- A path at its entry or at the end, by how many nodes it has, and the entry before a place.
+-- A path at an entry or at the end, by its number of nodes, and the entry before a place.
 use Rattle.std.proofs.Common.{◌≡◌, ◌≢◌, ℕ, zero, suc, ◌-◌, ◌<◌, List, length, slice_get, refl, ap, arith}
 use Rattle.bforest_core.proofs.Words.{flat, Tree, Stands, IsPathAt, entry_before}
 
--- a place that is not the first
+-- the entry before a place that is not the first
 pub before_is : {X : Type 0} (list : List X) (place : ℕ) → 0 < place → slice_get list (place - 1) ≡ entry_before list place
 before_is list zero some = absurd (omega (arith, some))
 before_is list (suc place) some = let e : suc place - 1 ≡ place = omega arith in ap (λ z. slice_get list z) e
@@ -13,7 +13,7 @@ module _ {K V : Type 0} (path indices : List ℕ) (tree : Tree K V) (place : ℕ
   at_entry zero some at = absurd (some refl)
   at_entry (suc size) some at = at
 
-  -- a path without is at the end
+  -- a path without nodes is at the end
   pub at_end : (size : ℕ) → size ≡ 0 → IsPathAt path indices size tree place → place ≡ length (flat tree.leaves)
   at_end zero none at = at
   at_end (suc size) none at = absurd (omega (arith, none))

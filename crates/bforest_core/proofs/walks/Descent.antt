@@ -1,4 +1,4 @@
--- The way down of a search: one level of it, and its end in a leaf.
+-- The descent of a search: one level of it, and its end in a leaf.
 use Rattle.std.proofs.Common.{◌≡◌, ◌≢◌, ℕ, ◌+◌, ◌≤◌, ◌<◌, ◌⊎◌, inl, inr, List, [], ◌∷◌, ◌++◌, length, get_or, set, slice_get, Option, Some, sym, ap, subst, ◌∙◌, arith, append_assoc, length-append}
 use Rattle.bforest_core.proofs.Words.{get_or-set_same, nil_from_length, slice_get_within, IsTotalOrder, IsStrictlySortedBy, AllByRecursion, is_some, option_map, Content, Inner, IsLeafCapacity, IsIncreasing, place, is_present, value_for, LevelNode, node}
 use Rattle.bforest_core.proofs.Words.{flat, heads, half_of, entry_keys, entry_items, StandsTo, child_index, IsFrom, IsUpTo, GoesThrough, Under, Descended}
@@ -27,12 +27,12 @@ module _ {K : Type 0} (cmp : K → K → Ordering) where
   from_at [] at f = inl (nil_from_length at.before at.before_is)
   from_at (x ∷ a) {key = key} at f = inr (subst (λ (z : K). cmp z key ≢ Greater) (sym at.first_is) f)
 
-  -- of two parts behind a child, the first may be empty
+  -- the key is less than the next of two parts of a list, the first of which may be empty
   upto_parts : (r after : List (K × ℕ)) (key : K) → AllByRecursion (λ p. cmp p key ≡ Greater) (keys_of r) → IsUpTo cmp after key → IsUpTo cmp (r ++ after) key
   upto_parts [] after key h u = u
   upto_parts (y ∷ r) after key h u = h.0
 
-  -- so is the last of a first entry and those that are not greater
+  -- the last entry that is not greater than the key is the first of its level, or not greater
   from_last : (front init : List (K × ℕ)) (last e : K × ℕ) (l : List (K × ℕ)) (key : K) → (front ≡ []) ⊎ (cmp e.0 key ≢ Greater) → e ∷ l ≡ init ++ last ∷ [] → AllByRecursion (λ p. cmp p key ≢ Greater) (keys_of l) → IsFrom cmp (front ++ init) last.0 key
   from_last front [] last e l key f is h =
       let same : e ≡ last = cc in
@@ -42,7 +42,7 @@ module _ {K : Type 0} (cmp : K → K → Ordering) where
       is_from (front ++ x ∷ init) last.0 key (all_split (λ p. cmp p key ≢ Greater) init (last ∷ []) (subst (λ (z : List (K × ℕ)). AllByRecursion (λ p. cmp p key ≢ Greater) (keys_of z)) rest h)).1.0
 
 module _ {K V : Type 0} (cmp : K → K → Ordering) (most : ℕ) (slots : List (Content K V)) (leaves : List (LevelNode K V)) (lower : List (List (LevelNode K ℕ))) (a : List (K × ℕ)) (first : K) (number : ℕ) (b : List (K × ℕ)) (key : K) where
-  -- a search on its way in an inner node, whose row is the highest of those below
+  -- a search in an inner node, whose row is the highest of those below
   pub record InnerStep : Type 0 where
     pub here : InnerUnder most slots leaves lower a first number b
     pub increasing : IsIncreasing cmp (here.at.e ∷ here.at.es)
@@ -58,7 +58,7 @@ module _ {K V : Type 0} (cmp : K → K → Ordering) (most : ℕ) (slots : List 
     pub low : AllByRecursion (λ p. cmp p key ≡ Less) (keys_of (flat here.at.before))
     pub high : AllByRecursion (λ p. cmp p key ≡ Greater) (keys_of (flat here.at.after))
 
--- the entries of a row about a node increase
+-- the entries of a row around a node increase
 increasing_about : {K X : Type 0} (cmp : K → K → Ordering) (o : IsTotalOrder cmp) {half most : ℕ} {row : List (LevelNode K X)} {a : List (K × ℕ)} {first : K} {number : ℕ} {b : List (K × ℕ)} (at : Seen half most row a first number b) → IsIncreasing cmp (flat row) →
     IsIncreasing cmp (flat at.before ++ (at.e ∷ (at.es ++ flat at.after))) × IsIncreasing cmp (at.e ∷ at.es) × IsIncreasing cmp (flat at.after)
 increasing_about cmp o {number = number} at inc =
@@ -68,7 +68,7 @@ increasing_about cmp o {number = number} at inc =
 
 module _ {K V : Type 0} (cmp : K → K → Ordering) (o : IsTotalOrder cmp) (most : ℕ) (one : 1 ≤ half_of most) (slots : List (Content K V)) (leaves : List (LevelNode K V)) (lower : List (List (LevelNode K ℕ))) (a : List (K × ℕ)) (first : K) (number : ℕ) (b : List (K × ℕ)) (key : K) where
   module _ (inc : IsIncreasing cmp (flat leaves)) (g : GoesThrough cmp a first b key) where
-    -- the search in the node
+    -- the search in an inner node, from what is under it
     pub inner_step : InnerUnder most slots leaves lower a first number b → InnerStep cmp most slots leaves lower a first number b key
     inner_step s = record {
       here = s;
@@ -92,7 +92,7 @@ module _ {K V : Type 0} (cmp : K → K → Ordering) (o : IsTotalOrder cmp) (mos
           high = all_greater cmp o (flat at.after) key parts.2 (λ y c is. subst (λ (z : List (K × V)). IsUpTo cmp z key) is upto);
         }
 
-  -- the call one level down: where it goes on, at the child of this index, and what lies there
+  -- the search one level down: at the child of this index, with everything below it
   pub record Below (s : InnerStep cmp most slots leaves lower a first number b key) (index child : ℕ) : Type 0 where
     pub front : List (K × ℕ)
     pub head : K
@@ -103,11 +103,11 @@ module _ {K V : Type 0} (cmp : K → K → Ordering) (o : IsTotalOrder cmp) (mos
     pub within : index ≤ length s.here.at.es
 
   module _ (s : InnerStep cmp most slots leaves lower a first number b key) where
-    -- what following a child asks
+    -- the node meets what following a child requires
     pub follow_asks : (keys : List K) × (children : List ℕ) × (slice_get slots number ≡ Some (Inner keys children)) × IsStrictlySortedBy cmp keys
     follow_asks = (entry_keys s.here.at.es, entry_items (s.here.at.e ∷ s.here.at.es), s.here.slot_is, increasing_rest cmp o s.here.at.e s.here.at.es s.increasing)
 
-    -- what it says
+    -- following a child gives the search one level down
     pub below : (index child : ℕ) → ((keys : List K) (children : List ℕ) → slice_get slots number ≡ Some (Inner keys children) → index ≡ child_index cmp keys key) → ((keys : List K) (children : List ℕ) → slice_get slots number ≡ Some (Inner keys children) → slice_get children index ≡ Some child) → Below s index child
     below index child says reads =
         let index_is = says (entry_keys s.here.at.es) (entry_items (s.here.at.e ∷ s.here.at.es)) s.here.slot_is in
@@ -132,7 +132,7 @@ module _ {K V : Type 0} (cmp : K → K → Ordering) (o : IsTotalOrder cmp) (mos
           within = omega (arith, slice_get_within (at.e ∷ at.es) index w.last here);
         }
 
-    -- one level of it, whose place in the path was written before
+    -- one level of the descent, whose place was written into the path
     pub passed : (index child : ℕ) (w : Below s index child) (path indices path' indices' path'' indices'' : List ℕ) (high : ℕ) → high ≡ length lower → Descended cmp leaves s.here.rows key (length w.front) path' indices' path'' indices'' →
         get_or path' high 0 ≡ number → get_or indices' high 0 ≡ index → path' ≡ set path high number → indices' ≡ set indices high index → Descended cmp leaves lower key (length a) path indices path'' indices''
     passed index child w path indices path' indices' path'' indices'' high high_is d m_is j_is nodes entries =
@@ -154,7 +154,7 @@ module _ {K V : Type 0} (cmp : K → K → Ordering) (o : IsTotalOrder cmp) (mos
     all_are : flat leaves ≡ flat s.here.at.before ++ (entries ++ flat s.here.at.after)
     all_are = ap flat s.here.at.row_is ∙ flat-append s.here.at.before (node number entries ∷ s.here.at.after)
 
-    -- the key's value in the leaf is that among all entries
+    -- the key's value in the leaf is its value among all entries
     pub leaf_value : value_for cmp (flat leaves) key ≡ value_for cmp entries key
     leaf_value = ap (λ z. value_for cmp z key) all_are ∙ ap (λ z. option_map (λ (e : K × V). e.1) z) (entry_between cmp o (flat s.here.at.before) entries (flat s.here.at.after) key s.increasing_after s.low s.high)
 

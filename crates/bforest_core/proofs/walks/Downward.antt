@@ -1,4 +1,4 @@
--- Rows seen from the top: the highest of them, and the node of a row that is seen from above.
+-- Rows from the top: the highest of them, and a node of a row as an entry of the level above.
 use Rattle.std.proofs.Common.{◌≡◌, ℕ, suc, ◌+◌, ◌≤◌, ◌<◌, List, [], ◌∷◌, ◌++◌, length, get_or, refl, sym, ap, subst, ◌∙◌, arith}
 use Rattle.bforest_core.proofs.Words.{IsTotalOrder, IsStrictlySortedBy, AllByRecursion, Content, IsIncreasing, LevelNode, node, flat, heads, FitRow, RowIn, RowsIn, inner_content, IsAt, StackedTo, StandsTo, IsUpTo}
 use Rattle.std.specs.Map.{keys_of}
@@ -7,7 +7,7 @@ use Rattle.std.specs.declared.cmp.Ordering.TheVariants.{Less}
 use Rattle.bforest_core.proofs.rows.LevelRows.{least-pos}
 use Rattle.bforest_core.proofs.walks.Rising.{all_split, increasing_split}
 
--- the last of some elements
+-- the last element of a list
 pub record Last {A : Type 0} (xs : List A) : Type 0 where
   pub init : List A
   pub last : A
@@ -31,7 +31,7 @@ module _ {K : Type 0} where
   in_last slots [] row i = (tt, i.0)
   in_last slots (r ∷ rows) row i = let w = in_last slots rows row i.1 in ((i.0, w.0), w.1)
 
-  -- one row more at the top
+  -- one more row on top
   pub stands_more : (path indices : List ℕ) (level : ℕ) (rows : List (List (LevelNode K ℕ))) (row : List (LevelNode K ℕ)) (place q high : ℕ) → StandsTo path indices level rows place q → high ≡ level + length rows → (at : IsAt row (get_or path high 0) (get_or indices high 0) q) →
       StandsTo path indices level (rows ++ row ∷ []) place (length at.before)
   stands_more path indices level [] row place q high s e at =
@@ -40,7 +40,7 @@ module _ {K : Type 0} where
   stands_more path indices level (r ∷ rows) row place q high s e at =
       (s.0, stands_more path indices (suc level) rows row (length s.0.before) q high s.1 (omega (arith, e)) at)
 
-  -- a path that is the same on these levels stands where it stood
+  -- two paths that agree on these levels stand at the same place
   pub stands_same : (ms js ms' js' : List ℕ) (level : ℕ) (rows : List (List (LevelNode K ℕ))) (place top : ℕ) → ((i : ℕ) → i < level + length rows → get_or ms' i 0 ≡ get_or ms i 0) → ((i : ℕ) → i < level + length rows → get_or js' i 0 ≡ get_or js i 0) → StandsTo ms js level rows place top → StandsTo ms' js' level rows place top
   stands_same ms js ms' js' level [] place top f g s = s
   stands_same ms js ms' js' level (row ∷ rows) place top f g s =
@@ -51,7 +51,7 @@ module _ {K : Type 0} where
         stands_same ms js ms' js' (suc level) rows (length at.before) top (λ i low. f i (omega (arith, low))) (λ i low. g i (omega (arith, low))) s.1,
       )
 
--- the node of a row that stands between these, seen from above
+-- the node of a row whose head is between these heads
 pub record Seen {K X : Type 0} (half most : ℕ) (row : List (LevelNode K X)) (a : List (K × ℕ)) (first : K) (number : ℕ) (b : List (K × ℕ)) : Type 0 where
   pub before : List (LevelNode K X)
   pub e : K × X
@@ -75,26 +75,26 @@ module _ {K X : Type 0} where
       let r = seen half most one ns a first number b f.2 (cc) in
       record { before = node m (e ∷ es) ∷ r.before; e = r.e; es = r.es; after = r.after; row_is = ap (λ w. node m (e ∷ es) ∷ w) r.row_is; first_is = r.first_is; before_is = ap suc r.before_is; after_is = r.after_is; after_fit = r.after_fit }
 
-  -- what holds of all keys of a row holds of those that are seen
+  -- what holds of all keys of a row holds of the keys of its heads
   heads_all : (P : K → Type 0) (row : List (LevelNode K X)) → AllByRecursion P (keys_of (flat row)) → AllByRecursion P (keys_of (heads row))
   heads_all P [] h = tt
   heads_all P (node m [] ∷ ns) h = heads_all P ns h
   heads_all P (node m (e ∷ es) ∷ ns) h = (h.0, heads_all P ns (all_split P es (flat ns) h.1).1)
 
-  -- the nodes of a row increase as its entries do
+  -- the heads of a row increase where its entries do
   pub heads_increasing : (cmp : K → K → Ordering) → IsTotalOrder cmp → (row : List (LevelNode K X)) → IsIncreasing cmp (flat row) → IsIncreasing cmp (heads row)
   unfolding IsStrictlySortedBy
   heads_increasing cmp o [] h = tt
   heads_increasing cmp o (node m [] ∷ ns) h = heads_increasing cmp o ns h
   heads_increasing cmp o (node m (e ∷ es) ∷ ns) h = (heads_all (λ k. cmp e.0 k ≡ Less) ns (all_split (λ k. cmp e.0 k ≡ Less) es (flat ns) h.0).1, heads_increasing cmp o ns (increasing_split cmp o es (flat ns) h.1).1)
 
-  -- the key is before a row's entries as it is before its nodes
+  -- a key that is less than the first head of a row is less than its first entry
   pub upto_flat : (cmp : K → K → Ordering) (half most : ℕ) → 1 ≤ half → (row : List (LevelNode K X)) (key : K) → FitRow half most row → IsUpTo cmp (heads row) key → IsUpTo cmp (flat row) key
   upto_flat cmp half most one [] key f u = tt
   upto_flat cmp half most one (node m [] ∷ ns) key f u = absurd (omega (arith, f.0, least-pos half one ns))
   upto_flat cmp half most one (node m (e ∷ es) ∷ ns) key f u = u
 
--- the nodes of the top increase as the entries of the lowest row do
+-- the nodes of the top increase where the entries of the lowest row do
 pub stacked_increasing : {K : Type 0} (cmp : K → K → Ordering) → IsTotalOrder cmp → (list : List (K × ℕ)) (rows : List (List (LevelNode K ℕ))) (top : List (K × ℕ)) → StackedTo list rows top → IsIncreasing cmp list → IsIncreasing cmp top
 stacked_increasing cmp o list [] top s h = subst (IsIncreasing cmp) s h
 stacked_increasing cmp o list (row ∷ rows) top s h = stacked_increasing cmp o (heads row) rows top s.2 (heads_increasing cmp o row (subst (IsIncreasing cmp) (sym s.0) h))

@@ -1,4 +1,4 @@
--- The way down to the first entry, and to the last: each answer of `descend_first` and `descend_last` is one of these.
+-- The descent to the first entry and to the last: the answers of `descend_first` and `descend_last`.
 use Rattle.std.proofs.Common.{◌≡◌, ℕ, zero, suc, ◌+◌, ◌-◌, ◌≤◌, ◌<◌, List, [], ◌∷◌, ◌++◌, length, get_or, set, slice_get, Some, refl, sym, ap, subst, ◌∙◌, arith, length-append}
 use Rattle.bforest_core.proofs.Words.{length-map, nil_from_length, Content, IsInner, entry_count, children_of, LevelNode, node, flat, Tree, half_of, leaf_content, inner_content, entry_items, IsAt, Stands, StandsTo, SameAbove, Under, Led, LedLast}
 use Rattle.bforest_core.proofs.rows.LevelRows.{flat-append}
@@ -8,14 +8,14 @@ use Rattle.bforest_core.proofs.walks.Steps.{no_heads}
 use Rattle.bforest_core.proofs.walks.TopNode.{SameBut, none_flat, flat_parted, seen_at, set_but, LeafUnder, InnerUnder, leaf_under, inner_under}
 use Rattle.bforest_core.proofs.walks.Whole.{stands_above}
 
--- the path stands at a place of the leaves, and on the rows from there up to this node of the top; above it is as before
+-- the path stands at a place of the leaves, and on the rows up to this node of the top; above it is unchanged
 pub record LedTo {K V : Type 0} (leaves : List (LevelNode K V)) (lower : List (List (LevelNode K ℕ))) (place top : ℕ) (path indices path' indices' : List ℕ) : Type 0 where
   pub leaf : IsAt leaves (get_or path' 0 0) (get_or indices' 0 0) place
   pub stands : StandsTo path' indices' 1 lower (length leaf.before) top
   pub nodes_above : SameAbove (length lower) path path'
   pub entries_above : SameAbove (length lower) indices indices'
 
--- the child at an index of a node's entries
+-- a node's entries, cut at the child of an index
 child_cut : {K : Type 0} (es : List (K × ℕ)) (index child : ℕ) → slice_get (entry_items es) index ≡ Some child → (l : List (K × ℕ)) × (key : K) × (r : List (K × ℕ)) × (es ≡ l ++ (key, child) ∷ r) × (length l ≡ index)
 child_cut [] index child found = absurd cc
 child_cut (y ∷ es) zero child found = ([], y.0, es, ap (λ z. (y.0, z) ∷ es) (some_same y.1 child found), refl)
@@ -29,7 +29,7 @@ last_place half most one row a first number at =
     omega (arith, none, parts, length-append (flat at.before) ((at.e ∷ at.es) ++ flat at.after), length-append at.es (flat at.after))
 
 module _ {K V : Type 0} (most : ℕ) (slots : List (Content K V)) (leaves : List (LevelNode K V)) (lower : List (List (LevelNode K ℕ))) (a : List (K × ℕ)) (first : K) (number : ℕ) (b : List (K × ℕ)) (path indices : List ℕ) where
-  -- the path was led to an entry of a leaf
+  -- the path leads to an entry of a leaf
   leaf_led : (s : LeafUnder most slots leaves lower a first number b) (path' indices' : List ℕ) (index place : ℕ) → index ≤ length s.at.es → place ≡ length (flat s.at.before) + index → get_or path' 0 0 ≡ number → get_or indices' 0 0 ≡ index → SameBut 0 path path' → SameBut 0 indices indices' → LedTo leaves lower place (length a) path indices path' indices'
   leaf_led s path' indices' index place within place_is m_is j_is nodes entries =
       subst (λ (z : List (List (LevelNode K ℕ))). LedTo leaves z place (length a) path indices path' indices') (sym s.lower_is) (record {
@@ -39,7 +39,7 @@ module _ {K V : Type 0} (most : ℕ) (slots : List (Content K V)) (leaves : List
         entries_above = λ i low. entries i (λ z. omega (arith, z, low));
       })
 
-  -- and on from a child of an inner node
+  -- the path leads on from a child of an inner node
   inner_led : (s : InnerUnder most slots leaves lower a first number b) (path1 indices1 path2 indices2 : List ℕ) (high index place top : ℕ) → high ≡ suc (length s.rows) → index ≤ length s.at.es → top ≡ length (flat s.at.before) + index → LedTo leaves s.rows place top path indices path1 indices1 → get_or path2 high 0 ≡ number → get_or indices2 high 0 ≡ index →
       SameBut high path1 path2 → SameBut high indices1 indices2 → LedTo leaves lower place (length a) path indices path2 indices2
   inner_led s path1 indices1 path2 indices2 high index place top high_is within top_is d m_is j_is nodes entries =
@@ -57,11 +57,11 @@ module _ {K V : Type 0} (most : ℕ) (slots : List (Content K V)) (leaves : List
   content_is : content2 ≡ inner_content (s.at.e ∷ s.at.es)
   content_is = some_same content2 (inner_content (s.at.e ∷ s.at.es)) (sym read2 ∙ s.slot_is)
 
-  -- what reading a child asks
+  -- the node meets what reading a child requires
   child_asks : (index : ℕ) → index ≤ length s.at.es → IsInner content2 × (index < entry_count content2)
   child_asks index within = (subst IsInner (sym content_is) tt, subst (λ (z : Content K V). index < entry_count z) (sym content_is) (omega (arith, within, item_count (s.at.e ∷ s.at.es))))
 
-  -- what lies under a child
+  -- the leaves and rows under a child
   child_under : (index child : ℕ) → slice_get (children_of content2) index ≡ Some child → (front : List (K × ℕ)) × (key : K) × (back : List (K × ℕ)) × Under most slots leaves s.rows (front ++ (key, child) ∷ back) × (length front ≡ length (flat s.at.before) + index) × (length front + suc (length back) ≡ length (flat s.row))
   child_under index child found =
       let c = child_cut (s.at.e ∷ s.at.es) index child (ap (λ z. slice_get (children_of z) index) (sym content_is) ∙ found) in
@@ -72,7 +72,7 @@ module _ {K V : Type 0} (most : ℕ) (slots : List (Content K V)) (leaves : List
       (front, c.1, back, under, length-append (flat s.at.before) c.0 ∙ ap (λ z. length (flat s.at.before) + z) c.4, sym (ap length flat_is ∙ length-append front ((c.1, child) ∷ back)))
 
 module _ {K V : Type 0} (most : ℕ) (slots : List (Content K V)) where
-  -- what the call one level down the first nodes is asked
+  -- the rows meet what the call one level down the first nodes requires
   pub record FrontBelow (leaves : List (LevelNode K V)) (lower : List (List (LevelNode K ℕ))) (child : ℕ) : Type 0 where
     pub rows : List (List (LevelNode K ℕ))
     pub first : K
@@ -80,7 +80,7 @@ module _ {K V : Type 0} (most : ℕ) (slots : List (Content K V)) where
     pub under : Under most slots leaves rows ((first, child) ∷ rest)
     pub count_is : length lower ≡ suc (length rows)
 
-  -- what it leaves there, and one down the last nodes
+  -- the effect of the call one level down the first nodes
   abbrev pub LeadsFirst : List ℕ → List ℕ → List ℕ → List ℕ → ℕ → ℕ → Type 0
   LeadsFirst path indices path1 indices1 child below =
       (leaves : List (LevelNode K V)) (lower : List (List (LevelNode K ℕ))) (first : K) (b : List (K × ℕ)) → Under most slots leaves lower ((first, child) ∷ b) → (below ≡ length lower) × Led leaves lower path indices path1 indices1
@@ -100,7 +100,7 @@ module _ {K V : Type 0} (most : ℕ) (one : 1 ≤ half_of most) (slots : List (C
     abbrev front_node : InnerUnder most slots leaves lower [] first number b
     front_node = inner_under most one slots leaves lower [] first number b u content read inner
 
-    -- what reading the first child asks
+    -- the first node meets what reading its first child requires
     pub front_asks : IsInner content2 × (0 < entry_count content2)
     front_asks = child_asks most slots leaves lower [] first number b front_node content2 read2 0 (omega arith)
 
@@ -115,7 +115,7 @@ module _ {K V : Type 0} (most : ℕ) (one : 1 ≤ half_of most) (slots : List (C
         led : (below ≡ length front_below.rows) × Led leaves front_below.rows path indices path1 indices1
         led = leads leaves front_below.rows front_below.first front_below.rest front_below.under
 
-        -- the node's level, and the path through it
+        -- the level of the first node, and the path through it
         pub front_level : below + 1 ≡ length lower
         front_level = omega (arith, led.0, front_below.count_is)
 
@@ -143,7 +143,7 @@ module _ {K V : Type 0} (most : ℕ) (one : 1 ≤ half_of most) (slots : List (C
     index : last ≡ length back_node.at.es
     index = omega (arith, last_is (inner_content (back_node.at.e ∷ back_node.at.es)) back_node.slot_is, item_count (back_node.at.e ∷ back_node.at.es))
 
-    -- what reading the last child asks
+    -- the last node meets what reading its last child requires
     pub back_asks : IsInner content2 × (last < entry_count content2)
     back_asks = child_asks most slots leaves lower a first number [] back_node content2 read2 last (omega (arith, index))
 
@@ -158,7 +158,7 @@ module _ {K V : Type 0} (most : ℕ) (one : 1 ≤ half_of most) (slots : List (C
         led_last : (below ≡ length back_below.0) × LedLast leaves back_below.0 (length back_below.1) path indices path1 indices1
         led_last = leads leaves back_below.0 back_below.1 back_below.2 back_below.3
 
-        -- the node's level, and the path through it
+        -- the level of the last node, and the path through it
         pub back_level : below + 1 ≡ length lower
         back_level = omega (arith, led_last.0, back_below.4)
 
@@ -169,6 +169,6 @@ module _ {K V : Type 0} (most : ℕ) (one : 1 ≤ half_of most) (slots : List (C
             (record { leaf = led_last.1.leaf; stands = led_last.1.stands; nodes_above = led_last.1.nodes_above; entries_above = led_last.1.entries_above }) node_here entry_here (set_but path1 path2 (below + 1) number path_is) (set_but indices1 indices2 (below + 1) last indices_are) in
             (back_level, record { leaf = l.leaf; stands = l.stands; nodes_above = l.nodes_above; entries_above = l.entries_above })
 
--- a path down from the root stands at the last entry
+-- a path that descended from the root stands at the last entry
 pub last_stands : {K V : Type 0} (tree : Tree K V) (path indices path' indices' : List ℕ) (size : ℕ) → LedLast tree.leaves tree.above 0 path indices path' indices' → size ≡ suc (length tree.above) → Stands path' indices' size tree (length (flat tree.leaves) - 1)
 last_stands tree path indices path' indices' size d e = record { leaf = d.leaf; above = stands_above path' indices' 1 tree.above (length d.leaf.before) d.stands; size_is = e }

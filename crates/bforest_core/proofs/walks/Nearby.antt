@@ -1,4 +1,4 @@
--- A key beside the entry where a path stands.
+-- A key near the entry where a path stands.
 use Rattle.std.proofs.Common.{◌≡◌, ◌≢◌, ℕ, zero, suc, ◌+◌, ◌-◌, ◌≤◌, ◌<◌, true, false, if◌then◌else◌, List, [], ◌∷◌, get_or, length, length-append, drop, slice_get, Option, Some, None, refl, sym, subst, ap, ◌∙◌, arith}
 use Rattle.bforest_core.proofs.Words.{IsTotalOrder, IsStrictlySortedBy, AllByRecursion, is_some, option_map, is_eq, is_lt, ordering_reverse, drop_all, Path, IsUpTo, FitRow, LevelNode}
 use Rattle.bforest_core.proofs.Words.{Solid, flat, half_of, node, StandsAt, StandsOn, index_of, leaf_of, list_under, entry_before, leaf_content, Table, IsUnion, tree_of, IsIncreasing, entry_for, is_present, place, value_for}
@@ -17,7 +17,7 @@ use Rattle.bforest_core.proofs.walks.Standing.{on-leaf-in, on-tree, on-within, p
 use Rattle.bforest_core.proofs.walks.Steps.{never, read}
 
 module _ {K X : Type 0} (cmp : K → K → Ordering) (es : List (K × X)) (key : K) where
-  -- what a search finds: the key's place, and the entry there where the key is present
+  -- what a search finds: the place of the key, and the entry there if the key is present
   pub record Finds (p : ℕ) (entry : Option (K × X)) : Type 0 where
     pub place_is : place cmp es key ≡ p
     pub entry_is : entry_for cmp es key ≡ entry
@@ -27,18 +27,18 @@ pub no-value : {K X : Type 0} (cmp : K → K → Ordering) (key : K) (es : List 
 no-value {K} {X} cmp key es none here =
     (elim (entry_for cmp es key) as (λ (o : Option (K × X)). None ≡ option_map (λ e. e.1) o → is_some o ≡ true → ⊥) [ None ↦ λ n h. never h refl | Some e ↦ λ n h. absurd (cc) ]) none here
 
--- the key is less than the entries from one on that is greater
+-- where the entry at a place is greater than the key, the key is less than the list from there on
 upto_at : {K X : Type 0} (cmp : K → K → Ordering) (key : K) (es : List (K × X)) (p : ℕ) (e : K × X) → slice_get es p ≡ Some e → cmp e.0 key ≡ Greater → IsUpTo cmp (drop p es) key
 upto_at cmp key [] p e here t = absurd cc
 upto_at cmp key (x ∷ es) zero e here t = ap (λ (z : _). cmp z key) (some_same x.0 e.0 (ap (λ z. option_map (λ w. w.0) z) here)) ∙ t
 upto_at cmp key (x ∷ es) (suc p) e here t = upto_at cmp key es p e here t
 
 module _ {K X : Type 0} (cmp : K → K → Ordering) (o : IsTotalOrder cmp) (key : K) where
-  -- behind one that is less
+  -- a search that passes a lesser first entry
   later : (e : K × X) (es : List (K × X)) → cmp e.0 key ≡ Less → (p : ℕ) (found : Option (K × X)) → Finds cmp es key p found → Finds cmp (e ∷ es) key (suc p) found
   later e es t p found f = let z = place-later cmp o e es key t in record { place_is = z ∙ ap suc f.place_is; entry_is = ap (λ i. test_at cmp o (e ∷ es) key i) z ∙ f.entry_is }
 
-  -- in front of a list that is greater
+  -- a search in a list whose first entry is greater
   pub finds_first : (es : List (K × X)) → IsIncreasing cmp es → IsUpTo cmp es key → Finds cmp es key 0 None
   finds_first es h up =
       let high = all_greater cmp o es key h (λ y c is. subst (λ (z : List (K × X)). IsUpTo cmp z key) is up) in
@@ -49,7 +49,7 @@ module _ {K X : Type 0} (cmp : K → K → Ordering) (o : IsTotalOrder cmp) (key
   all_at P (x ∷ es) zero e h here = subst (λ (z : K × X). P z.0) (some_same x e here) h.0
   all_at P (x ∷ es) (suc p) e h here = all_at P es p e h.1 here
 
-  -- from an entry on that is not greater, as in the whole list
+  -- a search from an entry on that is not greater, as in the whole list
   behind : (es : List (K × X)) (p : ℕ) (e : K × X) → slice_get es p ≡ Some e → IsIncreasing cmp es → cmp e.0 key ≢ Greater → (n : ℕ) (found : Option (K × X)) → (IsIncreasing cmp (e ∷ drop (suc p) es) → Finds cmp (e ∷ drop (suc p) es) key n found) → Finds cmp es key (p + n) found
   unfolding IsStrictlySortedBy
   behind [] p e here h ng n found f = absurd cc
@@ -59,7 +59,7 @@ module _ {K X : Type 0} (cmp : K → K → Ordering) (o : IsTotalOrder cmp) (key
   behind (x ∷ es) (suc p) e here h ng n found f =
       subst (λ (z : ℕ). Finds cmp (x ∷ es) key z found) (omega arith) (later x es (less_from cmp o x.0 e.0 key (all_at (λ k. cmp x.0 k ≡ Less) es p e h.0 here) ng) (p + n) found (behind es p e here h.1 ng n found f))
 
-  -- at an entry whose key compares equal
+  -- a search that ends at an entry whose key compares equal
   pub finds_here : (es : List (K × X)) (p : ℕ) (e : K × X) → slice_get es p ≡ Some e → IsIncreasing cmp es → cmp key e.0 ≡ Equal → Finds cmp es key p (Some e)
   finds_here es p e here h t =
       let same : cmp e.0 key ≡ Equal = o.antisymm e.0 key ∙ ap ordering_reverse t in
@@ -67,27 +67,27 @@ module _ {K X : Type 0} (cmp : K → K → Ordering) (o : IsTotalOrder cmp) (key
       let z = place-here cmp o e (drop (suc p) es) key i (ap is_lt same) in
       record { place_is = z; entry_is = ap (λ i. test_at cmp o (e ∷ drop (suc p) es) key i) z ∙ ap (λ r. if is_eq r then Some e else None) same }))
 
-  -- behind one that is less, where the next is greater
+  -- a search that ends after a lesser entry, where the next is greater
   pub finds_behind : (es : List (K × X)) (p : ℕ) (e : K × X) → slice_get es p ≡ Some e → IsIncreasing cmp es → cmp key e.0 ≡ Greater → IsUpTo cmp (drop (suc p) es) key → Finds cmp es key (suc p) None
   finds_behind es p e here h t up =
       let less : cmp e.0 key ≡ Less = o.antisymm e.0 key ∙ ap ordering_reverse t in
       subst (λ (z : ℕ). Finds cmp es key z None) (omega arith) (behind es p e here h (λ g. let bad : Less ≡ Greater = sym less ∙ g in absurd cc) 1 None (λ i. later e (drop (suc p) es) less 0 None (finds_first (drop (suc p) es) (increasing_rest cmp o e (drop (suc p) es) i) up)))
 
--- nodes without an entry are none
+-- solid nodes without entries are none
 no_nodes : {K X : Type 0} (half most : ℕ) → 1 ≤ half → (row : List (LevelNode K X)) → Solid half most row → length (flat row) ≡ 0 → row ≡ []
 no_nodes half most one [] solid none = refl
 no_nodes half most one (node m es ∷ row) solid none = absurd (omega (arith, one, solid.0, none, length-append es (flat row)))
 
 module _ {K V : Type 0} {n : ℕ} (table : Table K V) (root : ℕ) (path : Path K V n) where
   module _ (union : IsUnion n table) where
-    -- an entry may come in behind the one on which the path stands
+    -- an entry may be inserted after the one on which the path stands
     pub placed-behind : (path' : Path K V n) (p : ℕ) → StandsOn table root path p → path'.node ≡ path.node → index_of path' ≡ index_of path + 1 → ((i : ℕ) → i ≢ 0 → get_or path'.entry i 0 ≡ get_or path.entry i 0) → path'.size ≡ path.size → IsPlaced table root path' (suc p)
     placed-behind path' p on same index_is above size_is =
         let w = on-tree union path on in
         let points = points_in (some_leaf n union.1.capacity) w.fit w.inside (on-leaf-in union path on) path'.size (size_is ∙ on.stands.size_is) path'.node path'.entry (suc p) same above (omega (arith, index_is, on.stands.leaf.within)) (omega (arith, index_is, on.stands.leaf.place_is)) in
         record { root_is = on.root_is; at = record { points = points; first = λ none. absurd (omega (arith, none, index_is)) } }
 
-    -- or in front of the first of all
+    -- an entry may be inserted before the first of the list
     pub placed-first : StandsOn table root path 0 → IsPlaced table root path 0
     placed-first on =
         let s = on.stands in
@@ -95,18 +95,18 @@ module _ {K V : Type 0} {n : ℕ} (table : Table K V) (root : ℕ) (path : Path 
         let points = points-stands path.node path.entry (tree_of table.nodes root) 0 path.size s in
         record { root_is = on.root_is; at = record { points = points; first = λ none. no_nodes (half_of n) n (some_leaf n union.1.capacity) s.leaf.before solid (omega (arith, s.leaf.place_is)) } }
 
-    -- the index behind an entry of a leaf
+    -- the index after an entry of a leaf is at most 255
     pub behind-low : (p : ℕ) → StandsOn table root path p → index_of path + 1 ≤ 255
     behind-low p on = omega (arith, (on-leaf-in union path on).room, union.1.capacity.most, on.stands.leaf.within)
 
   module _ (cmp : K → K → Ordering) (key : K) where
-    -- what a search answers, and where the path stands then
+    -- the answer of a search, and where the path stands afterwards
     pub record Ended (answer : Option V) : Type 0 where
       pub value : answer ≡ value_for cmp (list_under table root) key
       pub present : is_present cmp (list_under table root) key ≡ true → StandsOn table root path (place cmp (list_under table root) key)
       pub absent : is_present cmp (list_under table root) key ≡ false → IsPlaced table root path (place cmp (list_under table root) key)
 
-    -- on the key's entry, or at its place, where it is absent
+    -- the search ended on the key's entry, or at its place where the key is absent
     ended : (p : ℕ) (found : Option (K × V)) → Finds cmp (list_under table root) key p found → (is_some found ≡ true → StandsOn table root path p) → (is_some found ≡ false → IsPlaced table root path p) → Ended (option_map (λ w. w.1) found)
     ended p found f on at = record {
       value = sym (ap (λ o. option_map (λ w. w.1) o) f.entry_is);
@@ -114,9 +114,9 @@ module _ {K V : Type 0} {n : ℕ} (table : Table K V) (root : ℕ) (path : Path 
       absent = λ none. subst (λ (z : ℕ). IsPlaced table root path z) (sym f.place_is) (at (sym (ap is_some f.entry_is) ∙ none));
     }
 
--- a path that went back to the entry before a place
+-- a path that moved to the entry before a place
 module _ {K V : Type 0} {n : ℕ} (cmp : K → K → Ordering) (o : IsTotalOrder cmp) (table : Table K V) (root : ℕ) (key : K) (increasing : IsIncreasing cmp (list_under table root)) (path : Path K V n) (answer : Option (K × V)) where
-  -- there was none
+  -- there is no entry before the place
   pub before-none : (p : ℕ) → answer ≡ entry_before (list_under table root) p → StandsOn table root path (p - 1) → IsUnion n table → IsUpTo cmp (drop p (list_under table root)) key → answer ≡ None → Ended table root path cmp key None
   before-none zero value on union up none =
       ended table root path cmp key 0 None (finds_first cmp o key (list_under table root) increasing up) (λ some. never some refl) (λ none. placed-first table root path union on)
@@ -125,13 +125,13 @@ module _ {K V : Type 0} {n : ℕ} (cmp : K → K → Ordering) (o : IsTotalOrder
       let bad : None ≡ Some r.0 = sym none ∙ value ∙ r.1 in
       absurd (cc)
 
-  -- it is the key's
+  -- the entry before the place has an equal key
   pub before-equal : (p : ℕ) → answer ≡ entry_before (list_under table root) p → StandsOn table root path (p - 1) → (e : K × V) → answer ≡ Some e → cmp key e.0 ≡ Equal → Ended table root path cmp key (Some e.1)
   before-equal zero value on e is t = let bad : Some e ≡ None = sym is ∙ value in absurd (cc)
   before-equal (suc p) value on e is t =
       ended table root path cmp key p (Some e) (finds_here cmp o key (list_under table root) p e (sym value ∙ is) increasing t) (λ some. subst (λ (z : ℕ). StandsOn table root path z) (omega arith) on) (never refl)
 
-  -- it is less, and the path went one behind it
+  -- the entry before the place is less, and the path moved just past it
   pub before-greater : (p : ℕ) → answer ≡ entry_before (list_under table root) p → StandsOn table root path (p - 1) → (e : K × V) → answer ≡ Some e →
       (path' : Path K V n) → IsUnion n table → path'.node ≡ path.node → index_of path' ≡ index_of path + 1 → ((i : ℕ) → i ≢ 0 → get_or path'.entry i 0 ≡ get_or path.entry i 0) → path'.size ≡ path.size →
       IsUpTo cmp (drop p (list_under table root)) key → cmp key e.0 ≡ Greater → Ended table root path' cmp key None
@@ -141,31 +141,31 @@ module _ {K V : Type 0} {n : ℕ} (cmp : K → K → Ordering) (o : IsTotalOrder
 
 -- a path at a place
 module _ {K V : Type 0} {n : ℕ} (table : Table K V) (root : ℕ) (path : Path K V n) (p : ℕ) (at : StandsAt table root path p) where
-  -- at the end no entry is left
+  -- a path at the end has no entries left
   pub none-left : (cmp : K → K → Ordering) (key : K) → path.size ≡ 0 → IsUpTo cmp (drop p (list_under table root)) key
   none-left cmp key none =
       subst (λ (z : List (K × V)). IsUpTo cmp z key) (sym (drop_all p (list_under table root) (omega (arith, at_end path.node path.entry (tree_of table.nodes root) p path.size none at.at)))) tt
 
-  -- elsewhere it is on an entry
+  -- a path that is not at the end is on an entry
   pub some-on : 0 < path.size → StandsOn table root path p
   some-on some = record { root_is = at.root_is; stands = at_entry path.node path.entry (tree_of table.nodes root) p path.size (λ none. omega (arith, some, none)) at.at }
 
 -- a path on an entry
 module _ {K V : Type 0} {n : ℕ} (table : Table K V) (root : ℕ) (path : Path K V n) (p : ℕ) (union : IsUnion n table) (on : StandsOn table root path p) where
-  -- its leaf has the entry
+  -- the path's leaf has the entry
   pub here-leaf : (entries : List (K × V)) × (slice_get table.nodes (leaf_of path) ≡ Some (leaf_content entries)) × (index_of path < length entries)
   here-leaf = (on.stands.leaf.entries, (on-leaf-in union path on).slot_is, on.stands.leaf.within)
 
   module _ (e : K × V) (read_is : (entries : List (K × V)) → slice_get table.nodes (leaf_of path) ≡ Some (leaf_content entries) → slice_get entries (index_of path) ≡ Some e) where
-    -- which is the list's
+    -- the entry read in the leaf is the entry of the list
     pub here-entry : slice_get (list_under table root) p ≡ Some e
     here-entry = let w = on-tree union path on in entry_read (some_leaf n union.1.capacity) w.fit w.inside on.stands e read_is
 
     module _ (cmp : K → K → Ordering) (o : IsTotalOrder cmp) (key : K) where
-      -- it is the key's
+      -- the entry has an equal key
       pub here-equal : IsIncreasing cmp (list_under table root) → cmp key e.0 ≡ Equal → Ended table root path cmp key (Some e.1)
       here-equal increasing t = ended table root path cmp key p (Some e) (finds_here cmp o key (list_under table root) p e here-entry increasing t) (λ some. on) (never refl)
 
-      -- it is greater
+      -- the entry is greater than the key
       pub here-greater : cmp key e.0 ≡ Less → IsUpTo cmp (drop p (list_under table root)) key
       here-greater t = upto_at cmp key (list_under table root) p e here-entry (o.antisymm e.0 key ∙ ap ordering_reverse t)

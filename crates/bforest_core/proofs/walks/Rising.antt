@@ -1,4 +1,4 @@
--- Lists of entries that increase, cut in parts, and where a key lies among them.
+-- Increasing lists of entries, cut in parts, and the place of a key in them.
 use Rattle.std.proofs.Common.{◌≡◌, ◌≢◌, ℕ, zero, suc, ◌+◌, ◌≤◌, true, false, cond, if◌then◌else◌, List, [], ◌∷◌, ◌++◌, length, slice_get, Option, Some, None, refl, sym, ap, ◌∙◌, arith}
 use Rattle.bforest_core.proofs.Words.{sum_by-append, alike_right, IsTotalOrder, IsStrictlySortedBy, AllByRecursion, is_some, option_and_then, is_eq, is_gt, is_lt, IsIncreasing, place, entry_for, is_present, child_index}
 use Rattle.std.proofs.lemmas.List.Sums.{count_by-le-length}
@@ -9,13 +9,13 @@ use Rattle.bforest_nodes.proofs.Searched.{all_greater_behind, count_up_to-no, co
 use Rattle.bforest_nodes.proofs.Ordered.{place-later, place-here}
 use Rattle.bforest_core.proofs.table.Lists.{slice_get-append-add}
 
--- a property of all keys, over a list in two parts
+-- a property of all keys of a list holds in each of its two parts
 pub all_split : {K X : Type 0} (P : K → Type 0) (xs ys : List (K × X)) → AllByRecursion P (keys_of (xs ++ ys)) → AllByRecursion P (keys_of xs) × AllByRecursion P (keys_of ys)
 all_split P [] ys h = (tt, h)
 all_split P (x ∷ xs) ys h = let r = all_split P xs ys h.1 in ((h.0, r.0), r.1)
 
 module _ {K : Type 0} (cmp : K → K → Ordering) (o : IsTotalOrder cmp) where
-  -- less than one that is not greater
+  -- a key less than one that is not greater than k is less than k
   pub less_from : (p q k : K) → cmp p q ≡ Less → cmp q k ≢ Greater → cmp p k ≡ Less
   less_from p q k l ng = go (cmp q k) refl
     where
@@ -24,13 +24,13 @@ module _ {K : Type 0} (cmp : K → K → Ordering) (o : IsTotalOrder cmp) where
       go Equal t = sym (alike_right o q k p t) ∙ l
       go Greater t = absurd (ng t)
 
-  -- all less
+  -- keys less than one that is not greater than k are less than k
   pub all_less : (q k : K) (ps : List K) → AllByRecursion (λ p. cmp p q ≡ Less) ps → cmp q k ≢ Greater → AllByRecursion (λ p. cmp p k ≡ Less) ps
   all_less q k [] h ng = tt
   all_less q k (p ∷ ps) h ng = (less_from p q k h.0 ng, all_less q k ps h.1 ng)
 
   module _ {X : Type 0} where
-    -- the two parts increase, and each key of the first is less than that of an entry behind it
+    -- both parts of an increasing list increase
     pub increasing_split : (xs ys : List (K × X)) → IsIncreasing cmp (xs ++ ys) → IsIncreasing cmp xs × IsIncreasing cmp ys
     unfolding IsStrictlySortedBy
     increasing_split [] ys h = (tt, h)
@@ -47,25 +47,25 @@ module _ {K : Type 0} (cmp : K → K → Ordering) (o : IsTotalOrder cmp) where
     unfolding IsStrictlySortedBy
     increasing_rest x xs h = h.1
 
-    -- the place of a key in two parts
+    -- the place of a key in two parts is the sum of its places
     pub place-append : (xs ys : List (K × X)) (k : K) → place cmp (xs ++ ys) k ≡ place cmp xs k + place cmp ys k
     place-append xs ys k = sum_by-append (λ (y : K × X). cond (is_lt (cmp y.0 k)) 1 0) xs ys
 
-    -- behind a list whose keys are all less
+    -- the place of a key after a list of lesser keys is its end
     pub place_all : (xs : List (K × X)) (k : K) → AllByRecursion (λ p. cmp p k ≡ Less) (keys_of xs) → place cmp xs k ≡ length xs
     place_all [] k h = refl
     place_all (x ∷ xs) k h = place-later cmp o x xs k h.0 ∙ ap suc (place_all xs k h.1)
 
-    -- in front of one whose first key is greater
+    -- the place of a key before a list of greater keys is 0
     pub place_none : (xs : List (K × X)) (k : K) → IsIncreasing cmp xs → AllByRecursion (λ p. cmp p k ≡ Greater) (keys_of xs) → place cmp xs k ≡ 0
     place_none [] k i h = refl
     place_none (x ∷ xs) k i h = place-here cmp o x xs k i (ap is_lt h.0)
 
-    -- never past the end
+    -- the place of a key is at most the length
     pub place-le : (xs : List (K × X)) (k : K) → place cmp xs k ≤ length xs
     place-le xs k = count_by-le-length (λ e. is_lt (cmp e.0 k)) xs
 
-    -- what a search at a place within the first part finds, where all behind it is greater
+    -- the entry that a search finds at an index, if its key compares equal
     abbrev pub test_at : List (K × X) → K → ℕ → Option (K × X)
     test_at es k i = option_and_then (λ e. if is_eq (cmp e.0 k) then Some e else None) (slice_get es i)
 
@@ -91,7 +91,7 @@ module _ {K : Type 0} (cmp : K → K → Ordering) (o : IsTotalOrder cmp) where
           ∙ ap (λ e. option_and_then (λ e. if is_eq (cmp e.0 k) then Some e else None) e) (slice_get-append-add xs (es ++ ys) (place cmp es k))
           ∙ test_front es ys k (place cmp es k) (place-le es k) high
 
-    -- a first key that is not greater: its place is not the first, or it is present
+    -- where the first key is not greater, the place of an absent key is not 0
     pub first_passed : (e : K × X) (es : List (K × X)) (k : K) → IsIncreasing cmp (e ∷ es) → cmp e.0 k ≢ Greater → is_present cmp (e ∷ es) k ≡ false → place cmp (e ∷ es) k ≢ 0
     first_passed e es k i ng absent = go (cmp e.0 k) refl
       where
@@ -108,7 +108,7 @@ module _ {K : Type 0} (cmp : K → K → Ordering) (o : IsTotalOrder cmp) where
   all_greater [] k i h = tt
   all_greater (y ∷ ys) k i h = (h y ys refl, all_greater_behind cmp k o y.0 (keys_of ys) i.0 (ap is_lt (h y ys refl)))
 
-  -- where a search among separators divides them
+  -- where a search among separators divides the entries
   pub record Sides {X : Type 0} (es : List (K × X)) (k : K) (i : ℕ) : Type 0 where
     pub l : List (K × X)
     pub r : List (K × X)

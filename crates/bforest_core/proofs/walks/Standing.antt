@@ -17,7 +17,7 @@ use Rattle.bforest_core.proofs.union.Unions.{is-rooted, rooted}
 use Rattle.bforest_core.proofs.walks.Whole.{led_stands, stands-pointed, whole_under}
 
 module _ {K V : Type 0} (path indices : List ℕ) (tree : Tree K V) (place : ℕ) where
-  -- a path on an entry points to it
+  -- a path that stands on an entry points to it
   abbrev pub points-stands : (size : ℕ) → Stands path indices size tree place → PointsAt path indices size tree place
   points-stands size s = record {
     before = s.leaf.before;
@@ -30,17 +30,17 @@ module _ {K V : Type 0} (path indices : List ℕ) (tree : Tree K V) (place : ℕ
     size_is = s.size_is;
   }
 
-  -- on an entry
+  -- a path that stands on an entry is at it
   pub path-on : (size : ℕ) → Stands path indices size tree place → IsPathAt path indices size tree place
   path-on zero s = absurd (omega (arith, s.size_is))
   path-on (suc size) s = s
 
-  -- at the end
+  -- a path without nodes is at the end
   pub path-ended : (size : ℕ) → size ≡ 0 → place ≡ length (flat tree.leaves) → IsPathAt path indices size tree place
   path-ended zero none e = e
   path-ended (suc size) none e = absurd (omega (arith, none))
 
--- what lies under a root
+-- the leaves and rows under a root
 pub record UnderRoot {K V : Type 0} (most : ℕ) (table : Table K V) (root : ℕ) : Type 0 where
   pub first : K
   pub under : Under most table.nodes (tree_of table.nodes root).leaves (tree_of table.nodes root).above ((first, root) ∷ [])
@@ -52,7 +52,7 @@ under-root most table root union is =
     let u = whole_under most table.nodes root (tree_of table.nodes root) w in
     record { first = u.0; under = u.1; low = w.low }
 
--- a path that was led from a root down to the first entry
+-- a path that descended from a root to the first entry
 pub led-first : {K V : Type 0} (most : ℕ) (table : Table K V) (root : ℕ) → IsUnion most table → IsTrue (is_root table.nodes root) → (path indices path' indices' : List ℕ) (level : ℕ) → LeadsFirst most table.nodes path indices path' indices' root level → (level ≤ 16) × StandsUnder table.nodes root path' indices' (level + 1) 0
 led-first most table root union is path indices path' indices' level leads =
     let u = under-root most table root union is in
@@ -69,7 +69,7 @@ on-leaf most table root path indices union is leaf node_is index_is =
     ]
 
 module _ {K X : Type 0} where
-  -- the place of an entry by its node's number, which does not stand before
+  -- the place of an entry, from the number of its node, which does not occur earlier
   place_by : (before : List (LevelNode K X)) (n : ℕ) (es : List (K × X)) (after : List (LevelNode K X)) (index : ℕ) → count n (numbers before) ≡ 0 → place_in (before ++ node n es ∷ after) n index ≡ length (flat before) + index
   place_by [] n es after index none =
       elim (eqb_tells n n) [ inl w ↦ (let z : index ≡ 0 + index = omega arith in (λ j. if w.0 j then index else length es + place_in after n index) ∙ z) | inr w ↦ absurd (w.1 refl) ]
@@ -82,11 +82,11 @@ module _ {K X : Type 0} where
       ]
 
 module _ {K V : Type 0} {n : ℕ} (table : Table K V) (root : ℕ) (path : Path K V n) (place : ℕ) where
-  -- a path on an entry has a node
+  -- a path that stands on an entry has a node
   pub on-some : StandsOn table root path place → path.size ≢ 0
   on-some on none = omega (arith, none, on.stands.size_is)
 
-  -- its place is in front of the end
+  -- the place of a path that stands on an entry is less than the length
   pub on-within : StandsOn table root path place → place < length (list_under table root)
   on-within on =
       let at = on.stands.leaf in
@@ -96,36 +96,36 @@ module _ {K V : Type 0} {n : ℕ} (table : Table K V) (root : ℕ) (path : Path 
   pub on-at : StandsOn table root path place → StandsAt table root path place
   on-at on = record { root_is = on.root_is; at = path-on path.node path.entry (tree_of table.nodes root) place path.size on.stands }
 
-  -- a path at a place in front of the end is on its entry
+  -- a path at a place before the end is on the entry there
   pub at-on : StandsAt table root path place → place < length (list_under table root) → StandsOn table root path place
   at-on s low =
       let some : path.size ≢ 0 = λ none. omega (arith, low, at_end path.node path.entry (tree_of table.nodes root) place path.size none s.at) in
       record { root_is = s.root_is; stands = at_entry path.node path.entry (tree_of table.nodes root) place path.size some s.at }
 
-  -- where a search ended, a path points to the key's place
+  -- a path that stands on an entry points to its place
   pub on-points : StandsOn table root path place → PointsTo table root path place
   on-points on = record { root_is = on.root_is; points = points-stands path.node path.entry (tree_of table.nodes root) place path.size on.stands }
 
   pub placed-points : IsPlaced table root path place → PointsTo table root path place
   placed-points p = record { root_is = p.root_is; points = p.at.points }
 
--- in a union of trees, a path on an entry
+-- a path on an entry, in a union of trees
 module _ {K V : Type 0} {n : ℕ} {table : Table K V} (union : IsUnion n table) {root place : ℕ} (path : Path K V n) (on : StandsOn table root path place) where
   abbrev pub on-tree : IsRooted n table.nodes root (tree_of table.nodes root)
   on-tree = is-rooted n table root union on.root_is
 
-  -- its leaf, and the rows above
+  -- the path's leaf, and the rows above it
   abbrev pub on-leaf-in : InLeaf (some_leaf n union.1.capacity) on-tree.fit on-tree.inside path.node path.entry (length on.stands.leaf.before)
   on-leaf-in = leaf_here (some_leaf n union.1.capacity) on-tree.fit on-tree.inside on.stands
 
-  -- what a step is asked, and what it says of each tree in which the path stands
+  -- the path meets what a step requires
   pub on-asks : (path.size ≤ 17) × ((tree : Tree K V) × (place : ℕ) × IsFit n tree × IsIn table.nodes tree × Stands path.node path.entry path.size tree place)
   on-asks = (omega (arith, on.stands.size_is, on-tree.low), (tree_of table.nodes root, place, on-tree.fit, on-tree.inside, on.stands))
 
   pub said : {Says : Tree K V → ℕ → Type 0} → ((tree : Tree K V) (place : ℕ) → IsFit n tree → IsIn table.nodes tree → Stands path.node path.entry path.size tree place → Says tree place) → Says (tree_of table.nodes root) place
   said says = says (tree_of table.nodes root) place on-tree.fit on-tree.inside on.stands
 
--- a path at an entry of a leaf, or behind a leaf's last one
+-- a path at an entry of a leaf, or past a leaf's last one
 module _ {K V : Type 0} {n : ℕ} {table : Table K V} (union : IsUnion n table) {root place : ℕ} (path : Path K V n) (to : PointsTo table root path place) where
   abbrev tree_is : IsRooted n table.nodes root (tree_of table.nodes root)
   tree_is = is-rooted n table root union to.root_is
@@ -133,7 +133,7 @@ module _ {K V : Type 0} {n : ℕ} {table : Table K V} (union : IsUnion n table) 
   abbrev pointed : InLeaf (some_leaf n union.1.capacity) tree_is.fit tree_is.inside path.node path.entry (length to.points.before)
   pointed = in_leaf (some_leaf n union.1.capacity) tree_is.fit tree_is.inside path.node path.entry to.points.before to.points.entries to.points.after to.points.leaves_are to.points.above
 
-  -- what the leaf's slot holds
+  -- the content of the leaf's slot
   pub pointed-leaf : (entries : List (K × V)) × (slice_get table.nodes (leaf_of path) ≡ Some (leaf_content entries))
   pointed-leaf = (to.points.entries, pointed.slot_is)
 
@@ -145,14 +145,14 @@ module _ {K V : Type 0} {n : ℕ} {table : Table K V} (union : IsUnion n table) 
   pointed-above = (omega (arith, to.points.size_is, tree_is.low), ((tree_of table.nodes root).above, heads (tree_of table.nodes root).leaves, length to.points.before, pointed-over))
 
   module _ (has : Bool) (test : (entries : List (K × V)) → slice_get table.nodes (leaf_of path) ≡ Some (leaf_content entries) → IsTrue has ↔ (index_of path < length entries)) where
-    -- at an entry of the leaf
+    -- the path is at an entry of the leaf
     pub pointed-here : has ≡ true → StandsAt table root path place
     pointed-here is = on-at table root path place (record { root_is = to.root_is; stands = stands-pointed to.points ((test to.points.entries pointed.slot_is).0 is) })
 
     behind : has ≡ false → place ≡ length (flat to.points.before) + length to.points.entries
     behind none = omega (arith, to.points.place_is, to.points.within, not_less (index_of path) (length to.points.entries) (λ low. false≢true (sym none ∙ (test to.points.entries pointed.slot_is).1 low)))
 
-    -- behind the last entry, the first of the next leaf is at the same place
+    -- past a leaf's last entry, the first of the next leaf is at the same place
     pub pointed-next : has ≡ false → (moved new : Path K V n) → ((rows : List (List (LevelNode K ℕ))) (list : List (K × ℕ)) (at : ℕ) → Over table.nodes path.node path.entry 1 path.size rows list at → Moved path.node path.entry moved.node moved.entry 0 rows list (suc at)) →
         new.node ≡ moved.node → get_or new.entry 0 0 ≡ 0 → SameBut 0 moved.entry new.entry → new.size ≡ path.size → StandsAt table root new place
     pointed-next none moved new goes nodes here above size =
@@ -160,21 +160,21 @@ module _ {K V : Type 0} {n : ℕ} {table : Table K V} (union : IsUnion n table) 
         let s = first_behind (some_leaf n union.1.capacity) tree_is.fit tree_is.inside pointed new.size (size ∙ to.points.size_is) moved.node moved.entry new.node new.entry m nodes here above in
         on-at table root new place (record { root_is = to.root_is; stands = subst (λ (z : ℕ). Stands new.node new.entry new.size (tree_of table.nodes root) z) (sym (behind none)) s })
 
-    -- behind the last entry of all
+    -- past the last entry of all, the path is at the end
     pub pointed-last : has ≡ false → ((rows : List (List (LevelNode K ℕ))) (list : List (K × ℕ)) (at : ℕ) → Over table.nodes path.node path.entry 1 path.size rows list at → suc at ≡ length list) → (nodes entries : List ℕ) → AtUnder table.nodes root nodes entries 0 place
     pointed-last none last nodes entries =
         record { root_is = to.root_is; at = behind none ∙ leaf_last (some_leaf n union.1.capacity) tree_is.fit tree_is.inside pointed (last (tree_of table.nodes root).above (heads (tree_of table.nodes root).leaves) (length to.points.before) pointed-over) }
 
--- in a union of trees
+-- a path in a union of trees
 module _ {K V : Type 0} {n : ℕ} (most : ℕ) (table : Table K V) (root : ℕ) (path : Path K V n) (place : ℕ) (union : IsUnion most table) where
-  -- one that points to a place is in the tree of its root
+  -- the root of a path that points to a place under a root
   pub points-root : PointsTo table root path place → path_root path ≡ root
   points-root to =
       let r = rooted most table root union to.root_is in
       let half = some_leaf most union.1.capacity in
       sym (root-points most (tree_of table.nodes root) path.node path.entry path.size place (omega (arith, half)) r.fit to.points) ∙ r.root_is
 
-  -- it points to one place alone, which is computed from its leaf and its index there
+  -- a path points to one place only, which is computed from its leaf and its index there
   pub points-spot : PointsTo table root path place → spot table root path ≡ place
   points-spot to =
       let tree = tree_of table.nodes root in
@@ -188,11 +188,11 @@ module _ {K V : Type 0} {n : ℕ} (most : ℕ) (table : Table K V) (root : ℕ) 
       ∙ place_by at.before m at.entries at.after (index_of path) none
       ∙ sym at.place_is
 
-  -- so is one that stands on an entry
+  -- a path that stands on an entry has its place computed
   pub on-spot : StandsOn table root path place → spot table root path ≡ place
   on-spot on = points-spot (on-points table root path place on)
 
-  -- the end too
+  -- a path on an entry or at the end has its place computed
   pub at-spot : StandsAt table root path place → spot table root path ≡ place
   at-spot s = elim (eqb_tells path.size 0) [
     | inl w ↦ (λ j. if w.0 j then length (list_under table root) else place_in (tree_of table.nodes root).leaves (leaf_of path) (index_of path)) ∙ sym (at_end path.node path.entry (tree_of table.nodes root) place path.size w.1 s.at)

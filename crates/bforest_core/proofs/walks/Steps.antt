@@ -8,33 +8,33 @@ use Rattle.bforest_core.proofs.table.Tables.{row-split}
 use Rattle.bforest_core.proofs.rows.Zipper.{cut}
 use Rattle.bforest_core.proofs.walks.Downward.{seen}
 
--- a fit row has no empty node
+-- a fit row has as many heads as nodes
 pub fit_full : {K X : Type 0} (half most : ℕ) → 1 ≤ half → (row : List (LevelNode K X)) → FitRow half most row → length (heads row) ≡ length row
 fit_full half most one [] f = refl
 fit_full half most one (node m [] ∷ ns) f = absurd (omega (arith, f.0, least-pos half one ns))
 fit_full half most one (node m (e ∷ es) ∷ ns) f = ap suc (fit_full half most one ns f.2)
 
--- so one that shows no node from above has none
+-- a fit row without heads has no nodes
 pub no_heads : {K X : Type 0} (half most : ℕ) → 1 ≤ half → (row : List (LevelNode K X)) → FitRow half most row → heads row ≡ [] → row ≡ []
 no_heads half most one row f none = nil_from_length row (sym (fit_full half most one row f) ∙ ap length none)
 
--- an entry of a row
+-- an entry of a node is an entry of the row
 pub entry_at : {K X : Type 0} (row : List (LevelNode K X)) (before : List (LevelNode K X)) (n : ℕ) (es : List (K × X)) (after : List (LevelNode K X)) (i : ℕ) (x : K × X) → row ≡ before ++ node n es ∷ after → slice_get es i ≡ Some x → slice_get (flat row) (length (flat before) + i) ≡ Some x
 entry_at row before n es after i x row_is found =
     ap (λ z. slice_get (flat z) (length (flat before) + i)) row_is ∙ ap (λ z. slice_get z (length (flat before) + i)) (flat-append before (node n es ∷ after)) ∙ slice_get-append-add (flat before) (es ++ flat after) i ∙ slice_get-append_left es (flat after) i x found
 
--- an index within
+-- an index within a list has an element
 pub read : {A : Type 0} (xs : List A) (i : ℕ) → i < length xs → (x : A) × (slice_get xs i ≡ Some x)
 read xs i low = let c = cut xs i low in (c.x, ap (λ z. slice_get z i) c.es_is ∙ slice_get_at c.l c.x c.r i c.place_is)
 
--- the slot of a path's node, by the number that was read in the path
+-- the slot of a path's node, by the number that was read from the path
 pub at_index : {A : Type 0} (slots : List A) (path : List ℕ) {up level : ℕ} (r : ℕ) {x : A} → level < length path → level ≡ up → slice_get slots (get_or path up 0) ≡ Some x → slice_get slots (get_or path level r) ≡ Some x
 at_index slots path {level = level} r low same found = ap (slice_get slots) (get_or_default path level r 0 low ∙ ap (λ z. get_or path z 0) same) ∙ found
 
 pub not_less : (m n : ℕ) → (m < n → ⊥) → n ≤ m
 not_less m n past = omega (arith, past)
 
--- a test has one outcome
+-- a test does not have two outcomes
 pub never : {test : Bool} {A : Type 0} → test ≡ true → test ≡ false → A
 never is not = absurd (false≢true (sym not ∙ is))
 
@@ -52,14 +52,14 @@ module _ {K V X : Type 0} (content : List (K × X) → Content K V) (slots : Lis
     pub room : length entries ≤ most
 
   module _ (half : ℕ) (one : 1 ≤ half) (row : List (LevelNode K X)) (fit : FitRow half most row) (inside : RowIn content slots row) where
-    -- it is, where the node stands in the row
+    -- a path is in its node at this place of the row
     abbrev pub within : (path indices : List ℕ) (up : ℕ) (rest : List (List (LevelNode K ℕ))) (place : ℕ) (before : List (LevelNode K X)) (entries : List (K × X)) (after : List (LevelNode K X)) → row ≡ before ++ node (get_or path up 0) entries ∷ after → length before ≡ place → StandsAbove path indices (suc up) rest place → Within path indices up row rest place
     within path indices up rest place before entries after row_is at stands =
         let f = (FitRow-split half most before (node (get_or path up 0) entries) after (subst (FitRow half most) row_is fit)).1 in
         let i = (row-split content slots before (node (get_or path up 0) entries ∷ after) (subst (RowIn content slots) row_is inside)).1.0 in
         record { before = before; entries = entries; after = after; row_is = row_is; at = at; stands = stands; slot_is = i; some = omega (arith, f.0, least-pos half one after); room = f.1 }
 
-    -- and where it went to that place
+    -- a path that moved to a place is in the node there
     pub there : {path indices path1 indices1 : List ℕ} {up : ℕ} {rest : List (List (LevelNode K ℕ))} {place : ℕ} → Moved path indices path1 indices1 up rest (heads row) place → Within path1 indices1 up row rest place
     there {path1 = path1} {indices1 = indices1} {up = up} {rest = rest} {place = place} m =
         let c = cut (heads row) place (slice_get_within (heads row) place m.head m.head_is) in
@@ -68,7 +68,7 @@ module _ {K V X : Type 0} (content : List (K × X) → Content K V) (slots : Lis
         within path1 indices1 up rest place s.before (s.e ∷ s.es) s.after (s.row_is ∙ ap (λ z. s.before ++ node z (s.e ∷ s.es) ∷ s.after) (sym m.node_is)) (s.before_is ∙ c.place_is) m.stands
 
   module _ {path indices : List ℕ} {up : ℕ} {row : List (LevelNode K X)} {rest : List (List (LevelNode K ℕ))} {place : ℕ} (a : Within path indices up row rest place) where
-    -- the entries of the node are those in front of the next node's
+    -- the next node starts where the entries of this one end
     pub seam : {path1 indices1 : List ℕ} {place1 : ℕ} (b : Within path1 indices1 up row rest place1) → place1 ≡ suc place → length (flat b.before) ≡ length (flat a.before) + length a.entries
     seam {path1 = path1} b is =
         let k = length b.before in
@@ -76,14 +76,14 @@ module _ {K V X : Type 0} (content : List (K × X) → Content K V) (slots : Lis
         let two : b.before ≡ a.before ++ x ∷ [] = sym (take_at b.before (node (get_or path1 up 0) b.entries ∷ b.after) k refl) ∙ ap (λ z. take k z) (sym b.row_is ∙ a.row_is ∙ sym (append_assoc a.before (x ∷ []) a.after)) ∙ take_at (a.before ++ x ∷ []) a.after k (omega (arith, is, a.at, b.at, length-append a.before (x ∷ []))) in
         omega (arith, ap (λ z. length (flat z)) two, ap length (flat-append a.before (x ∷ [])), length-append (flat a.before) (a.entries ++ []), length-append a.entries [])
 
-    -- or the last of the row
+    -- the last node's entries end the row
     pub none_behind : (half : ℕ) → 1 ≤ half → FitRow half most row → suc place ≡ length (heads row) → length (flat row) ≡ length (flat a.before) + length a.entries
     none_behind half one fit last =
         let x = node (get_or path up 0) a.entries in
         let none = nil_from_length a.after (omega (arith, last, a.at, fit_full half most one row fit, ap length a.row_is, length-append a.before (x ∷ a.after))) in
         omega (arith, ap (λ z. length (flat z)) a.row_is, ap length (flat-append a.before (x ∷ a.after)), length-append (flat a.before) (a.entries ++ flat a.after), length-append a.entries (flat a.after), ap (λ z. length (flat z)) none)
 
-    -- what asking for the last index of the node asks, and that index
+    -- the node meets what reading its last index requires
     module _ (counts : (es : List (K × X)) → entry_count (content es) ≡ length es) (r : ℕ) (wide : up < length path) where
       abbrev pub last_asks : (x : Content K V) × (slice_get slots (get_or path up r) ≡ Some x) × (1 ≤ entry_count x)
       last_asks = (content a.entries, at_index slots path r wide refl a.slot_is, omega (arith, counts a.entries, a.some))
@@ -132,7 +132,7 @@ module _ {K V : Type 0} where
         over = record { stacked = p.stacked.2; inside = p.inside.1; stands = p.stands.1; height = omega (arith, p.height) };
       }
 
--- no row above: the only node
+-- where no row is above, the level has one node
 pub only : {K V : Type 0} {slots : List (Content K V)} {path indices : List ℕ} {level size : ℕ} {rows : List (List (LevelNode K ℕ))} {list : List (K × ℕ)} {place : ℕ} → Over slots path indices level size rows list place → level ≡ size → (place ≡ 0) × (suc place ≡ length list)
 only {rows = []} p e = (p.stands, omega (arith, p.stands, p.stacked))
 only {rows = row ∷ rows} p e = absurd (omega (arith, p.height, e))

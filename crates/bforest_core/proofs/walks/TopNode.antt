@@ -1,4 +1,4 @@
--- A node at the top of some rows: a leaf where there are none of inner nodes, and else one of the highest of these.
+-- A node on top of some rows: a leaf where there are no inner rows, else a node of the highest of them.
 use Rattle.std.proofs.Common.{◌≡◌, ◌≢◌, ℕ, suc, ◌+◌, ◌≤◌, ◌<◌, ◌⊎◌, inl, inr, List, [], ◌∷◌, ◌++◌, length, get_or, set, slice_get, Some, refl, sym, ap, subst, ◌∙◌, arith, append_assoc, length-append}
 use Rattle.bforest_core.proofs.Words.{get_or-set_other, nil_from_length, slice_get_within, Content, IsInner, entry_count, LevelNode, node, flat, heads, half_of, RowIn, RowsIn, leaf_content, inner_content, IsAt, StackedTo, Under}
 use Rattle.bforest_core.proofs.rows.LevelRows.{flat-append}
@@ -6,7 +6,7 @@ use Rattle.bforest_core.proofs.table.Stored.{some_same}
 use Rattle.bforest_core.proofs.table.Tables.{row-split}
 use Rattle.bforest_core.proofs.walks.Downward.{Seen, at_node, seen, last_of, stacked_last, in_last}
 
--- but for this level a list is as before
+-- the list is unchanged except at this level
 abbrev pub SameBut : ℕ → List ℕ → List ℕ → Type 0
 SameBut level old new = (i : ℕ) → i ≢ level → get_or new i 0 ≡ get_or old i 0
 
@@ -17,12 +17,12 @@ set_but old new level n is i other = ap (λ z. get_or z i 0) is ∙ get_or-set_o
 pub none_flat : {K X : Type 0} (row : List (LevelNode K X)) → length row ≡ 0 → length (flat row) ≡ 0
 none_flat row e = ap (λ z. length (flat z)) (nil_from_length row e)
 
--- the entries of a row, parted within a node
+-- the entries of a row, cut within a node
 pub flat_parted : {K X : Type 0} (before : List (LevelNode K X)) (n : ℕ) (es l : List (K × X)) (x : K × X) (r : List (K × X)) (after : List (LevelNode K X)) → es ≡ l ++ x ∷ r → flat (before ++ node n es ∷ after) ≡ (flat before ++ l) ++ x ∷ (r ++ flat after)
 flat_parted before n es l x r after is =
     flat-append before (node n es ∷ after) ∙ ap (λ z. flat before ++ (z ++ flat after)) is ∙ ap (λ z. flat before ++ z) (append_assoc l (x ∷ r) (flat after)) ∙ sym (append_assoc (flat before) l (x ∷ (r ++ flat after)))
 
--- a place at the node
+-- a path's place at the node
 abbrev pub seen_at : {K X : Type 0} {half most : ℕ} {row : List (LevelNode K X)} {a : List (K × ℕ)} {first : K} {number : ℕ} {b : List (K × ℕ)} (at : Seen half most row a first number b) (n j index place : ℕ) → n ≡ number → j ≡ index → index ≤ length at.es → place ≡ length (flat at.before) + index → IsAt row n j place
 seen_at {row = row} {number = number} at n j index place n_is j_is within place_is = at_node row at.before number (at.e ∷ at.es) at.after n j index place at.row_is n_is j_is (omega (arith, within)) place_is
 
@@ -65,7 +65,7 @@ module _ {K V : Type 0} (most : ℕ) (one : 1 ≤ half_of most) (slots : List (C
       })
 
   module _ (lower : List (List (LevelNode K ℕ))) (a : List (K × ℕ)) (first : K) (number : ℕ) (b : List (K × ℕ)) (u : Under most slots leaves lower (a ++ (first, number) ∷ b)) where
-    -- its slot holds a node with entries
+    -- the node's slot holds a node with entries
     pub node_held : (content : Content K V) × (slice_get slots number ≡ Some content) × (1 ≤ entry_count content)
     node_held = elim (node_under lower a first number b u) [ inl s ↦ (leaf_content (s.at.e ∷ s.at.es), s.slot_is, omega arith) | inr s ↦ (inner_content (s.at.e ∷ s.at.es), s.slot_is, omega arith) ]
 
@@ -75,14 +75,14 @@ module _ {K V : Type 0} (most : ℕ) (one : 1 ≤ half_of most) (slots : List (C
     same_inner : (c d : Content K V) → slice_get slots number ≡ Some c → slice_get slots number ≡ Some d → IsInner d → IsInner c
     same_inner c d e f i = subst IsInner (some_same d c (sym f ∙ e)) i
 
-    -- which of the two, by what the slot holds
+    -- the node is a leaf if its content is not an inner node
     pub leaf_under : (content : Content K V) → slice_get slots number ≡ Some content → (IsInner content → ⊥) → LeafUnder most slots leaves lower a first number b
     leaf_under content found other = elim (node_under lower a first number b u) [ inl s ↦ s | inr s ↦ absurd (other (same_inner content (inner_content (s.at.e ∷ s.at.es)) found s.slot_is tt)) ]
 
     pub inner_under : (content : Content K V) → slice_get slots number ≡ Some content → IsInner content → InnerUnder most slots leaves lower a first number b
     inner_under content found inner = elim (node_under lower a first number b u) [ inl s ↦ absurd (same_inner (leaf_content (s.at.e ∷ s.at.es)) content s.slot_is found inner) | inr s ↦ s ]
 
-    -- or by the rows below it
+    -- the node is a leaf if there are no rows below it
     pub leaf_at : length lower ≡ 0 → LeafUnder most slots leaves lower a first number b
     leaf_at none = elim (node_under lower a first number b u) [ inl s ↦ s | inr s ↦ absurd (omega (arith, none, s.count_is)) ]
 

@@ -1,4 +1,5 @@
--- A path's node goes to the next one of its level, or to the one before: each answer of `next_node` and `prev_node` is one of these.
+-- Moving a path's node to the next or the previous one of its level: the answers of `next_node` and
+-- `prev_node`.
 use Rattle.std.proofs.Common.{◌≡◌, ◌≢◌, ℕ, suc, ◌+◌, ◌-◌, ◌≤◌, ◌<◌, List, ◌∷◌, length, get_or, slice_get, option_map, Some, Bool, true, false, IsTrue, ◌↔◌, refl, sym, ap, subst, ◌∙◌, arith}
 use Rattle.bforest_core.proofs.Words.{false≢true, Content, entry_count, LevelNode, flat, heads, inner_content, entry_items, SameBelow, StandsAbove, Over, Moved}
 use Rattle.bforest_core.proofs.rows.Zipper.{stands-same}
@@ -9,11 +10,11 @@ use Rattle.bforest_core.proofs.walks.Steps.{Spot, Within, entry_at, last_asks, l
 use Rattle.bforest_core.proofs.walks.TopNode.{SameBut, none_flat}
 
 module _ {K V : Type 0} where
-  -- what going to a child asks
+  -- what going to a child requires
   abbrev pub ChildAt : List (Content K V) → List ℕ → ℕ → ℕ → Type 0
   ChildAt slots path level index = (level ≤ 15) × ((index ≤ 255) × ((entries : List (K × ℕ)) × (slice_get slots (get_or path (suc level) 0) ≡ Some (inner_content entries)) × (index < length entries)))
 
-  -- what it says of the child
+  -- the child to which the path goes is the entry's
   abbrev pub Reads : List (Content K V) → List ℕ → List ℕ → ℕ → ℕ → Type 0
   Reads slots path path' level index = (entries : List (K × ℕ)) → slice_get slots (get_or path (suc level) 0) ≡ Some (inner_content entries) → slice_get (entry_items entries) index ≡ Some (get_or path' level 0)
 
@@ -24,19 +25,19 @@ module _ {K V : Type 0} where
     abbrev stay : Within inner_content slots 8 path indices up here.row here.rest (length here.before)
     stay = within inner_content slots 8 4 (omega arith) here.row here.fit here.inside path indices up here.rest (length here.before) here.before here.entries here.after here.row_is refl here.over.stands
 
-    -- what the test for a child asks
+    -- the node meets what the test for a child requires
     pub has_asks : (up ≤ 16) × ((entries : List (K × ℕ)) × (slice_get slots (get_or path up 0) ≡ Some (inner_content entries)))
     has_asks = (omega (arith, height, here.over.height), (here.entries, here.slot_is))
 
-    -- what the step above asks
+    -- the rows above meet what the step above requires
     pub above_asks : (rest : List (List (LevelNode K ℕ))) × (list : List (K × ℕ)) × (at : ℕ) × Over slots path indices (suc up) size rest list at
     above_asks = (here.rest, heads here.row, length here.before, here.over)
 
-    -- the index has room for one more
+    -- the index is less than 8
     pub index_low : get_or indices up 0 < 8
     index_low = omega (arith, here.within, here.most_is)
 
-    -- to a child of the node where the path went, or stayed
+    -- the path goes to a child of the node on which it is after the step above
     module _ {path1 indices1 : List ℕ} {q : ℕ} (w : Within inner_content slots 8 path1 indices1 up here.row here.rest q) where
       slot_below : slice_get slots (get_or path1 (suc level) 0) ≡ Some (inner_content w.entries)
       slot_below = ap (λ z. slice_get slots (get_or path1 z 0)) (sym up_is) ∙ w.slot_is
@@ -60,7 +61,7 @@ module _ {K V : Type 0} where
             entries_below = λ i low. entries i (λ e. omega (arith, e, low)) ∙ entries_below i (omega (arith, low, up_is));
           }
 
-    -- to the child before
+    -- the node meets what going to the previous child requires
     pub before_asks : 0 < get_or indices up 0 → ChildAt slots path level (get_or indices up 0 - 1)
     before_asks some = child_asks stay (get_or indices up 0 - 1) (omega (arith, index_low)) (omega (arith, here.within))
 
@@ -68,7 +69,7 @@ module _ {K V : Type 0} where
     before_moves path' indices' some child nodes entry entries =
         (omega (arith, some, here.place_is), child_moves stay (λ i low. refl) (λ i low. refl) path' indices' (get_or indices up 0 - 1) (place - 1) (omega (arith, here.within)) (omega (arith, some, here.place_is)) child nodes entry entries)
 
-    -- the first node of the level
+    -- the first child of the first node is the first of the level
     pub first_moves : ((rows : List (List (LevelNode K ℕ))) (list : List (K × ℕ)) (place : ℕ) → Over slots path indices (suc up) size rows list place → place ≡ 0) → get_or indices up 0 ≤ 0 → place ≡ 0
     first_moves first none = omega (arith, here.place_is, none, none_flat here.before (first here.rest (heads here.row) (length here.before) here.over))
 
@@ -79,7 +80,7 @@ module _ {K V : Type 0} where
       back_node : Within inner_content slots 8 path1 indices1 up here.row here.rest (length here.before - 1)
       back_node = there inner_content slots 8 4 (omega arith) here.row here.fit here.inside back.1
 
-      -- what its last index asks
+      -- the previous node meets what reading its last index requires
       pub back_asks : (x : Content K V) × (slice_get slots (get_or path1 up r) ≡ Some x) × (1 ≤ entry_count x)
       back_asks = last_asks inner_content slots 8 back_node item_count r (omega (arith, wide, height, here.over.height))
 
@@ -87,7 +88,7 @@ module _ {K V : Type 0} where
         last_child : suc last ≡ length back_node.entries
         last_child = last_is inner_content slots 8 back_node item_count r (omega (arith, wide, height, here.over.height)) last says
 
-        -- to the last child of the node before
+        -- the previous node meets what going to its last child requires
         pub last_child_asks : last ≤ 255 → ChildAt slots path1 level last
         last_child_asks most = child_asks back_node last most (omega (arith, last_child))
 
@@ -97,7 +98,7 @@ module _ {K V : Type 0} where
             (omega (arith, here.place_is, seam_is, last_child), child_moves back_node back.1.nodes_below back.1.entries_below path' indices' last (place - 1) (omega (arith, last_child)) (omega (arith, here.place_is, none, seam_is, last_child)) child nodes entry entries)
 
     module _ (has : Bool) (test : (entries : List (K × ℕ)) → slice_get slots (get_or path up 0) ≡ Some (inner_content entries) → IsTrue has ↔ (get_or indices up 0 + 1 < length entries)) where
-      -- to the next child
+      -- the node meets what going to the next child requires
       pub next_asks : has ≡ true → ChildAt slots path level (get_or indices up 0 + 1)
       next_asks is = child_asks stay (get_or indices up 0 + 1) (omega (arith, index_low)) ((test here.entries here.slot_is).0 is)
 
@@ -107,7 +108,7 @@ module _ {K V : Type 0} where
       past_all : has ≡ false → length here.entries ≤ get_or indices up 0 + 1
       past_all is = not_less (get_or indices up 0 + 1) (length here.entries) (λ low. false≢true (sym is ∙ (test here.entries here.slot_is).1 low))
 
-      -- the last node of the level
+      -- the last child of the last node is the last of the level
       pub last_moves : ((rows : List (List (LevelNode K ℕ))) (list : List (K × ℕ)) (place : ℕ) → Over slots path indices (suc up) size rows list place → suc place ≡ length list) → has ≡ false → suc place ≡ length list
       last_moves last is = omega (arith, here.place_is, here.within, past_all is, ap length here.flat_is, none_behind inner_content slots 8 stay 4 (omega arith) here.fit (last here.rest (heads here.row) (length here.before) here.over))
 
@@ -118,7 +119,7 @@ module _ {K V : Type 0} where
       on_node : Within inner_content slots 8 path1 indices1 up here.row here.rest (suc (length here.before))
       on_node = there inner_content slots 8 4 (omega arith) here.row here.fit here.inside on
 
-      -- to the first child of the next node
+      -- the next node meets what going to its first child requires
       pub first_child_asks : ChildAt slots path1 level 0
       first_child_asks = child_asks on_node 0 (omega arith) on_node.some
 

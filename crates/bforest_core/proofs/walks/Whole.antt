@@ -1,17 +1,17 @@
--- A whole tree as what lies under its root, and a path that was led down from there.
+-- A whole tree as the leaves and rows under its root, and a path that descended from there.
 use Rattle.std.proofs.Common.{◌≡◌, ℕ, suc, true, false, IsTrue, ◌<◌, List, [], ◌∷◌, length, get_or, ap, arith}
 use Rattle.std.specs.declared.cmp.Ordering.{Ordering}
 use Rattle.bforest_core.proofs.Words.{Content, place, is_present, LevelNode, flat, heads, Stacked, Tree, StandsAbove, Stands, root_above, StackedTo, StandsTo, Under, GoesThrough, Descended, Led, IsRooted, PlacedUnder, PointsAt, StandsUnder, is_root, tree_of}
 
 module _ {K : Type 0} where
-  -- the root alone is the top
+  -- the root alone is the top level
   top : (list : List (K × ℕ)) (rows : List (List (LevelNode K ℕ))) (root : ℕ) → Stacked list rows → root_above list rows ≡ root → (first : K) × StackedTo list rows ((first, root) ∷ [])
   top [] [] root s e = absurd (omega (arith, s))
   top (x ∷ y ∷ list) [] root s e = absurd (omega (arith, s))
   top (x ∷ []) [] root s e = (x.0, ap (λ z. (x.0, z) ∷ []) e)
   top list (row ∷ rows) root s e = let t = top (heads row) rows root s.2 e in (t.0, (s.0, s.1, t.1))
 
-  -- a path up to the root stands on all rows
+  -- a path that reaches the root stands on all rows
   pub stands_above : (path indices : List ℕ) (level : ℕ) (rows : List (List (LevelNode K ℕ))) (place : ℕ) → StandsTo path indices level rows place 0 → StandsAbove path indices level rows place
   stands_above path indices level [] place s = s
   stands_above path indices level (row ∷ rows) place s = (s.0, stands_above path indices (suc level) rows (length s.0.before) s.1)
@@ -20,7 +20,7 @@ pub led_stands : {K V : Type 0} (tree : Tree K V) (path indices path' indices' :
 led_stands tree path indices path' indices' size d e = record { leaf = d.leaf; above = stands_above path' indices' 1 tree.above (length d.leaf.before) d.stands; size_is = e }
 
 module _ {K V : Type 0} (most : ℕ) (slots : List (Content K V)) (root : ℕ) (tree : Tree K V) (r : IsRooted most slots root tree) where
-  -- what lies under its root is all of it
+  -- the leaves and rows under the root are the whole tree
   pub whole_under : (first : K) × Under most slots tree.leaves tree.above ((first, root) ∷ [])
   whole_under = let t = top (heads tree.leaves) tree.above root r.fit.stacked r.root_is in (t.0, record { leaves_fit = r.fit.leaves_fit; leaves_in = r.inside.leaves_in; stacked = t.1; rows_in = r.inside.rows_in })
 
@@ -31,7 +31,7 @@ all_through cmp first key = record { from = tt; upto = tt }
 pub stands-pointed : {K V : Type 0} {path indices : List ℕ} {size place : ℕ} {tree : Tree K V} (p : PointsAt path indices size tree place) → get_or indices 0 0 < length p.entries → Stands path indices size tree place
 stands-pointed p low = record { leaf = record { before = p.before; entries = p.entries; after = p.after; row_is = p.leaves_are; within = low; place_is = p.place_is }; above = p.above; size_is = p.size_is }
 
--- where a search under a root ended: at the key's entry where it is present, and else where the key comes in
+-- where a search ended: at the key's entry where the key is present, else where it may be inserted
 module _ {K V : Type 0} (cmp : K → K → Ordering) (slots : List (Content K V)) (root : ℕ) (is : IsTrue (is_root slots root)) {key : K} {path indices path' indices' : List ℕ} {size : ℕ}
     (d : Descended cmp (tree_of slots root).leaves (tree_of slots root).above key 0 path indices path' indices') (size_is : size ≡ suc (length (tree_of slots root).above)) where
   abbrev points : PointsAt path' indices' size (tree_of slots root) (place cmp (flat (tree_of slots root).leaves) key)

@@ -1,4 +1,4 @@
-//! Going to where a key is.
+//! Moving a path to a key.
 ghost use Rattle.std.specs.Prelude.{◌≡◌, ℕ, ◌+◌, ◌-◌, ◌<◌, ◌≤◌, IsTrue, false, true, List, ◌∷◌, ◌++◌, length, get_or, slice_get, slice_set, Some};
 ghost use Rattle.bforest_nodes.specs.Content.{IsLeafCapacity};
 ghost use Rattle.bforest_core.specs.Levels.{LevelNode, flat, top_level};
@@ -15,8 +15,8 @@ use bforest_nodes::{Comparator, Node};
 impl<K: Copy, V: Copy, const N: usize> Path<K, V, N> {
     ghost use Rattle.bforest_core.specs.Paths.{IsPlaced, StandsOn, list_under};
 
-    /// Goes to where a search for `key` ends in the tree under `root`, and answers the key's value. Where the key is absent, the path stands
-    /// at the leaf's place for it, which may be behind the leaf's last entry.
+    /// Goes to where a search for `key` ends in the tree under `root`, and returns the key's value. Where the key is absent, the path
+    /// stands at the leaf's place for it, which may be past the leaf's last entry.
     pub fn find<C: Comparator<K>>(
         &mut self,
         key: K,
@@ -38,7 +38,7 @@ impl<K: Copy, V: Copy, const N: usize> Path<K, V, N> {
         self.descend(key, root, levels - 1, pool, comp)
     }
 
-    // Goes from `node` on `level` down to where a search for `key` ends. Answers the key's value.
+    // Descends from `node` on `level` to where a search for `key` ends. Returns the key's value.
     fn descend<C: Comparator<K>>(
         &mut self,
         key: K,
@@ -70,7 +70,7 @@ impl<K: Copy, V: Copy, const N: usize> Path<K, V, N> {
         self.descend(key, child, level - 1, pool, comp)
     }
 
-    // Goes to the place of `key` in the leaf `node`. Answers the key's value.
+    // Goes to the place of `key` in the leaf `node`. Returns the key's value.
     fn search_leaf<C: Comparator<K>>(
         &mut self,
         key: K,
@@ -94,7 +94,7 @@ impl<K: Copy, V: Copy, const N: usize> Path<K, V, N> {
         value
     }
 
-    // Writes where the path stands on a level.
+    // Writes the path's node and index on a level.
     pub(super) fn set_level(&mut self, level: usize, node: Node, index: usize)
         requires within { level ≤ top_level }
         requires most { index ≤ 255 }

@@ -1,4 +1,4 @@
-//! Going to where a key is, from where the path stands.
+//! Moving a path to a key near its entry.
 ghost use Rattle.std.specs.Prelude.{◌≡◌, IsTrue, false, true};
 ghost use Rattle.bforest_nodes.specs.Entries.{IsIncreasing, is_present, place, value_for};
 ghost use Rattle.bforest_core.specs.Trees.{IsUnion, is_root};
@@ -11,9 +11,9 @@ use std::cmp::Ordering;
 impl<K: Copy, V: Copy, const N: usize> Path<K, V, N> {
     ghost use Rattle.bforest_core.specs.Paths.{IsPlaced, StandingUnder, StandsOn, list_under};
 
-    /// Goes where `find` goes and answers the same, but looks first where the path stands: it compares `key` with the entry here and with
-    /// the one before, and at the end with the last entry alone. Where `key` is one of these or belongs between them, that is all. Else
-    /// it searches the whole tree.
+    /// Goes where `find` goes and returns the same, but looks first where the path stands: it compares `key` with the entry here and with
+    /// the previous one, and at the end with the last entry alone. Where `key` is one of these or belongs between them, it stops there.
+    /// Else it searches the whole tree.
     pub fn find_here<C: Comparator<K>>(
         &mut self,
         key: K,

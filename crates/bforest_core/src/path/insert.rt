@@ -1,4 +1,4 @@
-//! Putting an entry in where a path is.
+//! Inserting an entry where a path is.
 ghost use Rattle.std.specs.Prelude.{insert, IfOk, IsOk, OnOk, OnErr, Ok, Err, ◌≡◌, ℕ, suc, ◌+◌, ◌-◌, ◌<◌, ◌≤◌, ◌↔◌, false, true, List, [], ◌∷◌, ◌++◌, map, length, get_or, Some, if◌then◌else◌};
 ghost use Rattle.bforest_core.specs.Table.{IsFullAt, NeedsGrowth, room, free_count};
 ghost use Rattle.bforest_core.specs.Levels.{LevelNode, sizes, Tree, sizes_of, most_levels, top_level};
@@ -13,27 +13,27 @@ use crate::path::{MIN_CHILDREN, Path};
 use crate::pool::{NodePool, OutOfMemory};
 use bforest_nodes::Node;
 
-// The right half of a node that was halved.
+// The right half of a node that was split.
 #[derive(Clone, Copy, Drop)]
 pub(super) struct RightHalf<K> {
-    // The first key below it.
+    // The first key below the half.
     key: K,
     node: Node,
-    // Whether the path went there.
+    // Whether the path moved to the half.
     moved: bool,
 }
 
 impl<K: Copy, V: Copy, const N: usize> Path<K, V, N> {
     ghost use Rattle.bforest_core.specs.Paths.{Placing, StandsOn, list_under, sizes_under};
 
-    /// Puts an entry in here, and answers the tree's root. The path stands at the entry afterwards.
+    /// Inserts an entry here, and returns the tree's root. The path stands at the entry afterwards.
     ///
-    /// It takes one node for each full node from the leaf upwards, and one for a new root where all are full; these are had by one
-    /// `reserve` before the first change.
+    /// Takes one node for each full node from the leaf upwards, and one for a new root where all are full; one `reserve` before the first
+    /// change provides them.
     ///
     /// # Errors
     ///
-    /// Those of `reserve` of so many nodes. After either the pool and the path are as before.
+    /// The errors of `reserve` of that many nodes. After either the pool and the path are as before.
     pub fn insert(
         &mut self,
         key: K,
@@ -43,7 +43,7 @@ impl<K: Copy, V: Copy, const N: usize> Path<K, V, N> {
         requires union { IsUnion N pool.old }
         requires placed { Placing pool.old self.old }
 
-        // What an insertion leaves.
+        // The effect of an insertion.
         ensures inserted { (at : Placing pool.old self.old)
             → IfOk result (λ root'. Changes N pool.old pool.new at.root root'
             (insert (list_under pool.old at.root) at.place (key, value))
@@ -56,7 +56,7 @@ impl<K: Copy, V: Copy, const N: usize> Path<K, V, N> {
             ↔ (length (growth N at.place (sizes_under pool.old at.root))
             ≡ length (sizes_under pool.old at.root))) }
 
-        // When it is refused, and what a refusal leaves.
+        // The cases of a refusal, and its effect.
         ensures full { (at : Placing pool.old self.old)
             → (result ≡ Err OutOfMemory.Full)
             ↔ (room pool.old < need N at.place (sizes_under pool.old at.root)) }
@@ -93,7 +93,7 @@ impl<K: Copy, V: Copy, const N: usize> Path<K, V, N> {
         self.needed_here(pool)
     }
 
-    // The same of a path whose tree is not named by its root.
+    // The nodes that an insertion takes, for a path whose tree is not named by its root.
     fn needed_here(&self, pool: &NodePool<K, V, N>) -> u32
         requires height { self.now.size ≤ most_levels }
         requires placed { (tree : Tree K V) × (place : ℕ) × Placed N pool.now self.now.node self.now.entry
@@ -108,7 +108,7 @@ impl<K: Copy, V: Copy, const N: usize> Path<K, V, N> {
         }
     }
 
-    // How many nodes it takes that the path's node below level `up` becomes two.
+    // How many nodes a split of the path's node below level `up` takes.
     fn needed_above(&self, up: usize, pool: &NodePool<K, V, N>) -> u32
         requires height { self.now.size ≤ most_levels }
         requires pending { (rows : List (List (LevelNode K ℕ))) × (list : List (K × ℕ)) × (place : ℕ)
@@ -127,7 +127,7 @@ impl<K: Copy, V: Copy, const N: usize> Path<K, V, N> {
         }
     }
 
-    // Puts the entry into the path's leaf. Where there is no room it answers false, and nothing changed.
+    // Inserts the entry into the path's leaf. Where there is no room it returns false, and changes nothing.
     fn put_here(&self, key: K, value: V, pool: &mut NodePool<K, V, N>) -> bool
         requires placed { (tree : Tree K V) × (place : ℕ) × Placed N pool.old self.now.node self.now.entry
             self.now.size tree place }
@@ -140,7 +140,7 @@ impl<K: Copy, V: Copy, const N: usize> Path<K, V, N> {
         put_entry(pool, self.node[0], self.entry[0] as usize, key, value)
     }
 
-    // Halves the path's full leaf, and puts the entry into one half.
+    // Splits the path's full leaf, and inserts the entry into one half.
     fn split_leaf(&mut self, key: K, value: V, pool: &mut NodePool<K, V, N>)
         requires height { self.old.size ≤ most_levels }
         requires full { IsFullAt N pool.old.nodes (get_or self.old.node 0 0) }
@@ -156,7 +156,7 @@ impl<K: Copy, V: Copy, const N: usize> Path<K, V, N> {
         self.insert_above(1, leaf, half, pool);
     }
 
-    // Halves the path's full leaf, and puts the entry into one half, to which the path goes. Answers the right half.
+    // Splits the path's full leaf, and inserts the entry into one half, to which the path moves. Returns the right half.
     fn halve_leaf(&mut self, key: K, value: V, pool: &mut NodePool<K, V, N>) -> RightHalf<K>
         requires room { 0 < length pool.old.chain }
         requires full { IsFullAt N pool.old.nodes (get_or self.old.node 0 0) }
@@ -191,8 +191,8 @@ impl<K: Copy, V: Copy, const N: usize> Path<K, V, N> {
         }
     }
 
-    // Puts the right half behind `left`, the node that became two with it, which is the path's node below level `up` or was. The path goes
-    // to the right half where it moved there.
+    // Inserts the right half after `left`, the other half of the split node, which is or was the path's node below level `up`. The path
+    // moves to the right half if it moved there below.
     fn insert_above(
         &mut self,
         up: usize,
@@ -224,7 +224,7 @@ impl<K: Copy, V: Copy, const N: usize> Path<K, V, N> {
         }
     }
 
-    // Makes a new root of the root `left` and of the right half.
+    // Makes a new root of the old root `left` and of the right half.
     fn push_root(&mut self, left: Node, half: RightHalf<K>, pool: &mut NodePool<K, V, N>)
         requires height { self.old.size ≤ top_level }
         requires room { 0 < length pool.old.chain }
@@ -243,8 +243,8 @@ impl<K: Copy, V: Copy, const N: usize> Path<K, V, N> {
         self.size += 1;
     }
 
-    // Puts the right half into the path's node on level `up`, behind the path's child. Where there is no room it answers false, and
-    // nothing changed.
+    // Inserts the right half into the path's node on level `up`, after the path's child. Where there is no room it returns false, and
+    // changes nothing.
     fn insert_here(&mut self, up: usize, half: RightHalf<K>, pool: &mut NodePool<K, V, N>) -> bool
         requires height { self.old.size ≤ most_levels }
         requires within { up < self.old.size }
@@ -273,8 +273,8 @@ impl<K: Copy, V: Copy, const N: usize> Path<K, V, N> {
         }
     }
 
-    // Halves the path's full node on level `up`, and puts the right half of the level below behind the path's child. The path goes to the
-    // half of its place. Answers the right half of this level.
+    // Splits the path's full node on level `up`, and inserts the right half of the level below after the path's child. The path moves to
+    // the half with its place. Returns the right half of this level.
     fn split_here(
         &mut self,
         up: usize,
@@ -319,7 +319,7 @@ impl<K: Copy, V: Copy, const N: usize> Path<K, V, N> {
     }
 }
 
-// The index, or the next one where the path moved there.
+// The index, or the next one if the path moved to the right half.
 fn index_behind(index: usize, moved: bool) -> usize
     requires { index < 8 }
     ensures value { result ≡ (if moved then suc index else index) }
@@ -328,7 +328,7 @@ fn index_behind(index: usize, moved: bool) -> usize
     if moved { index + 1 } else { index }
 }
 
-// The first key of a leaf with this first key after an entry came in at the index.
+// The first key of a leaf whose first key was `first`, after an insertion at the index.
 fn first_key<K: Copy>(index: usize, key: K, first: K) -> K
     ensures front { index ≡ 0 → result ≡ key }
     ensures behind { 0 < index → result ≡ first }

@@ -1,4 +1,4 @@
-//! Taking a node out of the rows above it, on the way up, and healing what is left too small.
+//! Removing a merged or emptied node from the rows above it, on the way up, and rebalancing nodes that underflow.
 ghost use Rattle.std.specs.Prelude.{◌≡◌, ℕ, suc, ◌+◌, ◌-◌, ◌<◌, ◌≤◌, List, [], ◌∷◌, ◌++◌, map, length, get_or, Some, None, true, false};
 ghost use Rattle.bforest_nodes.specs.Content.{IsLeafCapacity};
 ghost use Rattle.bforest_core.specs.Levels.{LevelNode, sizes, half_of, most_levels};
@@ -12,7 +12,7 @@ use crate::path::{MIN_CHILDREN, Path};
 use crate::pool::NodePool;
 
 impl<K: Copy, V: Copy, const N: usize> Path<K, V, N> {
-    // Takes the entry at the path out of level `up`, and gives the next one its key.
+    // Removes the entry at the path from level `up`, and gives its key to the next one.
     fn remove_merged(&self, up: usize, pool: &mut NodePool<K, V, N>)
         requires height { self.now.size ≤ most_levels }
         requires pending { (rows : List (List (LevelNode K ℕ))) × (before : List (K × ℕ)) × (first : K)
@@ -28,7 +28,7 @@ impl<K: Copy, V: Copy, const N: usize> Path<K, V, N> {
         let parent = self.node[up];
         let index = self.entry[up] as usize;
         if index + 1 < entries(pool, parent) {
-            // At the first child the key is removed with it.
+            // Where the child is the first, this key is removed with it.
             let key = separator(pool, parent, index.saturating_sub(1));
             set_separator(pool, parent, index, key);
             let _answer = remove_child(pool, parent, index);
@@ -39,7 +39,7 @@ impl<K: Copy, V: Copy, const N: usize> Path<K, V, N> {
         }
     }
 
-    // Balances the path's leaf, which lost an entry, with its right neighbour. Whether it went into it.
+    // Balances the path's leaf, which lost an entry, with its right neighbour. Returns whether the leaf was merged into it.
     pub(super) fn rebalance_leaf(&mut self, pool: &mut NodePool<K, V, N>) -> bool
         requires capacity { IsLeafCapacity N }
         requires height { self.old.size ≤ most_levels }
@@ -83,7 +83,7 @@ impl<K: Copy, V: Copy, const N: usize> Path<K, V, N> {
         }
     }
 
-    // Balances the inner node at `level`, which lost an entry, with its right neighbour. Whether it went into it.
+    // Balances the inner node at `level`, which lost an entry, with its right neighbour. Returns whether the node was merged into it.
     fn rebalance_inner(&mut self, level: usize, pool: &mut NodePool<K, V, N>) -> bool
         requires height { self.old.size ≤ most_levels }
         requires pending { (before : List (LevelNode K ℕ)) × (n : ℕ) × (es : List (K × ℕ))
@@ -126,8 +126,7 @@ impl<K: Copy, V: Copy, const N: usize> Path<K, V, N> {
         }
     }
 
-    // The path's node below level `up` went into its right neighbour: its entry is taken out of the level, and the
-    // neighbour gets its key.
+    // Removes the entry of the path's node below level `up`, which was merged into its right neighbour, and gives its key to the neighbour.
     pub(super) fn merge_above(&mut self, up: usize, pool: &mut NodePool<K, V, N>)
         requires height { self.old.size ≤ most_levels }
         requires pending { (rows : List (List (LevelNode K ℕ))) × (before : List (K × ℕ)) × (first : K)
@@ -148,8 +147,7 @@ impl<K: Copy, V: Copy, const N: usize> Path<K, V, N> {
         }
     }
 
-    // The path's node below level `up` was the right-most and is empty: its entry is taken out of the level, and the
-    // nodes that this leaves empty go too.
+    // Removes the entry of the path's node below level `up`, which was the rightmost and is empty, and the nodes that this empties.
     pub(super) fn remove_emptied(&self, up: usize, pool: &mut NodePool<K, V, N>)
         requires height { self.now.size ≤ most_levels }
         requires pending { (rows : List (List (LevelNode K ℕ))) × (before : List (K × ℕ)) × (y : K × ℕ)

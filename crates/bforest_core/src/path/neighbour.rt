@@ -1,4 +1,5 @@
-//! The node to the right of a path's node, under the same parent or another: found, entered, and its key renewed in the rows above.
+//! The right neighbour of a path's node, under the same parent or another: finding it, moving to it, and updating its key in the rows
+//! above.
 ghost use Rattle.std.specs.Prelude.{◌≡◌, ℕ, suc, ◌≤◌, List, [], ◌∷◌, ◌++◌, map, length, get_or};
 ghost use Rattle.bforest_core.specs.Levels.{LevelNode, sizes, most_levels};
 ghost use Rattle.bforest_core.specs.Climb.{Above, NextIs, SameBelow, top_of};
@@ -38,7 +39,7 @@ impl<K: Copy, V: Copy, const N: usize> Path<K, V, N> {
         }
     }
 
-    // Renews the key between the path's node below level `up` and its right neighbour.
+    // Updates the key between the path's node below level `up` and its right neighbour.
     pub(super) fn update_next_separator(&self, up: usize, key: K, pool: &mut NodePool<K, V, N>)
         requires height { self.now.size ≤ most_levels }
         requires pending { (rows : List (List (LevelNode K ℕ))) × (before : List (K × ℕ)) × (x : K × ℕ)
@@ -59,7 +60,7 @@ impl<K: Copy, V: Copy, const N: usize> Path<K, V, N> {
         }
     }
 
-    // Renews the first key of the path's node below level `up`: in the table its separator, if it has one.
+    // Updates the first key of the path's node below level `up`: its separator in the table, if it has one.
     pub(super) fn update_separator(&self, up: usize, key: K, pool: &mut NodePool<K, V, N>)
         requires height { self.now.size ≤ most_levels }
         requires pending { (rows : List (List (LevelNode K ℕ))) × (before : List (K × ℕ)) × (first : K)
@@ -82,7 +83,7 @@ impl<K: Copy, V: Copy, const N: usize> Path<K, V, N> {
         }
     }
 
-    // Goes to the first entry of the next node on `level`, where there is one.
+    // Goes to the first entry of the next node on `level`, if there is one.
     pub(super) fn enter_next(&mut self, level: usize, pool: &NodePool<K, V, N>)
         requires height { self.old.size ≤ most_levels }
         requires pending { (rows : List (List (LevelNode K ℕ))) × (before : List (K × ℕ)) × (x : K × ℕ)

@@ -1,4 +1,4 @@
-//! Taking out the entry where a path is.
+//! Removing the entry where a path is.
 ghost use Rattle.std.specs.Prelude.{remove, true, false, IfSome, ◌≡◌, ◌≢◌, ℕ, ◌+◌, ◌-◌, ◌<◌, ◌≤◌, ◌↔◌, List, [], ◌∷◌, ◌++◌, length, get_or, slice_get, Some, None};
 ghost use Rattle.bforest_nodes.specs.Content.{IsLeafCapacity};
 ghost use Rattle.bforest_core.specs.Levels.{LevelNode, flat, Tree, most_levels};
@@ -17,16 +17,16 @@ use bforest_nodes::Node;
 impl<K: Copy, V: Copy, const N: usize> Path<K, V, N> {
     ghost use Rattle.bforest_core.specs.Paths.{IsAtEnd, OnEntry, StandsAt, list_under, nodes_of, sizes_under};
 
-    /// Takes the entry here out, and answers the root of its tree, or nothing where it was the tree's last entry, whose node is freed
-    /// with it. The path goes to the entry that followed, or to the end. It takes no memory.
+    /// Removes the entry here, and returns the root of its tree, or `None` if it was the tree's last entry, whose node is freed with it.
+    /// The path goes to the next entry, or to the end. Takes no memory.
     ///
-    /// Where a leaf falls under half full it is filled from its right neighbour, or goes into it, and so on upwards; a root with a single
-    /// child is discarded. Freed nodes lie in front of the chain: those of the path from the leaf up, and in front of them the old root.
+    /// A leaf that falls under half full is filled from its right neighbour or merged into it, and so on upwards; a root with a single
+    /// child is discarded. Freed nodes are in front of the chain: those of the path from the leaf up, and in front of them the old root.
     pub fn remove(&mut self, pool: &mut NodePool<K, V, N>) -> Option<Node>
         requires union { IsUnion N pool.old }
         requires stands { OnEntry pool.old self.old }
 
-        // What a removal leaves.
+        // The effect of a removal.
         ensures removed { (at : OnEntry pool.old self.old)
             → IfSome result (λ root'. Changes N pool.old pool.new at.root root'
             (remove (list_under pool.old at.root) at.place)
@@ -42,7 +42,7 @@ impl<K: Copy, V: Copy, const N: usize> Path<K, V, N> {
             ↔ (length (shrink N at.place (sizes_under pool.old at.root))
             ≡ length (sizes_under pool.old at.root))) }
 
-        // When it was the last entry, and what is left then.
+        // When it was the last entry, and the effect then.
         ensures last { (at : OnEntry pool.old self.old)
             → (result ≡ None) ↔ (length (list_under pool.old at.root) ≡ 1) }
         ensures ended { result ≡ None → (at : OnEntry pool.old self.old) → Ends N pool.old pool.new at.root }
@@ -60,13 +60,13 @@ impl<K: Copy, V: Copy, const N: usize> Path<K, V, N> {
         }
     }
 
-    /// Takes the entry here out as `remove` does, where the path is of no use any more: nothing is said of where it goes. Where the leaf stays
-    /// half full, no neighbour is read.
+    /// Removes the entry here as `remove` does, for a caller that does not use the path afterwards: nothing is stated of where it goes.
+    /// Where the leaf stays half full, no neighbour is read.
     pub fn remove_only(&mut self, pool: &mut NodePool<K, V, N>) -> Option<Node>
         requires union { IsUnion N pool.old }
         requires stands { OnEntry pool.old self.old }
 
-        // What a removal leaves.
+        // The effect of a removal.
         ensures removed { (at : OnEntry pool.old self.old)
             → IfSome result (λ root'. Changes N pool.old pool.new at.root root'
             (remove (list_under pool.old at.root) at.place)
@@ -80,7 +80,7 @@ impl<K: Copy, V: Copy, const N: usize> Path<K, V, N> {
             ↔ (length (shrink N at.place (sizes_under pool.old at.root))
             ≡ length (sizes_under pool.old at.root))) }
 
-        // When it was the last entry, and what is left then.
+        // When it was the last entry, and the effect then.
         ensures last { (at : OnEntry pool.old self.old)
             → (result ≡ None) ↔ (length (list_under pool.old at.root) ≡ 1) }
         ensures ended { result ≡ None → (at : OnEntry pool.old self.old) → Ends N pool.old pool.new at.root }
@@ -97,8 +97,8 @@ impl<K: Copy, V: Copy, const N: usize> Path<K, V, N> {
         }
     }
 
-    // Takes out the only entry of the path's leaf, with the leaf, and goes to the end: only the right-most leaf has so few. Answers the
-    // tree's root, or nothing where there is no tree any more.
+    // Removes the only entry of the path's leaf, with the leaf, and goes to the end: only the rightmost leaf can have one entry. Returns
+    // the tree's root, or `None` if the tree is empty.
     fn remove_leaf(&mut self, root: Node, pool: &mut NodePool<K, V, N>) -> Option<Node>
         requires capacity { IsLeafCapacity N }
         requires stands { (tree : Tree K V) × (place : ℕ) × StandsIn N pool.old self.old.node self.old.entry
@@ -123,7 +123,7 @@ impl<K: Copy, V: Copy, const N: usize> Path<K, V, N> {
         Some(top)
     }
 
-    // Takes the entry out of the path's leaf, which has others. Answers the tree's root.
+    // Removes the entry from the path's leaf, which has others. Returns the tree's root.
     fn remove_entry(&mut self, root: Node, pool: &mut NodePool<K, V, N>) -> Node
         requires capacity { IsLeafCapacity N }
         requires stands { (tree : Tree K V) × (place : ℕ) × StandsIn N pool.old self.old.node self.old.entry
@@ -147,7 +147,7 @@ impl<K: Copy, V: Copy, const N: usize> Path<K, V, N> {
         }
     }
 
-    // Takes the entry out of the path's leaf, which has others. Where it was the first, the rows above get the key of the next.
+    // Removes the entry from the path's leaf, which has others. If it was the first, the rows above get the key of the next.
     fn take_entry(&self, pool: &mut NodePool<K, V, N>)
         requires stands { (tree : Tree K V) × (place : ℕ) × StandsIn N pool.old self.now.node self.now.entry
             self.now.size tree place }
@@ -167,7 +167,7 @@ impl<K: Copy, V: Copy, const N: usize> Path<K, V, N> {
         self.update_separator(1, key, pool);
     }
 
-    // Whether the path is behind its leaf's last entry, and no leaf follows.
+    // Whether the path is past its leaf's last entry, and no leaf follows.
     fn is_past_end(&self, pool: &NodePool<K, V, N>) -> bool
         requires height { self.now.size ≤ most_levels }
         requires lost { (old : Table K V) × (tree : Tree K V) × (place : ℕ)
@@ -185,8 +185,7 @@ impl<K: Copy, V: Copy, const N: usize> Path<K, V, N> {
         self.right_sibling(1, pool).is_none()
     }
 
-    // Discards roots with a single child, from `root` downwards, and frees them. Answers the root that stays; of the path's levels as many
-    // go.
+    // Discards and frees roots with a single child, from `root` downwards. Returns the root that stays; the path loses one level for each.
     fn collapse_root(&mut self, root: Node, pool: &mut NodePool<K, V, N>) -> Node
         requires height { self.old.size ≤ most_levels }
         requires rooted { (rows : List (List (LevelNode K ℕ))) × (list : List (K × ℕ))

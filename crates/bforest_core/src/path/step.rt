@@ -1,4 +1,4 @@
-//! Steps from an entry to the next, and to the one before.
+//! Steps from an entry to the next and to the previous one.
 ghost use Rattle.std.specs.Prelude.{◌≡◌, ℕ, suc, ◌+◌, ◌-◌, ◌<◌, ◌≤◌, ◌≢◌, ◌↔◌, IfSome, IsTrue, false, true, List, [], ◌∷◌, ◌++◌, length, get_or, slice_get, Some, None, if◌then◌else◌};
 ghost use Rattle.bforest_nodes.specs.Content.{IsLeafCapacity};
 ghost use Rattle.bforest_core.specs.Levels.{LevelNode, flat, Tree, IsFit, most_levels, top_level};
@@ -16,7 +16,7 @@ use bforest_nodes::Node;
 impl<K: Copy, V: Copy, const N: usize> Path<K, V, N> {
     ghost use Rattle.bforest_core.specs.Paths.{IsAtEnd, OnEntry, OnLeaf, Pointing, Standing, StandingUnder, StandsAt, StandsOn, index_of, leaf_of, list_under};
 
-    /// Goes to the first entry of the tree under `root`, and answers it.
+    /// Goes to the first entry of the tree under `root`, and returns it.
     pub fn first(&mut self, root: Node, pool: &NodePool<K, V, N>) -> (K, V)
         requires union { IsUnion N pool.now }
         requires root { IsTrue (is_root pool.now.nodes root) }
@@ -27,7 +27,7 @@ impl<K: Copy, V: Copy, const N: usize> Path<K, V, N> {
         self.entry_here(pool)
     }
 
-    /// Goes to the first entry of the tree under `root`, and answers its leaf.
+    /// Goes to the first entry of the tree under `root`, and returns its leaf.
     pub fn first_leaf(&mut self, root: Node, pool: &NodePool<K, V, N>) -> Node
         requires union { IsUnion N pool.now }
         requires root { IsTrue (is_root pool.now.nodes root) }
@@ -44,8 +44,8 @@ impl<K: Copy, V: Copy, const N: usize> Path<K, V, N> {
         self.node[0]
     }
 
-    /// Goes to the first entry of the next leaf, and answers that leaf. In the last leaf and at the end it answers `None`, and nothing
-    /// changes.
+    /// Goes to the first entry of the next leaf, and returns that leaf. In the last leaf and at the end it returns `None`, and changes
+    /// nothing.
     pub fn next_leaf(&mut self, pool: &NodePool<K, V, N>) -> Option<Node>
         requires union { IsUnion N pool.now }
         requires stands { (¬ IsAtEnd self.old) → OnEntry pool.now self.old }
@@ -71,7 +71,7 @@ impl<K: Copy, V: Copy, const N: usize> Path<K, V, N> {
         Some(self.node[0])
     }
 
-    // Goes from `node` down to the first entry below it. Answers the node's level. So many levels lie above.
+    // Descends from `node` to the first entry below it. Returns the node's level; `depth` levels are above it.
     fn descend_first(&mut self, node: Node, depth: usize, pool: &NodePool<K, V, N>) -> usize
         requires capacity { IsLeafCapacity N }
         requires under { (leaves : List (LevelNode K V)) × (lower : List (List (LevelNode K ℕ))) × (first : K)
@@ -93,7 +93,7 @@ impl<K: Copy, V: Copy, const N: usize> Path<K, V, N> {
         below + 1
     }
 
-    /// Goes to the next entry and answers it. From the last entry it goes to the end, where it answers `None` from then on.
+    /// Goes to the next entry and returns it. From the last entry it goes to the end, where it returns `None` from then on.
     pub fn next(&mut self, pool: &NodePool<K, V, N>) -> Option<(K, V)>
         requires union { IsUnion N pool.now }
         requires stands { (¬ IsAtEnd self.old) → OnEntry pool.now self.old }
@@ -114,7 +114,7 @@ impl<K: Copy, V: Copy, const N: usize> Path<K, V, N> {
         Some(entry)
     }
 
-    // Goes to the next entry and answers it. At the last it answers `None`, and nothing changed.
+    // Goes to the next entry and returns it. At the last entry it returns `None`, and changes nothing.
     fn next_entry(&mut self, pool: &NodePool<K, V, N>) -> Option<(K, V)>
         requires capacity { IsLeafCapacity N }
         requires height { self.old.size ≤ most_levels }
@@ -144,7 +144,7 @@ impl<K: Copy, V: Copy, const N: usize> Path<K, V, N> {
         Some(self.entry_here(pool))
     }
 
-    // The entry of the path's leaf at this index, or `None` where the leaf has none there.
+    // The entry of the path's leaf at this index, or `None` if there is none.
     fn leaf_entry(&self, index: usize, pool: &NodePool<K, V, N>) -> Option<(K, V)>
         requires { (entries : List (K × V)) × (slice_get pool.now.nodes (get_or self.now.node 0 0)
             ≡ Some (leaf_content entries)) }
@@ -155,7 +155,7 @@ impl<K: Copy, V: Copy, const N: usize> Path<K, V, N> {
         pool.node(self.node[0]).get_entry(index)
     }
 
-    // Whether the path's leaf has an entry of this index.
+    // Whether the path's leaf has an entry at this index.
     fn has_entry(&self, index: usize, pool: &NodePool<K, V, N>) -> bool
         requires { (entries : List (K × V)) × (slice_get pool.now.nodes (get_or self.now.node 0 0)
             ≡ Some (leaf_content entries)) }
@@ -203,7 +203,7 @@ impl<K: Copy, V: Copy, const N: usize> Path<K, V, N> {
         self.entry[0] = index as u8;
     }
 
-    // Moves the path's node on `level` to the next one. Where there is none it answers false, and nothing changed.
+    // Moves the path's node on `level` to the next one. Where there is none it returns false, and changes nothing.
     pub(super) fn next_node(&mut self, level: usize, pool: &NodePool<K, V, N>) -> bool
         requires height { self.old.size ≤ most_levels }
         requires over { (rows : List (List (LevelNode K ℕ))) × (list : List (K × ℕ)) × (place : ℕ)
@@ -232,7 +232,7 @@ impl<K: Copy, V: Copy, const N: usize> Path<K, V, N> {
         moved
     }
 
-    // Whether the path's inner node on `level` has so many children that one has this index.
+    // Whether the path's inner node on `level` has a child at this index.
     fn has_child(&self, level: usize, index: usize, pool: &NodePool<K, V, N>) -> bool
         requires within { level ≤ top_level }
         requires inner { (entries : List (K × ℕ)) × (slice_get pool.now.nodes (get_or self.now.node level 0)
@@ -266,7 +266,7 @@ impl<K: Copy, V: Copy, const N: usize> Path<K, V, N> {
         self.entry[level + 1] = index as u8;
     }
 
-    /// From one past a leaf's last entry it goes to the first entry of the next leaf, or to the end. Anywhere else nothing changes.
+    /// Goes from one past a leaf's last entry to the first entry of the next leaf, or to the end. Anywhere else nothing changes.
     pub fn normalize(&mut self, pool: &NodePool<K, V, N>)
         requires union { IsUnion N pool.now }
         requires points { (¬ IsAtEnd self.old) → Pointing pool.now self.old }
@@ -286,7 +286,7 @@ impl<K: Copy, V: Copy, const N: usize> Path<K, V, N> {
         }
     }
 
-    /// Goes to the entry before and answers it; from the end it goes to the last. At the first entry it stays, and answers `None`.
+    /// Goes to the previous entry and returns it; from the end it goes to the last. At the first entry it stays, and returns `None`.
     #[inline(always)]
     pub fn prev(&mut self, root: Node, pool: &NodePool<K, V, N>) -> Option<(K, V)>
         requires union { IsUnion N pool.now }
@@ -309,7 +309,7 @@ impl<K: Copy, V: Copy, const N: usize> Path<K, V, N> {
         }
     }
 
-    // Goes from `node`, the last of its level, down to the last entry below it. Answers the node's level. So many levels lie above.
+    // Descends from `node`, the last of its level, to the last entry below it. Returns the node's level; `depth` levels are above it.
     fn descend_last(&mut self, node: Node, depth: usize, pool: &NodePool<K, V, N>) -> usize
         requires capacity { IsLeafCapacity N }
         requires under { (leaves : List (LevelNode K V)) × (lower : List (List (LevelNode K ℕ)))
@@ -332,7 +332,7 @@ impl<K: Copy, V: Copy, const N: usize> Path<K, V, N> {
         below + 1
     }
 
-    // Goes to the entry before. At the first it answers false, and nothing changed.
+    // Goes to the previous entry. At the first it returns false, and changes nothing.
     fn prev_entry(&mut self, pool: &NodePool<K, V, N>) -> bool
         requires capacity { IsLeafCapacity N }
         requires height { self.old.size ≤ most_levels }
@@ -360,7 +360,7 @@ impl<K: Copy, V: Copy, const N: usize> Path<K, V, N> {
         moved
     }
 
-    // Moves the path's node on `level` to the one before. Where there is none it answers false, and nothing changed.
+    // Moves the path's node on `level` to the previous one. Where there is none it returns false, and changes nothing.
     fn prev_node(&mut self, level: usize, pool: &NodePool<K, V, N>) -> bool
         requires height { self.old.size ≤ most_levels }
         requires over { (rows : List (List (LevelNode K ℕ))) × (list : List (K × ℕ)) × (place : ℕ)

@@ -15,7 +15,7 @@ look_up-requires g c =
     let w = c.requires.leaf in
     (search rules, read_as c.args.pool.now.nodes c.args.node w.1 c.node.ensures.value (λ z. IsLeaf z × IsStrictlySortedBy (g.C.Comparator.order c.args.comp.now) (keys_of z)) (tt, w.2))
 
--- what the node answered, of any entries that its slot holds
+-- the node's answer is the place and the value of the key in the entries of the slot
 told : (g : Over) (c : After-look_up g) (es : List (g.row.K.Denot × g.row.V.Denot)) → slice_get c.args.pool.now.nodes c.args.node ≡ Some (leaf_content es) →
     (c.look_up.result.0 ≡ place (g.C.Comparator.order c.args.comp.now) es c.args.key) × (c.look_up.result.1 ≡ value_for (g.C.Comparator.order c.args.comp.now) es c.args.key)
 told g c es slot =

@@ -30,7 +30,7 @@ returns-then-lt-clause-count g c = λ sorted.
     ])
     (λ d bad. absurd (omega (arith, bad)))
 
--- what the scan found is among the keys that count
+-- the scan finds an index among the keys that count
 found : (g : Over) (c : goal.After-first_not_less g) → Among (λ x. is_lt (g.K.Ord.cmp x c.args.k)) true false c.args.row.now c.args.len c.first_not_less.result
 found g c =
     let cmp = g.K.Ord.cmp in

@@ -1,4 +1,5 @@
--- `element_mut` lends an element of an array. The borrow checker does not say what an array ends as, of which an element goes to the caller.
+-- `element_mut` lends an element of an array. The borrow checker does not state the final value of an array
+-- of which an element is returned.
 use mathlib.Core.Path.{refl, sym, ap, subst}
 use Prim.Native.Nat.{ℕ, ◌*◌, ◌^◌, ◌<◌}
 use native.Mathlib.Nat.{mul-le-mul_right, suc-mul}
@@ -42,7 +43,7 @@ element_mut_spec 𝓤 𝓛 𝓜 𝓡 wired X n L fits =
     let y : (walk_of 𝓛 T stayed c).Ghost = ((κs, qs, bounds, a, (vs, (vint w64 m ∷ [], tt))), tt) in
     qed 𝓛 (((‵ (flft κ q) ⊛ ‵ (flft κs.1.0 qs.1.0) ⊛ ‵ (flft κs.1.1.0 qs.1.1.0) ⊛ ‵ ftrue) ⊛ ‵ (Lender X n 𝓛 κ q b o γ xs vs) ⊛ ‵ (usize.own_val m (vint w64 m ∷ [])) ⊛ ‵ ftrue)
     ∷ (given (κs.1.0 ⊑ X.lives) (‵ ftrue) ⊛ given (κs.1.1.0 ⊑ []) (‵ ftrue) ⊛ given (n * s < 2 ^ 63) (‵ ftrue) ⊛ given (m < n) (‵ ftrue)) ∷ []) ∵
-    -- what is known: the array fits memory, and the index is within it
+    -- the known facts: the array fits in memory, and the index is within it
     move ! (1 ∷ []) $ split3 ! $ drop ! $ drop ! $ split ! $ learn ! (λ small. drop ! $ learn ! (λ within. drop ! $
     let end = mul-le-mul_right s within in let step = suc-mul m s in
     let word = capped_is s (omega arith) in
@@ -58,5 +59,5 @@ element_mut_spec 𝓤 𝓛 𝓜 𝓡 wired X n L fits =
     use2 𝓛 (later (some (read_and_lent X n 𝓛 κ q b o γ xs m))) (lends_element X n 𝓛 κ q b o γ xs m within vs) $ await ! tt $ pick ! (λ x. learn ! (λ read. pick ! (λ δ.
     returns ! (look_at ! 0 refl) $ free_all ! refl $
     suffices ! _ (leaves 𝓛 T stayed c y (vptr b (spot X n 𝓛 κ q b o γ xs m)) (record { ref_ptr = (b, spot X n 𝓛 κ q b o γ xs m); ghost_name = δ; now = x }) (tt, (tt, tt)) (tt, (tt, tt))) $
-    -- the tokens, nothing of the parameters, the element, and what the array ends as
+    -- the tokens, nothing of the parameters, the element, and the final value of the array
     split3 ! $ move ! (1 ∷ 3 ∷ []) $ join ! $ frame ! $ nothing ! $ nothing ! $ fjoin ! $ nothing ! $ fjoin ! $ frame ! $ frame ! $ says ! read $ done !)))))))

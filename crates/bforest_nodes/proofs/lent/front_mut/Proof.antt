@@ -42,7 +42,7 @@ front_mut_spec 𝓤 𝓛 𝓜 𝓡 wired X n L fits =
     let y : (walk_of 𝓛 T stayed c).Ghost = ((κs, qs, bounds, a, (vs, (vint w64 m ∷ [], tt))), tt) in
     qed 𝓛 (((‵ (flft κ q) ⊛ ‵ (flft κs.1.0 qs.1.0) ⊛ ‵ (flft κs.1.1.0 qs.1.1.0) ⊛ ‵ ftrue) ⊛ ‵ (Lender X n 𝓛 κ q b o γ xs vs) ⊛ ‵ (usize.own_val m (vint w64 m ∷ [])) ⊛ ‵ ftrue)
     ∷ (given (κs.1.0 ⊑ X.lives) (‵ ftrue) ⊛ given (κs.1.1.0 ⊑ []) (‵ ftrue) ⊛ given (n * size (layout X) < 2 ^ 63) (‵ ftrue) ⊛ given (m ≤ n) (‵ ftrue)) ∷ []) ∵
-    -- what is known: the array fits memory, and the length is within it
+    -- the known facts: the array fits in memory, and the length is within it
     move ! (1 ∷ []) $ split3 ! $ drop ! $ drop ! $ split ! $ learn ! (λ small. drop ! $ learn ! (λ within. drop ! $
     -- [the reference; the token of its lifetime; the other tokens]
     split ! $ split ! $ move ! (2 ∷ []) $ split ! $ keep ! (0 ∷ 2 ∷ 3 ∷ []) $
@@ -54,5 +54,5 @@ front_mut_spec 𝓤 𝓛 𝓜 𝓡 wired X n L fits =
     use2 𝓛 (later (some (front X n 𝓛 κ q b o γ xs m m))) (lends_front X n 𝓛 κ q b o γ xs m within are.1.0.1 small vs) $ await ! tt $ pick ! (λ δ.
     returns ! (look_at ! 0 refl) $ free_all ! refl $
     suffices ! _ (leaves 𝓛 T stayed c y (slice_val (b, o) m) (record { ref_ptr = (b, o); ghost_name = δ; now = take m xs }) (tt, (tt, tt)) (tt, (tt, tt))) $
-    -- the tokens, nothing of the parameters, the slice, and what the array ends as
+    -- the tokens, nothing of the parameters, the slice, and the final value of the array
     split3 ! $ move ! (1 ∷ 3 ∷ []) $ join ! $ frame ! $ nothing ! $ nothing ! $ fjoin ! $ nothing ! $ fjoin ! $ frame ! $ frame ! $ says ! refl $ done !)))))

@@ -12,7 +12,7 @@ next_node-moved-requires g c =
     let list = w.1 ++ w.2 ∷ w.3 ∷ w.4 in
     (search rules, (search rules, (c.requires.height, (w.0, list, length w.1, over-above c.args.pool.now c.args.self.now.node c.args.self.now.entry (suc c.args.level) c.args.self.now.size w.0 list (length w.1) w.5))))
 
--- the level above moved to the next node
+-- the path moved to the next node on the level above
 moved : (g : Over) (c : goal.After-way_told-1 g) (rows : List (List (LevelNode g.row.K.Denot ℕ))) (a : List (g.row.K.Denot × ℕ)) (x y : g.row.K.Denot × ℕ) (b : List (g.row.K.Denot × ℕ)) →
     Above c.args.pool.now c.args.self.now.node c.args.self.now.entry (suc c.args.level) c.args.self.now.size rows (a ++ x ∷ y ∷ b) (length a) → Moved c.args.self.now.node c.args.self.now.entry c.next_node-moved.new.self.node c.next_node-moved.new.self.entry c.args.level rows (a ++ x ∷ y ∷ b) (suc (length a))
 moved g c rows a x y b p =

@@ -8,7 +8,7 @@ use Rattle.bforest_core.proofs.path.Path.find.Goals as goal
 top_is : {K V : Type 0} (tree : Tree K V) (levels : ℕ) → levels ≡ length (sizes_of tree) → levels - 1 ≡ length tree.above
 top_is tree levels is = omega (arith, is, length-map tree.above sizes)
 
--- how many levels the path then has
+-- the number of levels of the path afterwards
 size_is : {K V : Type 0} (tree : Tree K V) (levels size : ℕ) → levels ≡ length (sizes_of tree) → size ≡ levels → size ≡ suc (length tree.above)
 size_is tree levels size is same = omega (arith, is, same, length-map tree.above sizes)
 

@@ -47,7 +47,7 @@ root-requires g c =
     ] in
     (search rules, (put.some, put.low))
 
--- what was put in, under any root of whose tree the path stands
+-- the insertion, under any root in whose tree the path stands
 put_at : (g : Over) (c : goal.After-root g) (root place : ℕ) → PlacedUnder c.args.pool.now.nodes root c.args.self.now.node c.args.self.now.entry c.args.self.now.size place →
     Put g.row.N c.args.pool.now c.if-not-put_here.pool root place (c.args.key, c.args.value) c.if-not-put_here.self.node c.if-not-put_here.self.entry c.if-not-put_here.self.size
 put_at g c root place p =

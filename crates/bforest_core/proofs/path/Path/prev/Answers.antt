@@ -8,7 +8,7 @@ use Rattle.bforest_core.proofs.walks.Nearby.{here-leaf, here-entry, some-on}
 use Rattle.bforest_core.proofs.path.Path.prev.Goals as goal
 
 module _ {K V : Type 0} {n : ℕ} {table : Table K V} (union : IsUnion n table) {root : ℕ} (old new : Path K V n) {place : ℕ} (at : StandsAt table root old place) where
-  -- from the end it was led to the last entry
+  -- a path at the end moves to the last entry
   led_back : {level : ℕ} → old.size ≡ 0 → LeadsLast n table.nodes old.node old.entry new.node new.entry root level → (level ≤ 16) × (0 < place) × StandsOn table root (record new { size = level + 1 }) (place - 1)
   led_back {level} none leads =
       let tree = tree_of table.nodes root in
@@ -19,18 +19,18 @@ module _ {K V : Type 0} {n : ℕ} {table : Table K V} (union : IsUnion n table) 
       let s = last_stands tree old.node old.entry new.node new.entry (level + 1) r.1 (omega (arith, r.0)) in
       (omega (arith, r.0, w.low), omega (arith, end, w.some), record { root_is = at.root_is; stands = subst (λ (z : ℕ). Stands new.node new.entry (level + 1) tree (z - 1)) (sym end) s })
 
-  -- the entry that is read where it went is the one before
+  -- the entry read after the move is the previous one
   read_back : (0 < place) × StandsOn table root new (place - 1) → (e : K × V) → ((entries : List (K × V)) → slice_get table.nodes (leaf_of new) ≡ Some (leaf_content entries) → slice_get entries (index_of new) ≡ Some e) → Some e ≡ entry_before (list_under table root) place
   read_back back e read_is = sym (here-entry table root new (place - 1) union back.1 e read_is) ∙ before_is (list_under table root) place back.0
 
   module _ (some : old.size ≢ 0) where
-    -- it went there
+    -- the path moved to the previous entry
     went_back : new.size ≡ old.size → ((tree : Tree K V) (place : ℕ) → IsFit n tree → IsIn table.nodes tree → Stands old.node old.entry old.size tree place → (0 < place) × Stands new.node new.entry old.size tree (place - 1)) → (0 < place) × StandsOn table root new (place - 1)
     went_back same says =
         let r = said union old (some-on table root old place at (omega (arith, some))) says in
         (r.0, record { root_is = at.root_is; stands = subst (λ (z : ℕ). Stands new.node new.entry z (tree_of table.nodes root) (place - 1)) (sym same) r.1 })
 
-    -- at the first entry it stayed
+    -- at the first entry the path stays
     stayed : new ≡ old → ((tree : Tree K V) (place : ℕ) → IsFit n tree → IsIn table.nodes tree → Stands old.node old.entry old.size tree place → place ≡ 0) → (None ≡ entry_before (list_under table root) place) × StandsOn table root new (place - 1)
     stayed same says =
         let first = said union old (some-on table root old place at (omega (arith, some))) says in

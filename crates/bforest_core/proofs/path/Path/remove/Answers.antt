@@ -33,7 +33,7 @@ remove_entry-requires g c =
     let more = others _ _ _ _ _ tree w.place s c.index-self-0.result (omega arith) c.entries.result c.entries.ensures.value (λ one. c.if-entries-eq1.false one) in
     (search rules, (search rules, (c.requires.union.1.capacity, ((tree, w.place, s, root-stands g.row.N tree c.args.self.now.node _ _ w.place s.fit s.stands ∙ sym c.root-root.ensures), more))))
 
--- what the removal of a leaf says
+-- the effect of removing a leaf
 leaf_said : (g : Over) (c : goal.After-remove_leaf g) (root place : ℕ) → StandsUnder c.args.pool.now.nodes root c.args.self.now.node c.args.self.now.entry c.args.self.now.size place →
     Said g.row.N c.args.pool.now c.remove_leaf.new.pool c.args.self.now.node root place (λ z. IsPathAt c.remove_leaf.new.self.node c.remove_leaf.new.self.entry c.remove_leaf.new.self.size z place) c.remove_leaf.result
 leaf_said g c root place u =
@@ -41,7 +41,7 @@ leaf_said g c root place u =
     let tree = tree_of c.args.pool.now.nodes root in
     outcome _ _ _ root place _ _ _ _ c.requires.union u c.remove_leaf.result (c.remove_leaf.ensures.removed tree place s) (λ none. c.remove_leaf.ensures.emptied none tree place s)
 
--- and that of an entry from a leaf that has others
+-- the effect of removing an entry from a leaf that has others
 entry_said : (g : Over) (c : goal.After-remove_entry g) (root place : ℕ) → StandsUnder c.args.pool.now.nodes root c.args.self.now.node c.args.self.now.entry c.args.self.now.size place →
     Said g.row.N c.args.pool.now c.remove_entry.new.pool c.args.self.now.node root place (λ z. IsPathAt c.remove_entry.new.self.node c.remove_entry.new.self.entry c.remove_entry.new.self.size z place) (Some c.remove_entry.result)
 entry_said g c root place u =

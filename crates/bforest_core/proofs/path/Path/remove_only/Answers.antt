@@ -27,11 +27,11 @@ root-requires g c =
     let s = stands_in _ _ w.root w.place _ _ _ c.requires.union w.on in
     (search rules, (omega (arith, s.stands.size_is), omega (arith, s.stands.size_is, s.low)))
 
--- half of a leaf stays
+-- a leaf of more than `n / 2 + 1` entries is half full without one of them
 over_half : (n m k : ℕ) → n / 2 + 1 < m → m ≡ suc k → half_of n ≤ k
 over_half n m k high is = omega (arith, high, is)
 
--- what the removal says, at each place under a root
+-- the effect of the removal, at each place under a root
 left : (g : Over) (c : After-root g) (root place : ℕ) → StandsUnder c.args.pool.now.nodes root c.args.self.now.node c.args.self.now.entry c.args.self.now.size place →
     Said g.row.N c.args.pool.now c.take_entry.new.pool c.args.self.now.node root place (λ z. Unit) (Some c.root.result)
 left g c root place u =

@@ -4,7 +4,7 @@ use Rattle.bforest_core.proofs.table.Read.{slot-is}
 use Rattle.bforest_core.proofs.pool.NodePool.is_root.Goals as goal
 use Rattle.bforest_core.proofs.pool.NodePool.is_root.Goals.{then-number-slots, else-number-slots}
 
--- how often it is named, as a test
+-- whether nothing names the node, as a test
 none_named : (n : ℕ) (child : Bool) → (IsTrue child ↔ (0 < n)) → nat_eq n 0 ≡ not child
 none_named zero child h = sym (not_from_false child (false_from_ne_true child (λ yes. absurd (omega (arith, h.0 yes)))))
 none_named (suc n) child h = let some : nat_eq (suc n) 0 ≡ false = grind arith in some ∙ sym (not_from_true child (h.1 (omega arith)))
@@ -15,7 +15,7 @@ module _ {K V : Type 0} where
   used_of (Leaf keys vals) free h = sym (not_from_false free (false_from_ne_true free h.0))
   used_of (Free next) free h = sym (not_from_true free (h.1 tt))
 
-  -- a used slot that none names
+  -- a used slot that no node names is a root
   root_if : (slots : List (Content K V)) (n : ℕ) (content : Content K V) (free child : Bool) → slice_get slots n ≡ Some content → (IsTrue free ↔ IsFree content) → (IsTrue child ↔ (0 < count n (flat_map children_of slots))) → not free ≡ true → not child ≡ is_root slots n
   unfolding is_root
   root_if slots n content free child found f c used =
@@ -23,7 +23,7 @@ module _ {K V : Type 0} where
       let b = none_named (count n (flat_map children_of slots)) child c in
       rw (a, b) refl
 
-  -- a free slot, or none
+  -- a free or absent slot is no root
   unused_root : (slots : List (Content K V)) (n : ℕ) → is_used (slot slots n) ≡ false → false ≡ is_root slots n
   unfolding is_root
   unused_root slots n unused = rw unused refl

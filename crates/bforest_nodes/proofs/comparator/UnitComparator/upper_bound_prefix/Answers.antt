@@ -30,7 +30,7 @@ returns-then-le g c = λ sorted.
     ])
     (λ d bad. absurd (omega (arith, bad)))
 
--- what the scan found is among the keys that count
+-- the scan finds an index among the keys that count
 found : (g : Over) (c : goal.After-first_greater g) → Among (λ x. is_gt (g.K.Ord.cmp x c.args.k)) false true c.args.row.now c.args.len c.first_greater.result
 found g c =
     let cmp = g.K.Ord.cmp in

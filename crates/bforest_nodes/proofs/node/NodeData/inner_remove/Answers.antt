@@ -12,7 +12,7 @@ unreachable-requires g c = branch_of_inner c.self.inside.state c.in_default.not-
 pub returns-clause-answer : goal.returns-clause-answer
 returns-clause-answer g c = grind (arith, common_steps)
 
--- how many children there are
+-- the number of children
 tree_len : (g : Over) (c : goal.After-answer_of g) → length (take (c.in-Branch.size + 1) c.in-Branch.tree.items) ≡ c.in-Branch.size + 1
 tree_len g c = search rules
 
