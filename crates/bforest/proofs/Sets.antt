@@ -36,12 +36,12 @@ keys-append : {K X : Type 0} (es fs : List (K × X)) → keys_of (es ++ fs) ≡ 
 keys-append [] fs = refl
 keys-append (e ∷ es) fs = ap (λ z. e.0 ∷ z) (keys-append es fs)
 
--- where the first entry is yielded, the first key is
+-- an iterator that yields the first entry yields the first key
 pub yields-key : {K X : Type 0} (old new : List (K × X)) (o : Option (K × X)) → YieldsFirst (λ (entries : List (K × X)). entries) old o new → YieldsFirst (λ (keys : List K). keys) (keys_of old) (option_map (λ e. e.0) o) (keys_of new)
 yields-key old new (Some entry) steps = ap keys_of steps
 yields-key old new None steps = (ap keys_of steps.0, ap keys_of steps.1)
 
--- where the last entry is yielded, the last key is
+-- an iterator that yields the last entry yields the last key
 pub yields-last-key : {K X : Type 0} (old new : List (K × X)) (o : Option (K × X)) → YieldsLast (λ (entries : List (K × X)). entries) old o new → YieldsLast (λ (keys : List K). keys) (keys_of old) (option_map (λ e. e.0) o) (keys_of new)
 yields-last-key old new (Some entry) steps = ap keys_of steps ∙ keys-append new (entry ∷ [])
 yields-last-key old new None steps = (ap keys_of steps.0, ap keys_of steps.1)

@@ -10,7 +10,7 @@ module _ {F K X : Type 0} (step : F → K → X → Bool → X → F → Type 0)
   Sifts f place (e ∷ es) sizes kept after =
       (b : Bool) × (w : X) × (f' : F) × (rest : List (K × X)) × step f e.0 e.1 b w f' × Sifts f' (if b then suc place else place) es (if b then sizes else shrink most place sizes) rest after × (kept ≡ (if b then (e.0, w) ∷ rest else rest))
 
-  -- a predicate that sifted a list gave one answer per entry, which tell the kept entries and sizes
+  -- the answers of a predicate that sifted a list: the kept entries and sizes are those of the answers
   answered : (f : F) (place : ℕ) (es : List (K × X)) (sizes : List (List ℕ)) (kept : List (K × X)) (after : List (List ℕ)) → Sifts f place es sizes kept after → (answers : List (Bool × X)) × AsksEach step f es answers × (kept ≡ kept_by es answers) × (after ≡ sizes_by most place answers sizes)
   answered f place [] sizes kept after h = ([], refl, h.0, h.1)
   answered f place (e ∷ es) sizes kept after (true, w, f', rest, t, r, is) =

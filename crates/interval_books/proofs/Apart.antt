@@ -96,7 +96,7 @@ same_start s e x l w h = elim (cases_order x.0 s) [
     behind : s < x.0 → nat_cmp x.0 s ≡ Greater
     behind after = nat_cmp_total.antisymm x.0 s ∙ ap ordering_reverse (less s x.0 after)
 
--- whether the booking at a place begins at a start, and that none does where none is met
+-- whether the booking at a place begins at a start; none does where no booking meets the interval
 begins : List (ℕ × ℕ) → ℕ → ℕ → Bool
 begins es s p = is_some (option_and_then (λ x. if is_eq (nat_cmp x.0 s) then Some x else None) (slice_get es p))
 

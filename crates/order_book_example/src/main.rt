@@ -16,7 +16,7 @@ use std::io;
 use std::marker::Model;
 use std::ops::Bound;
 
-/// A side of the book, which orders its prices: the best comes first.
+/// A side of the book, which orders its prices with the best first.
 #[derive(Clone, Copy)]
 enum Side {
     /// The highest price first.
