@@ -1,4 +1,4 @@
--- What contracts see of a cursor: a list and a place in it, and of a writing one the forest and the handle that it writes to.
+-- What contracts see of a cursor: a list and a place in it; of a writing one also the forest and the handle.
 use Rattle.bforest.specs.declared.map_cursor_mut.MapCursorMut.{MapCursorMut}
 use Rattle.bforest_core.specs.Paths.{index_of, leaf_of}
 use Rattle.bforest_core.specs.Table.{with_value_at}
