@@ -1,10 +1,10 @@
-//! Prints what calls of `bforest` cost beside `std`'s `BTreeMap`, and beside the Rust original where it is there.
+//! Prints the costs of calls of `bforest` beside those of `std`'s `BTreeMap`, and of the Rust original where it is present.
 //!
-//! `driver` prints the table, `driver --count` its instructions and memory alone, `driver --compare` reads runs that were made elsewhere and compares their checksums, and `driver --growth MOST [FILE]`
-//! prints how the cost of a call grows with a map's size, and draws it into a file. `driver --one SIDE KIND NUMBERS` makes one run in a process of its own, whose instructions and memory
-//! can be counted.
+//! `driver` prints the table, `driver --count` its instructions and memory alone, `driver --compare` reads runs that were made elsewhere and
+//! compares their checksums, and `driver --growth MOST [FILE]` prints how the cost of a call grows with a map's size, and draws it into a file.
+//! `driver --one SIDE KIND NUMBERS` makes one run in a process of its own, whose instructions and memory can be counted.
 //!
-//! A run builds its maps anew. So the cost of a phase is the difference of two runs, of which one makes the phase, or makes it more often.
+//! Each run builds its maps from nothing. The cost of a phase is the difference of two runs, of which one has the phase, or more rounds of it.
 
 mod picture;
 mod runs;
@@ -15,18 +15,18 @@ use runs::{run, Kind, Side, Work, KINDS, SIDES};
 use std::process::{exit, Command};
 use std::time::Duration;
 
-/// A phase: the difference of two runs, over so many rounds.
+/// A phase: the difference of two runs, over a number of rounds.
 struct Row {
     name: &'static str,
     size: u32,
     without: Work,
     with: Work,
     rounds: u32,
-    // How many calls a round makes.
+    // The number of calls of a round.
     calls: u32,
 }
 
-// Nothing but filling maps of a kind.
+// A run that only fills maps of a kind.
 fn fill(kind: Kind, size: u32) -> Work {
     Work { kind, size, looks: 0, walks: 0, turns: 0 }
 }
@@ -88,7 +88,7 @@ fn rows_of_large(kind: Kind, size: u32, looks: u32) -> Vec<Row> {
     ]
 }
 
-// The same map, read by a cursor.
+// The rows of a large map that is read by a cursor.
 fn rows_of_large_cursor(kind: Kind, size: u32) -> Vec<Row> {
     let names = match kind {
         Kind::RandomCursor => ["random keys: cursor on, an entry", "random keys: cursor back, an entry"],
@@ -101,7 +101,7 @@ fn rows_of_large_cursor(kind: Kind, size: u32) -> Vec<Row> {
 
 fn rows_of_edges(blocks: u32) -> Vec<Row> {
     let (nothing, filled) = (fill(Kind::Edges, 0), fill(Kind::Edges, blocks));
-    // Two and a half edges on average lead out of a block.
+    // A block has two and a half edges on average.
     let edges = blocks / 2 * 5;
     let row = |name, without, with, rounds, calls| Row { name, size: blocks, without, with, rounds, calls };
     vec![
@@ -154,7 +154,7 @@ fn rows_of_ranges(size: u32) -> Vec<Row> {
     ]
 }
 
-// The rows of the table at a part of their full size. What is too short to be timed is only counted.
+// The rows of the table at a part of their full size. Phases that are too short to be timed are only counted.
 fn rows(part: u32, is_counted: bool) -> Vec<Row> {
     let mut rows = rows_of_mixture(Kind::Mixture, 100_000 / part, is_counted);
     rows.extend(rows_of_large(Kind::Random, 1_000_000 / part, 1));
@@ -170,7 +170,7 @@ fn rows(part: u32, is_counted: bool) -> Vec<Row> {
     rows
 }
 
-/// What runs cost, each side's beside it. A run that several rows need is made once.
+/// The costs of runs, by side. A run that several rows need is made once.
 struct Costs {
     known: Vec<(Side, Work, f64)>,
 }
@@ -189,7 +189,7 @@ impl Costs {
         }
     }
 
-    // What a call of a row's phase costs.
+    // The cost of one call of a row's phase.
     fn of_row(&self, side: Side, row: &Row) -> Option<f64> {
         let cost = self.of(side, row.with)? - self.of(side, row.without)?;
         Some(cost / row.rounds as f64 / row.calls as f64)
@@ -209,8 +209,8 @@ fn works(rows: &[Row]) -> Vec<Work> {
     works
 }
 
-// The best of several times of `repeats` runs in a row, in nanoseconds. All runs are made before any is made again, so that a slow while
-// of the machine lengthens one time of many runs, and not each time of one. Ends the program where two checksums differ.
+// The least of several times of `repeats` runs in a row, in nanoseconds. All runs are made before any is repeated: a slow phase of the
+// machine lengthens one time of many runs, and not each time of one. Ends the program where two checksums differ.
 fn times(program: &str, rows: &[Row], tries: u32, repeats: u32) -> Costs {
     let mut costs = Costs { known: Vec::new() };
     for _ in 0..tries {
@@ -231,7 +231,7 @@ fn times(program: &str, rows: &[Row], tries: u32, repeats: u32) -> Costs {
     costs
 }
 
-// The checksum and the time of a run, in a process of its own, so that no run finds the heap as another left it.
+// The checksum and the time of a run, in a process of its own: each run starts with a fresh heap.
 fn timed(program: &str, side: Side, work: Work, repeats: u32) -> Option<(u64, f64)> {
     let mut words = one(side, work);
     words[0] = "--timed".to_string();
@@ -242,7 +242,7 @@ fn timed(program: &str, side: Side, work: Work, repeats: u32) -> Option<(u64, f6
     Some((told("sum ")?.parse().ok()?, told("nanoseconds ")?.parse().ok()?))
 }
 
-// A run in this process, made several times in a row: its checksum, and how long it took on average.
+// Makes a run several times in a row in this process, and prints its checksum and its average time.
 fn time_one(words: &[String]) {
     let side = SIDES.iter().find(|side| words.first().is_some_and(|word| word == side.name()));
     let repeats = words.last().and_then(|word| word.parse::<u32>().ok());
@@ -274,7 +274,7 @@ fn work_of(words: &[String]) -> Option<Work> {
     Some(Work { kind, size: number(1)?, looks: number(2)?, walks: number(3)?, turns: number(4)? })
 }
 
-// How instructions are counted here, if they can be.
+// The tool that counts instructions.
 #[derive(Clone, Copy)]
 enum Counter {
     Perf,
@@ -308,20 +308,20 @@ impl Counter {
     }
 }
 
-// The counter that works here.
+// The first counter that works on this machine, if one does.
 fn counter(program: &str) -> Option<Counter> {
     let nothing = ["--one".to_string()];
     [Counter::Perf, Counter::Callgrind].into_iter().find(|counter| counter.count(program, &nothing).is_some())
 }
 
-// The words of a process of its own for a run.
+// The arguments of the process that makes a run.
 fn one(side: Side, work: Work) -> Vec<String> {
     let mut words = vec!["--one".to_string(), side.name().to_string(), format!("{:?}", work.kind)];
     words.extend([work.size, work.looks, work.walks, work.turns].map(|number| number.to_string()));
     words
 }
 
-// The instructions of each run. They do not depend on the machine's load, so as many are counted at once as it has processors.
+// The instructions of each run. They do not depend on the machine's load: as many runs are counted at once as it has processors.
 fn instructions(program: &str, counter: Counter, rows: &[Row]) -> Costs {
     let mut jobs = Vec::new();
     for work in works(rows) {
@@ -349,7 +349,7 @@ fn instructions(program: &str, counter: Counter, rows: &[Row]) -> Costs {
     Costs { known }
 }
 
-// The most memory that a run held at once, in bytes, beyond that of a run of nothing.
+// The most memory that a run holds at once, in bytes, beyond that of a run of size 0.
 fn memory(program: &str, side: Side, work: Work) -> Option<f64> {
     let most = |words: &[String]| -> Option<f64> {
         let told = Command::new(program).args(words).output().ok()?;
@@ -358,7 +358,7 @@ fn memory(program: &str, side: Side, work: Work) -> Option<f64> {
     Some(most(&one(side, work))? - most(&one(side, fill(work.kind, 0)))?)
 }
 
-// One run in this process, and the most memory that the process held.
+// Makes a run in this process, and prints its checksum and the most memory that the process held.
 fn make_one(words: &[String]) {
     let side = SIDES.iter().find(|side| words.first().is_some_and(|word| word == side.name()));
     if let (Some(side), Some(work)) = (side, words.get(1..).and_then(work_of)) {
@@ -371,12 +371,12 @@ fn make_one(words: &[String]) {
     }
 }
 
-// A number, or nothing, in so many columns.
+// The text of a number, or a dash, in `width` columns.
 fn shown(number: Option<f64>, digits: usize, width: usize) -> String {
     number.map_or(format!("{:>width$}", "-"), |x| format!("{x:>width$.digits$}"))
 }
 
-// The heads of columns of one kind: each side, and the ratios to the others.
+// The heads of the columns: each side, and the ratios to the other sides.
 fn heads() -> String {
     let mut line = String::new();
     for side in SIDES {
@@ -388,7 +388,7 @@ fn heads() -> String {
     line
 }
 
-// The columns of a row: what each side costs, and bforest's over the others'.
+// The columns of a row: the cost of each side, and the ratios of the first side's cost to the others'.
 fn columns(costs: &[Option<f64>], digits: usize) -> String {
     let mut line = String::new();
     for cost in costs {
@@ -405,7 +405,7 @@ fn of_sides(cost: impl Fn(Side) -> Option<f64>) -> Vec<Option<f64>> {
     SIDES.iter().map(|side| cost(*side)).collect()
 }
 
-// The geometric mean of bforest's costs over each other side's.
+// The geometric means of the ratios of the first side's costs to each other side's.
 fn means(table: &[Vec<Option<f64>>]) -> String {
     let mut line = " ".repeat(10 * SIDES.len());
     for at in 1..SIDES.len() {
@@ -463,7 +463,7 @@ fn print_all(program: &str) {
     print_counts(program);
 }
 
-// How the cost of a call grows with the size of a map, and a picture of it in a file, if one is named.
+// Prints how the cost of a call grows with the size of a map, and draws it into a file, if one is named.
 fn print_growth(program: &str, most: u32, file: Option<&String>) {
     println!("Wall time of a call in nanoseconds, best of 3, of one above 1000000:");
     println!("{:37} {:>9}{}", "", "size", heads());
@@ -493,7 +493,7 @@ fn print_growth(program: &str, most: u32, file: Option<&String>) {
     }
 }
 
-// Compares runs that were made elsewhere, a line for each: the words of a run and its checksum.
+// Compares runs that were made elsewhere, given as a line each: the words of a run and its checksum.
 fn compare() {
     let mut count = 0;
     for line in std::io::stdin().lines().map_while(Result::ok) {

@@ -1,4 +1,4 @@
-//! How costs grow, as a picture: a panel for each phase, with a line for each side, both scales in powers of ten.
+//! A picture of how costs grow: a panel for each phase, with a line for each side, both scales in powers of ten.
 
 use crate::runs::SIDES;
 use std::fmt::Write;
@@ -12,7 +12,7 @@ pub struct Growth {
 /// The colours of the sides' lines.
 const COLOURS: [&str; 3] = ["#0b62a4", "#d1495b", "#6b6b6b"];
 
-/// How many panels stand beside one another, and the width and the height of each, with its margins.
+/// The number of panels in a row, and the width, the height and the margins of each.
 const COLUMNS: usize = 4;
 const WIDE: f64 = 230.0;
 const HIGH: f64 = 180.0;
@@ -21,10 +21,10 @@ const RIGHT: f64 = 12.0;
 const TOP: f64 = 26.0;
 const BOTTOM: f64 = 30.0;
 
-/// How much room the legend takes.
+/// The height of the legend.
 const LEGEND: f64 = 26.0;
 
-/// The name space of SVG: a name, and no address.
+/// The namespace of SVG: a name, not an address.
 const NAMES: &str = concat!("http", "://www.w3.org/2000/svg");
 
 /// The nanoseconds at the lower and at the upper edge of a panel, as powers of ten.
@@ -52,7 +52,7 @@ pub fn picture(phases: &[Growth]) -> String {
     text
 }
 
-// One phase, with the upper left corner of its panel here.
+// Draws the panel of one phase, with its upper left corner at `left` and `top`.
 fn panel(text: &mut String, left: f64, top: f64, phase: &Growth) {
     let last = phase.costs.last().map_or(1.0, |it| f64::from(it.0).log10().max(1.0));
     let x_of = |power: f64| left + LEFT + (WIDE - LEFT - RIGHT) * (power - 1.0) / (last - 1.0).max(1.0);
@@ -82,13 +82,13 @@ fn panel(text: &mut String, left: f64, top: f64, phase: &Growth) {
     }
 }
 
-// A line through points.
+// Draws a line through points.
 fn line(text: &mut String, colour: &str, points: &[(f64, f64)]) {
     let through: Vec<_> = points.iter().map(|(x, y)| format!("{x:.1},{y:.1}")).collect();
     let _ = writeln!(text, "<polyline class=\"line\" stroke=\"{colour}\" points=\"{}\"/>", through.join(" "));
 }
 
-// A line of the grid.
+// Draws a line of the grid.
 fn grid(text: &mut String, from: (f64, f64), to: (f64, f64)) {
     let _ = writeln!(
         text,
@@ -97,7 +97,7 @@ fn grid(text: &mut String, from: (f64, f64), to: (f64, f64)) {
     );
 }
 
-// A word at a place.
+// Draws a text at a place.
 fn label(text: &mut String, x: f64, y: f64, anchor: &str, word: &str) {
     let _ = writeln!(text, "<text x=\"{x:.1}\" y=\"{y:.1}\" text-anchor=\"{anchor}\">{word}</text>");
 }

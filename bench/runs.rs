@@ -1,11 +1,11 @@
-//! The same work on maps and sets of `bforest`, where its static library is there, on `std`'s `BTreeMap`, and on the Rust original where it is there.
+//! Runs of equal work on maps and sets of `bforest` (if its static library is present), of `std`, and of the Rust original (if present).
 
 use crate::sets;
 use std::collections::BTreeMap;
 use std::hint::black_box;
 use std::time::{Duration, Instant};
 
-// A `Global` takes no bytes, so nothing is passed for the parameter `alloc` of these.
+// Nothing is passed for the parameter `alloc` of these functions: a `Global` takes no bytes.
 #[cfg(library)]
 unsafe extern "C" {
     fn bench_mixture(maps: u32, calls: u32, looks: u32, walks: u32, is_cleared: bool) -> u64;
@@ -18,14 +18,14 @@ unsafe extern "C" {
     fn bench_ranges(size: u32, looks: u32, spans: u32, is_split: bool) -> u64;
 }
 
-/// What a run works on.
+/// The subject of a run.
 #[derive(Clone, Copy, PartialEq, Debug)]
 pub enum Kind {
     /// Many small maps.
     Mixture,
-    /// One map, whose keys come in no order.
+    /// One map, whose keys are inserted in no order.
     Random,
-    /// One map, whose keys come in ascending order.
+    /// One map, whose keys are inserted in ascending order.
     Ascending,
     /// The map of `Random`, read by cursors.
     RandomCursor,
@@ -37,9 +37,9 @@ pub enum Kind {
     EdgesCursor,
     /// Many small sets.
     SetMixture,
-    /// One set, whose keys come in no order.
+    /// One set, whose keys are inserted in no order.
     RandomSet,
-    /// One set, whose keys come in ascending order.
+    /// One set, whose keys are inserted in ascending order.
     AscendingSet,
     /// Live ranges in one map.
     Ranges,
@@ -60,9 +60,10 @@ pub const KINDS: [Kind; 11] = [
     Kind::Ranges,
 ];
 
-/// A whole run, on so many maps, sets, entries, blocks or ranges. Behind the phase that fills them come rounds of look-ups, rounds that read all,
-/// or spans of ranges, and rounds that change much: the maps or sets of a mixture are cleared, a large map is emptied, edges are led elsewhere, a
-/// large set is edited by cursors, and ranges come between ranges. A map that is read by cursors is read from its last entry back there.
+/// A whole run, on `size` maps, sets, entries, blocks or ranges. First a phase fills them; then there are `looks` rounds of lookups, `walks` rounds
+/// that read all, or spans of ranges, and `turns` rounds of changes: the maps or sets of a mixture are cleared, a large map is emptied, edges are
+/// redirected, a large set is edited by cursors, and ranges are inserted between ranges. For a map that is read by cursors, `turns` counts the
+/// rounds that read from its last entry back.
 #[derive(Clone, Copy, PartialEq, Debug)]
 pub struct Work {
     pub kind: Kind,
@@ -73,13 +74,13 @@ pub struct Work {
 }
 
 impl Work {
-    /// How many calls fill the maps of a mixture.
+    /// The number of calls that fill the maps of a mixture.
     pub fn calls(self) -> u32 {
         self.size.saturating_mul(30)
     }
 }
 
-/// Whose maps a run works on.
+/// The implementation that a run uses.
 #[derive(Clone, Copy, PartialEq, Debug)]
 pub enum Side {
     #[cfg(library)]
@@ -99,7 +100,7 @@ pub const SIDES: &[Side] = &[
 ];
 
 impl Side {
-    /// Its name in a table.
+    /// The name of a side in a table.
     pub fn name(self) -> &'static str {
         match self {
             #[cfg(library)]
@@ -111,7 +112,7 @@ impl Side {
     }
 }
 
-// The numbers of both sides.
+// A generator of numbers, equal to that of `bforest_workloads_bench`.
 pub struct Random {
     pub state: u64,
 }
@@ -149,7 +150,7 @@ pub fn added(sum: u64, x: u32) -> u64 {
     sum.wrapping_mul(31).wrapping_add(x as u64)
 }
 
-/// Maps with a number each.
+/// Many maps, named by their numbers.
 trait Maps {
     fn new(count: u32) -> Self;
     fn insert(&mut self, map: u32, key: u32, value: u32) -> Option<u32>;
@@ -158,7 +159,7 @@ trait Maps {
     fn walk(&self, map: u32, sum: u64) -> u64;
     /// Adds each entry to a checksum, from the first on, by a cursor.
     fn read_on(&self, map: u32, sum: u64) -> u64;
-    /// The same from the last entry back.
+    /// Adds each entry to a checksum, from the last back, by a cursor.
     fn read_back(&self, map: u32, sum: u64) -> u64;
     fn clear(&mut self, map: u32);
 }
@@ -353,8 +354,7 @@ fn large<M: Maps>(maps: &mut M, work: Work, is_mixed: bool) -> u64 {
     sum
 }
 
-// The same map, read by a cursor from the first entry on and from the last one back. Where a checksum begins at 1, an entry of nothing but 0 in
-// front counts, too.
+// A large map, read by a cursor from the first entry on and from the last one back. A checksum that starts at 1 counts a first entry of zeros too.
 fn large_cursor<M: Maps>(maps: &mut M, work: Work, is_mixed: bool) -> u64 {
     let mut sum = large(maps, Work { walks: 0, turns: 0, ..work }, is_mixed);
     for _ in 0..work.walks {
@@ -397,7 +397,7 @@ fn edges<M: Maps>(maps: &mut M, work: Work) -> u64 {
     sum
 }
 
-// The same maps, read by cursors.
+// The maps of `edges`, read by cursors.
 fn edges_cursor<M: Maps>(maps: &mut M, work: Work) -> u64 {
     let mut sum = edges(maps, Work { walks: 0, turns: 0, ..work });
     for _ in 0..work.walks {
@@ -406,7 +406,7 @@ fn edges_cursor<M: Maps>(maps: &mut M, work: Work) -> u64 {
     sum
 }
 
-// Makes a run on what `new` makes, which is dropped behind its end, so that its drop is not timed. Where `is_kept` it is not dropped at all.
+// Makes a run on the value of `new`, which is dropped after the time is taken. Where `is_kept`, it is not dropped at all.
 fn timed<M>(new: impl FnOnce() -> M, run: impl FnOnce(&mut M) -> u64, is_kept: bool) -> (u64, Duration) {
     let start = Instant::now();
     let mut made = new();
@@ -435,7 +435,7 @@ fn run_on<M: Maps, S: sets::Sets, R: sets::Ranges>(work: Work, is_kept: bool) ->
     }
 }
 
-// The same of bforest. Here the drop is timed, which frees one table.
+// Makes a run on maps and sets of `bforest`. The time includes the drop, which frees one table.
 #[cfg(library)]
 fn run_bforest(work: Work) -> (u64, Duration) {
     let start = Instant::now();
@@ -459,7 +459,7 @@ fn run_bforest(work: Work) -> (u64, Duration) {
     (sum, start.elapsed())
 }
 
-/// Makes a run, and answers its checksum and its time.
+/// Makes a run, and returns its checksum and its time.
 pub fn run(side: Side, work: Work, is_kept: bool) -> (u64, Duration) {
     match side {
         #[cfg(library)]

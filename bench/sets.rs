@@ -1,23 +1,23 @@
-//! The same work on sets, and on live ranges, of `std`, and of the Rust original where it is there.
+//! Runs of equal work on sets, and on live ranges, of `std`, and of the Rust original (if present).
 
 use crate::runs::{added, mixed, Kind, Random, Work};
 use std::collections::{BTreeMap, BTreeSet};
 
-/// How many keys an edit of a set puts in and takes out.
+/// The number of keys that an edit of a set inserts, and that it removes.
 const EDITED: u32 = 5;
 
-/// How many ranges one cursor puts in, and how many points lie from the beginning of one to that of the next.
+/// The number of ranges that one cursor inserts, and the number of points from the beginning of one to that of the next.
 const BATCH: u32 = 8;
 const STEP: u32 = 4;
 
-/// Sets with a number each.
+/// Many sets, named by their numbers.
 pub trait Sets {
     fn new(count: u32) -> Self;
     fn insert(&mut self, set: u32, key: u32) -> bool;
     fn contains(&self, set: u32, key: u32) -> bool;
     fn remove(&mut self, set: u32, key: u32) -> bool;
     fn walk(&self, set: u32, sum: u64) -> u64;
-    /// Puts keys in beside one another, takes as many out from the first on, and counts both.
+    /// Inserts keys beside one another, removes as many from the first on, and counts both.
     fn edit(&mut self, set: u32, first: u32) -> u32;
     fn clear(&mut self, set: u32);
 }
@@ -122,9 +122,9 @@ impl Sets for OriginalSets {
 /// Ranges by the point where each begins.
 pub trait Ranges {
     fn new() -> Self;
-    /// Puts ranges in, in order, and counts the new ones.
+    /// Inserts ranges, in order, and counts the new ones.
     fn put(&mut self, entries: &[(u32, u32)]) -> u32;
-    /// Where the last range ends that begins at a point or before.
+    /// The end of the last range that begins at a point or before.
     fn end_at(&self, point: u32) -> Option<u32>;
     /// The first and the last range that begin within these points.
     fn ends(&self, from: u32, to: u32) -> [Option<(u32, u32)>; 2];
@@ -254,7 +254,7 @@ pub fn large<S: Sets>(sets: &mut S, work: Work) -> u64 {
     sum
 }
 
-// Puts so many ranges in, batch by batch, each so far behind the beginning of a step.
+// Inserts `size` ranges, batch by batch, each `offset` points behind the beginning of a step.
 fn add_all<R: Ranges>(ranges: &mut R, size: u32, offset: u32) -> u64 {
     let range = |index: u32| {
         let point = index.wrapping_mul(STEP).wrapping_add(offset);

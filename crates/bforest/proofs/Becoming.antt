@@ -1,4 +1,4 @@
--- One change of a handle's tree after another, and what a change leaves of another handle.
+-- Two changes of one handle's tree in turn, and what a change leaves of another handle.
 use Rattle.bforest.specs.Forest.{Becomes, Forest, IsLive, list_at, list_of, sizes_of}
 use Rattle.std.proofs.Common.{Err, List, None, Ok, OnErr, OnOk, Option, Result, Some, [], ap, inl, inr, refl, subst, sym, ◌∙◌, ◌≡◌, ◌≢◌, ◌⊎◌, ℕ}
 use Rattle.std.proofs.lemmas.Bool.Decides.{eqb_tells}
@@ -6,7 +6,7 @@ use Rattle.std.proofs.lemmas.Bool.Decides.{eqb_tells}
 some_same : (n q : ℕ) → Some n ≡ Some q → n ≡ q
 some_same n q e = cc
 
--- two handles are the same or not
+-- two handles are equal or not
 same_or_not : (h q : Option ℕ) → (h ≡ q) ⊎ (h ≢ q)
 same_or_not None None = inl refl
 same_or_not None (Some q) = inr (λ e. cc)
@@ -22,7 +22,7 @@ module _ {K X : Type 0} where
   sizes_kept f f' h h' es b None ne ne' = refl
   sizes_kept f f' h h' es b (Some n) ne ne' = b.others_sizes n ne ne'
 
-  -- two changes of one handle's tree are one
+  -- two changes of one handle's tree are one change
   pub becomes-both : (f g k : Forest K X) (h i j : Option ℕ) (es fs : List (K × X)) → Becomes f h g i es → Becomes g i k j fs → Becomes f h k j fs
   becomes-both f g k h i j es fs a b = record {
     live = b.live;

@@ -39,7 +39,7 @@ module _ {K X C : Type 0} (order : C → K → K → Ordering) (c c' : MapCursor
         };
       }
 
--- the place where a path stands
+-- a valid path stands at the place that `spot_of` computes
 pub standing : {K X : Type 0} {n : ℕ} (cmp : K → K → Ordering) (f : Forest K X) (h : Option ℕ) (path : Path K X n) → StandsIn cmp f h path → AtSpot f h path
 standing cmp f h path v = record { place = spot_of f h path; spot = v.stands }
 
@@ -53,12 +53,12 @@ module _ {K X C : Type 0} (order : C → K → K → Ordering) (c c' : MapCursor
   }
 
 module _ {K X : Type 0} where
-  -- an insertion leaves a live handle
+  -- the handle is live after an insertion
   pub inserts-live : (most : ℕ) (cmp : K → K → Ordering) (f : Forest K X) (h : Option ℕ) (k : K) (x : X) (r : Result (Option X) OutOfMemory) (f' : Forest K X) (h' : Option ℕ) → IsLive f h → Inserts most cmp f h k x r f' h' → IsLive f' h'
   inserts-live most cmp f h k x (Ok old) f' h' live i = i.put.live
   inserts-live most cmp f h k x (Err e) f' h' live i = rw (i.refused_forest, i.refused_handle) live
 
-  -- a removal leaves an increasing list
+  -- a list that increases still does after a removal
   pub removes-increasing : (most : ℕ) (cmp : K → K → Ordering) (f : Forest K X) (h : Option ℕ) (p : ℕ) (f' : Forest K X) (h' : Option ℕ) → IsIncreasing cmp (list_of f h) → RemovesAt most f h p f' h' → IsIncreasing cmp (list_of f' h')
   removes-increasing most cmp f h p f' h' up r = rw r.removed.list (IsIncreasing-remove cmp (list_of f h) p up)
 
@@ -75,12 +75,12 @@ module _ {K X : Type 0} {n : ℕ} (f : Forest K X) (path : Path K X n) where
         last ∙ sym (ap length list),
       )
 
-  -- so is one that stands at a place
+  -- a path with no node that stands at a place stands at the list's length
   pub end-place : (h : Option ℕ) (p : ℕ) → IsSpot f h path p → IsAtEnd path → p ≡ length (list_of f h)
   end-place None p s end = s.1
   end-place (Some root) p s end = at_end path.node path.entry (tree_of f.nodes root) p path.size end s.at ∙ sym (ap length (list-root f root s.root_is))
 
-  -- and one with a node is on an entry
+  -- a path with a node stands on an entry
   pub on-spot-of : (h : Option ℕ) (p : ℕ) → IsSpot f h path p → (¬ IsAtEnd path) → p < length (list_of f h)
   on-spot-of None p s some = absurd (some s.0)
   on-spot-of (Some root) p s some =
@@ -93,11 +93,11 @@ module _ {K X : Type 0} where
   keys_of-with_value (e ∷ es) zero w = refl
   keys_of-with_value (e ∷ es) (suc p) w = ap (λ ks. e.0 ∷ ks) (keys_of-with_value es p w)
 
-  -- a list increases after a value was written
+  -- a list that increases still does after a value was written
   pub IsIncreasing-with_value : (cmp : K → K → Ordering) (es : List (K × X)) (p : ℕ) (w : X) → IsIncreasing cmp es → IsIncreasing cmp (with_value es p w)
   IsIncreasing-with_value cmp es p w h = subst (IsStrictlySortedBy cmp) (sym (keys_of-with_value es p w)) h
 
-  -- no value is written past the end
+  -- a write past the end changes nothing
   pub with_value-past : (es : List (K × X)) (p : ℕ) (w : X) → length es ≤ p → with_value es p w ≡ es
   with_value-past [] p w past = refl
   with_value-past (e ∷ es) zero w past = absurd (omega (arith, past))
@@ -110,7 +110,7 @@ module _ {K X : Type 0} where
       (λ j. with_value_at f (li j) (ii j) w) ∙ sym (λ j. if no j then f else with_value_at f (leaf_of path) (index_of path) w)
 
 module _ {K X C : Type 0} (order : C → K → K → Ordering) (c : MapCursorMut K X C) (v : IsCursor order c) where
-  -- what a write at the place of c leaves
+  -- what a write through a cursor leaves
   pub writes : (c' : MapCursorMut K X C) (w : X) → map_loan c' ≡ map_loan c → forest_loan c' ≡ forest_loan c → comparator c' ≡ comparator c → map_now c' ≡ map_now c → c'.path ≡ c.path → IsWritten (forest_now c) (forest_now c') (map_now c) c.path (spot c) w → Writes order c c' w
   writes c' w same same' comp map path told =
       let at = told.spot in
@@ -124,13 +124,13 @@ module _ {K X C : Type 0} (order : C → K → K → Ordering) (c : MapCursorMut
       }
 
   module _ (end : IsAtEnd c.path) where
-    -- no value at the end
+    -- a cursor at the end has no value
     pub none-here : value_at_place (entries c) (spot c) ≡ None
     none-here =
         let last = end-place (forest_now c) c.path (map_now c) (spot c) v.stands end in
         ap (option_map (λ e. e.1)) (slice_get_past (entries c) (spot c) (omega (arith, last)))
 
-    -- and nothing is written there
+    -- a write through a cursor at the end changes nothing
     pub unwritten-here : (w : X) → Writes order c (with_value_here c w) w
     unwritten-here w =
         let last = end-place (forest_now c) c.path (map_now c) (spot c) v.stands end in
@@ -147,7 +147,7 @@ module _ {K X C : Type 0} (order : C → K → K → Ordering) (c : MapCursorMut
         } in
         subst (λ d. Writes order c d w) same stays
 
--- a path at another place of the same list
+-- a valid path that moves to another place of the list stays valid
 pub stands-at : {K X : Type 0} (cmp : K → K → Ordering) (f : Forest K X) (h : Option ℕ) (path path' : Path K X 7) (p : ℕ) → StandsIn cmp f h path → IsSpot f h path' p → IsComputed 7 f h → StandsIn cmp f h path'
 stands-at cmp f h path path' p v at computed =
     record { live = v.live; increasing = v.increasing; stands = subst (λ (z : ℕ). IsSpot f h path' z) (sym (computed path' p at)) at }

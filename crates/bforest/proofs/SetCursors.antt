@@ -35,7 +35,7 @@ module _ {K C : Type 0} (order : C → K → K → Ordering) (c c' : SetCursor K
   }
 
 module _ {K X : Type 0} where
-  -- the key at a place, and how many there are
+  -- the key at a place of a list
   pub key-at : (es : List (K × X)) (p : ℕ) → option_map (λ e. e.0) (slice_get es p) ≡ slice_get (keys_of es) p
   key-at [] p = refl
   key-at (e ∷ es) zero = refl

@@ -1,4 +1,4 @@
--- The answers of a set against those of a map whose values say nothing.
+-- The answers of a set, from those of a map with the unit as value.
 use Rattle.bforest.specs.Set.{as_removed, the_value}
 use Rattle.bforest_nodes.specs.Entries.{is_present, value_for}
 use Rattle.std.proofs.Math.Nat.{pow-succ'}
@@ -8,7 +8,7 @@ use Rattle.std.specs.Map.{keys_of}
 use Rattle.std.specs.Option.{is_some, option_map}
 use Rattle.std.specs.declared.cmp.Ordering.{Ordering}
 
--- what a removal answers
+-- a removal answers the unit exactly where the key was present
 pub removed-as : (o : Option (Unit {0})) → as_removed (is_some o) ≡ o
 removed-as None = refl
 removed-as (Some v) = refl
@@ -21,7 +21,7 @@ some-map f (Some a) = refl
 pub present-is : {K X : Type 0} (cmp : K → K → Ordering) (es : List (K × X)) (k : K) → is_some (value_for cmp es k) ≡ is_present cmp es k
 present-is cmp es k = some-map (λ e. e.1) _
 
--- so many levels need more keys than so many
+-- the bound on the keys of a tree of at least two levels, as one power of 4
 pub depth-eight : (levels n : ℕ) → 2 ≤ levels → 8 * 4 ^ (levels - 2) < n → 2 * 4 ^ (levels - 1) < n
 depth-eight zero n two h = absurd (omega (arith, two))
 depth-eight (suc zero) n two h = absurd (omega (arith, two))
@@ -36,17 +36,17 @@ keys-append : {K X : Type 0} (es fs : List (K × X)) → keys_of (es ++ fs) ≡ 
 keys-append [] fs = refl
 keys-append (e ∷ es) fs = ap (λ z. e.0 ∷ z) (keys-append es fs)
 
--- one key for each entry
+-- an iterator that yields the first entry yields the first key
 pub yields-key : {K X : Type 0} (old new : List (K × X)) (o : Option (K × X)) → YieldsFirst (λ (entries : List (K × X)). entries) old o new → YieldsFirst (λ (keys : List K). keys) (keys_of old) (option_map (λ e. e.0) o) (keys_of new)
 yields-key old new (Some entry) steps = ap keys_of steps
 yields-key old new None steps = (ap keys_of steps.0, ap keys_of steps.1)
 
--- from the end
+-- an iterator that yields the last entry yields the last key
 pub yields-last-key : {K X : Type 0} (old new : List (K × X)) (o : Option (K × X)) → YieldsLast (λ (entries : List (K × X)). entries) old o new → YieldsLast (λ (keys : List K). keys) (keys_of old) (option_map (λ e. e.0) o) (keys_of new)
 yields-last-key old new (Some entry) steps = ap keys_of steps ∙ keys-append new (entry ∷ [])
 yields-last-key old new None steps = (ap keys_of steps.0, ap keys_of steps.1)
 
--- each key beside the one value
+-- the entries of keys, each with the unit as value
 abbrev pub with_each : {K : Type 0} → List K → List (K × Unit {0})
 with_each [] = []
 with_each (k ∷ ks) = (k, the_value) ∷ with_each ks

@@ -1,2 +1,2 @@
--- What a call that may change one map answers and leaves: the words of the trees below.
+-- What a call that may change one map answers and leaves, as `bforest_trees` defines it.
 pub use Rattle.bforest_trees.specs.Calls.{Clears, Filters, Inserts, Removes, RemovesAt, Reserves, SameLevels}

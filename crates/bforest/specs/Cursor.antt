@@ -1,4 +1,4 @@
--- What contracts see of a cursor: a list and a place in it, and of a writing one the forest and the handle that it writes to.
+-- What contracts see of a cursor: a list and a place in it; of a writing one also the forest and the handle.
 use Rattle.bforest.specs.declared.map_cursor_mut.MapCursorMut.{MapCursorMut}
 use Rattle.bforest_core.specs.Paths.{index_of, leaf_of}
 use Rattle.bforest_core.specs.Table.{with_value_at}
@@ -10,7 +10,7 @@ use Rattle.std.specs.Borrow.{GName}
 use Rattle.std.specs.Prelude.{List, Option, if◌then◌else◌, length, ◌==◌, ◌≡◌, ℕ}
 use Rattle.std.specs.declared.cmp.Ordering.{Ordering}
 
--- a reading cursor: the list, where it stands in it (the number of entries is the end), and its comparator
+-- a reading cursor: its list, its place in the list (the number of entries is the end), and its comparator
 pub record Cursor (K X C : Type 0) : Type 0 where
   pub entries : List (K × X)
   pub spot : ℕ
@@ -31,35 +31,35 @@ module _ {K X C : Type 0} where
   abbrev pub entries : MapCursorMut K X C → List (K × X)
   entries c = list_of c.forest.now c.map.now
 
-  -- where it stands: the number of entries is the end
+  -- the place where a writing cursor stands: the number of entries is the end
   abbrev pub spot : MapCursorMut K X C → ℕ
   spot c = spot_of c.forest.now c.map.now c.path
 
-  -- the forest and the handle as they are now
+  -- the current forest and handle of a writing cursor
   abbrev pub forest_now : MapCursorMut K X C → Forest K X
   forest_now c = c.forest.now
 
   abbrev pub map_now : MapCursorMut K X C → Option ℕ
   map_now c = c.map.now
 
-  -- its comparator
+  -- the comparator of a writing cursor
   abbrev pub comparator : MapCursorMut K X C → C
   comparator c = c.comp.now
 
-  -- the names of its loans of the handle and of the forest
+  -- the names of a writing cursor's loans of the handle and of the forest
   abbrev pub map_loan : MapCursorMut K X C → GName
   map_loan c = c.map.ghost_name
 
   abbrev pub forest_loan : MapCursorMut K X C → GName
   forest_loan c = c.forest.ghost_name
 
-  -- with w as the value at its place; at the end nothing is written
+  -- the cursor with w as the value at its place; at the end nothing is written
   abbrev pub with_value_here : MapCursorMut K X C → X → MapCursorMut K X C
   with_value_here c w =
       record c { forest = record c.forest { now = if spot c == length (entries c) then c.forest.now else with_value_at c.forest.now (leaf_of c.path) (index_of c.path) w } }
 
   module _ (order : C → K → K → Ordering) where
-    -- its handle is live, its list increases, and it stands on an entry or at the end
+    -- the cursor's handle is live, its list increases, and it stands on an entry or at the end
     abbrev pub IsCursor : MapCursorMut K X C → Type 0
     IsCursor c = StandsIn (order (comparator c)) (forest_now c) (map_now c) c.path
 

@@ -1,4 +1,4 @@
--- What a forest and a writing cursor end as, once a reference into them has ended.
+-- What a forest and a writing cursor are, once a reference into them has ended.
 use Rattle.bforest.specs.Cursor.{with_value_here}
 use Rattle.bforest.specs.contracts.forest.MapForest.{the_row as forest_row}
 use Rattle.bforest.specs.contracts.map_cursor_mut.MapCursorMut.{the_row}
@@ -22,6 +22,6 @@ module _ (K V C : RattleType) where
     abbrev pub lends_here : MutBor V.Denot → Fml
     lends_here r = Lends cursor_row V c r (with_value_here c.now)
 
-    -- the same if r is a reference, and else it stays
+    -- if r is a reference, the cursor has the last value written through it; else the cursor stays
     abbrev pub lends_value : Option (MutBor V.Denot) → Fml
     lends_value r = LendsIf cursor_row V c r (with_value_here c.now) c.now

@@ -1,4 +1,4 @@
--- What the calls of a pool ask of the size of its types.
+-- What the calls of a pool ask of the sizes of its types.
 use Rattle.std.specs.Borrow.{RattleType}
 use Rattle.std.specs.Mem.{FitsInMemory}
 use denote.Param.{number}
@@ -14,7 +14,7 @@ abbrev pub IsReadable : RattleType → RattleType → Type 0
 IsReadable K V =
     FitsInMemory (forest_row K V) × FitsInMemory (trees_row K V (number 7)) × FitsInMemory (pool_row K V (number 7)) × FitsInMemory (node_row K V (number 7))
 
--- the same of a forest of sets of these keys
+-- a forest of sets of these keys, its trees, their table and a node take fewer than 2 ^ 63 bytes each
 abbrev pub IsSetReadable : RattleType → Type 0
 IsSetReadable K =
     FitsInMemory (set_forest_row K) × FitsInMemory (trees_row K Nothing (number 15)) × FitsInMemory (pool_row K Nothing (number 15)) × FitsInMemory (node_row K Nothing (number 15))

@@ -1,4 +1,4 @@
--- What contracts see of a set: the keys of its list, each beside the one value that there is.
+-- What contracts see of a set: the keys of its list, whose values are all the unit.
 use Rattle.bforest_core.specs.declared.pool.OutOfMemory.{OutOfMemory}
 use Rattle.bforest_trees.specs.Forest.{Forest, list_of}
 use Rattle.std.specs.Fn.{Called, Mut, Takes}
@@ -9,23 +9,23 @@ use Rattle.std.specs.Prelude.{Bool, Err, List, None, Ok, Option, Result, Some, f
 abbrev pub elements : {K : Type 0} → Forest K (Unit {0}) → Option ℕ → List K
 elements f h = keys_of (list_of f h)
 
--- the one value
+-- the unit, as the value of each key
 abbrev pub the_value : Unit {0}
 the_value = tt
 
--- whether a key is new, as an insertion of its entry says it: with the value that was there, or without one
+-- the answer of a set's insertion, as that of an insertion of an entry
 abbrev pub as_put : Result Bool OutOfMemory → Result (Option (Unit {0})) OutOfMemory
 as_put (Ok true) = Ok None
 as_put (Ok false) = Ok (Some the_value)
 as_put (Err refused) = Err refused
 
--- whether a key was there, as the removal of its entry says it
+-- the answer of a set's removal, as that of a removal of an entry
 abbrev pub as_removed : Bool → Option (Unit {0})
 as_removed true = Some the_value
 as_removed false = None
 
 module _ {F K : Type 0} (g : Mut F (K × Unit {0}) Bool) where
-  -- a call of f at the key k may answer b, and leave f as f'; the value says nothing
+  -- a call of f at the key k may answer b, and leave f as f'; the values v and w are ignored
   pub record AnswersKey (f : F) (k : K) (v : Unit {0}) (b : Bool) (w : Unit {0}) (f' : F) : Type 0 where
     pub called : Called g f (k, tt) b f'
 

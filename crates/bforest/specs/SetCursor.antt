@@ -1,4 +1,4 @@
--- What contracts see of a set's cursor: the keys and a place among them, and the forest and the handle that it writes to.
+-- What contracts see of a set's cursor: the keys and a place among them, and the forest and the handle.
 use Rattle.bforest.specs.Cursor.{StandsIn}
 use Rattle.bforest.specs.Set.{elements}
 use Rattle.bforest.specs.declared.set_cursor.SetCursor.{SetCursor}
@@ -9,26 +9,26 @@ use Rattle.std.specs.Prelude.{List, Option, ◌≡◌, ℕ}
 use Rattle.std.specs.declared.cmp.Ordering.{Ordering}
 
 module _ {K C : Type 0} where
-  -- the forest and the handle as they are now
+  -- the current forest and handle of a cursor
   abbrev pub forest_now : SetCursor K C → Forest K (Unit {0})
   forest_now c = c.forest.now
 
   abbrev pub set_now : SetCursor K C → Option ℕ
   set_now c = c.set.now
 
-  -- the keys among which it stands
+  -- the keys among which a cursor stands
   abbrev pub keys : SetCursor K C → List K
   keys c = elements (forest_now c) (set_now c)
 
-  -- where it stands: the number of keys is the end
+  -- the place where a cursor stands: the number of keys is the end
   abbrev pub spot : SetCursor K C → ℕ
   spot c = spot_of (forest_now c) (set_now c) c.path
 
-  -- its comparator
+  -- the comparator of a cursor
   abbrev pub comparator : SetCursor K C → C
   comparator c = c.comp.now
 
-  -- the names of its loans of the handle and of the forest
+  -- the names of a cursor's loans of the handle and of the forest
   abbrev pub set_loan : SetCursor K C → GName
   set_loan c = c.set.ghost_name
 
@@ -36,7 +36,7 @@ module _ {K C : Type 0} where
   forest_loan c = c.forest.ghost_name
 
   module _ (order : C → K → K → Ordering) where
-    -- its handle is live, its keys increase, and it stands on one or at the end
+    -- the cursor's handle is live, its keys increase, and it stands on a key or at the end
     abbrev pub IsCursor : SetCursor K C → Type 0
     IsCursor c = StandsIn (order (comparator c)) (forest_now c) (set_now c) c.path
 

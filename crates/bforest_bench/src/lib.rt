@@ -1,9 +1,9 @@
-//! The runs of `bforest_workloads_bench` for a caller in another language: `bench/driver.rs`, which makes the same on other maps.
+//! The runs of `bforest_workloads_bench` for a caller in another language: `bench/driver.rs`, which makes equal runs on other maps.
 #![tactic(auto)]
 
 use std::alloc::Global;
 
-/// Calls of all kinds on many small maps, as `bforest_workloads_bench::run_mixture` says.
+/// Calls of all kinds on many small maps: `bforest_workloads_bench::run_mixture`.
 #[unsafe(no_mangle)]
 pub extern "C" fn bench_mixture(
     alloc: Global,
@@ -16,7 +16,7 @@ pub extern "C" fn bench_mixture(
     bforest_workloads_bench::run_mixture(alloc, maps, calls, looks, walks, is_cleared)
 }
 
-/// One map of many entries, as `bforest_workloads_bench::run_large` says.
+/// One map of many entries: `bforest_workloads_bench::run_large`.
 #[unsafe(no_mangle)]
 pub extern "C" fn bench_large(
     alloc: Global,
@@ -29,7 +29,7 @@ pub extern "C" fn bench_large(
     bforest_workloads_bench::run_large(alloc, size, is_mixed, looks, walks, is_emptied)
 }
 
-/// The same map read by cursors, as `bforest_workloads_bench::run_large_cursor` says.
+/// One map of many entries, read by cursors: `bforest_workloads_bench::run_large_cursor`.
 #[unsafe(no_mangle)]
 pub extern "C" fn bench_large_cursor(
     alloc: Global,
@@ -41,19 +41,19 @@ pub extern "C" fn bench_large_cursor(
     bforest_workloads_bench::run_large_cursor(alloc, size, is_mixed, walks, turns)
 }
 
-/// The predecessors of blocks, as `bforest_workloads_bench::run_edges` says.
+/// The predecessors of blocks: `bforest_workloads_bench::run_edges`.
 #[unsafe(no_mangle)]
 pub extern "C" fn bench_edges(alloc: Global, blocks: u32, walks: u32, turns: u32) -> u64 {
     bforest_workloads_bench::run_edges(alloc, blocks, walks, turns)
 }
 
-/// The same maps read by cursors, as `bforest_workloads_bench::run_edges_cursor` says.
+/// The predecessors of blocks, read by cursors: `bforest_workloads_bench::run_edges_cursor`.
 #[unsafe(no_mangle)]
 pub extern "C" fn bench_edges_cursor(alloc: Global, blocks: u32, walks: u32) -> u64 {
     bforest_workloads_bench::run_edges_cursor(alloc, blocks, walks)
 }
 
-/// Calls of all kinds on many small sets, as `bforest_workloads_bench::run_set_mixture` says.
+/// Calls of all kinds on many small sets: `bforest_workloads_bench::run_set_mixture`.
 #[unsafe(no_mangle)]
 pub extern "C" fn bench_set_mixture(
     alloc: Global,
@@ -66,7 +66,7 @@ pub extern "C" fn bench_set_mixture(
     bforest_workloads_bench::run_set_mixture(alloc, sets, calls, looks, walks, is_cleared)
 }
 
-/// One set of many keys, as `bforest_workloads_bench::run_large_set` says.
+/// One set of many keys: `bforest_workloads_bench::run_large_set`.
 #[unsafe(no_mangle)]
 pub extern "C" fn bench_large_set(
     alloc: Global,
@@ -79,7 +79,7 @@ pub extern "C" fn bench_large_set(
     bforest_workloads_bench::run_large_set(alloc, size, is_mixed, looks, walks, edits)
 }
 
-/// Live ranges, as `bforest_workloads_bench::run_ranges` says.
+/// Live ranges: `bforest_workloads_bench::run_ranges`.
 #[unsafe(no_mangle)]
 pub extern "C" fn bench_ranges(
     alloc: Global,

@@ -1,5 +1,5 @@
-//! Makes runs of the benchmark at a hundredth of their size, and writes a line for each: the kind, the size, the rounds of look-ups, of reads
-//! and of removals, and the checksum. `bench/run --quick` compares the checksums with those of Rust's own maps.
+//! Makes runs of the benchmark at a hundredth of their size, and writes a line for each: the kind, the size, the rounds of lookups, of
+//! reads and of removals, and the checksum. `bench/run --quick` compares the checksums with those of Rust's own maps.
 #![tactic(auto)]
 
 use bforest_workloads_bench::{
@@ -8,7 +8,7 @@ use bforest_workloads_bench::{
 };
 use std::io;
 
-/// What a run works on.
+/// The subject of a run.
 #[derive(Clone, Copy)]
 enum Kind {
     Mixture,
@@ -25,7 +25,7 @@ enum Kind {
 }
 
 impl Kind {
-    /// Its name in a line.
+    /// The name of a kind in a line.
     fn name(self) -> &'static str {
         match self {
             Kind::Mixture => "Mixture",
@@ -43,7 +43,7 @@ impl Kind {
     }
 }
 
-/// How often a run reads and removes, behind the phase that fills its maps.
+/// The numbers of rounds that a run reads and removes, after the phase that fills its maps.
 #[derive(Clone, Copy)]
 struct Rounds {
     looks: u32,
@@ -51,25 +51,25 @@ struct Rounds {
     turns: u32,
 }
 
-/// The maps are filled, and no more.
+/// No rounds: the maps are filled, and no more.
 const FILLED: Rounds = Rounds {
     looks: 0,
     walks: 0,
     turns: 0,
 };
-/// Then rounds of look-ups.
+/// Rounds of lookups alone.
 const LOOKED_UP: Rounds = Rounds {
     looks: 3,
     walks: 0,
     turns: 0,
 };
-/// Or rounds that read each entry.
+/// Rounds that read each entry alone.
 const READ: Rounds = Rounds {
     looks: 0,
     walks: 20,
     turns: 0,
 };
-/// Or one that takes entries out, edits, puts ranges between ranges, or reads by a cursor from the last entry back.
+/// One round that removes entries, edits, inserts ranges between ranges, or reads by a cursor from the last entry back.
 const TAKEN: Rounds = Rounds {
     looks: 0,
     walks: 0,
@@ -111,7 +111,7 @@ fn show(rt: HostRuntime, kind: Kind, size: u32, rounds: Rounds) -> io::Result<()
     )
 }
 
-/// Makes the runs of a kind: on nothing, and of a size, with rounds that read and with one that takes entries out.
+/// Makes the runs of a kind: with no entry, and of a size, with rounds that read and with one that removes entries.
 fn show_all(rt: HostRuntime, kind: Kind, size: u32) -> io::Result<()> {
     show(rt, kind, 0, FILLED)?;
     show(rt, kind, size, FILLED)?;
@@ -119,7 +119,7 @@ fn show_all(rt: HostRuntime, kind: Kind, size: u32) -> io::Result<()> {
     show(rt, kind, size, TAKEN)
 }
 
-/// The same of sets and of live ranges.
+/// Makes the runs of sets and of live ranges.
 fn show_sets(rt: HostRuntime) -> io::Result<()> {
     show_all(rt, Kind::SetMixture, 1000)?;
     show(rt, Kind::SetMixture, 1000, LOOKED_UP)?;
@@ -131,7 +131,7 @@ fn show_sets(rt: HostRuntime) -> io::Result<()> {
     show(rt, Kind::Ranges, 10_000, LOOKED_UP)
 }
 
-/// The maps, read by cursors.
+/// Makes the runs of maps that are read by cursors.
 fn show_cursors(rt: HostRuntime) -> io::Result<()> {
     show_all(rt, Kind::RandomCursor, 10_000)?;
     show_all(rt, Kind::AscendingCursor, 10_000)?;

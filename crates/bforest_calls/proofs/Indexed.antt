@@ -1,4 +1,4 @@
--- What an index of a handle or a comparator names, and changes that are no change.
+-- The handle and the comparator at an index, and changes that change nothing.
 use Rattle.bforest.specs.Forest.{Becomes, Forest, IsLive, list_of}
 use Rattle.bforest_calls.specs.Machine.{order_at}
 use Rattle.bforest_nodes.specs.Entries.{IsIncreasing, value_at_place, with_value}
@@ -13,14 +13,14 @@ use Rattle.std.specs.declared.cmp.Ordering.{Ordering}
 pub is_handle : (handles : List (Option ℕ)) (h : ℕ) (x : Option ℕ) → x ≡ get_or handles h x → h < length handles → x ≡ get_or handles h None
 is_handle handles h x is within = is ∙ get_or_default handles h x None within
 
--- as many orders as comparators
+-- there are as many orders as comparators
 pub order-within : {C K : Type 0} (order : C → K → K → Ordering) (comps : List C) (c : ℕ) → c < length (map order comps) → c < length comps
 order-within order comps c within = subst (λ n. c < n) (length-map comps order) within
 
 pub both-there : {C K : Type 0} (order : C → K → K → Ordering) (comps : List C) (h c handles : ℕ) → h < handles → c < length comps → (h < handles) × (c < length (map order comps))
 both-there order comps h c handles low within = (low, subst (λ n. c < n) (sym (length-map comps order)) within)
 
--- where one of two indices is too great, not both are there
+-- where one of two indices is out of range, not both are in range
 pub not-there : {C K : Type 0} (order : C → K → K → Ordering) (comps : List C) (h c handles : ℕ) → (handles ≤ h) ⊎ ((h < handles) × (length comps ≤ c)) → (h < handles) × (c < length (map order comps)) → ⊥
 not-there order comps h c handles past there = elim past [
   | inl w ↦ omega (arith, w, there.0)
@@ -30,7 +30,7 @@ not-there order comps h c handles past there = elim past [
 pub is_order : {C K : Type 0} (order : C → K → K → Ordering) (comps : List C) (c : ℕ) (x : C) → x ≡ get_or comps c x → c < length (map order comps) → order x ≡ order_at (map order comps) c
 is_order order comps c x is within = ap order is ∙ sym (get_or-map order comps c x (λ _ _. Equal) (order-within order comps c within))
 
--- what a test of a handle says of the number that its index names
+-- a test of a handle tells whether the number at the handle's index is live
 module _ {K V : Type 0} (forest : Forest K V) (handles : List (Option ℕ)) (h : ℕ) (x : Option ℕ) (holds : Bool) (at : x ≡ get_or handles h x) (within : h < length handles) (tells : IsTrue holds ↔ IsLive forest x) where
   pub alive : holds ≡ true → IsLive forest (get_or handles h None)
   alive is = subst (λ n. IsLive forest n) (is_handle handles h x at within) (tells.0 is)
@@ -38,14 +38,14 @@ module _ {K V : Type 0} (forest : Forest K V) (handles : List (Option ℕ)) (h :
   pub dead : holds ≡ false → IsLive forest (get_or handles h None) → ⊥
   dead is live = false≢true (sym is ∙ tells.1 (subst (λ n. IsLive forest n) (sym (is_handle handles h x at within)) live))
 
--- what holds of an order and of a number that are these
+-- a property of an order and of a number holds of equal ones
 pub at_both : {K : Type 0} {order own : K → K → Ordering} {n h : Option ℕ} (R : (K → K → Ordering) → Option ℕ → Type 0) → own ≡ order → h ≡ n → R own h → R order n
 at_both {K} {order} {own} {n} {h} R e d r = subst (λ o. R o n) e (subst (R own) d r)
 
 pub at_all : {K L : Type 0} {order own : K → K → Ordering} {n h : Option ℕ} {list asked : L} (R : (K → K → Ordering) → Option ℕ → L → Type 0) → own ≡ order → h ≡ n → asked ≡ list → R own h asked → R order n list
 at_all {K} {L} {order} {own} {n} {h} {list} {asked} R e d a r = subst (R order n) a (subst (λ o. R o n asked) e (subst (λ m. R own m asked) d r))
 
--- what a test of its list under a comparator says of the order that the comparator's index names
+-- a test of a list under a comparator tells whether it increases under the order at the comparator's index
 module _ {C K V : Type 0} (order : C → K → K → Ordering) (forest : Forest K V) (handles : List (Option ℕ)) (comps : List C) (h c : ℕ) (x : Option ℕ) (y : C) (increases : Bool)
     (at : x ≡ get_or handles h x) (comp_at : y ≡ get_or comps c y) (there : (h < length handles) × (c < length (map order comps))) (tells : IsTrue increases ↔ IsIncreasing (order y) (list_of forest x)) where
   pub in-order : increases ≡ true → IsIncreasing (order_at (map order comps) c) (list_of forest (get_or handles h None))
@@ -55,7 +55,7 @@ module _ {C K V : Type 0} (order : C → K → K → Ordering) (forest : Forest 
   unordered is ordered = false≢true (sym is ∙ tells.1 (at_both (λ o n. IsIncreasing o (list_of forest n)) (sym (is_order order comps c y comp_at there.1)) (sym (is_handle handles h x at there.0)) ordered))
 
 module _ {K V : Type 0} where
-  -- where there is a value there is an entry, and else there is none
+  -- an entry is present exactly where its value is
   pub within_at : (e : Option (K × V)) (v : V) → Some v ≡ option_map (λ x. x.1) e → true ≡ is_some e
   within_at None v is = absurd (cc)
   within_at (Some x) v is = refl
@@ -69,7 +69,7 @@ module _ {K V : Type 0} where
   with_value_past (x ∷ es) zero w e = absurd (cc)
   with_value_past (x ∷ es) (suc p) w e = ap (λ xs. x ∷ xs) (with_value_past es p w e)
 
-  -- no change is one
+  -- a forest that does not change becomes its own list
   pub becomes_same : (f : Forest K V) (h : Option ℕ) (es : List (K × V)) → IsLive f h → list_of f h ≡ es → Becomes f h f h es
   becomes_same f h es live list = record {
     live = live;
@@ -83,7 +83,7 @@ module _ {K V : Type 0} where
     limit = refl;
   }
 
--- the handle and the comparator that a call names, where it is made
+-- the handle and the comparator that a call names, where the call is made
 pub record Named {C K V : Type 0} (order : C → K → K → Ordering) (forest : Forest K V) (handles : List (Option ℕ)) (comps : List C) (h c : ℕ) (number : Option ℕ) (comp : C) : Type 0 where
   pub number_is : number ≡ get_or handles h None
   pub order_is : order comp ≡ order_at (map order comps) c

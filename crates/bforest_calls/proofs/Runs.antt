@@ -1,4 +1,4 @@
--- One step more of a script, and one call more of a run.
+-- The next step of a script, and the next call of a run.
 use Rattle.bforest_calls.specs.Machine.{Orders, Run, State, Step}
 use Rattle.bforest_calls.specs.State.{Acts, Held, Script}
 use Rattle.bforest_calls.specs.declared.call.Act.{Act}
@@ -20,7 +20,7 @@ module _ {K V : Type 0} (most : ℕ) where
   script_more order old p [] (t ∷ sights) mid m step sight new q h next = absurd h
   script_more order old p (s ∷ steps) [] mid m step sight new q h next = absurd h
 
-  -- the same, of what a loop over the steps knows
+  -- a script with one step more, as the loop over the steps knows it
   pub script_next : (order : K → K → Ordering) (old : Held K V) (p : ℕ) (steps : List (Act K V)) (i : ℕ) (sights : List (Seen K V)) (mid : Held K V) (m : ℕ)
       (own : K → K → Ordering) (step : Act K V) (sight : Seen K V) (new : Held K V) (q : ℕ) (told : List (Seen K V))
       → Script most order old p (take i steps) sights mid m → own ≡ order → Acts most own mid m step sight new q → i < length steps → step ≡ get_or steps i step → told ≡ sights ++ sight ∷ []
@@ -30,13 +30,13 @@ module _ {K V : Type 0} (most : ℕ) where
       (subst (λ (ss : List (Act K V)). Script most order old p ss (sights ++ sight ∷ []) new q) (ap (λ s. take i steps ++ s ∷ []) is ∙ sym (take_more steps i step within))
       (script_more order old p (take i steps) sights mid m step sight new q h (subst (λ (o : K → K → Ordering). Acts most o mid m step sight new q) same next)))
 
-  -- a loop at its start
+  -- the script of no steps, at the start of the loop
   pub script_none : (order : K → K → Ordering) (old : Held K V) (p : ℕ) (sights : List (Seen K V)) (mid : Held K V) (m : ℕ)
       → sights ≡ [] → mid.forest ≡ old.forest → mid.number ≡ old.number → m ≡ p → Script most order old p [] sights mid m
   script_none order old p sights mid m none forest number place =
       subst (λ (ts : List (Seen K V)). Script most order old p [] ts mid m) (sym none) ((λ j. record { forest = forest j; number = number j }), place)
 
-  -- a loop that has come to the end
+  -- the script of all steps, at the end of the loop
   pub script_whole : (order : K → K → Ordering) (old : Held K V) (p : ℕ) (steps : List (Act K V)) (i : ℕ) (sights : List (Seen K V)) (mid : Held K V) (m : ℕ) (new : Held K V)
       → Script most order old p (take i steps) sights mid m → length steps ≤ i → new.forest ≡ mid.forest → new.number ≡ mid.number → Script most order old p steps sights new m
   script_whole order old p steps i sights mid m new h end forest number =

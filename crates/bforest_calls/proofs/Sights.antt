@@ -1,4 +1,4 @@
--- One step more of a reading cursor, and one more from the ends of a range.
+-- The next step of a reading cursor, and the next step from the ends of a range.
 use Rattle.bforest.specs.Cursor as map
 use Rattle.bforest.specs.SetCursor as set
 use Rattle.bforest.specs.declared.map_cursor_mut.MapCursorMut.{MapCursorMut}
@@ -13,7 +13,7 @@ use Rattle.std.specs.Prelude.{IsTrue, is_none, slice_get, ◌↔◌}
 use Rattle.std.specs.declared.cmp.Ordering.{Ordering}
 
 module _ {X Y : Type 0} (F : List X → List Y) where
-  -- what was told, and what the steps that are left tell
+  -- the answers so far and those of the steps left are all answers, after one step more
   step-next : (steps : List X) (i : ℕ) (step : X) (told told' : List Y) (sight : Y) (rest all : List Y)
       → i < length steps → step ≡ get_or steps i step → told' ≡ told ++ sight ∷ [] → F (step ∷ drop (i + 1) steps) ≡ sight ∷ rest → told ++ F (drop i steps) ≡ all
       → told' ++ rest ≡ all
@@ -49,21 +49,21 @@ module _ {K V : Type 0} where
   pub take-last : (es : List (K × V)) (sides : List Side) (i : ℕ) (told all : List (Seen K V)) → length sides ≤ i → told ++ all_taken es (drop i sides) ≡ all → told ≡ all
   take-last es sides i told all end left = step-last (all_taken es) sides i told all refl end left
 
--- whether the list is empty
+-- the flag for an empty list is whether the list has no first entry
 pub flag-empty : {X : Type 0} (b : Bool) (es : List X) → (IsTrue b ↔ (es ≡ [])) → b ≡ is_none (slice_get es 0)
 flag-empty true [] h = refl
 flag-empty true (e ∷ es) h = let no = h.0 refl in absurd (cc)
 flag-empty false [] h = let no = h.1 refl in absurd (cc)
 flag-empty false (e ∷ es) h = refl
 
--- a cursor stands where it stands
+-- a cursor that went to p stands at its own place
 pub map-goes : {K X C : Type 0} (order : C → K → K → Ordering) (old new : MapCursorMut K X C) (p : ℕ) → map.Goes order old new p → map.Goes order old new (map.spot new)
 map-goes order old new p m = record { map_loan = m.map_loan; forest_loan = m.forest_loan; comparator = m.comparator; spot = refl; valid = m.valid }
 
 pub set-goes : {K C : Type 0} (order : C → K → K → Ordering) (old new : SetCursor K C) (p : ℕ) → set.Goes order old new p → set.Goes order old new (set.spot new)
 set-goes order old new p m = record { set_loan = m.set_loan; forest_loan = m.forest_loan; comparator = m.comparator; spot = refl; valid = m.valid }
 
--- a push for which there was room
+-- a push within the capacity appends the element
 pub pushed : {X : Type 0} (ok : Bool) (with without new : X) → ok ≡ true → new ≡ (if ok then with else without) → new ≡ with
 pushed ok with without new is e = e ∙ (λ j. if is j then with else without)
 

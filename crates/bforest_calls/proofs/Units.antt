@@ -1,4 +1,4 @@
--- Keys of a set, and its entries.
+-- The keys of a set as entries.
 use Rattle.bforest.specs.Forest.{Becomes, Forest, IsLive, list_of}
 use Rattle.bforest.specs.Set.{as_removed}
 use Rattle.bforest_calls.proofs.Indexed.{becomes_same}
@@ -55,11 +55,11 @@ module _ {K : Type 0} where
   removed-some None = refl
   removed-some (Some e) = refl
 
-  -- the value of a key
+  -- whether a key is present, as its value
   pub removed-value : (order : K → K → Ordering) (es : List (K × Unit {0})) (k : K) → as_removed (is_present order es k) ≡ value_for order es k
   removed-value order es k = removed-some _
 
-  -- a key with its value is its entry
+  -- the key of an entry, with the unit, is the entry
   pub as-entry : (o : Option (K × Unit {0})) → option_map (λ k. (k, tt)) (option_map (λ e. e.0) o) ≡ o
   as-entry None = refl
   as-entry (Some e) = refl
@@ -84,7 +84,7 @@ module _ {K : Type 0} where
   some-key None = refl
   some-key (Some e) = refl
 
-  -- whether there is an entry
+  -- a place has a key exactly where it has an entry
   pub some-at : (es : List (K × Unit {0})) (p : ℕ) → is_some (slice_get (keys_of es) p) ≡ is_some (slice_get es p)
   some-at es p = ap is_some (key-at es p) ∙ some-key (slice_get es p)
 
@@ -100,11 +100,11 @@ module _ {K : Type 0} where
   same-value (e ∷ es) zero v = refl
   same-value (e ∷ es) (suc p) v = ap (λ z. e ∷ z) (same-value es p v)
 
-  -- a value that is written is the one that is there
+  -- writing the unit changes nothing
   pub becomes-written : (f : Forest K (Unit {0})) (h : Option ℕ) (p : ℕ) (v : Unit {0}) → IsLive f h → Becomes f h f h (with_value (list_of f h) p v)
   becomes-written f h p v live = becomes_same f h _ live (same-value (list_of f h) p v)
 
-  -- a step of a range
+  -- a step of a range of keys, as one of entries
   pub each-first : (old new : List K) (r : Option K) → YieldsFirst (λ (ks : List K). ks) old r new → option_map (λ k. (k, tt)) r ≡ slice_get (with_each old) 0
   each-first old new None h = ap (λ ks. slice_get (with_each ks) 0) (sym h.0)
   each-first old new (Some x) h = ap (λ ks. slice_get (with_each ks) 0) (sym h)
@@ -127,7 +127,7 @@ module _ {K : Type 0} where
   each-init old new (Some x) h =
       sym (without-end (with_each new) (x, tt)) ∙ ap (λ es. take (length es - 1) es) (sym (each-end new x)) ∙ ap (λ ks. take (length (with_each ks) - 1) (with_each ks)) (sym h)
 
-  -- one key more of a set that is listed
+  -- one more key of a set that is listed
   pub listed-next : (es es' : List (K × Unit {0})) (ks ks' : List K) (k : K) (all : List (K × Unit {0})) → es' ≡ es ++ (k, tt) ∷ [] → ks ≡ k ∷ ks' → es ++ with_each ks ≡ all → es' ++ with_each ks' ≡ all
   listed-next es es' ks ks' k all pushed steps left =
       ap (λ z. z ++ with_each ks') pushed ∙ append_assoc es ((k, tt) ∷ []) (with_each ks') ∙ ap (λ z. es ++ with_each z) (sym steps) ∙ left

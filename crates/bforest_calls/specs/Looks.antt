@@ -1,4 +1,4 @@
--- What the steps of a reading cursor see, and those from the ends of a range.
+-- What the steps of a reading cursor answer, and those from the ends of a range.
 use Rattle.bforest_calls.specs.declared.call.Look.TheVariants as look
 use Rattle.bforest_calls.specs.declared.call.Look.{Look}
 use Rattle.bforest_calls.specs.declared.call.Seen.TheVariants as seen
@@ -11,7 +11,7 @@ use Rattle.std.specs.Prelude.{List, [], drop, is_none, length, map, min, option_
 use Rattle.std.specs.declared.cmp.Ordering.{Ordering}
 
 module _ {K V : Type 0} (order : K → K → Ordering) (es : List (K × V)) where
-  -- what a step sees of a list of entries, from a place in it
+  -- the answer of a step in a list of entries, from a place in the list
   abbrev pub sight_of : ℕ → Look K → Seen K V
   sight_of p look.Empty = seen.Flag (is_none (slice_get es 0))
   sight_of p look.Next = seen.Pair (slice_get es (p + 1))
@@ -22,7 +22,7 @@ module _ {K V : Type 0} (order : K → K → Ordering) (es : List (K × V)) wher
   sight_of p look.First = seen.Pair (slice_get es 0)
   sight_of p look.End = seen.Done
 
-  -- where it goes: the number of entries is the end
+  -- the place after a step: the number of entries is the end
   abbrev pub place_after : ℕ → Look K → ℕ
   place_after p look.Next = min (p + 1) (length es)
   place_after p look.Prev = p - 1
@@ -31,7 +31,7 @@ module _ {K V : Type 0} (order : K → K → Ordering) (es : List (K × V)) wher
   place_after p look.End = length es
   place_after p stays = p
 
-  -- what the steps see in turn
+  -- the answers of the steps in turn
   abbrev pub sights_of : ℕ → List (Look K) → List (Seen K V)
   sights_of p [] = []
   sights_of p (step ∷ steps) = sight_of p step ∷ sights_of (place_after p step) steps
@@ -41,17 +41,17 @@ abbrev pub with_each : {K : Type 0} → List K → List (K × Unit {0})
 with_each keys = map (λ k. (k, tt)) keys
 
 module _ {K V : Type 0} where
-  -- what a step from one end takes of the entries that are left
+  -- the answer of a step from one end of the entries that are left
   abbrev pub taken : List (K × V) → Side → Seen K V
   taken left Front = seen.Pair (slice_get left 0)
   taken left Back = seen.Pair (entry_before left (length left))
 
-  -- what it leaves
+  -- the entries that are left after a step from one end
   abbrev pub left_after : List (K × V) → Side → List (K × V)
   left_after left Front = drop 1 left
   left_after left Back = take (length left - 1) left
 
-  -- what the steps take in turn
+  -- the answers of the steps in turn
   abbrev pub all_taken : List (K × V) → List Side → List (Seen K V)
   all_taken left [] = []
   all_taken left (side ∷ sides) = taken left side ∷ all_taken (left_after left side) sides

@@ -17,7 +17,7 @@ use Rattle.std.specs.Prelude.{Bool, List, None, Option, Result, Vec, [], false, 
 use Rattle.std.specs.declared.cmp.Ordering.TheVariants.{Equal}
 use Rattle.std.specs.declared.cmp.Ordering.{Ordering}
 
--- what a run is about: the forest, and the number of each handle
+-- the state of a run: the forest, and the number of each handle
 pub record State (K V : Type 0) : Type 0 where
   pub forest : Forest K V
   pub handles : List (Option ℕ)
@@ -29,7 +29,7 @@ Orders K = List (K → K → Ordering)
 abbrev pub order_at : {K : Type 0} → Orders K → ℕ → K → K → Ordering
 order_at orders c = get_or orders c (λ _ _. Equal)
 
--- what holds of a call that is offered or not
+-- `Made` holds of a call that is offered, `Lacking` of one that is not
 abbrev pub Offered : Bool → (Made Lacking : Type 0) → Type 0
 Offered true Made Lacking = Made
 Offered false Made Lacking = Lacking
@@ -45,15 +45,15 @@ module _ {K V : Type 0} where
   abbrev pub list_in : State K V → ℕ → List (K × V)
   list_in state h = list_of state.forest (number_at state h)
 
-  -- what a call on handle h asks first, what it asks then, and what it asks last if it compares keys
+  -- whether handle h is live, and tests of handles, comparators and orders by their indices
   abbrev pub Live : State K V → ℕ → Type 0
   Live state h = IsLive state.forest (number_at state h)
 
   abbrev pub Ordered : Orders K → State K V → ℕ → ℕ → Type 0
   Ordered orders state h c = IsIncreasing (order_at orders c) (list_in state h)
 
-  -- The answer in place of a call is that of the first test that fails: whether all indices are there, whether the handle is live, and
-  -- whether its list increases.
+  -- The answer in place of a call is that of the first test that fails: whether the indices are in range,
+  -- whether the handle is live, and whether its list increases.
   abbrev pub Refuses : (there live ordered : Type 0) → Answer K V → Type 0
   Refuses there live ordered answer.NoIndex = there → ⊥
   Refuses there live ordered answer.Dead = there × (live → ⊥)
@@ -64,7 +64,7 @@ module _ {K V : Type 0} where
   abbrev pub Tests : (there live ordered : Type 0) → State K V → Answer K V → State K V → Type 0 → Type 0
   Tests there live ordered old given new Made = (Refuses there live ordered given × (new ≡ old)) ⊎ (there × live × ordered × Made)
 
-  -- what a call on handle h asks before it is made; what one asks that names comparator c too; and what one asks that compares keys by it
+  -- the tests of a call on handle h; of one that names comparator c too; and of one that compares keys by c
   abbrev pub Names : ℕ → State K V → Answer K V → State K V → Type 0 → Type 0
   Names h old = Tests (h < length old.handles) (Live old h) (Unit {0}) old
 
@@ -74,7 +74,7 @@ module _ {K V : Type 0} where
   abbrev pub Compares : Orders K → ℕ → ℕ → State K V → Answer K V → State K V → Type 0 → Type 0
   Compares orders h c old = Tests ((h < length old.handles) × (c < length orders)) (Live old h) (Ordered orders old h c) old
 
-  -- a call that is not offered: whether the indices are there is tested before
+  -- a call that is not offered: only its indices are tested
   abbrev pub Lacks : (there : Type 0) → State K V → Answer K V → State K V → Type 0
   Lacks there old answer.NoIndex new = (there → ⊥) × (new ≡ old)
   Lacks there old answer.NotOffered new = there × (new ≡ old)
@@ -85,11 +85,11 @@ module _ {K V : Type 0} where
   On h old new R =
       (number : Option ℕ) × (new.handles ≡ slice_set old.handles h number) × R (held_at old h) (record { forest = new.forest; number = number })
 
-  -- an answer that lists what steps saw
+  -- an answer that lists the answers of steps
   abbrev pub Shows : List (Seen K V) → Answer K V → Type 0
   Shows list given = (sights : Vec (Seen K V) Global) × (given ≡ answer.Script sights) × (sights.items ≡ list)
 
-  -- where a leaf has at most so many entries, and where reading cursors are offered or not
+  -- `most` is the number of entries that a leaf has at most; `reads` is whether reading cursors are offered
   module _ (most : ℕ) (reads : Bool) where
     -- from old, the machine may give this answer to the call and go on to new
     abbrev pub Step : Orders K → State K V → Call K V → Answer K V → State K V → Type 0
@@ -120,7 +120,7 @@ module _ {K V : Type 0} where
         ((given ≡ answer.Done) × (new ≡ record old { handles = slice_set old.handles to (number_at old from) }))
     Step orders old call.ForestClear given new = (given ≡ answer.Done) × (new ≡ record old { forest = empty (limit_of old.forest) })
 
-    -- the steps of a list of calls, each from the state that the one before left
+    -- the steps of a list of calls, each from the state that the call before it left
     abbrev pub Run : Orders K → State K V → List (Call K V) → List (Answer K V) → State K V → Type 0
     Run orders old [] [] new = new ≡ old
     Run orders old (call ∷ calls) (given ∷ answers) new = (mid : State K V) × Step orders old call given mid × Run orders mid calls answers new

@@ -1,4 +1,4 @@
--- What a call on one handle is about, and what it leaves.
+-- The state of a call on one handle, and what the call leaves.
 use Rattle.bforest.specs.Calls.{Filters, Inserts, RemovesAt}
 use Rattle.bforest.specs.Forest.{Becomes, Forest, free_of, list_of, sizes_of, slots_of}
 use Rattle.bforest_calls.specs.Looks.{place_after, sight_of}
@@ -15,7 +15,7 @@ use Rattle.std.specs.Ordering.{is_eq}
 use Rattle.std.specs.Prelude.{Bool, List, Option, Result, [], is_some, length, slice_get, unwrap_or, ◌≡◌, ◌∷◌, ℕ}
 use Rattle.std.specs.declared.cmp.Ordering.{Ordering}
 
--- what a call on one handle is about: the forest, and the handle's number
+-- the state of a call on one handle: the forest, and the handle's number
 pub record Held (K V : Type 0) : Type 0 where
   pub forest : Forest K V
   pub number : Option ℕ
@@ -25,15 +25,16 @@ abbrev pub is_listed : {K : Type 0} → (K → K → Ordering) → List K → K 
 is_listed order keys k = list_any (λ listed. is_eq (order listed k)) keys
 
 module _ {K V : Type 0} where
-  -- the list that the handle means
+  -- the list of the handle
   abbrev pub entries : Held K V → List (K × V)
   entries held = list_of held.forest held.number
 
-  -- An entry is kept if its key is listed, with the value if there is one, else with its own. Nothing else is remembered.
+  -- An entry is kept if its key is listed, with the value of `put` if there is one, else with its own. The
+  -- predicate has no state.
   abbrev pub KeepsIf : (K → K → Ordering) → List K → Option V → Unit {0} → K → V → Bool → V → Unit {0} → Type 0
   KeepsIf order keys put _ k v kept left _ = (kept ≡ is_listed order keys k) × (left ≡ unwrap_or put v)
 
-  -- one value is written, in nodes of the same sizes; the number and the slots stay
+  -- one value is written, in nodes of the same sizes; the handle's number and the number of slots stay
   pub record WritesAt (old : Held K V) (p : ℕ) (value : V) (new : Held K V) : Type 0 where
     pub becomes : Becomes old.forest old.number new.forest new.number (with_value (entries old) p value)
     pub number : new.number ≡ old.number
@@ -41,13 +42,13 @@ module _ {K V : Type 0} where
     pub slots : slots_of new.forest ≡ slots_of old.forest
     pub free : free_of new.forest ≡ free_of old.forest
 
-  -- where a leaf has at most so many entries
+  -- `most` is the number of entries that a leaf has at most
   module _ (most : ℕ) (order : K → K → Ordering) where
-    -- a step of a writing cursor that only looks is one of a reading cursor
+    -- a step of a writing cursor that only reads is a step of a reading cursor
     abbrev pub Looks : Held K V → ℕ → Look K → Seen K V → Held K V → ℕ → Type 0
     Looks old p step sight new q = (sight ≡ sight_of order (entries old) p step) × (new ≡ old) × (q ≡ place_after order (entries old) p step)
 
-    -- One step of a writing cursor, from a place: what it saw, what it left, and the place afterwards.
+    -- One step of a writing cursor, from a place: its answer, what it leaves, and the place afterwards.
     abbrev pub Acts : Held K V → ℕ → Act K V → Seen K V → Held K V → ℕ → Type 0
     Acts old p act.Empty sight new q = Looks old p look.Empty sight new q
     Acts old p act.Next sight new q = Looks old p look.Next sight new q
@@ -62,7 +63,7 @@ module _ {K V : Type 0} where
     Acts old p act.Remove sight new q =
         (sight ≡ seen.Pair (slice_get (entries old) p)) × RemovesAt most old.forest old.number p new.forest new.number × (q ≡ p)
 
-    -- the steps of a writing cursor, each from where the one before left it
+    -- the steps of a writing cursor, each from where the step before left it
     abbrev pub Script : Held K V → ℕ → List (Act K V) → List (Seen K V) → Held K V → ℕ → Type 0
     Script old p [] [] new q = (new ≡ old) × (q ≡ p)
     Script old p (step ∷ steps) (sight ∷ sights) new q =
@@ -70,10 +71,10 @@ module _ {K V : Type 0} where
     Script old p [] (sight ∷ sights) new q = ⊥
     Script old p (step ∷ steps) [] new q = ⊥
 
-    -- the steps of a writing cursor that begins at the end
+    -- the steps of a writing cursor that starts at the end
     abbrev pub Edits : List (Act K V) → List (Seen K V) → Held K V → Held K V → Type 0
     Edits steps sights old new = (q : ℕ) × Script old (length (entries old)) steps sights new q
 
-    -- each entry is asked once, in order
+    -- the predicate is asked of each entry once, in order
     abbrev pub Retained : List K → Option V → Held K V → Held K V → Type 0
     Retained keys put old new = Filters most (KeepsIf order keys put) old.forest old.number tt new.forest new.number

@@ -1,8 +1,8 @@
-//! Calls and answers, as values. Handles and comparators are named by their index in the slices that a run is handed.
+//! Calls and answers, as values. They name handles and comparators by their index in the slices that a run is given.
 use bforest::OutOfMemory;
 use std::ops::Bound;
 
-/// A call on a forest, or on a handle of it: `h` is a handle's index, `c` a comparator's.
+/// A call on a forest, or on one of its handles: `h` is a handle's index, `c` a comparator's.
 #[derive(Drop)]
 pub enum Call<K: Copy, V: Copy> {
     /// `get`, for sets `contains`. Answers [`Answer::Value`].
@@ -58,15 +58,15 @@ pub enum Call<K: Copy, V: Copy> {
         hi: Bound<K>,
         ends: Vec<Side>,
     },
-    /// `retain`: each entry first gets the value of `put`, where there is one, and is kept where some listed key compares equal to its
-    /// key. The comparator serves the predicate alone. Answers [`Answer::Done`].
+    /// `retain`: each entry first gets the value of `put`, if there is one, and is kept if some listed key compares equal to its key. The
+    /// comparator serves the predicate alone. Answers [`Answer::Done`].
     Retain {
         h: usize,
         c: usize,
         keys: Vec<K>,
         put: Option<V>,
     },
-    /// Handle `to` becomes a `clone` of handle `from`, live or not; the tree that it named before stays. Answers [`Answer::Done`].
+    /// Handle `to` becomes a `clone` of handle `from`, live or not; the tree that `to` named before stays. Answers [`Answer::Done`].
     Alias {
         from: usize,
         to: usize,
@@ -90,7 +90,7 @@ pub enum Answer<K: Copy, V: Copy> {
     Dead,
     /// The list does not increase under the comparator.
     Unordered,
-    /// Sets lack this call.
+    /// Sets do not offer this call.
     NotOffered,
 }
 
@@ -119,12 +119,12 @@ pub enum Act<K: Copy, V: Copy> {
     First,
     /// `try_insert`.
     Put(K, V),
-    /// Writes the value at the place, through `value_mut`.
+    /// Writes the value at the cursor's place, through `value_mut`.
     Write(V),
     Remove,
 }
 
-/// What a step saw.
+/// What a step of a cursor or of a range answered.
 #[derive(Drop, Debug, PartialEq, Eq)]
 pub enum Seen<K: Copy, V: Copy> {
     Pair(Option<(K, V)>),

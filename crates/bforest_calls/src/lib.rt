@@ -1,4 +1,4 @@
-//! Lists of calls on a forest of maps or of sets, as values: what each answers, and what all of them leave.
+//! Lists of calls on a forest of maps or of sets, as values: what each call answers, and what all of them leave.
 #![tactic(auto)]
 
 mod call;

@@ -11,7 +11,7 @@ use crate::call::{Answer, Call};
 use bforest::{Comparator, Map, MapForest};
 use std::alloc::{AllocError, Global};
 
-/// Makes one call. Room for what it answers is taken before anything changes.
+/// Makes one call. Room for its answer is taken before anything changes.
 pub(crate) fn make<K: Copy, V: Copy, C: Comparator<K>>(
     alloc: Global,
     call: &Call<K, V>,

@@ -7,13 +7,13 @@ use crate::{maps, sets};
 use bforest::{Comparator, Map, MapForest, Set, SetForest};
 use std::alloc::{AllocError, Global};
 
-/// Makes the calls in order, on maps, and answers one answer each. Nothing is asked of handles and orders: each call tests them.
+/// Makes the calls in order, on maps, and returns one answer for each. Handles and orders may be any: each call tests them.
 ///
-/// Room for all answers is taken first, and room for what a call answers before that call changes anything.
+/// Room for all answers is taken first, and room for the answer of a call before that call changes anything.
 ///
 /// # Errors
 ///
-/// `AllocError` where memory for the answers was refused: then some first calls were made, each whole.
+/// `AllocError` where memory for the answers was refused: then the first calls, up to some number, were made, each whole.
 pub fn run_map<K: Copy, V: Copy, C: Comparator<K>>(
     alloc: Global,
     calls: &[Call<K, V>],
@@ -38,14 +38,14 @@ pub fn run_map<K: Copy, V: Copy, C: Comparator<K>>(
     Ok(answers)
 }
 
-/// Makes the calls in order, on sets, and answers one answer each. As values there is the unit alone: [`Call::Get`] is
-/// `contains`, and an insertion answers the unit where the key was there. [`Call::Read`] is not offered.
+/// Makes the calls in order, on sets, and returns one answer for each. The only value is the unit: [`Call::Get`] is
+/// `contains`, and an insertion answers the unit where the key was present. [`Call::Read`] is not offered.
 ///
-/// Room for all answers is taken first, and room for what a call answers before that call changes anything.
+/// Room for all answers is taken first, and room for the answer of a call before that call changes anything.
 ///
 /// # Errors
 ///
-/// `AllocError` where memory for the answers was refused: then some first calls were made, each whole.
+/// `AllocError` where memory for the answers was refused: then the first calls, up to some number, were made, each whole.
 pub fn run_set<K: Copy, C: Comparator<K>>(
     alloc: Global,
     calls: &[Call<K, ()>],

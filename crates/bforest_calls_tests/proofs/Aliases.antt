@@ -17,13 +17,13 @@ use Rattle.std.proofs.Common.{Bool, List, None, Option, [], ap, false, inl, inr,
 use Rattle.std.proofs.lemmas.List.{length-set}
 use Rattle.std.specs.Prelude.{slice_set, swap}
 
--- a call that is offered or not
+-- a call that is offered or not, from both cases
 offered-too : (reads : Bool) (Made Lacking Made' Lacking' : Type 0) → (Made → Made') → (Lacking → Lacking') → Offered reads Made Lacking → Offered reads Made' Lacking'
 offered-too true Made Lacking Made' Lacking' made lacks o = made o
 offered-too false Made Lacking Made' Lacking' made lacks o = lacks o
 
 module _ {K V : Type 0} where
-  -- a refusal, where the same is there
+  -- a refusal stays one under equivalent tests
   refused-too : (there there' : Type 0) (L O : Option ℕ → Type 0) (n n' : Option ℕ) (given : Answer K V) → n' ≡ n → (there → there') → (there' → there)
       → Refuses there (L n) (O n) given → Refuses there' (L n') (O n') given
   refused-too there there' L O n n' answer.NoIndex e to back r = λ t. r (back t)
@@ -31,7 +31,7 @@ module _ {K V : Type 0} where
   refused-too there there' L O n n' answer.Unordered e to back r = (to r.0, subst L (sym e) r.1, λ o. r.2 (subst O e o))
   refused-too there there' L O n n' given e to back r = absurd r
 
-  -- tests of one number, where the same is there
+  -- tests of a number stay the same under an equal number
   tested-too : (there there' : Type 0) (L O : Option ℕ → Type 0) (n n' : Option ℕ) (old new old' new' : State K V) (given : Answer K V) (Made Made' : Type 0)
       → n' ≡ n → (there → there') → (there' → there) → (new ≡ old → new' ≡ old') → (there → Made → Made')
       → Tests there (L n) (O n) old given new Made → Tests there' (L n') (O n') old' given new' Made'
@@ -55,7 +55,7 @@ module _ {K V : Type 0} where
     stays : new ≡ old → turned i j new ≡ turned i j old
     stays e = ap (turned i j) e
 
-    -- a change of one handle is one of the exchanged handle
+    -- a change of one handle is a change of the exchanged handle
     on-exchanged : (h : ℕ) (R : Held K V → Held K V → Type 0) → h < length old.handles → On h old new R → On (exchange i j h) (turned i j old) (turned i j new) R
     on-exchanged h R w on = (
       on.0,
@@ -63,14 +63,14 @@ module _ {K V : Type 0} where
       subst (λ (n : Option ℕ). R (record { forest = old.forest; number = n }) (record { forest = new.forest; number = on.0 })) (sym (number h)) on.2,
     )
 
-    -- what is there
+    -- the exchanged index of an index in range is in range
     here : (h : ℕ) → h < length old.handles → exchange i j h < length (swap old.handles i j)
     here h = exchange-within old.handles i j within within' h
 
     back : (h : ℕ) → exchange i j h < length (swap old.handles i j) → h < length old.handles
     back h = within-exchange old.handles i j within within' h
 
-    -- an answer that is told by the list
+    -- an answer that depends on the list of a handle alone stays with the exchanged handle
     told : {A : Type 0} (given : A) (h : ℕ) (F : List (K × V) → A) → given ≡ F (list_in old h) → given ≡ F (list_in (turned i j old) (exchange i j h))
     told given h F e = e ∙ ap (λ (n : Option ℕ). F (list_of old.forest n)) (sym (number h))
 
@@ -129,7 +129,7 @@ module _ {K V : Type 0} where
     wrote : (old new : State K V) (h : ℕ) (n : Option ℕ) → new.handles ≡ slice_set old.handles h n → length new.handles ≡ length old.handles
     wrote old new h n e = ap (λ (hs : List (Option ℕ)). length hs) e ∙ length-set old.handles h n
 
-    -- a step leaves as many handles
+    -- a step keeps the number of handles
     as-many : (old : State K V) (call : Call K V) (given : Answer K V) (new : State K V) → Step most reads orders old call given new → length new.handles ≡ length old.handles
     as-many old (call.Get h c k) given new s = elim s [ inl r ↦ kept old new r.1 | inr r ↦ kept old new r.3.1 ]
     as-many old (call.GetOrLess h c k) given new s = elim s [ inl r ↦ kept old new r.1 | inr r ↦ kept old new r.3.1 ]

@@ -1,4 +1,4 @@
--- Each call that changes a tree is one change of it, so that every other number keeps its list.
+-- Each call that changes a tree is one change of it, and every other number keeps its list.
 use Rattle.bforest.proofs.Becoming.{becomes-both}
 use Rattle.bforest.specs.Calls.{Inserts}
 use Rattle.bforest.specs.Forest.{Becomes, Forest, IsLive, list_of}
@@ -12,11 +12,11 @@ use Rattle.std.proofs.Common.{Err, List, Ok, Option, Result, [], ap, refl, subst
 use Rattle.std.specs.declared.cmp.Ordering.{Ordering}
 
 module _ {K V : Type 0} where
-  -- what a change makes of the handle's tree
+  -- a change makes the handle's list what it is afterwards
   retold : (f f' : Forest K V) (h h' : Option ℕ) (es : List (K × V)) → Becomes f h f' h' es → Becomes f h f' h' (list_of f' h')
   retold f f' h h' es b = subst (λ (xs : List (K × V)). Becomes f h f' h' xs) (sym b.list) b
 
-  -- no change is one
+  -- a forest that does not change becomes its own list
   stayed : (f f' : Forest K V) (h h' : Option ℕ) → IsLive f h → f' ≡ f → h' ≡ h → Becomes f h f' h' (list_of f' h')
   stayed f f' h h' live same still =
       subst (λ (g : Forest K V). Becomes f h g h' (list_of g h')) (sym same)
@@ -44,7 +44,7 @@ module _ {K V : Type 0} where
     acted old p (act.Write v) sight new q live a = retold old.forest new.forest old.number new.number _ a.1.becomes
     acted old p act.Remove sight new q live a = retold old.forest new.forest old.number new.number _ a.1.removed
 
-    -- all steps of a writing cursor are one change
+    -- all steps of a writing cursor are one change of its tree
     pub scripted : (old : Held K V) (p : ℕ) (steps : List (Act K V)) (sights : List (Seen K V)) (new : Held K V) (q : ℕ)
         → IsLive old.forest old.number → Script most order old p steps sights new q → Becomes old.forest old.number new.forest new.number (entries new)
     scripted old p [] [] new q live s = looked old new live s.0

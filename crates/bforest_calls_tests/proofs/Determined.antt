@@ -27,7 +27,7 @@ same-or-not : (n : ℕ) (h : Option ℕ) → (Some n ≡ h) ⊎ (Some n ≢ h)
 same-or-not n None = inr (λ e. cc)
 same-or-not n (Some q) = elim (eqb_tells n q) [ inl w ↦ inl (ap Some w.1) | inr w ↦ inr (λ e. w.1 (some-same n q e)) ]
 
--- what each number has, where one handle h got number k in both: what k has is the same, h had no more where it is another, and the others stay
+-- lists by number stay alike where one handle changes alike in both
 at-alike : {L : Type 0} (one other one' other' : ℕ → L) (none : L) (h k : Option ℕ)
     → ((n : ℕ) → other n ≡ one n)
     → ((n : ℕ) → Some n ≢ h → Some n ≢ k → one' n ≡ one n) → ((n : ℕ) → Some n ≢ h → Some n ≢ k → other' n ≡ other n)
@@ -41,12 +41,12 @@ at-alike one other one' other' none h k alike stays stays' leaves leaves' is n =
   ]
 ]
 
--- a call that is offered or not
+-- two calls, both offered or both not
 offered-alike : {P : Type 0} (reads : Bool) (Made Lacking Made' Lacking' : Type 0) → (Made → Made' → P) → (Lacking → Lacking' → P) → Offered reads Made Lacking → Offered reads Made' Lacking' → P
 offered-alike true Made Lacking Made' Lacking' made lacks o o' = made o o'
 offered-alike false Made Lacking Made' Lacking' made lacks o o' = lacks o o'
 
--- the numbers that a handle got
+-- two handle lists that stay equal get the same number at an index
 numbers-alike : (handles after after' : List (Option ℕ)) (h : ℕ) (number number' : Option ℕ) → h < length handles → after ≡ slice_set handles h number → after' ≡ slice_set handles h number' → after' ≡ after → number' ≡ number
 numbers-alike handles after after' h number number' within e e' same =
     sym (get_or-set_same handles h number' None within) ∙ ap (λ xs. get_or xs h None) (sym e' ∙ same ∙ e) ∙ get_or-set_same handles h number None within
@@ -82,7 +82,7 @@ module _ {K V : Type 0} where
   alike-same : (one other one' other' : State K V) → AreAlike one other → one' ≡ one → other' ≡ other → AreAlike one' other'
   alike-same one other one' other' a e e' = subst (λ (s : State K V). AreAlike s other') (sym e) (subst (λ (s : State K V). AreAlike one s) (sym e') a)
 
-  -- a change of one handle's tree in two states
+  -- alike changes of one handle's tree in two alike states leave them alike
   changed-alike : (f g : Forest K V) (handles : List (Option ℕ)) → AreAlike (at f handles) (at g handles) → (one' other' : State K V) (h k : Option ℕ) (es es' : List (K × V))
       → other'.handles ≡ one'.handles → Becomes f h one'.forest k es → Becomes g h other'.forest k es' → Resembles (held one'.forest k) (held other'.forest k) → AreAlike one' other'
   changed-alike f g handles a one' other' h k es es' same b b' r = record {
@@ -98,7 +98,7 @@ module _ {K V : Type 0} where
     limit = r.limit;
   }
 
-  -- two refusals for one reason
+  -- two refusals by equivalent tests are equal
   refusals-alike : (there live live' ordered ordered' : Type 0) (one other : Answer K V) → (live → live') → (live' → live) → (ordered → ordered') → (ordered' → ordered)
       → Refuses there live ordered one → Refuses there live' ordered' other → other ≡ one
   refusals-alike there live live' ordered ordered' answer.NoIndex answer.NoIndex l l' o o' r r' = refl
@@ -115,14 +115,14 @@ module _ {K V : Type 0} where
   refusals-alike there live live' ordered ordered' answer.Unordered other l l' o o' r r' = absurd r'
   refusals-alike there live live' ordered ordered' one other l l' o o' r r' = absurd r
 
-  -- a call that is refused does not pass
+  -- a call that is refused does not pass all tests
   refused-fails : (there live ordered : Type 0) (given : Answer K V) → Refuses there live ordered given → there → live → ordered → ⊥
   refused-fails there live ordered answer.NoIndex r t l o = r t
   refused-fails there live ordered answer.Dead r t l o = r.1 l
   refused-fails there live ordered answer.Unordered r t l o = r.2 o
   refused-fails there live ordered given r t l o = absurd r
 
-  -- two calls with the same tests: both are refused for one reason, or both are made
+  -- two calls under equivalent tests are both refused for one reason, or both made
   tests-alike : {P : Type 0} (there live live' ordered ordered' : Type 0) (old new old' new' : State K V) (given given' : Answer K V) (Made Made' : Type 0)
       → (live → live') → (live' → live) → (ordered → ordered') → (ordered' → ordered)
       → (given' ≡ given → new ≡ old → new' ≡ old' → P) → (there → live → live' → Made → Made' → P)
@@ -141,7 +141,7 @@ module _ {K V : Type 0} where
   lacks-alike there old new old' new' answer.NotOffered given' l l' = absurd l'
   lacks-alike there old new old' new' given given' l l' = absurd l
 
-  -- an answer is its own
+  -- an answer is the same as itself
   own-answer : (given : Answer K V) → IsSameAnswer given given
   own-answer (answer.Pairs pairs) = refl
   own-answer (answer.Script sights) = refl
@@ -168,7 +168,7 @@ module _ {K V : Type 0} where
       lists h = list-alike f g a.lists (number h)
 
       module _ (given given' : Answer K V) (new new' : State K V) where
-        -- the answers are the same, and so is what is left
+        -- the answers are the same, and the states after them alike
         abbrev Agree : Type 0
         Agree = IsSameAnswer given given' × AreAlike new new'
 
@@ -193,7 +193,7 @@ module _ {K V : Type 0} where
             (live-alike f g a.lists (number h)) (live-alike g f (λ n. sym (a.lists n)) (number h)) (λ o. o) (λ o. o)
             stays made s s'
 
-        -- handle h got a number in both
+        -- a change of handle h in both states leaves them alike
         changed : (h : ℕ) (k k' : Option ℕ) (es es' : List (K × V)) → h < length handles → new.handles ≡ slice_set handles h k → new'.handles ≡ slice_set handles h k' → new'.handles ≡ new.handles
             → Becomes f (number h) new.forest k es → Becomes g (number h) new'.forest k' es' → Resembles (held new.forest k) (held new'.forest k') → AreAlike new new'
         changed h k k' es es' within e e' same b b' r =
@@ -269,7 +269,7 @@ module _ {K V : Type 0} where
           emptied n m e = subst (λ (q : ℕ). AreAlike (at (empty n) handles) (at (empty q) handles)) (sym e)
               (record { handles = refl; lists = λ n. refl; sizes = λ n. refl; slots = refl; free = refl; limit = refl })
 
-    -- a state with the same handles is alike as one with these handles
+    -- two equal calls in two alike states answer the same and leave alike states
     step-both : (old old' : State K V) → AreAlike old old' → (call : Call K V) (given given' : Answer K V) (new new' : State K V) → Step most reads orders old call given new → Step most reads orders old' call given' new'
         → new'.handles ≡ new.handles → HadMemory given → HadMemory given' → IsSameAnswer given given' × AreAlike new new'
     step-both old old' a call given given' new new' s s' same had had' =
@@ -294,7 +294,7 @@ module _ {K V : Type 0} where
     runs-alike old old' (call ∷ calls) (given ∷ answers) [] (state ∷ states) states' new new' a r r' had had' step = absurd r'
     runs-alike old old' (call ∷ calls) (given ∷ answers) (given' ∷ answers') (state ∷ states) [] new new' a r r' had had' step = absurd r'
 
-    -- the states that a run comes through
+    -- a run goes through some states, one after each call
     through : (old : State K V) (calls : List (Call K V)) (answers : List (Answer K V)) (new : State K V) → Run most reads orders old calls answers new
         → (states : List (State K V)) × RunsThrough most reads orders old calls answers states new
     through old [] [] new r = ([], r)

@@ -6,7 +6,7 @@ use Rattle.std.proofs.lemmas.List.Edits.{length-swap, swap_is}
 use Rattle.std.proofs.lemmas.List.{ext_get_or, get_or-set_other, get_or-set_same, length-set}
 use Rattle.std.specs.Prelude.{if◌then◌else◌, nat_eq, slice_set, swap}
 
--- what the exchange makes of an index
+-- the exchange of an index by cases
 exchange-left : (i j : ℕ) → exchange i j i ≡ j
 exchange-left i j = λ z. if eq-eqb i i refl z then j else if nat_eq i j then i else i
 
@@ -53,7 +53,7 @@ module _ (xs : List (Option ℕ)) (i j : ℕ) (within : i < length xs) (within' 
       ∙ get_or-set_other (slice_set xs i (get_or xs j None)) j h (get_or xs i None) None ne'
       ∙ get_or-set_other xs i h (get_or xs j None) None ne
 
-  -- what stands at an index, and at the exchanged one
+  -- a swapped list has at the exchanged index what the list has at the index
   pub at-exchange : (h : ℕ) → get_or (swap xs i j) (exchange i j h) None ≡ get_or xs h None
   at-exchange = by-index i j (λ h. get_or (swap xs i j) (exchange i j h) None ≡ get_or xs h None)
       (ap (λ h. get_or (swap xs i j) h None) (exchange-left i j) ∙ at-right)
@@ -63,7 +63,7 @@ module _ (xs : List (Option ℕ)) (i j : ℕ) (within : i < length xs) (within' 
   pub at-exchanged : (h : ℕ) → get_or (swap xs i j) h None ≡ get_or xs (exchange i j h) None
   at-exchanged h = ap (λ q. get_or (swap xs i j) q None) (sym (exchange-twice i j h)) ∙ at-exchange (exchange i j h)
 
-  -- an index is there where the exchanged one is
+  -- an index is in range where the exchanged one is
   pub exchange-within : (h : ℕ) → h < length xs → exchange i j h < length (swap xs i j)
   exchange-within = by-index i j (λ h. h < length xs → exchange i j h < length (swap xs i j))
       (λ w. subst (λ h. h < length (swap xs i j)) (sym (exchange-left i j)) (subst (λ n. j < n) (sym (length-swap xs i j)) within'))
@@ -76,7 +76,7 @@ module _ (xs : List (Option ℕ)) (i j : ℕ) (within : i < length xs) (within' 
       (λ w. within')
       (λ h ne ne' w. subst (λ n. h < n) (length-swap xs i j) (subst (λ q. q < length (swap xs i j)) (exchange-other i j h ne ne') w))
 
--- a write at an index is one at the exchanged index
+-- a write at an index of a list is one at the exchanged index of the swapped list
 pub swap-set : (xs : List (Option ℕ)) (i j : ℕ) → i < length xs → j < length xs → (h : ℕ) (x : Option ℕ) → h < length xs → swap (slice_set xs h x) i j ≡ slice_set (swap xs i j) (exchange i j h) x
 swap-set xs i j within within' h x w =
     ext_get_or None (swap (slice_set xs h x) i j) (slice_set (swap xs i j) (exchange i j h) x)
@@ -95,7 +95,7 @@ swap-set xs i j within within' h x w =
           ∙ sym (get_or-set_other (swap xs i j) (exchange i j h) k x None (λ e. d (ap (exchange i j) e ∙ exchange-twice i j h)))
     ]
 
--- aliases may be exchanged in place
+-- swapping two equal handles changes nothing
 pub swap-aliases : (xs : List (Option ℕ)) (i j : ℕ) → i < length xs → j < length xs → get_or xs i None ≡ get_or xs j None → swap xs i j ≡ xs
 swap-aliases xs i j within within' one = ext_get_or None (swap xs i j) xs (length-swap xs i j) (λ h l. at h)
   where

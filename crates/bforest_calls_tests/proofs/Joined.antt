@@ -1,4 +1,4 @@
--- A run of a joined list.
+-- Two runs in turn are a run of the joined list of calls.
 use Rattle.bforest_calls.specs.Machine.{Orders, Run, State}
 use Rattle.bforest_calls.specs.declared.call.Answer.{Answer}
 use Rattle.bforest_calls.specs.declared.call.Call.{Call}

@@ -20,12 +20,13 @@ use Rattle.std.specs.List.{AllByRecursion}
 use Rattle.std.specs.Prelude.{if◌then◌else◌, is_some, nat_lt, remove, slice_get, unwrap_or}
 use Rattle.std.specs.declared.cmp.Ordering.{Ordering}
 
--- so many slots lie free, where as many did and as many nodes were given back
+-- where equal numbers of slots are freed, the numbers of free slots stay equal
 as-free : (one other before before' after after' left left' : ℕ) → other ≡ one → before' ≡ before → after' ≡ after → left + after ≡ one + before → left' + after' ≡ other + before' → left' ≡ left
 as-free one other before before' after after' left left' e e' e'' a b = omega arith
 
 module _ {K V : Type 0} where
-  -- the same list, in nodes of the same sizes, and as many slots, free and allowed: the numbers may differ
+  -- equal lists, sizes and numbers of slots, of free slots and of allowed slots; the handles' numbers may
+  -- differ
   pub record Resembles (one other : Held K V) : Type 0 where
     pub list : entries other ≡ entries one
     pub sizes : sizes_of other.forest other.number ≡ sizes_of one.forest one.number
@@ -36,14 +37,14 @@ module _ {K V : Type 0} where
   abbrev sizes-in : Held K V → List (List ℕ)
   sizes-in held = sizes_of held.forest held.number
 
-  -- two that are as two that resemble one another
+  -- states equal to ones that resemble one another resemble one another
   resembling-same : (one other one' other' : Held K V) → Resembles one other → one' ≡ one → other' ≡ other → Resembles one' other'
   resembling-same one other one' other' r e e' = subst (λ (a : Held K V). Resembles a other') (sym e) (subst (λ (b : Held K V). Resembles one b) (sym e') r)
 
   held-same : (old new : Held K V) → new.forest ≡ old.forest → new.number ≡ old.number → new ≡ old
   held-same old new forest number = λ z. record { forest = forest z; number = number z }
 
-  -- nodes given back
+  -- where the sizes change alike, the numbers of slots and free slots stay alike
   gives-alike : (one other one' other' : Held K V) (after after' : List (List ℕ)) → Resembles one other → after' ≡ after
       → Gives (sizes-in one) after one.forest one'.forest → Gives (sizes-in other) after' other.forest other'.forest
       → (slots_of other'.forest ≡ slots_of one'.forest) × (free_of other'.forest ≡ free_of one'.forest)
@@ -58,7 +59,7 @@ module _ {K V : Type 0} where
       need-alike : (k : K) → need_of most order other.forest other.number k ≡ need_of most order one.forest one.number k
       need-alike k = λ z. if is_present order (r.list z) k then 0 else need most (place order (r.list z) k) (r.sizes z)
 
-      -- whether so many slots can be had
+      -- the need and the room of a key are the same in both
       too-many-alike : (k : K) → IsTooMany (need_of most order one.forest one.number k) one.forest ≡ IsTooMany (need_of most order other.forest other.number k) other.forest
       too-many-alike k = λ z. sym r.free z + (sym r.limit z - sym r.slots z) < sym (need-alike k) z
 
@@ -133,7 +134,7 @@ module _ {K V : Type 0} where
             limit = c'.cleared.limit ∙ r.limit ∙ sym c.cleared.limit;
           }
 
-      -- what a predicate that remembers nothing answers of each entry
+      -- the answers of a predicate without a state
       asked-of : (keys : List K) (value : Option V) (u : Unit {0}) (es : List (K × V)) (answers : List (Bool × V)) → AsksEach (KeepsIf order keys value) u es answers
           → answers ≡ map (λ e. (is_listed order keys e.0, unwrap_or value e.1)) es
       asked-of keys value u [] answers a = a
@@ -154,7 +155,7 @@ module _ {K V : Type 0} where
             limit = f'.changed.limit ∙ r.limit ∙ sym f.changed.limit;
           }
 
-      -- one step of a writing cursor
+      -- one step of a writing cursor in both states
       abbrev StepsAlike : Seen K V → Held K V → ℕ → Seen K V → Held K V → ℕ → Type 0
       StepsAlike sight one' q sight' other' q' = (sight' ≡ sight) × Resembles one' other' × (q' ≡ q)
 

@@ -1,4 +1,4 @@
--- A list of calls leaves each tree that it spares.
+-- A list of calls keeps each tree that it spares.
 use Rattle.bforest.specs.Forest.{Becomes, list_at, list_of, sizes_at}
 use Rattle.bforest_calls.specs.Machine.{Lacks, Offered, Orders, Run, State, Step, number_at, order_at}
 use Rattle.bforest_calls.specs.declared.call.Answer.TheVariants as answer
@@ -14,7 +14,7 @@ use Rattle.std.proofs.lemmas.List.{get_or-set_other, get_or-set_same}
 use Rattle.std.specs.List.{AllByRecursion}
 use Rattle.std.specs.Prelude.{All, IfOk, OnErr, slice_set}
 
--- what a list of handles has at an index, where one of them got a number that is not m
+-- a handle with number m had it before a write of another number
 written : (m : ℕ) (handles after : List (Option ℕ)) (h : ℕ) (number : Option ℕ) → h < length handles → number ≢ Some m → after ≡ slice_set handles h number
     → (j : ℕ) → get_or after j None ≡ Some m → get_or handles j None ≡ Some m
 written m handles after h number within apart writes j has = elim (cases_eq j h) [
@@ -22,7 +22,7 @@ written m handles after h number within apart writes j has = elim (cases_eq j h)
   | inr d ↦ sym (get_or-set_other handles h j number None d) ∙ ap (λ xs. get_or xs j None) (sym writes) ∙ has
 ]
 
--- a call that is offered or not
+-- a call that is offered or not, from both cases
 pub offered : {Made Lacking P : Type 0} (reads : Bool) → (Made → P) → (Lacking → P) → Offered reads Made Lacking → P
 offered true made lacks o = made o
 offered false made lacks o = lacks o
@@ -42,7 +42,7 @@ module _ {K V : Type 0} where
     handles = λ h has. a.handles h (b.handles h has);
   }
 
-  -- a change of another tree
+  -- a change of another tree spares number m
   changed : (m : ℕ) (old new : State K V) (h : ℕ) (number : Option ℕ) (es : List (K × V)) → h < length old.handles → list_at old.forest m ≢ [] → number_at old h ≢ Some m
       → new.handles ≡ slice_set old.handles h number → Becomes old.forest (number_at old h) new.forest number es → IsSpared m old new
   changed m old new h number es within here apart writes b =
@@ -53,7 +53,7 @@ module _ {K V : Type 0} where
         handles = written m old.handles new.handles h number within other writes;
       }
 
-  -- a call that is not offered
+  -- a call that is not offered changes nothing
   pub lacking : (there : Type 0) (old : State K V) (given : Answer K V) (new : State K V) → Lacks there old given new → new ≡ old
   lacking there old answer.NoIndex new l = l.1
   lacking there old answer.NotOffered new l = l.1
@@ -97,7 +97,7 @@ module _ {K V : Type 0} where
     ]
     spared-step m old call.ForestClear given new here apart s = absurd apart
 
-    -- the calls spare the tree in a later state, too
+    -- a call that spares a tree spares it in a later state too
     later : (m : ℕ) (old mid : State K V) → IsSpared m old mid → (call : Call K V) → Spares m old call → Spares m mid call
     later m old mid a (call.Insert h c k v) apart = λ e. apart (a.handles h e)
     later m old mid a (call.Remove h c k) apart = λ e. apart (a.handles h e)
@@ -125,7 +125,7 @@ module _ {K V : Type 0} where
     all-taken P (suc n) [] all = tt
     all-taken P (suc n) (call ∷ calls) all = (all.0, all-taken P n calls all.1)
 
-    -- a tree that all calls spare, whether they were made to the end or up to a refusal
+    -- a run spares a tree that all its calls spare, also where it ended early
     pub run-spares : {E : Type 0} (m : ℕ) (old new : State K V) (calls : List (Call K V)) {Answers : Type 0} (items : Answers → List (Answer K V)) (result : Result Answers E)
         → IfOk result (λ answers. Run most reads orders old calls (items answers) new)
         → OnErr result ((n : ℕ) × (answers : List (Answer K V)) × Run most reads orders old (take n calls) answers new)

@@ -10,7 +10,7 @@ use Rattle.std.specs.List.{AllZip}
 use Rattle.std.specs.Prelude.{All, Bool, Err, List, [], ◌≡◌, ◌≢◌, ◌∷◌, ℕ}
 
 module _ {K V : Type 0} where
-  -- the handles have the same numbers, each number has the same list in nodes of the same sizes, and as many slots are there, free and allowed
+  -- equal handles, lists and sizes of each number, and numbers of slots, of free slots and of allowed slots
   pub record AreAlike (one other : State K V) : Type 0 where
     pub handles : other.handles ≡ one.handles
     pub lists : (n : ℕ) → list_at other.forest n ≡ list_at one.forest n
@@ -19,31 +19,32 @@ module _ {K V : Type 0} where
     pub free : free_of other.forest ≡ free_of one.forest
     pub limit : limit_of other.forest ≡ limit_of one.forest
 
-  -- the same answer: the same items, where it is a list
+  -- equal answers, where answers that are lists are compared by their items
   abbrev pub IsSameAnswer : Answer K V → Answer K V → Type 0
   IsSameAnswer (answer.Pairs one) (answer.Pairs other) = other.items ≡ one.items
   IsSameAnswer (answer.Script one) (answer.Script other) = other.items ≡ one.items
   IsSameAnswer one other = other ≡ one
 
-  -- the call was not refused memory, nor was a step of its cursor
+  -- no memory was refused to the call or to a step of its cursor
   abbrev pub HadMemory : Answer K V → Type 0
   HadMemory (answer.Put result) = result ≢ Err Memory
   HadMemory (answer.Script sights) = All (λ sight. sight ≢ seen.Put (Err Memory)) sights.items
   HadMemory given = Unit {0}
 
-  -- after each call the handles have the same numbers
+  -- after each call the handles of both runs have the same numbers
   abbrev pub GoInStep : List (State K V) → List (State K V) → Type 0
   GoInStep = AllZip (λ one other. other.handles ≡ one.handles)
 
   module _ (most : ℕ) (reads : Bool) (orders : Orders K) where
-    -- a run of the machine that is in these states, one after each call
+    -- a run of the machine through these states, one after each call
     abbrev pub RunsThrough : State K V → List (Call K V) → List (Answer K V) → List (State K V) → State K V → Type 0
     RunsThrough old [] [] [] new = new ≡ old
     RunsThrough old (call ∷ calls) (given ∷ answers) (state ∷ states) new = Step most reads orders old call given state × RunsThrough state calls answers states new
     RunsThrough old calls answers states new = ⊥
 
-    -- Two runs of the same calls, each through some states. Where they begin alike, had memory and went in step, they answer the same and end
-    -- alike.
+    -- Two runs of the same calls, each through some states. Where they begin alike, had memory and went in
+    -- step, they answer the same
+    -- and end alike.
     pub record AreDetermined (calls : List (Call K V)) (old : State K V) (answers : List (Answer K V)) (new old' : State K V) (answers' : List (Answer K V)) (new' : State K V) : Type 0 where
       pub states : List (State K V)
       pub states' : List (State K V)

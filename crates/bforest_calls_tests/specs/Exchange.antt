@@ -1,9 +1,9 @@
--- Two handles, each in the other's place.
+-- Exchanging two handles.
 use Rattle.bforest_calls.specs.declared.call.Call.TheVariants as call
 use Rattle.bforest_calls.specs.declared.call.Call.{Call}
 use Rattle.std.specs.Prelude.{List, None, Option, get_or, if◌then◌else◌, length, nat_eq, ◌<◌, ◌≡◌, ℕ}
 
--- i for j and j for i; each other index stays
+-- the index j for i and i for j; each other index stays
 abbrev pub exchange : ℕ → ℕ → ℕ → ℕ
 exchange i j h = if nat_eq h i then j else if nat_eq h j then i else h
 
@@ -22,6 +22,6 @@ exchanged i j (call.Retain h c keys put) = call.Retain (exchange i j h) c keys p
 exchanged i j (call.Alias from to) = call.Alias (exchange i j from) (exchange i j to)
 exchanged i j call.ForestClear = call.ForestClear
 
--- both indices are there, and the handles have one number
+-- both indices are in range, and their handles have one number
 abbrev pub AreAliases : List (Option ℕ) → ℕ → ℕ → Type 0
 AreAliases handles i j = (i < length handles) × (j < length handles) × (get_or handles i None ≡ get_or handles j None)

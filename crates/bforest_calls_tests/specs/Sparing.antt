@@ -1,4 +1,4 @@
--- Calls that leave a tree alone, and what is left of it then.
+-- Calls that do not change a tree, and what stays of the tree.
 use Rattle.bforest.specs.Forest.{list_at, sizes_at}
 use Rattle.bforest_calls.specs.Machine.{State, number_at}
 use Rattle.bforest_calls.specs.declared.call.Call.TheVariants as call
@@ -6,7 +6,8 @@ use Rattle.bforest_calls.specs.declared.call.Call.{Call}
 use Rattle.std.specs.Prelude.{Some, ◌≡◌, ◌≢◌, ℕ}
 
 module _ {K V : Type 0} where
-  -- Where the handles have the numbers of this state, the call neither changes the tree of number m nor copies a handle of it. It may read
+  -- Where the handles have the numbers of this state, the call neither changes the tree of number m nor
+  -- copies a handle of m. It may read
   -- the tree, and overwrite its handles.
   abbrev pub Spares : ℕ → State K V → Call K V → Type 0
   Spares m state (call.Insert h c k v) = number_at state h ≢ Some m
@@ -18,7 +19,7 @@ module _ {K V : Type 0} where
   Spares m state call.ForestClear = ⊥
   Spares m state reading = Unit {0}
 
-  -- number m has the list that it had, in nodes of the same sizes, and no handle got this number
+  -- number m keeps its list and sizes, and no other handle has this number in the new state
   pub record IsSpared (m : ℕ) (old new : State K V) : Type 0 where
     pub list : list_at new.forest m ≡ list_at old.forest m
     pub sizes : sizes_at new.forest m ≡ sizes_at old.forest m

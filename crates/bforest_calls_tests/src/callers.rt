@@ -28,7 +28,7 @@ pub fn run_both<K: Copy, V: Copy, C: Comparator<K>>(
     Ok((before, after))
 }
 
-/// The same on sets.
+/// Makes the first calls, then the second ones, on sets.
 pub fn run_both_sets<K: Copy, C: Comparator<K>>(
     alloc: Global,
     first: &[Call<K, ()>],

@@ -1,4 +1,4 @@
-//! Callers of lists of calls: what follows from the contracts of `bforest_calls` alone.
+//! Callers of lists of calls: consequences of the contracts of `bforest_calls` alone.
 #![tactic(auto)]
 
 mod callers;

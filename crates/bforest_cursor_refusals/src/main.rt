@@ -1,6 +1,6 @@
-//! Insertions by a writing cursor into a map and into a set that grow to three levels, beside another tree of the forest; and nodes that are
-//! taken ahead. A request for memory may be refused: nothing changes then, but that the cursor stands where `goto` of the key goes, and the
-//! same call succeeds when it is made again. `tools/refuse_each` runs it with each request for memory refused in turn.
+//! Insertions by a writing cursor into a map and into a set that grow to three levels, beside another tree of the forest; and insertions
+//! after nodes are reserved. A request for memory may be refused: then nothing changes but the cursor, which stands where `goto` of the
+//! key goes, and the same call succeeds when it is repeated. `tools/refuse_each` runs this with each request for memory refused in turn.
 #![tactic(auto)]
 
 mod maps;
@@ -9,7 +9,7 @@ mod sets;
 use bforest::{MapForest, OutOfMemory, SetForest};
 use std::io;
 
-/// What the run saw so far.
+/// The results of the run so far.
 #[derive(Clone, Copy)]
 struct Seen {
     refused: u32,
@@ -17,12 +17,12 @@ struct Seen {
 }
 
 impl Seen {
-    /// Notes whether something was as it has to be.
+    /// Records whether something is right.
     fn note(&mut self, is_right: bool) {
         self.is_right = self.is_right && is_right;
     }
 
-    /// Notes a refusal, which has to be for want of memory and to change nothing.
+    /// Records a refusal, which has to be for want of memory and to change nothing.
     fn refuse(&mut self, error: OutOfMemory, is_same: bool) {
         self.refused = self.refused.saturating_add(1);
         self.note(error == OutOfMemory::Memory && is_same);

@@ -1,17 +1,17 @@
-//! Maps.
+//! Insertions by a cursor into a map.
 ghost use Rattle.bforest.specs.Forest.{IsLive, list_of};
 ghost use Rattle.bforest_nodes.specs.Entries.{IsIncreasing};
 
 use crate::Seen;
 use bforest::{Comparator, Map, MapForest, OutOfMemory};
 
-/// How many entries a map gets: one more than two levels hold, put in in order.
+/// The number of entries of a map: one more than two levels hold, inserted in order.
 const ENTRIES: u32 = 36;
 
-/// How many nodes they take.
+/// The number of nodes that the entries take.
 const NODES: u32 = 12;
 
-/// Grows a map by a cursor, beside another one.
+/// Grows a map by a cursor, beside another map.
 pub(crate) fn grow(forest: &mut MapForest<u32, u32>, seen: &mut Seen) {
     let nothing = Map::new();
     let mut other = Map::new();
@@ -23,7 +23,7 @@ pub(crate) fn grow(forest: &mut MapForest<u32, u32>, seen: &mut Seen) {
     seen.note(forest.free_slots() == 0);
 }
 
-/// Takes the nodes ahead: then no insertion is refused.
+/// Reserves the nodes: then no insertion is refused.
 pub(crate) fn grow_ahead(forest: &mut MapForest<u32, u32>, seen: &mut Seen) {
     if let Err(error) = forest.reserve_nodes(NODES) {
         seen.refuse(error, forest.slots() == 0 && forest.free_slots() == 0);
@@ -36,7 +36,7 @@ pub(crate) fn grow_ahead(forest: &mut MapForest<u32, u32>, seen: &mut Seen) {
     }
 }
 
-// Puts an absent key in, once more where it was refused.
+// Inserts an absent key, and repeats a refused call once.
 fn put(
     map: &mut Map<u32, u32>,
     key: u32,
@@ -57,7 +57,7 @@ fn put(
     seen.note(digest(other, forest) == before.1);
 }
 
-// An insertion by a cursor where its conditions hold, and the key where the cursor stands then.
+// Inserts by a cursor if the conditions hold. Also returns the key where the cursor stands then.
 fn put_once(
     map: &mut Map<u32, u32>,
     key: u32,
@@ -69,7 +69,7 @@ fn put_once(
     Some(put_by(map, key, key, forest, &()))
 }
 
-// An insertion by a cursor, and the key where it stands then.
+// Inserts by a cursor. Also returns the key where the cursor stands then.
 fn put_by<K: Copy, V: Copy, C: Comparator<K>>(
     map: &mut Map<K, V>,
     key: K,
@@ -85,7 +85,7 @@ fn put_by<K: Copy, V: Copy, C: Comparator<K>>(
     (put, cursor.key())
 }
 
-// The first key that is not less.
+// The first key that is not less than `key`.
 fn key_from(map: &Map<u32, u32>, key: u32, forest: &MapForest<u32, u32>) -> Option<u32> {
     if !forest.holds(map) || !map.increases(forest, &()) {
         return None;
@@ -95,7 +95,7 @@ fn key_from(map: &Map<u32, u32>, key: u32, forest: &MapForest<u32, u32>) -> Opti
     cursor.key()
 }
 
-// What has to stay where an insertion is refused.
+// The values that stay where an insertion is refused.
 fn state(
     map: &Map<u32, u32>,
     other: &Map<u32, u32>,
@@ -109,7 +109,7 @@ fn state(
     )
 }
 
-// A number that stands for the entries of a map.
+// A hash of the entries of a map.
 fn digest(map: &Map<u32, u32>, forest: &MapForest<u32, u32>) -> u32 {
     if !forest.holds(map) {
         return 0;

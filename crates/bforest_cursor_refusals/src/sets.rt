@@ -1,4 +1,4 @@
-//! Sets.
+//! Insertions by a cursor into a set.
 ghost use Rattle.bforest.specs.Forest.{IsLive, list_of};
 ghost use Rattle.bforest_nodes.specs.Entries.{IsIncreasing};
 
@@ -6,13 +6,13 @@ use crate::Seen;
 use bforest::{Comparator, OutOfMemory, Set, SetForest};
 use std::ops::Bound;
 
-/// How many keys a set gets: one leaf more than an inner node has children, put in in order.
+/// The number of keys of a set: one leaf more than an inner node has children, inserted in order.
 const KEYS: u32 = 72;
 
-/// How many nodes they take.
+/// The number of nodes that the keys take.
 const NODES: u32 = 12;
 
-/// Grows a set by a cursor, beside another one.
+/// Grows a set by a cursor, beside another set.
 pub(crate) fn grow(forest: &mut SetForest<u32>, seen: &mut Seen) {
     let nothing = Set::new();
     let mut other = Set::new();
@@ -24,7 +24,7 @@ pub(crate) fn grow(forest: &mut SetForest<u32>, seen: &mut Seen) {
     seen.note(forest.free_slots() == 0);
 }
 
-/// Takes the nodes ahead: then no insertion is refused.
+/// Reserves the nodes: then no insertion is refused.
 pub(crate) fn grow_ahead(forest: &mut SetForest<u32>, seen: &mut Seen) {
     if let Err(error) = forest.reserve_nodes(NODES) {
         seen.refuse(error, forest.slots() == 0 && forest.free_slots() == 0);
@@ -37,7 +37,7 @@ pub(crate) fn grow_ahead(forest: &mut SetForest<u32>, seen: &mut Seen) {
     }
 }
 
-// Puts an absent key in, once more where it was refused.
+// Inserts an absent key, and repeats a refused call once.
 fn put(
     set: &mut Set<u32>,
     key: u32,
@@ -58,7 +58,7 @@ fn put(
     seen.note(digest(other, forest) == before.1);
 }
 
-// An insertion by a cursor where its conditions hold, and the key where the cursor stands then.
+// Inserts by a cursor if the conditions hold. Also returns the key where the cursor stands then.
 fn put_once(
     set: &mut Set<u32>,
     key: u32,
@@ -70,7 +70,7 @@ fn put_once(
     Some(put_by(set, key, forest, &()))
 }
 
-// An insertion by a cursor, and the key where it stands then.
+// Inserts by a cursor. Also returns the key where the cursor stands then.
 fn put_by<K: Copy, C: Comparator<K>>(
     set: &mut Set<K>,
     key: K,
@@ -85,7 +85,7 @@ fn put_by<K: Copy, C: Comparator<K>>(
     (put, cursor.elem())
 }
 
-// The first key that is not less.
+// The first key that is not less than `key`.
 fn key_from(set: &Set<u32>, key: u32, forest: &SetForest<u32>) -> Option<u32> {
     if !forest.holds(set) || !set.increases(forest, &()) {
         return None;
@@ -94,7 +94,7 @@ fn key_from(set: &Set<u32>, key: u32, forest: &SetForest<u32>) -> Option<u32> {
         .next()
 }
 
-// What has to stay where an insertion is refused.
+// The values that stay where an insertion is refused.
 fn state(set: &Set<u32>, other: &Set<u32>, forest: &SetForest<u32>) -> (u32, u32, u32, u32) {
     (
         digest(set, forest),
@@ -104,7 +104,7 @@ fn state(set: &Set<u32>, other: &Set<u32>, forest: &SetForest<u32>) -> (u32, u32
     )
 }
 
-// A number that stands for the keys of a set.
+// A hash of the keys of a set.
 fn digest(set: &Set<u32>, forest: &SetForest<u32>) -> u32 {
     if !forest.holds(set) {
         return 0;

@@ -1,6 +1,6 @@
-//! Insertions into a map that grows to three levels, beside another map of the forest. One may be refused for want of memory: nothing
-//! changes then, and the same insertion succeeds when it is made again. Then removals, a retain and clears, which ask for no memory.
-//! `tools/refuse_each` runs it with each request for memory refused in turn, and with all refused once the maps are built.
+//! Insertions into a map that grows to three levels, beside another map of the forest. One may be refused for want of memory: then nothing
+//! changes, and the same insertion succeeds when it is repeated. Then removals, a retain and clears, which take no memory.
+//! `tools/refuse_each` runs this with each request for memory refused in turn, and with all refused once the maps are built.
 #![tactic(auto)]
 
 use bforest::{Map, MapForest, OutOfMemory};
@@ -9,14 +9,14 @@ use std::io;
 /// A map of numbers to numbers.
 type Numbers = Map<u32, u32>;
 
-/// What the run saw so far.
+/// The results of the run so far.
 #[derive(Clone, Copy)]
 struct Seen {
     refused: u32,
     is_right: bool,
 }
 
-/// A number that stands for the entries of a map.
+/// A hash of the entries of a map.
 fn digest(map: &Numbers, forest: &MapForest<u32, u32>) -> u32 {
     if !forest.holds(map) {
         return 0;
@@ -32,7 +32,7 @@ fn digest(map: &Numbers, forest: &MapForest<u32, u32>) -> u32 {
     digest
 }
 
-/// Inserts an absent key, once more where it was refused, while another map watches.
+/// Inserts an absent key, and repeats a refused call once. Checks that another map stays.
 fn insert(
     map: &mut Numbers,
     key: u32,
@@ -70,7 +70,7 @@ fn insert(
     }
 }
 
-/// An insertion where its conditions hold.
+/// Inserts a key if the conditions hold.
 fn attempt(
     map: &mut Numbers,
     key: u32,
@@ -83,7 +83,7 @@ fn attempt(
     }
 }
 
-/// How many entries there are, and the sum of their values.
+/// The number of entries, and the sum of their values.
 fn count_and_sum(map: &Numbers, forest: &MapForest<u32, u32>) -> (u32, u32) {
     if !forest.holds(map) {
         return (0, 0);
@@ -95,19 +95,19 @@ fn count_and_sum(map: &Numbers, forest: &MapForest<u32, u32>) -> (u32, u32) {
     counted
 }
 
-/// Ends a map's tree where the handle is live.
+/// Clears a map if its handle is live.
 fn clear(map: &mut Numbers, forest: &mut MapForest<u32, u32>) {
     if forest.holds(map) {
         map.clear(forest);
     }
 }
 
-/// Removes a present key where the conditions hold, and says whether its value came.
+/// Removes a present key if the conditions hold, and returns whether its value was returned.
 fn removes(map: &mut Numbers, key: u32, forest: &mut MapForest<u32, u32>) -> bool {
     forest.holds(map) && map.increases(forest, &()) && map.remove(key, forest, &()) == Some(key)
 }
 
-/// Takes most entries of a map of 1 to 36 out, while another map watches. Says whether all was right.
+/// Removes most entries of a map of 1 to 36, and checks that another map stays. Returns whether all is right.
 fn loses_most(map: &mut Numbers, forest: &mut MapForest<u32, u32>, other: &Numbers) -> bool {
     let before = (digest(other, forest), forest.slots());
     let mut is_right = true;
@@ -120,7 +120,7 @@ fn loses_most(map: &mut Numbers, forest: &mut MapForest<u32, u32>, other: &Numbe
             key % 9 == 0
         });
     }
-    // Of 9, 18 and 27, each with 1 more.
+    // The keys 9, 18 and 27 stay, each with its value plus 1.
     is_right = count_and_sum(map, forest) == (3, 57) && is_right;
     is_right && (digest(other, forest), forest.slots()) == before
 }

@@ -1,4 +1,4 @@
--- What `parse` gives of a word of digits.
+-- The number that `parse` reads from a word of digits.
 use Rattle.bforest_run.specs.Numbers.{IsNumeral, is_numeral, numeral}
 use Rattle.std.proofs.Common.{Bool, ◌&&◌, ◌∙◌, sym, Err, List, None, Ok, Option, Some, ap, false, if◌then◌else◌, refl, Result, length, rules, true, ◌<◌, ◌^◌, ◌≡◌, ◌≤◌, ℕ}
 use Rattle.std.proofs.lemmas.Str.Parse.{IsNumeralModel, numerals_by_value, parse_digits}
@@ -9,11 +9,11 @@ use Rattle.std.specs.Option.{SomeIff}
 use Rattle.std.specs.Result.{result_ok, OkIff}
 use Rattle.std.specs.Str.Parse.{ParsesUnsigned, digits_value}
 
--- digits and the number that they write, as `parse` sees them
+-- the numerals of `parse` are digits with their value
 own : IsNumeralModel (λ ds. list_all is_ascii_digit ds ≡ true) (digits_value 10)
 own = numerals_by_value _ (search rules)
 
--- a word of few digits is a number exactly where `parse` reads one
+-- a word of digits that is not too long is a numeral exactly where `parse` reads a number
 pub parsed : {E : Type 0} (width bits : ℕ) (word : List ℕ) (r : Result ℕ E) → ParsesUnsigned bits 10 word r → list_all is_ascii_digit word ≡ true → length word ≤ width → SomeIff (result_ok r) (IsNumeral width bits word) (digits_value 10 word)
 parsed width bits word r h digits most = go r (parse_digits own bits word r h digits)
   where
@@ -21,14 +21,14 @@ parsed width bits word r h digits most = go r (parse_digits own bits word r h di
     go (Ok x) h = (record { digits = digits; some = h.0.0; most = most; fits = h.0.1 }, h.1)
     go (Err e) h = λ n. h (n.some, n.fits)
 
--- both hold where their conjunction does
+-- where a conjunction holds, both parts hold
 both : (a b : Bool) → (a && b) ≡ true → (a ≡ true) × (b ≡ true)
 both true true e = (refl, refl)
 both true false e = absurd (cc)
 both false b e = absurd (cc)
 
 module _ (width bits : ℕ) (word : List ℕ) where
-  -- a word is a number where its test says so, and only there
+  -- a word is a numeral exactly where its test holds
   is_so : IsNumeral width bits word → is_numeral width bits word ≡ true
   is_so n = let d = n.digits in let s = n.some in let m = n.most in let f = n.fits in search rules
 

@@ -1,11 +1,11 @@
--- Words without a mark at their front.
+-- Words without the mark of a bound.
 use Rattle.bforest_run.specs.Numbers.{number_of}
 use Rattle.bforest_run.specs.Words.{Word, bound_of}
 use Rattle.std.proofs.Common.{Bool, List, None, [], ap, bytes_eq, codes, false, if◌then◌else◌, option_map, refl, Some, true, ◌==◌, ◌∷◌, ◌≡◌, ◌≢◌, ℕ}
 use Rattle.std.specs.declared.ops.Bound.TheVariants.{Excluded, Included, Unbounded}
 use borrow.Author.Tests.{eqb-true}
 
--- a word that is no bound
+-- a word without a mark is no bound
 pub no_bound : (word : Word) → bytes_eq word (codes "-") ≡ false → ((rest : List ℕ) → word ≢ 61 ∷ rest) → ((rest : List ℕ) → word ≢ 33 ∷ rest) → None ≡ bound_of word
 no_bound [] dash included excluded = refl
 no_bound (mark ∷ key) dash included excluded = go (bytes_eq (mark ∷ key) (codes "-")) dash (mark == 61) refl (mark == 33) refl

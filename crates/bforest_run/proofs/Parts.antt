@@ -9,7 +9,7 @@ use borrow.Author.Tests.{ltb-false, ltb-true}
 use lib.Dec.{ltb}
 
 module _ (p : ℕ → Bool) (xs : List ℕ) where
-  -- up to the first element that passes, and from behind it on
+  -- a list with an element that passes is split there
   pub slice_split-at : (e : ℕ) → Some e ≡ position p xs → slice_split p xs ≡ take e xs ∷ slice_split p (take (length xs - (e + 1)) (drop (e + 1) xs))
   slice_split-at e h = go (ltb (position_or_len p xs) (length xs)) refl h
     where
@@ -23,7 +23,7 @@ module _ (p : ℕ → Bool) (xs : List ℕ) where
           slice_split_first p xs 0 within ∙ (λ j. take (here j) xs ∷ slice_split p (drop (here j + 1) xs)) ∙ ap (λ l. take e xs ∷ slice_split p l) (sym all_behind)
       go false t h = absurd (cc)
 
-  -- where none passes
+  -- a list without an element that passes is one part
   pub slice_split-whole : None ≡ position p xs → slice_split p xs ≡ xs ∷ []
   slice_split-whole h = go (ltb (position_or_len p xs) (length xs)) refl h
     where
@@ -33,7 +33,7 @@ module _ (p : ℕ → Bool) (xs : List ℕ) where
           let far = ltb-false (position_or_len p xs) (length xs) t in
           slice_split_none p xs (λ k d within. fails_before_first p xs k d (omega (arith, far, within)))
 
--- there are no more lines than bytes and one
+-- there is at most one line more than bytes
 pub few_lines : (bytes : List ℕ) → length (lines_of bytes) ≤ length bytes + 1
 few_lines bytes =
     let parts = length-map (slice_split (λ b. b == 10) bytes) without_return in

@@ -12,12 +12,12 @@ use Rattle.std.proofs.Math.Seq.{take-append_seam}
 use Rattle.std.proofs.lemmas.List.{append-nil}
 use Rattle.std.specs.Io.KnownBytes.{Appends}
 
--- a sum that fits
+-- a saturated sum that fits is the sum
 pub saturated : (r n : ℕ) → r ≡ min (n + 1) (2 ^ 64 - 1) → n + 1 < 18446744073709551616 → r ≡ n + 1
 saturated r n is fits = omega (arith, is, fits)
 
 module _ {S : Type 0} (tells : S → List Word → List ℕ → S → Type 0) (is_bad : List Word → Type 0) where
-  -- so far these lines were answered, and these are left
+  -- the lines of `before` are answered, and those of `rest` are left
   pub record Turned (start : S) (bytes : List ℕ) (old : Option (List ℕ)) (number : ℕ) (rest : List (List ℕ)) (now : S) (new : Option (List ℕ)) : Type 0 where
     pub before : List (List ℕ)
     pub text : List ℕ
@@ -29,7 +29,7 @@ module _ {S : Type 0} (tells : S → List Word → List ℕ → S → Type 0) (i
   pub turned-first : (start : S) (bytes : List ℕ) (o : Option (List ℕ)) (rest : List (List ℕ)) → rest ≡ lines_of bytes → Turned start bytes o 0 rest start o
   turned-first start bytes o rest is = record { before = []; text = []; lines = sym is; count = refl; told = (refl, refl); appended = Appends-none o }
 
-  -- one line more
+  -- one more line that is answered
   answered-push : (start mid now : S) (lines : List (List ℕ)) (line text more : List ℕ) → AllAnswered tells is_bad start lines text mid → Answered tells is_bad mid line more now → AllAnswered tells is_bad start (lines ++ line ∷ []) (text ++ more) now
   answered-push start mid now [] line text more all one =
       (more, [], now, subst (λ s. Answered tells is_bad s line more now) all.1 one, (refl, refl), ap (λ t. t ++ more) all.0 ∙ sym (append-nil more))
@@ -47,7 +47,7 @@ module _ {S : Type 0} (tells : S → List Word → List ℕ → S → Type 0) (i
       appended = appends_more old new next t.text more t.appended written;
     }
 
-    -- the line stopped the run
+    -- the outcome of a run that stopped at a line
     pub turned-stopped : (number' : ℕ) → number' ≡ number + 1 → (next : Option (List ℕ)) (why : Stop) → (why ≡ BadLine → IsBad tells is_bad line × Appends new next (bad_text number')) → (why ≡ Memory → Appends new next []) → Outcome tells is_bad start bytes old next (status_of (Err why))
     turned-stopped number' is next BadLine bad memory = record {
       all = λ e. absurd (cc);
@@ -77,7 +77,7 @@ module _ {S : Type 0} (tells : S → List Word → List ℕ → S → Type 0) (i
     }
     turned-stopped number' is next InputOutput bad memory = record { all = λ e. absurd (cc); bad = λ e. absurd (cc); memory = λ e. absurd (cc) }
 
-  -- no line is left
+  -- the outcome of a run with no line left
   pub turned-last : (start : S) (bytes : List ℕ) (old : Option (List ℕ)) (number : ℕ) (now : S) (new : Option (List ℕ)) → Turned start bytes old number [] now new → Outcome tells is_bad start bytes old new 0
   turned-last start bytes old number now new t = record {
     all = λ _. record {
@@ -90,7 +90,7 @@ module _ {S : Type 0} (tells : S → List Word → List ℕ → S → Type 0) (i
     memory = λ e. absurd (cc);
   }
 
-  -- the next line's number, which fits
+  -- the number of the next line fits
   pub numbered : (start : S) (bytes : List ℕ) (old : Option (List ℕ)) (number : ℕ) (line : List ℕ) (rest : List (List ℕ)) (now : S) (new : Option (List ℕ)) → Turned start bytes old number (line ∷ rest) now new → length bytes < 9223372036854775808 → number + 1 < 18446744073709551616
   numbered start bytes old number line rest now new t small =
       let all : length (lines_of bytes) ≡ length t.before + length (line ∷ rest) = ap length t.lines ∙ length-append t.before (line ∷ rest) in

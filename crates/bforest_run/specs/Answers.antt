@@ -1,4 +1,4 @@
--- What a line is answered, and what it leaves.
+-- The answer to a line, and what the line leaves.
 use Rattle.bforest.specs.Forest.{empty, free_of, sizes_of, slots_of}
 use Rattle.bforest_calls.specs.Machine.{Live, Orders, State, Step, number_at}
 use Rattle.bforest_calls.specs.declared.call.Answer.{Answer}
@@ -15,12 +15,13 @@ use Rattle.std.specs.Prelude.{Bool, IsTrue, List, None, [], codes, false, length
 abbrev pub all_orders : Orders ℕ
 all_orders = order_of Up ∷ order_of Down ∷ order_of Tens ∷ []
 
--- no entry, and eight empty handles
+-- an empty forest, and eight empty handles
 abbrev pub at_start : {V : Type 0} → ℕ → State ℕ V
 at_start limit = record { forest = empty limit; handles = replicate 8 None }
 
 module _ {V : Type 0} (most : ℕ) (reads : Bool) (shown : Answer ℕ V → List ℕ) where
-  -- The text that a line is answered, from the state before it to the state after it. A call is one step of the machine.
+  -- The text of the answer to a line, from the state before it to the state after it. A call is one step of
+  -- the machine.
   abbrev pub Tells : State ℕ V → Line V → List ℕ → State ℕ V → Type 0
   Tells old (Made call) text new = (given : Answer ℕ V) × Step most reads all_orders old call given new × (text ≡ shown given)
   Tells old (Holds h) text new = (so : Bool) × (IsTrue so ↔ Live old h) × (text ≡ truth_text so) × (new ≡ old)
@@ -29,14 +30,14 @@ module _ {V : Type 0} (most : ℕ) (reads : Bool) (shown : Answer ℕ V → List
       × (Live old h → text ≡ counts_text (length (sizes_of old.forest (number_at old h))) (slots_of old.forest) (free_of old.forest))
       × (new ≡ old)
 
--- what the words of a line are answered, for maps and for sets
+-- the answer to the words of a line, for maps and for sets
 abbrev pub MapTells : State ℕ ℕ → List Word → List ℕ → State ℕ ℕ → Type 0
 MapTells old words text new = (line : Line ℕ) × SpellsMap words line × Tells 7 true map_text old line text new
 
 abbrev pub SetTells : State ℕ (Unit {0}) → List Word → List ℕ → State ℕ (Unit {0}) → Type 0
 SetTells old words text new = (line : Line (Unit {0})) × SpellsSet words line × Tells 15 false set_text old line text new
 
--- the words of a bad line
+-- words that spell no line, for maps and for sets
 abbrev pub IsBadForMaps : List Word → Type 0
 IsBadForMaps words = (line : Line ℕ) → SpellsMap words line → ⊥
 

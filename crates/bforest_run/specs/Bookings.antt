@@ -1,4 +1,4 @@
--- Lines of books: what their words spell, and what they are answered.
+-- Lines about books: what their words spell, and their answers.
 use Rattle.bforest.specs.Forest.{empty}
 use Rattle.bforest_run.specs.Grammar.{all2, all3}
 use Rattle.bforest_run.specs.Numbers.{number_of, time_of}
@@ -12,17 +12,17 @@ use Rattle.interval_books.specs.declared.book_error.BookError.{BookError}
 use Rattle.std.specs.Fmt.{decimal}
 use Rattle.std.specs.Prelude.{Err, List, None, Ok, Option, Result, Some, [], bytes_eq, codes, if◌then◌else◌, option_map, ◌++◌, ◌∷◌, ◌≡◌, ℕ}
 
--- `R S E`
+-- the booking that the words `R S E` spell
 abbrev pub booking_of : List Word → Option BookLine
 booking_of (R ∷ S ∷ E ∷ []) = option_map (λ b. Book b.0 b.1 b.2) (all3 (number_of R) (time_of S) (time_of E))
 booking_of words = None
 
--- `R S`
+-- the cancellation that the words `R S` spell
 abbrev pub cancelling_of : List Word → Option BookLine
 cancelling_of (R ∷ S ∷ []) = option_map (λ c. Cancel c.0 c.1) (all2 (number_of R) (time_of S))
 cancelling_of words = None
 
--- `R T`
+-- the question that the words `R T` spell
 abbrev pub asking_of : List Word → Option BookLine
 asking_of (R ∷ T ∷ []) = option_map (λ a. At a.0 a.1) (all2 (number_of R) (time_of T))
 asking_of words = None
@@ -40,7 +40,7 @@ book_line_of (verb ∷ words) =
 abbrev pub interval_text : ℕ → ℕ → List ℕ
 interval_text start end = decimal start ++ codes " " ++ decimal end
 
--- why a call was refused
+-- the text of a refusal
 abbrev pub why_text : BookError → List ℕ
 why_text why.UnknownResource = codes "unknown"
 why_text why.EmptyInterval = codes "empty"
@@ -48,7 +48,7 @@ why_text (why.Overlaps start end) = codes "overlaps " ++ interval_text start end
 why_text why.NotBooked = codes "not booked"
 why_text (why.Forest refused) = refusal_text refused
 
--- what a call answered
+-- the texts of the answers to the three lines
 abbrev pub booked_text : Result (Unit {0}) BookError → List ℕ
 booked_text (Ok done) = codes "ok"
 booked_text (Err reason) = why_text reason
@@ -62,7 +62,7 @@ held_text (Ok (Some x)) = interval_text x.0 x.1
 held_text (Ok None) = codes "none"
 held_text (Err reason) = why_text reason
 
--- The text that a line is answered, from the books before it to those after it.
+-- The text of the answer to a line, from the books before it to those after it.
 abbrev pub TellsBooks : Books → BookLine → List ℕ → Books → Type 0
 TellsBooks old (Book r start end) text new =
     (result : Result (Unit {0}) BookError) × Recorded old r start end result new × (text ≡ booked_text result)
@@ -70,15 +70,15 @@ TellsBooks old (Cancel r start) text new =
     (result : Result ℕ BookError) × Cancelled old r start result new × (text ≡ cancelled_text result)
 TellsBooks old (At r moment) text new = (text ≡ held_text (at_moment old r moment)) × (new ≡ old)
 
--- what the words of a line are answered
+-- the answer to the words of a line
 abbrev pub BookTells : Books → List Word → List ℕ → Books → Type 0
 BookTells old words text new = (line : BookLine) × (book_line_of words ≡ Some line) × TellsBooks old line text new
 
--- the words of a bad line
+-- words that spell no line
 abbrev pub IsBadForBooks : List Word → Type 0
 IsBadForBooks words = book_line_of words ≡ None
 
--- books of so many resources, with nothing booked
+-- books of this number of resources, with nothing booked
 pub record AreNew (resources : ℕ) (b : Books) : Type 0 where
   pub count : resource_count b ≡ resources
   pub nothing : (r : ℕ) → bookings b r ≡ []

@@ -16,7 +16,7 @@ use Rattle.std.specs.Global.{Global}
 use Rattle.std.specs.Prelude.{List, None, Option, Some, Vec, [], bytes_eq, codes, if◌then◌else◌, option_and_then, option_map, ◌==◌, ◌≡◌, ◌∷◌, ℕ}
 use Rattle.std.specs.declared.ops.Bound.{Bound}
 
--- all, where all are there
+-- all values, where each option has one
 abbrev pub all2 : {A B : Type 0} → Option A → Option B → Option (A × B)
 all2 (Some a) (Some b) = Some (a, b)
 all2 a b = None
@@ -33,12 +33,12 @@ abbrev pub all5 : {A B C D E : Type 0} → Option A → Option B → Option C �
 all5 (Some a) (Some b) (Some c) (Some d) (Some e) = Some (a, b, c, d, e)
 all5 a b c d e = None
 
--- the first that is there
+-- the first option that has a value
 abbrev pub either : {A : Type 0} → Option A → Option A → Option A
 either (Some a) other = Some a
 either None other = other
 
--- what each of the words names, where each names something
+-- the values that the words name, where each names one
 abbrev pub all_of : {W X : Type 0} → (W → Option X) → List W → Option (List X)
 all_of named [] = Some []
 all_of named (word ∷ words) = option_map (λ all. all.0 ∷ all.1) (all2 (named word) (all_of named words))
@@ -50,80 +50,80 @@ verbs =
     ∷ (codes "iter", verb.Iter) ∷ (codes "range", verb.Range) ∷ (codes "read", verb.Read) ∷ (codes "edit", verb.Edit) ∷ (codes "retain", verb.Retain)
     ∷ (codes "alias", verb.Alias) ∷ (codes "wipe", verb.Wipe) ∷ (codes "holds", verb.Holds) ∷ (codes "stat", verb.Stat) ∷ []
 
--- `H`
+-- the handle of the words `H`
 abbrev pub lone_of : List Word → Option ℕ
 lone_of (H ∷ []) = handle_of H
 lone_of words = None
 
--- `H O K`
+-- the handle, the order and the key of the words `H O K`
 abbrev pub keyed_of : List Word → Option (ℕ × ℕ × ℕ)
 keyed_of (H ∷ O ∷ K ∷ []) = all3 (handle_of H) (order_of O) (number_of K)
 keyed_of words = None
 
--- `H O K V`
+-- the handle, the order, the key and the value of the words `H O K V`
 abbrev pub entry_of : List Word → Option (ℕ × ℕ × ℕ × ℕ)
 entry_of (H ∷ O ∷ K ∷ V ∷ []) = all4 (handle_of H) (order_of O) (number_of K) (number_of V)
 entry_of words = None
 
--- `I J`
+-- the handles of the words `I J`
 abbrev pub pair_of : List Word → Option (ℕ × ℕ)
 pair_of (I ∷ J ∷ []) = all2 (handle_of I) (handle_of J)
 pair_of words = None
 
--- an end of a range: `f` or `b`
+-- the end of a range that a letter names: `f` or `b`
 abbrev pub side_of : ℕ → Option Side
 side_of letter = if letter == 102 then Some Front else if letter == 98 then Some Back else None
 
--- `H O LO HI ENDS`
+-- the range that the words `H O LO HI ENDS` spell
 abbrev pub range_of : List Word → Option (ℕ × ℕ × Bound ℕ × Bound ℕ × List Side)
 range_of (H ∷ O ∷ LO ∷ HI ∷ ENDS ∷ []) = all5 (handle_of H) (order_of O) (bound_of LO) (bound_of HI) (all_of side_of ENDS)
 range_of words = None
 
--- `H O STEP ..`, with one step at least
+-- the script that the words `H O STEP ..` spell, with at least one step
 abbrev pub script_of : {X : Type 0} → (Word → Option X) → List Word → Option (ℕ × ℕ × List X)
 script_of named (H ∷ O ∷ step ∷ steps) = all3 (handle_of H) (order_of O) (all_of named (step ∷ steps))
 script_of named words = None
 
--- `H O V K ..`
+-- the handle, the order, the value and the keys of the words `H O V K ..`
 abbrev pub retained_map_of : List Word → Option (ℕ × ℕ × Option ℕ × List ℕ)
 retained_map_of (H ∷ O ∷ V ∷ keys) = all4 (handle_of H) (order_of O) (put_of V) (all_of number_of keys)
 retained_map_of words = None
 
--- `H O K ..`
+-- the handle, the order and the keys of the words `H O K ..`
 abbrev pub retained_set_of : List Word → Option (ℕ × ℕ × List ℕ)
 retained_set_of (H ∷ O ∷ keys) = all3 (handle_of H) (order_of O) (all_of number_of keys)
 retained_set_of words = None
 
--- a step of a reading cursor
+-- the words for steps of a reading cursor without a part behind `=`
 abbrev pub looks : List (Word × Look ℕ)
 looks =
     (codes "empty", look.Empty) ∷ (codes "next", look.Next) ∷ (codes "prev", look.Prev) ∷ (codes "key", look.Key) ∷ (codes "value", look.Value)
     ∷ (codes "first", look.First) ∷ (codes "end", look.End) ∷ []
 
--- the step with a part behind `=`
+-- the step of a reading cursor with a part behind `=`
 abbrev pub look_with : Word → Word → Option (Look ℕ)
 look_with name part = if bytes_eq name (codes "goto") then option_map look.Goto (number_of part) else None
 
 abbrev pub look_of : Word → Option (Look ℕ)
 look_of word = either (row_of looks word) (option_and_then (λ parts. look_with parts.0 parts.1) (cut_at 61 word))
 
--- a step of a cursor that writes in maps
+-- the words for steps of a cursor that writes in maps, without a part behind `=`
 abbrev pub map_acts : List (Word × Act ℕ ℕ)
 map_acts =
     (codes "empty", act.Empty) ∷ (codes "next", act.Next) ∷ (codes "prev", act.Prev) ∷ (codes "key", act.Key) ∷ (codes "value", act.Value)
     ∷ (codes "first", act.First) ∷ (codes "del", act.Remove) ∷ []
 
--- a step of a cursor that writes in sets
+-- the words for steps of a cursor that writes in sets, without a part behind `=`
 abbrev pub set_acts : List (Word × Act ℕ (Unit {0}))
 set_acts =
     (codes "empty", act.Empty) ∷ (codes "next", act.Next) ∷ (codes "prev", act.Prev) ∷ (codes "key", act.Key)
     ∷ (codes "first", act.First) ∷ (codes "del", act.Remove) ∷ []
 
--- `K:V`
+-- the key and the value of a word `K:V`
 abbrev pub colon_pair_of : Word → Option (ℕ × ℕ)
 colon_pair_of word = option_and_then (λ parts. all2 (number_of parts.0) (number_of parts.1)) (cut_at 58 word)
 
--- the steps with a part behind `=`
+-- the step of a cursor that writes in maps, with a part behind `=`
 abbrev pub map_act_with : Word → Word → Option (Act ℕ ℕ)
 map_act_with name part =
     if bytes_eq name (codes "goto") then option_map act.Goto (number_of part)
@@ -144,7 +144,7 @@ abbrev pub set_act_of : Word → Option (Act ℕ (Unit {0}))
 set_act_of word = either (row_of set_acts word) (option_and_then (λ parts. set_act_with parts.0 parts.1) (cut_at 61 word))
 
 module _ {V : Type 0} where
-  -- the lines without a list, which maps and sets share
+  -- the lines without a list, which are the same for maps and sets
   abbrev pub simple_of : Verb → List Word → Option (Line V)
   simple_of verb.Get words = option_map (λ at. Made (call.Get at.0 at.1 at.2)) (keyed_of words)
   simple_of verb.Less words = option_map (λ at. Made (call.GetOrLess at.0 at.1 at.2)) (keyed_of words)
@@ -157,28 +157,28 @@ module _ {V : Type 0} where
   simple_of verb.Stat words = option_map Stat (lone_of words)
   simple_of other words = None
 
-  -- `range H O LO HI ENDS`
+  -- the line is `range H O LO HI ENDS`
   abbrev pub SaysRange : List Word → Line V → Type 0
   SaysRange words line =
       (h c : ℕ) × (lo hi : Bound ℕ) × (ends : Vec Side Global)
       × (range_of words ≡ Some (h, c, lo, hi, ends.items)) × (line ≡ Made (call.Range h c lo hi ends))
 
-  -- What is read is what is spelled; nothing is read exactly where nothing is spelled.
+  -- The line that is read is spelled; none is read exactly where none is spelled.
   abbrev pub Reads : (Line V → Type 0) → Option (Line V) → Type 0
   Reads Says (Some line) = Says line
   Reads Says None = (line : Line V) → Says line → ⊥
 
-  -- `edit H O STEP ..`
+  -- the line is `edit H O STEP ..`
   abbrev pub SaysEdit : (Word → Option (Act ℕ V)) → List Word → Line V → Type 0
   SaysEdit act_of words line =
       (h c : ℕ) × (steps : Vec (Act ℕ V) Global) × (script_of act_of words ≡ Some (h, c, steps.items)) × (line ≡ Made (call.Edit h c steps))
 
--- `read H O STEP ..`
+-- the line is `read H O STEP ..`
 abbrev pub SaysRead : List Word → Line ℕ → Type 0
 SaysRead words line =
     (h c : ℕ) × (steps : Vec (Look ℕ) Global) × (script_of look_of words ≡ Some (h, c, steps.items)) × (line ≡ Made (call.Read h c steps))
 
--- `retain H O V K ..` of maps, and `retain H O K ..` of sets
+-- the line is `retain H O V K ..` of maps, or `retain H O K ..` of sets
 abbrev pub SaysRetainMap : List Word → Line ℕ → Type 0
 SaysRetainMap words line =
     (h c : ℕ) × (put : Option ℕ) × (keys : Vec ℕ Global)
@@ -188,7 +188,7 @@ abbrev pub SaysRetainSet : List Word → Line (Unit {0}) → Type 0
 SaysRetainSet words line =
     (h c : ℕ) × (keys : Vec ℕ Global) × (retained_set_of words ≡ Some (h, c, keys.items)) × (line ≡ Made (call.Retain h c keys None))
 
--- what the words behind the first one spell, for maps
+-- the line that the words behind its verb spell, for maps
 abbrev pub SaysMap : Verb → List Word → Line ℕ → Type 0
 SaysMap verb.Insert words line = option_map (λ at. Made (call.Insert at.0 at.1 at.2 at.3)) (entry_of words) ≡ Some line
 SaysMap verb.Range words line = SaysRange words line
@@ -197,7 +197,7 @@ SaysMap verb.Edit words line = SaysEdit map_act_of words line
 SaysMap verb.Retain words line = SaysRetainMap words line
 SaysMap simple words line = simple_of simple words ≡ Some line
 
--- the same for sets
+-- the line that the words behind its verb spell, for sets
 abbrev pub SaysSet : Verb → List Word → Line (Unit {0}) → Type 0
 SaysSet verb.Insert words line = option_map (λ at. Made (call.Insert at.0 at.1 at.2 tt)) (keyed_of words) ≡ Some line
 SaysSet verb.Range words line = SaysRange words line
@@ -205,7 +205,7 @@ SaysSet verb.Edit words line = SaysEdit set_act_of words line
 SaysSet verb.Retain words line = SaysRetainSet words line
 SaysSet simple words line = simple_of simple words ≡ Some line
 
--- what the words of a line spell, where this says what they spell behind the first one
+-- the line that words spell, given what the words behind the verb spell
 module _ {V : Type 0} (Says : Verb → List Word → Line V → Type 0) where
   abbrev pub Spells : List Word → Line V → Type 0
   Spells [] line = ⊥

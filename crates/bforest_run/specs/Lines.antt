@@ -3,16 +3,16 @@ use Rattle.std.proofs.Common.{Bor}
 use Rattle.std.specs.List.{slice_split}
 use Rattle.std.specs.Prelude.{List, None, Option, Some, [], if◌then◌else◌, length, map, slice_index, take, ◌-◌, ◌==◌, ℕ}
 
--- the line, but for a carriage return at its end
+-- a line without the carriage return at its end
 abbrev pub without_return : List ℕ → List ℕ
 without_return line = if slice_index line (length line - 1) == 13 then take (length line - 1) line else line
 
--- the parts of what is left between line feeds, if anything is left
+-- the parts between line feeds of the bytes left, if any are left
 abbrev pub parts_left : Option (Bor (List ℕ)) → List (List ℕ)
 parts_left None = []
 parts_left (Some bytes) = slice_split (λ b. b == 10) bytes.now
 
--- the lines of what is left: the parts, each without a carriage return at its end
+-- the lines of the bytes left, each without a carriage return at its end
 abbrev pub lines_left : Option (Bor (List ℕ)) → List (List ℕ)
 lines_left rest = map without_return (parts_left rest)
 

@@ -13,7 +13,7 @@ order_of Up a b = nat_cmp a b
 order_of Down a b = nat_cmp b a
 order_of Tens a b = nat_cmp (a / 10) (b / 10)
 
--- each is a total order
+-- each order is a total order
 pub IsTotalOrder-order_of : (order : Order) → IsTotalOrder (order_of order)
 IsTotalOrder-order_of Up = nat_cmp_total
 IsTotalOrder-order_of Down = back_total nat_cmp_total

@@ -13,23 +13,23 @@ abbrev pub bad_text : ℕ → List ℕ
 bad_text number = codes "line " ++ decimal number ++ codes ": bad\n"
 
 module _ {S : Type 0} (tells : S → List Word → List ℕ → S → Type 0) (is_bad : List Word → Type 0) where
-  -- a line that is no text, or whose words spell nothing
+  -- a line that is no UTF-8 text, or whose words spell no line
   abbrev pub IsBad : List ℕ → Type 0
   IsBad line = (IsUtf8 line → ⊥) ⊎ is_bad (words_of line)
 
-  -- the reply to a line, and what it leaves
+  -- the reply to a line, and what the line leaves
   abbrev pub Replies : S → List ℕ → Reply → S → Type 0
   Replies old line Skipped new = (words_of line ≡ []) × (new ≡ old)
   Replies old line (Told text) new = tells old (words_of line) (string_bytes text) new
   Replies old line Bad new = IsBad line × (new ≡ old)
 
-  -- A line without words has no answer; another has its text and a line feed.
+  -- A line without words has no answer; the answer of any other line is a text and a line feed.
   abbrev pub Answered : S → List ℕ → List ℕ → S → Type 0
   Answered old line text new =
       ((words_of line ≡ []) × (text ≡ []) × (new ≡ old))
       ⊎ ((said : List ℕ) × (text ≡ said ++ codes "\n") × tells old (words_of line) said new)
 
-  -- lines in turn, each from what the one before left
+  -- lines answered in turn, each from the state that the line before it left
   abbrev pub AllAnswered : S → List (List ℕ) → List ℕ → S → Type 0
   AllAnswered old [] text new = (text ≡ []) × (new ≡ old)
   AllAnswered old (line ∷ lines) text new =
@@ -43,7 +43,7 @@ module _ {S : Type 0} (tells : S → List Word → List ℕ → S → Type 0) (i
       pub told : AllAnswered start (lines_of bytes) text end
       pub appended : Appends old new text
 
-    -- each line before the first bad one was answered, and then the number of that one was written
+    -- each line before the first bad one was answered, and then the bad line's number was written
     pub record ToldUpToBad : Type 0 where
       pub before : List (List ℕ)
       pub line : List ℕ
@@ -55,7 +55,7 @@ module _ {S : Type 0} (tells : S → List Word → List ℕ → S → Type 0) (i
       pub bad : IsBad line
       pub appended : Appends old new (text ++ bad_text (length before + 1))
 
-    -- the first lines were answered
+    -- the first `count` lines were answered
     pub record FirstTold : Type 0 where
       pub count : ℕ
       pub text : List ℕ
@@ -63,7 +63,7 @@ module _ {S : Type 0} (tells : S → List Word → List ℕ → S → Type 0) (i
       pub told : AllAnswered start (take count (lines_of bytes)) text end
       pub appended : Appends old new text
 
-    -- what a status says
+    -- what follows from a status
     pub record Outcome (status : ℕ) : Type 0 where
       pub all : status ≡ 0 → AllTold
       pub bad : status ≡ 2 → ToldUpToBad

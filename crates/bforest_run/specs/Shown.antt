@@ -9,36 +9,36 @@ use Rattle.std.specs.Fmt.{decimal}
 use Rattle.std.specs.Prelude.{Bool, Err, List, None, Ok, Option, Result, Some, [], codes, false, true, ◌++◌, ◌∷◌, ℕ}
 
 module _ {X : Type 0} (text : X → List ℕ) where
-  -- texts, each after a space
+  -- texts, each after one space
   abbrev pub more_texts : List X → List ℕ
   more_texts [] = []
   more_texts (x ∷ xs) = codes " " ++ text x ++ more_texts xs
 
-  -- texts, with a space between them
+  -- texts, with one space between them
   abbrev pub texts : List X → List ℕ
   texts [] = []
   texts (x ∷ xs) = text x ++ more_texts xs
 
--- whether it is so
+-- the text of a truth value
 abbrev pub truth_text : Bool → List ℕ
 truth_text true = codes "true"
 truth_text false = codes "false"
 
--- a number, if there is one
+-- the text of an optional number
 abbrev pub number_text : Option ℕ → List ℕ
 number_text (Some n) = decimal n
 number_text None = codes "none"
 
--- why there is no node
+-- the text of a refusal of a node
 abbrev pub refusal_text : OutOfMemory → List ℕ
 refusal_text Memory = codes "memory"
 refusal_text Full = codes "full"
 
--- the levels of a tree, and the counts of the table
+-- the text of the levels of a tree and the counts of the table
 abbrev pub counts_text : (levels slots free : ℕ) → List ℕ
 counts_text levels slots free = codes "levels " ++ decimal levels ++ codes " slots " ++ decimal slots ++ codes " free " ++ decimal free
 
--- Maps: a key and its value, with a colon between them.
+-- Texts for maps: an entry is its key and its value, with a colon between them.
 abbrev pub entry_text : ℕ × ℕ → List ℕ
 entry_text e = decimal e.0 ++ codes ":" ++ decimal e.1
 
@@ -71,7 +71,7 @@ map_text answer.Dead = codes "dead"
 map_text answer.Unordered = codes "unordered"
 map_text answer.NotOffered = codes "not offered"
 
--- Sets: a key, and for a value whether it is there.
+-- Texts for sets: an entry is its key, and a value is whether the key is present.
 abbrev pub key_text : ℕ × Unit {0} → List ℕ
 key_text e = decimal e.0
 

@@ -3,7 +3,7 @@ use Rattle.bforest_run.specs.declared.stop.Stop.TheVariants.{BadLine, InputOutpu
 use Rattle.bforest_run.specs.declared.stop.Stop.{Stop}
 use Rattle.std.specs.Prelude.{Err, Ok, Result, ℕ}
 
--- the status of a run that ended so
+-- the status of a run with this result
 abbrev pub status_of : Result (Unit {0}) Stop → ℕ
 status_of (Ok done) = 0
 status_of (Err BadLine) = 2

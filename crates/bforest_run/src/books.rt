@@ -1,4 +1,4 @@
-//! Books, and what they answer lines.
+//! Books, and their answers to lines.
 ghost use Rattle.bforest_run.specs.Bookings.{BookTells, IsBadForBooks, TellsBooks};
 ghost use Rattle.std.specs.Prelude.{IfOk, string_bytes};
 
@@ -8,7 +8,7 @@ use crate::shown_books::{Booked, Cancelled, Held};
 use interval_books::Books;
 use std::alloc::{AllocError, Global};
 
-/// The text that a line is answered.
+/// The text of the answer to a line.
 fn tell(books: &mut Books, alloc: Global, line: BookLine) -> Result<String, AllocError>
     ensures { IfOk result (λ text. TellsBooks books.old line (string_bytes text) books.new) }
 {

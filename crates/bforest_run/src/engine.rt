@@ -1,17 +1,17 @@
-//! What answers lines.
+//! The interface of what answers lines.
 ghost use Rattle.std.specs.Prelude.{IfNone, IfOk, IfSome, List, map, string_bytes, ◌≡◌, ℕ};
 
 use std::alloc::{AllocError, Global};
 
-/// What answers the words of lines, one line after another.
+/// An engine that answers the words of lines, one line after another.
 pub(crate) trait Engine: Drop {
-    /// The text that these words may be answered, and what it leaves.
+    /// Whether these words may have this text as answer, and leave this engine.
     ghost tells: { Self → List (List ℕ) → List ℕ → Self → Type 0 };
 
-    /// These words spell no line.
+    /// Whether these words spell no line.
     ghost is_bad: { List (List ℕ) → Type 0 };
 
-    /// The text that the words are answered, or nothing where they spell no line.
+    /// The text of the answer to the words, or `None` where they spell no line.
     fn answer(&mut self, alloc: Global, words: &[&str]) -> Result<Option<String>, AllocError>
         ensures answered { IfOk result (λ given. IfSome given (λ text.
             tells self.old (map (λ w. w.now) words.now) (string_bytes text) self.new)) }

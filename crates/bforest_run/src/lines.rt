@@ -4,8 +4,8 @@ ghost use Rattle.std.specs.Iterator.{YieldsFirstRef, item_count};
 ghost use Rattle.std.specs.List.{slice_split};
 ghost use Rattle.std.specs.Prelude.{length, position, ◌+◌, ◌==◌, ◌∷◌, ◌≡◌, ◌≤◌};
 
-/// The lines of some bytes, without their ends. A line ends at a line feed or at the end of the bytes, and a carriage return right
-/// before that is a part of its end.
+/// The lines of some bytes, without their ends. A line ends at a line feed or at the end of the bytes, and a carriage return right before
+/// that is part of the end.
 #[derive(Drop)]
 pub(crate) struct Lines<'a> {
     rest: Option<&'a [u8]>,
@@ -36,7 +36,7 @@ impl<'a> Iterator for Lines<'a> {
     }
 }
 
-/// What stands before the first line feed, and what follows it.
+/// The bytes before the first line feed, and those behind it.
 fn first_part(bytes: &[u8]) -> (&[u8], Option<&[u8]>)
     ensures { slice_split (λ b. b == 10) bytes.now ≡ result.0.now ∷ parts_left result.1 }
 {

@@ -1,4 +1,4 @@
-//! Maps with their handles, and what they answer lines.
+//! Maps with their handles, and their answers to lines.
 ghost use Rattle.bforest.specs.Forest.{IsLive, empty, free_of, sizes_of, slots_of};
 ghost use Rattle.bforest_calls.specs.Machine.{Live, State, Step, number_at};
 ghost use Rattle.bforest_run.specs.Answers.{IsBadForMaps, MapTells, Tells, all_orders, at_start};
@@ -19,7 +19,7 @@ use std::alloc::{AllocError, Global};
 use std::array;
 use std::marker::Model;
 
-/// The maps that lines speak of.
+/// The maps that lines name.
 #[derive(Drop)]
 pub(crate) struct Maps {
     forest: MapForest<u32, u32>,
@@ -33,7 +33,7 @@ impl Model for Maps {
 }
 
 impl Maps {
-    /// An empty forest of at most so many slots, and empty handles.
+    /// An empty forest of at most `limit` slots, and empty handles.
     pub(crate) fn new(alloc: Global, limit: u32) -> Maps
         ensures { result ≡ at_start limit }
     {
@@ -43,7 +43,7 @@ impl Maps {
         }
     }
 
-    /// The text that a line is answered.
+    /// The text of the answer to a line.
     fn tell(&mut self, alloc: Global, line: Line<u32>) -> Result<String, AllocError>
         ensures { IfOk result (λ text. Tells 7 true map_text self.old line (string_bytes text) self.new) }
     {
@@ -88,7 +88,7 @@ impl Maps {
         format!(in alloc; "{counts}")
     }
 
-    /// The handle with this index. One past the last is empty.
+    /// The handle with this index. A handle past the last one is empty.
     fn handle(&self, h: usize) -> Map<u32, u32>
         ensures { result ≡ number_at self.now h }
     {

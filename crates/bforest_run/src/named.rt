@@ -10,7 +10,7 @@ use std::alloc::{AllocError, Global};
 
 /// A value that a word of a list names.
 pub(crate) trait Named: Drop {
-    /// What a word names.
+    /// The value that a word names, if it names one.
     ghost named: { List ℕ → Option Self };
 
     /// The value that the word names, if there is one.
@@ -103,7 +103,7 @@ impl Named for Act<u32, ()> {
     }
 }
 
-/// A step of a reading cursor that has a part behind its `=`.
+/// The step of a reading cursor with this name, and this part behind its `=`.
 fn look_with(name: &str, part: &str) -> Option<Look<u32>>
     ensures { result ≡ look_with name.now part.now }
 {
@@ -113,7 +113,7 @@ fn look_with(name: &str, part: &str) -> Option<Look<u32>>
     }
 }
 
-/// A step of a cursor that writes in maps, with a part behind its `=`.
+/// The step of a cursor that writes in maps, with this name, and this part behind its `=`.
 fn map_act_with(name: &str, part: &str) -> Option<Act<u32, u32>>
     ensures { result ≡ map_act_with name.now part.now }
 {
@@ -128,7 +128,7 @@ fn map_act_with(name: &str, part: &str) -> Option<Act<u32, u32>>
     }
 }
 
-/// A step of a cursor that writes in sets, with a part behind its `=`.
+/// The step of a cursor that writes in sets, with this name, and this part behind its `=`.
 fn set_act_with(name: &str, part: &str) -> Option<Act<u32, ()>>
     ensures { result ≡ set_act_with name.now part.now }
 {
@@ -139,7 +139,7 @@ fn set_act_with(name: &str, part: &str) -> Option<Act<u32, ()>>
     }
 }
 
-/// `K:V`
+/// The key and the value of a word `K:V`.
 fn entry(word: &str) -> Option<(u32, u32)>
     ensures { result ≡ colon_pair_of word.now }
 {
@@ -147,14 +147,14 @@ fn entry(word: &str) -> Option<(u32, u32)>
     Some((number(key)?, number(value)?))
 }
 
-/// What stands before the first `=`, and what stands behind it.
+/// The text before the first `=`, and the text behind it.
 fn cut(word: &str) -> Option<(&str, &str)>
     ensures { option_map (λ parts. (parts.0.now, parts.1.now)) result ≡ cut_at 61 word.now }
 {
     word.split_once('=')
 }
 
-/// What stands before the first colon, and what stands behind it.
+/// The text before the first colon, and the text behind it.
 fn cut_at_colon(word: &str) -> Option<(&str, &str)>
     ensures { option_map (λ parts. (parts.0.now, parts.1.now)) result ≡ cut_at 58 word.now }
 {

@@ -15,7 +15,7 @@ pub(crate) enum Order {
     Tens,
 }
 
-/// The orders, by the index that calls name them with.
+/// The orders, by the index that calls use for them.
 pub(crate) const ORDERS: [Order; 3] = [Order::Up, Order::Down, Order::Tens];
 
 impl Comparator<u32> for Order {

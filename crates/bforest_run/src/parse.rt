@@ -1,4 +1,4 @@
-//! What the words of a line spell.
+//! The lines that words spell.
 ghost use Rattle.bforest_run.specs.Grammar.{Reads, SaysEdit, SaysMap, SaysRange, SaysRead, SaysRetainMap, SaysRetainSet, SaysSet, SpellsMap, SpellsSet};
 ghost use Rattle.bforest_run.specs.Grammar.{all_of, entry_of, keyed_of, lone_of, map_act_of, set_act_of, pair_of, range_of, retained_map_of, retained_set_of, script_of, side_of, simple_of, verbs};
 ghost use Rattle.bforest_calls.specs.declared.call.Call.TheVariants as call;
@@ -36,7 +36,7 @@ pub(crate) fn verb_named(word: &str) -> Option<Verb>
     }
 }
 
-/// The line that the words behind its verb spell, if it has no list and maps and sets share it.
+/// The line that the words behind its verb spell, if it has no list and is the same for maps and sets.
 pub(crate) fn simple<V: Copy>(verb: Verb, words: &[&str]) -> Option<Line<V>>
     ensures { result ≡ simple_of verb (map (λ w. w.now) words.now) }
 {
@@ -66,7 +66,7 @@ pub(crate) fn simple<V: Copy>(verb: Verb, words: &[&str]) -> Option<Line<V>>
     }
 }
 
-/// `H`
+/// The handle of the words `H`.
 fn lone(words: &[&str]) -> Option<usize>
     ensures { result ≡ lone_of (map (λ w. w.now) words.now) }
 {
@@ -76,7 +76,7 @@ fn lone(words: &[&str]) -> Option<usize>
     handle_named(handle)
 }
 
-/// `H O K`
+/// The handle, the order and the key of the words `H O K`.
 pub(crate) fn keyed(words: &[&str]) -> Option<(usize, usize, u32)>
     ensures { result ≡ keyed_of (map (λ w. w.now) words.now) }
 {
@@ -86,7 +86,7 @@ pub(crate) fn keyed(words: &[&str]) -> Option<(usize, usize, u32)>
     Some((handle_named(handle)?, order_named(order)?, number(key)?))
 }
 
-/// `I J`
+/// The handles of the words `I J`.
 fn pair(words: &[&str]) -> Option<(usize, usize)>
     ensures { result ≡ pair_of (map (λ w. w.now) words.now) }
 {
@@ -96,7 +96,7 @@ fn pair(words: &[&str]) -> Option<(usize, usize)>
     Some((handle_named(from)?, handle_named(to)?))
 }
 
-/// The words `H O STEP ..`, with one step at least.
+/// The words `H O STEP ..`, with at least one step.
 pub(crate) fn script<T: Named>(
     alloc: Global,
     words: &[&str],
@@ -123,7 +123,7 @@ pub(crate) fn script<T: Named>(
 /// The bounds and the ends of a range, with the indices of its handle and its order.
 type Ranged = (usize, usize, Bound<u32>, Bound<u32>, Vec<Side>);
 
-/// `H O LO HI ENDS`
+/// The range that the words `H O LO HI ENDS` spell.
 fn ranged(alloc: Global, words: &[&str]) -> Result<Option<Ranged>, AllocError>
     ensures { IfOk result (λ o. option_map (λ r. (r.0, r.1, r.2, r.3, r.4.items)) o
         ≡ range_of (map (λ w. w.now) words.now)) }
@@ -169,7 +169,7 @@ fn sides(alloc: Global, word: &str) -> Result<Option<Vec<Side>>, AllocError>
     Ok(Some(sides))
 }
 
-/// An end of a range: `f` or `b`.
+/// The end of a range that a letter names: `f` or `b`.
 fn side_named(letter: u8) -> Option<Side>
     ensures { result ≡ side_of letter }
 {
@@ -180,7 +180,7 @@ fn side_named(letter: u8) -> Option<Side>
     }
 }
 
-/// The line that the words spell, for maps, or nothing where it is bad.
+/// The line that the words spell, for maps, or `None` where it is bad.
 pub(crate) fn map_line(alloc: Global, words: &[&str]) -> Result<Option<Line<u32>>, AllocError>
     ensures { IfOk result (Reads (SpellsMap (map (λ w. w.now) words.now))) }
 {
@@ -253,7 +253,7 @@ fn set_editing(alloc: Global, words: &[&str]) -> Result<Option<Line<()>>, AllocE
     Ok(Some(Line::Made(Call::Edit { h, c, steps })))
 }
 
-/// `H O V K ..`
+/// The handle, the order, the value and the keys of the words `H O V K ..`.
 fn map_retained(
     alloc: Global,
     words: &[&str],
@@ -287,7 +287,7 @@ fn map_retaining(alloc: Global, words: &[&str]) -> Result<Option<Line<u32>>, All
     Ok(Some(Line::Made(Call::Retain { h, c, keys, put })))
 }
 
-/// The line that the words spell, for sets, or nothing where it is bad.
+/// The line that the words spell, for sets, or `None` where it is bad.
 pub(crate) fn set_line(alloc: Global, words: &[&str]) -> Result<Option<Line<()>>, AllocError>
     ensures { IfOk result (Reads (SpellsSet (map (λ w. w.now) words.now))) }
 {
@@ -322,7 +322,7 @@ fn set_insertion(words: &[&str]) -> Option<Line<()>>
     Some(Line::Made(Call::Insert { h, c, k, v: () }))
 }
 
-/// `H O K ..`
+/// The handle, the order and the keys of the words `H O K ..`.
 fn set_retained(
     alloc: Global,
     words: &[&str],

@@ -5,7 +5,7 @@
 pub(crate) enum Reply {
     /// The line has no words.
     Skipped,
-    /// The text of its answer.
+    /// The line is answered by this text.
     Told(String),
     /// The line is bad.
     Bad,

@@ -1,4 +1,4 @@
-//! Sets with their handles, and what they answer lines.
+//! Sets with their handles, and their answers to lines.
 ghost use Rattle.bforest.specs.Forest.{IsLive, empty, free_of, sizes_of, slots_of};
 ghost use Rattle.bforest_calls.specs.Machine.{Live, State, Step, number_at};
 ghost use Rattle.bforest_run.specs.Answers.{IsBadForSets, SetTells, Tells, all_orders, at_start};
@@ -19,7 +19,7 @@ use std::alloc::{AllocError, Global};
 use std::array;
 use std::marker::Model;
 
-/// The sets that lines speak of.
+/// The sets that lines name.
 #[derive(Drop)]
 pub(crate) struct Sets {
     forest: SetForest<u32>,
@@ -33,7 +33,7 @@ impl Model for Sets {
 }
 
 impl Sets {
-    /// An empty forest of at most so many slots, and empty handles.
+    /// An empty forest of at most `limit` slots, and empty handles.
     pub(crate) fn new(alloc: Global, limit: u32) -> Sets
         ensures { result ≡ at_start limit }
     {
@@ -43,7 +43,7 @@ impl Sets {
         }
     }
 
-    /// The text that a line is answered.
+    /// The text of the answer to a line.
     fn tell(&mut self, alloc: Global, line: Line<()>) -> Result<String, AllocError>
         ensures { IfOk result (λ text. Tells 15 false set_text self.old line (string_bytes text) self.new) }
     {
@@ -89,7 +89,7 @@ impl Sets {
         format!(in alloc; "{counts}")
     }
 
-    /// The handle with this index. One past the last is empty.
+    /// The handle with this index. A handle past the last one is empty.
     fn handle(&self, h: usize) -> Set<u32>
         ensures { result ≡ number_at self.now h }
     {

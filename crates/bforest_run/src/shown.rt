@@ -1,11 +1,11 @@
-//! Words of answers that maps and sets share.
+//! Parts of answers that maps and sets share.
 ghost use Rattle.bforest_run.specs.Shown.{counts_text, number_text, refusal_text, truth_text};
 ghost use Rattle.std.specs.Prelude.{Some};
 
 use bforest::OutOfMemory;
 use std::fmt;
 
-/// Whether it is so.
+/// A truth value.
 #[derive(Clone, Copy)]
 pub(crate) struct Truth(pub(crate) bool);
 
@@ -35,7 +35,7 @@ impl fmt::Display for Maybe {
     }
 }
 
-/// Why an insertion has no node.
+/// Why an insertion got no node.
 #[derive(Clone, Copy)]
 pub(crate) struct Refusal(pub(crate) OutOfMemory);
 
@@ -50,7 +50,7 @@ impl fmt::Display for Refusal {
     }
 }
 
-/// The levels of a tree, and the slots of the table, with those that lie free.
+/// The number of levels of a tree, of slots of the table, and of free slots.
 #[derive(Clone, Copy)]
 pub(crate) struct Counts {
     pub(crate) levels: usize,

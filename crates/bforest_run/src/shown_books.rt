@@ -6,7 +6,7 @@ use crate::shown::Refusal;
 use interval_books::BookError;
 use std::fmt;
 
-/// What a booking was answered.
+/// The answer to a booking.
 #[derive(Clone, Copy)]
 pub(crate) struct Booked(pub(crate) Result<(), BookError>);
 
@@ -21,7 +21,7 @@ impl fmt::Display for Booked {
     }
 }
 
-/// What a cancellation was answered.
+/// The answer to a cancellation.
 #[derive(Clone, Copy)]
 pub(crate) struct Cancelled(pub(crate) Result<u64, BookError>);
 
@@ -36,7 +36,7 @@ impl fmt::Display for Cancelled {
     }
 }
 
-/// Which booking contains a moment.
+/// The booking that contains a moment, if there is one.
 #[derive(Clone, Copy)]
 pub(crate) struct Held(pub(crate) Result<Option<(u64, u64)>, BookError>);
 

@@ -30,7 +30,7 @@ impl fmt::Display for Shown<'_> {
     }
 }
 
-/// What a step saw.
+/// The answer of a step.
 #[derive(Clone, Copy)]
 struct Sight<'a>(&'a Seen<u32, u32>);
 
@@ -49,7 +49,7 @@ impl fmt::Display for Sight<'_> {
     }
 }
 
-/// What an insertion answered.
+/// The answer of an insertion.
 #[derive(Clone, Copy)]
 struct Put(Result<Option<u32>, OutOfMemory>);
 
@@ -123,7 +123,7 @@ impl fmt::Display for MoreEntries<'_> {
     }
 }
 
-/// What steps saw, with one space between them.
+/// The answers of steps, with one space between them.
 #[derive(Clone, Copy)]
 struct Sights<'a>(&'a [Seen<u32, u32>]);
 
@@ -138,7 +138,7 @@ impl fmt::Display for Sights<'_> {
     }
 }
 
-/// What steps saw, with one space before each.
+/// The answers of steps, with one space before each.
 #[derive(Clone, Copy)]
 struct MoreSights<'a>(&'a [Seen<u32, u32>]);
 

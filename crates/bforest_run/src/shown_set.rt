@@ -30,7 +30,7 @@ impl fmt::Display for Shown<'_> {
     }
 }
 
-/// What a step saw.
+/// The answer of a step.
 #[derive(Clone, Copy)]
 struct Sight<'a>(&'a Seen<u32, ()>);
 
@@ -49,7 +49,7 @@ impl fmt::Display for Sight<'_> {
     }
 }
 
-/// What an insertion answered.
+/// The answer of an insertion.
 #[derive(Clone, Copy)]
 struct Put(Result<Option<()>, OutOfMemory>);
 
@@ -65,7 +65,7 @@ impl fmt::Display for Put {
     }
 }
 
-/// Whether a key is there.
+/// Whether a key is present.
 #[derive(Clone, Copy)]
 struct Present(Option<()>);
 
@@ -138,7 +138,7 @@ impl fmt::Display for MoreEntries<'_> {
     }
 }
 
-/// What steps saw, with one space between them.
+/// The answers of steps, with one space between them.
 #[derive(Clone, Copy)]
 struct Sights<'a>(&'a [Seen<u32, ()>]);
 
@@ -153,7 +153,7 @@ impl fmt::Display for Sights<'_> {
     }
 }
 
-/// What steps saw, with one space before each.
+/// The answers of steps, with one space before each.
 #[derive(Clone, Copy)]
 struct MoreSights<'a>(&'a [Seen<u32, ()>]);
 

@@ -1,4 +1,4 @@
-//! Lines in, lines out.
+//! The run of an input of lines to an output of lines.
 ghost use Rattle.bforest_run.specs.Answers.{IsBadForMaps, IsBadForSets, MapTells, SetTells, at_start};
 ghost use Rattle.bforest_run.specs.Bookings.{AreNew, BookTells, IsBadForBooks};
 ghost use Rattle.bforest_run.specs.Output.{AppendsBeginning, Grows};
@@ -18,21 +18,21 @@ use interval_books::Books;
 use std::alloc::{AllocError, Global};
 use std::io::{ErrorKind, Read, Write};
 
-/// What the lines speak of.
+/// The subject of the lines.
 #[derive(Clone, Copy, Debug, PartialEq, Eq)]
 pub enum Kind {
     /// Maps of numbers to numbers.
     Map,
     /// Sets of numbers.
     Set,
-    /// Bookings of so many resources by intervals of time. The limit on nodes does not hold for them.
+    /// Bookings of this number of resources by intervals of time. The limit on nodes does not hold for them.
     Books(u32),
 }
 
-/// How many calls a read of the whole input, and a write of one line, may take.
+/// The number of calls that a read of the whole input, and a write of one line, may take.
 const CALLS: u32 = 1048576;
 
-/// How many bytes a call of `read` asks for.
+/// The number of bytes that a call of `read` asks for.
 const PIECE: usize = 4096;
 
 /// Reads lines, answers each in turn, and returns the status.
@@ -44,10 +44,10 @@ const PIECE: usize = 4096;
 ///
 /// - 0: every line was answered.
 /// - 2: a line was bad. Its answer is `line N: bad`, and no later line is answered.
-/// - 3: memory ran out for the input or for an answer. What was written is whole lines, the first ones. (An insertion that finds no
-///   memory for a node is no status: it is answered `memory`.) Or it ran out for the handles of books: then nothing was read or written.
-/// - 4: a read failed, and then nothing was written; or a write failed, and then what was written is a beginning of the output. A read
-///   has failed too where 1048576 calls have not met the end of the input, and a write where it takes no byte or where 1048576 calls
+/// - 3: memory ran out for the input or for an answer. The output is whole lines, the first ones. (An insertion that finds no
+///   memory for a node is no status: its answer is `memory`.) Or memory ran out for the handles of books: then nothing is read or written.
+/// - 4: a read failed, and nothing was written; or a write failed, and what was written is a beginning of the output. A read
+///   also fails where 1048576 calls have not met the end of the input, and a write where it takes no byte or where 1048576 calls
 ///   have not taken a whole line.
 pub fn run_text<R: Read, W: Write>(
     alloc: Global,
@@ -63,7 +63,7 @@ pub fn run_text<R: Read, W: Write>(
     ensures read_first { (IsAtEnd (R.remaining input.new) → ⊥)
         → W.contents output.new ≡ W.contents output.old }
 
-    // What the output held stays at its front.
+    // The old content of the output stays at its front.
     ensures grows { Grows (W.contents output.old) (W.contents output.new) }
 
     // The lines are answered in turn up to the first bad one, each call as one step of the machine.
@@ -84,7 +84,7 @@ pub fn run_text<R: Read, W: Write>(
     }
 }
 
-/// Has each line of the input answered by books of so many resources, and returns the status.
+/// Answers each line of the input by books of `count` resources, and returns the status.
 fn run_books<R: Read, W: Write>(alloc: Global, count: u32, input: &mut R, output: &mut W) -> u8
     ensures status { (result ≤ 4) × (result ≢ 1) }
     ensures whole { result ≤ 2 → IsAtEnd (R.remaining input.new) }
@@ -101,7 +101,7 @@ fn run_books<R: Read, W: Write>(alloc: Global, count: u32, input: &mut R, output
     }
 }
 
-/// Has each line of the input answered, and returns the status.
+/// Answers each line of the input, and returns the status.
 fn run<E: Engine, R: Read, W: Write>(
     alloc: Global,
     engine: &mut E,
@@ -165,7 +165,7 @@ fn answer_lines<E: Engine, W: Write>(
     Ok(())
 }
 
-/// Answers a line. One without words has no answer.
+/// Answers a line. A line without words has no answer.
 fn answer_line<E: Engine, W: Write>(
     alloc: Global,
     engine: &mut E,

@@ -10,17 +10,17 @@ ghost use Rattle.std.specs.Str.Parse.{digits_value};
 use std::alloc::{AllocError, Global};
 use std::ops::Bound;
 
-/// How many handles lines can name.
+/// The number of handles that lines can name.
 pub(crate) const HANDLE_COUNT: usize = 8;
 
-/// The words of a line: what stands between its spaces.
+/// The words of a line: the parts between its spaces.
 pub(crate) fn words_in(alloc: Global, line: &str) -> Result<Vec<&str>, AllocError>
     ensures { IfOk result (λ words. map (λ w. w.now) words.items ≡ words_of line.now) }
 {
     line.split(' ').filter(|word| is_word(word)).collect(alloc)
 }
 
-/// Whether something stands there.
+/// Whether a part is not empty.
 fn is_word(part: &str) -> bool
     ensures { result ≡ not (length part.now == 0) }
 {
@@ -49,7 +49,7 @@ pub(crate) fn order_named(word: &str) -> Option<usize>
     }
 }
 
-/// A value, or `-` for none.
+/// A value, or `-` for no value.
 pub(crate) fn put_named(word: &str) -> Option<Option<u32>>
     ensures { result ≡ put_of word.now }
 {
@@ -97,7 +97,7 @@ pub(crate) fn time(word: &str) -> Option<u64>
     word.parse().ok()
 }
 
-/// Whether there are only digits.
+/// Whether a word has only digits.
 fn is_digits(word: &str) -> bool
     ensures { result ≡ list_all is_ascii_digit word.now }
 {

@@ -1,4 +1,5 @@
-//! Tests of `bforest_run`: numbers, sets, and readers and writers that fail. The cases of lines are files, which the program `forest_run` answers.
+//! Tests of `bforest_run`: numbers, sets, and readers and writers that fail. The lines and answers of the program `forest_run` are tested
+//! from files.
 #![tactic(auto)]
 
 #[cfg(test)]

@@ -1,4 +1,4 @@
-//! Numbers of lines.
+//! Tests of the numbers that words spell.
 
 use bforest_run::number;
 

@@ -1,4 +1,4 @@
-//! Lines about sets.
+//! Tests of lines about sets.
 
 use crate::streams::{Sink, Source};
 use bforest_run::{Kind, run_text};

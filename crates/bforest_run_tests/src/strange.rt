@@ -1,4 +1,4 @@
-//! Readers and writers that fail.
+//! Tests with readers and writers that fail.
 
 use crate::streams::{Fault, Sink, Source};
 use bforest_run::{Kind, run_text};
@@ -31,7 +31,7 @@ fn a_reader_that_is_always_interrupted_is_asked_so_often(rt: HostRuntime) {
 
 #[test]
 fn each_read_asks_for_4096_bytes_at_least(rt: HostRuntime) {
-    // Of no words, in pieces of 3 bytes and as many as there is room for.
+    // Spaces alone, in pieces of 3 bytes and of any length.
     let blank = [b' '; 9000];
     for most in [3, usize::MAX] {
         let mut input = Source::of(&blank);

@@ -3,7 +3,7 @@ ghost use Rattle.std.specs.Prelude.{IfOk, ◌≡◌, ◌≤◌};
 
 use std::io::{self, ErrorKind, Read, Write};
 
-/// What a stream does from its call `at` on, or at that call alone.
+/// The behavior of a stream from its call `at` on, or at that call alone.
 #[derive(Clone, Copy, PartialEq, Eq)]
 pub(crate) enum Fault {
     Fails,
@@ -22,7 +22,7 @@ impl Fault {
     }
 }
 
-/// Gives its bytes, at most so many a call, up to its fault.
+/// A reader that gives its bytes, at most a given number per call, up to its fault.
 #[derive(Drop)]
 pub(crate) struct Source<'a> {
     pub(crate) bytes: &'a [u8],
@@ -30,12 +30,12 @@ pub(crate) struct Source<'a> {
     pub(crate) fault: Fault,
     pub(crate) at: usize,
     pub(crate) calls: usize,
-    /// The fewest bytes that a call asked for.
+    /// The least number of bytes that a call asked for.
     pub(crate) least: usize,
 }
 
 impl<'a> Source<'a> {
-    /// A source without fault.
+    /// A source without a fault.
     pub(crate) fn of(bytes: &'a [u8]) -> Source<'a> {
         Source::with_fault(bytes, Fault::Fails, usize::MAX)
     }
@@ -68,10 +68,10 @@ impl Read for Source<'_> {
     }
 }
 
-/// How much a sink holds.
+/// The number of bytes that a sink can hold.
 pub(crate) const PAPER: usize = 512;
 
-/// Takes two bytes a call, up to its fault, while it has room.
+/// A writer that takes two bytes per call, up to its fault, while it has room.
 #[derive(Drop)]
 pub(crate) struct Sink {
     paper: [u8; PAPER],
@@ -83,7 +83,7 @@ pub(crate) struct Sink {
 }
 
 impl Sink {
-    /// A sink without fault.
+    /// A sink without a fault.
     pub(crate) fn new() -> Sink {
         Sink::with_fault(Fault::Fails, usize::MAX)
     }
@@ -99,7 +99,7 @@ impl Sink {
         }
     }
 
-    /// What was written.
+    /// The bytes that were written.
     pub(crate) fn written(&self) -> &[u8] {
         &self.paper[..self.len]
     }
@@ -122,7 +122,7 @@ impl Write for Sink {
     }
 }
 
-/// What a faulty call answers.
+/// The result of a faulty call.
 fn faulty(fault: Fault) -> io::Result<usize>
     ensures { IfOk result (λ count. count ≡ 0) }
 {

@@ -1,9 +1,9 @@
--- What was taken from both ends of a list, and what is left.
+-- The entries taken from both ends of a list, and those left.
 use Rattle.std.proofs.Common.{List, [], ap, append_assoc, refl, reverse, subst, sym, ◌++◌, ◌∙◌, ◌≡◌, ◌∷◌}
 use Rattle.std.proofs.lemmas.List.{reverse-append}
 
 module _ {X : Type 0} (all : List X) where
-  -- what came from the front, what is left, and what came from the back make up the list
+  -- the elements from the front, those left, and those from the back, reversed, make up the list
   abbrev pub Parts : List X → List X → List X → Type 0
   Parts front left back = all ≡ front ++ left ++ reverse back
 
@@ -22,6 +22,6 @@ module _ {X : Type 0} (all : List X) where
       p ∙ (λ j. front ++ e j ++ reverse back) ∙ ap (λ z. z ++ reverse back) (sym (append_assoc front left' (x ∷ []))) ∙ append_assoc (front ++ left') (x ∷ []) (reverse back)
       ∙ ap (λ z. front ++ left' ++ z) (sym (reverse-append back (x ∷ [])))
 
-  -- the same parts
+  -- equal parts make up the list too
   pub parts-same : (front front' left left' back back' : List X) → front' ≡ front → left' ≡ left → back' ≡ back → Parts front left back → Parts front' left' back'
   parts-same front front' left left' back back' f l b p = p ∙ sym (λ j. f j ++ l j ++ reverse (b j))

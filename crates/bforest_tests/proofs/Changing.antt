@@ -1,4 +1,4 @@
--- What a cursor's loop leaves of its map, from step to step.
+-- The steps of a loop over a cursor, as changes of its map.
 use Rattle.bforest.proofs.Becoming.{becomes-both}
 use Rattle.bforest.specs.Cursor.{Goes, IsCursor, Moves, entries, forest_now, map_now, spot}
 use Rattle.bforest.specs.Forest.{Becomes, Forest, IsLive, list_of}
@@ -8,7 +8,7 @@ use Rattle.std.proofs.lemmas.Option.{slice_get_cases, slice_get_within}
 use Rattle.std.specs.declared.cmp.Ordering.{Ordering}
 
 module _ {X : Type 0} where
-  -- where there is a next entry, and where there is none
+  -- an index is in range exactly where it has an element
   pub is-within : (o : Option X) (es : List X) (i : ℕ) → o ≡ slice_get es i → is_some o ≡ true → i < length es
   is-within None es i is some = absurd (cc)
   is-within (Some x) es i is some = slice_get_within es i x (sym is)
@@ -21,7 +21,7 @@ module _ {X : Type 0} where
   ]
 
 module _ {K X C : Type 0} (order : C → K → K → Ordering) where
-  -- c became d, by changes of its own map alone
+  -- c became d by changes of its own map alone
   pub record Changed (c d : MapCursorMut K X C) : Type 0 where
     pub goes : Goes order c d (spot d)
     pub becomes : Becomes (forest_now c) (map_now c) (forest_now d) (map_now d) (entries d)
@@ -64,7 +64,7 @@ module _ {K X C : Type 0} (order : C → K → K → Ordering) where
     becomes = becomes-moved (forest_now c) (map_now c) (forest_now d) (forest_now e) (map_now d) (map_now e) m.forest m.map before.becomes;
   }
 
-  -- and a change makes one of both
+  -- two changes of a cursor's map are one change
   pub changed-again : (c d e : MapCursorMut K X C) (p : ℕ) (es : List (K × X)) → Changed c d → Goes order d e p → Becomes (forest_now d) (map_now d) (forest_now e) (map_now e) es → Changed c e
   changed-again c d e p es before goes b = record {
     goes = gone-on c d e p before goes;
@@ -72,15 +72,15 @@ module _ {K X C : Type 0} (order : C → K → K → Ordering) where
         (becomes-both (forest_now c) (forest_now d) (forest_now e) (map_now c) (map_now d) (map_now e) (entries d) es before.becomes b);
   }
 
-  -- the list that a changed cursor has
+  -- a changed cursor with the list es has changed its map to es
   pub becomes-list : (c d : MapCursorMut K X C) (es : List (K × X)) → Changed c d → entries d ≡ es → Becomes (forest_now c) (map_now c) (forest_now d) (map_now d) es
   becomes-list c d es t e = subst (λ (l : List (K × X)). Becomes (forest_now c) (map_now c) (forest_now d) (map_now d) l) e t.becomes
 
-  -- a step on to the next entry, where there is one, goes there
+  -- a step to the next entry, if there is one, goes there
   pub goes-next : (d e : MapCursorMut K X C) → Moves order d e (min (spot d + 1) (length (entries d))) → spot d + 1 < length (entries d) → spot e ≡ suc (spot d)
   goes-next d e m more = m.goes.spot ∙ omega (arith, more)
 
-  -- what map and forest hold when the cursor's loop has ended
+  -- the map and the forest after the loop of a cursor
   pub loop-ended : (f g : Forest K X) (h i : Option ℕ) (P : List (K × X) → List (K × X)) (made first last : MapCursorMut K X C) (p : ℕ) → forest_now made ≡ f → map_now made ≡ h → Moves order made first p
       → Becomes (forest_now first) (map_now first) (forest_now last) (map_now last) (P (entries first)) → g ≡ forest_now last → i ≡ map_now last → Becomes f h g i (P (list_of f h))
   loop-ended f g h i P made first last p forest map m b here there =

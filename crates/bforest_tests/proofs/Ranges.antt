@@ -1,4 +1,4 @@
--- A loop that joins ranges, at a cursor's place.
+-- A loop that joins ranges, at the place of a cursor.
 use Rattle.bforest.specs.Calls.{RemovesAt}
 use Rattle.bforest.specs.Cursor.{Goes, IsCursor, Moves, Writes, entries, forest_now, map_now, spot}
 use Rattle.bforest.specs.Forest.{Becomes, Forest, list_of}
@@ -17,11 +17,11 @@ length-with (x ∷ es) zero w = refl
 length-with (x ∷ es) (suc p) w = ap suc (length-with es p w)
 
 module _ {K : Type 0} (rule : K → K → Ordering) where
-  -- a list whose ranges are joined from a place on, where the range there is this one
+  -- a list whose ranges are joined from place p on, where the range there is `range`
   abbrev pub joined_at : ℕ → K × K → List (K × K) → List (K × K)
   joined_at p range es = take p es ++ joined_from rule range (drop (suc p) es)
 
-  -- at the first range, which ends at `end`
+  -- the range at place p ends at `end`, and joining from there on joins all
   pub record Begun (es : List (K × K)) (p : ℕ) (end : K) : Type 0 where
     pub start : K
     pub here : slice_get es p ≡ Some (start, end)
@@ -34,7 +34,7 @@ module _ {K : Type 0} (rule : K → K → Ordering) where
       go [] e = absurd (cc)
       go (x ∷ xs) e = let same : x.1 ≡ end = cc in record { start = x.0; here = (λ j. Some (x.0, same j)); rest = (λ j. joined_from rule (x.0, sym same j) xs) }
 
-  -- a range that begins elsewhere is the one to go on with
+  -- a range that does not begin at the end of the one before is the next to join
   pub joined-on : (p : ℕ) (es : List (K × K)) (r n : K × K) → slice_get es p ≡ Some r → slice_get es (suc p) ≡ Some n → is_eq (rule r.1 n.0) ≡ false → joined_at (suc p) n es ≡ joined_at p r es
   joined-on zero [] r n is next apart = absurd (cc)
   joined-on zero (x ∷ []) r n is next apart = absurd (cc)
@@ -45,7 +45,7 @@ module _ {K : Type 0} (rule : K → K → Ordering) where
   joined-on (suc p) [] r n is next apart = absurd (cc)
   joined-on (suc p) (x ∷ es) r n is next apart = ap (λ z. x ∷ z) (joined-on p es r n is next apart)
 
-  -- one that begins at the end of the one before is joined to it
+  -- a range that begins at the end of the one before is joined to it
   pub joined-both : (p : ℕ) (es : List (K × K)) (r n : K × K) → slice_get es p ≡ Some r → slice_get es (suc p) ≡ Some n → is_eq (rule r.1 n.0) ≡ true
       → joined_at p (r.0, n.1) (with_value (remove es (suc p)) p n.1) ≡ joined_at p r es
   joined-both zero [] r n is next meet = absurd (cc)
@@ -61,7 +61,7 @@ module _ {K : Type 0} (rule : K → K → Ordering) where
   there-both zero (x ∷ es) r n is more = let here : x ≡ r = cc in (λ j. Some ((here j).0, n.1))
   there-both (suc p) (x ∷ es) r n is more = there-both p es r n is (omega (arith, more))
 
-  -- behind the last range nothing is left to join
+  -- at the last range nothing is left to join
   pub joined-last : (p : ℕ) (es : List (K × K)) (r : K × K) → slice_get es p ≡ Some r → length es ≤ suc p → joined_at p r es ≡ es
   joined-last p [] r is few = absurd (cc)
   joined-last zero (x ∷ []) r is few = let here : x ≡ r = cc in (λ j. sym here j ∷ [])
@@ -69,7 +69,7 @@ module _ {K : Type 0} (rule : K → K → Ordering) where
   joined-last (suc p) (x ∷ es) r is few = ap (λ z. x ∷ z) (joined-last p es r is (omega (arith, few)))
 
 module _ {K C : Type 0} (order : C → K → K → Ordering) (rule : K → K → Ordering) where
-  -- from c the loop has come to d, which stands on a range that ends at `end`
+  -- the loop has gone from c to d, which stands on a range that ends at `end`
   pub record Joins (c d : MapCursorMut K K C) (end : K) : Type 0 where
     pub changed : Changed order c d
     pub start : K
@@ -79,7 +79,7 @@ module _ {K C : Type 0} (order : C → K → K → Ordering) (rule : K → K →
   pub joins-first : (c : MapCursorMut K K C) (end : K) → IsCursor order c → spot c ≡ 0 → value_at_place (entries c) 0 ≡ Some end → Joins c c end
   joins-first c end valid first is = let b = begun rule (entries c) (spot c) end first is in record { changed = unchanged order c valid; start = b.start; here = b.here; rest = b.rest }
 
-  -- one turn
+  -- one step of the loop
   module _ (c d e : MapCursorMut K K C) (end : K) (n : K × K) (next : Moves order d e (min (spot d + 1) (length (entries d)))) (is : Some n ≡ slice_get (entries d) (spot d + 1)) (more : spot d + 1 < length (entries d)) (t : Joins c d end) where
     there : spot e ≡ suc (spot d)
     there = goes-next order d e next more
@@ -113,7 +113,7 @@ module _ {K C : Type 0} (order : C → K → K → Ordering) (rule : K → K →
           rest = (λ j. joined_at rule (back j) (t.start, n.1) (left j)) ∙ joined-both rule (spot d) (entries d) (t.start, end) n t.here there-is meet ∙ t.rest;
         }
 
-    -- less is left
+    -- fewer ranges are left after a step
     pub fewer-on : length (entries e) - spot e < length (entries d) - spot d
     fewer-on = omega (arith, there, more, ap length same)
 
@@ -121,7 +121,7 @@ module _ {K C : Type 0} (order : C → K → K → Ordering) (rule : K → K →
     fewer-both f goes b = omega (arith, there, more, ap length same, goes.spot, ap length b.list, length-with (remove (entries e) (spot e)) (spot e - 1) n.1, length-remove (entries e) (spot e) there-within)
 
 module _ {K C : Type 0} (order : C → K → K → Ordering) where
-  -- the range at c went, and w was written into the one before
+  -- the range at c is removed, and w is written as the end of the one before
   module _ (c d e f : MapCursorMut K K C) (w : K) (gone : RemovesAt 7 (forest_now c) (map_now c) (spot c) (forest_now d) (map_now d)) (goes : Goes order c d (spot c)) (back : Moves order d e (spot d - 1)) (valid : IsCursor order c) where
     left : entries e ≡ remove (entries c) (spot c)
     left = same-entries order d e _ back ∙ gone.removed.list
@@ -146,7 +146,7 @@ module _ {K C : Type 0} (order : C → K → K → Ordering) where
       valid = writes.goes.valid;
     }
 
-    -- there is one before
+    -- there is a range before the one at c
     pub some-before : 0 < spot c → spot c < length (entries c) → None ≡ value_at_place (entries e) (spot e) → ⊥
     some-before second within none = none-there (entries e) (spot e) (omega (arith, second, within, before, ap length left, length-remove (entries c) (spot c) within)) none
       where

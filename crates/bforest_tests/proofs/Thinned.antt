@@ -1,4 +1,4 @@
--- A loop that takes every second entry out, at a cursor's place.
+-- A loop that removes every second entry, at the place of a cursor.
 use Rattle.bforest.specs.Calls.{RemovesAt}
 use Rattle.bforest.specs.Cursor.{Goes, IsCursor, Moves, entries, forest_now, map_now, spot}
 use Rattle.bforest.specs.Forest.{Becomes}
@@ -10,7 +10,7 @@ use Rattle.std.proofs.lemmas.List.Edits.{length-remove}
 use Rattle.std.specs.declared.cmp.Ordering.{Ordering}
 
 module _ {X : Type 0} where
-  -- a list of which every second entry goes from a place on
+  -- a list without every second entry behind place p
   abbrev pub thinned_from : ℕ → List X → List X
   thinned_from p es = take p es ++ every_other (drop p es)
 
@@ -18,7 +18,7 @@ module _ {X : Type 0} where
   thinned-first [] = refl
   thinned-first (x ∷ es) = refl
 
-  -- with one entry or none from there on, all stays
+  -- a list with at most one entry from place p on stays
   pub thinned-last : (p : ℕ) (es : List X) → length es ≤ p + 1 → thinned_from p es ≡ es
   thinned-last zero [] few = refl
   thinned-last zero (x ∷ []) few = refl
@@ -26,7 +26,7 @@ module _ {X : Type 0} where
   thinned-last (suc p) [] few = refl
   thinned-last (suc p) (x ∷ es) few = ap (λ z. x ∷ z) (thinned-last p es (omega (arith, few)))
 
-  -- with the next entry out, the rest is thinned from the one that follows
+  -- after a removal of the next entry, the rest is thinned from the entry that follows
   pub thinned-step : (p : ℕ) (es : List X) → suc p < length es → thinned_from (suc p) (remove es (suc p)) ≡ thinned_from p es
   thinned-step zero [] more = absurd (omega (arith, more))
   thinned-step zero (x ∷ []) more = absurd (omega (arith, more))
@@ -35,7 +35,7 @@ module _ {X : Type 0} where
   thinned-step (suc p) (x ∷ es) more = ap (λ z. x ∷ z) (thinned-step p es (omega (arith, more)))
 
 module _ {K X C : Type 0} (order : C → K → K → Ordering) where
-  -- from c the loop has come to d
+  -- the loop has gone from c to d
   pub record Thins (c d : MapCursorMut K X C) : Type 0 where
     pub changed : Changed order c d
     pub rest : thinned_from (spot d) (entries d) ≡ every_other (entries c)
@@ -43,7 +43,7 @@ module _ {K X C : Type 0} (order : C → K → K → Ordering) where
   pub thins-first : (c : MapCursorMut K X C) → IsCursor order c → spot c ≡ 0 → Thins c c
   thins-first c valid first = record { changed = unchanged order c valid; rest = ap (λ p. thinned_from p (entries c)) first ∙ thinned-first (entries c) }
 
-  -- one turn: on to the next entry, which goes
+  -- one step of the loop, to the next entry, which is removed
   module _ (c d e f : MapCursorMut K X C) (next : Moves order d e (min (spot d + 1) (length (entries d)))) (more : spot d + 1 < length (entries d)) (gone : RemovesAt 7 (forest_now e) (map_now e) (spot e) (forest_now f) (map_now f)) (goes : Goes order e f (spot e)) where
     within : suc (spot d) < length (entries d)
     within = omega (arith, more)
@@ -63,7 +63,7 @@ module _ {K X C : Type 0} (order : C → K → K → Ordering) where
     pub thins-fewer : length (entries f) - spot f < length (entries d) - spot d
     thins-fewer = omega (arith, there, within, ap length left, length-remove (entries d) (suc (spot d)) within)
 
-  -- after the last turn
+  -- the list after the last step of the loop
   pub thins-last : (c d e : MapCursorMut K X C) → Thins c d → Moves order d e (min (spot d + 1) (length (entries d))) → length (entries d) ≤ spot d + 1 → Becomes (forest_now c) (map_now c) (forest_now e) (map_now e) (every_other (entries c))
   thins-last c d e t next past = becomes-list order c e (every_other (entries c)) (moved order c d e _ t.changed next)
       (same-entries order d e _ next ∙ sym (thinned-last (spot d) (entries d) past) ∙ t.rest)

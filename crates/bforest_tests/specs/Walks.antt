@@ -10,12 +10,12 @@ every_other (x ∷ []) = x ∷ []
 every_other (x ∷ y ∷ rest) = x ∷ every_other rest
 
 module _ {K : Type 0} (order : K → K → Ordering) where
-  -- a range from its start to its end, and those behind it, where each that begins at the end of the one before is joined to it
+  -- a range and those behind it, where each that begins at the end of the one before is joined to it
   abbrev pub joined_from : K × K → List (K × K) → List (K × K)
   joined_from range [] = range ∷ []
   joined_from range (next ∷ rest) = if is_eq (order range.1 next.0) then joined_from (range.0, next.1) rest else range ∷ joined_from next rest
 
-  -- ranges in order, so joined
+  -- ranges in order, where each that begins at the end of the one before is joined to it
   abbrev pub joined : List (K × K) → List (K × K)
   joined [] = []
   joined (range ∷ rest) = joined_from range rest

@@ -9,7 +9,7 @@ use bforest::{Comparator, Map, MapForest, OutOfMemory};
 pub mod cursors;
 pub mod loops;
 
-/// Puts a value in and looks it up again: it is there.
+/// Inserts a value and looks its key up again: the lookup finds it.
 pub fn insert_and_get<K: Copy, V: Copy, C: Comparator<K>>(
     map: &mut Map<K, V>,
     key: K,
@@ -25,7 +25,7 @@ pub fn insert_and_get<K: Copy, V: Copy, C: Comparator<K>>(
     Ok(map.get(key, forest, comp))
 }
 
-/// Puts a value in and looks up another key: it has the value that it had.
+/// Inserts a value and looks another key up: its value stays.
 pub fn insert_and_get_other<K: Copy, V: Copy, C: Comparator<K>>(
     map: &mut Map<K, V>,
     entry: (K, V),
@@ -43,7 +43,7 @@ pub fn insert_and_get_other<K: Copy, V: Copy, C: Comparator<K>>(
     Ok(map.get(other, forest, comp))
 }
 
-/// Writes the value of a key that is present: that is never refused.
+/// Replaces the value of a key that is present: that is never refused.
 pub fn overwrite<K: Copy, V: Copy, C: Comparator<K>>(
     map: &mut Map<K, V>,
     key: K,
@@ -60,7 +60,7 @@ pub fn overwrite<K: Copy, V: Copy, C: Comparator<K>>(
     map.insert(key, value, forest, comp)
 }
 
-/// Puts a value into one map: another one stays live and keeps its list, whether or not the insertion is refused.
+/// Inserts a value into one map: another map stays live and keeps its list, whether or not the insertion is refused.
 pub fn insert_beside<K: Copy, V: Copy, C: Comparator<K>>(
     map: &mut Map<K, V>,
     other: &Map<K, V>,
@@ -78,7 +78,7 @@ pub fn insert_beside<K: Copy, V: Copy, C: Comparator<K>>(
     map.insert(entry.0, entry.1, forest, comp)
 }
 
-/// Puts two entries in, one after the other: that is one change, of both.
+/// Inserts two entries, one after the other: both are one change of the map.
 pub fn insert_both<K: Copy, V: Copy, C: Comparator<K>>(
     map: &mut Map<K, V>,
     first: (K, V),

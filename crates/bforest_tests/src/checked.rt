@@ -1,4 +1,4 @@
-//! Calls on maps of numbers, each after the tests of what it asks.
+//! Calls on maps of numbers, each after a test of its conditions.
 use bforest::{Comparator, Map, MapForest, OutOfMemory};
 use std::alloc::{AllocError, Global};
 use std::process::Abort;
@@ -6,13 +6,13 @@ use std::process::Abort;
 /// A map of numbers to numbers.
 pub(crate) type Numbers = Map<u32, u32>;
 
-/// A forest of such maps.
+/// A forest of maps of numbers to numbers.
 pub(crate) type NumberForest = MapForest<u32, u32>;
 
-/// What an insertion answers.
+/// The answer of an insertion.
 pub(crate) type Put = Result<Option<u32>, OutOfMemory>;
 
-/// `insert`.
+/// `insert`, after a test of its conditions.
 pub(crate) fn insert<C: Comparator<u32>>(
     rt: &impl Abort,
     map: &mut Numbers,
@@ -25,7 +25,7 @@ pub(crate) fn insert<C: Comparator<u32>>(
     map.insert(key, value, forest, comp)
 }
 
-/// `try_insert`.
+/// `try_insert`, after a test of its conditions.
 pub(crate) fn try_insert<C: Comparator<u32>>(
     rt: &impl Abort,
     map: &mut Numbers,
@@ -38,7 +38,7 @@ pub(crate) fn try_insert<C: Comparator<u32>>(
     map.try_insert(key, value, forest, comp)
 }
 
-/// `get`.
+/// `get`, after a test of its conditions.
 pub(crate) fn get<C: Comparator<u32>>(
     rt: &impl Abort,
     map: &Numbers,
@@ -51,7 +51,7 @@ pub(crate) fn get<C: Comparator<u32>>(
     map.get(key, forest, comp)
 }
 
-/// What `iter` gives.
+/// The entries that `iter` yields.
 pub(crate) fn entries(
     rt: &impl Abort,
     alloc: Global,

@@ -1,5 +1,5 @@
-//! Tests of `bforest`: each public call at a concrete type, own orders, and callers that are proved. The cases of maps
-//! are files, which the program `forest_run` answers, beside random lines.
+//! Tests of `bforest`: each public call at a concrete type, custom orders, and callers that are proved. The lines and answers of the
+//! program `forest_run` test maps from files, beside random lines.
 #![tactic(auto)]
 
 pub mod callers;

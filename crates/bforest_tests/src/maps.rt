@@ -1,10 +1,10 @@
-//! Maps under their keys' own order.
+//! Maps in the order of their keys' type.
 
 use crate::checked::{NumberForest, Numbers, get, insert};
 use bforest::{Map, MapForest};
 use std::default::Default;
 
-// The README's example: for a map that is used by itself the conditions of each call are seen.
+// The README's example: for a map that is used by itself the checker finds the conditions of each call.
 #[test]
 fn the_first_example(rt: HostRuntime) {
     let mut forest: NumberForest = MapForest::new(rt.alloc());

@@ -1,4 +1,4 @@
-//! Maps under orders of their own, and one tree under several.
+//! Maps in custom orders, and one tree under several orders.
 ghost use Rattle.std.proofs.Common.{rules};
 ghost use Rattle.std.specs.Cmp.Rules.{comparing};
 ghost use Rattle.std.specs.Ordering.{flip_args, nat_cmp, on};
@@ -8,7 +8,7 @@ use crate::checked::NumberForest;
 use bforest::{Comparator, Map, MapForest};
 use std::cmp::Ordering;
 
-/// The largest first.
+/// The order of numbers with the largest first.
 struct Reversed;
 
 impl Comparator<u32> for Reversed {
@@ -21,7 +21,7 @@ impl Comparator<u32> for Reversed {
     }
 }
 
-/// By size without the last digit, with a search of its own.
+/// The order of numbers without their last digit, with a custom search.
 struct Tens;
 
 impl Comparator<u32> for Tens {

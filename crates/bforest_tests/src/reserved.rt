@@ -1,9 +1,9 @@
-//! Nodes that are taken ahead.
+//! Nodes that are reserved.
 
 use crate::checked::{NumberForest, insert};
 use bforest::{Map, MapForest, OutOfMemory};
 
-// How many nodes are reserved, and the answer; the greatest key that is put in then; the slots, and those that lie free.
+// For each number of nodes to reserve: the answer, the greatest key inserted then, the slots, and the free slots.
 #[test]
 fn nodes_are_taken_ahead(rt: HostRuntime) {
     let mut forest: NumberForest = MapForest::with_node_limit(rt.alloc(), 5);

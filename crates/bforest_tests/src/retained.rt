@@ -5,7 +5,7 @@ use bforest::{Map, MapForest};
 use std::process::Abort;
 use std::test::Fail;
 
-/// A map of 1 to `most`, each of whose values is its key, which came in in this order.
+/// A map of the keys 1 to `most`, each with itself as value, inserted in ascending order.
 fn ascending(rt: &impl Abort, most: u32, forest: &mut NumberForest) -> Numbers {
     let mut map = Map::new();
     for key in 1..=most {
@@ -14,7 +14,7 @@ fn ascending(rt: &impl Abort, most: u32, forest: &mut NumberForest) -> Numbers {
     map
 }
 
-// A rest of how often it was asked, so that each entry shows that it was asked once, and in its turn.
+// The value of each key becomes the number of its call: each entry is asked once, in order.
 #[test]
 fn each_entry_is_asked_once_and_in_order(rt: HostRuntime) -> Result<(), Fail> {
     let mut forest: NumberForest = MapForest::new(rt.alloc());

@@ -7,40 +7,40 @@ use Rattle.bforest_core.specs.Table.{down_from, free_count, fresh_nodes, front_o
 use Rattle.bforest_core.specs.Trees.{IsUnion, is_root}
 use Rattle.std.proofs.Common.{Err, IfOk, IsOk, IsTrue, List, None, Ok, OnErr, OnOk, Result, Some, ap, append-nil, arith, length-append, subst, sym, ◌+◌, ◌-◌, ◌∙◌, ◌≡◌, ◌≤◌, ℕ}
 
--- an answer that is `Ok`
+-- a fact that is stated for `Ok` holds of an answer that is `Ok`
 pub ok-then : {A E P : Type 0} (r : Result A E) → IsOk r → OnOk r P → P
 ok-then (Ok a) is h = h
 ok-then (Err x) is h = absurd (cc)
 
--- an `Err` is no `Ok`
+-- an answer that is `Err` is not `Ok`
 pub not-ok : {A E : Type 0} (r : Result A E) (x : E) → r ≡ Err x → IsOk r → ⊥
 not-ok (Ok a) x e is = absurd (cc)
 not-ok (Err y) x e is = absurd (cc)
 
 module _ {K X : Type 0} where
-  -- a union of trees either way
+  -- the table is a union of trees after `Ok` and after `Err`
   pub union_after : {A E : Type 0} (most : ℕ) (f f' : Forest K X) (r : Result A E) (P : A → Type 0) → ((a : A) → P a → IsUnion most f') → IsUnion most f → IfOk r P → OnErr r (f' ≡ f) → IsUnion most f'
   union_after most f f' (Ok a) P h u ok err = h a ok
   union_after most f f' (Err x) P h u ok err = subst (λ (z : Forest K X). IsUnion most z) (sym err) u
 
-  -- a tree that was planted
+  -- a tree that was planted becomes the list of its number
   pub planted : {E : Type 0} (most : ℕ) (f f' : Forest K X) (r : Result ℕ E) (es : List (K × X)) (ss : List (List ℕ)) → IfOk r (λ n. Changes most f f' n n es ss) → IfOk r (λ n. ¬ IsTrue (is_root f.nodes n)) → IfOk r (λ n. Becomes f None f' (Some n) es)
   planted most f f' (Ok n) es ss h new = becomes-new most f f' n es ss new h
   planted most f f' (Err x) es ss h new = tt
 
-  -- slots made free keep the limit
+  -- reserving slots keeps the limit
   pub limit-reserved : {A E : Type 0} (f f' : Forest K X) (n : ℕ) (r : Result A E) → OnOk r (f' ≡ reserved f n) → OnErr r (f' ≡ f) → f'.limit ≡ f.limit
   limit-reserved f f' n (Ok a) ok err = ap (λ z. z.limit) ok
   limit-reserved f f' n (Err x) ok err = ap (λ z. z.limit) err
 
-  -- how many lie free then
+  -- the number of free slots after reserving n
   pub free-reserved : (f : Forest K X) (n : ℕ) → free_of (reserved f n) ≡ (n - free_of f) + free_of f
   free-reserved f n = length-append (down_from (slot_count f) (n - free_of f)) f.chain ∙ ap (λ z. z + free_of f) (length-down_from (slot_count f) (n - free_of f))
 
-  -- how many slots there are then
+  -- the number of slots after reserving n
   pub slots-reserved : (f : Forest K X) (n : ℕ) → slots_of (reserved f n) ≡ slots_of f + (n - free_of f)
   slots-reserved f n = length-append f.nodes (fresh_nodes (slot_count f) (n - free_of f) (front_of f.chain)) ∙ ap (λ z. slots_of f + z) (length-fresh_nodes K X (slot_count f) (n - free_of f) (front_of f.chain))
 
-  -- where so many lie free already nothing changes
+  -- reserving n slots changes nothing where n are free already
   pub reserved-same : (f : Forest K X) (n : ℕ) → n ≤ free_of f → reserved f n ≡ f
   reserved-same f n h = let z : n - free_count f ≡ 0 = omega (arith, h) in ap (λ d. with_slots f d) z ∙ ap (λ xs. record f { nodes = xs }) (append-nil f.nodes)

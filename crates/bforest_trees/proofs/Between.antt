@@ -25,12 +25,12 @@ and_false true = refl
 and_false false = refl
 
 module _ {A : Type 0} where
-  -- where s holds of an element it holds of all behind it
+  -- where s holds of an element, it holds of all elements behind
   abbrev Rises : (A → Bool) → List A → Type 0
   Rises s [] = Unit {0}
   Rises s (e ∷ es) = (s e ≡ true → AllByRecursion (λ y. s y ≡ true) es) × Rises s es
 
-  -- a test counts as it answers for the first element
+  -- the count of a test over a list adds its answer for the first element to the count of the rest
   count-cons : (t : A → Bool) (e : A) (es : List A) (b : Bool) → t e ≡ b → count_by t (e ∷ es) ≡ cond b 1 0 + count_by t es
   count-cons t e es b h = sum_by-cons (λ y. cond (t y) 1 0) e es ∙ ap (λ c. cond c 1 0 + count_by t es) h
 
@@ -49,7 +49,7 @@ module _ {A : Type 0} where
       rest : List A
       rest = filter (λ y. s y && not (t y)) es
 
-  -- what s has reached and t has not is a slice
+  -- the elements where s holds and t does not are a slice
   slice-filter : (s t : A → Bool) (es : List A) → Rises s es → Rises t es → filter (λ y. s y && not (t y)) es ≡ slice_range es (count_by (λ y. not (s y)) es) (count_by (λ y. not (t y)) es)
   slice-filter s t [] hs ht = refl
   slice-filter s t (e ∷ es) hs ht = go (slice-filter s t es hs.1 ht.1) (s e) refl (t e) refl
@@ -63,7 +63,7 @@ module _ {A : Type 0} where
       j : ℕ
       j = count_by (λ y. not (t y)) es
 
-      -- the goal, by how both answer for the first
+      -- the goal, given how both tests answer for the first element
       by : (b c : Bool) → s e ≡ b → t e ≡ c → cond (b && not c) (e ∷ rest) rest ≡ slice_range (e ∷ es) (cond (not b) 1 0 + i) (cond (not c) 1 0 + j)
           → cond (s e && not (t e)) (e ∷ rest) rest ≡ slice_range (e ∷ es) (count_by (λ y. not (s y)) (e ∷ es)) (count_by (λ y. not (t y)) (e ∷ es))
       by b c h k is = (λ n. cond (h n && not (k n)) (e ∷ rest) rest) ∙ is ∙ sym (λ n. slice_range (e ∷ es) (count-cons (λ y. not (s y)) e es (not b) (ap not h) n) (count-cons (λ y. not (t y)) e es (not c) (ap not k) n))
@@ -84,7 +84,7 @@ module _ {A : Type 0} where
           let d : (1 + j) - (1 + i) ≡ j - i = omega arith in
           by false false h k (ih ∙ sym (λ x. take (d x) (drop (n x) (e ∷ es))))
 
-  -- the last of the first n elements
+  -- the last of the first n elements is the element before place n
   last-taken : (xs : List A) (n : ℕ) → n ≤ length xs → last_or None (take n xs) ≡ entry_before xs n
   last-taken xs zero low = refl
   last-taken xs (suc n) low = go None xs n (omega (arith, low))
@@ -94,7 +94,7 @@ module _ {A : Type 0} where
       go o (x ∷ xs) zero low = refl
       go o (x ∷ xs) (suc n) low = go (Some x) xs n (omega (arith, low))
 
--- a test of how a bound compares, which holds of keys behind the bound alone
+-- a test of an ordering that holds of keys behind a bound alone
 record IsBehind (t : Ordering → Bool) : Type 0 where
   behind : t Less ≡ true
   only : t Greater ≡ false
@@ -106,7 +106,7 @@ le-behind : IsBehind is_le
 le-behind = record { behind = refl; only = refl }
 
 module _ {K : Type 0} (cmp : K → K → Ordering) (o : IsTotalOrder cmp) where
-  -- how two keys compare, from the other
+  -- how two keys compare, from the reversed comparison
   reversed-le : (a k : K) → is_lt (cmp k a) ≡ not (is_le (cmp a k))
   reversed-le a k = ap is_lt (o.antisymm k a) ∙ go (cmp a k)
     where
@@ -124,7 +124,7 @@ module _ {K : Type 0} (cmp : K → K → Ordering) (o : IsTotalOrder cmp) where
       go Greater = refl
 
   module _ {X : Type 0} (t : Ordering → Bool) (b : IsBehind t) (a : K) where
-    -- a bound that a key has passed is less than all behind the key
+    -- where a bound is before a key, it is before all keys behind that key
     passed : (e : K × X) (es : List (K × X)) → t (cmp a e.0) ≡ true → AllByRecursion (λ y. cmp e.0 y ≡ Less) (keys_of es) → AllByRecursion (λ (y : K × X). t (cmp a y.0) ≡ true) es
     passed e [] h l = tt
     passed e (x ∷ es) h l = (ap t (go (cmp a e.0) refl h) ∙ b.behind, passed e es h l.1)
@@ -162,25 +162,25 @@ module _ {K : Type 0} (cmp : K → K → Ordering) (o : IsTotalOrder cmp) where
     pub slice-between : (lo hi : Bound K) (es : List (K × X)) → IsIncreasing cmp es → entries_between cmp lo hi es ≡ slice_range es (start_place cmp lo es) (end_place cmp hi es)
     slice-between lo hi es h = slice-filter (λ e. is_from_start cmp lo e.0) (λ e. is_past_end cmp hi e.0) es (start-rises lo es h) (end-rises hi es h)
 
-    -- a range from a key on begins at its place
+    -- the start place of a bound that includes a key is the key's place
     pub start-included : (a : K) (es : List (K × X)) → place cmp es a ≡ start_place cmp (Included a) es
     start-included a es = count-same (λ e. is_lt (cmp e.0 a)) (λ e. not (is_le (cmp a e.0))) (λ e. reversed-le a e.0) es
 
-    -- and one with no bound at the first entry
+    -- the start place of no bound is 0
     pub start-unbounded : (es : List (K × X)) → start_place cmp Unbounded es ≡ 0
     start-unbounded [] = refl
     start-unbounded (e ∷ es) = count-cons (λ _. false) e es false refl ∙ (let n = start-unbounded es in omega (arith, n))
 
-    -- or ends behind the last
+    -- the end place of no bound is the length
     pub end-unbounded : (es : List (K × X)) → end_place cmp Unbounded es ≡ length es
     end-unbounded [] = refl
     end-unbounded (e ∷ es) = count-cons (λ _. true) e es true refl ∙ (let n = end-unbounded es in omega (arith, n))
 
-    -- a range ends within the list
+    -- an end place is at most the length
     end-most : (hi : Bound K) (es : List (K × X)) → end_place cmp hi es ≤ length es
     end-most hi es = count_by-le-length (λ e. not (is_past_end cmp hi e.0)) es
 
-    -- one up to a key ends behind as many keys as are not greater
+    -- the end place of a bound that includes a key is the number of keys that are not greater
     end-counted : (a : K) (es : List (K × X)) → end_place cmp (Included a) es ≡ count_up_to cmp (keys_of es) a
     end-counted a [] = refl
     end-counted a (e ∷ es) =
@@ -190,23 +190,23 @@ module _ {K : Type 0} (cmp : K → K → Ordering) (o : IsTotalOrder cmp) where
       searched : (b : Bool) → is_present cmp es a ≡ b → search_for cmp es a ≡ (if b then Ok (place cmp es a) else Err (place cmp es a))
       searched b e = ap (λ z. if z then Ok (place cmp es a) else Err (place cmp es a)) e
 
-      -- behind the key where it is there
+      -- where a key is present, its end place is one behind its own place
       up-to-present : is_present cmp es a ≡ true → end_place cmp (Included a) es ≡ suc (place cmp es a)
       up-to-present here = end-counted a es ∙ up_to-found cmp a o (keys_of es) (place cmp es a) h (search_of-keys_of cmp es a ∙ searched true here)
 
-      -- at its place where it is not
+      -- where a key is absent, its end place is its own place
       up-to-absent : is_present cmp es a ≡ false → end_place cmp (Included a) es ≡ place cmp es a
       up-to-absent gone = end-counted a es ∙ keys-up_to-absent cmp a o (keys_of es) (place cmp es a) h (search_of-keys_of cmp es a ∙ searched false gone)
 
-      -- so one step from where a search for the key ended leads there if it found the key
+      -- where a search found a key, one step leads to its end place
       pub behind-found : (v : Option X) → v ≡ value_for cmp es a → is_some v ≡ true → min (place cmp es a + 1) (length es) ≡ end_place cmp (Included a) es
       behind-found v is some = let here = present-told cmp es a (sym (ap is_some is) ∙ some) in omega (arith, place-present cmp es a here, up-to-present here)
 
-      -- and none if it did not
+      -- where a search found no key, it ended at the key's end place
       pub behind-missed : (v : Option X) → v ≡ value_for cmp es a → is_some v ≡ false → place cmp es a ≡ end_place cmp (Included a) es
       behind-missed v is none = sym (up-to-absent (absent-told cmp es a (sym (ap is_some is) ∙ none)))
 
-      -- the last entry up to a key stands in front of that end
+      -- the last entry up to a key is the one before the key's end place
       at-most-before : entry_at_most cmp es a ≡ entry_before es (end_place cmp (Included a) es)
       at-most-before =
           let last = end_place cmp (Included a) es in
@@ -215,10 +215,10 @@ module _ {K : Type 0} (cmp : K → K → Ordering) (o : IsTotalOrder cmp) where
           ∙ ap (λ i. slice_range es i last) (start-unbounded es) ∙ ap (λ n. take n es) whole)
           ∙ last-taken es last (end-most (Included a) es)
 
-      -- so it is the key's where a search found one
+      -- where a search found the key, the last entry up to it is its own
       pub at-most-found : (v : Option X) (x : X) (r : Option (K × X)) → v ≡ value_for cmp es a → v ≡ Some x → r ≡ slice_get es (place cmp es a) → r ≡ entry_at_most cmp es a
       at-most-found v x r is some read = read ∙ sym (at-most-before ∙ ap (entry_before es) (up-to-present (present-some cmp es a x (sym is ∙ some))))
 
-      -- and the one in front of its place where it found none
+      -- where a search found no key, the last entry up to it is the one before its place
       pub at-most-missed : (v : Option X) (r : Option (K × X)) → v ≡ value_for cmp es a → v ≡ None → r ≡ entry_before es (place cmp es a) → r ≡ entry_at_most cmp es a
       at-most-missed v r is none read = read ∙ sym (at-most-before ∙ ap (entry_before es) (up-to-absent (absent-none cmp es a (sym is ∙ none))))

@@ -1,4 +1,4 @@
--- The words of contracts against those of a pool's calls.
+-- The words of contracts in terms of those of a pool's calls.
 use Rattle.bforest_trees.specs.Forest.{Becomes, Forest, IsLive, Keeps, Takes, list_at, list_of, sizes_at, sizes_of}
 use Rattle.bforest_core.proofs.union.Unions.{rooted}
 use Rattle.bforest_core.specs.Change.{Changes, KeepsTrees, TakesNodes}
@@ -7,17 +7,17 @@ use Rattle.bforest_core.specs.Trees.{IsUnion, is_root, tree_of}
 use Rattle.std.proofs.Common.{Bool, IsTrue, List, None, Option, Some, [], ap, arith, false, if◌then◌else◌, length, refl, subst, sym, true, ◌∙◌, ◌∷◌, ◌≡◌, ◌≢◌, ◌≤◌, ◌↔◌, ℕ}
 
 module _ {K X : Type 0} where
-  -- a root's list is that of its tree
+  -- the list of a root is that of its tree
   pub list-root : (f : Forest K X) (n : ℕ) → IsTrue (is_root f.nodes n) → list_at f n ≡ flat (tree_of f.nodes n).leaves
   unfolding list_at
   list-root f n root = λ j. if root j then flat (tree_of f.nodes n).leaves else []
 
-  -- and so are the sizes
+  -- the sizes of a root are those of its tree
   pub sizes-root : (f : Forest K X) (n : ℕ) → IsTrue (is_root f.nodes n) → sizes_at f n ≡ tree_sizes (tree_of f.nodes n)
   unfolding sizes_at
   sizes-root f n root = λ j. if root j then tree_sizes (tree_of f.nodes n) else []
 
-  -- no list where no tree has the number
+  -- a number that is no root has the empty list
   pub list-none : (f : Forest K X) (n : ℕ) → ¬ IsTrue (is_root f.nodes n) → list_at f n ≡ []
   unfolding list_at
   list-none f n gone = go (is_root f.nodes n) gone
@@ -26,7 +26,7 @@ module _ {K X : Type 0} where
       go true gone = absurd (gone refl)
       go false gone = refl
 
-  -- nor sizes
+  -- a number that is no root has no sizes
   pub sizes-none : (f : Forest K X) (n : ℕ) → ¬ IsTrue (is_root f.nodes n) → sizes_at f n ≡ []
   unfolding sizes_at
   sizes-none f n gone = go (is_root f.nodes n) gone
@@ -35,7 +35,7 @@ module _ {K X : Type 0} where
       go true gone = absurd (gone refl)
       go false gone = refl
 
-  -- a number with a list is a root
+  -- a number whose list is not empty is a root
   pub live-root : (f : Forest K X) (n : ℕ) → list_at f n ≢ [] → IsTrue (is_root f.nodes n)
   unfolding list_at
   live-root f n live = go (is_root f.nodes n) live
@@ -44,17 +44,17 @@ module _ {K X : Type 0} where
       go true live = refl
       go false live = absurd (live refl)
 
-  -- a list of one entry at least is not empty
+  -- a list of at least one entry is not empty
   some_not_none : (es : List (K × X)) → 1 ≤ length es → es ≢ []
   some_not_none [] some e = omega (arith, some)
   some_not_none (x ∷ es) some e = cc
 
-  -- a root has a list
+  -- the list of a root is not empty
   pub root-live : (most : ℕ) (f : Forest K X) (n : ℕ) → IsUnion most f → IsTrue (is_root f.nodes n) → list_at f n ≢ []
   root-live most f n union root e =
       some_not_none (flat (tree_of f.nodes n).leaves) (rooted most f n union root).some (sym (list-root f n root) ∙ e)
 
-  -- what stands under a number with a list
+  -- the root, the list and the sizes of a number whose list is not empty
   pub record Seen (p f : Forest K X) (n : ℕ) : Type 0 where
     pub root : IsTrue (is_root p.nodes n)
     pub list : flat (tree_of p.nodes n).leaves ≡ list_at f n
@@ -65,7 +65,7 @@ module _ {K X : Type 0} where
       let r = live-root p n (subst (λ (z : Forest K X). list_at z n ≢ []) (sym is) live) in
       record { root = r; list = sym (list-root p n r) ∙ ap (λ z. list_at z n) is; sizes = sym (sizes-root p n r) ∙ ap (λ z. sizes_at z n) is }
 
-  -- a number that keeps its tree, or stays without one, keeps its list
+  -- a number that keeps its tree, or has none before and after, keeps its list
   pub same_list : (f f' : Forest K X) (n : ℕ) → (IsTrue (is_root f'.nodes n) ↔ IsTrue (is_root f.nodes n)) × (IsTrue (is_root f.nodes n) → tree_of f'.nodes n ≡ tree_of f.nodes n) → list_at f' n ≡ list_at f n
   unfolding list_at
   same_list f f' n k = go (is_root f'.nodes n) (is_root f.nodes n) k.0 k.1
@@ -86,7 +86,7 @@ module _ {K X : Type 0} where
       go false true k t = absurd (let bad = k.1 refl in cc)
       go false false k t = refl
 
-  -- the tree under a root became one with this list, perhaps under another root
+  -- a tree that changed under a root, perhaps to another root, becomes this list
   pub becomes : (most : ℕ) (f f' : Forest K X) (r r' : ℕ) (es : List (K × X)) (ss : List (List ℕ)) → Changes most f f' r r' es ss → Becomes f (Some r) f' (Some r') es
   becomes most f f' r r' es ss c = record {
     live = root-live most f' r' c.union c.root_is;
@@ -100,7 +100,7 @@ module _ {K X : Type 0} where
     limit = c.limit_is;
   }
 
-  -- a tree came under a number that had none
+  -- a tree under a number that had none becomes the list of that number
   pub becomes-new : (most : ℕ) (f f' : Forest K X) (n : ℕ) (es : List (K × X)) (ss : List (List ℕ)) → ¬ IsTrue (is_root f.nodes n) → Changes most f f' n n es ss → Becomes f None f' (Some n) es
   becomes-new most f f' n es ss gone c = record {
     live = root-live most f' n c.union c.root_is;
@@ -114,11 +114,11 @@ module _ {K X : Type 0} where
     limit = c.limit_is;
   }
 
-  -- the sizes of the tree of now
+  -- the sizes of a tree that changed
   pub sizes-new : (most : ℕ) (f f' : Forest K X) (r r' : ℕ) (es : List (K × X)) (ss : List (List ℕ)) → Changes most f f' r r' es ss → sizes_at f' r' ≡ ss
   sizes-new most f f' r r' es ss c = sizes-root f' r' c.root_is ∙ c.sizes_are
 
-  -- each tree is kept
+  -- where each tree is kept, each number keeps its list and sizes
   pub keeps : (f f' : Forest K X) → KeepsTrees f.nodes f'.nodes → f'.limit ≡ f.limit → Keeps f f'
   keeps f f' k l = record {
     lists = λ n. same_list f f' n ((λ t. sym (k n).0 ∙ t, λ t. (k n).0 ∙ t), (k n).1);
@@ -126,11 +126,11 @@ module _ {K X : Type 0} where
     limit = l;
   }
 
-  -- slots that were taken
+  -- taking nodes from a table takes slots of a forest
   pub takes : (d : ℕ) (f f' : Forest K X) → TakesNodes d f f' → Takes d f f'
   takes d f f' t = record { slots = t.slots; free = t.free }
 
-  -- what stands under a live handle
+  -- the root, the list and the sizes of a live handle
   pub record SeenAs (p f : Forest K X) (h : Option ℕ) (n : ℕ) : Type 0 where
     pub root : IsTrue (is_root p.nodes n)
     pub list : flat (tree_of p.nodes n).leaves ≡ list_of f h

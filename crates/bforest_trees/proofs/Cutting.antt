@@ -19,7 +19,7 @@ use Rattle.bforest_trees.specs.Calls.{Removes}
 use Rattle.std.proofs.Common.{IsTrue, List, None, Option, Some, [], IfSome, ap, arith, false, if◌then◌else◌, length, length-append, refl, remove, subst, suc, sym, true, zero, ◌<◌, ◌∙◌, ◌∷◌, ◌≡◌, ◌≤◌, ◌↔◌, ℕ}
 use Rattle.std.specs.declared.cmp.Ordering.{Ordering}
 
--- the only entry taken out
+-- a removal from a list of one entry leaves none
 pub remove-last : {X : Type 0} (es : List X) (p : ℕ) → length es ≡ 1 → p < length es → remove es p ≡ []
 remove-last [] p one low = absurd (omega (arith, one))
 remove-last (e ∷ (x ∷ es)) p one low = absurd (omega (arith, one))
@@ -29,7 +29,7 @@ remove-last (e ∷ []) (suc p) one low = absurd (omega (arith, low))
 some_same : (n q : ℕ) → Some n ≡ Some q → n ≡ q
 some_same n q e = cc
 
--- the answer of a removal is the old root exactly where the levels stay
+-- a removal answers the old root exactly where the number of levels stays
 pub same-cut : (r : ℕ) (old ss : List (List ℕ)) (o : Option ℕ) → IfSome o (λ r'. (r' ≡ r) ↔ (length ss ≡ length old)) → (o ≡ None → ss ≡ []) → 1 ≤ length old → (o ≡ Some r) ↔ (length ss ≡ length old)
 same-cut r old ss None h none some = (λ e. absurd (cc), λ e. absurd (omega (arith, e, some, ap length (none refl))))
 same-cut r old ss (Some r') h none some = (λ e. h.0 (some_same r' r e), λ e. ap Some (h.1 e))
@@ -38,11 +38,11 @@ same-cut r old ss (Some r') h none some = (λ e. h.0 (some_same r' r e), λ e. a
 pub without-absent : {K X : Type 0} (most : ℕ) (cmp : K → K → Ordering) (f : Forest K X) (h : Option ℕ) (k : K) → is_present cmp (list_of f h) k ≡ false → sizes_without most cmp f h k ≡ forest_sizes f h
 without-absent most cmp f h k gone = λ j. if gone j then shrink most (place cmp (list_of f h) k) (forest_sizes f h) else forest_sizes f h
 
--- and go as the place says where it is present
+-- the sizes shrink by the key's place where the key is present
 pub without-present : {K X : Type 0} (most : ℕ) (cmp : K → K → Ordering) (f : Forest K X) (h : Option ℕ) (k : K) → is_present cmp (list_of f h) k ≡ true → sizes_without most cmp f h k ≡ shrink most (place cmp (list_of f h) k) (forest_sizes f h)
 without-present most cmp f h k here = λ j. if here j then shrink most (place cmp (list_of f h) k) (forest_sizes f h) else forest_sizes f h
 
--- a forest that stays
+-- a forest that stays becomes its own list
 pub becomes-same : {K X : Type 0} (f : Forest K X) (h : Option ℕ) → IsLive f h → Becomes f h f h (list_of f h)
 becomes-same f h live = record {
   live = live;
@@ -57,7 +57,7 @@ becomes-same f h live = record {
 }
 
 module _ {K X : Type 0} where
-  -- a table that stays is a change of each tree in it to itself
+  -- a table that stays changes each of its trees to itself
   pub changes-none : (most : ℕ) (t : Table K X) (root : ℕ) → IsUnion most t → IsTrue (is_root t.nodes root) → Changes most t t root root (flat (tree_of t.nodes root).leaves) (sizes_of (tree_of t.nodes root))
   changes-none most t root union is = record {
     union = union;
@@ -70,15 +70,15 @@ module _ {K X : Type 0} where
     limit_is = refl;
   }
 
-  -- and gives no node
+  -- a table that stays frees no node
   pub gives-none : (t : Table K X) (sizes : List (List ℕ)) → GivesNodes sizes sizes t t
   gives-none t sizes = record { given = []; chain_is = refl; slots = refl; count_is = omega arith }
 
-  -- nodes that were given lie free
+  -- the nodes that a table was given back are free slots
   pub gives : (f f' : Forest K X) (before after : List (List ℕ)) → GivesNodes before after f f' → Gives before after f f'
   gives f f' before after g = record { slots = g.slots; free = omega (arith, g.count_is, ap length g.chain_is, length-append g.given f.chain) }
 
-  -- a tree ended, and with it the meaning of its handle
+  -- a tree that ended becomes the empty list of an empty handle
   pub becomes-ended : (most : ℕ) (f f' : Forest K X) (r : ℕ) → Ends most f f' r → Becomes f (Some r) f' None []
   becomes-ended most f f' r e = record {
     live = tt;
@@ -93,22 +93,22 @@ module _ {K X : Type 0} where
   }
 
   module _ (most : ℕ) (f f' : Forest K X) (r : ℕ) (es : List (K × X)) (ss : List (List ℕ)) where
-    -- a union of trees either way
+    -- the table is a union of trees, whether a root or none is answered
     pub union-cut : (o : Option ℕ) → IfSome o (λ r'. Changes most f f' r r' es ss) → (o ≡ None → Ends most f f' r) → IsUnion most f'
     union-cut None c e = (e refl).union
     union-cut (Some r') c e = c.union
 
-    -- the handle of now means the list
+    -- the answered handle becomes the list es
     pub becomes-cut : (o : Option ℕ) → IfSome o (λ r'. Changes most f f' r r' es ss) → (o ≡ None → Ends most f f' r) → (o ≡ None → es ≡ []) → Becomes f (Some r) f' o es
     becomes-cut None c e none = subst (λ (l : List (K × X)). Becomes f (Some r) f' None l) (sym (none refl)) (becomes-ended most f f' r (e refl))
     becomes-cut (Some r') c e none = becomes most f f' r r' es ss c
 
-    -- in nodes of these sizes
+    -- the answered handle has the sizes ss
     pub sizes-cut : (o : Option ℕ) → IfSome o (λ r'. Changes most f f' r r' es ss) → (o ≡ None → ss ≡ []) → forest_sizes f' o ≡ ss
     sizes-cut None c none = sym (none refl)
     sizes-cut (Some r') c none = sizes-new most f f' r r' es ss c
 
-  -- what it leaves that the entry at a place of the list of a handle went
+  -- the entry at a place of a handle's list was removed: what that leaves
   pub record IsTaken (most : ℕ) (f f' : Forest K X) (h : Option ℕ) (p : ℕ) (o : Option ℕ) : Type 0 where
     pub union : IsUnion most f'
     pub removed : Becomes f h f' o (remove (list_of f h) p)
@@ -140,12 +140,12 @@ module _ {K X : Type 0} where
           account = subst (λ (z : List (List ℕ)). Gives z (forest_sizes f' o) f f') sizes (subst (λ (z : List (List ℕ)). Gives ss z f f') (sym now) (gives f f' ss (shrink most p ss) gv));
         }
 
-    -- where a path stands at what followed
+    -- after a removal the path stands where the next entry is, or at the end
     spot-left : (path' : Path K X most) (o : Option ℕ) → IfSome o (λ r'. StandsAt f' r' path' p) → ((o ≡ None) ↔ (length es ≡ 1)) → (o ≡ None → IsAtEnd path') → IsSpot f' o path' p
     spot-left path' None at last end = (end refl, (let one = last.0 refl in let low = on-within f n path p on in omega (arith, one, low)))
     spot-left path' (Some r') at last end = at
 
-  -- a removal at a path of a handle
+  -- a removal at a path of a handle removes the entry at the path's place
   pub taken-at : (most : ℕ) (f f' : Forest K X) (h : Option ℕ) (path : Path K X most) (o : Option ℕ) (at : OnSpot f h path) →
       ((e : OnEntry f path) → IfSome o (λ r'. Changes most f f' e.root r' (remove (list_under f e.root) e.place) (shrink most e.place (sizes_under f e.root)))) →
       ((e : OnEntry f path) → GivesNodes (sizes_under f e.root) (shrink most e.place (sizes_under f e.root)) f f') →
@@ -158,7 +158,7 @@ module _ {K X : Type 0} where
       subst (λ (z : Option ℕ). IsTaken most f f' z at.place o) (sym t.1)
       (taken most f f' t.0 at.place path t.2 o (removed e) (account e) (same e) (last e) (λ z. ended z e) (λ z. none z e))
 
-  -- and the path
+  -- after a removal at a path of a handle, the path stands at the same place
   pub spot-at : (most : ℕ) (f f' : Forest K X) (h : Option ℕ) (path path' : Path K X most) (o : Option ℕ) (at : OnSpot f h path) → ((e : OnEntry f path) → IfSome o (λ r'. StandsAt f' r' path' e.place)) → ((e : OnEntry f path) → (o ≡ None) ↔ (length (list_under f e.root) ≡ 1)) → (o ≡ None → IsAtEnd path') → IsSpot f' o path' at.place
   spot-at most f f' h path path' o at stands last end =
       let t = spot-on f path h at.place at.spot at.within in
@@ -184,14 +184,14 @@ module _ {K X : Type 0} (most : ℕ) (cmp : K → K → Ordering) (f : Forest K 
         absent_handle = λ none. absurd (cc);
       }
 
-  -- the key was in the tree of the handle, and its entry went
+  -- `remove` of a key that is present
   pub removes-under : (t : Forest K X) (n : ℕ) (f' : Forest K X) (o : Option ℕ) (v : X) → t ≡ f → h ≡ Some n → value_for cmp (list_under t n) k ≡ Some v → IsTaken most t f' (Some n) (place cmp (list_under t n) k) o → Removes most cmp f h k (Some v) f' o
   removes-under t n f' o v is handle found left =
       let list = (seen-as t f h n is handle live).list in
       removes f' o v (subst (λ (l : List (K × X)). value_for cmp l k ≡ Some v) list found)
       (subst (λ (z : Forest K X). IsTaken most z f' h (place cmp entries k) o) is (subst (λ (z : Option ℕ). IsTaken most t f' z (place cmp entries k) o) (sym handle) (subst (λ (l : List (K × X)). IsTaken most t f' (Some n) (place cmp l k) o) list left)))
 
-  -- the key was not there, and nothing changed
+  -- `remove` of a key that is absent changes nothing
   pub removes-none : value_for cmp entries k ≡ None → Removes most cmp f h k None f h
   removes-none none =
       let gone = absent-none cmp entries k none in

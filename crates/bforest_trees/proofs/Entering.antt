@@ -1,4 +1,4 @@
--- An insertion into the tree under a root, from what the search for its key tells: each answer of `insert_under` is one of these.
+-- An insertion into the tree under a root, from the result of the search for its key.
 use Rattle.bforest_trees.proofs.After.{not-ok}
 use Rattle.bforest_trees.proofs.Changed.{list-root, live-root}
 use Rattle.bforest_trees.proofs.Inserting.{inserts-err, inserts-ok}
@@ -29,7 +29,7 @@ module _ {K X : Type 0} (most : ℕ) (cmp : K → K → Ordering) (f : Forest K 
   root = live-root f n live
 
   module _ (path : Path K X most) (found : Option X) (value : found ≡ value_for cmp (list_under f n) k) where
-    -- the key is present, and the path on its entry
+    -- the key is present, and the path stands on its entry
     module _ (present : is_present cmp (list_under f n) k ≡ true → StandsOn f n path at) (old : X) (is : found ≡ Some old) where
       pub here : is_present cmp (list_under f n) k ≡ true
       here = present-some cmp (list_under f n) k old (sym value ∙ is)
@@ -37,17 +37,17 @@ module _ {K X : Type 0} (most : ℕ) (cmp : K → K → Ordering) (f : Forest K 
       abbrev pub on-key : OnEntry f path
       on-key = record { root = n; place = at; on = present here }
 
-      -- its value was written anew
+      -- `insert` replaces the value of a key that is present
       pub overwritten : IsTotalOrder cmp → IsIncreasing cmp (list_at f n) → (x : X) (f' : Forest K X) → Changes most f f' n n (with_value (list_under f n) at x) (sizes_under f n) → slot_count f' ≡ slot_count f → f'.chain ≡ f.chain → Inserts most cmp f (Some n) k x (Ok (Some old)) f' (Some n)
       overwritten total up x f' written slots chain =
           inserts-ok most cmp f k x n f' n (Some old) (subst (λ (l : List (K × X)). value_for cmp l k ≡ Some old) (sym (list-root f n root)) (sym value ∙ is))
           (put-here most cmp f n k root here f' x written slots chain) (IsIncreasing-put cmp total _ k x up) (λ low. let few = rw (need-present most cmp f n k root here) at low in omega (arith, few))
 
-      -- and the path stands there
+      -- after the value was replaced, the path stands at the key's place
       pub key-spot : (f' : Forest K X) → StandsOn f' n path at → IsSpot f' (Some n) path (place cmp (list_at f n) k)
       key-spot f' on = rw (list-root f n root) (on-at f' n path at on)
 
-    -- the key is absent, and the path placed for it
+    -- the key is absent, and the path is placed for it
     module _ (absent : is_present cmp (list_under f n) k ≡ false → IsPlaced f n path at) (is : found ≡ None) where
       pub gone : is_present cmp (list_under f n) k ≡ false
       gone = absent-none cmp (list_under f n) k (sym value ∙ is)
@@ -61,12 +61,12 @@ module _ {K X : Type 0} (most : ℕ) (cmp : K → K → Ordering) (f : Forest K 
       abbrev pub at-key : Placing f path
       at-key = record { root = n; place = at; placed = absent gone }
 
-      -- so it points there still where nothing has changed
+      -- the path points to the key's place where nothing has changed
       abbrev pub to-key : (f' : Forest K X) (path' : Path K X most) → f' ≡ f → path' ≡ path → Pointing f' path'
       to-key f' path' same is = record { root = n; place = at; to = rw (same, is) (placed-points f n path at (absent gone)) }
 
       module _ (result : Result ℕ OutOfMemory) (full : (result ≡ Err Full) ↔ IsTooMany (need most at (sizes_under f n)) f) where
-        -- it was refused
+        -- `insert` of an absent key that was refused
         pub refused : IsIncreasing cmp (list_at f n) → (x : X) (err : OutOfMemory) → result ≡ Err err → (result ≡ Err Memory → NeedsGrowth (need most at (sizes_under f n)) f) → (need most at (sizes_under f n) ≤ free_of f → IsOk result) → Inserts most cmp f (Some n) k x (Err err) f (Some n)
         refused up x err said memory enough =
             inserts-err most cmp f k x (Some n) err up none
@@ -74,16 +74,16 @@ module _ {K X : Type 0} (most : ℕ) (cmp : K → K → Ordering) (f : Forest K 
             (λ e. rw needs (memory (said ∙ ap Err e)))
             (λ low. not-ok result err said (enough (rw needs at low)))
 
-        -- it was put in
+        -- `insert` of an absent key that succeeded
         pub added : IsTotalOrder cmp → IsIncreasing cmp (list_at f n) → (x : X) (root' : ℕ) → result ≡ Ok root' → (f' : Forest K X) → Changes most f f' n root' (insert (list_under f n) at (k, x)) (growth most at (sizes_under f n)) → TakesNodes (need most at (sizes_under f n)) f f' →
             (root' ≡ n) ↔ (length (growth most at (sizes_under f n)) ≡ length (sizes_under f n)) → Inserts most cmp f (Some n) k x (Ok None) f' (Some root')
         added total up x root' said f' changes takes same =
             inserts-ok most cmp f k x n f' root' None none (put-new most cmp f n k root gone f' root' x changes takes same) (IsIncreasing-put cmp total _ k x up) (λ low. let bad = full.1 (rw needs at low) in cc)
 
-      -- and the path stands there
+      -- after an insertion the path stands at the key's place
       pub new-spot : (f' : Forest K X) (root' : ℕ) (path' : Path K X most) → StandsOn f' root' path' at → IsSpot f' (Some root') path' (place cmp (list_at f n) k)
       new-spot f' root' path' on = rw (list-root f n root) (on-at f' root' path' at on)
 
-      -- so it does after a refusal
+      -- after a refusal the path stands at the key's place
       pub old-spot : (path' : Path K X most) → StandsAt f n path' at → IsSpot f (Some n) path' (place cmp (list_at f n) k)
       old-spot path' stands = rw (list-root f n root) stands

@@ -29,7 +29,7 @@ module _ {K X : Type 0} where
   sizes-fit half most (node m es ∷ []) f = (f.0, f.1, tt)
   sizes-fit half most (node m es ∷ node n xs ∷ row) f = (f.0, f.1, sizes-fit half most (node n xs ∷ row) f.2)
 
--- rows over some nodes have the sizes of levels over as many
+-- stacked rows over a list of nodes have fit sizes
 above-fit : {K : Type 0} (list : List (K × ℕ)) (rows : List (List (LevelNode K ℕ))) (count : ℕ) → length list ≡ count → Stacked list rows → Topped list rows → IsFitAbove count (map sizes rows)
 above-fit list [] count is s t = sym is ∙ s
 above-fit list (row ∷ rows) count is s t = (
@@ -49,7 +49,7 @@ module _ {K X : Type 0} (most : ℕ) (f : Forest K X) (union : IsUnion most f) (
         above-fit (heads leaves) (tree_of f.nodes n).above (length (sizes leaves)) (fit_full (half_of most) most (some_leaf most union.1.capacity) leaves r.fit.leaves_fit ∙ sym (sizes-count leaves)) r.fit.stacked r.fit.topped,
       )
 
-  -- the tree of a number
+  -- the sizes of a number are fit for its list
   pub fit-at : IsFitFor most (length (list_at f n)) (sizes_at f n)
   unfolding list_at sizes_at
   fit-at = by (is_root f.nodes n) (λ root. fit-root root)
@@ -58,7 +58,7 @@ module _ {K X : Type 0} (most : ℕ) (f : Forest K X) (union : IsUnion most f) (
       by true fit = fit refl
       by false fit = refl
 
-  -- only the number of a slot has a list
+  -- a number with a list is the number of a slot
   pub below-slots : list_at f n ≢ [] → n < slots_of f
   unfolding list_at
   below-slots some = by (is_root f.nodes n) (λ root. within root) some

@@ -1,4 +1,4 @@
--- One change of a tree of a table after another.
+-- Two changes of one tree of a table, one after the other.
 use Rattle.bforest_core.proofs.union.Forests.{free-unused}
 use Rattle.bforest_core.proofs.union.FreeSlots.{free-at}
 use Rattle.bforest_core.specs.Change.{Changes, Ends, GivesNodes}
@@ -12,7 +12,7 @@ use Rattle.std.proofs.lemmas.Bool.{false≢true}
 use Rattle.std.specs.List.{flat_map}
 
 module _ {K X : Type 0} (most : ℕ) (a b c : Table K X) where
-  -- two changes of a tree are one
+  -- two changes of a tree are one change
   pub changes-both : (r s t : ℕ) (es fs : List (K × X)) (ss us : List (List ℕ)) → Changes most a b r s es ss → Changes most b c s t fs us → Changes most a c r t fs us
   changes-both r s t es fs ss us p q = record {
     union = q.union;
@@ -42,7 +42,7 @@ module _ {K X : Type 0} (most : ℕ) (a b c : Table K X) where
     limit_is = q.limit_is ∙ p.limit_is;
   }
 
-  -- a change, and then the end of the tree
+  -- a change of a tree and then its end are its end
   pub ends-both : (r s : ℕ) (es : List (K × X)) (ss : List (List ℕ)) → Changes most a b r s es ss → Ends most b c s → Ends most a c r
   ends-both r s es ss p q = record {
     union = q.union;
@@ -65,7 +65,7 @@ module _ {K X : Type 0} (most : ℕ) (a b c : Table K X) where
     limit_is = q.limit_is ∙ p.limit_is;
   }
 
-  -- nodes given back twice
+  -- nodes freed by two changes are freed by one change
   pub gives-both : (x y z : List (List ℕ)) → GivesNodes x y a b → GivesNodes y z b c → GivesNodes x z a c
   gives-both x y z p q = record {
     given = q.given ++ p.given;

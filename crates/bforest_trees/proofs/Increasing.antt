@@ -1,4 +1,4 @@
--- Keys that increase, from the last one that was seen.
+-- Whether keys increase, from the last key that was seen.
 use Rattle.bforest_nodes.specs.Entries.{IsIncreasing}
 use Rattle.bforest_nodes.proofs.Ordered.{above}
 use Rattle.std.proofs.Common.{List, None, Option, Some, [], ap, false, refl, subst, true, ◌∷◌, ◌≡◌}
@@ -11,35 +11,35 @@ use Rattle.std.specs.declared.cmp.Ordering.{Ordering}
 use Rattle.std.specs.declared.cmp.Ordering.TheVariants.{Equal, Greater, Less}
 
 module _ {K : Type 0} (cmp : K → K → Ordering) where
-  -- the keys increase, from the one before them, if there is one
+  -- the keys increase, and the first is greater than the key before them, if there is one
   abbrev pub IncreasesAfter : Option K → List K → Type 0
   IncreasesAfter None ks = IsStrictlySortedBy cmp ks
   IncreasesAfter (Some k) ks = IsStrictlySortedBy cmp (k ∷ ks)
 
-  -- a key that is less than the first may stand before it
+  -- a key that is less than the first may be put in front
   pub after_less : (o : IsTotalOrder cmp) (k q : K) (ks : List K) → cmp k q ≡ Less → IsStrictlySortedBy cmp (q ∷ ks) → IsStrictlySortedBy cmp (k ∷ q ∷ ks)
   unfolding IsStrictlySortedBy
   after_less o k q ks l h = ((l, above cmp o k q ks l h.0), h)
 
-  -- and one that stands before it is less
+  -- the first of increasing keys is less than the second, and the rest increases
   pub less-after : (k q : K) (ks : List K) → IsStrictlySortedBy cmp (k ∷ q ∷ ks) → (cmp k q ≡ Less) × IsStrictlySortedBy cmp (q ∷ ks)
   unfolding IsStrictlySortedBy
   less-after k q ks h = (h.0.0, h.1)
 
-  -- a last key alone increases
+  -- the empty list of keys increases after any last key
   pub alone : (last : Option K) → IncreasesAfter last []
   unfolding IsStrictlySortedBy
   alone None = tt
   alone (Some k) = (tt, tt)
 
 module _ {K X : Type 0} (cmp : K → K → Ordering) where
-  -- the whole list increases exactly if the rest does after the last key that was seen
+  -- the whole list increases exactly where the rest increases after the last key that was seen
   pub record IsDownTo (es : List (K × X)) (last : Option K) (rest : List (K × X)) : Type 0 where
     pub down : IsIncreasing cmp es → IncreasesAfter cmp last (keys_of rest)
     pub up : IncreasesAfter cmp last (keys_of rest) → IsIncreasing cmp es
 
   module _ (o : IsTotalOrder cmp) (es : List (K × X)) (last : Option K) (k : K) (v : X) (rest : List (K × X)) where
-    -- one entry more was seen, and follows
+    -- a key that is greater than the last one seen keeps `IsDownTo`
     pub IsDownTo-next : (seen : List (K × X)) → seen ≡ (k, v) ∷ rest → true ≡ option_map_or (λ b. is_lt (cmp b k)) last true → IsDownTo es last seen → IsDownTo es (Some k) rest
     IsDownTo-next seen e t h = go last t (subst (IsDownTo es last) e h)
       where
@@ -58,7 +58,7 @@ module _ {K X : Type 0} (cmp : K → K → Ordering) where
           up = λ up. h.up (after_less cmp o b k (keys_of rest) (less b t) up);
         }
 
-    -- one entry more was seen, and does not follow
+    -- a key that is not greater than the last one seen shows that the list does not increase
     pub not_increasing : (seen : List (K × X)) → seen ≡ (k, v) ∷ rest → false ≡ option_map_or (λ b. is_lt (cmp b k)) last true → IsDownTo es last seen → IsIncreasing cmp es → ⊥
     not_increasing seen e t h up = go last t (subst (IsDownTo es last) e h)
       where
@@ -66,7 +66,7 @@ module _ {K X : Type 0} (cmp : K → K → Ordering) where
         go None t h = cc
         go (Some b) t h = let bad : is_lt (cmp b k) ≡ true = ap is_lt (less-after cmp b k (keys_of rest) (h.down up)).0 in cc
 
-  -- one entry increases
+  -- a list of one entry increases
   pub IsIncreasing-one : (e : K × X) → IsIncreasing cmp (e ∷ [])
   unfolding IsStrictlySortedBy
   IsIncreasing-one e = (tt, tt)

@@ -17,7 +17,7 @@ module _ {K X : Type 0} (most : ℕ) (cmp : K → K → Ordering) (f : Forest K 
     abbrev needed : ℕ
     needed = need_of most cmp f (Some n) k
 
-    -- into the tree of a number
+    -- an insertion into a tree that succeeds
     pub inserts-ok : (f' : Forest K X) (n' : ℕ) (old : Option X) → value_for cmp (list_at f n) k ≡ old → IsPut most cmp f f' n n' k x → IsIncreasing cmp (put cmp (list_at f n) k x) → ¬ IsTooMany needed f → Inserts most cmp f (Some n) k x (Ok old) f' (Some n')
     inserts-ok f' n' old found told rises low = record {
       ok = sym found;
@@ -35,7 +35,7 @@ module _ {K X : Type 0} (most : ℕ) (cmp : K → K → Ordering) (f : Forest K 
       refused_handle = tt;
     }
 
-  -- a refusal, at any handle
+  -- an insertion at any handle that is refused
   pub inserts-err : (h : Option ℕ) (refused : OutOfMemory) → IsIncreasing cmp (list_of f h) → value_for cmp (list_of f h) k ≡ None → (refused ≡ Full) ↔ IsTooMany (need_of most cmp f h k) f → (refused ≡ Memory → NeedsGrowth (need_of most cmp f h k) f) → ¬ (need_of most cmp f h k ≤ free_of f) → Inserts most cmp f h k x (Err refused) f h
   inserts-err h refused up gone full memory scarce = record {
     ok = tt;
@@ -53,7 +53,7 @@ module _ {K X : Type 0} (most : ℕ) (cmp : K → K → Ordering) (f : Forest K 
     refused_handle = refl;
   }
 
-  -- the first entry of an empty handle
+  -- the insertion of the first entry of an empty handle
   pub inserts-first : (f' : Forest K X) (n : ℕ) → Becomes f None f' (Some n) ((k, x) ∷ []) → sizes_at f' n ≡ (1 ∷ []) ∷ [] → Takes 1 f f' → ¬ IsTooMany 1 f → Inserts most cmp f None k x (Ok None) f' (Some n)
   inserts-first f' n becomes sizes takes low = record {
     ok = refl;

@@ -1,4 +1,4 @@
--- Keys of a list that increases.
+-- Keys of a list that increases, by their places.
 use Rattle.bforest_nodes.specs.Entries.{IsIncreasing}
 use Rattle.std.proofs.Common.{IsTrue, List, Some, [], ap, arith, slice_get, subst, suc, sym, zero, ◌∙◌, ◌∷◌, ◌≡◌, ◌≤◌, ◌↔◌, ℕ}
 use Rattle.std.proofs.lemmas.Cmp.{tied_itself}
@@ -17,7 +17,7 @@ module _ {K X : Type 0} where
   all_at P (x ∷ es) (suc q) b a e = all_at P es q b a.1 e
 
 module _ {K X : Type 0} (cmp : K → K → Ordering) (o : IsTotalOrder cmp) where
-  -- a key is not greater than another exactly where its place is not behind
+  -- a key is at most another exactly where its place is at most the other's
   pub key-order : (es : List (K × X)) (p q : ℕ) (a b : K × X) → IsIncreasing cmp es → slice_get es p ≡ Some a → slice_get es q ≡ Some b → IsTrue (is_le (cmp a.0 b.0)) ↔ (p ≤ q)
   unfolding IsStrictlySortedBy
   key-order [] p q a b h d e = absurd (cc)

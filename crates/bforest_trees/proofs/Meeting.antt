@@ -12,7 +12,7 @@ use Rattle.std.proofs.Common.{Bool, IsTrue, List, None, Option, Some, [], ap, ar
 use Rattle.std.proofs.lemmas.Bool.Decides.{eqb_tells}
 use Rattle.std.specs.Option.{option_eq}
 
--- the answer of a comparison of two leaves with an index, or none
+-- whether two optional pairs of a leaf and an index are equal
 abbrev is_same : Option (ℕ × ℕ) → Option (ℕ × ℕ) → Bool
 is_same o o' = option_eq (λ x y. nat_eq x.0 y.0 && nat_eq x.1 y.1) o o'
 
@@ -33,7 +33,7 @@ module _ {K X : Type 0} where
   nodes-same : (a b : ℕ) (es fs : List (K × X)) (r s : List (LevelNode K X)) → node a es ∷ r ≡ node b fs ∷ s → (a ≡ b) × (es ≡ fs) × (r ≡ s)
   nodes-same a b es fs r s e = (cc, cc, cc)
 
-  -- a place of a row is in one node, at one index
+  -- two positions of a row at one place are in one node, at one index
   same-place : (before : List (LevelNode K X)) (a : ℕ) (es : List (K × X)) (after before2 : List (LevelNode K X)) (b : ℕ) (fs : List (K × X)) (after2 : List (LevelNode K X)) (i j : ℕ) → before ++ node a es ∷ after ≡ before2 ++ node b fs ∷ after2 → i < length es → j < length fs →
       length (flat before) + i ≡ length (flat before2) + j → (a ≡ b) × (i ≡ j)
   same-place [] a es after [] b fs after2 i j e low low2 at = ((nodes-same a b es fs after after2 e).0, omega (arith, at))
@@ -51,7 +51,7 @@ module _ {K X : Type 0} where
   here path = Some (leaf_of path, index_of path)
 
   module _ (most : ℕ) (f : Forest K X) (union : IsUnion most f) (root : ℕ) where
-    -- the place of a path, from its leaf and its index there
+    -- the place of a path on an entry is computed from its leaf and its index there
     in-leaf : (path : Path K X most) (p : ℕ) → StandsOn f root path p → path.size ≢ 0 → place_in (tree_of f.nodes root).leaves (leaf_of path) (index_of path) ≡ p
     in-leaf path p on some =
         let not : (path.size == 0) ≡ false = elim (eqb_tells path.size 0) [ inl w ↦ absurd (some w.1) | inr w ↦ w.0 ] in
@@ -66,7 +66,7 @@ module _ {K X : Type 0} where
           λ e. let same = same-place x.before (leaf_of a) x.entries x.after y.before (leaf_of b) y.entries y.after (index_of a) (index_of b) (sym x.row_is ∙ y.row_is) x.within y.within (sym x.place_is ∙ e ∙ y.place_is) in (λ j. Some (same.0 j, same.1 j)),
         )
 
-    -- or at the end
+    -- two paths, on entries or at the end, agree exactly where they stand at one place
     at-same : (a b : Path K X most) (p q : ℕ) (o o' : Option (ℕ × ℕ)) → StandsAt f root a p → StandsAt f root b q → (a.size ≡ 0 → o ≡ None) → (a.size ≢ 0 → o ≡ here a) → (b.size ≡ 0 → o' ≡ None) → (b.size ≢ 0 → o' ≡ here b) → (o ≡ o') ↔ (p ≡ q)
     at-same a b p q o o' s t end there end2 there2 =
         let tree = tree_of f.nodes root in
@@ -90,7 +90,7 @@ module _ {K X : Type 0} where
               )
         ]
 
-  -- in the list of a handle
+  -- two paths in the list of a handle agree exactly where they stand at one place
   pub spot-same : (most : ℕ) (f : Forest K X) (h : Option ℕ) (a b : Path K X most) (p q : ℕ) (o o' : Option (ℕ × ℕ)) (same : Bool) → (a.size ≡ 0 → o ≡ None) → (a.size ≢ 0 → o ≡ here a) → (b.size ≡ 0 → o' ≡ None) → (b.size ≢ 0 → o' ≡ here b) → same ≡ is_same o o' →
       IsUnion most f → IsSpot f h a p → IsSpot f h b q → IsTrue same ↔ (p ≡ q)
   spot-same most f None a b p q o o' same end there end2 there2 told union s t = (λ e. s.1 ∙ sym t.1, λ e. told ∙ (same-told o o').1 (end s.0 ∙ sym (end2 t.0)))

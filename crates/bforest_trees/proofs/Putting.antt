@@ -21,7 +21,7 @@ module _ {K X : Type 0} (cmp : K → K → Ordering) (es : List (K × X)) (k : K
       go None h = absurd (cc)
       go (Some e) h = refl
 
-  -- and one without a value is absent
+  -- a key without a value is absent
   pub absent-none : value_for cmp es k ≡ None → is_present cmp es k ≡ false
   absent-none h = go (entry_for cmp es k) h
     where
@@ -29,7 +29,7 @@ module _ {K X : Type 0} (cmp : K → K → Ordering) (es : List (K × X)) (k : K
       go None h = refl
       go (Some e) h = absurd (cc)
 
-  -- so is one whose value is told
+  -- a key for which a search found a value is present
   pub present-told : is_some (value_for cmp es k) ≡ true → is_present cmp es k ≡ true
   present-told h = go (entry_for cmp es k) h
     where
@@ -37,7 +37,7 @@ module _ {K X : Type 0} (cmp : K → K → Ordering) (es : List (K × X)) (k : K
       go None h = absurd (cc)
       go (Some e) h = refl
 
-  -- and one whose value is not is absent
+  -- a key for which a search found no value is absent
   pub absent-told : is_some (value_for cmp es k) ≡ false → is_present cmp es k ≡ false
   absent-told h = go (entry_for cmp es k) h
     where
@@ -45,14 +45,14 @@ module _ {K X : Type 0} (cmp : K → K → Ordering) (es : List (K × X)) (k : K
       go None h = refl
       go (Some e) h = absurd (cc)
 
--- an answer the other way round
+-- a negation moves from one side of an equation to the other
 pub swap-not : (a b : Bool) → not a ≡ b → a ≡ not b
 swap-not true true e = absurd (cc)
 swap-not true false e = refl
 swap-not false true e = refl
 swap-not false false e = absurd (cc)
 
--- a value that is not none is there
+-- an option that is not `None` is `Some`
 pub some-told : {A : Type 0} (o : Option A) → not (is_some o) ≡ false → IsSome o
 some-told None e = absurd (cc)
 some-told (Some x) e = refl
@@ -85,12 +85,12 @@ module _ {K X : Type 0} (most : ℕ) (cmp : K → K → Ordering) (f : Forest K 
     need-present =
         (λ j. if is_present cmp (list-root f n root j) k then 0 else need most (place cmp (list-root f n root j) k) (sizes_at f n)) ∙ (λ j. if here j then 0 else need most at (sizes_at f n))
 
-    -- and the sizes stay
+    -- the sizes stay where the key is present in the tree under a root
     pub sizes-present : sizes_with most cmp f (Some n) k ≡ ss
     sizes-present =
         (λ j. if is_present cmp (list-root f n root j) k then sizes-root f n root j else growth most (place cmp (list-root f n root j) k) (sizes-root f n root j)) ∙ (λ j. if here j then ss else growth most at ss)
 
-    -- its value is written
+    -- replacing the value of a present key inserts the entry
     pub put-here : (f' : Forest K X) (v : X) → Changes most f f' n n (with_value es at v) ss → slot_count f' ≡ slot_count f → f'.chain ≡ f.chain → IsPut most cmp f f' n n k v
     put-here f' v c slots chain = record {
       put = subst (λ (l : List (K × X)). Becomes f (Some n) f' (Some n) l) (sym (ap (λ (l : List (K × X)). put cmp l k v) (list-root f n root) ∙ put-present cmp es k v here)) (becomes most f f' n n (with_value es at v) ss c);
@@ -100,17 +100,17 @@ module _ {K X : Type 0} (most : ℕ) (cmp : K → K → Ordering) (f : Forest K 
     }
 
   module _ (gone : is_present cmp es k ≡ false) where
-    -- what is needed where the key is absent
+    -- the need of an absent key is that of an insertion at its place
     pub need-absent : need_of most cmp f (Some n) k ≡ need most at ss
     need-absent =
         (λ j. if is_present cmp (list-root f n root j) k then 0 else need most (place cmp (list-root f n root j) k) (sizes-root f n root j)) ∙ (λ j. if gone j then 0 else need most at ss)
 
-    -- the sizes after it
+    -- the sizes with an absent key are the growth at its place
     pub sizes-absent : sizes_with most cmp f (Some n) k ≡ growth most at ss
     sizes-absent =
         (λ j. if is_present cmp (list-root f n root j) k then sizes-root f n root j else growth most (place cmp (list-root f n root j) k) (sizes-root f n root j)) ∙ (λ j. if gone j then ss else growth most at ss)
 
-    -- its entry comes in
+    -- inserting a new entry at the place of an absent key inserts the entry
     pub put-new : (f' : Forest K X) (n' : ℕ) (v : X) → Changes most f f' n n' (insert es at (k, v)) (growth most at ss) → TakesNodes (need most at ss) f f' → (n' ≡ n) ↔ (length (growth most at ss) ≡ length ss) → IsPut most cmp f f' n n' k v
     put-new f' n' v c t same = record {
       put = subst (λ (l : List (K × X)). Becomes f (Some n) f' (Some n') l) (sym (ap (λ (l : List (K × X)). put cmp l k v) (list-root f n root) ∙ put-absent cmp es k v gone)) (becomes most f f' n n' (insert es at (k, v)) (growth most at ss) c);

@@ -1,4 +1,4 @@
--- What is left between the ends of a range, and steps of it.
+-- The entries that are left between the ends of a range, and steps of either end.
 use Rattle.bforest_trees.proofs.Changed.{list-root}
 use Rattle.bforest_trees.proofs.Between.{slice-between}
 use Rattle.bforest_nodes.specs.Entries.{IsIncreasing}
@@ -26,7 +26,7 @@ use Rattle.std.proofs.lemmas.Bool.{cases_lt}
 use Rattle.std.specs.Iterator.{YieldsFirst, YieldsLast}
 
 module _ {A : Type 0} where
-  -- the first of a slice
+  -- a slice that is not empty begins with the element at its start
   range-first : (xs : List A) (i j : ℕ) (x : A) → i < j → slice_get xs i ≡ Some x → slice_range xs i j ≡ x ∷ slice_range xs (suc i) j
   range-first xs i j x low e = let n : j - i ≡ suc (j - suc i) = omega (arith, low) in (λ k. take (n k) (drop-read xs i x e k))
 
@@ -35,7 +35,7 @@ module _ {A : Type 0} where
   get-drop [] (suc i) k = refl
   get-drop (y ∷ xs) (suc i) k = let n : suc (i + k) ≡ suc i + k = omega arith in get-drop xs i k ∙ ap (λ m. slice_get (y ∷ xs) m) n
 
-  -- the last of a slice
+  -- a slice that is not empty ends with the element before its end
   range-last : (xs : List A) (i j : ℕ) (x : A) → i ≤ j → slice_get xs j ≡ Some x → slice_range xs i (suc j) ≡ slice_range xs i j ++ x ∷ []
   range-last xs i j x low e =
       let n : suc j - i ≡ suc (j - i) = omega (arith, low) in
@@ -45,19 +45,19 @@ module _ {A : Type 0} where
   range-none : (xs : List A) (i j : ℕ) → j ≤ i → slice_range xs i j ≡ []
   range-none xs i j low = let n : j - i ≡ 0 = omega (arith, low) in ap (λ k. take k (drop i xs)) n
 
-  -- an element is there
+  -- a place below the length has an element
   read-at : (xs : List A) (p : ℕ) → p < length xs → (x : A) × (slice_get xs p ≡ Some x)
   read-at [] p low = absurd (omega (arith, low))
   read-at (x ∷ xs) zero low = (x, refl)
   read-at (x ∷ xs) (suc p) low = read-at xs p (omega (arith, low))
 
 module _ {K X : Type 0} {n : ℕ} (f : Forest K X) where
-  -- a path is at one place alone
+  -- `spot_of` computes the place where a path stands
   spot-place : IsUnion n f → (h : Option ℕ) (path : Path K X n) (p : ℕ) → IsSpot f h path p → spot_of f h path ≡ p
   spot-place union None path p s = sym s.1
   spot-place union (Some root) path p s = at-spot n f root path p union s
 
-  -- a path with no node is behind the last entry
+  -- a path with no node stands behind the last entry
   pub spot-last : (h : Option ℕ) (path : Path K X n) → IsLive f h → IsAtEnd path → IsSpot f h path (length (list_of f h))
   spot-last h path live end = let at = spot-end f path h live end in subst (λ (p : ℕ). IsSpot f h path p) (go h at.place at.spot) at.spot
     where
@@ -66,7 +66,7 @@ module _ {K X : Type 0} {n : ℕ} (f : Forest K X) where
       go (Some root) p s = at_end path.node path.entry (tree_of f.nodes root) p path.size end s.at ∙ sym (ap length (list-root f root s.root_is))
 
 module _ {K X : Type 0} {n : ℕ} (f : Forest K X) (h : Option ℕ) where
-  -- what is left between two places
+  -- two paths at ordered places are a range of the entries between them
   range-made : IsUnion n f → IsLive f h → (ends : Ends K X n) (s e : ℕ) → IsSpot f h ends.front s → IsSpot f h ends.back e → s ≤ e → IsRange f h ends × (left_in f h ends ≡ slice_range (list_of f h) s e)
   unfolding left_in
   range-made union live ends s e front back low =
@@ -82,7 +82,7 @@ module _ {K X : Type 0} {n : ℕ} (f : Forest K X) (h : Option ℕ) where
         λ j. slice_range (list_of f h) (from j) (to j),
       )
 
-  -- nothing between two paths with no node
+  -- two paths with no node are an empty range
   range-ended : IsUnion n f → IsLive f h → (ends : Ends K X n) → IsAtEnd ends.front → IsAtEnd ends.back → IsRange f h ends × (left_in f h ends ≡ [])
   range-ended union live ends front back =
       let last = length (list_of f h) in
@@ -99,7 +99,7 @@ module _ {K X : Type 0} {n : ℕ} (f : Forest K X) (h : Option ℕ) where
     to-most : to ≤ length (list_of f h)
     to-most = spot-within f ends.back h to r.back
 
-    -- nothing is left exactly where the ends are at one place
+    -- a range is empty exactly where its ends stand at one place
     pub range-empty : (left_in f h ends ≡ []) ↔ (from ≡ to)
     unfolding left_in
     range-empty = (
@@ -117,7 +117,7 @@ module _ {K X : Type 0} {n : ℕ} (f : Forest K X) (h : Option ℕ) where
         | inr ge ↦ absurd (let bad : false ≡ true = sym more ∙ told.1 (range-empty.1 (omega (arith, ge, r.ordered))) in cc)
       ]
 
-      -- a step of the front
+      -- a step of the front removes the first entry of the range
       pub range-next : ((at : AtSpot f h ends.front) → o ≡ slice_get (list_of f h) at.place) → ((at : AtSpot f h ends.front) → IsSpot f h path (min (at.place + 1) (length (list_of f h)))) → IsRange f h (record { front = path; back = ends.back }) × YieldsFirst (left_in f h) ends o (record { front = path; back = ends.back })
       unfolding left_in
       range-next read moved =
@@ -128,7 +128,7 @@ module _ {K X : Type 0} {n : ℕ} (f : Forest K X) (h : Option ℕ) where
           let some = read-at (list_of f h) from (omega (arith, low, to-most)) in
           (made.0, subst (λ (z : Option (K × X)). YieldsFirst (left_in f h) ends z now) (sym (read at ∙ some.1)) (range-first (list_of f h) from to some.0 low some.1 ∙ ap (λ l. some.0 ∷ l) (sym made.1)))
 
-      -- a step of the back
+      -- a step of the back removes the last entry of the range
       pub range-back : ((at : AtSpot f h ends.back) → o ≡ entry_before (list_of f h) at.place) → ((at : AtSpot f h ends.back) → IsSpot f h path (at.place - 1)) → IsRange f h (record { front = ends.front; back = path }) × YieldsLast (left_in f h) ends o (record { front = ends.front; back = path })
       unfolding left_in
       range-back read moved =
@@ -142,16 +142,16 @@ module _ {K X : Type 0} {n : ℕ} (f : Forest K X) (h : Option ℕ) where
                 (ap (λ z. slice_range (list_of f h) from z) one ∙ range-last (list_of f h) from (to - 1) some.0 (omega (arith, low)) some.1 ∙ ap (λ l. l ++ some.0 ∷ []) (sym made.1)),
           )
 
--- what is left between two ends is what is within bounds
+-- the ends are a range of the entries within the bounds
 abbrev pub IsWithin : {K X : Type 0} {n : ℕ} → Forest K X → Option ℕ → (K → K → Ordering) → Bound K → Bound K → Ends K X n → Type 0
 IsWithin f h cmp lo hi ends = IsRange f h ends × (left_in f h ends ≡ entries_between cmp lo hi (list_of f h))
 
--- a range whose ends were sought, and then compared by the entries where they stand
+-- a range whose ends were found by two searches, and compared by the entries where they stand
 module _ {K X : Type 0} {n : ℕ} (f : Forest K X) (h : Option ℕ) (cmp : K → K → Ordering) (lo hi : Bound K) (front back : Path K X n) where
   pub record IsSought (ordered : Bool) : Type 0 where
-    -- the front is not behind the back
+    -- the range where the front is not behind the back
     pub found : ordered ≡ true → IsWithin f h cmp lo hi (record { front = front; back = back })
-    -- else nothing is within the bounds
+    -- the empty range, where the front is behind the back
     pub none : ordered ≡ false → (ends : Ends K X n) → IsAtEnd ends.front → IsAtEnd ends.back → IsWithin f h cmp lo hi ends
 
   pub sought : (p : Forest K X) → p ≡ f → IsUnion n p → IsLive f h → IsTotalOrder cmp → IsIncreasing cmp (list_of f h) → IsSpot f h front (start_place cmp lo (list_of f h)) → IsSpot f h back (end_place cmp hi (list_of f h)) →

@@ -1,4 +1,4 @@
--- What is left to be read where a path stands, and a step of a reader.
+-- The entries left to be read from a path on, and a step of a reader.
 use Rattle.bforest_trees.proofs.Changed.{list-root}
 use Rattle.bforest_trees.specs.Forest.{list_of}
 use Rattle.bforest_trees.specs.Layout.{Entered, IsOnOrEnds, IsReader, IsReading, IsSpent, OnFirst, Opens, entries_from, left_from, left_of}
@@ -23,17 +23,17 @@ use Rattle.std.proofs.lemmas.Option.{slice_get_within}
 use Rattle.std.specs.Iterator.{MakesProgress, YieldsFirst, YieldsLast, item_count}
 
 module _ {K V : Type 0} {n : ℕ} where
-  -- what is left where a path points to a place
+  -- the entries from a path that points to a place
   pub pointing : (table : Table K V) (root : ℕ) (path : Path K V n) (place : ℕ) → IsUnion n table → PointsTo table root path place → entries_from table path ≡ drop place (list_under table root)
   pointing table root path place union to =
       ap (λ r. drop (spot table r path) (list_under table r)) (points-root n table root path place union to)
       ∙ ap (λ z. drop z (list_under table root)) (points-spot n table root path place union to)
 
-  -- where it stands on an entry
+  -- the entries from a path that stands on an entry
   pub standing : (table : Table K V) (root : ℕ) (path : Path K V n) (place : ℕ) → IsUnion n table → StandsOn table root path place → entries_from table path ≡ drop place (list_under table root)
   standing table root path place union on = pointing table root path place union (on-points table root path place on)
 
-  -- nothing at the end
+  -- no entries are left from a path at the end
   pub ended : (table : Table K V) (path : Path K V n) → IsAtEnd path → entries_from table path ≡ []
   ended table path none =
       let root = path_root path in
@@ -41,7 +41,7 @@ module _ {K V : Type 0} {n : ℕ} where
       let last : spot table root path ≡ length (list_under table root) = λ j. if end j then length (list_under table root) else place_in (tree_of table.nodes root).leaves (leaf_of path) (index_of path) in
       ap (λ z. drop z (list_under table root)) last ∙ drop-length (list_under table root)
 
-  -- either way
+  -- the entries from a path that stands on an entry or at the end
   pub left-at : (table : Table K V) (root : ℕ) (path : Path K V n) (place : ℕ) → IsUnion n table → StandsAt table root path place → entries_from table path ≡ drop place (list_under table root)
   left-at table root path place union s = elim (eqb_tells path.size 0) [
     | inl w ↦ ended table path w.1 ∙ sym (ap (λ z. drop z (list_under table root)) (at_end path.node path.entry (tree_of table.nodes root) place path.size w.1 s.at) ∙ drop-length (list_under table root))
@@ -49,7 +49,7 @@ module _ {K V : Type 0} {n : ℕ} where
   ]
 
 module _ {K V : Type 0} {n : ℕ} (table : Table K V) (path path' : Path K V n) (o o' : Option (K × V)) where
-  -- a step from entry to entry: the first answer is the entry where the path stood
+  -- a step from entry to entry, which answers the entry where the path stood
   pub record Step : Type 0 where
     pub value : (at : Standing table path) → o ≡ slice_get (list_under table at.root) at.place
     pub ended : IsAtEnd path → o ≡ None
@@ -61,7 +61,7 @@ module _ {K V : Type 0} {n : ℕ} (table : Table K V) (path path' : Path K V n) 
     pub on : IsOnOrEnds table path'
     pub yields : YieldsFirst (λ (entries : List (K × V)). entries) (entries_from table path) o (entries_from table path')
 
-  -- it was the first of those that were left
+  -- a step removes the first of the entries that are left
   pub stepped : IsOnOrEnds table path → Step → Stepped
   stepped r s = elim (eqb_tells path.size 0) [
     | inl w ↦ (
@@ -88,7 +88,7 @@ module _ {K V : Type 0} {n : ℕ} (table : Table K V) (path path' : Path K V n) 
 pub held-leaf : {K V : Type 0} (slots : List (Content K V)) (number : ℕ) (content : Content K V) (entries : List (K × V)) → slice_get slots number ≡ Some content → slice_get slots number ≡ Some (leaf_content entries) → IsLeaf content
 held-leaf slots number content entries found leaf = subst IsLeaf (read_same slots number content (leaf_content entries) found leaf) tt
 
--- and has its keys and its values
+-- a node that is read by a leaf's number has the leaf's keys and values
 held : {K V : Type 0} (slots : List (Content K V)) (number : ℕ) (content : Content K V) (entries : List (K × V)) (keys : List K) (vals : List V) → slice_get slots number ≡ Some content → slice_get slots number ≡ Some (leaf_content entries) → content ≡ Leaf keys vals → (keys ≡ entry_keys entries) × (vals ≡ entry_items entries)
 held slots number content entries keys vals found leaf is =
     let same = read_same slots number content (leaf_content entries) found leaf in (
@@ -97,13 +97,13 @@ held slots number content entries keys vals found leaf is =
     )
 
 module _ {K V : Type 0} {n : ℕ} (table : Table K V) where
-  -- where a path stands on the first entry of a leaf, the leaf's entries are left, and those behind them
+  -- from the first entry of a leaf on, the leaf's entries and those behind them are left
   from-leaf : (path : Path K V n) (entries : List (K × V)) → IsUnion n table → (o : OnFirst table path entries) → entries_from table path ≡ entries ++ drop (o.place + length entries) (list_under table o.root)
   from-leaf path entries union o =
       let on : StandsOn table o.root path o.place = subst (λ (z : ℕ). StandsOn table o.root path z) (omega (arith, o.first)) o.on.on in
       standing table o.root path o.place union on ∙ o.on.list
 
-  -- where a path stands on the first entry of a leaf
+  -- a path on the first entry of a leaf opens it
   opens-at : (root place : ℕ) (path : Path K V n) (leaf : ℕ) (entries : List (K × V)) → IsUnion n table → OnLeaf table root path place entries → leaf ≡ leaf_of path → index_of path ≡ 0 → Opens table (drop place (list_under table root)) path leaf
   opens-at root place path leaf entries union on leaf_is first =
       let o : OnFirst table path entries = record { root = root; place = place; on = on; first = first } in
@@ -115,18 +115,18 @@ module _ {K V : Type 0} {n : ℕ} (table : Table K V) where
         some = omega (arith, on.within);
       }
 
-  -- a handle's tree that is read from its first leaf on
+  -- a path on the first leaf of a handle's tree opens it
   pub opens-first : (handle : Option ℕ) (root : ℕ) (path : Path K V n) (leaf : ℕ) → IsUnion n table → handle ≡ Some root → leaf ≡ leaf_of path → index_of path ≡ 0 → (entries : List (K × V)) × OnLeaf table root path 0 entries → Opens table (list_of table handle) path leaf
   opens-first handle root path leaf union handle_is leaf_is first w =
       let list : list_of table handle ≡ list_under table root = ap (λ (h : Option ℕ). list_of table h) handle_is ∙ list-root table root w.1.on.root_is in
       subst (λ (z : List (K × V)). Opens table z path leaf) (sym list) (opens-at root 0 path leaf w.0 union w.1 leaf_is first)
 
   module _ (path : Path K V n) (entries : List (K × V)) (index : ℕ) (r : IsReading table path entries index) where
-    -- the path is on an entry, or at the end
+    -- a path that is not at the end stands on an entry
     pub on-entry : (¬ IsAtEnd path) → OnEntry table path
     on-entry some = let o = r.leaf some in record { root = o.root; place = o.place + index_of path; on = o.on.on }
 
-    -- the entry of the leaf at the index is the first that is left
+    -- the leaf's entry at the index is the first that is left
     pub first-left : (entry : K × V) → slice_get entries index ≡ Some entry → (left_from table path index ≡ entry ∷ left_from table path (index + 1)) × IsReading table path entries (index + 1)
     first-left entry found =
         let low = slice_get_within entries index entry found in
@@ -139,18 +139,18 @@ module _ {K V : Type 0} {n : ℕ} (table : Table K V) where
         )
 
     module _ (read : length entries ≤ index) where
-      -- behind the leaf's last entry those behind the leaf are left
+      -- where the leaf's entries are read, those behind the leaf are left
       behind-leaf : (o : OnFirst table path entries) → left_from table path index ≡ drop (o.place + length entries) (list_under table o.root)
       behind-leaf o = ap (λ z. drop index z) (from-leaf path entries r.union o) ∙ drop_at entries (drop (o.place + length entries) (list_under table o.root)) index (omega (arith, r.within, read))
 
-      -- they are those from the next leaf on
+      -- a path on the next leaf opens it with what is left behind the leaf
       pub opens-next : (new : Path K V n) (leaf : ℕ) → (¬ IsAtEnd path) → leaf ≡ leaf_of new → index_of new ≡ 0 → ((root place : ℕ) (es : List (K × V)) → OnLeaf table root path place es → (more : List (K × V)) × OnLeaf table root new (place + length es) more) → Opens table (left_from table path index) new leaf
       opens-next new leaf some leaf_is first stands =
           let o = r.leaf some in
           let w = stands o.root o.place entries o.on in
           subst (λ (z : List (K × V)). Opens table z new leaf) (sym (behind-leaf o)) (opens-at o.root (o.place + length entries) new leaf w.0 r.union w.1 leaf_is first)
 
-      -- or none, where it was the last
+      -- no entries are left behind the last leaf
       pub none-left : ((root place : ℕ) (es : List (K × V)) → OnLeaf table root path place es → place + length es ≡ length (list_under table root)) → left_from table path index ≡ []
       none-left last = elim (eqb_tells path.size 0) [
         | inl w ↦ ap (λ z. drop index z) (ended table path w.1) ∙ drop_all index [] (omega arith)
@@ -160,11 +160,11 @@ module _ {K V : Type 0} {n : ℕ} (table : Table K V) where
             )
       ]
 
-  -- a reader has read the entries of its leaf where it has read the keys that it holds
+  -- a reader has read its leaf's entries where it has read the keys that it holds
   pub all-read : (reader : Reader K V n) (r : IsReader table reader) → length reader.keys.now ≤ reader.index → length r.entries ≤ reader.index
   all-read reader r read = omega (arith, read, ap length r.keys, length-map r.entries (λ e. e.0))
 
-  -- it holds as many values as keys
+  -- a reader holds as many values as keys
   pub held-same : (reader : Reader K V n) → IsReader table reader → length reader.keys.now ≡ length reader.vals.now
   held-same reader r = ap length r.keys ∙ length-map r.entries (λ e. e.0) ∙ sym (length-map r.entries (λ e. e.1)) ∙ sym (ap length r.vals)
 
@@ -179,7 +179,7 @@ module _ {K V : Type 0} {n : ℕ} (table : Table K V) where
       let s = first-left old.path r.entries old.index r.reading entry found in
       subst (λ (z : Reader K V n). Taken old z entry) (sym is) (record { left = s.0; reader = record { entries = r.entries; reading = s.1; keys = r.keys; vals = r.vals } })
 
-  -- a reader to which nothing is left, and that stays as it was
+  -- a reader to which nothing is left, and that stays as it is
   pub record Over (old new : Reader K V n) : Type 0 where
     pub left : (left_of table old ≡ []) × (left_of table new ≡ [])
     pub reader : IsReader table new
@@ -208,12 +208,12 @@ module _ {K V : Type 0} {n : ℕ} (table : Table K V) where
         same = keys ∙ sym vals;
       }
 
--- an iterator whose entries are given one by one comes to its end
+-- an iterator that yields the first of the entries left makes progress
 pub progress : {A P : Type 0} (ready : P) (old new : List A) (o : Option A) → YieldsFirst (λ (entries : List A). entries) old o new → MakesProgress (λ (entries : List A). P) (item_count (λ (entries : List A). entries)) old o new
 progress ready old new (Some entry) steps = record { on = λ fin. (ready, tt, omega (arith, ap length steps)); keeps = ready; rests = λ fin. tt }
 progress ready old new None steps = record { on = λ fin. tt; keeps = tt; rests = λ fin. tt }
 
--- so does one whose entries are given from the end
+-- an iterator that yields the last of the entries left makes progress
 pub progress-back : {A P : Type 0} (ready : P) (old new : List A) (o : Option A) → YieldsLast (λ (entries : List A). entries) old o new → MakesProgress (λ (entries : List A). P) (item_count (λ (entries : List A). entries)) old o new
 progress-back ready old new (Some entry) steps = record { on = λ fin. (ready, tt, omega (arith, ap length steps, length-append new (entry ∷ []))); keeps = ready; rests = λ fin. tt }
 progress-back ready old new None steps = record { on = λ fin. tt; keeps = tt; rests = λ fin. tt }

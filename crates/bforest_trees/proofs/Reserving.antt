@@ -1,4 +1,4 @@
--- What is left where slots are asked for ahead.
+-- What reserving slots leaves.
 use Rattle.bforest_core.specs.Change.{KeepsTrees}
 use Rattle.bforest_core.specs.Table.{NeedsGrowth, reserved, room}
 use Rattle.bforest_core.specs.declared.pool.OutOfMemory.TheVariants.{Full, Memory}

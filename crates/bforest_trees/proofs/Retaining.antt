@@ -1,4 +1,4 @@
--- What stays of a list that increases, and the answer of `retain` as a change of a forest.
+-- What `retain` keeps of a list that increases, and its answer as a change of a forest.
 use Rattle.bforest_trees.proofs.Changed.{becomes, list-root, sizes-root}
 use Rattle.bforest_trees.proofs.Cutting.{becomes-ended, gives}
 use Rattle.bforest_trees.specs.Calls.{Filters}
@@ -22,7 +22,7 @@ module _ {K X : Type 0} where
   all_kept P (e ∷ es) ((true, w) ∷ answers) a = (a.0, all_kept P es answers a.1)
   all_kept P (e ∷ es) ((false, w) ∷ answers) a = all_kept P es answers a.1
 
-  -- so what stays of a list that increases does
+  -- what stays of a list that increases, increases
   pub IsIncreasing-kept : (cmp : K → K → Ordering) (es : List (K × X)) (answers : List (Bool × X)) → IsIncreasing cmp es → IsIncreasing cmp (kept_by es answers)
   unfolding IsStrictlySortedBy
   IsIncreasing-kept cmp [] answers up = tt
@@ -30,14 +30,14 @@ module _ {K X : Type 0} where
   IsIncreasing-kept cmp (e ∷ es) ((true, w) ∷ answers) up = (all_kept (λ y. cmp e.0 y ≡ Less) es answers up.0, IsIncreasing-kept cmp es answers up.1)
   IsIncreasing-kept cmp (e ∷ es) ((false, w) ∷ answers) up = IsIncreasing-kept cmp es answers up.1
 
-  -- no more stay than there were
+  -- at most as many entries stay as the list has
   kept_fewer : (es : List (K × X)) (answers : List (Bool × X)) → length (kept_by es answers) ≤ length es
   kept_fewer [] answers = omega arith
   kept_fewer (e ∷ es) [] = omega arith
   kept_fewer (e ∷ es) ((true, w) ∷ answers) = omega (arith, kept_fewer es answers)
   kept_fewer (e ∷ es) ((false, w) ∷ answers) = omega (arith, kept_fewer es answers)
 
--- where all stay, the nodes have the sizes of before
+-- where all entries stay, the sizes stay
 pub all-stay : {F K X : Type 0} (step : F → K → X → Bool → X → F → Type 0) (most : ℕ) (f : F) (place : ℕ) (es : List (K × X)) (answers : List (Bool × X)) (sizes : List (List ℕ)) → AsksEach step f es answers → length (kept_by es answers) ≡ length es → sizes_by most place answers sizes ≡ sizes
 all-stay step most f place [] [] sizes asked all = refl
 all-stay step most f place [] (a ∷ answers) sizes asked all = absurd (cc)
@@ -52,19 +52,19 @@ module _ {F K X : Type 0} (step : F → K → X → Bool → X → F → Type 0)
   abbrev sizes_was : List (List ℕ)
   sizes_was = sizes_of (tree_of f.nodes r)
 
-  -- a union of trees either way
+  -- the table is a union of trees, whether a root or none is answered
   pub union-kept : (o : Option ℕ) → IfSome o (λ r'. Retained most step f f' r r' q) → (o ≡ None → RetainedNone most step f f' r q) → IsUnion most f'
   union-kept None c e = (e refl).ended.union
   union-kept (Some r') c e = c.changes.union
 
-  -- what stays, under the answer
+  -- the list and sizes of the answered handle are those that the predicate retains
   pub list-kept : (o : Option ℕ) → IfSome o (λ r'. Retained most step f f' r r' q) → (o ≡ None → RetainedNone most step f f' r q) → Retains step most q list_was sizes_was (list_of f' o) (forest_sizes f' o)
   list-kept None c e = (e refl).retains
   list-kept (Some r') c e =
       subst (λ (z : List (List ℕ)). Retains step most q list_was sizes_was (list_of f' (Some r')) z) (sym (sizes-root f' r' c.changes.root_is ∙ c.changes.sizes_are))
       (subst (λ (z : List (K × X)). Retains step most q list_was sizes_was z c.sizes) (sym (list-root f' r' c.changes.root_is ∙ c.changes.list_is)) c.retains)
 
-  -- no other handle's tree changes
+  -- the answered handle becomes the list that stays
   pub becomes-kept : (o : Option ℕ) → IfSome o (λ r'. Retained most step f f' r r' q) → (o ≡ None → RetainedNone most step f f' r q) → Becomes f (Some r) f' o (list_of f' o)
   becomes-kept None c e = becomes-ended most f f' r (e refl).ended
   becomes-kept (Some r') c e =
@@ -73,19 +73,19 @@ module _ {F K X : Type 0} (step : F → K → X → Bool → X → F → Type 0)
   some_same : (n p : ℕ) → Some n ≡ Some p → n ≡ p
   some_same n p e = cc
 
-  -- the number stays exactly where the levels do
+  -- the handle keeps its number exactly where the number of levels stays
   pub same-kept : (o : Option ℕ) → IfSome o (λ r'. Retained most step f f' r r' q) → (o ≡ Some r) ↔ (length (forest_sizes f' o) ≡ length sizes_was)
   same-kept None c = (λ e. absurd (cc), λ e. absurd (omega (arith, e)))
   same-kept (Some r') c =
       let n = ap length (sizes-root f' r' c.changes.root_is ∙ c.changes.sizes_are) in
       (λ e. n ∙ c.same_root.0 (some_same r' r e), λ e. ap Some (c.same_root.1 (sym n ∙ e)))
 
-  -- the nodes that are left over lie free
+  -- the nodes that the kept entries do not need are free
   pub gives-kept : (o : Option ℕ) → IfSome o (λ r'. Retained most step f f' r r' q) → (o ≡ None → RetainedNone most step f f' r q) → Gives sizes_was (forest_sizes f' o) f f'
   gives-kept None c e = gives f f' sizes_was [] (e refl).gives
   gives-kept (Some r') c e = subst (λ (z : List (List ℕ)). Gives sizes_was z f f') (sym (sizes-root f' r' c.changes.root_is ∙ c.changes.sizes_are)) (gives f f' sizes_was c.sizes c.gives)
 
-  -- all that is left
+  -- `retain` at a handle, as one record
   pub filters : (o : Option ℕ) → list_was ≡ list_at f r → sizes_was ≡ sizes_at f r → IfSome o (λ r'. Retained most step f f' r r' q) → (o ≡ None → RetainedNone most step f f' r q) → Filters most step f (Some r) q f' o
   filters o list sizes c e =
       let kept = subst (λ (z : List (List ℕ)). Retains step most q (list_at f r) z (list_of f' o) (forest_sizes f' o)) sizes

@@ -39,7 +39,7 @@ module _ {K X : Type 0} where
   take_written (x ∷ xs) zero w e here ks = let same : x ≡ e = cc in ap (λ z. (z.0, w) ∷ ks) same
   take_written (x ∷ xs) (suc p) w e here ks = ap (λ l. x ∷ l) (take_written xs p w e here ks)
 
--- levels go, but none comes
+-- trimming levels adds none
 trimmed_fewer : (levels : List (List ℕ)) → length (trimmed levels) ≤ length levels
 trimmed_fewer [] = omega arith
 trimmed_fewer ([] ∷ levels) = omega arith
@@ -51,12 +51,12 @@ loss_fewer None levels = omega arith
 loss_fewer (Some p) [] = omega arith
 loss_fewer (Some p) (level ∷ levels) = omega (arith, loss_fewer (loss 8 p level).0 levels)
 
--- so a removal adds no level
+-- a removal adds no level
 pub shrink-fewer : (n p : ℕ) (sizes : List (List ℕ)) → length (shrink n p sizes) ≤ length sizes
 shrink-fewer n p [] = omega arith
 shrink-fewer n p (leaves ∷ levels) = omega (arith, trimmed_fewer ((loss n p leaves).1 ∷ loss_above (loss n p leaves).0 levels), loss_fewer (loss n p leaves).0 levels)
 
--- an entry answered no was taken out
+-- a step that removed an entry answered false
 pub sifted-out : {F K X : Type 0} (most : ℕ) (step : F → K → X → Bool → X → F → Type 0) (old new : Table K X) (root : ℕ) (path' : Path K X most) (f f' : F) (list : List (K × X)) (sizes : List (List ℕ)) (place : ℕ) (k : K) (v w : X) → step f k v false w f' → (o : Option ℕ) → IfSome o (λ root'. Changes most old new root root' (remove list place) (shrink most place sizes)) → GivesNodes sizes (shrink most place sizes) old new →
     IfSome o (λ root'. StandsAt new root' path' place) → IfSome o (λ root'. (root' ≡ root) ↔ (length (shrink most place sizes) ≡ length sizes)) → (o ≢ Some root → 0 < count root new.chain) → IfSome o (λ root'. Stepped most step old new root root' path' f f' list sizes place k v)
 sifted-out most step old new root path' f f' list sizes place k v w t None ch gv at level freed = tt
@@ -72,7 +72,7 @@ sifted-out most step old new root path' f f' list sizes place k v w t (Some root
 }
 
 module _ {F K X : Type 0} (most : ℕ) (step : F → K → X → Bool → X → F → Type 0) (may : F → K → X → Type 0) (old : Table K X) (first : ℕ) (f₀ : F) where
-  -- all in front of the path's place was asked and is as it stays, and the rest is as it was
+  -- the entries in front of the path's place are asked, and the rest is as before
   pub record Sifting (now : Table K X) (root : ℕ) (f : F) (path : Path K X most) : Type 0 where
     pub place : ℕ
     pub changes : Changes most old now first root (list_under now root) (sizes_under now root)
@@ -84,7 +84,7 @@ module _ {F K X : Type 0} (most : ℕ) (step : F → K → X → Bool → X → 
     pub same : root ≡ first → length (sizes_under now root) ≡ length (sizes_under old first)
     pub gone : root ≢ first → (0 < count first now.chain) × (length (sizes_under now root) < length (sizes_under old first))
 
-  -- at first nothing was asked
+  -- before the first step no entry is asked
   pub sifting-first : (path : Path K X most) → IsUnion most old → StandsOn old first path 0 → MayAskEach step may f₀ (list_under old first) → Sifting old first f₀ path
   sifting-first path union s ready = record {
     place = 0;
@@ -99,7 +99,7 @@ module _ {F K X : Type 0} (most : ℕ) (step : F → K → X → Bool → X → 
   }
 
   module _ (now : Table K X) (root : ℕ) (f : F) (path : Path K X most) (s : Sifting now root f path) where
-    -- at last all was asked
+    -- after the last step all entries are asked
     pub sifting-last : None ≡ slice_get (list_under now root) s.place → Retained most step old now first root f₀
     sifting-last e =
         let past = read_none (list_under now root) s.place e in
@@ -122,15 +122,15 @@ module _ {F K X : Type 0} (most : ℕ) (step : F → K → X → Bool → X → 
       ready : MayAskEach step may f ((k, v) ∷ drop (suc s.place) (list_under now root))
       ready = subst (MayAskEach step may f) todo s.ready
 
-      -- the entry here may be asked
+      -- the predicate may be asked of the entry at the path's place
       pub sifting-may : may f k v
       sifting-may = ready.at [] (drop (suc s.place) (list_under now root)) f k v refl refl
 
-      -- the path stands at it
+      -- the path stands on the entry at its place
       pub sifting-stands : StandsOn now root path s.place
       sifting-stands = at-on now root path s.place s.at (slice_get_within (list_under now root) s.place (k, v) (sym here))
 
-      -- one answer leads to what is asked of the rest
+      -- the sifting of the rest after one answer is the sifting of the whole list
       asked_on : (stays : Bool) (w : X) (f' : F) → step f k v stays w f' → (xs' : List (K × X)) (sizes' : List (List ℕ)) (place' : ℕ) → place' ≡ (if stays then suc s.place else s.place) → sizes' ≡ (if stays then sizes_under now root else shrink most s.place (sizes_under now root)) → drop place' xs' ≡ drop (suc s.place) (list_under now root) → ((ks : List (K × X)) → take place' xs' ++ ks ≡ take s.place (list_under now root) ++ (if stays then (k, w) ∷ ks else ks)) →
           (ks : List (K × X)) (us : List (List ℕ)) → Sifts step most f' place' (drop place' xs') sizes' ks us → Sifts step most f₀ 0 (list_under old first) (sizes_under old first) (take place' xs' ++ ks) us
       asked_on stays w f' t xs' sizes' place' place_is sizes_are same front ks us r =
@@ -142,11 +142,11 @@ module _ {F K X : Type 0} (most : ℕ) (step : F → K → X → Bool → X → 
           (s.rest (if stays then (k, w) ∷ ks else ks) us
           (subst (λ (l : List (K × X)). Sifts step most f s.place l (sizes_under now root) (if stays then (k, w) ∷ ks else ks) us) (sym todo) (stays, w, f', ks, t, on, refl)))
 
-      -- and to the rest that may be asked
+      -- the predicate may be asked of the rest after one answer
       ready_on : (stays : Bool) (w : X) (f' : F) → step f k v stays w f' → (xs : List (K × X)) → xs ≡ drop (suc s.place) (list_under now root) → MayAskEach step may f' xs
       ready_on stays w f' t xs same = record { at = λ before after u q x is r. ready.at ((k, v) ∷ before) after u q x (ap (λ m. (k, v) ∷ m) (sym same ∙ is)) (f', (stays, w, t), r) }
 
-      -- what follows of one answer, whichever it is
+      -- the next state of the loop, whatever the predicate answers
       module _ (new : Table K X) (root' : ℕ) (f' : F) (path' : Path K X most) where
         next_at : (stays : Bool) (w : X) → step f k v stays w f' → (place' : ℕ) (es : List (K × X)) (us : List (List ℕ)) → place' ≡ (if stays then suc s.place else s.place) → us ≡ (if stays then sizes_under now root else shrink most s.place (sizes_under now root)) → length us ≤ length (sizes_under now root) →
             drop place' es ≡ drop (suc s.place) (list_under now root) → ((ks : List (K × X)) → take place' es ++ ks ≡ take s.place (list_under now root) ++ (if stays then (k, w) ∷ ks else ks)) →
@@ -190,7 +190,7 @@ module _ {F K X : Type 0} (most : ℕ) (step : F → K → X → Bool → X → 
               omega (arith, less, ap length list_is),
             )
 
-        -- the entry here was asked
+        -- a step at the entry here leads to the next state of the loop
         pub sifting-next : Stepped most step now new root root' path' f f' (list_under now root) (sizes_under now root) s.place k v → (n : Sifting new root' f' path') × (length (list_under new root') - n.place < length (list_under now root) - s.place)
         sifting-next t = go t.stays t.left t.stepped t.changes t.gives t.at t.same_root t.freed_root
           where
@@ -202,7 +202,7 @@ module _ {F K X : Type 0} (most : ℕ) (step : F → K → X → Bool → X → 
             go true w st ch gv at level freed = next_at true w st (suc s.place) (with_value (list_under now root) s.place w) (sizes_under now root) refl refl (omega arith) (drop_written (list_under now root) s.place w) (λ ks. take_written (list_under now root) s.place w (k, v) here ks) ch gv at level freed (omega (arith, low, length_written (list_under now root) s.place w))
             go false w st ch gv at level freed = next_at false w st s.place (remove (list_under now root) s.place) (shrink most s.place (sizes_under now root)) refl refl (shrink-fewer most s.place (sizes_under now root)) (drop_remove (list_under now root) s.place low) (λ ks. take_remove (list_under now root) s.place low ks) ch gv at level freed (omega (arith, low, length_remove (list_under now root) s.place low))
 
-        -- it was the only one that was left, and went
+        -- a step that removes the only entry ends the loop with no entry kept
         pub sifting-none : SteppedLast most step now new root f f' (list_under now root) (sizes_under now root) s.place k v → RetainedNone most step old new first f₀
         sifting-none t =
             let low = slice_get_within (list_under now root) s.place (k, v) (sym here) in
@@ -217,6 +217,6 @@ module _ {F K X : Type 0} (most : ℕ) (step : F → K → X → Bool → X → 
             }
 
   module _ (now : Table K X) (root : ℕ) (f : F) (path : Path K X most) (s : Sifting now root f path) where
-    -- how many entries are left to be asked
+    -- the number of entries that are left to be asked
     pub sifting-left : length (entries_from now path) ≡ length (list_under now root) - s.place
     sifting-left = ap length (left-at now root path s.place s.changes.union s.at) ∙ length-drop s.place (list_under now root)

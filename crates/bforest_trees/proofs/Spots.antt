@@ -12,11 +12,11 @@ use Rattle.std.specs.declared.cmp.Ordering.{Ordering}
 
 module _ {K X : Type 0} where
   module _ {m : ℕ} (f : Forest K X) (path : Path K X m) where
-    -- a path in the empty list is at its only place
+    -- a path in the empty list stands at place 0
     pub spot-empty : (h : Option ℕ) (p q : ℕ) → h ≡ None → q ≡ 0 → IsSpot f h path p → IsSpot f h path q
     spot-empty h p q e z s = subst (λ (o : Option ℕ). IsSpot f o path q) (sym e) ((subst (λ (o : Option ℕ). IsSpot f o path p) e s).0, z)
 
-    -- a path with no node is at the end of any list
+    -- a path with no node stands at the end of any list
     pub spot-end : (h : Option ℕ) → IsLive f h → IsAtEnd path → AtSpot f h path
     spot-end None live end = record { place = 0; spot = (end, refl) }
     spot-end (Some root) live end = record {
@@ -24,19 +24,19 @@ module _ {K X : Type 0} where
       spot = record { root_is = live-root f root live; at = path-ended path.node path.entry (tree_of f.nodes root) (length (list_under f root)) path.size end refl };
     }
 
-    -- a path in front of the end is on an entry of the handle's tree
+    -- a path in front of the end stands on an entry of the handle's tree
     pub spot-on : (h : Option ℕ) (p : ℕ) → IsSpot f h path p → p < length (list_of f h) → (n : ℕ) × (h ≡ Some n) × StandsOn f n path p
     spot-on None p s low = absurd (omega (arith, low))
     spot-on (Some n) p s low =
         let same = ap length (list-root f n s.root_is) in
         (n, refl, at-on f n path p s (omega (arith, low, same)))
 
-  -- a path stands at one place alone, which is computed from it
+  -- a path stands at one place alone, which `spot_of` computes
   pub computed : (most : ℕ) (f : Forest K X) (h : Option ℕ) → IsUnion most f → IsComputed most f h
   computed most f None union path p s = sym s.1
   computed most f (Some root) union path p s = at-spot most f root path p union s
 
-  -- a search ends where a key is, or at a place for it
+  -- a search ends at the entry of its key, or at the place for it
   pub found-points : {m : ℕ} (cmp : K → K → Ordering) (f : Forest K X) (n : ℕ) (path : Path K X m) (k : K) →
       (is_present cmp (list_under f n) k ≡ true → StandsOn f n path (place cmp (list_under f n) k)) → (is_present cmp (list_under f n) k ≡ false → IsPlaced f n path (place cmp (list_under f n) k)) → PointsTo f n path (place cmp (list_under f n) k)
   found-points cmp f n path k here gone = go (is_present cmp (list_under f n) k) refl

@@ -18,7 +18,7 @@ module _ {K X : Type 0} {n : ℕ} (f : Forest K X) (path : Path K X n) where
   spot-entry None p s some = absurd (some s.0)
   spot-entry (Some root) p s some = record { root = root; place = p; on = record { root_is = s.root_is; stands = at_entry path.node path.entry (tree_of f.nodes root) p path.size some s.at } }
 
-  -- a place is in the list, or its end
+  -- the place where a path stands is at most the list's length
   pub spot-within : (h : Option ℕ) (p : ℕ) → IsSpot f h path p → p ≤ length (list_of f h)
   spot-within None p s = omega (arith, s.1)
   spot-within (Some root) p s =
@@ -29,7 +29,7 @@ module _ {K X : Type 0} {n : ℕ} (f : Forest K X) (path : Path K X n) where
       ]
 
   module _ (path' : Path K X n) (o : Option (K × X)) where
-    -- the path went to the next entry of the list of a handle, and answered it
+    -- the path went to the next entry of a handle's list, which was answered
     pub record IsNext (h : Option ℕ) (p : ℕ) : Type 0 where
       pub value : o ≡ slice_get (list_of f h) (p + 1)
       pub spot : IsSpot f h path' (min (p + 1) (length (list_of f h)))
@@ -63,7 +63,7 @@ module _ {K X : Type 0} {n : ℕ} (f : Forest K X) (path : Path K X n) where
               )
         ]
 
-    -- it went to the entry before
+    -- the path went to the previous entry of a handle's list, which was answered
     pub record IsPrev (h : Option ℕ) (p : ℕ) : Type 0 where
       pub value : o ≡ entry_before (list_of f h) p
       pub spot : IsSpot f h path' (p - 1)
@@ -76,7 +76,7 @@ module _ {K X : Type 0} {n : ℕ} (f : Forest K X) (path : Path K X n) where
         let at : StandingUnder f root path = record { place = p; at = there } in
         subst (λ (o : Option ℕ). IsPrev o p) (sym e) (record { value = value at ∙ ap (λ l. entry_before l p) (sym (list-root f root there.root_is)); spot = on-at f root path' (p - 1) (stands at) })
 
-  -- the entry where it stands
+  -- the entry of a handle's list at the place where a path stands
   pub entry-at : (o : Option (K × X)) (h : Option ℕ) (p : ℕ) → IsSpot f h path p → ((at : Standing f path) → o ≡ slice_get (list_under f at.root) at.place) → (IsAtEnd path → o ≡ None) → o ≡ slice_get (list_of f h) p
   entry-at o None p s value end = end s.0 ∙ sym (slice_get_past (list_of f None) p (omega arith))
   entry-at o (Some root) p s value end = value (record { root = root; place = p; at = s }) ∙ ap (λ l. slice_get l p) (sym (list-root f root s.root_is))

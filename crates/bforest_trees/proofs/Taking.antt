@@ -1,4 +1,4 @@
--- Taking out the entry at a place of a list, and at its end.
+-- Removing the entry at a place of a list, and at its end.
 use Rattle.bforest_trees.proofs.Cutting.{becomes-same}
 use Rattle.bforest_trees.specs.Calls.{RemovesAt, SameLevels}
 use Rattle.bforest_trees.specs.Forest.{Becomes, Forest, Gives, IsLive, list_of, sizes_of}
@@ -6,14 +6,14 @@ use Rattle.bforest_core.specs.Sizes.{shrink}
 use Rattle.std.proofs.Common.{Bool, List, None, Option, [], ap, arith, false, if◌then◌else◌, length, nat_lt, refl, remove, slice_get, subst, suc, sym, true, zero, ◌<◌, ◌∙◌, ◌∷◌, ◌≡◌, ◌≤◌, ℕ}
 use Rattle.std.proofs.lemmas.Bool.{lt-ltb, ltb-true}
 
--- an entry that is not there is not taken out
+-- a removal at or past the end of a list changes nothing
 pub remove-past : {A : Type 0} (xs : List A) (p : ℕ) → length xs ≤ p → remove xs p ≡ xs
 remove-past [] zero past = refl
 remove-past [] (suc p) past = refl
 remove-past (x ∷ xs) zero past = absurd (omega (arith, past))
 remove-past (x ∷ xs) (suc p) past = ap (λ l. x ∷ l) (remove-past xs p (omega (arith, past)))
 
--- where no entry is, is the end
+-- a place without an element is at or past the end
 pub none-past : {A : Type 0} (xs : List A) (p : ℕ) → None ≡ slice_get xs p → length xs ≤ p
 none-past [] p e = omega arith
 none-past (y ∷ xs) zero e = absurd (cc)
@@ -27,7 +27,7 @@ not-below m n h = go (nat_lt m n) refl
     go true e = absurd (let low = ltb-true m n e in omega (arith, low, h))
 
 module _ {K X : Type 0} (most : ℕ) (f : Forest K X) (h : Option ℕ) (p : ℕ) where
-  -- at the end
+  -- a removal at the end leaves the forest as it is
   pub removes-end : IsLive f h → length (list_of f h) ≤ p → RemovesAt most f h p f h
   removes-end live past = record {
     removed = subst (λ (l : List (K × X)). Becomes f h f h l) (sym (remove-past (list_of f h) p past)) (becomes-same f h live);
@@ -38,7 +38,7 @@ module _ {K X : Type 0} (most : ℕ) (f : Forest K X) (h : Option ℕ) (p : ℕ)
     end_handle = λ e. refl;
   }
 
-  -- on an entry
+  -- a removal on an entry removes that entry
   pub removes-here : (f' : Forest K X) (h' : Option ℕ) → p < length (list_of f h) → Becomes f h f' h' (remove (list_of f h) p) → sizes_of f' h' ≡ shrink most p (sizes_of f h) → SameLevels f h f' h' → Gives (sizes_of f h) (sizes_of f' h') f f' → RemovesAt most f h p f' h'
   removes-here f' h' low becomes sizes same account = record {
     removed = becomes;

@@ -1,4 +1,4 @@
--- A value that is written where a path stands.
+-- Writing a value where a path stands.
 use Rattle.bforest_trees.proofs.Changed.{becomes, list-root, sizes-new, sizes-root}
 use Rattle.bforest_trees.proofs.Spots.{computed, spot-on}
 use Rattle.bforest_trees.specs.Forest.{Becomes, Forest, list_of}
@@ -14,7 +14,7 @@ use Rattle.bforest_nodes.specs.Entries.{value_at_place, with_value}
 use Rattle.std.proofs.Common.{List, Option, Some, ap, length-set, refl, subst, sym, ◌∙◌, ◌≡◌, ℕ}
 
 module _ {K X : Type 0} {m : ℕ} (f : Forest K X) (h : Option ℕ) (path : Path K X m) (at : OnSpot f h path) (union : IsUnion m f) where
-  -- what a write there leaves
+  -- what a write through a path leaves
   pub written-at : (w : X) → IsWritten f (with_value_at f (leaf_of path) (index_of path) w) h path at.place w
   written-at w =
       let t = spot-on f path h at.place at.spot at.within in
@@ -33,7 +33,7 @@ module _ {K X : Type 0} {m : ℕ} (f : Forest K X) (h : Option ℕ) (path : Path
         computed = computed m f' (Some n) v.0.union;
       })
 
-  -- the value there
+  -- the value of the entry where a path stands
   pub value-here : (v : X) → Some v ≡ value_at f.nodes (leaf_of path) (index_of path) → value_at_place (list_of f h) at.place ≡ Some v
   value-here v is =
       let t = spot-on f path h at.place at.spot at.within in

@@ -28,10 +28,10 @@ module _ {K X : Type 0} (cmp : K → K → Ordering) where
   abbrev pub entry_at_most : List (K × X) → K → Option (K × X)
   entry_at_most es k = last_or None (filter (λ e. not (is_gt (cmp e.0 k))) es)
 
-  -- how many keys are before the start
+  -- the number of keys before a start bound: the place where a range begins
   abbrev pub start_place : Bound K → List (K × X) → ℕ
   start_place lo es = count_by (λ e. not (is_from_start cmp lo e.0)) es
 
-  -- how many keys are not past the end
+  -- the number of keys not past an end bound: the place where a range ends
   abbrev pub end_place : Bound K → List (K × X) → ℕ
   end_place hi es = count_by (λ e. not (is_past_end cmp hi e.0)) es

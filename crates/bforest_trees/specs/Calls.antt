@@ -1,4 +1,5 @@
--- What a call that may change one tree answers and leaves: one record for each, which every such call of a map cites.
+-- What a call that may change one tree answers and leaves: one record per call, which every such call of a
+-- map cites.
 use Rattle.bforest_core.specs.Sizes.{shrink}
 use Rattle.bforest_core.specs.declared.pool.OutOfMemory.TheVariants.{Full, Memory}
 use Rattle.bforest_core.specs.declared.pool.OutOfMemory.{OutOfMemory}
@@ -9,11 +10,12 @@ use Rattle.std.specs.Prelude.{Bool, Err, IfOk, IsOk, IsSome, None, OnErr, OnOk, 
 use Rattle.std.specs.declared.cmp.Ordering.{Ordering}
 
 module _ {K X : Type 0} where
-  -- the handle stays exactly where the tree has as many levels as before
+  -- the handle keeps its number exactly where the tree keeps its number of levels
   abbrev pub SameLevels : Forest K X → Option ℕ → Forest K X → Option ℕ → Type 0
   SameLevels f h f' h' = (h' ≡ h) ↔ (length (sizes_of f' h') ≡ length (sizes_of f h))
 
-  -- the entry at a place of h was taken out, where a leaf has at most so many; at the end nothing changed
+  -- the entry at a place of h was removed, where a leaf has at most `most` entries; at the end nothing
+  -- changed
   pub record RemovesAt (most : ℕ) (f : Forest K X) (h : Option ℕ) (place : ℕ) (f' : Forest K X) (h' : Option ℕ) : Type 0 where
     pub removed : Becomes f h f' h' (remove (list_of f h) place)
     pub sizes : sizes_of f' h' ≡ (if nat_lt place (length (list_of f h)) then shrink most place (sizes_of f h) else sizes_of f h)
@@ -22,7 +24,7 @@ module _ {K X : Type 0} where
     pub end_forest : length (list_of f h) ≤ place → f' ≡ f
     pub end_handle : length (list_of f h) ≤ place → h' ≡ h
 
-  -- f was asked for n free slots. All trees stay; where fewer lay free, exactly n do now
+  -- f was asked for n free slots: all trees stay, and where fewer were free, exactly n are free in f'
   pub record Reserves (f : Forest K X) (n : ℕ) (result : Result (Unit {0}) OutOfMemory) (f' : Forest K X) : Type 0 where
     pub keeps : Keeps f f'
     pub free : OnOk result (n ≤ free_of f')
@@ -34,13 +36,13 @@ module _ {K X : Type 0} where
     pub full : (result ≡ Err Full) ↔ IsTooMany n f
     pub memory : result ≡ Err Memory → NeedsGrowth n f
 
-  -- the tree of h ended
+  -- the tree of h was removed
   pub record Clears (f : Forest K X) (h : Option ℕ) (f' : Forest K X) (h' : Option ℕ) : Type 0 where
     pub handle : h' ≡ None
     pub cleared : Becomes f h f' h' []
     pub account : Gives (sizes_of f h) [] f f'
 
-  -- q was asked of each entry of h, where a leaf has at most so many, and those answered yes stay, with the values that were left there
+  -- q was asked of each entry of h; the entries answered true stay, with the values that the calls left
   pub record Filters {F : Type 0} (most : ℕ) (step : F → K → X → Bool → X → F → Type 0) (f : Forest K X) (h : Option ℕ) (q : F) (f' : Forest K X) (h' : Option ℕ) : Type 0 where
     pub kept : Retains step most q (list_of f h) (sizes_of f h) (list_of f' h') (sizes_of f' h')
     pub changed : Becomes f h f' h' (list_of f' h')
@@ -49,9 +51,10 @@ module _ {K X : Type 0} where
     pub account : Gives (sizes_of f h) (sizes_of f' h') f f'
     pub increasing : (order : K → K → Ordering) → IsIncreasing order (list_of f h) → IsIncreasing order (list_of f' h')
 
--- where a leaf has at most so many entries
+-- `most` is the number of entries that a leaf has at most
 module _ {K X : Type 0} (most : ℕ) (cmp : K → K → Ordering) where
-  -- x was put in at the key k of h, or written there where the key was present: the value that was there is answered. Or it was refused,
+  -- x was inserted at the key k of h, or replaced the value there, which is answered; or the call was
+  -- refused,
   -- and nothing changed
   pub record Inserts (f : Forest K X) (h : Option ℕ) (k : K) (x : X) (result : Result (Option X) OutOfMemory) (f' : Forest K X) (h' : Option ℕ) : Type 0 where
     pub ok : IfOk result (λ old. old ≡ value_for cmp (list_of f h) k)
@@ -68,7 +71,7 @@ module _ {K X : Type 0} (most : ℕ) (cmp : K → K → Ordering) where
     pub refused_forest : OnErr result (f' ≡ f)
     pub refused_handle : OnErr result (h' ≡ h)
 
-  -- the key k was taken out of h: the value that was there is answered
+  -- the key k was removed from h, and its value is answered
   pub record Removes (f : Forest K X) (h : Option ℕ) (k : K) (result : Option X) (f' : Forest K X) (h' : Option ℕ) : Type 0 where
     pub value : result ≡ value_for cmp (list_of f h) k
     pub cut : Becomes f h f' h' (cut cmp (list_of f h) k)

@@ -17,7 +17,7 @@ module _ {K X : Type 0} where
     pub union : IsUnion n table
     pub stands : (¬ IsAtEnd path) → OnEntry table path
 
-  -- what is left of them, where so many are read
+  -- the entries that are left from a path on, after `index` of them were read
   abbrev pub left_from : {n : ℕ} → Table K X → Path K X n → ℕ → List (K × X)
   left_from table path index = drop index (entries_from table path)
 
@@ -28,7 +28,7 @@ module _ {K X : Type 0} where
     pub on : OnLeaf table root path place entries
     pub first : index_of path ≡ 0
 
-  -- so it does, or it is at the end, where there are none; so many of the entries are read
+  -- a path stands on the first entry of a leaf of these entries, of which `index` are read, or is at the end
   pub record IsReading {n : ℕ} (table : Table K X) (path : Path K X n) (entries : List (K × X)) (index : ℕ) : Type 0 where
     pub union : IsUnion n table
     pub within : index ≤ length entries
@@ -52,7 +52,7 @@ module _ {K X : Type 0} where
     pub is_reader : IsUnion n table → IsReader table reader
 
 module _ {K X : Type 0} {n : ℕ} (table : Table K X) (left : List (K × X)) where
-  -- the path stands on the first entry of this leaf, from which on so much is left
+  -- the path stands on the first entry of this leaf, and `left` are the entries from there on
   pub record Opens (path : Path K X n) (leaf : ℕ) : Type 0 where
     pub entries : List (K × X)
     pub slot : slice_get table.nodes leaf ≡ Some (leaf_content entries)
@@ -60,7 +60,7 @@ module _ {K X : Type 0} {n : ℕ} (table : Table K X) (left : List (K × X)) whe
     pub left_is : left ≡ left_from table path 0
     pub some : 0 < length entries
 
-  -- so much is left to a reader, and the first of it is in the leaf that it holds
+  -- `left` are the entries left to a reader, and the first of them is in the leaf that the reader holds
   pub record Entered (reader : Reader K X n) : Type 0 where
     pub left_is : left ≡ left_of table reader
     pub reader_is : IsReader table reader

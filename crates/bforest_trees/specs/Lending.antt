@@ -1,4 +1,4 @@
--- What trees end as, once a reference into them has ended.
+-- What a table of trees is, once a reference into it has ended.
 use Rattle.bforest_trees.specs.Forest.{Forest}
 use Rattle.bforest_trees.specs.contracts.trees.Trees.{the_row}
 use Rattle.bforest_core.specs.Table.{with_value_at}

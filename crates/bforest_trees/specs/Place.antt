@@ -6,7 +6,8 @@ use Rattle.bforest_core.specs.declared.path.Path.{Path}
 use Rattle.std.specs.Prelude.{None, Option, Some, length, ◌<◌, ◌≡◌, ℕ}
 
 module _ {K X : Type 0} where
-  -- the path stands at this place of the list of a handle: on the entry there, or at the end. An empty handle has the end alone
+  -- the path stands at this place of a handle's list, on an entry or at the end; an empty handle has only the
+  -- end
   abbrev pub IsSpot : {n : ℕ} → Forest K X → Option ℕ → Path K X n → ℕ → Type 0
   IsSpot f None path place = IsAtEnd path × (place ≡ 0)
   IsSpot f (Some root) path place = StandsAt f root path place
@@ -16,7 +17,7 @@ module _ {K X : Type 0} where
   spot_of f None path = 0
   spot_of f (Some root) path = spot f root path
 
-  -- each path that stands in the list of a handle, stands at the place that is computed from it
+  -- each path in the list of a handle stands at the place that `spot_of` computes
   abbrev pub IsComputed : ℕ → Forest K X → Option ℕ → Type 0
   IsComputed n f h = (path : Path K X n) (place : ℕ) → IsSpot f h path place → spot_of f h path ≡ place
 
@@ -25,14 +26,15 @@ module _ {K X : Type 0} where
     pub place : ℕ
     pub spot : IsSpot f h path place
 
-  -- the place of the entry on which it stands
+  -- the place of the entry on which a path stands
   pub record OnSpot {n : ℕ} (f : Forest K X) (h : Option ℕ) (path : Path K X n) : Type 0 where
     pub place : ℕ
     pub spot : IsSpot f h path place
     pub within : place < length (list_of f h)
 
-  -- w was written as the value of the entry where the path stands: that is one change of the handle's list, in nodes of the same sizes;
-  -- the path stands where it stood, and the slots stay as many
+  -- w was written as the value of the entry where the path stands: one change of the handle's list, in nodes
+  -- of
+  -- the same sizes; the path stands where it stood, and the number of slots stays
   pub record IsWritten {n : ℕ} (f f' : Forest K X) (h : Option ℕ) (path : Path K X n) (place : ℕ) (w : X) : Type 0 where
     pub becomes : Becomes f h f' h (with_value (list_of f h) place w)
     pub sizes : sizes_of f' h ≡ sizes_of f h

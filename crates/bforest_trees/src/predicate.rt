@@ -4,12 +4,12 @@ ghost use Rattle.bforest_trees.specs.Retain.{Answers, MayAsk};
 
 use std::marker::Model;
 
-/// What is asked of a key and its value, which it may change.
+/// A question about a key and its value, which may change the value.
 pub trait Predicate<K, V>: Drop {
-    // It may be asked of this key and value.
+    // Whether it may be asked of this key and value.
     ghost may: { Self → K → V → Type 0 };
 
-    // A call at this key and value may give this answer, and leave this value and this predicate.
+    // Whether a call at this key and value may give this answer, and leave this value and this predicate.
     ghost step: { Self → K → V → Bool → V → Self → Type 0 };
 
     fn ask(&mut self, key: K, value: &mut V) -> bool

@@ -7,20 +7,20 @@ ghost use Rattle.std.specs.Prelude.{List, Some, [], false, length, slice_get, tr
 use crate::trees::Trees;
 use bforest_core::{Node, NodePool, PackedNode, Path};
 
-/// What is left of the entries of a tree: those of one leaf, which it holds as two slices, and those behind them. A step inside a leaf
+/// The entries of a tree that are still to be read: those of one leaf, held as two slices, and those behind that leaf. A step inside a leaf
 /// reads the slices alone; the path is for the steps from leaf to leaf.
 #[derive(Drop)]
 pub struct Reader<'a, K: Copy, V: Copy, const N: usize> {
     keys: &'a [K],
     vals: &'a [V],
-    // Of the leaf's entry that comes next.
+    // The index of the leaf's next entry.
     index: usize,
-    // On the first entry of the leaf.
+    // A path on the first entry of the leaf.
     path: Path<K, V, N>,
 }
 
 impl<'a, K: Copy, V: Copy, const N: usize> Reader<'a, K, V, N> {
-    /// With no entry left. It is long, so build it where it stays, and then `start` it.
+    /// A reader with no entry left. It is large, so build it in place, and then `start` it.
     pub fn new() -> Reader<'a, K, V, N>
         ensures spent { (forest : Forest K V) → IsSpent forest result }
     {
@@ -32,7 +32,7 @@ impl<'a, K: Copy, V: Copy, const N: usize> Reader<'a, K, V, N> {
         }
     }
 
-    /// Goes to the first entry of a handle's tree, if it has one. Before that no entry may be left.
+    /// Goes to the first entry of a handle's tree, if it has one. Before the call no entry may be left.
     pub fn start(&mut self, handle: PackedNode, trees: &'a Trees<K, V, N>)
         requires live { IsLive trees.now handle }
         requires spent { IsSpent trees.now self.old }
@@ -45,7 +45,7 @@ impl<'a, K: Copy, V: Copy, const N: usize> Reader<'a, K, V, N> {
         }
     }
 
-    /// Takes the first entry off what is left.
+    /// Removes the first of the entries that are left, and returns it.
     pub fn next(&mut self, trees: &'a Trees<K, V, N>) -> Option<(K, V)>
         requires reader { IsReader trees.now self.old }
         ensures steps { YieldsFirst (left_of trees.now) self.old result self.new }
@@ -58,7 +58,7 @@ impl<'a, K: Copy, V: Copy, const N: usize> Reader<'a, K, V, N> {
         }
     }
 
-    // Whether an entry is left. Where those of its leaf are read, it goes to the next leaf.
+    // Whether an entry is left. At the end of a leaf the reader goes to the next leaf.
     fn is_left(&mut self, pool: &'a NodePool<K, V, N>) -> bool
         requires reader { IsReader pool.now self.old }
         ensures entered { result ≡ true → Entered pool.now (left_of pool.now self.old) self.new }
@@ -89,7 +89,7 @@ impl<'a, K: Copy, V: Copy, const N: usize> Reader<'a, K, V, N> {
         self.index = 0;
     }
 
-    // Takes the first entry, which is of the leaf that it holds.
+    // Removes the first entry, which is in the leaf that the reader holds, and returns it.
     fn take_first(&mut self) -> (K, V)
         requires within { self.old.index < length self.old.keys.now }
         requires same { length self.old.keys.now ≡ length self.old.vals.now }

@@ -7,8 +7,8 @@ ghost use Rattle.std.specs.Prelude.{IfSome, IsTrue, None, ◌≡◌, ℕ};
 use crate::predicate::Predicate;
 use bforest_core::{Node, NodePool, Path};
 
-/// Asks a predicate of each entry of the tree under a root, in order, and keeps those answered yes, with the value as it was left.
-/// Answers the root of now, or nothing where no entry stays.
+/// Asks a predicate of each entry of the tree under a root, in order, and keeps the entries answered `true`, with the value that the call
+/// left. Returns the new root, or `None` where no entry stays.
 pub(crate) fn retain<K: Copy, V: Copy, const N: usize, P: Predicate<K, V>>(
     pool: &mut NodePool<K, V, N>,
     root: Node,
@@ -30,8 +30,8 @@ pub(crate) fn retain<K: Copy, V: Copy, const N: usize, P: Predicate<K, V>>(
     Some(root)
 }
 
-// Asks a predicate of the entry where a path stands, and goes to the one that follows, or to the end. An entry answered no is taken
-// out. Answers the root of now.
+// Asks a predicate of the entry where a path stands, and goes to the next entry, or to the end. An entry answered `false` is removed.
+// Returns the new root.
 fn retain_step<K: Copy, V: Copy, const N: usize, P: Predicate<K, V>>(
     entry: (K, V),
     path: &mut Path<K, V, N>,

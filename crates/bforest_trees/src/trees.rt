@@ -1,4 +1,4 @@
-//! The table of all trees of a forest: each call on one tree, once for maps and sets.
+//! The table of all trees of a forest: each call on one tree, stated once for maps and sets.
 ghost use Rattle.bforest_trees.specs.Forest.{Becomes, Gives, IsAccounted, IsLive, Takes, empty, first_level, free_of, limit_of, list_at, list_of, sizes_at, sizes_of, slots_of};
 ghost use Rattle.bforest_trees.specs.Bounds.{entry_at_most};
 ghost use Rattle.bforest_trees.specs.Calls.{Clears, Filters, Inserts, Removes, Reserves, SameLevels};
@@ -30,11 +30,11 @@ use std::marker::Model;
 pub enum Start {
     /// At the root.
     Root,
-    /// Where the path stands: two comparisons tell where the key is, if that is near.
+    /// Where the path stands: two comparisons find a key that is near.
     Path,
 }
 
-/// Many trees in one table of nodes, of which a leaf has at most `N` entries. Each is named by its root's number.
+/// Many trees in one table of nodes, whose leaves have at most `N` entries. Each tree is named by its root's number.
 #[derive(Drop)]
 pub struct Trees<K: Copy, V: Copy, const N: usize> {
     pub(crate) pool: NodePool<K, V, N>,
@@ -52,7 +52,7 @@ impl<K: Copy, V: Copy, const N: usize> Model for Trees<K, V, N> {
 }
 
 impl<K: Copy, V: Copy, const N: usize> Trees<K, V, N> {
-    /// No tree, and no slot, of which there may be at most so many. It takes no memory.
+    /// An empty table that may have at most `limit` slots. It takes no memory.
     pub fn with_limit(alloc: Global, limit: u32) -> Self
         requires { IsLeafCapacity N }
         ensures empty { result ≡ empty limit }
@@ -62,7 +62,7 @@ impl<K: Copy, V: Copy, const N: usize> Trees<K, V, N> {
         }
     }
 
-    /// Ends all trees.
+    /// Removes all trees.
     pub fn clear(&mut self)
         ensures empty { self.new ≡ empty (limit_of self.old) }
         ensures lists { (n : ℕ) → list_at self.new n ≡ [] }
@@ -70,7 +70,7 @@ impl<K: Copy, V: Copy, const N: usize> Trees<K, V, N> {
         self.pool.clear();
     }
 
-    /// How many slots there are.
+    /// The number of slots.
     pub fn slots(&self) -> u32
         ensures count { result ≡ slots_of self.now }
         ensures within { slots_of self.now ≤ limit_of self.now }
@@ -81,14 +81,14 @@ impl<K: Copy, V: Copy, const N: usize> Trees<K, V, N> {
         self.pool.slots()
     }
 
-    /// How many of them lie free.
+    /// The number of free slots.
     pub fn free(&self) -> u32
         ensures count { result ≡ free_of self.now }
     {
         self.pool.free()
     }
 
-    /// How many there may be.
+    /// The number of slots that there may be at most.
     pub fn limit(&self) -> u32
         ensures limit { result ≡ limit_of self.now }
     {
@@ -105,14 +105,14 @@ impl<K: Copy, V: Copy, const N: usize> Trees<K, V, N> {
         }
     }
 
-    /// Makes sure that `n` slots lie free. All trees stay.
+    /// Makes sure that `n` slots are free. All trees stay.
     pub fn reserve(&mut self, n: u32) -> Result<(), OutOfMemory>
         ensures { Reserves self.old n result self.new }
     {
         self.pool.reserve(n)
     }
 
-    /// Ends a tree.
+    /// Removes a tree.
     pub fn free_tree(&mut self, handle: &mut PackedNode)
         requires live { IsLive self.old handle.old }
         ensures { Clears self.old handle.old self.new handle.new }
@@ -122,7 +122,7 @@ impl<K: Copy, V: Copy, const N: usize> Trees<K, V, N> {
         }
     }
 
-    /// Asks a predicate of each entry, in order, and keeps those answered yes.
+    /// Asks a predicate of each entry, in order, and keeps the entries answered `true`.
     pub fn retain<P: Predicate<K, V>>(&mut self, handle: &mut PackedNode, predicate: P)
         requires live { IsLive self.old handle.old }
         requires callable { MayAskEach P.step P.may predicate (list_of self.old handle.old) }
@@ -163,7 +163,7 @@ impl<K: Copy, V: Copy, const N: usize> Trees<K, V, N> {
         }
     }
 
-    /// How many levels a tree has.
+    /// The number of levels of a tree.
     pub fn levels(&self, handle: PackedNode) -> usize
         requires live { IsLive self.now handle }
         ensures count { result ≡ length (sizes_of self.now handle) }
@@ -178,7 +178,7 @@ impl<K: Copy, V: Copy, const N: usize> Trees<K, V, N> {
         }
     }
 
-    /// Puts a value in at a key, and answers the value that was there. The path goes to the key's place, also where the entry is refused.
+    /// Inserts a value at a key, and returns the value that it replaces. The path goes to the key's place, also where the entry is refused.
     pub fn insert<C: Comparator<K>>(
         &mut self,
         handle: &mut PackedNode,
@@ -203,7 +203,7 @@ impl<K: Copy, V: Copy, const N: usize> Trees<K, V, N> {
         }
     }
 
-    // The same in the tree of a root.
+    // Inserts a value at a key in the tree under a root.
     fn insert_under<C: Comparator<K>>(
         &mut self,
         root: Node,
@@ -239,7 +239,7 @@ impl<K: Copy, V: Copy, const N: usize> Trees<K, V, N> {
         Ok(None)
     }
 
-    // The same where there is no tree.
+    // Inserts the first entry of an empty tree.
     fn insert_first(
         &mut self,
         handle: &mut PackedNode,
@@ -260,7 +260,7 @@ impl<K: Copy, V: Copy, const N: usize> Trees<K, V, N> {
         Ok(None)
     }
 
-    /// Goes to the place of a key, and answers its value.
+    /// Goes to the place of a key, and returns its value.
     pub fn goto<C: Comparator<K>>(
         &self,
         handle: PackedNode,
@@ -282,7 +282,7 @@ impl<K: Copy, V: Copy, const N: usize> Trees<K, V, N> {
         value
     }
 
-    /// Takes a key out, and answers its value.
+    /// Removes a key, and returns its value.
     pub fn remove<C: Comparator<K>>(
         &mut self,
         handle: &mut PackedNode,
@@ -300,7 +300,7 @@ impl<K: Copy, V: Copy, const N: usize> Trees<K, V, N> {
         Some(value)
     }
 
-    /// Takes the entry out where a path stands. The path goes to the one that followed, or to the end.
+    /// Removes the entry where a path stands. The path goes to the next entry, or to the end.
     pub fn remove_at(&mut self, handle: &mut PackedNode, path: &mut Path<K, V, N>)
         requires stands { OnSpot self.old handle.old path.old }
         ensures removed { (at : OnSpot self.old handle.old path.old)
@@ -318,7 +318,7 @@ impl<K: Copy, V: Copy, const N: usize> Trees<K, V, N> {
     }
 }
 
-// Goes to where a search for a key ends, and answers its value.
+// Goes to where a search for a key ends, and returns its value.
 fn search<K: Copy, V: Copy, const N: usize, C: Comparator<K>>(
     start: Start,
     key: K,
@@ -343,7 +343,7 @@ fn search<K: Copy, V: Copy, const N: usize, C: Comparator<K>>(
     }
 }
 
-// A root's number, if there is a root.
+// The handle of a root, or an empty handle.
 fn packed(root: Option<Node>) -> PackedNode
     ensures { result ≡ root }
 {

@@ -1,4 +1,4 @@
--- A cursor that goes on from step to step.
+-- A cursor that continues another over several steps.
 use Rattle.bforest.specs.Cursor as map
 use Rattle.bforest.specs.SetCursor as set
 use Rattle.bforest.specs.declared.map_cursor_mut.MapCursorMut.{MapCursorMut}

@@ -1,4 +1,4 @@
--- What a call on one map or set leaves of all.
+-- What a call on one map or set leaves of all maps or sets.
 use Rattle.bforest.specs.Forest.{Becomes, Forest, IsLive, list_at, list_of}
 use Rattle.bforest_workloads_bench.specs.Kept.{AreOrdered, IsOrdered}
 use Rattle.bforest_nodes.specs.Entries.{IsIncreasing}
@@ -8,11 +8,11 @@ use Rattle.std.specs.Ordering.{nat_cmp}
 use Rattle.std.proofs.lemmas.Bool.Decides.{eqb_tells}
 use Rattle.std.proofs.lemmas.List.{get_or-set_other, get_or-set_same, get_or_default, get_or_read, replicate-append-replicate, set-get_or}
 
--- the number of another tree is not the one that a changed tree has now
+-- the number of another tree is not the number of the changed tree
 not_new : {X : Type 0} (f f' : Forest ℕ X) (h h' : Option ℕ) (es : List (ℕ × X)) → Becomes f h f' h' es → (n : ℕ) → list_at f n ≢ [] → Some n ≢ h → Some n ≢ h'
 not_new f f' h h' es b n live ne = λ e. live (subst (λ (q : Option ℕ). list_of f q ≡ []) (sym e) (b.fresh (λ d. ne (e ∙ d))))
 
--- the map of another number is ordered as it was
+-- a handle of another number stays live with keys that increase
 ordered_beside : {X : Type 0} (f f' : Forest ℕ X) (h h' : Option ℕ) (es : List (ℕ × X)) → Becomes f h f' h' es → (q : Option ℕ) → ((n : ℕ) → q ≡ Some n → Some n ≢ h) → IsOrdered f q → IsOrdered f' q
 ordered_beside {X = X} f f' h h' es b None ne o = record { live = tt; increasing = o.increasing }
 ordered_beside {X = X} f f' h h' es b (Some n) ne o =
@@ -23,15 +23,15 @@ ordered_beside {X = X} f f' h h' es b (Some n) ne o =
     }
 
 module _ {X : Type 0} (f f' : Forest ℕ X) (hs : List (Option ℕ)) (i : ℕ) (h' : Option ℕ) (es : List (ℕ × X)) (a : AreOrdered f hs) (b : Becomes f (get_or hs i None) f' h' es) where
-  -- another handle's number is not that of the changed one
+  -- another handle's number is not the old number of the changed tree
   apart_at : (j n : ℕ) → j ≢ i → get_or hs j None ≡ Some n → Some n ≢ get_or hs i None
   apart_at j n ne e = λ d. ne (a.apart j i n e (sym d))
 
-  -- and not that of what it became
+  -- another handle's number is not the new number of the changed tree
   apart_new : (j n : ℕ) → j ≢ i → get_or hs j None ≡ Some n → Some n ≢ h'
   apart_new j n ne e = not_new f f' (get_or hs i None) h' es b n (subst (λ (q : Option ℕ). IsLive f q) e (a.each j).live) (apart_at j n ne e)
 
-  -- all maps are ordered after a call that leaves the keys of its own in order
+  -- all maps stay ordered where one changes to keys that increase
   pub ordered-set : i < length hs → IsIncreasing nat_cmp (list_of f' h') → AreOrdered f' (slice_set hs i h')
   ordered-set within increasing = record {
     each = λ j. elim (eqb_tells j i) [
@@ -50,12 +50,12 @@ module _ {X : Type 0} (f f' : Forest ℕ X) (hs : List (Option ℕ)) (i : ℕ) (
     ];
   }
 
--- the same, of the map that was read at the index
+-- all maps stay ordered after a call on the map that was read at an index
 pub ordered-call : {X : Type 0} (f f' : Forest ℕ X) (hs : List (Option ℕ)) (i : ℕ) (h h' : Option ℕ) (es : List (ℕ × X)) → AreOrdered f hs → i < length hs → h ≡ get_or hs i h → Becomes f h f' h' es → IsIncreasing nat_cmp (list_of f' h') → AreOrdered f' (slice_set hs i h')
 ordered-call f f' hs i h h' es a within is b increasing =
     ordered-set f f' hs i h' es a (subst (λ (q : Option ℕ). Becomes f q f' h' es) (get_or_read hs i h within is None) b) within increasing
 
--- and of a call that may be refused
+-- all maps stay ordered after a call that may be refused
 pub ordered-tried : {X A E : Type 0} (f f' : Forest ℕ X) (hs : List (Option ℕ)) (i : ℕ) (h h' : Option ℕ) (es : List (ℕ × X)) (r : Result A E) → AreOrdered f hs → i < length hs → h ≡ get_or hs i h → OnOk r (Becomes f h f' h' es) → OnErr r (f' ≡ f) → OnErr r (h' ≡ h) → IsIncreasing nat_cmp (list_of f' h') → AreOrdered f' (slice_set hs i h')
 ordered-tried f f' hs i h h' es (Ok x) a within is ok same_forest same_handle increasing =
     ordered-call f f' hs i h h' es a within is ok increasing
@@ -71,18 +71,18 @@ pub ordered-none : {X : Type 0} (f : Forest ℕ X) → IsOrdered f None
 unfolding IsStrictlySortedBy
 ordered-none f = search rules
 
--- all maps are ordered after one was cleared
+-- all maps stay ordered after one is cleared
 pub ordered-cleared : {X : Type 0} (f f' : Forest ℕ X) (hs : List (Option ℕ)) (i : ℕ) (h h' : Option ℕ) → AreOrdered f hs → i < length hs → h ≡ get_or hs i h → Becomes f h f' h' [] → h' ≡ None → AreOrdered f' (slice_set hs i h')
 ordered-cleared f f' hs i h h' a within is b empty =
     ordered-call f f' hs i h h' [] a within is b (subst (λ (q : Option ℕ). IsIncreasing nat_cmp (list_of f' q)) (sym empty) (ordered-none f').increasing)
 
--- each of so many empty handles
+-- each of `count` empty handles is empty
 all_none : (count i : ℕ) → get_or {A = Option ℕ} (replicate count None) i None ≡ None
 all_none zero i = refl
 all_none (suc count) zero = refl
 all_none (suc count) (suc i) = all_none count i
 
--- nothing is no number
+-- `None` is not the number of a tree
 none_some : (n : ℕ) → None ≢ Some n
 none_some n = λ e. cc
 
@@ -93,6 +93,6 @@ ordered-new f count hs is = subst (λ (qs : List (Option ℕ)). AreOrdered f qs)
   apart = λ i j n d e. absurd (none_some n (sym (all_none count i) ∙ d));
 })
 
--- one empty handle more
+-- one more empty handle
 pub none-more : (count : ℕ) (hs : List (Option ℕ)) (h : Option ℕ) → hs ≡ replicate count None → h ≡ None → hs ++ h ∷ [] ≡ replicate (count + 1) None
 none-more count hs h is empty = ap (λ (qs : List (Option ℕ)). qs ++ h ∷ []) is ∙ ap (λ (q : Option ℕ). replicate count None ++ q ∷ []) empty ∙ replicate-append-replicate count 1 None

@@ -1,10 +1,10 @@
-//! The predecessors of the blocks of a control flow graph: a map for each block, from the number of an edge to the block that it comes from.
+//! The predecessors of the blocks of a control flow graph: a map for each block, from the number of an edge to the block where it begins.
 
 use crate::random::{Random, added};
 use crate::smalls::Smalls;
 use std::alloc::Global;
 
-/// A whole run, as `run_edges` says.
+/// Makes a whole run, as described at `run_edges`.
 pub(crate) fn run(alloc: Global, blocks: u32, walks: u32, turns: u32) -> Option<u64> {
     let mut smalls = Smalls::new(alloc, blocks).ok()?;
     add_all(&mut smalls, blocks)?;
@@ -18,7 +18,7 @@ pub(crate) fn run(alloc: Global, blocks: u32, walks: u32, turns: u32) -> Option<
     Some(sum)
 }
 
-/// A whole run, as `run_edges_cursor` says.
+/// Makes a whole run, as described at `run_edges_cursor`.
 pub(crate) fn run_by_cursor(alloc: Global, blocks: u32, walks: u32) -> Option<u64> {
     let mut smalls = Smalls::new(alloc, blocks).ok()?;
     add_all(&mut smalls, blocks)?;
@@ -47,7 +47,7 @@ fn add(smalls: &mut Smalls, blocks: u32, block: u32, random: &mut Random) -> Opt
     Some(())
 }
 
-// Leads each edge to the block behind its target, which so many blocks lie behind the first.
+// Redirects each edge from the block `turn` behind its first target to the block behind that.
 fn lead_all(smalls: &mut Smalls, blocks: u32, turn: u32) -> Option<u64> {
     let mut random = edges();
     let mut sum = 0u64;
@@ -57,7 +57,7 @@ fn lead_all(smalls: &mut Smalls, blocks: u32, turn: u32) -> Option<u64> {
     Some(sum)
 }
 
-// Leads the edges out of a block, and adds what was removed to a checksum.
+// Redirects the edges of a block, and adds the removed values to a checksum.
 fn lead(
     smalls: &mut Smalls,
     blocks: u32,
@@ -77,7 +77,7 @@ fn lead(
     Some(sum)
 }
 
-// Where the edges lead, and how many there are out of each block.
+// The generator of the targets of edges, and of their number for each block.
 fn edges() -> Random {
     Random::new(2718281828)
 }
@@ -87,7 +87,7 @@ fn edge(block: u32, count: u32) -> u32 {
     block.wrapping_mul(4).wrapping_add(count)
 }
 
-// The block that lies so many behind one, in a circle.
+// The block that is `count` blocks behind another, in a circle.
 fn behind(block: u32, count: u32, blocks: u32) -> u32 {
     if blocks == 0 {
         0

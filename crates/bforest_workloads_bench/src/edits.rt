@@ -8,8 +8,8 @@ ghost use Rattle.bforest_workloads_bench.specs.Cursors.{MapContinues, SetContinu
 
 use bforest::{Comparator, Map, MapCursorMut, MapForest, OutOfMemory, Set, SetCursor, SetForest};
 
-/// Puts entries into a map, each where the one before has left a cursor, and counts the new keys. The cursor begins where a search for the first
-/// ends.
+/// Inserts entries into a map, each from where the insertion before has left a cursor, and counts the new keys. The cursor starts where a
+/// search for the first key ends.
 pub(crate) fn put_entries<K: Copy, V: Copy, C: Comparator<K>>(
     map: &mut Map<K, V>,
     entries: &[(K, V)],
@@ -25,7 +25,7 @@ pub(crate) fn put_entries<K: Copy, V: Copy, C: Comparator<K>>(
     put_here(&mut cursor, entries)
 }
 
-// Puts entries in, each where the one before has left the cursor. Counts the new keys.
+// Inserts entries, each from where the insertion before has left the cursor. Counts the new keys.
 fn put_here<K: Copy, V: Copy, C: Comparator<K>>(
     cursor: &mut MapCursorMut<K, V, C>,
     entries: &[(K, V)],
@@ -44,7 +44,7 @@ fn put_here<K: Copy, V: Copy, C: Comparator<K>>(
     Ok(count)
 }
 
-/// Puts keys into a set by one cursor, and takes as many out from `first` on. Counts the new keys and those that went.
+/// Inserts keys into a set by one cursor, and removes as many from `first` on. Counts the new keys and the removed ones.
 pub(crate) fn edit_keys<K: Copy, C: Comparator<K>>(
     set: &mut Set<K>,
     keys: &[K],
@@ -62,7 +62,7 @@ pub(crate) fn edit_keys<K: Copy, C: Comparator<K>>(
     Ok(count.wrapping_add(take_keys(&mut cursor, first, keys.len())))
 }
 
-// Puts keys in, each where the one before has left the cursor. Counts the new ones.
+// Inserts keys, each from where the insertion before has left the cursor. Counts the new ones.
 fn put_keys<K: Copy, C: Comparator<K>>(
     cursor: &mut SetCursor<K, C>,
     keys: &[K],
@@ -81,7 +81,7 @@ fn put_keys<K: Copy, C: Comparator<K>>(
     Ok(count)
 }
 
-// Takes so many keys out, from `first` on. Counts those that went.
+// Removes at most `most` keys, from `first` on. Counts the removed ones.
 fn take_keys<K: Copy, C: Comparator<K>>(cursor: &mut SetCursor<K, C>, first: K, most: usize) -> u32
     requires valid { IsSetCursor C.order cursor.old }
     requires ready { IsSetReadable K.row }

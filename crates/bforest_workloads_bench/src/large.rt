@@ -5,7 +5,7 @@ use bforest::{Map, MapForest, OutOfMemory};
 use std::alloc::Global;
 use std::marker::Model;
 
-/// A whole run, as `run_large` says.
+/// Makes a whole run, as described at `run_large`.
 pub(crate) fn run(
     alloc: Global,
     size: u32,
@@ -28,7 +28,7 @@ pub(crate) fn run(
     Some(sum)
 }
 
-/// A whole run, as `run_large_cursor` says.
+/// Makes a whole run, as described at `run_large_cursor`.
 pub(crate) fn run_by_cursor(
     alloc: Global,
     size: u32,
@@ -47,7 +47,7 @@ pub(crate) fn run_by_cursor(
     Some(sum)
 }
 
-// One map in a forest of its own. That its keys increase is part of its type, so that no call has to be asked for it.
+// One map in a forest of its own. Its type states that its keys increase, and no call has to be asked for it.
 #[derive(Drop)]
 struct Large {
     forest: MapForest<u32, u32>,
@@ -68,7 +68,7 @@ impl Model for Large {
 }
 
 impl Large {
-    // An empty map. Its keys will come without an order, or in ascending order.
+    // An empty map, whose keys are inserted without an order, or in ascending order.
     fn new(alloc: Global, is_mixed: bool) -> Self {
         Large {
             forest: MapForest::new(alloc),
@@ -82,22 +82,22 @@ impl Large {
         if self.is_mixed { mixed(index) } else { index }
     }
 
-    // Puts a value in, and answers the one that was there.
+    // Inserts a value, and returns the value that it replaces.
     fn insert(&mut self, key: u32, value: u32) -> Result<Option<u32>, OutOfMemory> {
         self.map.insert(key, value, &mut self.forest, &())
     }
 
-    // The value of a key, or 7.
+    // The value of a key, or 7 where the key is absent.
     fn get(&self, key: u32) -> u32 {
         self.map.get(key, &self.forest, &()).unwrap_or(7)
     }
 
-    // Takes a key out, and answers its value, or 7.
+    // Removes a key, and returns its value, or 7 where the key is absent.
     fn remove(&mut self, key: u32) -> u32 {
         self.map.remove(key, &mut self.forest, &()).unwrap_or(7)
     }
 
-    // Inserts so many keys, and counts those that were there.
+    // Inserts `size` keys, and counts those that were present.
     fn inserts(&mut self, size: u32) -> Result<u64, OutOfMemory> {
         let mut sum = 0u64;
         for index in 0..size {
@@ -109,7 +109,7 @@ impl Large {
         Ok(sum)
     }
 
-    // Looks so many keys up, in the order in which they came in where that is ascending, else in another one.
+    // Looks `size` keys up, in the order of their insertion where that is ascending, else in another order.
     fn gets(&self, size: u32) -> u64 {
         let mut random = Random::new(99);
         let mut sum = 0u64;
@@ -133,17 +133,17 @@ impl Large {
         sum
     }
 
-    // Reads each entry by a cursor, from the first on. The checksum begins at 1, so that it counts a first entry of nothing but 0, too.
+    // Reads each entry by a cursor, from the first on. The checksum starts at 1, to count a first entry of zeros too.
     fn read_on(&self) -> u64 {
         read_on(&self.map, &self.forest, 1)
     }
 
-    // The same from the last back.
+    // Reads each entry by a cursor, from the last back.
     fn read_back(&self) -> u64 {
         read_back(&self.map, &self.forest, 1)
     }
 
-    // Takes so many keys out, in the order in which they came in.
+    // Removes `size` keys, in the order of their insertion.
     fn removes(&mut self, size: u32) -> u64 {
         let mut sum = 0u64;
         for index in 0..size {

@@ -5,7 +5,7 @@ use bforest::{OutOfMemory, Set, SetForest};
 use std::alloc::Global;
 use std::marker::Model;
 
-/// A whole run, as `run_large_set` says.
+/// Makes a whole run, as described at `run_large_set`.
 pub(crate) fn run(
     alloc: Global,
     size: u32,
@@ -28,7 +28,7 @@ pub(crate) fn run(
     Some(sum)
 }
 
-// One set in a forest of its own. That its keys increase is part of its type, so that no call has to be asked for it.
+// One set in a forest of its own. Its type states that its keys increase, and no call has to be asked for it.
 #[derive(Drop)]
 struct LargeSet {
     forest: SetForest<u32>,
@@ -49,7 +49,7 @@ impl Model for LargeSet {
 }
 
 impl LargeSet {
-    // An empty set. Its keys will come without an order, or in ascending order.
+    // An empty set, whose keys are inserted without an order, or in ascending order.
     fn new(alloc: Global, is_mixed: bool) -> Self {
         LargeSet {
             forest: SetForest::new(alloc),
@@ -63,22 +63,22 @@ impl LargeSet {
         if self.is_mixed { mixed(index) } else { index }
     }
 
-    // Puts a key in, and answers whether it was absent.
+    // Inserts a key, and returns whether it was absent.
     fn insert(&mut self, key: u32) -> Result<bool, OutOfMemory> {
         self.set.insert(key, &mut self.forest, &())
     }
 
-    // Whether a key is there.
+    // Whether a key is present.
     fn contains(&self, key: u32) -> bool {
         self.set.contains(key, &self.forest, &())
     }
 
-    // Puts five keys in by a cursor, and takes five out from the first of them on.
+    // Inserts five keys by a cursor, and removes five from the first of them on.
     fn edit(&mut self, key: u32) -> Result<u32, OutOfMemory> {
         edit_keys(&mut self.set, &following(key), key, &mut self.forest, &())
     }
 
-    // Inserts so many keys, and counts those that were there.
+    // Inserts `size` keys, and counts those that were present.
     fn inserts(&mut self, size: u32) -> Result<u64, OutOfMemory> {
         let mut sum = 0u64;
         for index in 0..size {
@@ -90,7 +90,7 @@ impl LargeSet {
         Ok(sum)
     }
 
-    // Tests for so many keys, in the order in which they came in where that is ascending, else in another one.
+    // Tests for `size` keys, in the order of their insertion where that is ascending, else in another order.
     fn tests(&self, size: u32) -> u64 {
         let mut random = Random::new(99);
         let mut sum = 0u64;

@@ -4,7 +4,7 @@ use crate::random::{Random, added};
 use crate::smalls::Smalls;
 use std::alloc::Global;
 
-/// A whole run, as `run_mixture` says.
+/// Makes a whole run, as described at `run_mixture`.
 pub(crate) fn run(
     alloc: Global,
     maps: u32,
@@ -27,7 +27,7 @@ pub(crate) fn run(
     Some(sum)
 }
 
-// So many calls that change maps, or look up.
+// Makes `calls` calls that change maps, or look up.
 fn mix(smalls: &mut Smalls, maps: u32, calls: u32) -> Option<u64> {
     let mut random = Random::new(88172645463325252);
     let mut sum = 0u64;
@@ -47,7 +47,7 @@ fn mix(smalls: &mut Smalls, maps: u32, calls: u32) -> Option<u64> {
     Some(sum)
 }
 
-// So many look-ups.
+// Makes `calls` lookups.
 fn look(smalls: &Smalls, maps: u32, calls: u32) -> u64 {
     let mut random = Random::new(12345);
     let mut sum = 0u64;

@@ -1,4 +1,4 @@
-//! Numbers without an order, the same for each side of a comparison.
+//! Numbers without an order, equal on each side of a comparison.
 ghost use Rattle.std.specs.Prelude.{◌<◌};
 
 /// A generator of numbers.
@@ -23,7 +23,7 @@ impl Random {
         ((x >> 32) & 0xffff_ffff) as u32
     }
 
-    /// The next number, below a bound, or 0 where the bound is.
+    /// The next number below a bound, or 0 where the bound is 0.
     pub(crate) fn below(&mut self, bound: u32) -> u32
         ensures { 0 < bound → result < bound }
     {
@@ -32,7 +32,7 @@ impl Random {
     }
 }
 
-/// The number at an index of a row that has each number once, without an order.
+/// The number at an index of a sequence that has each number once, without an order.
 pub(crate) fn mixed(index: u32) -> u32 {
     let mut x = index;
     x ^= x >> 16;
@@ -42,7 +42,7 @@ pub(crate) fn mixed(index: u32) -> u32 {
     x ^ (x >> 16)
 }
 
-/// A checksum with one more number.
+/// A checksum to which one more number is added.
 pub(crate) fn added(sum: u64, x: u32) -> u64 {
     sum.wrapping_mul(31).wrapping_add(x as u64)
 }

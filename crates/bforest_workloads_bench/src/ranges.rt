@@ -6,13 +6,13 @@ use std::alloc::Global;
 use std::marker::Model;
 use std::ops::Bound;
 
-/// How many ranges one cursor puts in.
+/// The number of ranges that one cursor inserts.
 const BATCH: u32 = 8;
 
-/// How many points lie from the beginning of one range to that of the next.
+/// The number of points from the beginning of one range to that of the next.
 const STEP: u32 = 4;
 
-/// A whole run, as `run_ranges` says.
+/// Makes a whole run, as described at `run_ranges`.
 pub(crate) fn run(alloc: Global, size: u32, looks: u32, spans: u32, is_split: bool) -> Option<u64> {
     let mut ranges = Ranges::new(alloc);
     let mut sum = ranges.add_all(size, 0).ok()?;
@@ -28,7 +28,7 @@ pub(crate) fn run(alloc: Global, size: u32, looks: u32, spans: u32, is_split: bo
     Some(sum)
 }
 
-// The ranges. That their beginnings increase is part of the type, so that no call has to be asked for it.
+// The ranges. The type states that their beginnings increase, and no call has to be asked for it.
 #[derive(Drop)]
 struct Ranges {
     forest: MapForest<u32, u32>,
@@ -48,7 +48,7 @@ impl Model for Ranges {
 }
 
 impl Ranges {
-    // No range.
+    // Ranges with no entry.
     fn new(alloc: Global) -> Self {
         Ranges {
             forest: MapForest::new(alloc),
@@ -56,12 +56,12 @@ impl Ranges {
         }
     }
 
-    // Puts the ranges of a batch in by one cursor, and counts the new ones.
+    // Inserts the ranges of a batch by one cursor, and counts the new ones.
     fn add(&mut self, entries: &[(u32, u32)]) -> Result<u32, OutOfMemory> {
         put_entries(&mut self.map, entries, &mut self.forest, &())
     }
 
-    // Where the last range ends that begins at a point or before, or 7.
+    // The end of the last range that begins at a point or before, or 7 where there is none.
     fn end_at(&self, point: u32) -> u32 {
         match self.map.get_or_less(point, &self.forest, &()) {
             Some(entry) => entry.1,
@@ -78,7 +78,7 @@ impl Ranges {
         added(added(sum, first.0 ^ first.1), last.0 ^ last.1)
     }
 
-    // Puts so many ranges in, batch by batch, each so far behind the beginning of a step.
+    // Inserts `size` ranges, batch by batch, each `offset` points behind the beginning of a step.
     fn add_all(&mut self, size: u32, offset: u32) -> Result<u64, OutOfMemory> {
         let mut sum = 0u64;
         for index in 0..size / BATCH {
@@ -87,7 +87,7 @@ impl Ranges {
         Ok(sum)
     }
 
-    // Looks for the range at so many points.
+    // Looks for the range at `size` points.
     fn look_all(&self, size: u32) -> u64 {
         let mut random = Random::new(99);
         let mut sum = 0u64;
@@ -98,7 +98,7 @@ impl Ranges {
         sum
     }
 
-    // Reads as many spans of a batch's length.
+    // Reads `size` spans, each as long as a batch.
     fn read_all(&self, size: u32) -> u64 {
         let mut random = Random::new(4711);
         let mut sum = 0u64;

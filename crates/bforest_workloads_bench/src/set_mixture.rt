@@ -4,7 +4,7 @@ use crate::random::{Random, added};
 use crate::small_sets::SmallSets;
 use std::alloc::Global;
 
-/// A whole run, as `run_set_mixture` says.
+/// Makes a whole run, as described at `run_set_mixture`.
 pub(crate) fn run(
     alloc: Global,
     sets: u32,
@@ -27,7 +27,7 @@ pub(crate) fn run(
     Some(sum)
 }
 
-// So many calls that change sets, or test for a key.
+// Makes `calls` calls that change sets, or test for a key.
 fn mix(smalls: &mut SmallSets, sets: u32, calls: u32) -> Option<u64> {
     let mut random = Random::new(88172645463325252);
     let mut sum = 0u64;
@@ -47,7 +47,7 @@ fn mix(smalls: &mut SmallSets, sets: u32, calls: u32) -> Option<u64> {
     Some(sum)
 }
 
-// So many tests for a key.
+// Makes `calls` tests for a key.
 fn look(smalls: &SmallSets, sets: u32, calls: u32) -> u64 {
     let mut random = Random::new(12345);
     let mut sum = 0u64;

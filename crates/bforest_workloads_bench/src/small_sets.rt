@@ -6,7 +6,7 @@ use bforest::{OutOfMemory, Set, SetForest};
 use std::alloc::{AllocError, Global};
 use std::marker::Model;
 
-/// Many sets in one forest. That the keys of each increase, and that no two are one tree, is part of its type, as it is for maps.
+/// Many sets in one forest. The type states that the keys of each increase, and that no two sets are one tree.
 #[derive(Drop)]
 pub(crate) struct SmallSets {
     forest: SetForest<u32>,
@@ -26,7 +26,7 @@ impl Model for SmallSets {
 }
 
 impl SmallSets {
-    /// So many empty sets.
+    /// A list of `count` empty sets.
     pub(crate) fn new(alloc: Global, count: u32) -> Result<SmallSets, AllocError> {
         Ok(SmallSets {
             forest: SetForest::new(alloc),
@@ -34,7 +34,7 @@ impl SmallSets {
         })
     }
 
-    /// Puts a key into a set, and answers whether it was absent.
+    /// Inserts a key into a set, and returns whether it was absent.
     pub(crate) fn insert(&mut self, index: u32, key: u32) -> Result<bool, OutOfMemory> {
         match self.sets.get_mut(index as usize) {
             Some(set) => set.insert(key, &mut self.forest, &()),
@@ -50,7 +50,7 @@ impl SmallSets {
         }
     }
 
-    /// Takes a key out of a set, and answers whether it was there.
+    /// Removes a key from a set, and returns whether it was present.
     pub(crate) fn remove(&mut self, index: u32, key: u32) -> bool {
         match self.sets.get_mut(index as usize) {
             Some(set) => set.remove(key, &mut self.forest, &()),
@@ -58,7 +58,7 @@ impl SmallSets {
         }
     }
 
-    // Ends a set's tree.
+    // Clears a set.
     fn clear(&mut self, index: u32) {
         if let Some(set) = self.sets.get_mut(index as usize) {
             set.clear(&mut self.forest);
@@ -76,7 +76,7 @@ impl SmallSets {
         sum
     }
 
-    /// A checksum of each key of the first sets.
+    /// A checksum of each key of the first `count` sets.
     pub(crate) fn walk_all(&self, count: u32) -> u64 {
         let mut sum = 0u64;
         for index in 0..count {
@@ -85,7 +85,7 @@ impl SmallSets {
         sum
     }
 
-    /// Ends the trees of the first sets.
+    /// Clears the first `count` sets.
     pub(crate) fn clear_all(&mut self, count: u32) {
         for index in 0..count {
             self.clear(index);
@@ -93,7 +93,7 @@ impl SmallSets {
     }
 }
 
-// So many empty handles.
+// A list of `count` empty handles.
 fn handles(alloc: Global, count: u32) -> Result<Vec<Set<u32>>, AllocError>
     ensures { IfOk result (λ sets. sets.items ≡ replicate count None) }
 {

@@ -7,8 +7,8 @@ use bforest::{Map, MapForest, OutOfMemory};
 use std::alloc::{AllocError, Global};
 use std::marker::Model;
 
-/// Many maps in one forest. That the keys of each increase, and that no two are one tree, is part of its type: a call on one map leaves
-/// that of all others, so that no call has to be asked for it.
+/// Many maps in one forest. The type states that the keys of each increase, and that no two maps are one tree: a call on one map leaves all
+/// others, and no call has to be asked for it.
 #[derive(Drop)]
 pub(crate) struct Smalls {
     forest: MapForest<u32, u32>,
@@ -28,7 +28,7 @@ impl Model for Smalls {
 }
 
 impl Smalls {
-    /// So many empty maps.
+    /// A list of `count` empty maps.
     pub(crate) fn new(alloc: Global, count: u32) -> Result<Smalls, AllocError> {
         Ok(Smalls {
             forest: MapForest::new(alloc),
@@ -36,7 +36,7 @@ impl Smalls {
         })
     }
 
-    /// Puts a value into a map, and answers the one that was there.
+    /// Inserts a value into a map, and returns the value that it replaces.
     pub(crate) fn insert(
         &mut self,
         index: u32,
@@ -55,13 +55,13 @@ impl Smalls {
         map.get(key, &self.forest, &())
     }
 
-    /// Takes a key out of a map, and answers its value.
+    /// Removes a key from a map, and returns its value.
     pub(crate) fn remove(&mut self, index: u32, key: u32) -> Option<u32> {
         let map = self.maps.get_mut(index as usize)?;
         map.remove(key, &mut self.forest, &())
     }
 
-    // Ends a map's tree.
+    // Clears a map.
     fn clear(&mut self, index: u32) {
         if let Some(map) = self.maps.get_mut(index as usize) {
             map.clear(&mut self.forest);
@@ -79,7 +79,7 @@ impl Smalls {
         sum
     }
 
-    /// A checksum of each entry of the first maps.
+    /// A checksum of each entry of the first `count` maps.
     pub(crate) fn walk_all(&self, count: u32) -> u64 {
         let mut sum = 0u64;
         for index in 0..count {
@@ -96,7 +96,7 @@ impl Smalls {
         }
     }
 
-    /// A checksum of each entry of the first maps, read by cursors.
+    /// A checksum of each entry of the first `count` maps, read by cursors.
     pub(crate) fn read_all(&self, count: u32) -> u64 {
         let mut sum = 1u64;
         for index in 0..count {
@@ -105,7 +105,7 @@ impl Smalls {
         sum
     }
 
-    /// Ends the trees of the first maps.
+    /// Clears the first `count` maps.
     pub(crate) fn clear_all(&mut self, count: u32) {
         for index in 0..count {
             self.clear(index);
@@ -113,7 +113,7 @@ impl Smalls {
     }
 }
 
-// So many empty handles.
+// A list of `count` empty handles.
 fn handles(alloc: Global, count: u32) -> Result<Vec<Map<u32, u32>>, AllocError>
     ensures { IfOk result (λ maps. maps.items ≡ replicate count None) }
 {

@@ -35,7 +35,7 @@ pub(crate) fn read_back(map: &Map<u32, u32>, forest: &MapForest<u32, u32>, sum: 
     sum
 }
 
-// A checksum with one more entry.
+// A checksum to which one more entry is added.
 fn added_entry(sum: u64, entry: (u32, u32)) -> u64 {
     added(sum, entry.0.wrapping_add(entry.1))
 }

@@ -1,4 +1,4 @@
--- What a look-up finds after a removal, seen from a list's front.
+-- Lookups after a removal, from the front of a list.
 use Rattle.bforest_nodes.proofs.Ordered.{IsIncreasing-cut, above, place-here, place-later}
 use Rattle.bforest_nodes.specs.Entries.{IsIncreasing, cut, is_present, place, value_for}
 use Rattle.std.proofs.Common.{Bool, List, None, Option, Some, [], ap, false, if◌then◌else◌, refl, remove, slice_get, subst, sym, true, ◌∙◌, ◌∷◌, ◌≡◌}
@@ -12,13 +12,13 @@ use Rattle.std.specs.Prelude.{ℕ}
 use Rattle.std.specs.declared.cmp.Ordering.TheVariants.{Equal, Greater, Less}
 use Rattle.std.specs.declared.cmp.Ordering.{Ordering}
 
--- a key that compares like another is less than all that this is less than
+-- a key that compares equal to another is less than all keys that the other is less than
 like-first : {K : Type 0} (cmp : K → K → Ordering) (o : IsTotalOrder cmp) (k q : K) (ks : List K) → cmp k q ≡ Equal → AllByRecursion (λ y. cmp k y ≡ Less) ks → AllByRecursion (λ y. cmp q y ≡ Less) ks
 like-first cmp o k q [] t h = tt
 like-first cmp o k q (y ∷ ys) t h = (sym (o.congr k q y t) ∙ h.0, like-first cmp o k q ys t h.1)
 
 module _ {K X : Type 0} (cmp : K → K → Ordering) (o : IsTotalOrder cmp) where
-  -- what a look-up finds at a place, and what a removal leaves there
+  -- the value that a lookup finds at a place, and what a removal leaves there
   value_in : List (K × X) → K → ℕ → Option X
   value_in es k p = option_map (λ x. x.1) (option_and_then (λ x. if is_eq (cmp x.0 k) then Some x else None) (slice_get es p))
 
@@ -26,7 +26,7 @@ module _ {K X : Type 0} (cmp : K → K → Ordering) (o : IsTotalOrder cmp) wher
   cut_in es k p = if is_some (option_and_then (λ x. if is_eq (cmp x.0 k) then Some x else None) (slice_get es p)) then remove es p else es
 
   module _ (e : K × X) (es : List (K × X)) (k : K) where
-    -- a look-up and a removal behind a first key that is less
+    -- a lookup and a removal of a key that is greater than the first one
     value-less : cmp e.0 k ≡ Less → value_for cmp (e ∷ es) k ≡ value_for cmp es k
     unfolding value_in
     value-less t = ap (value_in (e ∷ es) k) (place-later cmp o e es k t)
@@ -39,7 +39,7 @@ module _ {K X : Type 0} (cmp : K → K → Ordering) (o : IsTotalOrder cmp) wher
         go true = refl
         go false = refl
 
-    -- and at one that is not
+    -- a lookup and a removal of a key that is not greater than the first one
     value-here : IsIncreasing cmp (e ∷ es) → (r : Ordering) → cmp e.0 k ≡ r → is_lt r ≡ false → value_for cmp (e ∷ es) k ≡ (if is_eq r then Some e.1 else None)
     unfolding value_in
     value-here h r t ge = ap (value_in (e ∷ es) k) (place-here cmp o e es k h (ap is_lt t ∙ ge)) ∙ ap (λ s. option_map (λ (x : K × X). x.1) (if is_eq s then Some e else None)) t ∙ go (is_eq r)
@@ -61,7 +61,7 @@ module _ {K X : Type 0} (cmp : K → K → Ordering) (o : IsTotalOrder cmp) wher
   value-before [] k h l = refl
   value-before (e ∷ es) k h l = value-here e es k h Greater (o.antisymm e.0 k ∙ ap ordering_reverse l.0) refl
 
-  -- a removal leaves no value
+  -- a removed key has no value
   pub value_for-cut : (es : List (K × X)) (k : K) → IsIncreasing cmp es → value_for cmp (cut cmp es k) k ≡ None
   unfolding IsStrictlySortedBy
   value_for-cut [] k h = refl
@@ -73,7 +73,7 @@ module _ {K X : Type 0} (cmp : K → K → Ordering) (o : IsTotalOrder cmp) wher
       go further Greater t = ap (λ l. value_for cmp l k) (cut-here e es k h Greater t refl) ∙ value-here e es k h Greater t refl
 
   module _ (k q : K) (apart : is_eq (cmp k q) ≡ false) where
-    -- and every key that compares unequal has the value that it had
+    -- every key that compares unequal to a removed key keeps its value
     pub value_for-cut_other : (es : List (K × X)) → IsIncreasing cmp es → value_for cmp (cut cmp es k) q ≡ value_for cmp es q
     unfolding IsStrictlySortedBy
     value_for-cut_other [] h = refl

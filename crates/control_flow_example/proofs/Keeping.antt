@@ -13,7 +13,7 @@ use Rattle.std.specs.Option.{is_some, option_map}
 use Rattle.std.specs.Ordering.{is_eq, nat_cmp, ordering_reverse}
 use Rattle.std.specs.declared.cmp.Ordering.TheVariants.{Equal, Greater, Less}
 
--- two numbers compare equal only where they are
+-- comparisons of different numbers
 less : (a b : ℕ) → a < b → nat_cmp a b ≡ Less
 less a b h = ap (λ t. cond t Less (cond (a == b) Equal Greater)) (lt-ltb a b h)
 
@@ -27,7 +27,7 @@ unequal a b ne = elim (cases_order a b) [
 ]
 
 module _ {X : Type 0} (es : List (ℕ × X)) where
-  -- a key is present where it has a value
+  -- a key is present exactly where it has a value
   pub present-value : (k : ℕ) → is_present nat_cmp es k ≡ is_some (value_for nat_cmp es k)
   present-value k = go (entry_for nat_cmp es k)
     where
@@ -49,7 +49,7 @@ module _ {X : Type 0} (es : List (ℕ × X)) (k : ℕ) (h : IsIncreasing nat_cmp
   pub present-cut_other : (q : ℕ) → q ≢ k → is_present nat_cmp (cut nat_cmp es k) q ≡ is_present nat_cmp es q
   present-cut_other q ne = present-value (cut nat_cmp es k) q ∙ ap is_some (value_for-cut_other nat_cmp nat_cmp_total k q (unequal k q (λ e. ne (sym e))) es h) ∙ sym (present-value es q)
 
--- a block's list in lists of which one was changed
+-- the list of a block after one list was changed
 module _ {X : Type 0} (lists : List (List X)) (i : ℕ) (es : List X) where
   pub here : i < length lists → (p : ℕ) → p ≡ i → list_in (slice_set lists i es) p ≡ es
   here within p is = ap (λ z. get_or (slice_set lists i es) z []) is ∙ get_or-set_same lists i es [] within
@@ -71,25 +71,25 @@ module _ (forward : List (List (ℕ × Unit {0}))) (backward : List (List (ℕ �
     ]
   ]
 
--- a handle's list among the lists
+-- the list at an index is the list of the handle there
 pub list_at_handle : {X : Type 0} (f : Forest ℕ X) (hs : List (Option ℕ)) (p : ℕ) → list_in (lists_of f hs) p ≡ list_of f (get_or hs p None)
 list_at_handle f [] p = refl
 list_at_handle f (h ∷ hs) zero = refl
 list_at_handle f (h ∷ hs) (suc p) = list_at_handle f hs p
 
 module _ {X : Type 0} (f f' : Forest ℕ X) where
-  -- where each handle means the same, the lists are the same
+  -- where each handle keeps its list, the lists are the same
   pub lists-same : (hs : List (Option ℕ)) → ((p : ℕ) → list_of f' (get_or hs p None) ≡ list_of f (get_or hs p None)) → lists_of f' hs ≡ lists_of f hs
   lists-same [] same = refl
   lists-same (h ∷ hs) same = λ j. same 0 j ∷ lists-same hs (λ p. same (suc p)) j
 
-  -- where one handle means another list, that list is another
+  -- where one handle gets another list, one of the lists changes
   pub lists-set : (hs : List (Option ℕ)) (i : ℕ) (h' : Option ℕ) (es : List (ℕ × X)) → list_of f' h' ≡ es → ((p : ℕ) → p ≢ i → list_of f' (get_or hs p None) ≡ list_of f (get_or hs p None)) → lists_of f' (slice_set hs i h') ≡ slice_set (lists_of f hs) i es
   lists-set [] i h' es is same = refl
   lists-set (h ∷ hs) zero h' es is same = λ j. is j ∷ lists-same hs (λ p. same (suc p) (λ e. absurd (omega (arith, e)))) j
   lists-set (h ∷ hs) (suc i) h' es is same = λ j. same 0 (λ e. absurd (omega (arith, e))) j ∷ lists-set hs i h' es is (λ p ne. same (suc p) (λ e. ne (omega (arith, e)))) j
 
-  -- a reservation leaves all
+  -- reserving nodes keeps all lists
   pub lists-kept : (hs : List (Option ℕ)) → Keeps f f' → lists_of f' hs ≡ lists_of f hs
   lists-kept hs k = lists-same hs (λ p. go (get_or hs p None))
     where
@@ -114,14 +114,14 @@ module _ {X : Type 0} (f f' : Forest ℕ X) where
 
 -- a change of one handle
 module _ {X : Type 0} (f f' : Forest ℕ X) (hs : List (Option ℕ)) (i : ℕ) (h' : Option ℕ) (es : List (ℕ × X)) (a : AreOrdered f hs) (b : Becomes f (get_or hs i None) f' h' es) where
-  -- another handle's number is not that of the changed one, and not that of what it became
+  -- another handle's number is neither the old nor the new number of the changed tree
   apart_at : (p n : ℕ) → p ≢ i → get_or hs p None ≡ Some n → Some n ≢ get_or hs i None
   apart_at p n ne e = λ d. ne (a.apart p i n e (sym d))
 
   apart_new : (p n : ℕ) → p ≢ i → get_or hs p None ≡ Some n → Some n ≢ h'
   apart_new p n ne e = λ d. subst (λ (q : Option ℕ). IsLive f q) e (a.live p) (subst (λ (q : Option ℕ). list_of f q ≡ []) (sym d) (b.fresh (λ c. apart_at p n ne e (d ∙ c))))
 
-  -- so it keeps its list, and stays live
+  -- another handle keeps its list, and stays live
   beside : (p : ℕ) → p ≢ i → (q : Option ℕ) → get_or hs p None ≡ q → list_of f' q ≡ list_of f q
   beside p ne None e = refl
   beside p ne (Some n) e = b.others n (apart_at p n ne e) (apart_new p n ne e)
@@ -130,11 +130,11 @@ module _ {X : Type 0} (f f' : Forest ℕ X) (hs : List (Option ℕ)) (i : ℕ) (
   live_beside p ne None e l = tt
   live_beside p ne (Some n) e l = subst (λ (es : List (ℕ × X)). es ≢ []) (sym (beside p ne (Some n) e)) l
 
-  -- one list of all is another
+  -- one of the lists changes
   pub lists-changed : lists_of f' (slice_set hs i h') ≡ slice_set (lists_of f hs) i es
   lists-changed = lists-set f f' hs i h' es b.list (λ p ne. beside p ne (get_or hs p None) refl)
 
-  -- and all handles are ordered
+  -- all handles stay ordered
   pub ordered-changed : i < length hs → IsIncreasing nat_cmp (list_of f' h') → AreOrdered f' (slice_set hs i h')
   ordered-changed within increasing = record {
     live = λ p. elim (eqb_tells p i) [

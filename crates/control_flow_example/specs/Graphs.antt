@@ -1,11 +1,11 @@
--- What contracts see of a control flow graph, and what it keeps.
+-- What contracts see of a control flow graph, and its invariant.
 use Rattle.bforest.specs.Forest.{Forest, IsLive, list_of}
 use Rattle.bforest.specs.Set.{the_value}
 use Rattle.bforest_nodes.specs.Entries.{IsIncreasing, cut, is_present, put, value_for}
 use Rattle.std.specs.Ordering.{nat_cmp}
 use Rattle.std.specs.Prelude.{List, None, Option, Some, [], get_or, length, map, slice_set, suc, zero, ◌≡◌, ℕ}
 
--- for each block those that it leads to, and those that lead to it, beside the branches by which they do
+-- for each block its successors, and its predecessors with the branches that lead from them
 pub record Graph : Type 0 where
   pub successors : List (List (ℕ × Unit {0}))
   pub predecessors : List (List (ℕ × ℕ))
@@ -14,7 +14,7 @@ pub record Graph : Type 0 where
 abbrev pub list_in : {X : Type 0} → List (List X) → ℕ → List X
 list_in lists block = get_or lists block []
 
--- how many blocks there are
+-- the number of blocks
 abbrev pub blocks : Graph → ℕ
 blocks g = length g.predecessors
 
@@ -22,41 +22,41 @@ blocks g = length g.predecessors
 abbrev pub branch_of : Graph → ℕ → ℕ → Option ℕ
 branch_of g from to = value_for nat_cmp (list_in g.predecessors to) from
 
--- a block is in the successors of another exactly where that is in its predecessors
+-- a block is a successor of another exactly where that is its predecessor
 abbrev pub IsMirrored : Graph → Type 0
 IsMirrored g =
     (from to : ℕ) → is_present nat_cmp (list_in g.successors from) to ≡ is_present nat_cmp (list_in g.predecessors to) from
 
--- with an edge, by a branch
+-- the graph with an edge, by a branch
 abbrev pub with_edge : Graph → ℕ → ℕ → ℕ → Graph
 with_edge g from branch to = record {
   successors = slice_set g.successors from (put nat_cmp (list_in g.successors from) to the_value);
   predecessors = slice_set g.predecessors to (put nat_cmp (list_in g.predecessors to) from branch);
 }
 
--- without an edge
+-- the graph without an edge
 abbrev pub without_edge : Graph → ℕ → ℕ → Graph
 without_edge g from to = record {
   successors = slice_set g.successors from (cut nat_cmp (list_in g.successors from) to);
   predecessors = slice_set g.predecessors to (cut nat_cmp (list_in g.predecessors to) from);
 }
 
--- with the branch of an edge led elsewhere, if there is one
+-- the graph with the branch of an edge moved to another edge, if there is one
 abbrev pub redirected : Graph → ℕ × ℕ → ℕ × ℕ → Option ℕ → Graph
 redirected g old new None = g
 redirected g old new (Some branch) = without_edge (with_edge g new.0 branch new.1) old.0 old.1
 
--- with the edges from a block to each of the first n led over to another block
+-- the graph with the edges from a block to each of the first n moved to another block
 abbrev pub led_over : Graph → ℕ → ℕ → ℕ → Graph
 led_over g block tail zero = g
 led_over g block tail (suc n) =
     redirected (led_over g block tail n) (block, n) (tail, n) (branch_of (led_over g block tail n) block n)
 
--- with a block split: all its edges are those of its tail, and a branch leads there
+-- the graph with a block split: all its edges are moved to its tail, and a branch leads there
 abbrev pub split_in : Graph → ℕ → ℕ → ℕ → Graph
 split_in g block branch tail = with_edge (led_over g block tail (blocks g)) block branch tail
 
--- what handles mean
+-- the lists of handles
 abbrev pub lists_of : {X : Type 0} → Forest ℕ X → List (Option ℕ) → List (List (ℕ × X))
 lists_of f handles = map (list_of f) handles
 
@@ -73,7 +73,7 @@ graph_of targets successors sources predecessors = record {
   predecessors = lists_of sources predecessors;
 }
 
--- what a graph keeps from call to call
+-- the invariant of a graph
 pub record AreKept (targets : Forest ℕ (Unit {0})) (successors : List (Option ℕ)) (sources : Forest ℕ ℕ) (predecessors : List (Option ℕ)) : Type 0 where
   pub forward : AreOrdered targets successors
   pub backward : AreOrdered sources predecessors

@@ -1,4 +1,4 @@
-//! The control flow graph: for each block a set of those that it leads to, and a map of those that lead to it.
+//! The control flow graph: for each block the set of its successors, and the map of its predecessors.
 ghost use Rattle.control_flow_example.specs.Graphs.{IsMirrored, blocks, branch_of, redirected, split_in, with_edge, without_edge};
 ghost use Rattle.std.specs.Option.{is_some};
 ghost use Rattle.std.specs.Prelude.{IfOk, OnErr, OnOk, [], replicate, ◌<◌, ◌^◌, ◌≡◌};
@@ -7,7 +7,7 @@ use bforest::{Map, MapForest, OutOfMemory, Set, SetForest};
 use std::alloc::{AllocError, Global};
 use std::marker::Model;
 
-/// Blocks that are numbered from 0, and the branches by which they lead to others.
+/// Blocks that are numbered from 0, and the branches that lead from block to block.
 #[derive(Drop)]
 pub(crate) struct Cfg {
     targets: SetForest<u32>,
@@ -27,7 +27,7 @@ impl Model for Cfg {
 }
 
 impl Cfg {
-    /// So many blocks, none of which leads to another.
+    /// A graph of `count` blocks, none of which leads to another.
     pub(crate) fn new(alloc: Global, count: u32) -> Result<Cfg, AllocError>
         ensures successors { IfOk result (λ c. c.successors ≡ replicate count []) }
         ensures predecessors { IfOk result (λ c. c.predecessors ≡ replicate count []) }
@@ -46,7 +46,7 @@ impl Cfg {
         })
     }
 
-    /// How many blocks there are.
+    /// The number of blocks.
     pub(crate) fn blocks(&self) -> usize
         ensures count { result ≡ blocks self.now }
         ensures mirrored { IsMirrored self.now }
@@ -81,14 +81,14 @@ impl Cfg {
         let levels = self.successors[from as usize].levels(&self.targets);
         self.targets.reserve_nodes(levels as u32 + 1)?;
         self.predecessors[to as usize].insert(from, branch, &mut self.sources, &())?;
-        // The nodes that this one needs lie free.
+        // The nodes that this insertion needs are free.
         self.successors[from as usize]
             .insert(to, &mut self.targets, &())
             .unwrap();
         Ok(())
     }
 
-    /// Removes an edge, if it is there.
+    /// Removes an edge, if it is present.
     pub(crate) fn remove_edge(&mut self, from: u32, to: u32)
         requires from { from < blocks self.old }
         requires to { to < blocks self.old }
@@ -99,7 +99,7 @@ impl Cfg {
         self.predecessors[to as usize].remove(from, &mut self.sources, &());
     }
 
-    /// Leads the branch of an edge elsewhere: the new edge, which is another one, has it then, and the old one is gone.
+    /// Moves the branch of an edge to another, new edge; the old edge is removed.
     pub(crate) fn redirect(&mut self, old: (u32, u32), new: (u32, u32)) -> Result<(), OutOfMemory>
         requires old_from { old.0 < blocks self.old }
         requires old_to { old.1 < blocks self.old }
@@ -117,7 +117,8 @@ impl Cfg {
         Ok(())
     }
 
-    /// Splits a block: its edges are led over to its tail, another block, and a branch leads there. Refused, some edges may be led over already.
+    /// Splits a block: its edges are moved to its tail, another block, and a branch leads there. If refused, some edges may be moved
+    /// already.
     pub(crate) fn split(&mut self, block: u32, branch: u32, tail: u32) -> Result<(), OutOfMemory>
         requires block { block < blocks self.old }
         requires tail { tail < blocks self.old }

@@ -1,5 +1,5 @@
-//! A control flow graph: the blocks that a block leads to, as a set, and those that lead to it, as a map with the branches by which they do.
-//! The two mirror each other while edges are added, removed and led elsewhere, and while a block is split.
+//! A control flow graph: the successors of each block, as a set, and its predecessors, as a map with the branches that lead from them. Both
+//! mirror each other while edges are added, removed and redirected, and while a block is split.
 #![tactic(auto)]
 
 mod cfg;
@@ -11,7 +11,7 @@ use crate::cfg::Cfg;
 use bforest::OutOfMemory;
 use std::io;
 
-// Block 0 branches to 1 and 2, which both lead to 3. Block 2 goes to 1 then instead, and 0 is split.
+// Block 0 branches to 1 and 2, which both lead to 3. Then block 2 leads to 1 instead, and 0 is split.
 fn build(cfg: &mut Cfg) -> Result<(), OutOfMemory>
     requires { blocks cfg.old ≡ 5 }
     ensures { blocks cfg.new ≡ 5 }

@@ -7,7 +7,7 @@ use std::process::ExitCode;
 use std::rt::Env;
 use std::{env, io};
 
-/// What the arguments ask for: what lines speak of, and the limit on nodes.
+/// The subject of the lines and the limit on nodes, as the arguments give them.
 fn asked(words: &[String]) -> Option<(Kind, u32)> {
     match words {
         [] => Some((Kind::Map, u32::MAX)),
@@ -25,7 +25,7 @@ fn kind_named(word: &str) -> Option<Kind> {
     }
 }
 
-/// What lines speak of, with the number behind it: of resources, or the limit on nodes.
+/// The subject of the lines, and the number behind it: the number of resources, or the limit on nodes.
 fn numbered(kind: &str, number: u32) -> Option<(Kind, u32)> {
     match kind {
         "books" => Some((Kind::Books(number), u32::MAX)),

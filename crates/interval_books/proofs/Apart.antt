@@ -1,4 +1,4 @@
--- Lists of bookings that are apart: their starts increase, and they stay apart after an insertion and a removal.
+-- Lists of bookings that are apart: their starts increase, and they stay apart after insertions and removals.
 use Rattle.bforest_nodes.proofs.Found.{put-absent}
 use Rattle.bforest_nodes.proofs.Ordered.{place-here, place-later}
 use Rattle.bforest_nodes.specs.Entries.{IsIncreasing, cut, is_present, place, put}
@@ -14,7 +14,7 @@ use Rattle.std.specs.Ordering.{is_eq, is_lt, nat_cmp, ordering_reverse}
 use Rattle.std.specs.Prelude.{nat_lt}
 use Rattle.std.specs.declared.cmp.Ordering.TheVariants.{Equal, Greater, Less}
 
--- how numbers compare
+-- the comparison of numbers, by their order
 pub less : (a b : ℕ) → a < b → nat_cmp a b ≡ Less
 less a b h = ap (λ t. cond t Less (cond (a == b) Equal Greater)) (lt-ltb a b h)
 
@@ -25,7 +25,7 @@ not_less a b h = ap (λ t. is_lt (cond t Less (cond (a == b) Equal Greater))) (l
     go true = refl
     go false = refl
 
--- whether an interval meets another, by the two tests
+-- whether an interval meets another, by the two comparisons
 pub met : (s e : ℕ) (x : ℕ × ℕ) → x.0 < e → s < x.1 → meets s e x ≡ true
 met s e x h k = λ j. lt-ltb x.0 e h j && lt-ltb s x.1 k j
 
@@ -40,42 +40,42 @@ not_met-before s e x h = ap (λ t. nat_lt x.0 e && t) (le-ltb s x.1 h) ∙ go (n
     go false = refl
 
 module _ {X : Type 0} where
-  -- what holds of each element and of one more holds of each after its insertion
+  -- what holds of each element of a list and of one more holds of each after its insertion
   pub all-insert : (P : X → Type 0) (xs : List X) (p : ℕ) (y : X) → AllByRecursion P xs → P y → AllByRecursion P (insert xs p y)
   all-insert P [] zero y h k = (k, tt)
   all-insert P [] (suc p) y h k = (k, tt)
   all-insert P (x ∷ xs) zero y h k = (k, h)
   all-insert P (x ∷ xs) (suc p) y h k = (h.0, all-insert P xs p y h.1 k)
 
-  -- and after a removal
+  -- what holds of each element of a list holds of each after a removal
   pub all-remove : (P : X → Type 0) (xs : List X) (p : ℕ) → AllByRecursion P xs → AllByRecursion P (remove xs p)
   all-remove P [] zero h = tt
   all-remove P [] (suc p) h = tt
   all-remove P (x ∷ xs) zero h = h.1
   all-remove P (x ∷ xs) (suc p) h = (h.0, all-remove P xs p h.1)
 
-  -- where each element passes no test, none is found
+  -- where each element fails a test, `find` finds none
   pub none-found : (P : X → Type 0) (test : X → Bool) → ((x : X) → P x → test x ≡ false) → (xs : List X) → AllByRecursion P xs → find test xs ≡ None
   none-found P test fails [] h = refl
   none-found P test fails (x ∷ xs) h = ap (λ t. cond t (Some x) (find test xs)) (fails x h.0) ∙ none-found P test fails xs h.1
 
--- what starts behind one number starts behind a lower one
+-- where all start at b or later, all start at a lower number or later
 pub all-lower : (a b : ℕ) (xs : List (ℕ × ℕ)) → a ≤ b → AllByRecursion (λ y. b ≤ y.0) xs → AllByRecursion (λ y. a ≤ y.0) xs
 all-lower a b [] h k = tt
 all-lower a b (x ∷ xs) h k = (let l = k.0 in omega (arith, l, h), all-lower a b xs h k.1)
 
--- starts that are greater
+-- starts at b or later are greater than a number below b
 greater_starts : (a b : ℕ) (xs : List (ℕ × ℕ)) → a < b → AllByRecursion (λ y. b ≤ y.0) xs → AllByRecursion (λ k. nat_cmp a k ≡ Less) (keys_of xs)
 greater_starts a b [] h k = tt
 greater_starts a b (x ∷ xs) h k = (less a x.0 (let l = k.0 in omega (arith, l, h)), greater_starts a b xs h k.1)
 
--- the starts increase
+-- the starts of bookings that are apart increase
 pub increasing : (es : List (ℕ × ℕ)) → AreApart es → IsIncreasing nat_cmp es
 unfolding IsStrictlySortedBy
 increasing [] h = tt
 increasing (x ∷ xs) h = (greater_starts x.0 x.1 xs h.0 h.1, increasing xs h.2)
 
--- a first booking that does not meet, and the rest, of which none does
+-- where no booking meets an interval, neither the first one nor any of the rest does
 pub unmet : (s e : ℕ) (x : ℕ × ℕ) (xs : List (ℕ × ℕ)) → first_met (x ∷ xs) s e ≡ None → (meets s e x ≡ false) × (first_met xs s e ≡ None)
 unmet s e x xs = go (meets s e x)
   where
@@ -83,7 +83,7 @@ unmet s e x xs = go (meets s e x)
     go true h = absurd (cc)
     go false h = (refl, h)
 
--- what begins at the start is met
+-- a booking that does not meet an interval does not begin at its start
 same_start : (s e : ℕ) (x : ℕ × ℕ) → s < e → x.0 < x.1 → meets s e x ≡ false → is_eq (nat_cmp x.0 s) ≡ false
 same_start s e x l w h = elim (cases_order x.0 s) [
   | inl same ↦ let yes : meets s e x ≡ true = met s e x (let d = same in omega (arith, d, l)) (let d = same in omega (arith, d, w)) in absurd (cc)
@@ -96,7 +96,7 @@ same_start s e x l w h = elim (cases_order x.0 s) [
     behind : s < x.0 → nat_cmp x.0 s ≡ Greater
     behind after = nat_cmp_total.antisymm x.0 s ∙ ap ordering_reverse (less s x.0 after)
 
--- so no booking begins there where none is met
+-- whether the booking at a place begins at a start; none does where no booking meets the interval
 begins : List (ℕ × ℕ) → ℕ → ℕ → Bool
 begins es s p = is_some (option_and_then (λ x. if is_eq (nat_cmp x.0 s) then Some x else None) (slice_get es p))
 
@@ -111,14 +111,14 @@ pub absent : (s e : ℕ) (es : List (ℕ × ℕ)) → s < e → AreApart es → 
 unfolding begins
 absent s e es l h n = none_begins s e es (place nat_cmp es s) l h n
 
--- the place of a start among bookings
+-- the place of a start, by the first booking
 pub place-after : (x : ℕ × ℕ) (xs : List (ℕ × ℕ)) (s : ℕ) → x.0 < s → place nat_cmp (x ∷ xs) s ≡ suc (place nat_cmp xs s)
 place-after x xs s h = place-later nat_cmp nat_cmp_total x xs s (less x.0 s h)
 
 pub place-first : (x : ℕ × ℕ) (xs : List (ℕ × ℕ)) (s : ℕ) → AreApart (x ∷ xs) → s ≤ x.0 → place nat_cmp (x ∷ xs) s ≡ 0
 place-first x xs s a h = place-here nat_cmp nat_cmp_total x xs s (increasing (x ∷ xs) a) (not_less x.0 s h)
 
--- a booking that meets none, put in at its place
+-- bookings stay apart where an interval that meets none is inserted at its place
 insert-apart : (s e : ℕ) (es : List (ℕ × ℕ)) → s < e → AreApart es → first_met es s e ≡ None → AreApart (insert es (place nat_cmp es s) (s, e))
 insert-apart s e [] l h n = (l, tt, tt)
 insert-apart s e (x ∷ xs) l h n = elim (cases_lt x.0 s) [
@@ -147,7 +147,7 @@ put-insert s e es l h n = put-absent nat_cmp es s e (absent s e es l h n)
 pub put-apart : (s e : ℕ) (es : List (ℕ × ℕ)) → s < e → AreApart es → first_met es s e ≡ None → AreApart (put nat_cmp es s e)
 put-apart s e es l h n = subst AreApart (sym (put-insert s e es l h n)) (insert-apart s e es l h n)
 
--- without one of them
+-- bookings stay apart after a removal
 remove-apart : (es : List (ℕ × ℕ)) (p : ℕ) → AreApart es → AreApart (remove es p)
 remove-apart [] zero h = tt
 remove-apart [] (suc p) h = tt

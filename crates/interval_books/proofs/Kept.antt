@@ -16,7 +16,7 @@ use Rattle.std.proofs.lemmas.List.{get_or-set_other, get_or-set_same, get_or_rea
 use Rattle.std.specs.Option.{ok_or, option_map}
 use Rattle.std.specs.Ordering.{nat_cmp}
 
--- books of a forest and its handles
+-- books with this forest and these handles
 abbrev pub books : Forest ℕ ℕ → List (Option ℕ) → Books
 books f hs = record { forest = f; maps = hs }
 
@@ -25,7 +25,7 @@ abbrev pub as_booked : Result (Option ℕ) OutOfMemory → Result (Unit {0}) Boo
 as_booked (Ok old) = Ok tt
 as_booked (Err refused) = Err (why.Forest refused)
 
--- the number of another tree is not the one that a changed tree has now
+-- the number of another tree is not the number of the changed tree
 not_new : (f f' : Forest ℕ ℕ) (h h' : Option ℕ) (es : List (ℕ × ℕ)) → Becomes f h f' h' es → (n : ℕ) → list_at f n ≢ [] → Some n ≢ h → Some n ≢ h'
 not_new f f' h h' es b n live ne = λ e. live (subst (λ (q : Option ℕ). list_of f q ≡ []) (sym e) (b.fresh (λ d. ne (e ∙ d))))
 
@@ -34,33 +34,33 @@ list_beside : (f f' : Forest ℕ ℕ) (h h' : Option ℕ) (es : List (ℕ × ℕ
 list_beside f f' h h' es b None ne live = refl
 list_beside f f' h h' es b (Some n) ne live = b.others n (ne n refl) (not_new f f' h h' es b n live (ne n refl))
 
--- in nodes of the same sizes
+-- a live handle of another number keeps its sizes
 sizes_beside : (f f' : Forest ℕ ℕ) (h h' : Option ℕ) (es : List (ℕ × ℕ)) → Becomes f h f' h' es → (q : Option ℕ) → ((n : ℕ) → q ≡ Some n → Some n ≢ h) → IsLive f q → sizes_of f' q ≡ sizes_of f q
 sizes_beside f f' h h' es b None ne live = refl
 sizes_beside f f' h h' es b (Some n) ne live = b.others_sizes n (ne n refl) (not_new f f' h h' es b n live (ne n refl))
 
--- and stays live
+-- a handle that keeps its list stays live
 live_beside : (f f' : Forest ℕ ℕ) (q : Option ℕ) → list_of f' q ≡ list_of f q → IsLive f q → IsLive f' q
 live_beside f f' None same live = tt
 live_beside f f' (Some n) same live = subst (λ (es : List (ℕ × ℕ)). es ≢ []) (sym same) live
 
 module _ (f f' : Forest ℕ ℕ) (hs : List (Option ℕ)) (i : ℕ) (h' : Option ℕ) (es : List (ℕ × ℕ)) (a : AreKept (books f hs)) (b : Becomes f (get_or hs i None) f' h' es) (within : i < length hs) where
-  -- another handle's number is not that of the changed one
+  -- another resource's number is not the old number of the changed tree
   apart_at : (j n : ℕ) → j ≢ i → get_or hs j None ≡ Some n → Some n ≢ get_or hs i None
   apart_at j n ne e = λ d. ne (a.different j i n e (sym d))
 
-  -- and not that of what it became
+  -- another resource's number is not the new number of the changed tree
   apart_new : (j n : ℕ) → j ≢ i → get_or hs j None ≡ Some n → Some n ≢ h'
   apart_new j n ne e = not_new f f' (get_or hs i None) h' es b n (subst (λ (q : Option ℕ). IsLive f q) e (a.live j)) (apart_at j n ne e)
 
-  -- the handle at the place, and those at others
+  -- the handles after a write of the handle at index i
   here : get_or (slice_set hs i h') i None ≡ h'
   here = get_or-set_same hs i h' None within
 
   there : (q : ℕ) → q ≢ i → get_or (slice_set hs i h') q None ≡ get_or hs q None
   there q ne = get_or-set_other hs i q h' None ne
 
-  -- the bookings of the resource, and of others
+  -- the bookings of the changed resource, and of the others
   same-bookings : bookings (books f' (slice_set hs i h')) i ≡ es
   same-bookings = ap (list_of f') here ∙ b.list
 
@@ -70,7 +70,7 @@ module _ (f f' : Forest ℕ ℕ) (hs : List (Option ℕ)) (i : ℕ) (h' : Option
   other-sizes : (q : ℕ) → q ≢ i → node_sizes (books f' (slice_set hs i h')) q ≡ node_sizes (books f hs) q
   other-sizes q ne = ap (sizes_of f') (there q ne) ∙ sizes_beside f f' (get_or hs i None) h' es b (get_or hs q None) (λ n e. apart_at q n ne e) (a.live q)
 
-  -- books whose other resources are as before are kept
+  -- books stay well-formed where one resource changes to bookings that are apart
   kept-set : AreApart es → AreKept (books f' (slice_set hs i h'))
   kept-set apart = record {
     live = λ r. elim (eqb_tells r i) [
@@ -93,11 +93,11 @@ module _ (f f' : Forest ℕ ℕ) (hs : List (Option ℕ)) (i : ℕ) (h' : Option
     ];
   }
 
--- a handle that is written back leaves the books
+-- books whose handle is written back unchanged stay
 unchanged : (f f' : Forest ℕ ℕ) (hs : List (Option ℕ)) (i : ℕ) (h' : Option ℕ) → i < length hs → f' ≡ f → h' ≡ get_or hs i None → books f' (slice_set hs i h') ≡ books f hs
 unchanged f f' hs i h' within same_forest same_handle = λ j. books (same_forest j) ((ap (slice_set hs i) same_handle ∙ set-get_or hs i None) j)
 
--- what a booking leaves
+-- what a booking that is made leaves
 module _ (f f' : Forest ℕ ℕ) (hs : List (Option ℕ)) (i s e : ℕ) (h' : Option ℕ) (a : AreKept (books f hs)) (within : i < length hs) (l : s < e) (none : first_met (bookings (books f hs) i) s e ≡ None) where
   unobjected : objection (books f hs) i s e ≡ None
   unobjected = (λ j. if lt-ltb i (length hs) within j then if lt-ltb s e l j then option_map (λ x. why.Overlaps x.0 x.1) (none j) else Some why.EmptyInterval else Some why.UnknownResource)
@@ -185,12 +185,12 @@ module _ (f f' : Forest ℕ ℕ) (hs : List (Option ℕ)) (i s : ℕ) (h' told :
       on_err None p = p refl
       on_err (Some x) p = tt
 
--- what is asked of the map that was read in a list that is that of the handles
+-- the answer of a search in the map of a resource is that of `at_moment`
 pub told-at : (f : Forest ℕ ℕ) (hs qs : List (Option ℕ)) (i m : ℕ) (h : Option ℕ) (o : Option (ℕ × ℕ)) → qs ≡ hs → i < length qs → h ≡ get_or qs i None → o ≡ holding (list_of f h) m → Ok o ≡ at_moment (books f hs) i m
 told-at f hs qs i m h o same within is told =
     ap Ok (told ∙ ap (λ q. holding (list_of f q) m) is) ∙ sym (ap (λ t. if t then Ok (holding (list_of f (get_or qs i None)) m) else Err why.UnknownResource) (lt-ltb i (length qs) within)) ∙ ap (λ qs. at_moment (books f qs) i m) same
 
--- a booking that something is in the way of leaves all
+-- a booking with an objection leaves the books
 objected : (b : Books) (r s e : ℕ) (reason : BookError) → AreKept b → objection b r s e ≡ Some reason → Recorded b r s e (Err reason) b
 objected b r s e reason a is = record {
   answer = subst (λ o. MayAnswer b.forest (need b r s) o (Err reason)) (sym is) refl;
@@ -206,7 +206,7 @@ objected b r s e reason a is = record {
   apart = a.apart;
 }
 
--- the handle that was read is the one at its place
+-- the handle that was read is the one at its index
 module _ (f : Forest ℕ ℕ) (hs : List (Option ℕ)) (i : ℕ) (h : Option ℕ) (a : AreKept (books f hs)) (within : i < length hs) (is : h ≡ get_or hs i h) where
   pub read : h ≡ get_or hs i None
   read = get_or_read hs i h within is None
@@ -220,11 +220,11 @@ module _ (f : Forest ℕ ℕ) (hs : List (Option ℕ)) (i : ℕ) (h : Option ℕ
   pub increasing-read : IsIncreasing nat_cmp (list_of f h)
   increasing-read = increasing (list_of f h) apart-read
 
-  -- it is the same when it is written back
+  -- books stay where the handle that was read is written back
   same : books f (slice_set hs i h) ≡ books f hs
   same = unchanged f f hs i h within refl read
 
-  -- an interval without a moment, and one that meets a booking
+  -- bookings of an empty interval, and of one that meets a booking
   module _ (s e : ℕ) where
     pub empty-at : e ≤ s → Recorded (books f hs) i s e (Err why.EmptyInterval) (books f (slice_set hs i h))
     empty-at late = subst (Recorded (books f hs) i s e (Err why.EmptyInterval)) (sym same) (objected (books f hs) i s e why.EmptyInterval a (λ j. if lt-ltb i (length hs) within j then if le-ltb s e late j then option_map (λ x. why.Overlaps x.0 x.1) (first_met (bookings (books f hs) i) s e) else Some why.EmptyInterval else Some why.UnknownResource))
@@ -233,7 +233,7 @@ module _ (f : Forest ℕ ℕ) (hs : List (Option ℕ)) (i : ℕ) (h : Option ℕ
     met-at x l found = subst (Recorded (books f hs) i s e (Err (why.Overlaps x.0 x.1))) (sym same) (objected (books f hs) i s e (why.Overlaps x.0 x.1) a (λ j. if lt-ltb i (length hs) within j then if lt-ltb s e l j then option_map (λ x. why.Overlaps x.0 x.1) (subst (λ (q : Option ℕ). first_met (list_of f q) s e ≡ Some x) read found j) else Some why.EmptyInterval else Some why.UnknownResource))
 
   module _ (f' : Forest ℕ ℕ) (h' : Option ℕ) (s : ℕ) where
-    -- a booking and a cancellation at that handle
+    -- a booking and a cancellation at the handle that was read
     module _ (e : ℕ) (told : Result (Option ℕ) OutOfMemory) (result : Result (Unit {0}) BookError) (l : s < e) (none : first_met (list_of f h) s e ≡ None) (answer : result ≡ as_booked told) (call : Inserts 7 nat_cmp f h s e told f' h') where
       none_at : first_met (bookings (books f hs) i) s e ≡ None
       none_at = subst (λ (q : Option ℕ). first_met (list_of f q) s e ≡ None) read none
@@ -257,7 +257,7 @@ module _ (f : Forest ℕ ℕ) (hs : List (Option ℕ)) (i : ℕ) (h : Option ℕ
       pub cancelled-at : Cancelled (books f hs) i s result (books f' (slice_set hs i h'))
       cancelled-at = subst (λ r. Cancelled (books f hs) i s r (books f' (slice_set hs i h'))) (sym answer) (cancelled f f' hs i s h' told a within cut_at)
 
--- each of so many empty handles
+-- each of `count` empty handles is empty
 all_none : (count i : ℕ) → get_or {A = Option ℕ} (replicate count None) i None ≡ None
 all_none zero i = refl
 all_none (suc count) zero = refl

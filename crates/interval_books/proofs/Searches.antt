@@ -11,12 +11,12 @@ use Rattle.std.proofs.lemmas.Cmp.{nat_cmp_total, tied_itself}
 use Rattle.std.specs.Ordering.{is_gt, nat_cmp, ordering_reverse}
 use Rattle.std.specs.Prelude.{nat_lt}
 
--- an interval, if it goes on behind m
+-- an optional interval, if it ends behind m
 abbrev pub going_on : ℕ → Option (ℕ × ℕ) → Option (ℕ × ℕ)
 going_on m None = None
 going_on m (Some x) = if nat_lt m x.1 then Some x else None
 
--- an interval, if it begins before m
+-- an optional interval, if it begins before m
 abbrev pub begun : ℕ → Option (ℕ × ℕ) → Option (ℕ × ℕ)
 begun m None = None
 begun m (Some x) = if nat_lt x.0 m then Some x else None
@@ -47,12 +47,12 @@ holds-no-more m x h = ap (λ t. not (nat_lt m x.0) && t) (le-ltb m x.1 h) ∙ go
     go true = refl
     go false = refl
 
--- none that begins later is begun
+-- where all begin behind m, none begins at m or before
 none-from : (m b : ℕ) (xs : List (ℕ × ℕ)) → m < b → AllByRecursion (λ y. b ≤ y.0) xs → filter (from m) xs ≡ []
 none-from m b [] l h = refl
 none-from m b (x ∷ xs) l h = ap (λ t. cond t (x ∷ filter (from m) xs) (filter (from m) xs)) (from-later m x (let k = h.0 in omega (arith, k, l))) ∙ none-from m b xs l h.1
 
--- the last that is begun, behind some of which the last is over by m
+-- the last interval that begins at m or before, if it ends behind m, contains m
 last-begun : (m : ℕ) (d : Option (ℕ × ℕ)) (es : List (ℕ × ℕ)) → AreApart es → going_on m d ≡ None → going_on m (last_or d (filter (from m) es)) ≡ holding es m
 last-begun m d [] h over = over
 last-begun m d (x ∷ xs) h over = elim (cases_lt m x.0) [
@@ -63,11 +63,11 @@ last-begun m d (x ∷ xs) h over = elim (cases_lt m x.0) [
   ]
 ]
 
--- the last that is begun contains m, if it goes on behind it
+-- the entry at most m, if it ends behind m, is the booking that contains m
 pub held : (m : ℕ) (es : List (ℕ × ℕ)) → AreApart es → going_on m (entry_at_most nat_cmp es m) ≡ holding es m
 held m es h = last-begun m None es h refl
 
--- the first that is met contains the start, or is the next one
+-- the first booking met contains the start, or is the next one
 pub first_or_next : (s e : ℕ) (es : List (ℕ × ℕ)) → s < e → AreApart es → option_or (holding es s) (begun e (slice_get es (place nat_cmp es s))) ≡ first_met es s e
 first_or_next s e [] l h = refl
 first_or_next s e (x ∷ xs) l h = elim (cases_lt s x.0) [
@@ -87,7 +87,7 @@ first_or_next s e (x ∷ xs) l h = elim (cases_lt s x.0) [
     ]
 
 module _ (s e : ℕ) (es : List (ℕ × ℕ)) (b n : Option (ℕ × ℕ)) (l : s < e) (h : AreApart es) (at : b ≡ holding es s) where
-  -- the first that is met where the start is inside one
+  -- the first booking met where a booking contains the start
   pub first-held : is_some b ≡ true → b ≡ first_met es s e
   first-held some = go b some ∙ ap (λ o. option_or o (begun e (slice_get es (place nat_cmp es s)))) at ∙ first_or_next s e es l h
     where
@@ -95,7 +95,7 @@ module _ (s e : ℕ) (es : List (ℕ × ℕ)) (b n : Option (ℕ × ℕ)) (l : s
       go None w = absurd (cc)
       go (Some x) w = refl
 
-  -- and where it is not
+  -- the first booking met where no booking contains the start
   pub first-next : is_some b ≡ false → n ≡ slice_get es (place nat_cmp es s) → begun e n ≡ first_met es s e
   first-next none is = ap (begun e) is ∙ go b none ∙ ap (λ o. option_or o (begun e (slice_get es (place nat_cmp es s)))) at ∙ first_or_next s e es l h
     where

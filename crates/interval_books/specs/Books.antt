@@ -1,4 +1,4 @@
--- What contracts see of books: a forest, and in it the map of each resource.
+-- What contracts see of books: a forest, and the map of each resource in it.
 use Rattle.bforest.specs.Forest.{Forest, Gives, IsLive, IsTooMany, NeedsGrowth, Takes, limit_of, list_of, need_of, room_of, sizes_of, sizes_with, sizes_without}
 use Rattle.bforest_core.specs.declared.pool.OutOfMemory.TheVariants.{Full, Memory}
 use Rattle.interval_books.specs.Bookings.{AreApart, end_of, first_met, holding, with_booking, without_booking}
@@ -7,7 +7,7 @@ use Rattle.interval_books.specs.declared.book_error.BookError.{BookError}
 use Rattle.std.specs.Ordering.{nat_cmp}
 use Rattle.std.specs.Prelude.{Err, List, None, Ok, OnErr, OnOk, Option, Result, Some, get_or, if◌then◌else◌, length, nat_lt, ok_or, option_map, ◌≡◌, ◌≢◌, ◌≤◌, ℕ}
 
--- Contracts read books by the words below alone.
+-- The forest and the maps of books. Contracts read books by the words below alone.
 pub record Books : Type 0 where
   pub forest : Forest ℕ ℕ
   pub maps : List (Option ℕ)
@@ -16,7 +16,7 @@ pub record Books : Type 0 where
 abbrev pub table : Books → Forest ℕ ℕ
 table b = b.forest
 
--- how many resources there are
+-- the number of resources
 abbrev pub resource_count : Books → ℕ
 resource_count b = length b.maps
 
@@ -28,29 +28,31 @@ map_of b r = get_or b.maps r None
 abbrev pub bookings : Books → ℕ → List (ℕ × ℕ)
 bookings b r = list_of (table b) (map_of b r)
 
--- the sizes of the nodes of its tree
+-- the sizes of the nodes of a resource's tree
 abbrev pub node_sizes : Books → ℕ → List (List ℕ)
 node_sizes b r = sizes_of (table b) (map_of b r)
 
--- each resource has a map in the table, no two have one tree, and bookings of one resource are apart
+-- each resource's map is live, no two have one tree, and the bookings of each resource are apart
 pub record AreKept (b : Books) : Type 0 where
   pub live : (r : ℕ) → IsLive (table b) (map_of b r)
   pub different : (q r n : ℕ) → map_of b q ≡ Some n → map_of b r ≡ Some n → q ≡ r
   pub apart : (r : ℕ) → AreApart (bookings b r)
 
--- Why a booking may not be made, if anything is in its way: there is no such resource, the interval has no moment, or it meets a booked one.
+-- Why a booking can't be made, if it can't: the resource is unknown, the interval is empty, or it meets a
+-- booked one.
 abbrev pub objection : Books → ℕ → ℕ → ℕ → Option BookError
 objection b r start end =
     if nat_lt r (resource_count b)
     then if nat_lt start end then option_map (λ x. why.Overlaps x.0 x.1) (first_met (bookings b r) start end) else Some why.EmptyInterval
     else Some why.UnknownResource
 
--- how many slots a booking takes
+-- the number of slots that a booking takes
 abbrev pub need : Books → ℕ → ℕ → ℕ
 need b r start = need_of 7 nat_cmp (table b) (map_of b r) start
 
--- What may be answered where it takes d slots of f: what is in its way, if anything is. Else that it is done, only where so many can be had; that
--- they can't; or that the table had to grow and the memory was refused.
+-- The answers to a booking that takes d slots of f: an objection, if there is one; else success, only where
+-- there is room for d slots;
+-- or that there is no room; or that the table had to grow and memory was refused.
 abbrev pub MayAnswer : Forest ℕ ℕ → ℕ → Option BookError → Result (Unit {0}) BookError → Type 0
 MayAnswer f d (Some reason) result = result ≡ Err reason
 MayAnswer f d None (Ok done) = d ≤ room_of f
@@ -61,7 +63,7 @@ MayAnswer f d None (Err why.NotBooked) = ⊥
 MayAnswer f d None (Err (why.Forest Full)) = IsTooMany d f
 MayAnswer f d None (Err (why.Forest Memory)) = NeedsGrowth d f
 
--- the resource r was to be booked from start up to end
+-- what `book` of the resource r from start up to end answers and leaves
 pub record Recorded (b : Books) (r start end : ℕ) (result : Result (Unit {0}) BookError) (b' : Books) : Type 0 where
   pub answer : MayAnswer (table b) (need b r start) (objection b r start end) result
   pub booked : OnOk result (bookings b' r ≡ with_booking (bookings b r) start end)
@@ -79,7 +81,7 @@ pub record Recorded (b : Books) (r start end : ℕ) (result : Result (Unit {0}) 
 abbrev pub end_at : Books → ℕ → ℕ → Result ℕ BookError
 end_at b r start = if nat_lt r (resource_count b) then ok_or (end_of (bookings b r) start) why.NotBooked else Err why.UnknownResource
 
--- the booking of r that begins at start was to be cancelled
+-- what `cancel` of the booking of r that begins at start answers and leaves
 pub record Cancelled (b : Books) (r start : ℕ) (result : Result ℕ BookError) (b' : Books) : Type 0 where
   pub answer : result ≡ end_at b r start
   pub cancelled : OnOk result (bookings b' r ≡ without_booking (bookings b r) start)
@@ -93,6 +95,6 @@ pub record Cancelled (b : Books) (r start : ℕ) (result : Result ℕ BookError)
   pub was_apart : (q : ℕ) → AreApart (bookings b q)
   pub apart : (q : ℕ) → AreApart (bookings b' q)
 
--- the booking of r that contains a moment, or that there is no such resource
+-- the booking of r that contains a moment, or that r is unknown
 abbrev pub at_moment : Books → ℕ → ℕ → Result (Option (ℕ × ℕ)) BookError
 at_moment b r moment = if nat_lt r (resource_count b) then Ok (holding (bookings b r) moment) else Err why.UnknownResource

@@ -12,8 +12,8 @@ use std::marker::Model;
 
 /// The booked intervals of each resource, no two of which meet.
 ///
-/// Resources are numbered from 0, and times are numbers. An interval holds each moment from its start up to its end, the end itself not;
-/// so two intervals that only touch do not meet.
+/// Resources are numbered from 0, and times are numbers. An interval holds each moment from its start up to its end, without the end;
+/// two intervals that only touch do not meet.
 #[derive(Drop)]
 pub struct Books {
     forest: MapForest<u64, u64>,
@@ -31,11 +31,11 @@ impl Model for Books {
 }
 
 impl Books {
-    /// Books of so many resources, with nothing booked. They take memory once, for a handle of each resource.
+    /// Books of `resources` resources, with nothing booked. They take memory once, for a handle of each resource.
     ///
     /// # Errors
     ///
-    /// That the memory was refused.
+    /// `AllocError` where memory was refused.
     pub fn new(alloc: Global, resources: u32) -> Result<Books, AllocError>
         ensures count { IfOk result (λ b. resource_count b ≡ resources) }
         ensures nothing { IfOk result (λ b. (r : ℕ) → bookings b r ≡ []) }
@@ -53,7 +53,7 @@ impl Books {
     /// # Errors
     ///
     /// In this order: `UnknownResource`; `EmptyInterval` where `start` is not less than `end`; `Overlaps` with the booked interval that it
-    /// meets, or the one with the least start where it meets several; `Forest` where the forest had no node for it. Nothing has changed then.
+    /// meets, or the one with the least start where it meets several; `Forest` where the forest had no node for it. Then nothing changes.
     pub fn book(&mut self, resource: u32, start: u64, end: u64) -> Result<(), BookError>
         ensures { Recorded self.old resource start end result self.new }
     {
@@ -72,11 +72,11 @@ impl Books {
         }
     }
 
-    /// Takes the booked interval that begins at `start` out, and answers its end. One search, and it takes no memory.
+    /// Removes the booked interval that begins at `start`, and returns its end. One search; it takes no memory.
     ///
     /// # Errors
     ///
-    /// In this order: `UnknownResource`; `NotBooked` where none begins there, also where one contains `start`. Nothing has changed then.
+    /// In this order: `UnknownResource`; `NotBooked` where none begins at `start`, also where one contains `start`. Then nothing changes.
     pub fn cancel(&mut self, resource: u32, start: u64) -> Result<u64, BookError>
         ensures { Cancelled self.old resource start result self.new }
     {
@@ -91,7 +91,7 @@ impl Books {
     ///
     /// # Errors
     ///
-    /// `UnknownResource`.
+    /// `UnknownResource` where there is no such resource.
     pub fn at(&self, resource: u32, moment: u64) -> Result<Option<(u64, u64)>, BookError>
         ensures answer { result ≡ at_moment self.now resource moment }
         ensures apart { (r : ℕ) → AreApart (bookings self.now r) }
@@ -103,7 +103,7 @@ impl Books {
     }
 }
 
-// So many empty handles, in memory that is taken once.
+// A list of `count` empty handles, in memory that is taken once.
 fn empty_maps(alloc: Global, count: u32) -> Result<Vec<Map<u64, u64>>, AllocError>
     ensures { IfOk result (λ maps. maps.items ≡ replicate count None) }
 {

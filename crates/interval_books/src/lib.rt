@@ -1,7 +1,7 @@
-//! Bookings of resources by half-open intervals of time, in a forest of maps: a layer above `bforest` that stands on its contracts alone.
+//! Bookings of resources by half-open intervals of time, in a forest of maps. Its proofs use the contracts of `bforest` alone.
 //!
-//! [`Books`] has a map from start to end for each resource, and all maps lie in one forest. What a contract sees is the list of each
-//! resource's bookings (`specs/Books.antt`); docs/MODEL.md reads these definitions aloud.
+//! [`Books`] has a map from start to end for each resource, and all maps are in one forest. Contracts are stated on the list of each
+//! resource's bookings (`specs/Books.antt`); docs/MODEL.md explains these definitions.
 #![tactic(auto)]
 
 mod book_error;

@@ -1,5 +1,6 @@
 //! Bookings of one resource that grow its map to three levels, beside a booking of another. One call may be refused for want of memory:
-//! nothing has changed then, and the same call succeeds when it is made again. Then all are cancelled. `tools/refuse_each` runs it with
+//! then nothing changes, and the same call succeeds when it is repeated. Then all bookings are cancelled. `tools/refuse_each` runs this
+//! with
 //! each request for memory refused in turn.
 #![tactic(auto)]
 
@@ -7,17 +8,17 @@ use interval_books::{BookError, Books, OutOfMemory};
 use std::alloc::{AllocError, Global};
 use std::io;
 
-/// How many intervals are booked, each of ten moments and right behind the one before.
+/// The number of intervals that are booked, each of ten moments and right behind the one before.
 const COUNT: u64 = 36;
 
-/// What the run saw so far.
+/// The results of the run so far.
 #[derive(Clone, Copy)]
 struct Seen {
     refused: u32,
     is_right: bool,
 }
 
-/// Books of two resources, made once more where they were refused.
+/// Books of two resources. A refused call is repeated once.
 fn two_resources(alloc: Global, seen: &mut Seen) -> Result<Books, AllocError> {
     match Books::new(alloc, 2) {
         Ok(books) => Ok(books),
@@ -34,7 +35,7 @@ fn interval(index: u64) -> (u64, u64) {
     (start, start.wrapping_add(10))
 }
 
-/// Whether the first resource has the first intervals booked and none behind them, and the other one what it had.
+/// Whether the first resource has the first `count` intervals booked and no other, and the second resource has `other`.
 fn is_booked(books: &Books, count: u64, other: Option<(u64, u64)>) -> bool {
     for index in 0..=COUNT {
         let wanted = interval(index);
@@ -48,7 +49,7 @@ fn is_booked(books: &Books, count: u64, other: Option<(u64, u64)>) -> bool {
     books.at(1, 7) == Ok(other)
 }
 
-/// Books an interval of the first resource behind so many, or one of the other, once more where it was refused.
+/// Books an interval of either resource, and repeats a refused call once. `before` says what is booked before.
 fn book(
     books: &mut Books,
     resource: u32,
@@ -67,7 +68,7 @@ fn book(
     }
 }
 
-/// Whether each interval of the first resource can be cancelled.
+/// Whether all intervals of the first resource can be cancelled.
 fn cancels_all(books: &mut Books) -> bool {
     for index in 0..COUNT {
         let (start, end) = interval(index);

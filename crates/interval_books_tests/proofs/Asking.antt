@@ -1,4 +1,4 @@
--- What is found among bookings after one was put in, and after one was taken out and put in anew.
+-- Searches among bookings after an insertion, and after a removal and an insertion.
 use Rattle.bforest_nodes.specs.Entries.{cut, entry_for, is_present, place, put, value_for}
 use Rattle.interval_books.proofs.Apart.{less, met, place-after, place-first, put-insert, unmet}
 use Rattle.interval_books.specs.Bookings.{AreApart, contains, end_of, first_met, holding, meets}
@@ -13,7 +13,7 @@ use Rattle.std.specs.Option.{is_some, ok_or, option_and_then, option_map}
 use Rattle.std.specs.Ordering.{is_eq, nat_cmp, ordering_reverse}
 use Rattle.std.specs.Prelude.{nat_lt}
 
--- where a booking is done, the interval has a moment and meets none
+-- where a booking succeeds, the interval is not empty and meets none
 pub done : (b : Books) (r s e : ℕ) → MayAnswer (table b) (need b r s) (objection b r s e) (Ok tt) → (s < e) × (first_met (bookings b r) s e ≡ None)
 done b r s e answer = let w = go (nat_lt r (resource_count b)) (nat_lt s e) (first_met (bookings b r) s e) answer in (ltb-true s e w.0, w.1)
   where
@@ -23,7 +23,7 @@ done b r s e answer = let w = go (nat_lt r (resource_count b)) (nat_lt s e) (fir
     go true false o answer = absurd (cc)
     go false u o answer = absurd (cc)
 
--- an element that passes a test is found among others that do not
+-- an element that passes a test is found among others that fail it
 found-inserted : {X : Type 0} (test : X → Bool) (xs : List X) (p : ℕ) (y : X) → find test xs ≡ None → test y ≡ true → find test (insert xs p y) ≡ Some y
 found-inserted test [] zero y none passes = ap (λ t. cond t (Some y) None) passes
 found-inserted test [] (suc p) y none passes = ap (λ t. cond t (Some y) None) passes
@@ -34,7 +34,7 @@ found-inserted test (x ∷ xs) (suc p) y none passes = go (λ rest. found-insert
     go rest true none = absurd (cc)
     go rest false none = rest none
 
--- none that is not met contains a moment of the interval
+-- where no booking meets an interval, none contains a moment of the interval
 none-contains : (s e m : ℕ) (es : List (ℕ × ℕ)) → s ≤ m → m < e → first_met es s e ≡ None → find (contains m) es ≡ None
 none-contains s e m [] l h none = refl
 none-contains s e m (x ∷ xs) l h none = ap (λ t. cond t (Some x) (find (contains m) xs)) (go (contains m x) refl) ∙ none-contains s e m xs l h (unmet s e x xs none).1
@@ -49,21 +49,21 @@ none-contains s e m (x ∷ xs) l h none = ap (λ t. cond t (Some x) (find (conta
         let no : meets s e x ≡ false = (unmet s e x xs none).0 in
         absurd (cc)
 
--- the interval is found at each of its moments
+-- an interval that is inserted is found at each of its moments
 pub asked : (s e m : ℕ) (es : List (ℕ × ℕ)) → s ≤ m → m < e → AreApart es → first_met es s e ≡ None → holding (put nat_cmp es s e) m ≡ Some (s, e)
 asked s e m es l h apart none =
     ap (find (contains m)) (put-insert s e es (omega (arith, l, h)) apart none) ∙ found-inserted (contains m) es (place nat_cmp es s) (s, e) (none-contains s e m es l h none) (λ j. not (le-ltb m s l j) && lt-ltb m e h j)
 
--- no start is less than that of all
+-- the place of a start that is at most all others is 0
 place-none : (s b : ℕ) (xs : List (ℕ × ℕ)) → s ≤ b → AreApart xs → AllByRecursion (λ y. b ≤ y.0) xs → place nat_cmp xs s ≡ 0
 place-none s b [] l a h = refl
 place-none s b (x ∷ xs) l a h = place-first x xs s a (let k = h.0 in omega (arith, k, l))
 
--- what a look-up finds at a place
+-- the value that a lookup finds at a place
 found_at : List (ℕ × ℕ) → ℕ → ℕ → Option ℕ
 found_at es s p = option_map (λ x. x.1) (option_and_then (λ x. if is_eq (nat_cmp x.0 s) then Some x else None) (slice_get es p))
 
--- a first entry that is found at a start is the one that begins there
+-- a first booking that a lookup finds begins at that start
 first-found : (s e : ℕ) (x : ℕ × ℕ) → option_map (λ (y : ℕ × ℕ). y.1) (if is_eq (nat_cmp x.0 s) then Some x else None) ≡ Some e → x ≡ (s, e)
 first-found s e x found = go (is_eq (nat_cmp x.0 s)) refl found
   where
@@ -80,7 +80,7 @@ first-found s e x found = go (is_eq (nat_cmp x.0 s)) refl found
     go false is found = absurd (cc)
     go true is found = let end : x.1 ≡ e = cc in λ j. (same is j, end j)
 
--- a booking that was taken out and put in again
+-- removing a booking and inserting it again gives the old list
 rejoined : (s e : ℕ) (es : List (ℕ × ℕ)) → AreApart es → value_for nat_cmp es s ≡ Some e → insert (remove es (place nat_cmp es s)) (place nat_cmp (remove es (place nat_cmp es s)) s) (s, e) ≡ es
 unfolding found_at
 rejoined s e [] apart found = absurd (cc)
@@ -100,7 +100,7 @@ present es s e = go (entry_for nat_cmp es s)
     go None found = absurd (cc)
     go (Some x) found = refl
 
--- the end that a cancellation answers is that of the booking that begins there
+-- the end that a cancellation returns is that of the booking that begins there
 pub ended : (b : Books) (r s e : ℕ) → Ok e ≡ end_at b r s → end_of (bookings b r) s ≡ Some e
 ended b r s e = go (nat_lt r (resource_count b)) (end_of (bookings b r) s)
   where
@@ -113,7 +113,7 @@ pub again : (s e : ℕ) (es : List (ℕ × ℕ)) → s < e → AreApart es → A
 again s e es l apart left found none =
     put-insert s e (cut nat_cmp es s) l left none ∙ ap (λ t. insert (if t then remove es (place nat_cmp es s) else es) (place nat_cmp (if t then remove es (place nat_cmp es s) else es) s) (s, e)) (present es s e found) ∙ rejoined s e es apart found
 
--- what is asked after a booking that was done
+-- the answer of `at` after a booking that succeeded
 pub answers : (b b' : Books) (r s e m : ℕ) (told : Result (Option (ℕ × ℕ)) BookError) → Recorded b r s e (Ok tt) b' → told ≡ at_moment b' r m → s ≤ m → m < e → IfOk told (λ found. found ≡ Some (s, e))
 answers b b' r s e m told call is from before =
     let d = done b r s e call.answer in
@@ -123,7 +123,7 @@ answers b b' r s e m told call is from before =
     go true o is = is
     go false o is = tt
 
--- a cancelled booking that is booked anew
+-- cancelling a booking and booking it again restores the bookings
 pub restored : (b b' b'' : Books) (r s e : ℕ) (told : Result (Unit {0}) BookError) → Cancelled b r s (Ok e) b' → Recorded b' r s e told b'' → OnOk told (bookings b'' r ≡ bookings b r)
 restored b b' b'' r s e (Err x) first call = tt
 restored b b' b'' r s e (Ok tt) first call =

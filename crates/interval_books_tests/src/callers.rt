@@ -5,7 +5,7 @@ ghost use Rattle.std.specs.Prelude.{IfOk, OnOk, Some, ◌<◌, ◌≡◌, ◌≢
 
 use interval_books::{BookError, Books};
 
-/// Books an interval and asks for one of its moments: it is found there.
+/// Books an interval and asks for one of its moments: the interval is found.
 pub fn book_and_ask(
     books: &mut Books,
     resource: u32,
@@ -20,7 +20,7 @@ pub fn book_and_ask(
     books.at(resource, moment)
 }
 
-/// Cancels a booking and books the same interval anew: the resource has the bookings that it had.
+/// Cancels a booking and books the same interval again: the resource has its old bookings.
 pub fn cancel_and_book(books: &mut Books, resource: u32, start: u64) -> Result<(), BookError>
     ensures { OnOk result (bookings books.new resource ≡ bookings books.old resource) }
 {
@@ -28,7 +28,7 @@ pub fn cancel_and_book(books: &mut Books, resource: u32, start: u64) -> Result<(
     books.book(resource, start, end)
 }
 
-/// Books an interval of each of two resources: neither booking sees the other.
+/// Books an interval of each of two resources: neither booking changes the other.
 pub fn book_both(
     books: &mut Books,
     first: (u32, u64, u64),

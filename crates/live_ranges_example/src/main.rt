@@ -1,5 +1,5 @@
-//! The live ranges of a value by program points, as a register allocator keeps them: put in, split at a point, and asked for what is live at a
-//! point and for what begins in a span.
+//! The live ranges of a value by program points, as a register allocator keeps them: inserted, split at a point, and looked up by the
+//! point where they are live and by the span where they begin.
 #![tactic(auto)]
 
 ghost use Rattle.bforest.specs.Bounds.{entries_between};
@@ -23,7 +23,7 @@ type Forest = MapForest<u32, u32>;
 
 type Put = Result<Option<u32>, OutOfMemory>;
 
-/// Where a range begins, and where it ends, which is no part of it.
+/// A range: where it begins, and where it ends, without the end itself.
 type Range = (u32, u32);
 
 /// Live ranges: from the point where each begins to the point where it ends.
@@ -42,7 +42,7 @@ impl Model for Ranges {
 }
 
 impl Ranges {
-    /// No range.
+    /// Ranges with no entry.
     fn new(alloc: Global) -> Self
         ensures { result ≡ [] }
     {
@@ -52,7 +52,7 @@ impl Ranges {
         }
     }
 
-    /// Puts a range in. One that begins at the same point ends there then.
+    /// Inserts a range. A range that begins at the same point ends at `end` then.
     fn add(&mut self, start: u32, end: u32) -> Put
         ensures put { OnOk result (self.new ≡ put nat_cmp self.old start end) }
         ensures refused { OnErr result (self.new ≡ self.old) }
@@ -70,7 +70,7 @@ impl Ranges {
         }
     }
 
-    /// The first and the last range that begin in a span, whose end is no part of it. Where it is one, it is the first.
+    /// The first and the last range that begin in a span, without the span's end. If there is one, the first range is the first of them.
     fn begin_in(&self, from: u32, to: u32) -> (Option<Range>, Option<Range>)
         ensures first { result.0
             ≡ slice_get (entries_between nat_cmp (Included from) (Excluded to) self.now) 0 }
@@ -80,7 +80,7 @@ impl Ranges {
         (range.next(), range.next_back())
     }
 
-    /// Cuts the range that is live at a point in two there. Where none is, or it begins there, nothing changes.
+    /// Splits the range that is live at a point there. Where none is, or it begins there, nothing changes.
     fn split(&mut self, point: u32) -> Result<(), OutOfMemory>
         ensures { OnOk result (self.new ≡ split_in self.old point) }
     {
@@ -94,7 +94,7 @@ impl Ranges {
     }
 }
 
-// Puts a range in where a cursor stands, which goes to its place first.
+// Inserts a range by a cursor, which goes to the range's place first.
 fn put_in<C: Comparator<u32>>(map: &mut Starts, range: Range, forest: &mut Forest, comp: &C) -> Put
     requires live { IsLive forest.old map.old }
     requires increasing { IsIncreasing (C.order comp.now) (list_of forest.old map.old) }
@@ -103,7 +103,7 @@ fn put_in<C: Comparator<u32>>(map: &mut Starts, range: Range, forest: &mut Fores
     map.cursor_mut(forest, comp).insert(range.0, range.1)
 }
 
-// Three ranges, of which one is split at a point.
+// Makes three ranges, of which one is split at a point.
 fn make(alloc: Global) -> Result<Ranges, OutOfMemory> {
     let mut ranges = Ranges::new(alloc);
     ranges.add(10, 30)?;

@@ -12,7 +12,7 @@ abbrev pub order_of : Side → ℕ → ℕ → Ordering
 order_of Bid a b = nat_cmp b a
 order_of Ask a b = nat_cmp a b
 
--- both are total orders
+-- the orders of both sides are total orders
 pub IsTotalOrder-order_of : (side : Side) → IsTotalOrder (order_of side)
 IsTotalOrder-order_of Bid = back_total nat_cmp_total
 IsTotalOrder-order_of Ask = nat_cmp_total

@@ -1,4 +1,5 @@
-//! An order book: for each side its price levels, the best first, in maps of one comparator's type. Orders that cross take the best level.
+//! An order book: for each side its price levels, the best first, in maps with one type of comparator. Orders that cross remove the best
+//! level.
 #![tactic(auto)]
 
 ghost use Rattle.bforest.specs.Bounds.{entries_between};
@@ -15,7 +16,7 @@ use std::io;
 use std::marker::Model;
 use std::ops::Bound;
 
-/// A side of the book, which orders its prices: the best comes first.
+/// A side of the book, which orders its prices with the best first.
 #[derive(Clone, Copy)]
 enum Side {
     /// The highest price first.
@@ -37,7 +38,7 @@ impl Comparator<u32> for Side {
     }
 }
 
-/// A price, and how much is bid or asked at it.
+/// A price, and the amount that is bid or asked at it.
 type Level = (u32, u32);
 
 /// The levels of one side.
@@ -63,7 +64,7 @@ impl Model for Levels {
 }
 
 impl Levels {
-    /// No level.
+    /// Levels with no entry.
     fn new(alloc: Global, side: Side) -> Self
         ensures { result ≡ ([], side) }
     {
@@ -90,7 +91,7 @@ impl Levels {
         self.map.iter(&self.forest).next()
     }
 
-    /// The first and the last level from one price to another. Where there is one, it is the first.
+    /// The first and the last level from one price to another. If there is one, the first level is the first of them.
     fn within(&self, from: u32, to: u32) -> (Option<Level>, Option<Level>)
         ensures first { result.0 ≡ slice_get
             (entries_between (order_of self.now.1) (Included from) (Included to) self.now.0) 0 }
@@ -100,7 +101,7 @@ impl Levels {
         (levels.next(), levels.next_back())
     }
 
-    /// Takes the best level out: the second is the best then, and all others stay.
+    /// Removes the best level: then the second is the best, and all others stay.
     fn take_best(&mut self) -> Option<u32>
         ensures { self.new ≡ (remove self.old.0 0, self.old.1) }
     {
@@ -108,7 +109,7 @@ impl Levels {
     }
 }
 
-// Takes the first entry of a map out by a cursor, which compares nothing.
+// Removes the first entry of a map by a cursor, which compares nothing.
 fn remove_first<C: Comparator<u32>>(
     map: &mut Map<u32, u32>,
     forest: &mut MapForest<u32, u32>,
@@ -125,7 +126,7 @@ fn remove_first<C: Comparator<u32>>(
     first.remove()
 }
 
-// Two sides with levels, of which the best bid is not less than the best ask.
+// Makes two sides with levels, where the best bid is not less than the best ask.
 fn make(bids: &mut Levels, asks: &mut Levels) -> Result<(), OutOfMemory> {
     for level in [(100, 5), (98, 7), (103, 2)] {
         bids.set(level.0, level.1)?;

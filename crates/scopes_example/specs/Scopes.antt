@@ -1,4 +1,4 @@
--- What names stand for in nested scopes.
+-- The meanings of names in nested scopes.
 use Rattle.std.specs.Prelude.{None, Option, Some, ℕ}
 
 -- a meaning in an inner scope hides one in an outer scope

@@ -1,4 +1,4 @@
-//! A symbol table of nested scopes: for each scope a map from names, which are numbers, to what they stand for, all in one forest.
+//! A symbol table of nested scopes: for each scope a map from names, which are numbers, to their meanings, all in one forest.
 #![tactic(auto)]
 
 ghost use Rattle.bforest.specs.Forest.{IsLive, list_of};
@@ -10,13 +10,13 @@ ghost use Rattle.std.specs.Prelude.{IsTrue, None, Option, ◌≡◌, ◌≢◌, 
 use bforest::{Map, MapForest};
 use std::io;
 
-/// A scope: its declarations.
+/// A scope: the map of its declarations.
 type Scope = Map<u32, u32>;
 
 /// The scopes of a program.
 type Scopes = MapForest<u32, u32>;
 
-/// What a name stands for: an inner declaration hides an outer one.
+/// The meaning of a name: an inner declaration hides an outer one.
 fn resolve(name: u32, inner: &Scope, outer: &Scope, scopes: &Scopes) -> Option<u32>
     requires live { IsLive scopes.now inner.now }
     requires increasing { IsIncreasing nat_cmp (list_of scopes.now inner.now) }
@@ -31,7 +31,7 @@ fn resolve(name: u32, inner: &Scope, outer: &Scope, scopes: &Scopes) -> Option<u
     }
 }
 
-/// Leaves a scope, whose declarations end. Its handle is empty then, and a copy of it is not live any more; each other scope stays.
+/// Leaves a scope, and removes its declarations. Then its handle is empty, and a copy of the handle is not live; each other scope stays.
 fn leave(scope: &mut Scope, scopes: &mut Scopes)
     requires live { IsLive scopes.old scope.old }
     ensures empty { scope.new ≡ None }
@@ -42,7 +42,7 @@ fn leave(scope: &mut Scope, scopes: &mut Scopes)
     scope.clear(scopes);
 }
 
-/// Whether a scope is live, and its names increase: what a call on it asks.
+/// Whether a scope is live, and its names increase: the conditions of a call on it.
 fn is_ready(scope: &Scope, scopes: &Scopes) -> bool
     ensures live { IsTrue result → IsLive scopes.now scope.now }
     ensures increasing { IsTrue result → IsIncreasing nat_cmp (list_of scopes.now scope.now) }
@@ -50,12 +50,12 @@ fn is_ready(scope: &Scope, scopes: &Scopes) -> bool
     scopes.holds(scope) && scope.increases(scopes, &())
 }
 
-/// Declares a name in a scope, and says whether there was room.
+/// Declares a name in a scope, and returns whether there was room.
 fn declare(name: u32, meaning: u32, scope: &mut Scope, scopes: &mut Scopes) -> bool {
     is_ready(scope, scopes) && scope.insert(name, meaning, scopes, &()).is_ok()
 }
 
-/// What a name stands for, where both scopes are ready.
+/// The meaning of a name, if both scopes are ready.
 fn found(name: u32, inner: &Scope, outer: &Scope, scopes: &Scopes) -> Option<u32> {
     if is_ready(inner, scopes) && is_ready(outer, scopes) {
         resolve(name, inner, outer, scopes)

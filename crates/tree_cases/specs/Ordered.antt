@@ -7,12 +7,12 @@ use Rattle.bforest_core.specs.Table.{Table}
 use Rattle.bforest_core.specs.Trees.{IsUnion, is_root}
 use Rattle.bforest_core.specs.declared.path.Path.{Path}
 
--- the number is that of a root, and the keys of its tree increase
+-- the number is a root, and the keys of its tree increase
 pub record IsOrderedAt (table : Table ℕ ℕ) (root : ℕ) : Type 0 where
   pub root_is : IsTrue (is_root table.nodes root)
   pub increasing : IsIncreasing nat_cmp (list_under table root)
 
--- the pool is one of trees, and so is the one under this root, if there is one
+-- the pool is a union of trees, and the root, if there is one, has a tree whose keys increase
 pub record IsOrdered (most : ℕ) (table : Table ℕ ℕ) (root : Option ℕ) : Type 0 where
   pub union : IsUnion most table
   pub ordered : IfSome root (λ number. IsOrderedAt table number)

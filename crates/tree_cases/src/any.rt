@@ -1,4 +1,4 @@
-//! A tree of one of the capacities that lines can name, so that who asks it has no capacity as a parameter.
+//! A tree of one of the capacities that lines can name. Callers need no capacity as a parameter.
 
 use crate::tree::{Detail, Tree};
 use bforest_core::OutOfMemory;
@@ -14,7 +14,7 @@ pub(crate) enum AnyTree {
     Greatest(Tree<255>),
 }
 
-// What a call gives on the tree, whichever it is.
+// The result of a call on the tree, whichever its capacity.
 macro_rules! each {
     ($any:expr, $tree:ident => $call:expr) => {
         match $any {
@@ -27,7 +27,7 @@ macro_rules! each {
 }
 
 impl AnyTree {
-    /// No tree, in a pool of at most so many slots, or nothing where there is no such capacity.
+    /// An empty tree, in a pool of at most `limit` slots, or `None` where there is no such capacity.
     pub(crate) fn new(alloc: Global, capacity: u32, limit: u32) -> Option<Self> {
         Some(match capacity {
             3 => AnyTree::Least(Tree::new(alloc, limit)),
@@ -38,22 +38,22 @@ impl AnyTree {
         })
     }
 
-    /// Puts an entry in, or writes the value where the key is present.
+    /// Inserts an entry, or replaces the value where the key is present.
     pub(crate) fn insert(&mut self, key: u32, value: u32) -> Result<(), OutOfMemory> {
         each!(self, tree => tree.insert(key, value))
     }
 
-    /// Takes a key out. Answers its value, and the entry at which the path stands then.
+    /// Removes a key. Returns its value, and the entry where the path stands then.
     pub(crate) fn remove(&mut self, key: u32) -> (Option<u32>, Option<(u32, u32)>) {
         each!(self, tree => tree.remove(key))
     }
 
-    /// Ends the tree.
+    /// Removes the tree.
     pub(crate) fn end(&mut self) {
         each!(self, tree => tree.end())
     }
 
-    /// Adds one to the value of a key, and says whether it is present.
+    /// Adds one to the value of a key, and returns whether the key is present.
     pub(crate) fn count(&mut self, key: u32) -> bool {
         each!(self, tree => tree.count(key))
     }
@@ -68,7 +68,7 @@ impl AnyTree {
         each!(self, tree => tree.position(key))
     }
 
-    /// Whether a search for a key, from the first entry on whose key is not less than another, ends where one from the root does.
+    /// Whether a search for `key`, started at the first entry not less than `from`, ends where a search from the root does.
     pub(crate) fn finds_from(&self, from: u32, key: u32) -> bool {
         each!(self, tree => tree.finds_from(from, key))
     }
@@ -78,7 +78,7 @@ impl AnyTree {
         each!(self, tree => tree.is_root(number))
     }
 
-    /// The first entry whose key is not less.
+    /// The first entry whose key is not less than `key`.
     pub(crate) fn entry_from(&self, key: u32) -> Option<(u32, u32)> {
         each!(self, tree => tree.entry_from(key))
     }
@@ -98,22 +98,22 @@ impl AnyTree {
         each!(self, tree => tree.root())
     }
 
-    /// How many levels the tree has, and how many slots the pool, in all and free.
+    /// The number of levels of the tree, of slots of the pool, and of its free slots.
     pub(crate) fn sizes(&self) -> (usize, u32, u32) {
         each!(self, tree => (tree.levels(), tree.slots(), tree.free()))
     }
 
-    /// How many nodes a key takes that is absent.
+    /// The number of nodes that an insertion takes, if the key is absent.
     pub(crate) fn need(&self, key: u32) -> Option<u32> {
         each!(self, tree => tree.need(key))
     }
 
-    /// Writes the keys of the nodes, level by level, the root's first: `40 / 10 20 30 | 40 50 60 70`.
+    /// Writes the keys of the nodes, level by level, the root first: `40 / 10 20 30 | 40 50 60 70`.
     pub(crate) fn show(&self, alloc: Global, out: &mut String) -> Result<(), AllocError> {
         each!(self, tree => tree.show(alloc, Detail::Keys, out))
     }
 
-    /// The same with each node's number in front of it, and then the free nodes: `#2 40 / #0 10 20 30 | #1 40 50 60 70 / free #3`.
+    /// Writes the number and the keys of each node, and then the free nodes: `#2 40 / #0 10 20 30 | #1 40 50 60 70 / free #3`.
     pub(crate) fn draw(&self, alloc: Global, out: &mut String) -> Result<(), AllocError> {
         each!(self, tree => tree.show(alloc, Detail::Nodes, out)?);
         each!(self, tree => tree.show_free(out))
@@ -124,7 +124,7 @@ impl AnyTree {
         each!(self, tree => tree.gives(list) && tree.gives_back(list) && tree.finds(list))
     }
 
-    /// Whether the nodes have the sizes of the plain program's, level by level.
+    /// Whether the nodes have the sizes of the plain program's nodes, level by level.
     pub(crate) fn has_sizes(&self, alloc: Global, plain: &Plain) -> Result<bool, AllocError> {
         each!(self, tree => tree.has_sizes(alloc, plain))
     }

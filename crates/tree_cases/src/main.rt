@@ -1,4 +1,4 @@
-//! Tries operations on trees and on single nodes that standard input names, one a line, and says where an answer is not the one wanted.
+//! Tries operations on trees and on single nodes that standard input names, one per line, and writes where an answer is not the wanted one.
 //! docs/RULES.md has the lines.
 #![tactic(auto)]
 
@@ -15,7 +15,7 @@ use std::process::ExitCode;
 use trial::Trial;
 use words::{Stop, number};
 
-/// What lines are about.
+/// The subject of lines.
 #[derive(Drop)]
 enum Subject {
     Tree(Trial),
@@ -38,7 +38,7 @@ impl Subject {
         }
     }
 
-    // Writes what an operation answers that begins nothing anew.
+    // Writes the answer of an operation that does not start anew.
     fn answer(&mut self, alloc: Global, words: &[&str], out: &mut String) -> Result<(), Stop> {
         match self {
             Subject::Tree(trial) => trial.answer(alloc, words, out),
@@ -47,7 +47,7 @@ impl Subject {
     }
 }
 
-/// What a line asks, and the answer that is wanted, if one is.
+/// The operation of a line, and its wanted answer, if it has one.
 fn parts(line: &str) -> (&str, Option<&str>) {
     match line.split_once(" = ") {
         Some((asked, wanted)) => (asked, Some(wanted)),
@@ -55,7 +55,7 @@ fn parts(line: &str) -> (&str, Option<&str>) {
     }
 }
 
-/// Makes what a line asks, and writes its answer.
+/// Makes the operation of a line, and writes its answer.
 fn make_line(
     alloc: Global,
     subject: &mut Subject,
@@ -66,7 +66,7 @@ fn make_line(
     subject.make(alloc, &words, out)
 }
 
-/// Tries a line, and answers whether all is as wanted. Where it is not, what is wrong is written.
+/// Tries a line, and returns whether all is as wanted. Writes what is wrong, if anything is.
 fn try_line(
     alloc: Global,
     subject: &mut Subject,
@@ -87,7 +87,7 @@ fn try_line(
     }
 }
 
-/// Writes what is wrong with a line, if anything is, and answers the exit status that it asks for.
+/// Writes what is wrong with a line, if anything is, and returns its exit status.
 fn tell(
     tried: Result<bool, Stop>,
     number: u64,
@@ -109,7 +109,7 @@ fn tell(
     }
 }
 
-/// Tries lines up to a bad one, writes which are wrong, and answers the exit status.
+/// Tries lines up to a bad one, writes which are wrong, and returns the exit status.
 fn try_lines(alloc: Global, lines: &str, report: &mut String) -> Result<u8, AllocError> {
     let mut subject = Subject::Nodes(Pair::new(alloc));
     let mut out = String::new(alloc);

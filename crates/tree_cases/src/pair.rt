@@ -1,4 +1,4 @@
-//! Two nodes of numbers, on which no tree stands.
+//! Two nodes of numbers, without a tree.
 ghost use Rattle.bforest_nodes.specs.Content.{IsFree, IsInner, IsLeaf};
 ghost use Rattle.std.specs.Prelude.{IfOk, ◌<◌};
 
@@ -7,10 +7,10 @@ use bforest_nodes::{Node, NodeData, PackedNode, Removed};
 use std::alloc::Global;
 use std::mem::swap;
 
-/// A node of numbers, as a small map has it.
+/// A node of numbers, with the capacity of maps.
 type Numbers = NodeData<u32, u32, 7>;
 
-/// The node on which operations work, and its right neighbour.
+/// The node of the operations, and its right sibling.
 #[derive(Drop)]
 pub(crate) struct Pair {
     node: NodeData<u32, u32, 7>,
@@ -26,7 +26,7 @@ impl Pair {
         }
     }
 
-    /// Makes an operation, and writes its answer. Those that write answer what the nodes hold then.
+    /// Makes an operation, and writes its answer. An operation that writes answers the content of the nodes.
     pub(crate) fn answer(
         &mut self,
         alloc: Global,
@@ -45,7 +45,7 @@ impl Pair {
         self.show(out)
     }
 
-    // Writes what the two hold.
+    // Writes the content of both nodes.
     fn show(&self, out: &mut String) -> Result<(), Stop> {
         show(&self.node, out)?;
         out.push_str(" |")?;
@@ -53,7 +53,7 @@ impl Pair {
     }
 }
 
-// Halves the full node, for an insertion at an index, and puts its right half into the other.
+// Splits the full node, for an insertion at an index, and moves its right half into the other.
 fn split(pair: &mut Pair, index: usize, out: &mut String) -> Result<(), Stop> {
     if pair.node.is_free() || !pair.node.is_full() {
         return Err(Stop::Bad);
@@ -64,7 +64,7 @@ fn split(pair: &mut Pair, index: usize, out: &mut String) -> Result<(), Stop> {
     pair.show(out)
 }
 
-// Balances the underflowed node with the other, whose first key is the given one.
+// Rebalances the underflowed node with the other, whose first key is given.
 fn balance(pair: &mut Pair, key: u32, out: &mut String) -> Result<(), Stop> {
     if pair.node.is_free()
         || pair.other.is_free()
@@ -211,7 +211,7 @@ fn write_leaf(node: &mut Numbers, keys: &[u32]) -> Result<(), Stop> {
     Ok(())
 }
 
-// Makes the node an inner one of a child, a key, a child and so on.
+// Makes the node an inner node of a child, a key, a child and so on.
 fn write_inner(node: &mut Numbers, words: &[u32]) -> Result<(), Stop> {
     let [left, key, right, rest @ ..] = words else {
         return Err(Stop::Bad);
@@ -231,7 +231,7 @@ fn write_inner(node: &mut Numbers, words: &[u32]) -> Result<(), Stop> {
     Ok(())
 }
 
-// Writes what a node holds: ` 1:1 2:2`, ` 0 (10) 1 (11) 2`, or ` free`.
+// Writes the content of a node: ` 1:1 2:2`, ` 0 (10) 1 (11) 2`, or ` free`.
 fn show(node: &Numbers, out: &mut String) -> Result<(), Stop> {
     if node.is_free() {
         Ok(out.push_str(" free")?)
@@ -264,19 +264,19 @@ fn show_leaf(keys: &[u32], vals: &[u32], out: &mut String) -> Result<(), Stop> {
     Ok(())
 }
 
-// Writes an answer, and what the node holds.
+// Writes an answer, and the content of the node.
 fn tell(is_in: bool, node: &Numbers, out: &mut String) -> Result<(), Stop> {
     write!(out, "{is_in}:")?;
     show(node, out)
 }
 
-// Writes how a removal was answered, and what the node holds.
+// Writes the answer of a removal, and the content of the node.
 fn tell_left(left: Removed, node: &Numbers, out: &mut String) -> Result<(), Stop> {
     write!(out, "{left:?}:")?;
     show(node, out)
 }
 
-// An index, if it is less than the bound.
+// An index that is less than the bound.
 fn within(word: &str, bound: usize) -> Result<usize, Stop>
     ensures { IfOk result (λ index. index < bound) }
 {

@@ -1,4 +1,4 @@
-//! A tree of numbers in a pool of its own. That it is a tree, with its keys in order, is part of its type, so that tests loop over its calls.
+//! A tree of numbers in a pool of its own. Its type states that it is a tree with its keys in order, and tests loop over its calls.
 ghost use Rattle.bforest_nodes.specs.Content.{IsLeafCapacity};
 ghost use Rattle.bforest_core.specs.Paths.{StandingUnder};
 ghost use Rattle.bforest_core.specs.Trees.{IsUnion};
@@ -11,19 +11,19 @@ use std::alloc::{AllocError, Global};
 use std::marker::Model;
 use std::process::Abort;
 
-/// A pool of numbers under numbers.
+/// A pool of entries of numbers.
 type Pool<const N: usize> = NodePool<u32, u32, N>;
 
-/// What is shown of a node.
+/// The part of a node that is shown.
 #[derive(Clone, Copy, Debug, PartialEq, Eq)]
 pub(crate) enum Detail {
-    /// Its keys.
+    /// The keys of a node.
     Keys,
-    /// Its number and its keys.
+    /// The number and the keys of a node.
     Nodes,
 }
 
-/// A tree of numbers under numbers, or none, and nothing else in its pool.
+/// A tree of entries of numbers, which may be empty, and nothing else in its pool.
 #[derive(Drop)]
 pub(crate) struct Tree<const N: usize> {
     pool: NodePool<u32, u32, N>,
@@ -43,7 +43,7 @@ impl<const N: usize> Model for Tree<N> {
 }
 
 impl<const N: usize> Tree<N> {
-    /// No tree, in a pool of at most so many slots.
+    /// An empty tree, in a pool of at most `limit` slots.
     pub(crate) fn new(alloc: Global, limit: u32) -> Self
         requires { IsLeafCapacity N }
     {
@@ -53,7 +53,7 @@ impl<const N: usize> Tree<N> {
         }
     }
 
-    /// Puts an entry in, or writes the value where the key is present.
+    /// Inserts an entry, or replaces the value where the key is present.
     pub(crate) fn insert(&mut self, key: u32, value: u32) -> Result<(), OutOfMemory> {
         let root = match self.root {
             Some(root) => put(&mut self.pool, root, key, value)?,
@@ -63,7 +63,7 @@ impl<const N: usize> Tree<N> {
         Ok(())
     }
 
-    /// Takes a key out. Answers its value, and the entry at which the path stands then.
+    /// Removes a key. Returns its value, and the entry where the path stands then.
     pub(crate) fn remove(&mut self, key: u32) -> (Option<u32>, Option<(u32, u32)>) {
         let Some(root) = self.root else {
             return (None, None);
@@ -73,7 +73,7 @@ impl<const N: usize> Tree<N> {
         (value, entry)
     }
 
-    /// Ends the tree.
+    /// Removes the tree.
     pub(crate) fn end(&mut self) {
         if let Some(root) = self.root {
             self.pool.free_tree(root);
@@ -81,7 +81,7 @@ impl<const N: usize> Tree<N> {
         }
     }
 
-    /// Adds one to the value of a key, and says whether it is present.
+    /// Adds one to the value of a key, and returns whether the key is present.
     pub(crate) fn count(&mut self, key: u32) -> bool {
         match self.root {
             Some(root) => count_at(&mut self.pool, root, key),
@@ -102,7 +102,7 @@ impl<const N: usize> Tree<N> {
         place(&path)
     }
 
-    /// Whether a search for a key, from the first entry on whose key is not less than another, ends where one from the root does.
+    /// Whether a search for `key`, started at the first entry not less than `from`, ends where a search from the root does.
     pub(crate) fn finds_from(&self, from: u32, key: u32) -> bool {
         let Some(root) = self.root else {
             return true;
@@ -118,7 +118,7 @@ impl<const N: usize> Tree<N> {
         Some(self.root?.number())
     }
 
-    /// How many levels the tree has.
+    /// The number of levels of the tree.
     pub(crate) fn levels(&self) -> usize {
         match self.root {
             Some(root) => self.pool.levels(root),
@@ -126,12 +126,12 @@ impl<const N: usize> Tree<N> {
         }
     }
 
-    /// How many slots the pool has.
+    /// The number of slots of the pool.
     pub(crate) fn slots(&self) -> u32 {
         self.pool.slots()
     }
 
-    /// How many of its slots are free.
+    /// The number of free slots of the pool.
     pub(crate) fn free(&self) -> u32 {
         self.pool.free()
     }
@@ -141,12 +141,12 @@ impl<const N: usize> Tree<N> {
         number < u32::MAX && self.pool.is_root(Node::new(number))
     }
 
-    /// How many nodes a key takes that is absent.
+    /// The number of nodes that an insertion takes, if the key is absent.
     pub(crate) fn need(&self, key: u32) -> Option<u32> {
         need(&self.pool, self.root?, key)
     }
 
-    /// The first entry whose key is not less.
+    /// The first entry whose key is not less than `key`.
     pub(crate) fn entry_from(&self, key: u32) -> Option<(u32, u32)> {
         entry_from(&self.pool, self.root?, key)
     }
@@ -161,7 +161,7 @@ impl<const N: usize> Tree<N> {
         entry_before(&self.pool, self.root?, key)
     }
 
-    /// Writes the keys of the nodes, level by level, the root's first: `40 / 10 20 30 | 40 50 60 70`.
+    /// Writes the keys of the nodes, level by level, the root first: `40 / 10 20 30 | 40 50 60 70`.
     pub(crate) fn show(
         &self,
         alloc: Global,
@@ -193,7 +193,7 @@ impl<const N: usize> Tree<N> {
         Ok(())
     }
 
-    /// Whether the nodes have the sizes of the plain program's, level by level.
+    /// Whether the nodes have the sizes of the plain program's nodes, level by level.
     pub(crate) fn has_sizes(&self, alloc: Global, plain: &Plain) -> Result<bool, AllocError> {
         if self.levels() != plain.levels() {
             return Ok(false);
@@ -221,7 +221,7 @@ impl<const N: usize> Tree<N> {
         true
     }
 
-    /// Whether steps from the first entry on give these entries, and nothing from then on.
+    /// Whether steps from the first entry on yield these entries, and then `None`.
     pub(crate) fn gives(&self, list: &[(u32, u32)]) -> bool {
         let (Some(root), [head, rest @ ..]) = (self.root, list) else {
             return self.root.is_none() && list.is_empty();
@@ -238,7 +238,7 @@ impl<const N: usize> Tree<N> {
         next(&mut path, &self.pool).is_none() && next(&mut path, &self.pool).is_none()
     }
 
-    /// Whether steps from the end back give these entries, and nothing from then on.
+    /// Whether steps from the end back yield these entries, and then `None`.
     pub(crate) fn gives_back(&self, list: &[(u32, u32)]) -> bool {
         let Some(root) = self.root else {
             return list.is_empty();
@@ -253,7 +253,7 @@ impl<const N: usize> Tree<N> {
     }
 }
 
-// Makes a tree of one entry, and answers its root.
+// Makes a tree of one entry, and returns its root.
 fn plant<const N: usize>(pool: &mut Pool<N>, key: u32, value: u32) -> Result<Node, OutOfMemory>
     requires union { IsUnion N pool.old }
     ensures planted { IfOk result (λ root. IsUnion N pool.new × IsOrderedAt pool.new root) }
@@ -262,7 +262,7 @@ fn plant<const N: usize>(pool: &mut Pool<N>, key: u32, value: u32) -> Result<Nod
     pool.alloc_node(key, value)
 }
 
-// Puts an entry into a tree, or writes the value where the key is present. Answers the root.
+// Inserts an entry into a tree, or replaces the value where the key is present. Returns the root.
 fn put<const N: usize>(
     pool: &mut Pool<N>,
     root: Node,
@@ -283,7 +283,7 @@ fn put<const N: usize>(
     }
 }
 
-// Takes a key out of a tree. Answers the root, or nothing where no entry is left, the key's value, and the entry that followed.
+// Removes a key from a tree. Returns the root, or `None` where no entry is left, the key's value, and the next entry.
 fn cut<const N: usize>(
     pool: &mut Pool<N>,
     root: Node,
@@ -302,7 +302,7 @@ fn cut<const N: usize>(
     (root, Some(value), path.entry(pool))
 }
 
-// Adds one to the value of a key, and says whether it is present.
+// Adds one to the value of a key, and returns whether the key is present.
 fn count_at<const N: usize>(pool: &mut Pool<N>, root: Node, key: u32) -> bool
     requires union { IsUnion N pool.old }
     requires ordered { IsOrderedAt pool.old root }
@@ -319,7 +319,7 @@ fn count_at<const N: usize>(pool: &mut Pool<N>, root: Node, key: u32) -> bool
     }
 }
 
-// The keys of a node, none where it is free.
+// The keys of a node; none where it is free.
 fn keys<const N: usize>(pool: &Pool<N>, node: Node) -> &[u32] {
     if node.number() >= pool.slots() {
         return &[];
@@ -387,7 +387,7 @@ fn are_sizes<const N: usize>(pool: &Pool<N>, row: &[Node], sizes: &[usize]) -> b
     row.len() == sizes.len()
 }
 
-// How many entries or children a node has.
+// The number of entries or children of a node.
 fn size<const N: usize>(pool: &Pool<N>, node: Node) -> usize {
     let keys = keys(pool, node).len();
     match child(pool, node, 0) {
@@ -427,7 +427,7 @@ fn next<const N: usize>(path: &mut Path<u32, u32, N>, pool: &Pool<N>) -> Option<
     path.next(pool)
 }
 
-// Goes to the entry before.
+// Goes to the previous entry.
 fn prev<const N: usize>(
     path: &mut Path<u32, u32, N>,
     root: Node,
@@ -441,13 +441,13 @@ fn prev<const N: usize>(
     path.prev(root, pool)
 }
 
-// The number of a path's leaf, and the place there.
+// The number of a path's leaf, and the path's index in it.
 fn place<const N: usize>(path: &Path<u32, u32, N>) -> Option<(u32, usize)> {
     let (leaf, index) = path.leaf_pos()?;
     Some((leaf.number(), index))
 }
 
-// Goes to the first entry whose key is not less, or to the end.
+// Goes to the first entry whose key is not less than `key`, or to the end.
 fn seek<const N: usize>(path: &mut Path<u32, u32, N>, root: Node, pool: &Pool<N>, key: u32)
     requires union { IsUnion N pool.now }
     requires ordered { IsOrderedAt pool.now root }
@@ -458,7 +458,7 @@ fn seek<const N: usize>(path: &mut Path<u32, u32, N>, root: Node, pool: &Pool<N>
     }
 }
 
-// How many nodes a key takes that is absent.
+// The number of nodes that an insertion takes, if the key is absent.
 fn need<const N: usize>(pool: &Pool<N>, root: Node, key: u32) -> Option<u32>
     requires union { IsUnion N pool.now }
     requires ordered { IsOrderedAt pool.now root }
@@ -470,7 +470,7 @@ fn need<const N: usize>(pool: &Pool<N>, root: Node, key: u32) -> Option<u32>
     }
 }
 
-// The first entry whose key is not less.
+// The first entry whose key is not less than `key`.
 fn entry_from<const N: usize>(pool: &Pool<N>, root: Node, key: u32) -> Option<(u32, u32)>
     requires union { IsUnion N pool.now }
     requires ordered { IsOrderedAt pool.now root }

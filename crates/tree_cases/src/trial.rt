@@ -1,4 +1,4 @@
-//! A tree beside the plain program: each change is made to both, and then the two are compared.
+//! A tree beside the plain program: each change is made to both, and then both are compared.
 
 use crate::any::AnyTree;
 use crate::words::{Stop, keys, number};
@@ -6,7 +6,7 @@ use bforest_core::OutOfMemory;
 use bforest_plain_tests::Plain;
 use std::alloc::{AllocError, Global};
 
-/// A tree, and what the plain program makes of the same calls.
+/// A tree, and the state of the plain program after the same calls.
 #[derive(Drop)]
 pub(crate) struct Trial {
     tree: AnyTree,
@@ -15,7 +15,7 @@ pub(crate) struct Trial {
 }
 
 impl Trial {
-    /// No tree, in a table of at most so many slots. Trees have leaves of 3, 7, 15 or 255 entries.
+    /// An empty tree, in a table of at most `limit` slots. Leaves have a capacity of 3, 7, 15 or 255 entries.
     pub(crate) fn new(alloc: Global, capacity: u32, limit: u32) -> Result<Self, Stop> {
         Ok(Trial {
             tree: AnyTree::new(alloc, capacity, limit).ok_or(Stop::Bad)?,
@@ -57,7 +57,7 @@ impl Trial {
         }
     }
 
-    // Writes what a question about a key, or about a node's number, is answered.
+    // Writes the answer to a question about a key, or about a node's number.
     fn tell_of(&self, asked: &str, key: u32, out: &mut String) -> Result<(), Stop> {
         match asked {
             "get" => tell_number(self.tree.get(key), out),
@@ -71,7 +71,7 @@ impl Trial {
         }
     }
 
-    // Writes whether searches for each of these keys, from where a path stands at each of them, end where those from the root do.
+    // Writes whether searches for each of these keys, started at each of these keys, end where searches from the root do.
     fn tell_searches(&self, alloc: Global, words: &[&str], out: &mut String) -> Result<(), Stop> {
         let keys = keys(alloc, words)?;
         for from in &keys {
@@ -90,7 +90,7 @@ impl Trial {
         Ok(write!(out, "levels {levels} slots {slots} free {free}")?)
     }
 
-    // Puts keys in, each as its own value, until one is refused.
+    // Inserts keys, each with itself as value, until one is refused.
     fn insert_all(&mut self, alloc: Global, words: &[&str], out: &mut String) -> Result<(), Stop> {
         for key in &keys(alloc, words)? {
             if let Err(refused) = self.insert(alloc, *key, *key, out)? {
@@ -101,7 +101,7 @@ impl Trial {
         Ok(out.push_str("ok")?)
     }
 
-    // Puts an entry in.
+    // Inserts an entry.
     fn put(&mut self, alloc: Global, key: u32, value: u32, out: &mut String) -> Result<(), Stop> {
         let answer = match self.insert(alloc, key, value, out)? {
             Ok(()) => "ok",
@@ -110,7 +110,7 @@ impl Trial {
         Ok(out.push_str(answer)?)
     }
 
-    // Takes keys out, and writes the value of the last one and the entry at which the path stands then.
+    // Removes keys, and writes the value of the last one and the entry where the path stands then.
     fn remove_all(&mut self, alloc: Global, words: &[&str], out: &mut String) -> Result<(), Stop> {
         let mut answer = (None, None);
         for key in &keys(alloc, words)? {
@@ -131,7 +131,7 @@ impl Trial {
         tell_truth(is_there, out)
     }
 
-    // Ends the tree.
+    // Removes the tree.
     fn end(&mut self, alloc: Global, out: &mut String) -> Result<(), Stop> {
         self.tree.end();
         self.plain.clear();
@@ -139,7 +139,7 @@ impl Trial {
         Ok(out.push_str("ok")?)
     }
 
-    // Puts keys below a number in and takes them out, without an order, in rounds of which each second one mostly takes out.
+    // Inserts and removes keys below a number, without an order, in rounds. Every second round mostly removes.
     fn run(
         &mut self,
         alloc: Global,
@@ -161,7 +161,7 @@ impl Trial {
         Ok(out.push_str("ok")?)
     }
 
-    // Puts an entry into both. It is refused exactly where the plain program needs more nodes than can be had.
+    // Inserts an entry into both. The tree refuses it exactly where the plain program needs more nodes than the table has room for.
     fn insert(
         &mut self,
         alloc: Global,
@@ -184,7 +184,7 @@ impl Trial {
         Ok(answer)
     }
 
-    // Takes a key out of both, and answers its value and the entry at which the path stands then.
+    // Removes a key from both, and returns its value and the entry where the path stands then.
     fn remove(
         &mut self,
         alloc: Global,
@@ -202,7 +202,7 @@ impl Trial {
         Ok((value, entry))
     }
 
-    // Compares the two.
+    // Compares the tree with the plain program.
     fn compare(&self, alloc: Global, out: &mut String) -> Result<(), Stop> {
         if !self.tree.has_entries(self.plain.list()) {
             out.push_str("other entries")?;
@@ -223,28 +223,28 @@ impl Trial {
     }
 }
 
-// The next of a row of numbers without an order, from which a step of a run is made.
+// The next of a sequence of numbers without an order, which determine the steps of a run.
 fn next_state(state: u32) -> u32 {
     state.wrapping_mul(1664525).wrapping_add(1013904223)
 }
 
-// The key of a step, below a number.
+// The key of a step, below `keys`.
 fn key_of(state: u32, keys: u32) -> u32 {
     (state / 65536).checked_rem(keys).unwrap_or(0)
 }
 
-// Whether a step takes its key out: two of eight steps in one round, six of eight in the next.
+// Whether a step removes its key: two of eight steps do in one round, six of eight in the next.
 fn is_removal(state: u32, step: u32) -> bool {
     let out_of_eight = if step / 150 % 2 == 0 { 2 } else { 6 };
     state / 4096 % 8 < out_of_eight
 }
 
-// The first entry of a greater key.
+// The first entry with a greater key.
 fn behind(list: &[(u32, u32)], key: u32) -> Option<(u32, u32)> {
     list.iter().find(|entry| entry.0 > key).copied()
 }
 
-// How an insertion that was refused is answered.
+// The answer to an insertion that was refused.
 fn refusal(refused: OutOfMemory) -> &'static str {
     match refused {
         OutOfMemory::Full => "full",
@@ -276,7 +276,7 @@ fn tell_position(position: Option<(u32, usize)>, out: &mut String) -> Result<(),
     }
 }
 
-// Writes whether it is so.
+// Writes a truth value.
 fn tell_truth(is_so: bool, out: &mut String) -> Result<(), Stop> {
     Ok(write!(out, "{is_so}")?)
 }

@@ -5,11 +5,11 @@ use std::alloc::{AllocError, Global};
 /// Why a line has no answer.
 #[derive(Clone, Copy, Debug)]
 pub(crate) enum Stop {
-    /// It spells no operation, or one that can't be asked of what is there.
+    /// The line spells no operation, or one whose conditions do not hold.
     Bad,
     /// Memory ran out.
     Memory,
-    /// The tree and the plain program differ, as what was written says.
+    /// The tree and the plain program differ, as written.
     Differs,
 }
 
@@ -24,8 +24,8 @@ pub(crate) fn number(word: &str) -> Result<u32, Stop> {
     word.parse().map_err(|_| Stop::Bad)
 }
 
-/// The keys that words name, in their order: `5`; `1..36` and `36..1`; or `0..400x37`, which goes in steps of 37, beginning anew at the
-/// other end, as often as there are keys.
+/// The keys that words name, in order: `5`; `1..36` and `36..1`; or `0..400x37`, which goes in steps of 37, wraps around at the other end,
+/// and has as many steps as there are keys.
 pub(crate) fn keys(alloc: Global, words: &[&str]) -> Result<Vec<u32>, Stop> {
     let mut keys = Vec::new(alloc);
     for word in words {

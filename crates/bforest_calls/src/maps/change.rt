@@ -79,7 +79,7 @@ pub(crate) fn retain<K: Copy, V: Copy, C: Comparator<K>>(
     Answer::Done
 }
 
-/// Keeps the entries whose keys are listed, with this value if there is one.
+/// Keeps the entries whose keys are listed, with the value of `put` if there is one.
 fn keep_listed<K: Copy, V: Copy, C: Comparator<K>>(
     handle: &mut Map<K, V>,
     forest: &mut MapForest<K, V>,
@@ -94,7 +94,7 @@ fn keep_listed<K: Copy, V: Copy, C: Comparator<K>>(
     handle.retain(forest, |key, value| keeps(comp, put, keys, key, value));
 }
 
-/// Writes the value, if there is one, and says whether one of the keys compares equal to the entry's.
+/// Writes the value of `put`, if there is one, and returns whether one of the keys compares equal to the entry's.
 fn keeps<K: Copy, V: Copy, C: Comparator<K>>(
     comp: &C,
     put: Option<V>,

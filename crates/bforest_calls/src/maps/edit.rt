@@ -36,7 +36,7 @@ pub(crate) fn edit<K: Copy, V: Copy, C: Comparator<K>>(
     Ok(Answer::Script(sights))
 }
 
-/// Makes a writing cursor and each step in turn. Room for what they see is taken first.
+/// Makes a writing cursor and each step in turn. Room for the answers is taken first.
 fn edit_in<K: Copy, V: Copy, C: Comparator<K>>(
     alloc: Global,
     steps: &[Act<K, V>],

@@ -8,7 +8,7 @@ use crate::call::Answer;
 use bforest::{Comparator, Map, MapForest};
 use std::alloc::{AllocError, Global};
 
-/// The answer to a call on handle `h` that is not made, by its index and by whether it is live.
+/// The answer to a call on handle `h` that is not made: the index is out of range, or the handle is not live.
 pub(crate) fn unnamed<K: Copy, V: Copy>(
     h: usize,
     handles: &[Map<K, V>],
@@ -28,7 +28,7 @@ pub(crate) fn unnamed<K: Copy, V: Copy>(
     None
 }
 
-/// The same of a call that names comparator `c` too, and does not search.
+/// The answer to a call on handle `h` that names comparator `c`, does not search, and is not made.
 pub(crate) fn unnamed_by<K: Copy, V: Copy, C: Comparator<K>>(
     h: usize,
     c: usize,

@@ -35,7 +35,7 @@ pub(crate) fn read<K: Copy, V: Copy, C: Comparator<K>>(
     Ok(Answer::Script(sights))
 }
 
-/// Makes a reading cursor and each step in turn.
+/// Makes a reading cursor and each of its steps in turn.
 fn read_in<K: Copy, V: Copy, C: Comparator<K>>(
     alloc: Global,
     steps: &[Look<K>],
@@ -106,7 +106,7 @@ pub(crate) fn range<K: Copy, V: Copy, C: Comparator<K>>(
     Ok(Answer::Script(sights))
 }
 
-/// Makes a range and takes from its ends in turn.
+/// Makes a range and takes entries from its ends in turn.
 fn range_in<K: Copy, V: Copy, C: Comparator<K>>(
     alloc: Global,
     bounds: (Bound<K>, Bound<K>),

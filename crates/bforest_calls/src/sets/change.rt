@@ -95,7 +95,7 @@ fn keep_listed<K: Copy, C: Comparator<K>>(
     handle.retain(forest, |key| keeps(comp, keys, key));
 }
 
-/// Whether one of the keys compares equal.
+/// Whether one of the keys compares equal to `key`.
 fn keeps<K: Copy, C: Comparator<K>>(comp: &C, keys: &[K], key: K) -> bool
     ensures listed { result ≡ is_listed (C.order comp.now) keys.now key }
 {
@@ -115,7 +115,7 @@ pub(crate) fn alias<K: Copy>(from: usize, to: usize, handles: &mut [Set<K>]) -> 
     Answer::Done
 }
 
-/// What was there before, from whether the key is new.
+/// The old value of a key, from whether the key is new.
 pub(crate) fn old_unit(put: Result<bool, OutOfMemory>) -> Result<Option<()>, OutOfMemory>
     ensures { result ≡ as_put put }
 {

@@ -9,7 +9,7 @@ use crate::call::Answer;
 use bforest::{Comparator, Set, SetForest};
 use std::alloc::{AllocError, Global};
 
-/// The answer to a call on handle `h` that is not made, by its index and by whether it is live.
+/// The answer to a call on handle `h` that is not made: the index is out of range, or the handle is not live.
 pub(crate) fn unnamed<K: Copy>(
     h: usize,
     handles: &[Set<K>],
@@ -29,7 +29,7 @@ pub(crate) fn unnamed<K: Copy>(
     None
 }
 
-/// The same of a call that names comparator `c` too, and does not search.
+/// The answer to a call on handle `h` that names comparator `c`, does not search, and is not made.
 pub(crate) fn unnamed_by<K: Copy, C: Comparator<K>>(
     h: usize,
     c: usize,
@@ -149,7 +149,7 @@ fn listed<K: Copy>(
     Ok(entries)
 }
 
-/// The answer to a call that sets lack.
+/// The answer to a call that sets do not offer.
 pub(crate) fn lacks<K: Copy, C: Comparator<K>>(
     h: usize,
     c: usize,
@@ -166,7 +166,7 @@ pub(crate) fn lacks<K: Copy, C: Comparator<K>>(
     Answer::NotOffered
 }
 
-/// The value of a key that is there.
+/// The value of a key that is present.
 pub(crate) fn unit_if(present: bool) -> Option<()>
     ensures { result ≡ as_removed present }
 {

@@ -35,7 +35,7 @@ pub(crate) fn range<K: Copy, C: Comparator<K>>(
     Ok(Answer::Script(sights))
 }
 
-/// Makes a range and takes from its ends in turn.
+/// Makes a range and takes keys from its ends in turn.
 fn range_in<K: Copy, C: Comparator<K>>(
     alloc: Global,
     bounds: (Bound<K>, Bound<K>),

@@ -23,7 +23,7 @@ pub fn run_beside<K: Copy, V: Copy, C: Comparator<K>>(
     run_map(alloc, calls, comps, handles, forest)
 }
 
-/// The same on sets.
+/// Makes the calls on sets. Each tree that they spare keeps its list, whether or not memory was refused.
 pub fn run_beside_sets<K: Copy, C: Comparator<K>>(
     alloc: Global,
     calls: &[Call<K, ()>],

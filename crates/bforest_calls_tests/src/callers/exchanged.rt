@@ -24,7 +24,8 @@ pub fn run_either<K: Copy, V: Copy, C: Comparator<K>>(
     run_map(alloc, calls, comps, handles, forest)
 }
 
-/// The same on sets.
+/// Makes the calls on sets. Where two handles are aliases, the calls with both exchanged may give the same answers, and leave the same
+/// forest and the handles with both exchanged.
 pub fn run_either_sets<K: Copy, C: Comparator<K>>(
     alloc: Global,
     calls: &[Call<K, ()>],

@@ -1,4 +1,4 @@
-//! Where no memory is refused, the answers follow from the first state, the calls, the orders and the numbers that new roots get.
+//! Where no memory is refused, the first state, the calls, the orders and the numbers of new roots determine the answers.
 ghost use Rattle.bforest_calls_tests.specs.Determined.{AreDetermined};
 ghost use Rattle.std.specs.Prelude.{IfOk, false, map, true};
 
@@ -16,7 +16,7 @@ pub fn run_twice<K: Copy, V: Copy, C: Comparator<K>>(
     others: &mut [Map<K, V>],
     other: &mut MapForest<K, V>,
 ) -> Result<(Vec<Answer<K, V>>, Vec<Answer<K, V>>), AllocError>
-    // Where both begin alike, had memory and went in step, they answer the same and end alike.
+    // Where both runs begin alike, had memory and went in step, they answer the same and end alike.
     ensures determined { IfOk result (λ answers. AreDetermined 7 true (map C.order comps.now) calls.now
         (record { forest = forest.old; handles = handles.old }) answers.0.items
         (record { forest = forest.new; handles = handles.new })
@@ -28,7 +28,7 @@ pub fn run_twice<K: Copy, V: Copy, C: Comparator<K>>(
     Ok((first, second))
 }
 
-/// The same on sets.
+/// Makes the calls on sets of one forest, and then on sets of another one.
 pub fn run_twice_sets<K: Copy, C: Comparator<K>>(
     alloc: Global,
     calls: &[Call<K, ()>],
@@ -38,7 +38,7 @@ pub fn run_twice_sets<K: Copy, C: Comparator<K>>(
     others: &mut [Set<K>],
     other: &mut SetForest<K>,
 ) -> Result<(Vec<Answer<K, ()>>, Vec<Answer<K, ()>>), AllocError>
-    // Where both begin alike, had memory and went in step, they answer the same and end alike.
+    // Where both runs begin alike, had memory and went in step, they answer the same and end alike.
     ensures determined { IfOk result (λ answers. AreDetermined 15 false (map C.order comps.now) calls.now
         (record { forest = forest.old; handles = handles.old }) answers.0.items
         (record { forest = forest.new; handles = handles.new })

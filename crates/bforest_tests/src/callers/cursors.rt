@@ -8,7 +8,7 @@ ghost use Rattle.std.specs.Prelude.{IsSome, Option, slice_get, ℕ, ◌+◌, ◌
 
 use bforest::{Comparator, Map, MapCursor, MapCursorMut, MapForest, OutOfMemory};
 
-/// An insertion by a cursor is one of the map.
+/// Inserts by a cursor, which is an insertion into the map.
 pub fn insert_by_cursor<K: Copy, V: Copy, C: Comparator<K>>(
     map: &mut Map<K, V>,
     key: K,
@@ -23,7 +23,7 @@ pub fn insert_by_cursor<K: Copy, V: Copy, C: Comparator<K>>(
     map.cursor_mut(forest, comp).try_insert(key, value)
 }
 
-/// The same insertion leaves each other map as it is, whether or not it is refused.
+/// Inserts by a cursor, which leaves each other map as it is, whether or not the insertion is refused.
 pub fn insert_by_cursor_beside<K: Copy, V: Copy, C: Comparator<K>>(
     map: &mut Map<K, V>,
     entry: (K, V),
@@ -38,7 +38,7 @@ pub fn insert_by_cursor_beside<K: Copy, V: Copy, C: Comparator<K>>(
     insert_by_cursor(map, entry.0, entry.1, forest, comp)
 }
 
-/// The entry after the one where a cursor stands: a step on to an entry and one back leave the cursor as it was.
+/// The entry behind the one where a cursor stands: a step on to an entry and one back leave the cursor as it was.
 pub fn peek_next<K: Copy, V: Copy, C: Comparator<K>>(
     cursor: &mut MapCursor<K, V, C>,
 ) -> Option<(K, V)>
@@ -51,7 +51,7 @@ pub fn peek_next<K: Copy, V: Copy, C: Comparator<K>>(
     Some(next)
 }
 
-/// The same on a cursor that writes.
+/// The entry behind the one where a writing cursor stands: a step on to an entry and one back leave the cursor as it was.
 pub fn peek_next_mut<K: Copy, V: Copy, C: Comparator<K>>(
     cursor: &mut MapCursorMut<K, V, C>,
 ) -> Option<(K, V)>

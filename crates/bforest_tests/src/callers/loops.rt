@@ -1,4 +1,4 @@
-//! Loops over cursors and ranges: what they leave follows from the contracts alone.
+//! Loops over cursors and ranges: their results follow from the contracts alone.
 ghost use Rattle.bforest.specs.Cursor.{Goes, IsCursor, entries, forest_now, map_now, spot};
 ghost use Rattle.bforest.specs.Forest.{Becomes, IsLive, list_of};
 ghost use Rattle.bforest.specs.Memory.{IsReadable};
@@ -9,7 +9,7 @@ ghost use Rattle.std.specs.Prelude.{IfOk, Some, length, remove, reverse, â—Œ++â—
 use bforest::{Comparator, Map, MapCursorMut, MapForest, MapRange};
 use std::alloc::{AllocError, Global};
 
-/// Takes every second entry of a map out by one cursor: the first, the third and so on stay, and each other map.
+/// Removes every second entry of a map by one cursor: the first, the third and so on stay, and each other map.
 pub fn remove_every_second<K: Copy, V: Copy, C: Comparator<K>>(
     map: &mut Map<K, V>,
     forest: &mut MapForest<K, V>,
@@ -25,7 +25,7 @@ pub fn remove_every_second<K: Copy, V: Copy, C: Comparator<K>>(
     thin_out(&mut cursor);
 }
 
-// Takes every second entry out, from the second on. The cursor stands on the first.
+// Removes every second entry, from the second on. The cursor stands on the first.
 fn thin_out<K: Copy, V: Copy, C: Comparator<K>>(cursor: &mut MapCursorMut<K, V, C>)
     requires valid { IsCursor C.order cursor.old }
     requires ready { IsReadable K.row V.row }
@@ -55,7 +55,7 @@ pub fn join_ranges<K: Copy, C: Comparator<K>>(
     join_all(&mut cursor, comp);
 }
 
-// Joins all ranges. The cursor stands on the first, or at the end where there is none.
+// Joins all ranges. The cursor stands on the first range, or at the end where there is none.
 fn join_all<K: Copy, C: Comparator<K>>(cursor: &mut MapCursorMut<K, K, C>, comp: &C)
     requires valid { IsCursor C.order cursor.old }
     requires ready { IsReadable K.row K.row }
@@ -69,7 +69,7 @@ fn join_all<K: Copy, C: Comparator<K>>(cursor: &mut MapCursorMut<K, K, C>, comp:
     }
 }
 
-// Joins the ranges from the first on, where the cursor stands, and which ends at `end`.
+// Joins the ranges from the first on, which ends at `end`. The cursor stands on it.
 fn join_from<K: Copy, C: Comparator<K>>(cursor: &mut MapCursorMut<K, K, C>, end: K, comp: &C)
     requires valid { IsCursor C.order cursor.old }
     requires ready { IsReadable K.row K.row }
@@ -89,7 +89,7 @@ fn join_from<K: Copy, C: Comparator<K>>(cursor: &mut MapCursorMut<K, K, C>, end:
     }
 }
 
-// Takes the range out where the cursor stands, and makes the one before end where that did. The cursor stands on the one before then.
+// Removes the range where the cursor stands, and makes the range before it end at `end`. Then the cursor stands on the range before.
 fn extend<K: Copy, C: Comparator<K>>(cursor: &mut MapCursorMut<K, K, C>, end: K)
     requires valid { IsCursor C.order cursor.old }
     requires ready { IsReadable K.row K.row }
@@ -106,8 +106,8 @@ fn extend<K: Copy, C: Comparator<K>>(cursor: &mut MapCursorMut<K, K, C>, end: K)
     }
 }
 
-/// Takes entries off a range, from its front or from its back as each step says. What came from the front, what is left and what came from
-/// the back, the last first, make up the range: so each entry comes once, whichever ends are asked.
+/// Takes entries from a range, from its front or from its back as each step says. The entries from the front, those left and those from the
+/// back, the last first, make up the range: each entry is taken once, whichever ends are asked.
 pub fn take_from_ends<K: Copy, V: Copy, C: Comparator<K>>(
     alloc: Global,
     range: &mut MapRange<'_, K, V, C>,

@@ -12,7 +12,7 @@ use crate::trees::Trees;
 use bforest_core::{Comparator, PackedNode, Path};
 use std::ops::Bound;
 
-/// What is left of a range: the entries from where the front stands up to where the back stands.
+/// The entries of a range that are left: from the front path up to the back path.
 #[derive(Drop)]
 pub struct Ends<K, V, const N: usize> {
     front: Path<K, V, N>,
@@ -20,7 +20,7 @@ pub struct Ends<K, V, const N: usize> {
 }
 
 impl<K: Copy, V: Copy, const N: usize> Ends<K, V, N> {
-    // Whether nothing is left: the ends meet.
+    // Whether no entry is left: both ends stand at one place.
     fn is_empty(&self) -> bool
         ensures none { (f : Forest K V) (h : Option ℕ) → IsRange f h self.now
             → IsTrue result ↔ (left_in f h self.now ≡ []) }
@@ -105,7 +105,7 @@ impl<K: Copy, V: Copy, const N: usize> Trees<K, V, N> {
         }
     }
 
-    // Goes to the first entry whose key is greater, or to the end.
+    // Goes to the first entry whose key is greater than `key`, or to the end.
     fn goto_behind<C: Comparator<K>>(
         &self,
         handle: PackedNode,
@@ -124,7 +124,7 @@ impl<K: Copy, V: Copy, const N: usize> Trees<K, V, N> {
         }
     }
 
-    /// Takes the first entry off what is left.
+    /// Removes the first of the entries that are left, and returns it.
     pub fn range_next(&self, handle: PackedNode, ends: &mut Ends<K, V, N>) -> Option<(K, V)>
         requires range { IsRange self.now handle ends.old }
         ensures steps { YieldsFirst (left_in self.now handle) ends.old result ends.new }
@@ -138,7 +138,7 @@ impl<K: Copy, V: Copy, const N: usize> Trees<K, V, N> {
         entry
     }
 
-    /// Takes the last entry off what is left.
+    /// Removes the last of the entries that are left, and returns it.
     pub fn range_next_back(&self, handle: PackedNode, ends: &mut Ends<K, V, N>) -> Option<(K, V)>
         requires range { IsRange self.now handle ends.old }
         ensures steps { YieldsLast (left_in self.now handle) ends.old result ends.new }
@@ -151,7 +151,7 @@ impl<K: Copy, V: Copy, const N: usize> Trees<K, V, N> {
     }
 }
 
-// Whether one entry of a list that increases is not behind another, by their keys. The end has none.
+// Whether, by their keys, one entry of a list that increases is not behind another. `None` is the end of the list.
 fn is_ordered<K: Copy, V: Copy, C: Comparator<K>>(
     front: Option<(K, V)>,
     back: Option<(K, V)>,

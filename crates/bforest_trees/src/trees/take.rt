@@ -1,4 +1,4 @@
-//! Taking out the entry where a path stands, which may be the end.
+//! Removing the entry where a path stands, which may be the end.
 ghost use Rattle.bforest_trees.specs.Calls.{RemovesAt};
 ghost use Rattle.bforest_trees.specs.Forest.{IsLive, list_of};
 ghost use Rattle.bforest_trees.specs.Place.{AtSpot, IsComputed, IsSpot};
@@ -8,7 +8,7 @@ use crate::trees::Trees;
 use bforest_core::{PackedNode, Path};
 
 impl<K: Copy, V: Copy, const N: usize> Trees<K, V, N> {
-    /// Takes the entry out where a path stands, and answers it. The path goes to the one that followed, or to the end. At the end it answers
+    /// Removes the entry where a path stands, and returns it. The path goes to the next entry, or to the end. At the end the call returns
     /// `None`, and nothing changes.
     pub fn take(&mut self, handle: &mut PackedNode, path: &mut Path<K, V, N>) -> Option<(K, V)>
         requires live { IsLive self.old handle.old }

@@ -13,7 +13,7 @@ use crate::trees::Trees;
 use bforest_core::Node;
 
 impl<K: Copy, V: Copy, const N: usize> Trees<K, V, N> {
-    /// The value of the entry where a path stands, by the path's leaf and its index there, for writing.
+    /// A reference to the value of the entry where a path stands, given the path's leaf and its index there.
     pub fn value_at(&mut self, leaf: Node, index: usize) -> &mut V
         requires stands { (h : Option ℕ) × (path : Path K V N) × OnSpot self.old h path
             × (leaf ≡ leaf_of path) × (index ≡ index_of path) }

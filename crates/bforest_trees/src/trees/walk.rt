@@ -10,7 +10,7 @@ use crate::trees::Trees;
 use bforest_core::{PackedNode, Path};
 
 impl<K: Copy, V: Copy, const N: usize> Trees<K, V, N> {
-    /// Goes to the first entry and answers it. In an empty list that is the end.
+    /// Goes to the first entry and returns it. In an empty list that is the end.
     pub fn first(&self, handle: PackedNode, path: &mut Path<K, V, N>) -> Option<(K, V)>
         requires live { IsLive self.now handle }
         requires stands { AtSpot self.now handle path.old }
@@ -22,7 +22,7 @@ impl<K: Copy, V: Copy, const N: usize> Trees<K, V, N> {
         Some(path.first(root, &self.pool))
     }
 
-    /// Goes to the next entry and answers it. From the last entry it goes to the end, where it answers `None` from then on.
+    /// Goes to the next entry and returns it. From the last entry the path goes to the end, where the call returns `None` from then on.
     pub fn next(&self, handle: PackedNode, path: &mut Path<K, V, N>) -> Option<(K, V)>
         requires live { IsLive self.now handle }
         requires stands { AtSpot self.now handle path.old }
@@ -35,7 +35,8 @@ impl<K: Copy, V: Copy, const N: usize> Trees<K, V, N> {
         path.next(&self.pool)
     }
 
-    /// Goes to the entry before and answers it; from the end it goes to the last. At the first entry it stays, and answers `None`.
+    /// Goes to the previous entry and returns it; from the end the path goes to the last entry. At the first entry it stays, and the call
+    /// returns `None`.
     pub fn prev(&self, handle: PackedNode, path: &mut Path<K, V, N>) -> Option<(K, V)>
         requires live { IsLive self.now handle }
         requires stands { AtSpot self.now handle path.old }
@@ -73,7 +74,7 @@ impl<K: Copy, V: Copy, const N: usize> Trees<K, V, N> {
         path
     }
 
-    /// Takes the first entry off those from a path on.
+    /// Removes the first of the entries from a path on, and returns it.
     pub fn take_next(&self, path: &mut Path<K, V, N>) -> Option<(K, V)>
         requires on { IsOnOrEnds self.now path.old }
         ensures steps { YieldsFirst (entries_from self.now) path.old result path.new }

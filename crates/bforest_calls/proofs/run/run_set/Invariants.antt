@@ -2,7 +2,7 @@ use Rattle.bforest_calls.proofs.run.run_set.Given as goal
 use Rattle.bforest_calls.specs.Machine.{Run}
 use Rattle.std.proofs.Common.{length, map, take, false, vec_capacity, vec_len, ◌≡◌, ◌≤◌}
 
--- the answers so far are those of a run; there is room for the others
+-- the answers so far are those of a run; there is room for the other answers
 abbrev pub invariant-loop-call : goal.invariant-loop-call
 invariant-loop-call g l = record {
   run : Run 15 false (map g.C.Comparator.order l.comps) (record { forest = l.fn.forest; handles = l.fn.handles }) (take l.call-index l.calls) l.answers.items (record { forest = l.forest; handles = l.handles });

@@ -4,6 +4,6 @@ use Rattle.bforest.proofs.set.Set.increases.Given as goal
 use Rattle.bforest.specs.Forest.{list_of}
 use Rattle.bforest.specs.Memory.{IsSetReadable}
 
--- the next key can be read, and the whole list increases exactly if what is left does after the last key
+-- the next key can be read, and the list increases exactly where the keys left do after the last key
 abbrev pub invariant-keys : goal.invariant-keys
 invariant-keys g l = IsSetReadable g.row.K × IsDownTo (g.C.Comparator.order l.comp) (list_of l.forest l.self) l.last (with_each l.key-iterator)

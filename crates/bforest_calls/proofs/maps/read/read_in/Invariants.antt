@@ -4,7 +4,7 @@ use Rattle.bforest_calls.proofs.maps.read.read_in.Given as goal
 use Rattle.bforest_calls.specs.Looks.{sights_of}
 use Rattle.std.proofs.Common.{drop, length, vec_capacity, vec_len, ◌++◌, ◌≡◌, ◌≤◌}
 
--- what was seen, and what the steps that are left see, are what all see; there is room for it
+-- the answers so far and those of the steps left are all answers; there is room for them
 abbrev pub invariant-loop-step : goal.invariant-loop-step
 invariant-loop-step g l =
     let order = g.C.Comparator.order l.comp in

@@ -5,7 +5,7 @@ use Rattle.bforest_calls.proofs.sets.edit.edit_in.Given as goal
 use Rattle.bforest_calls.specs.State.{Script}
 use Rattle.std.proofs.Common.{length, take, vec_capacity, vec_len, ◌≡◌, ◌≤◌}
 
--- the steps so far, from the cursor at the end; there is room for what the others see
+-- the script of the steps so far, from the end; there is room for the other answers
 abbrev pub invariant-loop-step : goal.invariant-loop-step
 invariant-loop-step g l =
     let order = g.C.Comparator.order l.comp in

@@ -4,7 +4,7 @@ use Rattle.bforest_calls.proofs.sets.look.listed.Given as goal
 use Rattle.bforest_calls.specs.Looks.{with_each}
 use Rattle.std.proofs.Common.{◌++◌, ◌≡◌}
 
--- the entries so far, and those of the keys that are left
+-- the entries so far, and those of the keys left, are the whole list
 abbrev pub invariant-loop-key : goal.invariant-loop-key
 invariant-loop-key g l = record {
   left : l.entries.items ++ with_each l.key-iterator ≡ list_of l.forest l.set;

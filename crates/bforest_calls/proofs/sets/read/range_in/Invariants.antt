@@ -5,7 +5,7 @@ use Rattle.bforest_calls.proofs.sets.read.range_in.Given as goal
 use Rattle.bforest_calls.specs.Looks.{all_taken, with_each}
 use Rattle.std.proofs.Common.{drop, length, vec_capacity, vec_len, ◌++◌, ◌≡◌, ◌≤◌}
 
--- what was taken, and what the steps that are left take, are what all take; there is room for it
+-- the answers so far and those of the steps left are all answers; there is room for them
 abbrev pub invariant-loop-side : goal.invariant-loop-side
 invariant-loop-side g l =
     let es = entries_between (g.C.Comparator.order l.comp) l.fn.bounds.0 l.fn.bounds.1 (list_of l.forest l.handle) in

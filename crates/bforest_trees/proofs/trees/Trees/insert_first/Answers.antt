@@ -38,7 +38,7 @@ returns-clause-spot g c =
     let at = c.in_ok-root.ensures.planted c.self.invariant in
     rw c.some.ensures.node (on-at new c.in_ok-root.root path 0 c.first.ensures.stands)
 
--- the error is that of the node
+-- the error of an insertion is that of the new node
 err_at : (g : Over) (c : goal.After-from_residual g) → c.from_residual.result ≡ Err c.in_err-root.field-0.0
 err_at g c =
     let e = err_from_is_err_and c.from_residual.result c.from_residual.ensures.1 in

@@ -31,7 +31,7 @@ entry-requires-2 g c =
     let at : IsSpot p h c.goto_end.new.path end = rw (← c.self.view_is) at c.goto_end.ensures.spot in
     (search rules, (search rules, (c.self.invariant, spot-entry p c.goto_end.new.path h end at)))
 
--- the searches ended in order
+-- the range where the searches ended in order
 found : (g : Over) (c : Then-is_ordered g) → IsWithin c.args.self.now c.args.handle (g.C.Comparator.order c.args.comp.now) c.args.bounds.0 c.args.bounds.1 (record { front = c.goto_start.new.path; back = c.goto_end.new.path })
 found g c =
     (sought c.args.self.now c.args.handle (g.C.Comparator.order c.args.comp.now) c.args.bounds.0 c.args.bounds.1 c.goto_start.new.path c.goto_end.new.path c.self.inside.pool c.self.view_is c.self.invariant c.requires.live (g.met.C.Comparator.total c.args.comp.now) c.requires.increasing c.goto_start.ensures.spot c.goto_end.ensures.spot
@@ -43,7 +43,7 @@ returns-then-is_ordered-clause-left g c = (found g c).1
 pub returns-then-is_ordered-clause-range : goal.returns-then-is_ordered-clause-range
 returns-then-is_ordered-clause-range g c = (found g c).0
 
--- or the other way round
+-- the empty range, where the searches ended out of order
 none : (g : Over) (c : After-default-else-is_ordered g) → IsWithin c.args.self.now c.args.handle (g.C.Comparator.order c.args.comp.now) c.args.bounds.0 c.args.bounds.1 (record { front = c.default.result; back = c.default-else-is_ordered.result })
 none g c =
     (sought c.args.self.now c.args.handle (g.C.Comparator.order c.args.comp.now) c.args.bounds.0 c.args.bounds.1 c.goto_start.new.path c.goto_end.new.path c.self.inside.pool c.self.view_is c.self.invariant c.requires.live (g.met.C.Comparator.total c.args.comp.now) c.requires.increasing c.goto_start.ensures.spot c.goto_end.ensures.spot

@@ -13,7 +13,7 @@ returns-in_err-entry-clause-removed g c = λ at.
 pub returns-in_err-entry-clause-computed : goal.returns-in_err-entry-clause-computed
 returns-in_err-entry-clause-computed g c = c.entry.ensures.computed
 
--- the path is on an entry
+-- a path whose entry is found stands on an entry
 on : (g : Over) (c : goal.After-remove_at g) (at : AtSpot c.args.self.now c.args.handle.now c.args.path.now) → OnSpot c.args.self.now c.args.handle.now c.args.path.now
 on g c at = record { place = at.place; spot = at.spot; within = slice_get_within (list_of c.args.self.now c.args.handle.now) at.place c.in_ok-entry.entry (sym (c.entry.ensures.value at) ∙ c.in_ok-entry.was) }
 

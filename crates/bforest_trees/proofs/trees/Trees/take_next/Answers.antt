@@ -14,7 +14,7 @@ next-requires g c =
     let r : IsOnOrEnds c.self.inside.pool c.args.path.now = rw (← c.self.view_is) at c.requires.on in
     (search rules, (search rules, (c.self.invariant, r.stands)))
 
--- the answer is the entry where the path stood, and what is left begins behind it
+-- the answer is the entry where the path stood, and the entries left begin behind it
 made : (g : Over) (c : goal.After-next g) → Stepped c.self.inside.pool c.args.path.now c.next.new.self c.entry-entry.result c.next.result
 made g c =
     let r : IsOnOrEnds c.self.inside.pool c.args.path.now = rw (← c.self.view_is) at c.requires.on in
