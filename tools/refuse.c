@@ -1,5 +1,5 @@
 // malloc and realloc, of which the call numbered REFUSED is refused, and with ALL each one from there on: for LD_PRELOAD. With ALL the number
-// of refused calls is written to standard error at the end.
+// of refused calls, and of all calls, is written to standard error at the end.
 #define _GNU_SOURCE
 #include <dlfcn.h>
 #include <stdio.h>
@@ -21,7 +21,7 @@ static int is_refused(void) {
 }
 
 __attribute__((destructor)) static void tell(void) {
-    if (is_all) dprintf(2, "refused calls: %ld\n", refused);
+    if (is_all) dprintf(2, "refused calls: %ld of %ld\n", refused, seen);
 }
 
 void *malloc(size_t size) {

@@ -5,6 +5,7 @@ Each edit is a pattern, what takes its place, and how often it has to be found i
 
 # How the package begins. The lints are about how the proved code is written, which the package leaves as it is.
 LINTS = '''#![doc = include_str!("../README.md")]
+#![no_std]
 #![forbid(unsafe_code)]
 #![warn(missing_docs)]
 #![allow(
@@ -19,23 +20,16 @@ LINTS = '''#![doc = include_str!("../README.md")]
     reason = "the names are those of cranelift-bforest"
 )]
 
+extern crate alloc;
+
 '''
 
-# How it ends: the snippets of the tutorial run with the doc examples.
-TUTORIAL = '''
-#[cfg(doctest)]
-#[doc = include_str!("../TUTORIAL.md")]
-struct Tutorial;
-'''
+# The documents that are modules of the package's docs: the file in docs/, and the module.
+DOCUMENTS = {"CHOOSING": "choosing", "TUTORIAL": "tutorial", "CALLS": "calls", "DIFFERENCES": "differences"}
 
-# A clause that asks something of a caller, by a pattern, and the words for it in a public function's docs.
-ASKED = [
-    (r"requires (?:live )?\{ IsLive ", "the handle is live in the forest"),
-    (r"requires increasing \{", "its keys strictly increase under the comparator"),
-]
-
-# Public functions of the crates below that the forest does not call.
+# Functions that the package does not call.
 UNUSED = {
+    "forest_run/main.rt": ["arguments", "main"],
     "bforest_nodes/node.rt": ["unwrap_leaf_mut"],
     "bforest_nodes/entries.rt": ["parts_mut"],
     "bforest_nodes/row.rt": ["front_mut"],
@@ -51,34 +45,26 @@ FOREST = [
     (r"with_node_limit\(alloc, u32::MAX\)", "with_node_limit(u32::MAX)", 1),
     (r"pub fn with_node_limit\(alloc: Global, limit: u32\)", "pub fn with_node_limit(limit: u32)", 1),
     (r"Trees::with_limit\(alloc, limit\)", "Trees::with_limit(limit)", 1),
-    (r"(the test for what each call on a handle asks)\.", r"\1.", 1),
 ]
-# The handle's docs say what a call does where what it asks does not hold.
-BROKEN = r'''\1
-///
-/// Where what a call asks does not hold it may panic, not return, or answer and leave in the forest what no one has put there; it is safe in
-/// Rust's sense even then.
-\2'''
 # The comments at the front of a crate that speak of its contracts.
 FRONT = r"\A(?://![^\n]*\n)*"
+
+# A range is named by any bounds, as in the standard library.
+RANGE = [
+    (r"^use std::ops::Bound;", "use std::ops::RangeBounds;", 1),
+    (r"pub fn range<'a, C: Comparator<K>>\(", "pub fn range<'a, R: RangeBounds<K>, C: Comparator<K>>(", 1),
+    (r"bounds: \(Bound<K>, Bound<K>\),", "bounds: R,", 1),
+    (r"((?:Map|Set)Range::new\(self, )bounds", r"\1(bounds.start_bound().cloned(), bounds.end_bound().cloned())", 1),
+]
+# What is met where a call was made on a handle that was not live.
+MISUSED = 'panic!("an earlier call was made on a handle that was not live: the trees of this forest share nodes")'
 
 EDITS = {
     "bforest/lib.rt": [(FRONT, "", 1)],
     "bforest/forest.rt": FOREST,
     "bforest/set_forest.rt": FOREST,
-    "bforest/map.rt": [
-        (r"^(/// \[`Map::increases`\] tests\. Dropping a handle ends no tree\.)\n(pub struct)", BROKEN, 1),
-        (r" \(docs/RULES\.md, removal\)", "", 1),
-    ],
-    "bforest/set.rt": [
-        (
-            r"^/// \[`SetForest::holds`\] tests, and calls that compare keys ask that its list strictly increases under the comparator\. Dropping "
-            r"a handle ends\n/// no tree\.\n(pub struct)",
-            "/// [`SetForest::holds`] tests, and calls that compare keys ask that its list strictly increases under the comparator, which\n"
-            "/// [`Set::increases`] tests. Dropping a handle ends no tree.\n" + BROKEN.removeprefix("\\1\n").replace("\\2", "\\1"),
-            1,
-        )
-    ],
+    "bforest/map.rt": [*RANGE, (r" \(docs/RULES\.md, removal\)", "", 1)],
+    "bforest/set.rt": RANGE,
     "bforest_nodes/lib.rt": [
         (r"; contracts see it as two lists \(`specs/Content\.antt`\)\.", ".", 1),
         (r"table, which this crate does not\n//! know\. Users name `bforest_core`, which has all of it\.", "table.", 1),
@@ -86,9 +72,9 @@ EDITS = {
     "bforest_nodes/comparator.rt": [
         (
             r"An implementation\n/// proves that `order` is a total order: two keys may compare equal and still be different values\.",
-            "An implementation\n/// has to be a total order, always the same: each key equals itself, swapping two keys reverses the answer, and less than "
+            "An implementation\n/// has to be a total order, always the same: each key equals itself, swapping two keys reverses the result, and less than "
             "and equal are\n/// transitive. Two keys may compare equal and still be different values. Where an implementation replaces a search, it has "
-            "to answer what\n/// the one here does.",
+            "to return what\n/// the provided body does.",
             1,
         )
     ],
@@ -98,6 +84,7 @@ EDITS = {
         (r"pub fn new\(_alloc: Global\) -> Result<Self, AllocError>", "pub fn new() -> Self", 1),
         (r"Ok\((NodeData \{\s*state: State::Vacant\(PackedNode::none\(\)\),\s*\})\)", r"\1", 1),
         (r" It takes no memory and always succeeds, since the room for the entries is the node's own\.", " It takes no memory.", 1),
+        (r"\bunreachable!\(\)", MISUSED, 23),
         # what only a caller of the prover reads
         (r"\n    /// Of the right half\.\n    pub rhs_entries: usize,", "", 1),
         (r"\n *rhs_entries: len - \w+,", "", 2),
@@ -114,7 +101,8 @@ EDITS = {
         (r"Comparator, Node, NodeData, PackedNode, Removed, SetValue, SplitOff,?", "Comparator, Node, PackedNode, SetValue", 1),
     ],
     "bforest_core/pool.rt": [
-        (r"^use std::alloc::\{AllocError, Global\};\n", "use std::collections::TryReserveError;\n", 1),
+        (r"^use std::alloc::\{AllocError, Global\};\n", "use alloc::collections::TryReserveError;\nuse alloc::vec::Vec;\n", 1),
+        (r"(#\[derive\(Clone, Copy, Debug, PartialEq, Eq)(?=\)\]\npub enum OutOfMemory)", r"\1, Hash", 1),
         (r"\n    // A free node that is never handed out[^\n]*\n    blank: NodeData<K, V, N>,", "", 1),
         (r"\n    alloc: Global,(?=\n\})", "", 1),
         (r"\n *blank: NodeData::new\(alloc\)\.unwrap\(\),", "", 1),
@@ -137,4 +125,74 @@ EDITS = {
         (r"pub fn with_limit\(alloc: Global, limit: u32\)", "pub fn with_limit(limit: u32)", 1),
         (r"NodePool::with_limit\(alloc, limit\)", "NodePool::with_limit(limit)", 1),
     ],
+    "forest_run/main.rt": [(r"^use std::(?:io::ErrorKind|process::ExitCode|rt::Env|\{env, io\});\n", "", 4)],
 }
+
+# Types that get a `Clone`, which nothing proved calls.
+CLONED = {
+    "bforest_nodes/entries.rt": ["Entries"],
+    "bforest_nodes/node.rt": ["NodeData", "State"],
+    "bforest_core/pool.rt": ["NodePool"],
+    "bforest_core/path.rt": ["Path"],
+    "bforest_trees/trees.rt": ["Trees"],
+    "bforest_trees/trees/range.rt": ["Ends"],
+    "bforest_trees/reader.rt": ["Reader"],
+    "bforest/forest.rt": ["MapForest"],
+    "bforest/set_forest.rt": ["SetForest"],
+    "bforest/map_iter.rt": ["MapIter"],
+    "bforest/map_into_iter.rt": ["MapIntoIter"],
+    "bforest/set_iter.rt": ["SetIter"],
+}
+
+# Types whose fields `rust.rs` reads: a `Clone` that is derived would ask one of the comparator too.
+OPENED = {
+    "bforest/map_cursor.rt": ["MapCursor"],
+    "bforest/map_range.rt": ["MapRange"],
+    "bforest/set_range.rt": ["SetRange"],
+}
+
+# Functions that can be called where a constant is made.
+CONSTANT = {
+    "bforest_nodes/number.rt": ["none"],
+    "bforest_core/pool.rt": ["with_limit"],
+    "bforest_trees/trees.rt": ["with_limit"],
+    "bforest/map.rt": ["new"],
+    "bforest/set.rt": ["new"],
+    "bforest/forest.rt": ["new", "with_node_limit"],
+    "bforest/set_forest.rt": ["new", "with_node_limit"],
+}
+
+# Functions that only tell something, so that a call whose result is dropped is a mistake.
+TELLING = ["is_empty", "contains", "get", "get_or_less", "levels", "increases"]
+MUST_USE = {
+    "bforest/map.rt": ["new", "clone", "cursor", "cursor_mut", *(it for it in TELLING if it != "contains")],
+    "bforest/set.rt": ["new", "clone", "cursor", *(it for it in TELLING if it != "get")],
+    "bforest/forest.rt": ["new", "with_node_limit", "slots", "free_slots", "node_limit", "holds"],
+    "bforest/set_forest.rt": ["new", "with_node_limit", "slots", "free_slots", "node_limit", "holds"],
+    "bforest/map_cursor.rt": ["is_empty", "entry", "key", "value"],
+    "bforest/map_cursor_mut.rt": ["is_empty", "entry", "key", "value"],
+    "bforest/set_cursor.rt": ["is_empty", "elem"],
+}
+
+# What a source of a program takes from `fallible.rs`, with the calls for which it does.
+FALLIBLE = {"AllocError": "AllocError", "TryCollect": "try_collected", "TryVec": "try_with_room|try_push|try_extend"}
+IMPORT = "// what memory may be refused to\n"
+
+# What is changed in each source of a program: Rust's library takes no allocator, and its calls that may be refused memory have other names.
+PROGRAM = [
+    (r"^use std::alloc::(?:AllocError|\{AllocError, Global\});\n", IMPORT),
+    (r"^use std::alloc::Global;\n", ""),
+    (r"\balloc: Global(?:,\s*|(?=\)))", ""),
+    (r"rt: HostRuntime|rt\.alloc\(\)(?:, )?", ""),
+    (r"\balloc, ", ""),
+    (r"\.collect\(alloc\)", ".try_collected()"),
+    (r"\(alloc\)", "()"),
+    (r"\bformat!\(in alloc; (.*)\)(?=[?;,]|$)", r"crate::fallible::text(format_args!(\1))"),
+    (r"Vec::with_capacity\(", "Vec::try_with_room("),
+    (r"\.push\((.*)\)\.unwrap\(\);", r".push(\1);"),
+    (r"\.push\((.*)\)\?;", r".try_push(\1)?;"),
+    (r"\.push_reserved\(", ".push("),
+    (r"\.extend_from_slice\(", ".try_extend("),
+    (r"\btrait Named \{", "trait Named: Sized {"),
+    (r"fn fmt<W: fmt::Write>\(&self, f: &mut fmt::Formatter<W>\)", "fn fmt(&self, f: &mut fmt::Formatter<'_>)"),
+]

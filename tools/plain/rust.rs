@@ -1,15 +1,19 @@
 //! What Rust's users expect beside the calls of the forest. Nothing in this file is proved.
 
+use crate::bforest_core::PackedNode;
+use crate::bforest_trees::Trees;
 use crate::{
     Comparator, Map, MapCursor, MapCursorMut, MapForest, MapIntoIter, MapIter, MapRange, OutOfMemory, Set, SetCursor,
     SetForest, SetIter, SetRange,
 };
-use std::error::Error;
-use std::fmt::{Debug, Display, Formatter, Result};
-use std::iter::FusedIterator;
+use core::cmp::{Ordering, Reverse};
+use core::error::Error;
+use core::fmt::{Debug, Display, Formatter, Result as Written};
+use core::iter::FusedIterator;
+use core::marker::PhantomData;
 
 impl Display for OutOfMemory {
-    fn fmt(&self, f: &mut Formatter<'_>) -> Result {
+    fn fmt(&self, f: &mut Formatter<'_>) -> Written {
         f.write_str(match self {
             OutOfMemory::Memory => "the memory for more nodes was refused",
             OutOfMemory::Full => "the forest may have no more nodes",
@@ -20,34 +24,125 @@ impl Display for OutOfMemory {
 impl Error for OutOfMemory {}
 
 impl<K: Copy, V: Copy> Default for MapForest<K, V> {
-    /// The same as [`MapForest::new`].
+    /// Returns an empty forest, as [`MapForest::new`] does.
     fn default() -> Self {
         MapForest::new()
     }
 }
 
 impl<K: Copy> Default for SetForest<K> {
-    /// The same as [`SetForest::new`].
+    /// Returns an empty forest, as [`SetForest::new`] does.
     fn default() -> Self {
         SetForest::new()
     }
 }
 
 impl<K: Copy, V: Copy> Clone for Map<K, V> {
-    /// The same handle once more, which names the same tree. No entry is copied.
+    /// Returns a second handle to the same tree. No entry is copied.
     fn clone(&self) -> Self {
         Map::clone(self)
     }
 }
 
 impl<K: Copy> Clone for Set<K> {
-    /// The same handle once more, which names the same tree. No key is copied.
+    /// Returns a second handle to the same tree. No key is copied.
     fn clone(&self) -> Self {
         Set::clone(self)
     }
 }
 
-// Each iterator answers `None` for ever once it has.
+impl<K: Copy, V: Copy, C: Comparator<K>> Clone for MapCursor<'_, K, V, C> {
+    /// Returns a cursor at the same place. The entries are not copied.
+    fn clone(&self) -> Self {
+        MapCursor {
+            trees: self.trees,
+            root: self.root,
+            comp: self.comp,
+            path: self.path.clone(),
+        }
+    }
+}
+
+impl<K: Copy, V: Copy, C: Comparator<K>> Clone for MapRange<'_, K, V, C> {
+    /// Returns an iterator over what is left of the range. The entries are not copied.
+    fn clone(&self) -> Self {
+        MapRange {
+            trees: self.trees,
+            root: self.root,
+            ends: self.ends.clone(),
+            mark: PhantomData,
+        }
+    }
+}
+
+impl<K: Copy, C: Comparator<K>> Clone for SetRange<'_, K, C> {
+    /// Returns an iterator over what is left of the range. The keys are not copied.
+    fn clone(&self) -> Self {
+        SetRange {
+            trees: self.trees,
+            root: self.root,
+            ends: self.ends.clone(),
+            mark: PhantomData,
+        }
+    }
+}
+
+/// A comparator that is lent, also as `&dyn Comparator<K>`.
+impl<K: Copy, C: Comparator<K> + ?Sized> Comparator<K> for &C {
+    fn cmp(&self, a: K, b: K) -> Ordering {
+        C::cmp(self, a, b)
+    }
+
+    fn search(&self, k: K, s: &[K]) -> Result<usize, usize> {
+        C::search(self, k, s)
+    }
+
+    fn upper_bound(&self, k: K, s: &[K]) -> usize {
+        C::upper_bound(self, k, s)
+    }
+
+    fn search_prefix(&self, k: K, row: &[K], len: usize) -> Result<usize, usize> {
+        C::search_prefix(self, k, row, len)
+    }
+
+    fn upper_bound_prefix(&self, k: K, row: &[K], len: usize) -> usize {
+        C::upper_bound_prefix(self, k, row, len)
+    }
+}
+
+/// The reversed order: under `Reverse(())` the greatest key is first.
+impl<K: Copy, C: Comparator<K>> Comparator<K> for Reverse<C> {
+    fn cmp(&self, a: K, b: K) -> Ordering {
+        self.0.cmp(b, a)
+    }
+}
+
+impl<K: Copy, V: Copy, const N: usize> Trees<K, V, N> {
+    /// Panics in debug builds where one look at the root of a handle shows that the handle is not live.
+    #[inline]
+    #[cfg_attr(debug_assertions, track_caller)]
+    pub(crate) fn expect_live(&self, handle: PackedNode) {
+        if !cfg!(debug_assertions) {
+            return;
+        }
+        let Some(root) = handle.expand() else {
+            return;
+        };
+        let (slot, slots) = (root.number(), self.slots());
+        assert!(
+            slot < slots,
+            "the handle is not live in this forest, which the call asks and `holds` tests: its root was in slot {slot}, and the forest has \
+             {slots} slots (the forest was cleared, or the handle belongs to another one)"
+        );
+        assert!(
+            !self.pool.node(root).is_free(),
+            "the handle is not live in this forest, which the call asks and `holds` tests: its tree has ended, since the slot {slot} of its \
+             root is free (a copy of the handle was cleared or changed)"
+        );
+    }
+}
+
+// Each iterator returns `None` for ever once it has returned it.
 impl<K: Copy, V: Copy> FusedIterator for MapIter<'_, K, V> {}
 impl<K: Copy, V: Copy> FusedIterator for MapIntoIter<K, V> {}
 impl<K: Copy, V: Copy, C: Comparator<K>> FusedIterator for MapRange<'_, K, V, C> {}
@@ -56,31 +151,78 @@ impl<K: Copy, C: Comparator<K>> FusedIterator for SetRange<'_, K, C> {}
 
 // A handle shows the number of its root: it knows no forest, and so no entry.
 impl<K: Copy, V: Copy> Debug for Map<K, V> {
-    fn fmt(&self, f: &mut Formatter<'_>) -> Result {
+    fn fmt(&self, f: &mut Formatter<'_>) -> Written {
         f.debug_tuple("Map").field(&self.root.expand().map(|it| it.number())).finish()
     }
 }
 
 impl<K: Copy> Debug for Set<K> {
-    fn fmt(&self, f: &mut Formatter<'_>) -> Result {
+    fn fmt(&self, f: &mut Formatter<'_>) -> Written {
         f.debug_tuple("Set").field(&self.root.expand().map(|it| it.number())).finish()
+    }
+}
+
+impl<K: Copy, V: Copy> Map<K, V> {
+    /// Returns a value whose `Debug` shows the entries in order, as that of a map.
+    ///
+    /// # Panics
+    ///
+    /// In debug builds, where the root of the handle is a free slot, or past the table, as [`Map::iter`].
+    #[cfg_attr(debug_assertions, track_caller)]
+    pub fn debug<'a>(&self, forest: &'a MapForest<K, V>) -> impl Debug + use<'a, K, V>
+    where
+        K: Debug,
+        V: Debug,
+    {
+        Entries(self.iter(forest))
+    }
+}
+
+impl<K: Copy> Set<K> {
+    /// Returns a value whose `Debug` shows the keys in order, as that of a set.
+    ///
+    /// # Panics
+    ///
+    /// In debug builds, where the root of the handle is a free slot, or past the table, as [`Set::iter`].
+    #[cfg_attr(debug_assertions, track_caller)]
+    pub fn debug<'a>(&self, forest: &'a SetForest<K>) -> impl Debug + use<'a, K>
+    where
+        K: Debug,
+    {
+        Keys(self.iter(forest))
+    }
+}
+
+struct Entries<'a, K: Copy, V: Copy>(MapIter<'a, K, V>);
+
+impl<K: Copy + Debug, V: Copy + Debug> Debug for Entries<'_, K, V> {
+    fn fmt(&self, f: &mut Formatter<'_>) -> Written {
+        f.debug_map().entries(self.0.clone()).finish()
+    }
+}
+
+struct Keys<'a, K: Copy>(SetIter<'a, K>);
+
+impl<K: Copy + Debug> Debug for Keys<'_, K> {
+    fn fmt(&self, f: &mut Formatter<'_>) -> Written {
+        f.debug_set().entries(self.0.clone()).finish()
     }
 }
 
 // A forest shows its counts: it knows no handles, and so not which trees are in use.
 impl<K: Copy, V: Copy> Debug for MapForest<K, V> {
-    fn fmt(&self, f: &mut Formatter<'_>) -> Result {
+    fn fmt(&self, f: &mut Formatter<'_>) -> Written {
         show_forest(f, "MapForest", [self.slots(), self.free_slots(), self.node_limit()])
     }
 }
 
 impl<K: Copy> Debug for SetForest<K> {
-    fn fmt(&self, f: &mut Formatter<'_>) -> Result {
+    fn fmt(&self, f: &mut Formatter<'_>) -> Written {
         show_forest(f, "SetForest", [self.slots(), self.free_slots(), self.node_limit()])
     }
 }
 
-fn show_forest(f: &mut Formatter<'_>, name: &str, counts: [u32; 3]) -> Result {
+fn show_forest(f: &mut Formatter<'_>, name: &str, counts: [u32; 3]) -> Written {
     f.debug_struct(name)
         .field("slots", &counts[0])
         .field("free_slots", &counts[1])
@@ -90,49 +232,49 @@ fn show_forest(f: &mut Formatter<'_>, name: &str, counts: [u32; 3]) -> Result {
 
 // A cursor shows where it stands.
 impl<K: Copy + Debug, V: Copy + Debug, C: Comparator<K>> Debug for MapCursor<'_, K, V, C> {
-    fn fmt(&self, f: &mut Formatter<'_>) -> Result {
+    fn fmt(&self, f: &mut Formatter<'_>) -> Written {
         f.debug_struct("MapCursor").field("entry", &self.entry()).finish()
     }
 }
 
 impl<K: Copy + Debug, V: Copy + Debug, C: Comparator<K>> Debug for MapCursorMut<'_, K, V, C> {
-    fn fmt(&self, f: &mut Formatter<'_>) -> Result {
+    fn fmt(&self, f: &mut Formatter<'_>) -> Written {
         f.debug_struct("MapCursorMut").field("entry", &self.entry()).finish()
     }
 }
 
 impl<K: Copy + Debug, C: Comparator<K>> Debug for SetCursor<'_, K, C> {
-    fn fmt(&self, f: &mut Formatter<'_>) -> Result {
+    fn fmt(&self, f: &mut Formatter<'_>) -> Written {
         f.debug_struct("SetCursor").field("elem", &self.elem()).finish()
     }
 }
 
 impl<K: Copy, V: Copy> Debug for MapIter<'_, K, V> {
-    fn fmt(&self, f: &mut Formatter<'_>) -> Result {
+    fn fmt(&self, f: &mut Formatter<'_>) -> Written {
         f.debug_struct("MapIter").finish_non_exhaustive()
     }
 }
 
 impl<K: Copy, V: Copy> Debug for MapIntoIter<K, V> {
-    fn fmt(&self, f: &mut Formatter<'_>) -> Result {
+    fn fmt(&self, f: &mut Formatter<'_>) -> Written {
         f.debug_struct("MapIntoIter").finish_non_exhaustive()
     }
 }
 
 impl<K: Copy, V: Copy, C: Comparator<K>> Debug for MapRange<'_, K, V, C> {
-    fn fmt(&self, f: &mut Formatter<'_>) -> Result {
+    fn fmt(&self, f: &mut Formatter<'_>) -> Written {
         f.debug_struct("MapRange").finish_non_exhaustive()
     }
 }
 
 impl<K: Copy> Debug for SetIter<'_, K> {
-    fn fmt(&self, f: &mut Formatter<'_>) -> Result {
+    fn fmt(&self, f: &mut Formatter<'_>) -> Written {
         f.debug_struct("SetIter").finish_non_exhaustive()
     }
 }
 
 impl<K: Copy, C: Comparator<K>> Debug for SetRange<'_, K, C> {
-    fn fmt(&self, f: &mut Formatter<'_>) -> Result {
+    fn fmt(&self, f: &mut Formatter<'_>) -> Written {
         f.debug_struct("SetRange").finish_non_exhaustive()
     }
 }

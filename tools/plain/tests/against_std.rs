@@ -714,7 +714,7 @@ impl Draw {
     }
 }
 
-/// Makes so many calls on both, and compares each answer by `is_same` and the counts after each where they are told.
+/// Makes `calls` calls on both, and compares each answer by `is_same` and the counts after each where they are told.
 pub fn compare(
     tried: &mut impl Subject,
     model: &mut impl Subject,

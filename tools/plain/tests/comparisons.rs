@@ -3,7 +3,6 @@
 use bforest::{Comparator, Map, MapForest, Set, SetForest};
 use std::cell::Cell;
 use std::cmp::Ordering;
-use std::ops::Bound::Unbounded;
 
 /// The order of the keys, which counts how often it is asked.
 #[derive(Default)]
@@ -95,8 +94,8 @@ fn steps_of_a_range() {
         map.insert(key, key, &mut forest, &()).unwrap();
         set.insert(key, &mut set_forest, &()).unwrap();
     }
-    let mut range = map.range((Unbounded, Unbounded), &forest, &counting);
-    let mut keys = set.range((Unbounded, Unbounded), &set_forest, &counting);
+    let mut range = map.range(.., &forest, &counting);
+    let mut keys = set.range(.., &set_forest, &counting);
     counting.taken();
     for step in 1..=18 {
         assert_eq!((range.next(), keys.next()), (Some((step, step)), Some(step)));
