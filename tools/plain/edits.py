@@ -125,6 +125,10 @@ EDITS = {
         (r"pub fn with_limit\(alloc: Global, limit: u32\)", "pub fn with_limit(limit: u32)", 1),
         (r"NodePool::with_limit\(alloc, limit\)", "NodePool::with_limit(limit)", 1),
     ],
+    # a condition beside a `let` is newer than the package's rust-version
+    "live_ranges_example/main.rt": [
+        (r"self\.live_at\(point\)\s*&& start < point\s*\{", "self.live_at(point).filter(|it| it.0 < point) {", 1),
+    ],
     "forest_run/main.rt": [(r"^use std::(?:io::ErrorKind|process::ExitCode|rt::Env|\{env, io\});\n", "", 4)],
 }
 

@@ -1,6 +1,6 @@
 //! What Rust's users expect beside the calls of the forest. Nothing in this file is proved.
 
-use crate::bforest_core::PackedNode;
+use crate::bforest_core::{Node, PackedNode};
 use crate::bforest_trees::Trees;
 use crate::{
     Comparator, Map, MapCursor, MapCursorMut, MapForest, MapIntoIter, MapIter, MapRange, OutOfMemory, Set, SetCursor,
@@ -131,8 +131,8 @@ impl<K: Copy, V: Copy, const N: usize> Trees<K, V, N> {
         let (slot, slots) = (root.number(), self.slots());
         assert!(
             slot < slots,
-            "the handle is not live in this forest, which the call asks and `holds` tests: its root was in slot {slot}, and the forest has \
-             {slots} slots (the forest was cleared, or the handle belongs to another one)"
+            "the handle is not live in this forest, which the call asks and `holds` tests: its root was in slot {slot}, and the number of \
+             slots is {slots} (the forest was cleared, or the handle belongs to another one)"
         );
         assert!(
             !self.pool.node(root).is_free(),
@@ -152,13 +152,13 @@ impl<K: Copy, C: Comparator<K>> FusedIterator for SetRange<'_, K, C> {}
 // A handle shows the number of its root: it knows no forest, and so no entry.
 impl<K: Copy, V: Copy> Debug for Map<K, V> {
     fn fmt(&self, f: &mut Formatter<'_>) -> Written {
-        f.debug_tuple("Map").field(&self.root.expand().map(|it| it.number())).finish()
+        f.debug_tuple("Map").field(&self.root.expand().map(Node::number)).finish()
     }
 }
 
 impl<K: Copy> Debug for Set<K> {
     fn fmt(&self, f: &mut Formatter<'_>) -> Written {
-        f.debug_tuple("Set").field(&self.root.expand().map(|it| it.number())).finish()
+        f.debug_tuple("Set").field(&self.root.expand().map(Node::number)).finish()
     }
 }
 
@@ -169,6 +169,7 @@ impl<K: Copy, V: Copy> Map<K, V> {
     ///
     /// In debug builds, where the root of the handle is a free slot, or past the table, as [`Map::iter`].
     #[cfg_attr(debug_assertions, track_caller)]
+    #[must_use]
     pub fn debug<'a>(&self, forest: &'a MapForest<K, V>) -> impl Debug + use<'a, K, V>
     where
         K: Debug,
@@ -185,6 +186,7 @@ impl<K: Copy> Set<K> {
     ///
     /// In debug builds, where the root of the handle is a free slot, or past the table, as [`Set::iter`].
     #[cfg_attr(debug_assertions, track_caller)]
+    #[must_use]
     pub fn debug<'a>(&self, forest: &'a SetForest<K>) -> impl Debug + use<'a, K>
     where
         K: Debug,

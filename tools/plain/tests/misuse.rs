@@ -1,0 +1,510 @@
+//! What a mistake of the caller meets: a handle that is not live, and an order that does not fit. Debug builds panic at once on a handle whose
+//! tree has ended, and name the mistake, what was asked, and the caller's place. All builds go on: a call returns, or panics in plain words.
+
+use bforest::{Comparator, Map, MapForest, Set, SetForest};
+use std::cell::{Cell, RefCell};
+use std::cmp::{Ordering, Reverse};
+use std::panic::{AssertUnwindSafe, PanicHookInfo, catch_unwind, set_hook, take_hook};
+use std::sync::Once;
+
+// What a call met.
+
+/// What a panic said, and the file that it named.
+struct Said {
+    text: String,
+    file: String,
+}
+
+thread_local! {
+    static IS_CAUGHT: Cell<bool> = const { Cell::new(false) };
+    static SAID: RefCell<Option<Said>> = const { RefCell::new(None) };
+}
+
+fn said(info: &PanicHookInfo<'_>) -> Said {
+    let payload = info.payload();
+    let text = payload.downcast_ref::<String>().cloned();
+    let text = text.or_else(|| payload.downcast_ref::<&str>().map(|&it| it.into()));
+    let file = info.location().map_or("", |it| it.file());
+    Said { text: text.expect("a panic has a text"), file: file.into() }
+}
+
+/// From here on a panic in a call of `met` is kept, and nothing is printed for it.
+fn keep_panics() {
+    static ONCE: Once = Once::new();
+    ONCE.call_once(|| {
+        let printing = take_hook();
+        set_hook(Box::new(move |info| {
+            if IS_CAUGHT.get() {
+                SAID.set(Some(said(info)));
+            } else {
+                printing(info);
+            }
+        }));
+    });
+}
+
+/// What a call answered, or what its panic said.
+fn met<T>(call: impl FnOnce() -> T) -> Result<T, Said> {
+    keep_panics();
+    IS_CAUGHT.set(true);
+    let answer = catch_unwind(AssertUnwindSafe(call));
+    IS_CAUGHT.set(false);
+    answer.map_err(|_| SAID.take().expect("the hook kept it"))
+}
+
+/// A call that returns, or panics in plain words: what it answered.
+fn survived<T>(what: &str, call: impl FnOnce() -> T) -> Option<T> {
+    match met(call) {
+        Ok(answer) => Some(answer),
+        Err(said) => {
+            assert!(!said.text.is_empty() && !said.text.contains("internal error"), "{what}: {}", said.text);
+            None
+        }
+    }
+}
+
+/// A call on a handle whose tree has ended: debug builds panic at once, and name the mistake and the place of the call.
+fn refused(what: &str, mistake: &str, call: impl FnOnce()) {
+    if !cfg!(debug_assertions) {
+        survived(what, call);
+        return;
+    }
+    let said = met(call).err().unwrap_or_else(|| panic!("{what} returned, where {mistake}"));
+    let asked = "the handle is not live in this forest, which the call asks and `holds` tests: ";
+    assert!(said.text.starts_with(asked) && said.text.contains(mistake), "{what}: {}", said.text);
+    assert!(!said.text.contains("internal error"), "{what}: {}", said.text);
+    assert_eq!(said.file, file!(), "{what}: {}", said.text);
+}
+
+// The calls.
+
+/// A call on a handle in a forest.
+type Call<H, F> = fn(&mut H, &mut F);
+
+type Numbers = Map<u32, u32>;
+type NumbersForest = MapForest<u32, u32>;
+type MapCall = Call<Numbers, NumbersForest>;
+type SetCall = Call<Set<u32>, SetForest<u32>>;
+
+const OF_MAPS: [(&str, MapCall); 15] = [
+    ("get", |map, forest| _ = map.get(1, forest, &())),
+    ("get_or_less", |map, forest| _ = map.get_or_less(1, forest, &())),
+    ("insert", |map, forest| _ = map.insert(1, 2, forest, &())),
+    ("try_insert", |map, forest| _ = map.try_insert(1, 2, forest, &())),
+    ("remove", |map, forest| _ = map.remove(1, forest, &())),
+    ("clear", |map, forest| map.clear(forest)),
+    ("retain", |map, forest| map.retain(forest, |key, _| key > 1)),
+    ("levels", |map, forest| _ = map.levels(forest)),
+    ("iter", |map, forest| _ = map.iter(forest).count()),
+    ("into_iter", |map, forest| _ = map.clone().into_iter(forest.clone()).count()),
+    ("range", |map, forest| _ = map.range(..=1, forest, &()).rev().count()),
+    ("cursor", |map, forest| _ = map.cursor(forest, &()).goto_first()),
+    ("cursor_mut", |map, forest| _ = map.cursor_mut(forest, &()).goto(1)),
+    ("increases", |map, forest| _ = map.increases(forest, &())),
+    ("debug", |map, forest| _ = format!("{:?}", map.debug(forest))),
+];
+
+const OF_SETS: [(&str, SetCall); 13] = [
+    ("contains", |set, forest| _ = set.contains(1, forest, &())),
+    ("get_or_less", |set, forest| _ = set.get_or_less(1, forest, &())),
+    ("insert", |set, forest| _ = set.insert(1, forest, &())),
+    ("try_insert", |set, forest| _ = set.try_insert(1, forest, &())),
+    ("remove", |set, forest| _ = set.remove(1, forest, &())),
+    ("clear", |set, forest| set.clear(forest)),
+    ("retain", |set, forest| set.retain(forest, |key| key > 1)),
+    ("levels", |set, forest| _ = set.levels(forest)),
+    ("iter", |set, forest| _ = set.iter(forest).count()),
+    ("range", |set, forest| _ = set.range(..=1, forest, &()).rev().count()),
+    ("cursor", |set, forest| _ = set.cursor(forest, &()).goto(1)),
+    ("increases", |set, forest| _ = set.increases(forest, &())),
+    ("debug", |set, forest| _ = format!("{:?}", set.debug(forest))),
+];
+
+/// The calls of a source that are handed a forest.
+fn handed_forest(source: &str) -> Vec<&str> {
+    let heads = source.split("\n    pub fn ").skip(1).map(|it| it.split(" {\n").next().unwrap_or(it));
+    heads.filter(|it| it.contains("forest: ")).map(|it| it.split(['<', '(']).next().unwrap_or(it)).collect()
+}
+
+/// The tables above have each call.
+#[test]
+fn no_call_is_missing() {
+    let maps = handed_forest(include_str!("../src/map.rs"));
+    assert!(maps.iter().eq(OF_MAPS.iter().map(|(name, _)| name).filter(|&&it| it != "debug")), "{maps:?}");
+    let sets = handed_forest(include_str!("../src/set.rs"));
+    assert!(sets.iter().eq(OF_SETS.iter().map(|(name, _)| name).filter(|&&it| it != "debug")), "{sets:?}");
+}
+
+// Handles that are not live.
+
+const ENDED: &str = "its tree has ended, since the slot ";
+const PAST: &str = " (the forest was cleared, or the handle belongs to another one)";
+
+/// A map of one node, whose keys are 1 to 5.
+fn filled_map(forest: &mut NumbersForest) -> Numbers {
+    let mut map = Map::new();
+    for key in 1..=5 {
+        map.insert(key, 10 * key, forest, &()).unwrap();
+    }
+    map
+}
+
+/// A set of one node, whose keys are 1 to 5.
+fn filled_set(forest: &mut SetForest<u32>) -> Set<u32> {
+    let mut set = Set::new();
+    for key in 1..=5 {
+        set.insert(key, forest, &()).unwrap();
+    }
+    set
+}
+
+/// Makes each call of the table on the handle, each in a forest as it was, in which other calls then answer as they should.
+fn each_refused<H: Clone, F: Clone>(
+    calls: &[(&str, Call<H, F>)],
+    (handle, forest): (&H, &F),
+    mistake: &str,
+    is_in_use: fn(&mut F) -> bool,
+) {
+    for (name, call) in calls {
+        let (mut handle, mut forest) = (handle.clone(), forest.clone());
+        refused(name, mistake, || call(&mut handle, &mut forest));
+        assert!(is_in_use(&mut forest), "after {name} in a forest where {mistake}");
+    }
+}
+
+/// Whether a forest is as new once it is cleared.
+fn is_map_forest_in_use(forest: &mut NumbersForest) -> bool {
+    forest.clear();
+    let map = filled_map(forest);
+    map.iter(forest).eq((1..=5).map(|key| (key, 10 * key))) && forest.holds(&map) && forest.slots() == 1
+}
+
+fn is_set_forest_in_use(forest: &mut SetForest<u32>) -> bool {
+    forest.clear();
+    let set = filled_set(forest);
+    set.iter(forest).eq(1..=5) && forest.holds(&set) && forest.slots() == 1
+}
+
+/// Each call on the map that is not live in the forest.
+fn each_of_a_map(map: &Numbers, forest: &NumbersForest, mistake: &str) {
+    assert!(!forest.holds(map));
+    each_refused(&OF_MAPS, (map, forest), mistake, is_map_forest_in_use);
+}
+
+fn each_of_a_set(set: &Set<u32>, forest: &SetForest<u32>, mistake: &str) {
+    assert!(!forest.holds(set));
+    each_refused(&OF_SETS, (set, forest), mistake, is_set_forest_in_use);
+}
+
+/// The ways in which a map's tree ends through a copy of its handle.
+#[test]
+fn maps_that_ended_through_a_copy() {
+    let ends: [MapCall; 4] = [
+        |copy, forest| copy.clear(forest),
+        |copy, forest| copy.retain(forest, |_, _| false),
+        |copy, forest| (1..=5).for_each(|key| _ = copy.remove(key, forest, &())),
+        |copy, forest| {
+            let mut cursor = copy.cursor_mut(forest, &());
+            cursor.goto_first();
+            while cursor.remove().is_some() {}
+        },
+    ];
+    for end in ends {
+        let mut forest = MapForest::new();
+        let map = filled_map(&mut forest);
+        filled_map(&mut forest);
+        end(&mut map.clone(), &mut forest);
+        each_of_a_map(&map, &forest, ENDED);
+    }
+}
+
+#[test]
+fn sets_that_ended_through_a_copy() {
+    let ends: [SetCall; 4] = [
+        |copy, forest| copy.clear(forest),
+        |copy, forest| copy.retain(forest, |_| false),
+        |copy, forest| (1..=5).for_each(|key| _ = copy.remove(key, forest, &())),
+        |copy, forest| {
+            let mut cursor = copy.cursor(forest, &());
+            cursor.goto_first();
+            while cursor.remove().is_some() {}
+        },
+    ];
+    for end in ends {
+        let mut forest = SetForest::new();
+        let set = filled_set(&mut forest);
+        filled_set(&mut forest);
+        end(&mut set.clone(), &mut forest);
+        each_of_a_set(&set, &forest, ENDED);
+    }
+}
+
+#[test]
+fn handles_in_a_cleared_forest() {
+    let mut maps = MapForest::new();
+    let map = filled_map(&mut maps);
+    maps.clear();
+    each_of_a_map(&map, &maps, PAST);
+    let mut sets = SetForest::new();
+    let set = filled_set(&mut sets);
+    sets.clear();
+    each_of_a_set(&set, &sets, PAST);
+}
+
+#[test]
+fn handles_of_a_greater_forest() {
+    let (mut maps, mut few_maps) = (MapForest::new(), MapForest::new());
+    filled_map(&mut maps);
+    filled_map(&mut few_maps);
+    each_of_a_map(&filled_map(&mut maps), &few_maps, PAST);
+    let (mut sets, mut few_sets) = (SetForest::new(), SetForest::new());
+    filled_set(&mut sets);
+    filled_set(&mut few_sets);
+    each_of_a_set(&filled_set(&mut sets), &few_sets, PAST);
+}
+
+/// What asks for no live handle is answered for one that is not.
+#[test]
+fn calls_that_ask_nothing() {
+    let mut forest = MapForest::new();
+    let mut map = filled_map(&mut forest);
+    let copy = map.clone();
+    map.clear(&mut forest);
+    assert!(forest.holds(&map) && !forest.holds(&copy) && !forest.holds(&copy.clone()));
+    assert_eq!((copy.is_empty(), format!("{copy:?} {map:?}")), (false, "Map(Some(0)) Map(None)".into()));
+    let mut forest = SetForest::new();
+    let mut set = filled_set(&mut forest);
+    let copy = set.clone();
+    set.clear(&mut forest);
+    assert!(forest.holds(&set) && !forest.holds(&copy) && !forest.holds(&copy.clone()));
+    assert_eq!((copy.is_empty(), format!("{copy:?} {set:?}")), (false, "Set(Some(0)) Set(None)".into()));
+}
+
+/// A copy whose slot was freed and used again names another map's tree, in which its calls are made.
+#[test]
+fn copies_of_a_slot_that_is_used_again() {
+    let mut forest = MapForest::new();
+    let mut map = filled_map(&mut forest);
+    let copy = map.clone();
+    map.clear(&mut forest);
+    let mut other = Map::new();
+    other.insert(7, 70, &mut forest, &()).unwrap();
+    assert!(forest.holds(&copy) && copy.iter(&forest).eq([(7, 70)]));
+    let mut forest = SetForest::new();
+    let mut set = filled_set(&mut forest);
+    let copy = set.clone();
+    set.clear(&mut forest);
+    let mut other = Set::new();
+    other.insert(7, &mut forest, &()).unwrap();
+    assert!(forest.holds(&copy) && copy.iter(&forest).eq([7]));
+}
+
+/// A copy that names a leaf of a tree which has grown a level can end that leaf. What finds the hole later says what was done before.
+#[test]
+fn trees_that_a_copy_made_a_hole_in() {
+    let mut forest = MapForest::new();
+    let mut map = filled_map(&mut forest);
+    let mut copy = map.clone();
+    for key in 6..=9 {
+        map.insert(key, 10 * key, &mut forest, &()).unwrap();
+    }
+    assert!(forest.holds(&map) && !forest.holds(&copy));
+    copy.clear(&mut forest);
+    let said = met(|| map.get(1, &forest, &())).expect_err("there is no leaf");
+    assert!(said.text.starts_with("an earlier call was made on a handle that was not live"), "{}", said.text);
+    for (name, call) in OF_MAPS {
+        let (mut map, mut forest) = (map.clone(), forest.clone());
+        survived(name, || call(&mut map, &mut forest));
+        assert!(is_map_forest_in_use(&mut forest), "after {name} in a tree with a hole");
+    }
+}
+
+// Orders that do not fit.
+
+/// Numbers without an order, by a shift register.
+struct Random(Cell<u64>);
+
+impl Random {
+    fn below(&self, most: u32) -> u32 {
+        let mut bits = self.0.get();
+        bits ^= bits << 13;
+        bits ^= bits >> 7;
+        bits ^= bits << 17;
+        self.0.set(bits);
+        ((bits >> 32) % u64::from(most)) as u32
+    }
+}
+
+/// No order: each answer is drawn.
+impl Comparator<u32> for Random {
+    fn cmp(&self, _: u32, _: u32) -> Ordering {
+        [Ordering::Less, Ordering::Equal, Ordering::Greater][self.below(3) as usize]
+    }
+}
+
+/// The order of the keys, with a search that answers any place, also one past the keys.
+struct Misplaced(Random);
+
+impl Comparator<u32> for Misplaced {
+    fn cmp(&self, a: u32, b: u32) -> Ordering {
+        a.cmp(&b)
+    }
+
+    fn search(&self, _: u32, _: &[u32]) -> Result<usize, usize> {
+        let place = if self.0.below(16) == 0 { usize::MAX } else { self.0.below(20) as usize };
+        if self.0.below(2) == 0 { Ok(place) } else { Err(place) }
+    }
+}
+
+type Order<'a> = &'a dyn Comparator<u32>;
+
+/// Whether each key is less than the next, told by pairs.
+fn increase(keys: impl Iterator<Item = u32>, order: Order) -> bool {
+    let keys: Vec<u32> = keys.collect();
+    keys.windows(2).all(|it| order.cmp(it[0], it[1]) == Ordering::Less)
+}
+
+/// A map of 1 to 100 under the keys' own order.
+fn hundred(forest: &mut NumbersForest) -> Numbers {
+    let mut map = Map::new();
+    for key in 1..=100 {
+        map.insert(key, key, forest, &()).unwrap();
+    }
+    map
+}
+
+/// A set of 1 to 100 under the keys' own order.
+fn hundred_of_a_set(forest: &mut SetForest<u32>) -> Set<u32> {
+    let mut set = Set::new();
+    for key in 1..=100 {
+        set.insert(key, forest, &()).unwrap();
+    }
+    set
+}
+
+/// A drawn call on a map under an order.
+fn call_map(map: &mut Numbers, forest: &mut NumbersForest, random: &Random, order: Order) {
+    let (key, other) = (random.below(150), random.below(150));
+    match random.below(10) {
+        0..=2 => _ = map.insert(key, other, forest, &order),
+        3..=4 => _ = map.remove(key, forest, &order),
+        5 => _ = (map.get(key, forest, &order), map.get_or_less(other, forest, &order)),
+        6 => _ = map.range(key..other, forest, &order).count(),
+        7 => _ = map.range(..=key, forest, &order).rev().count(),
+        8 => {
+            let mut cursor = map.cursor(forest, &order);
+            _ = (cursor.goto(key), cursor.prev(), cursor.entry(), cursor.next());
+        }
+        _ => {
+            let mut cursor = map.cursor_mut(forest, &order);
+            _ = (cursor.goto(key), cursor.insert(other, key), cursor.prev(), cursor.remove(), cursor.next());
+        }
+    }
+}
+
+/// A drawn call on a set under an order.
+fn call_set(set: &mut Set<u32>, forest: &mut SetForest<u32>, random: &Random, order: Order) {
+    let (key, other) = (random.below(150), random.below(150));
+    match random.below(10) {
+        0..=2 => _ = set.insert(key, forest, &order),
+        3..=4 => _ = set.remove(key, forest, &order),
+        5 => _ = (set.contains(key, forest, &order), set.get_or_less(other, forest, &order)),
+        6 => _ = set.range(key..other, forest, &order).count(),
+        7 => _ = set.range(..=key, forest, &order).rev().count(),
+        8 => {
+            let mut cursor = set.cursor(forest, &order);
+            _ = (cursor.goto(key), cursor.prev(), cursor.elem(), cursor.next());
+        }
+        _ => {
+            let mut cursor = set.cursor(forest, &order);
+            _ = (cursor.goto(key), cursor.insert(other), cursor.prev(), cursor.remove(), cursor.next());
+        }
+    }
+}
+
+/// How many calls are drawn in a run.
+const CALLS: usize = 4000;
+
+/// A map that was filled under one order is read under another.
+#[test]
+fn a_map_read_under_another_order() {
+    let mut forest = MapForest::new();
+    let map = hundred(&mut forest);
+    let reversed = Reverse(());
+    for key in 0..=101 {
+        survived("get", || map.get(key, &forest, &reversed));
+        survived("get_or_less", || map.get_or_less(key, &forest, &reversed));
+        survived("range", || map.range(key.., &forest, &reversed).count());
+        survived("cursor", || map.cursor(&forest, &reversed).goto(key));
+    }
+    assert!(map.increases(&forest, &()) && !map.increases(&forest, &reversed));
+    assert!(map.iter(&forest).eq((1..=100).map(|key| (key, key))));
+}
+
+#[test]
+fn a_set_read_under_another_order() {
+    let mut forest = SetForest::new();
+    let set = hundred_of_a_set(&mut forest);
+    let reversed = Reverse(());
+    for key in 0..=101 {
+        survived("contains", || set.contains(key, &forest, &reversed));
+        survived("get_or_less", || set.get_or_less(key, &forest, &reversed));
+        survived("range", || set.range(key.., &forest, &reversed).count());
+    }
+    survived("cursor", || set.clone().cursor(&mut forest.clone(), &reversed).goto(7));
+    assert!(set.increases(&forest, &()) && !set.increases(&forest, &reversed));
+    assert!(set.iter(&forest).eq(1..=100));
+}
+
+/// Insertions and removals under orders that change from call to call. `increases` tells which order the keys are in, if any.
+#[test]
+fn a_map_under_changing_orders() {
+    let (random, drawn, reversed) = (Random(Cell::new(5)), Random(Cell::new(11)), Reverse(()));
+    let orders: [Order; 3] = [&(), &reversed, &drawn];
+    let mut forest = MapForest::new();
+    let mut map = hundred(&mut forest);
+    for _ in 0..CALLS {
+        let order = orders[random.below(3) as usize];
+        survived("a call of a map", || call_map(&mut map, &mut forest, &random, order));
+        for order in &orders[..2] {
+            let told = survived("increases", || map.increases(&forest, order));
+            let keys = survived("iter", || increase(map.iter(&forest).map(|it| it.0), *order));
+            assert_eq!(told, keys);
+        }
+    }
+    assert!(is_map_forest_in_use(&mut forest));
+}
+
+#[test]
+fn a_set_under_changing_orders() {
+    let (random, drawn, reversed) = (Random(Cell::new(5)), Random(Cell::new(11)), Reverse(()));
+    let orders: [Order; 3] = [&(), &reversed, &drawn];
+    let mut forest = SetForest::new();
+    let mut set = hundred_of_a_set(&mut forest);
+    for _ in 0..CALLS {
+        let order = orders[random.below(3) as usize];
+        survived("a call of a set", || call_set(&mut set, &mut forest, &random, order));
+        for order in &orders[..2] {
+            let told = survived("increases", || set.increases(&forest, order));
+            let keys = survived("iter", || increase(set.iter(&forest), *order));
+            assert_eq!(told, keys);
+        }
+    }
+    assert!(is_set_forest_in_use(&mut forest));
+}
+
+/// A comparator whose search answers places that no node has: each call is made on entries that are in order.
+#[test]
+fn searches_that_answer_any_place() {
+    let (random, misplaced) = (Random(Cell::new(7)), Misplaced(Random(Cell::new(13))));
+    let (mut maps, mut sets) = (MapForest::new(), SetForest::new());
+    let (map, set) = (hundred(&mut maps), hundred_of_a_set(&mut sets));
+    for _ in 0..CALLS {
+        let (mut map, mut maps) = (map.clone(), maps.clone());
+        survived("a call of a map", || call_map(&mut map, &mut maps, &random, &misplaced));
+        assert!(is_map_forest_in_use(&mut maps));
+        let (mut set, mut sets) = (set.clone(), sets.clone());
+        survived("a call of a set", || call_set(&mut set, &mut sets, &random, &misplaced));
+        assert!(is_set_forest_in_use(&mut sets));
+    }
+}
