@@ -8,12 +8,12 @@ use crate::{
 };
 use core::cmp::{Ordering, Reverse};
 use core::error::Error;
-use core::fmt::{Debug, Display, Formatter, Result as Written};
+use core::fmt::{self, Debug, Display, Formatter};
 use core::iter::FusedIterator;
 use core::marker::PhantomData;
 
 impl Display for OutOfMemory {
-    fn fmt(&self, f: &mut Formatter<'_>) -> Written {
+    fn fmt(&self, f: &mut Formatter<'_>) -> fmt::Result {
         f.write_str(match self {
             OutOfMemory::Memory => "the memory for more nodes was refused",
             OutOfMemory::Full => "the forest may have no more nodes",
@@ -151,13 +151,13 @@ impl<K: Copy, C: Comparator<K>> FusedIterator for SetRange<'_, K, C> {}
 
 // A handle shows the number of its root: it knows no forest, and so no entry.
 impl<K: Copy, V: Copy> Debug for Map<K, V> {
-    fn fmt(&self, f: &mut Formatter<'_>) -> Written {
+    fn fmt(&self, f: &mut Formatter<'_>) -> fmt::Result {
         f.debug_tuple("Map").field(&self.root.expand().map(Node::number)).finish()
     }
 }
 
 impl<K: Copy> Debug for Set<K> {
-    fn fmt(&self, f: &mut Formatter<'_>) -> Written {
+    fn fmt(&self, f: &mut Formatter<'_>) -> fmt::Result {
         f.debug_tuple("Set").field(&self.root.expand().map(Node::number)).finish()
     }
 }
@@ -198,7 +198,7 @@ impl<K: Copy> Set<K> {
 struct Entries<'a, K: Copy, V: Copy>(MapIter<'a, K, V>);
 
 impl<K: Copy + Debug, V: Copy + Debug> Debug for Entries<'_, K, V> {
-    fn fmt(&self, f: &mut Formatter<'_>) -> Written {
+    fn fmt(&self, f: &mut Formatter<'_>) -> fmt::Result {
         f.debug_map().entries(self.0.clone()).finish()
     }
 }
@@ -206,25 +206,25 @@ impl<K: Copy + Debug, V: Copy + Debug> Debug for Entries<'_, K, V> {
 struct Keys<'a, K: Copy>(SetIter<'a, K>);
 
 impl<K: Copy + Debug> Debug for Keys<'_, K> {
-    fn fmt(&self, f: &mut Formatter<'_>) -> Written {
+    fn fmt(&self, f: &mut Formatter<'_>) -> fmt::Result {
         f.debug_set().entries(self.0.clone()).finish()
     }
 }
 
 // A forest shows its counts: it knows no handles, and so not which trees are in use.
 impl<K: Copy, V: Copy> Debug for MapForest<K, V> {
-    fn fmt(&self, f: &mut Formatter<'_>) -> Written {
+    fn fmt(&self, f: &mut Formatter<'_>) -> fmt::Result {
         show_forest(f, "MapForest", [self.slots(), self.free_slots(), self.node_limit()])
     }
 }
 
 impl<K: Copy> Debug for SetForest<K> {
-    fn fmt(&self, f: &mut Formatter<'_>) -> Written {
+    fn fmt(&self, f: &mut Formatter<'_>) -> fmt::Result {
         show_forest(f, "SetForest", [self.slots(), self.free_slots(), self.node_limit()])
     }
 }
 
-fn show_forest(f: &mut Formatter<'_>, name: &str, counts: [u32; 3]) -> Written {
+fn show_forest(f: &mut Formatter<'_>, name: &str, counts: [u32; 3]) -> fmt::Result {
     f.debug_struct(name)
         .field("slots", &counts[0])
         .field("free_slots", &counts[1])
@@ -234,49 +234,49 @@ fn show_forest(f: &mut Formatter<'_>, name: &str, counts: [u32; 3]) -> Written {
 
 // A cursor shows where it stands.
 impl<K: Copy + Debug, V: Copy + Debug, C: Comparator<K>> Debug for MapCursor<'_, K, V, C> {
-    fn fmt(&self, f: &mut Formatter<'_>) -> Written {
+    fn fmt(&self, f: &mut Formatter<'_>) -> fmt::Result {
         f.debug_struct("MapCursor").field("entry", &self.entry()).finish()
     }
 }
 
 impl<K: Copy + Debug, V: Copy + Debug, C: Comparator<K>> Debug for MapCursorMut<'_, K, V, C> {
-    fn fmt(&self, f: &mut Formatter<'_>) -> Written {
+    fn fmt(&self, f: &mut Formatter<'_>) -> fmt::Result {
         f.debug_struct("MapCursorMut").field("entry", &self.entry()).finish()
     }
 }
 
 impl<K: Copy + Debug, C: Comparator<K>> Debug for SetCursor<'_, K, C> {
-    fn fmt(&self, f: &mut Formatter<'_>) -> Written {
+    fn fmt(&self, f: &mut Formatter<'_>) -> fmt::Result {
         f.debug_struct("SetCursor").field("elem", &self.elem()).finish()
     }
 }
 
 impl<K: Copy, V: Copy> Debug for MapIter<'_, K, V> {
-    fn fmt(&self, f: &mut Formatter<'_>) -> Written {
+    fn fmt(&self, f: &mut Formatter<'_>) -> fmt::Result {
         f.debug_struct("MapIter").finish_non_exhaustive()
     }
 }
 
 impl<K: Copy, V: Copy> Debug for MapIntoIter<K, V> {
-    fn fmt(&self, f: &mut Formatter<'_>) -> Written {
+    fn fmt(&self, f: &mut Formatter<'_>) -> fmt::Result {
         f.debug_struct("MapIntoIter").finish_non_exhaustive()
     }
 }
 
 impl<K: Copy, V: Copy, C: Comparator<K>> Debug for MapRange<'_, K, V, C> {
-    fn fmt(&self, f: &mut Formatter<'_>) -> Written {
+    fn fmt(&self, f: &mut Formatter<'_>) -> fmt::Result {
         f.debug_struct("MapRange").finish_non_exhaustive()
     }
 }
 
 impl<K: Copy> Debug for SetIter<'_, K> {
-    fn fmt(&self, f: &mut Formatter<'_>) -> Written {
+    fn fmt(&self, f: &mut Formatter<'_>) -> fmt::Result {
         f.debug_struct("SetIter").finish_non_exhaustive()
     }
 }
 
 impl<K: Copy, C: Comparator<K>> Debug for SetRange<'_, K, C> {
-    fn fmt(&self, f: &mut Formatter<'_>) -> Written {
+    fn fmt(&self, f: &mut Formatter<'_>) -> fmt::Result {
         f.debug_struct("SetRange").finish_non_exhaustive()
     }
 }

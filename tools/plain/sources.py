@@ -14,11 +14,8 @@ MODEL = r"^impl[^\n{]*\bModel for [^\n{]*\{"
 LEFT = re.compile(r"[^\x00-\x7f]|\b(?:ghost|requires|ensures|decreases|invariant|tactic|Model|Global|rt;)\b|derive\(Drop")
 # What a public function of the forest asks of its handle, and of its handle's keys.
 LIVE, INCREASING = r"requires (?:live )?\{ IsLive ", r"requires increasing \{"
-IS_LIVE, IS_ORDERED = "The handle must be live in the forest", ", and its keys must strictly increase under the comparator"
-PANICS = (
-    "Debug builds panic at once where the root of the handle is a free slot or past the table. Otherwise a call for which this does not hold "
-    "may panic, not return, or return anything: [what a call asks](crate#what-a-call-asks)."
-)
+IS_LIVE, IS_ORDERED = "The call asks that the handle is live", " and that its keys increase under the comparator"
+PANICS = "Else it may panic; debug builds often do so at once: [what a call asks](crate#what-a-call-asks)."
 GUARD = "forest.trees.expect_live(self.root);"
 
 

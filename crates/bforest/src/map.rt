@@ -167,7 +167,7 @@ impl<K: Copy, V: Copy> Map<K, V> {
     ///
     /// One search, as in [`Map::get`], and then at most two nodes of each level: a leaf that falls below half full is rebalanced with its
     /// right sibling or merged into it, and so on upwards (docs/RULES.md, removal). No memory is taken, and nodes that become empty join
-    /// the forest's free list.
+    /// the forest's free list. An insertion of the same key may need a node again, and be refused.
     pub fn remove<C: Comparator<K>>(
         &mut self,
         key: K,

@@ -111,8 +111,8 @@ impl<'a, K: Copy, V: Copy, C: Comparator<K>> MapCursor<'a, K, V, C> {
         value_of(self.entry())
     }
 
-    /// Moves to the entry whose key compares equal and returns its value. Where there is none, moves to the first entry with a greater
-    /// key, or to the end, and returns `None`. One search, as in [`Map::get`].
+    /// Moves to the entry whose key compares equal to `elem` and returns its value. Where there is none, moves to the first entry with a
+    /// greater key, or to the end, and returns `None`. One search, as in [`Map::get`].
     pub fn goto(&mut self, elem: K) -> Option<V>
         requires ready { IsReadable K.row V.row }
         ensures value { result ≡ value_for (C.order self.old.comparator) self.old.entries elem }

@@ -150,8 +150,8 @@ impl<'a, K: Copy, V: Copy, C: Comparator<K>> MapCursorMut<'a, K, V, C> {
         self.forest.value_at(leaf, index)
     }
 
-    /// Moves to the entry whose key compares equal and returns its value. Where there is none, moves to the first entry with a greater
-    /// key, or to the end, and returns `None`. One search, as in [`Map::get`].
+    /// Moves to the entry whose key compares equal to `elem` and returns its value. Where there is none, moves to the first entry with a
+    /// greater key, or to the end, and returns `None`. One search, as in [`Map::get`].
     pub fn goto(&mut self, elem: K) -> Option<V>
         requires valid { IsCursor C.order self.old }
         requires ready { IsReadable K.row V.row }
@@ -224,6 +224,8 @@ impl<'a, K: Copy, V: Copy, C: Comparator<K>> MapCursorMut<'a, K, V, C> {
 
     /// Removes the entry where the cursor stands and returns its value. The cursor stands at the entry that followed then, or at the end.
     /// At the end it returns `None` and changes nothing. No comparison; nodes are rebalanced, merged and freed as in [`Map::remove`].
+    ///
+    /// After a [`MapCursorMut::goto`] that found no entry the cursor stands at the next greater one, which this call removes.
     pub fn remove(&mut self) -> Option<V>
         requires valid { IsCursor C.order self.old }
         requires ready { IsReadable K.row V.row }

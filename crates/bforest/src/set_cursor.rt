@@ -98,8 +98,8 @@ impl<'a, K: Copy, C: Comparator<K>> SetCursor<'a, K, C> {
         key_of(forest.trees.entry(set.root, &self.path))
     }
 
-    /// Moves to the key that compares equal and returns `true`. Where there is none, moves to the first greater key, or to the end, and
-    /// returns `false`. One search, as in [`Set::contains`].
+    /// Moves to the key that compares equal to `elem` and returns `true`. Where there is none, moves to the first greater key, or to the
+    /// end, and returns `false`. One search, as in [`Set::contains`].
     pub fn goto(&mut self, elem: K) -> bool
         requires valid { IsCursor C.order self.old }
         requires ready { IsSetReadable K.row }
@@ -177,6 +177,8 @@ impl<'a, K: Copy, C: Comparator<K>> SetCursor<'a, K, C> {
 
     /// Removes the key where the cursor stands and returns it. The cursor stands at the key that followed then, or at the end. At the end
     /// it returns `None` and changes nothing. No comparison; nodes are rebalanced, merged and freed as in [`Set::remove`].
+    ///
+    /// After a [`SetCursor::goto`] that found no key the cursor stands at the next greater one, which this call removes.
     pub fn remove(&mut self) -> Option<K>
         requires valid { IsCursor C.order self.old }
         requires ready { IsSetReadable K.row }

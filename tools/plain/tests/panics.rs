@@ -1,0 +1,74 @@
+//! What a panic of the caller's own code leaves, where it is caught.
+
+use bforest::{Comparator, Map, MapForest};
+use std::cell::Cell;
+use std::cmp::Ordering;
+use std::panic::{AssertUnwindSafe, catch_unwind, set_hook};
+
+/// The order of the keys, which panics once it was asked as often as it says.
+struct Failing(Cell<u32>);
+
+impl Comparator<u32> for Failing {
+    fn cmp(&self, a: u32, b: u32) -> Ordering {
+        let left = self.0.get().checked_sub(1).expect("no comparison is left");
+        self.0.set(left);
+        a.cmp(&b)
+    }
+}
+
+/// A map of the even keys below 200.
+fn filled() -> (Map<u32, u32>, MapForest<u32, u32>) {
+    let (mut map, mut forest) = (Map::new(), MapForest::new());
+    for key in (0..200).step_by(2) {
+        map.insert(key, key, &mut forest, &()).unwrap();
+    }
+    (map, forest)
+}
+
+#[test]
+fn a_comparator_that_panics_changes_nothing() {
+    set_hook(Box::new(|_| {}));
+    let mut caught = 0;
+    for (asked, key) in (0..12).flat_map(|asked| (0..200).map(move |key| (asked, key))) {
+        let (mut map, mut forest) = filled();
+        let counts = (forest.slots(), forest.free_slots());
+        let order = Failing(Cell::new(asked));
+        let made = catch_unwind(AssertUnwindSafe(|| match key % 4 {
+            0 => drop(map.insert(key + 1, 0, &mut forest, &order)),
+            1 => drop(map.remove(key - 1, &mut forest, &order)),
+            2 => drop(map.cursor_mut(&mut forest, &order).insert(key + 1, 0)),
+            _ => drop(map.range(key.., &forest, &order)),
+        }));
+        if made.is_err() {
+            caught += 1;
+            assert!(forest.holds(&map) && map.increases(&forest, &()));
+            assert!(map.iter(&forest).eq((0..200).step_by(2).map(|it| (it, it))));
+            assert_eq!((forest.slots(), forest.free_slots()), counts);
+        }
+    }
+    assert!(caught > 1000, "{caught} panics");
+}
+
+#[test]
+fn a_predicate_that_panics_leaves_a_forest_that_can_be_cleared() {
+    set_hook(Box::new(|_| {}));
+    for asked in 0..100 {
+        let (mut map, mut forest) = filled();
+        let mut count = 0;
+        let made = catch_unwind(AssertUnwindSafe(|| {
+            map.retain(&mut forest, |_, _| {
+                count += 1;
+                assert!(count <= asked, "no call is left");
+                false
+            });
+        }));
+        assert!(made.is_err());
+        if forest.holds(&map) {
+            assert!(map.iter(&forest).count() <= 100);
+        }
+        forest.clear();
+        map = Map::new();
+        map.insert(1, 1, &mut forest, &()).unwrap();
+        assert!(map.iter(&forest).eq([(1, 1)]));
+    }
+}
