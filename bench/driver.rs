@@ -1,17 +1,19 @@
 //! Prints the costs of calls of `bforest` beside those of `std`'s `BTreeMap`, and of the Rust original where it is present.
 //!
-//! `driver` prints the table, `driver --count` its instructions and memory alone, `driver --compare` reads runs that were made elsewhere and
-//! compares their checksums, and `driver --growth MOST [FILE]` prints how the cost of a call grows with a map's size, and draws it into a file.
+//! `driver` prints the table, `driver --count` its instructions and memory alone, and `driver --others` the rows of small maps and sets, beside
+//! what a user would pick instead of a forest. `driver --compare` reads runs that were made elsewhere and compares their checksums, and
+//! `driver --growth MOST [FILE]` prints how the cost of a call grows with a map's size, and draws it into a file.
 //! `driver --one SIDE KIND NUMBERS` makes one run in a process of its own, whose instructions and memory can be counted.
 //!
 //! Each run builds its maps from nothing. The cost of a phase is the difference of two runs, of which one has the phase, or more rounds of it.
 
+mod others;
 mod picture;
 mod runs;
 mod sets;
 
 use picture::{picture, Growth};
-use runs::{run, Kind, Side, Work, KINDS, SIDES};
+use runs::{run, Kind, Side, Work, KINDS, OTHERS, SIDES};
 use std::process::{exit, Command};
 use std::time::Duration;
 
@@ -27,7 +29,7 @@ struct Row {
 }
 
 // A run that only fills maps of a kind.
-fn fill(kind: Kind, size: u32) -> Work {
+const fn fill(kind: Kind, size: u32) -> Work {
     Work { kind, size, looks: 0, walks: 0, turns: 0 }
 }
 
@@ -170,6 +172,46 @@ fn rows(part: u32, is_counted: bool) -> Vec<Row> {
     rows
 }
 
+// The rows of small maps and sets.
+fn rows_of_small(part: u32, is_counted: bool) -> Vec<Row> {
+    let mut rows = rows_of_mixture(Kind::Mixture, 100_000 / part, is_counted);
+    rows.extend(rows_of_edges(100_000 / part));
+    rows.extend(rows_of_edges_cursor(100_000 / part));
+    rows.extend(rows_of_mixture(Kind::SetMixture, 100_000 / part, is_counted));
+    rows
+}
+
+/// What is printed of some sides: the rows of calls, at a part of their full size, and the runs whose memory is told, each with the name of one
+/// of its parts and the digits that are shown.
+struct Tables {
+    sides: &'static [Side],
+    rows: fn(u32, bool) -> Vec<Row>,
+    held: &'static [(&'static str, Work, usize)],
+}
+
+const ALL: Tables = Tables {
+    sides: SIDES,
+    rows,
+    held: &[
+        ("a small map", fill(Kind::Mixture, 100_000), 0),
+        ("an entry, random keys", fill(Kind::Random, 1_000_000), 1),
+        ("an entry, ascending keys", fill(Kind::Ascending, 1_000_000), 1),
+        ("a small set", fill(Kind::SetMixture, 100_000), 0),
+        ("a key, random set", fill(Kind::RandomSet, 1_000_000), 1),
+        ("a key, ascending set", fill(Kind::AscendingSet, 1_000_000), 1),
+    ],
+};
+
+const BESIDE_OTHERS: Tables = Tables {
+    sides: OTHERS,
+    rows: rows_of_small,
+    held: &[
+        ("a small map", fill(Kind::Mixture, 100_000), 0),
+        ("a block's predecessors", fill(Kind::Edges, 100_000), 0),
+        ("a small set", fill(Kind::SetMixture, 100_000), 0),
+    ],
+};
+
 /// The costs of runs, by side. A run that several rows need is made once.
 struct Costs {
     known: Vec<(Side, Work, f64)>,
@@ -211,12 +253,12 @@ fn works(rows: &[Row]) -> Vec<Work> {
 
 // The least of several times of `repeats` runs in a row, in nanoseconds. All runs are made before any is repeated: a slow phase of the
 // machine lengthens one time of many runs, and not each time of one. Ends the program where two checksums differ.
-fn times(program: &str, rows: &[Row], tries: u32, repeats: u32) -> Costs {
+fn times(program: &str, sides: &[Side], rows: &[Row], tries: u32, repeats: u32) -> Costs {
     let mut costs = Costs { known: Vec::new() };
     for _ in 0..tries {
         for work in works(rows) {
             let mut sums = Vec::new();
-            for side in SIDES {
+            for side in sides {
                 let Some((sum, time)) = timed(program, *side, work, repeats) else {
                     println!("{work:?}: the run of {} failed", side.name());
                     println!("0 passed, 1 failed");
@@ -244,13 +286,12 @@ fn timed(program: &str, side: Side, work: Work, repeats: u32) -> Option<(u64, f6
 
 // Makes a run several times in a row in this process, and prints its checksum and its average time.
 fn time_one(words: &[String]) {
-    let side = SIDES.iter().find(|side| words.first().is_some_and(|word| word == side.name()));
     let repeats = words.last().and_then(|word| word.parse::<u32>().ok());
-    if let (Some(side), Some(work), Some(repeats)) = (side, words.get(1..).and_then(work_of), repeats) {
+    if let (Some((side, work)), Some(repeats)) = (run_of(words), repeats) {
         let mut whole = Duration::ZERO;
         let mut sum = 0;
         for _ in 0..repeats {
-            let (found, time) = run(*side, work, false);
+            let (found, time) = run(side, work, false);
             whole += time;
             sum = found;
         }
@@ -267,7 +308,14 @@ fn check(work: Work, sums: &[u64]) {
     }
 }
 
-// The run of these words, as `one` writes them.
+// The side and the run of these words, as `one` writes them.
+fn run_of(words: &[String]) -> Option<(Side, Work)> {
+    let name = words.first()?;
+    let side = SIDES.iter().chain(OTHERS).find(|side| name == side.name())?;
+    Some((*side, work_of(&words[1..])?))
+}
+
+// The run of these words, which `one` writes behind its side.
 fn work_of(words: &[String]) -> Option<Work> {
     let kind = KINDS.into_iter().find(|kind| words.first().is_some_and(|word| *word == format!("{kind:?}")))?;
     let number = |at: usize| words.get(at)?.parse::<u32>().ok();
@@ -322,10 +370,10 @@ fn one(side: Side, work: Work) -> Vec<String> {
 }
 
 // The instructions of each run. They do not depend on the machine's load: as many runs are counted at once as it has processors.
-fn instructions(program: &str, counter: Counter, rows: &[Row]) -> Costs {
+fn instructions(program: &str, sides: &[Side], counter: Counter, rows: &[Row]) -> Costs {
     let mut jobs = Vec::new();
     for work in works(rows) {
-        jobs.extend(SIDES.iter().map(|side| (*side, work)));
+        jobs.extend(sides.iter().map(|side| (*side, work)));
     }
     let workers = std::thread::available_parallelism().map_or(1, |count| count.get());
     let share = jobs.len().div_ceil(workers).max(1);
@@ -360,9 +408,8 @@ fn memory(program: &str, side: Side, work: Work) -> Option<f64> {
 
 // Makes a run in this process, and prints its checksum and the most memory that the process held.
 fn make_one(words: &[String]) {
-    let side = SIDES.iter().find(|side| words.first().is_some_and(|word| word == side.name()));
-    if let (Some(side), Some(work)) = (side, words.get(1..).and_then(work_of)) {
-        println!("sum {}", run(*side, work, true).0);
+    if let Some((side, work)) = run_of(words) {
+        println!("sum {}", run(side, work, true).0);
         let status = std::fs::read_to_string("/proc/self/status").unwrap_or_default();
         let most = status.lines().find_map(|line| line.strip_prefix("VmHWM:"));
         if let Some(kilobytes) = most.and_then(|text| text.trim().trim_end_matches(" kB").parse::<f64>().ok()) {
@@ -377,12 +424,12 @@ fn shown(number: Option<f64>, digits: usize, width: usize) -> String {
 }
 
 // The heads of the columns: each side, and the ratios to the other sides.
-fn heads() -> String {
+fn heads(sides: &[Side]) -> String {
     let mut line = String::new();
-    for side in SIDES {
+    for side in sides {
         line += &format!(" {:>9}", side.name());
     }
-    for side in &SIDES[1..] {
+    for side in &sides[1..] {
         line += &format!(" {:>9}", format!("/{}", side.name()));
     }
     line
@@ -401,14 +448,14 @@ fn columns(costs: &[Option<f64>], digits: usize) -> String {
     line
 }
 
-fn of_sides(cost: impl Fn(Side) -> Option<f64>) -> Vec<Option<f64>> {
-    SIDES.iter().map(|side| cost(*side)).collect()
+fn of_sides(sides: &[Side], cost: impl Fn(Side) -> Option<f64>) -> Vec<Option<f64>> {
+    sides.iter().map(|side| cost(*side)).collect()
 }
 
 // The geometric means of the ratios of the first side's costs to each other side's.
-fn means(table: &[Vec<Option<f64>>]) -> String {
-    let mut line = " ".repeat(10 * SIDES.len());
-    for at in 1..SIDES.len() {
+fn means(sides: &[Side], table: &[Vec<Option<f64>>]) -> String {
+    let mut line = " ".repeat(10 * sides.len());
+    for at in 1..sides.len() {
         let logs: Vec<f64> = table.iter().filter_map(|costs| Some((costs[0]? / costs[at]?).ln())).collect();
         let mean = (!logs.is_empty()).then(|| (logs.iter().sum::<f64>() / logs.len() as f64).exp());
         line += &format!(" {}", shown(mean, 2, 9));
@@ -416,57 +463,49 @@ fn means(table: &[Vec<Option<f64>>]) -> String {
     line
 }
 
-fn print_costs(rows: &[Row], costs: &Costs, digits: usize) {
-    println!("{:37} {:>9}{}", "", "size", heads());
-    let table: Vec<_> = rows.iter().map(|row| of_sides(|side| costs.of_row(side, row))).collect();
+fn print_costs(sides: &[Side], rows: &[Row], costs: &Costs, digits: usize) {
+    println!("{:37} {:>9}{}", "", "size", heads(sides));
+    let table: Vec<_> = rows.iter().map(|row| of_sides(sides, |side| costs.of_row(side, row))).collect();
     for (row, costs) in rows.iter().zip(&table) {
         println!("{:37} {:>9}{}", row.name, row.size, columns(costs, digits));
     }
-    println!("{:37} {:>9}{}", "geometric mean", "", means(&table));
+    println!("{:37} {:>9}{}", "geometric mean", "", means(sides, &table));
 }
 
-fn print_memory(program: &str) {
-    let rows = [
-        ("a small map", fill(Kind::Mixture, 100_000), 0),
-        ("an entry, random keys", fill(Kind::Random, 1_000_000), 1),
-        ("an entry, ascending keys", fill(Kind::Ascending, 1_000_000), 1),
-        ("a small set", fill(Kind::SetMixture, 100_000), 0),
-        ("a key, random set", fill(Kind::RandomSet, 1_000_000), 1),
-        ("a key, ascending set", fill(Kind::AscendingSet, 1_000_000), 1),
-    ];
-    println!("{:37} {:>9}{}", "", "size", heads());
-    for (name, work, digits) in rows {
-        let costs = of_sides(|side| Some(memory(program, side, work)? / work.size as f64));
-        println!("{name:37} {:>9}{}", work.size, columns(&costs, digits));
+fn print_memory(program: &str, tables: &Tables) {
+    println!("{:37} {:>9}{}", "", "size", heads(tables.sides));
+    for (name, work, digits) in tables.held {
+        let costs = of_sides(tables.sides, |side| Some(memory(program, side, *work)? / work.size as f64));
+        println!("{name:37} {:>9}{}", work.size, columns(&costs, *digits));
     }
 }
 
 // The instructions of all phases, and the memory.
-fn print_counts(program: &str) {
+fn print_counts(program: &str, tables: &Tables) {
     match counter(program) {
         Some(counter) => {
             println!("Instructions of a call, counted by {}, at a twentieth of the size:", counter.name());
-            let counted = rows(20, true);
-            print_costs(&counted, &instructions(program, counter, &counted), 1);
+            let counted = (tables.rows)(20, true);
+            print_costs(tables.sides, &counted, &instructions(program, tables.sides, counter, &counted), 1);
         }
         None => println!("Instructions: neither perf nor callgrind counts here."),
     }
     println!("\nMost memory held, in bytes, with the handles:");
-    print_memory(program);
+    print_memory(program, tables);
 }
 
-fn print_all(program: &str) {
+fn print_all(program: &str, tables: &Tables) {
     println!("Wall time of a call in nanoseconds, best of 5:");
-    let timed = rows(1, false);
-    print_costs(&timed, &times(program, &timed, 5, 1), 1);
+    let timed = (tables.rows)(1, false);
+    print_costs(tables.sides, &timed, &times(program, tables.sides, &timed, 5, 1), 1);
     println!();
-    print_counts(program);
+    print_counts(program, tables);
 }
 
 // Prints how the cost of a call grows with the size of a map, and draws it into a file, if one is named.
 fn print_growth(program: &str, most: u32, file: Option<&String>) {
     println!("Wall time of a call in nanoseconds, best of 3, of one above 1000000:");
-    println!("{:37} {:>9}{}", "", "size", heads());
+    println!("{:37} {:>9}{}", "", "size", heads(SIDES));
     let mut phases: Vec<Growth> = vec![];
     let mut size = 10;
     while size <= most {
@@ -474,9 +513,9 @@ fn print_growth(program: &str, most: u32, file: Option<&String>) {
         let tries = if size > 1_000_000 { 1 } else { 3 };
         for kind in [Kind::Random, Kind::Ascending] {
             let rows = rows_of_large(kind, size, 3.min(repeats));
-            let costs = times(program, &rows, tries, repeats);
+            let costs = times(program, SIDES, &rows, tries, repeats);
             for row in &rows {
-                let of_row = of_sides(|side| costs.of_row(side, row));
+                let of_row = of_sides(SIDES, |side| costs.of_row(side, row));
                 println!("{:37} {:>9}{}", row.name, row.size, columns(&of_row, 1));
                 match phases.iter_mut().find(|phase| phase.name == row.name) {
                     Some(phase) => phase.costs.push((size, of_row)),
@@ -518,8 +557,9 @@ fn main() {
     let words: Vec<String> = std::env::args().collect();
     let program = words[0].as_str();
     match words.get(1).map(String::as_str) {
-        None => print_all(program),
-        Some("--count") => print_counts(program),
+        None => print_all(program, &ALL),
+        Some("--count") => print_counts(program, &ALL),
+        Some("--others") => print_all(program, &BESIDE_OTHERS),
         Some("--compare") => compare(),
         Some("--growth") => {
             let most = words.get(2).and_then(|word| word.parse().ok()).unwrap_or(1_000_000);
@@ -528,7 +568,7 @@ fn main() {
         Some("--one") => make_one(&words[2..]),
         Some("--timed") => time_one(&words[2..]),
         Some(_) => {
-            eprintln!("usage: driver [--count | --compare | --growth MOST [FILE]]");
+            eprintln!("usage: driver [--count | --others | --compare | --growth MOST [FILE]]");
             exit(2);
         }
     }

@@ -1,5 +1,7 @@
-//! Runs of equal work on maps and sets of `bforest` (if its static library is present), of `std`, and of the Rust original (if present).
+//! Runs of equal work on maps and sets of `bforest` (if its static library is present), of `std`, of the Rust original (if present), and of
+//! `others`.
 
+use crate::others::{OneMap, Vecs};
 use crate::sets;
 use std::collections::BTreeMap;
 use std::hint::black_box;
@@ -88,15 +90,26 @@ pub enum Side {
     Std,
     #[cfg(original)]
     Original,
+    Vecs,
+    OneMap,
 }
 
-/// All sides.
+/// The sides of the tables.
 pub const SIDES: &[Side] = &[
     #[cfg(library)]
     Side::Bforest,
     Side::Std,
     #[cfg(original)]
     Side::Original,
+];
+
+/// The sides of the tables of `driver --others`.
+pub const OTHERS: &[Side] = &[
+    #[cfg(library)]
+    Side::Bforest,
+    Side::Std,
+    Side::Vecs,
+    Side::OneMap,
 ];
 
 impl Side {
@@ -108,6 +121,8 @@ impl Side {
             Side::Std => "BTreeMap",
             #[cfg(original)]
             Side::Original => "original",
+            Side::Vecs => "Vec",
+            Side::OneMap => "one-map",
         }
     }
 }
@@ -151,7 +166,7 @@ pub fn added(sum: u64, x: u32) -> u64 {
 }
 
 /// Many maps, named by their numbers.
-trait Maps {
+pub trait Maps {
     fn new(count: u32) -> Self;
     fn insert(&mut self, map: u32, key: u32, value: u32) -> Option<u32>;
     fn get(&self, map: u32, key: u32) -> Option<u32>;
@@ -467,5 +482,7 @@ pub fn run(side: Side, work: Work, is_kept: bool) -> (u64, Duration) {
         Side::Std => run_on::<StdMaps, sets::StdSets, sets::StdRanges>(black_box(work), is_kept),
         #[cfg(original)]
         Side::Original => run_on::<OriginalMaps, sets::OriginalSets, sets::OriginalRanges>(black_box(work), is_kept),
+        Side::Vecs => run_on::<Vecs<u32>, Vecs<()>, Vecs<u32>>(black_box(work), is_kept),
+        Side::OneMap => run_on::<OneMap<u32>, OneMap<()>, OneMap<u32>>(black_box(work), is_kept),
     }
 }

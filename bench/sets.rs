@@ -4,7 +4,7 @@ use crate::runs::{added, mixed, Kind, Random, Work};
 use std::collections::{BTreeMap, BTreeSet};
 
 /// The number of keys that an edit of a set inserts, and that it removes.
-const EDITED: u32 = 5;
+pub const EDITED: u32 = 5;
 
 /// The number of ranges that one cursor inserts, and the number of points from the beginning of one to that of the next.
 const BATCH: u32 = 8;
