@@ -1,5 +1,5 @@
 -- The next step of a script, and the next call of a run.
-use Rattle.bforest_calls.specs.Machine.{Orders, Run, State, Step}
+use Rattle.bforest_calls.specs.Machine.{AsksRoom, MayStopAt, Orders, Run, State, Step}
 use Rattle.bforest_calls.specs.State.{Acts, Held, Script}
 use Rattle.bforest_calls.specs.declared.call.Act.{Act}
 use Rattle.bforest_calls.specs.declared.call.Answer.{Answer}
@@ -7,6 +7,7 @@ use Rattle.bforest_calls.specs.declared.call.Call.{Call}
 use Rattle.bforest_calls.specs.declared.call.Seen.{Seen}
 use Rattle.std.proofs.Common.{Bool, Err, List, Ok, Result, [], ap, get_or, length, refl, subst, sym, take, ◌+◌, ◌++◌, ◌<◌, ◌∙◌, ◌≡◌, ◌≤◌, ◌∷◌, ℕ}
 use Rattle.std.proofs.lemmas.List.{take_all, take_more}
+use Rattle.std.proofs.lemmas.Option.{slice_get_read}
 use Rattle.std.specs.Result.{OnErr}
 use Rattle.std.specs.declared.cmp.Ordering.{Ordering}
 
@@ -67,6 +68,10 @@ module _ {K V : Type 0} (most : ℕ) (reads : Bool) where
   pub run_whole : (orders : Orders K) (old : State K V) (calls : List (Call K V)) (i : ℕ) (answers : List (Answer K V)) (new : State K V)
       → Run most reads orders old (take i calls) answers new → length calls ≤ i → Run most reads orders old calls answers new
   run_whole orders old calls i answers new h end = subst (λ (cs : List (Call K V)). Run most reads orders old cs answers new) (take_all i calls end) h
+
+-- a list may stop at a call of it that requests memory
+pub may-stop : {K V : Type 0} (calls : List (Call K V)) (i : ℕ) (call : Call K V) → i < length calls → call ≡ get_or calls i call → AsksRoom call → MayStopAt calls i
+may-stop calls i call within is asks positive = (call, slice_get_read calls (length calls) i call refl within is, asks)
 
 pub on_err_from : {T E P : Type 0} (r : Result T E) → P → OnErr r P
 on_err_from (Ok x) p = tt

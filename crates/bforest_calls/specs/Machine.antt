@@ -13,7 +13,7 @@ use Rattle.bforest_core.specs.declared.pool.OutOfMemory.{OutOfMemory}
 use Rattle.bforest_nodes.specs.Entries.{IsIncreasing, value_for}
 use Rattle.std.proofs.Math.Logic.{◌⊎◌}
 use Rattle.std.specs.Global.{Global}
-use Rattle.std.specs.Prelude.{Bool, List, None, Option, Result, Vec, [], false, get_or, length, slice_set, true, ◌<◌, ◌≡◌, ◌∷◌, ℕ}
+use Rattle.std.specs.Prelude.{Bool, List, None, Option, Result, Some, Vec, [], false, get_or, length, slice_get, slice_set, true, ◌<◌, ◌≡◌, ◌∷◌, ℕ}
 use Rattle.std.specs.declared.cmp.Ordering.TheVariants.{Equal}
 use Rattle.std.specs.declared.cmp.Ordering.{Ordering}
 
@@ -84,6 +84,18 @@ module _ {K V : Type 0} where
   abbrev pub On : ℕ → State K V → State K V → (Held K V → Held K V → Type 0) → Type 0
   On h old new R =
       (number : Option ℕ) × (new.handles ≡ slice_set old.handles h number) × R (held_at old h) (record { forest = new.forest; number = number })
+
+  -- a call that is answered by a list, for which memory is requested
+  abbrev pub AsksRoom : Call K V → Type 0
+  AsksRoom (call.Iter h) = Unit {0}
+  AsksRoom (call.Read h c steps) = Unit {0}
+  AsksRoom (call.Edit h c steps) = Unit {0}
+  AsksRoom (call.Range h c lo hi ends) = Unit {0}
+  AsksRoom other = ⊥
+
+  -- a list of calls may end for want of memory after the first n: before any call, or at a call that requests some
+  abbrev pub MayStopAt : List (Call K V) → ℕ → Type 0
+  MayStopAt calls n = 0 < n → (call : Call K V) × (slice_get calls n ≡ Some call) × AsksRoom call
 
   -- an answer that lists the answers of steps
   abbrev pub Shows : List (Seen K V) → Answer K V → Type 0

@@ -1,5 +1,5 @@
 //! One call on a forest of maps.
-ghost use Rattle.bforest_calls.specs.Machine.{Step};
+ghost use Rattle.bforest_calls.specs.Machine.{AsksRoom, Step};
 ghost use Rattle.std.specs.Prelude.{IfOk, OnErr, map, true, ◌≡◌};
 
 mod change;
@@ -22,6 +22,7 @@ pub(crate) fn make<K: Copy, V: Copy, C: Comparator<K>>(
     ensures step { IfOk result (λ given. Step 7 true (map C.order comps.now)
         (record { forest = forest.old; handles = handles.old }) call.now given
         (record { forest = forest.new; handles = handles.new })) }
+    ensures room { OnErr result (AsksRoom call.now) }
     ensures err_forest { OnErr result (forest.new ≡ forest.old) }
     ensures err_handles { OnErr result (handles.new ≡ handles.old) }
 {

@@ -1,5 +1,5 @@
 //! Whole lists of calls.
-ghost use Rattle.bforest_calls.specs.Machine.{Run};
+ghost use Rattle.bforest_calls.specs.Machine.{MayStopAt, Run};
 ghost use Rattle.std.specs.Prelude.{IfOk, OnErr, false, map, take, true, ◌≡◌, ℕ};
 
 use crate::call::{Answer, Call};
@@ -13,7 +13,8 @@ use std::alloc::{AllocError, Global};
 ///
 /// # Errors
 ///
-/// `AllocError` where memory for the answers was refused: then the first calls, up to some number, were made, each whole.
+/// `AllocError` where memory for the answers was refused: then the first calls, up to some number, were made, each whole. It ends before the
+/// first call, or at a call that is answered by a list.
 pub fn run_map<K: Copy, V: Copy, C: Comparator<K>>(
     alloc: Global,
     calls: &[Call<K, V>],
@@ -28,7 +29,7 @@ pub fn run_map<K: Copy, V: Copy, C: Comparator<K>>(
     // Where memory was refused, the first n calls were made, each whole.
     ensures err { OnErr result ((n : ℕ) × (answers : _) × Run 7 true (map C.order comps.now)
         (record { forest = forest.old; handles = handles.old }) (take n calls.now) answers
-        (record { forest = forest.new; handles = handles.new })) }
+        (record { forest = forest.new; handles = handles.new }) × MayStopAt calls.now n) }
 {
     let mut answers = Vec::with_capacity(alloc, calls.len())?;
     for call in calls {
@@ -45,7 +46,8 @@ pub fn run_map<K: Copy, V: Copy, C: Comparator<K>>(
 ///
 /// # Errors
 ///
-/// `AllocError` where memory for the answers was refused: then the first calls, up to some number, were made, each whole.
+/// `AllocError` where memory for the answers was refused: then the first calls, up to some number, were made, each whole. It ends before the
+/// first call, or at a call that is answered by a list.
 pub fn run_set<K: Copy, C: Comparator<K>>(
     alloc: Global,
     calls: &[Call<K, ()>],
@@ -60,7 +62,7 @@ pub fn run_set<K: Copy, C: Comparator<K>>(
     // Where memory was refused, the first n calls were made, each whole.
     ensures err { OnErr result ((n : ℕ) × (answers : _) × Run 15 false (map C.order comps.now)
         (record { forest = forest.old; handles = handles.old }) (take n calls.now) answers
-        (record { forest = forest.new; handles = handles.new })) }
+        (record { forest = forest.new; handles = handles.new }) × MayStopAt calls.now n) }
 {
     let mut answers = Vec::with_capacity(alloc, calls.len())?;
     for call in calls {

@@ -304,14 +304,9 @@ module _ {K V : Type 0} where
 
     pub runs-determined : (calls : List (Call K V)) (old : State K V) (answers : List (Answer K V)) (new old' : State K V) (answers' : List (Answer K V)) (new' : State K V)
         → Run most reads orders old calls answers new → Run most reads orders old' calls answers' new' → AreDetermined most reads orders calls old answers new old' answers' new'
-    runs-determined calls old answers new old' answers' new' r r' =
-        let one = through old calls answers new r in
-        let other = through old' calls answers' new' r' in
-        record {
-          states = one.0;
-          states' = other.0;
-          run = one.1;
-          run' = other.1;
-          same = λ a had had' step. runs-alike old old' calls answers answers' one.0 other.0 new new' a one.1 other.1
-              (recursion_from_All HadMemory answers had) (recursion_from_All HadMemory answers' had') step;
-        }
+    runs-determined calls old answers new old' answers' new' r r' = record {
+      run = through old calls answers new r;
+      run' = through old' calls answers' new' r';
+      same = λ states states' one other a had had' step. runs-alike old old' calls answers answers' states states' new new' a one other
+          (recursion_from_All HadMemory answers had) (recursion_from_All HadMemory answers' had') step;
+    }

@@ -42,12 +42,10 @@ module _ {K V : Type 0} where
     RunsThrough old (call ∷ calls) (given ∷ answers) (state ∷ states) new = Step most reads orders old call given state × RunsThrough state calls answers states new
     RunsThrough old calls answers states new = ⊥
 
-    -- Two runs of the same calls, each through some states. Where they begin alike, had memory and went in
-    -- step, they answer the same
-    -- and end alike.
+    -- Two runs of the same calls; `run` and `run'` are states that they go through. Through whatever states they
+    -- go, where they begin alike, had memory and go in step, they answer the same and end alike.
     pub record AreDetermined (calls : List (Call K V)) (old : State K V) (answers : List (Answer K V)) (new old' : State K V) (answers' : List (Answer K V)) (new' : State K V) : Type 0 where
-      pub states : List (State K V)
-      pub states' : List (State K V)
-      pub run : RunsThrough old calls answers states new
-      pub run' : RunsThrough old' calls answers' states' new'
-      pub same : AreAlike old old' → All HadMemory answers → All HadMemory answers' → GoInStep states states' → AllZip IsSameAnswer answers answers' × AreAlike new new'
+      pub run : (states : List (State K V)) × RunsThrough old calls answers states new
+      pub run' : (states : List (State K V)) × RunsThrough old' calls answers' states new'
+      pub same : (states states' : List (State K V)) → RunsThrough old calls answers states new → RunsThrough old' calls answers' states' new'
+          → AreAlike old old' → All HadMemory answers → All HadMemory answers' → GoInStep states states' → AllZip IsSameAnswer answers answers' × AreAlike new new'

@@ -1,11 +1,11 @@
-use Rattle.bforest_calls.proofs.Runs.{on_err_from, run_next, run_same, run_whole}
+use Rattle.bforest_calls.proofs.Runs.{may-stop, on_err_from, run_next, run_same, run_whole}
 use Rattle.bforest_calls.proofs.Sights.{pushed, room-stays}
 use Rattle.bforest_calls.proofs.run.run_map.Goals as goal
-use Rattle.std.proofs.Common.{[], ap, length, map, refl, true, ◌+◌, ◌∙◌}
+use Rattle.std.proofs.Common.{[], ap, arith, length, map, refl, true, ◌+◌, ◌∙◌}
 use Rattle.std.specs.Prelude.{is_ok}
 
 pub returns-in_err-answers-clause-err : goal.returns-in_err-answers-clause-err
-returns-in_err-answers-clause-err g c = on_err_from c.from_residual.result (0, [], refl)
+returns-in_err-answers-clause-err g c = on_err_from c.from_residual.result (0, [], refl, λ positive. absurd (omega (arith, positive)))
 
 pub returns-in_err-given-clause-err : goal.returns-in_err-given-clause-err
 returns-in_err-given-clause-err g c = on_err_from c.from_residual-in_err-given.result (
@@ -14,6 +14,7 @@ returns-in_err-given-clause-err g c = on_err_from c.from_residual-in_err-given.r
   run_same 7 true (map g.C.Comparator.order c.args.comps.now) (record { forest = c.args.forest.now; handles = c.args.handles.now }) _ c.loop-call.answers.items
       (record { forest = c.loop-call.forest; handles = c.loop-call.handles }) (record { forest = c.make.new.forest; handles = c.make.new.handles })
       c.loop-call.invariant.run c.in_err-given.ensures.err_forest c.in_err-given.ensures.err_handles,
+  may-stop c.args.calls.now c.loop-call.call-index c.call-item.result c.loop-call-test.true c.call-item.is c.in_err-given.ensures.room,
 )
 
 pub loop-call-preserved : goal.loop-call-preserved

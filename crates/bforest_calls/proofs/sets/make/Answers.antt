@@ -106,3 +106,39 @@ returns-in-Edit-clause-err_forest g c = c.edit.ensures.err_forest
 
 pub returns-in-Edit-clause-err_handles : goal.returns-in-Edit-clause-err_handles
 returns-in-Edit-clause-err_handles g c = c.edit.ensures.err_handles
+
+pub returns-in-Get-clause-room : goal.returns-in-Get-clause-room
+returns-in-Get-clause-room g c = tt
+
+pub returns-in-GetOrLess-clause-room : goal.returns-in-GetOrLess-clause-room
+returns-in-GetOrLess-clause-room g c = tt
+
+pub returns-in-Insert-clause-room : goal.returns-in-Insert-clause-room
+returns-in-Insert-clause-room g c = tt
+
+pub returns-in-Remove-clause-room : goal.returns-in-Remove-clause-room
+returns-in-Remove-clause-room g c = tt
+
+pub returns-in-Clear-clause-room : goal.returns-in-Clear-clause-room
+returns-in-Clear-clause-room g c = tt
+
+pub returns-in-Retain-clause-room : goal.returns-in-Retain-clause-room
+returns-in-Retain-clause-room g c = tt
+
+pub returns-in-Alias-clause-room : goal.returns-in-Alias-clause-room
+returns-in-Alias-clause-room g c = tt
+
+pub returns-in-ForestClear-clause-room : goal.returns-in-ForestClear-clause-room
+returns-in-ForestClear-clause-room g c = tt
+
+pub returns-in-Read-clause-room : goal.returns-in-Read-clause-room
+returns-in-Read-clause-room g c = tt
+
+pub returns-in-Iter-clause-room : goal.returns-in-Iter-clause-room
+returns-in-Iter-clause-room g c = rw c.in-Iter.is (on_err_from c.iter.result tt)
+
+pub returns-in-Range-clause-room : goal.returns-in-Range-clause-room
+returns-in-Range-clause-room g c = rw c.in-Range.is (on_err_from c.range.result tt)
+
+pub returns-in-Edit-clause-room : goal.returns-in-Edit-clause-room
+returns-in-Edit-clause-room g c = rw c.in-Edit.is (on_err_from c.edit.result tt)
