@@ -17,7 +17,7 @@ pub enum Call<K: Copy, V: Copy> {
         c: usize,
         k: K,
     },
-    /// `try_insert`. Answers [`Answer::Put`].
+    /// `insert`. Answers [`Answer::Put`].
     Insert {
         h: usize,
         c: usize,
@@ -117,7 +117,7 @@ pub enum Act<K: Copy, V: Copy> {
     Value,
     Goto(K),
     First,
-    /// `try_insert`.
+    /// `insert`.
     Put(K, V),
     /// Writes the value at the cursor's place, through `value_mut`.
     Write(V),

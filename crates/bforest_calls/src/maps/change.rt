@@ -25,7 +25,7 @@ pub(crate) fn insert<K: Copy, V: Copy, C: Comparator<K>>(
     if let Some(given) = refused(h, c, comps, handles, forest) {
         return given;
     }
-    Answer::Put(handles[h].try_insert(entry.0, entry.1, forest, &comps[c]))
+    Answer::Put(handles[h].insert(entry.0, entry.1, forest, &comps[c]))
 }
 
 pub(crate) fn remove<K: Copy, V: Copy, C: Comparator<K>>(

@@ -79,7 +79,7 @@ fn act<K: Copy, V: Copy, C: Comparator<K>>(
         Act::Value => Seen::Value(cursor.value()),
         Act::Goto(k) => Seen::Value(cursor.goto(*k)),
         Act::First => first(cursor),
-        Act::Put(k, v) => Seen::Put(cursor.try_insert(*k, *v)),
+        Act::Put(k, v) => Seen::Put(cursor.insert(*k, *v)),
         Act::Write(v) => write(cursor, *v),
         Act::Remove => take_out(cursor),
     }

@@ -26,7 +26,7 @@ pub(crate) fn insert<K: Copy, C: Comparator<K>>(
     if let Some(given) = refused(h, c, comps, handles, forest) {
         return given;
     }
-    Answer::Put(old_unit(handles[h].try_insert(k, forest, &comps[c])))
+    Answer::Put(old_unit(handles[h].insert(k, forest, &comps[c])))
 }
 
 pub(crate) fn remove<K: Copy, C: Comparator<K>>(

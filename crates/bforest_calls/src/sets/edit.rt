@@ -79,7 +79,7 @@ fn act<K: Copy, C: Comparator<K>>(
         Act::Value => Seen::Value(unit_if(cursor.elem().is_some())),
         Act::Goto(k) => Seen::Value(unit_if(cursor.goto(*k))),
         Act::First => Seen::Pair(with_unit(cursor.goto_first())),
-        Act::Put(k, ..) => Seen::Put(old_unit(cursor.try_insert(*k))),
+        Act::Put(k, ..) => Seen::Put(old_unit(cursor.insert(*k))),
         Act::Write(..) => Seen::Flag(cursor.elem().is_some()),
         Act::Remove => Seen::Pair(with_unit(cursor.remove())),
     }

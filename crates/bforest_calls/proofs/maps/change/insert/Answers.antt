@@ -7,8 +7,8 @@ use Rattle.std.proofs.lemmas.List.{get_or_default}
 pub returns-in-Some : goal.returns-in-Some
 returns-in-Some g c = inl (c.in-Some.ensures.refused, refl)
 
-pub try_insert-requires : goal.try_insert-requires
-try_insert-requires g c =
+pub insert-requires : goal.insert-requires
+insert-requires g c =
     let passed = c.refused.ensures.made c.in_default.is in
     let n = named g.C.Comparator.order c.args.forest.now c.args.handles.now c.args.comps.now c.args.h c.args.c _ _ passed (get_or_default c.args.handles.now c.args.h c.index-handles-h.result None passed.0.0) c.index-comps-c.is in
     (search rules, (n.live, n.ordered))
@@ -18,18 +18,18 @@ returns g c =
     let passed = c.refused.ensures.made c.in_default.is in
     let number = get_or_default c.args.handles.now c.args.h c.index-handles-h.result None passed.0.0 in
     let order = is_order g.C.Comparator.order c.args.comps.now c.args.c c.index-comps-c.result c.index-comps-c.is passed.0.1 in
-    let new = c.try_insert.new in
+    let new = c.insert.new in
     inr (
       passed.0,
       passed.1,
       passed.2,
       (
-        c.try_insert.result,
+        c.insert.result,
         refl,
         (
           new.self,
           refl,
-          at_both (λ o n. Inserts 7 o c.args.forest.now n c.args.entry.0 c.args.entry.1 c.try_insert.result new.forest new.self) order number c.try_insert.ensures,
+          at_both (λ o n. Inserts 7 o c.args.forest.now n c.args.entry.0 c.args.entry.1 c.insert.result new.forest new.self) order number c.insert.ensures,
         ),
       ),
     )

@@ -50,11 +50,11 @@ first-requires-clause-valid g c = c.requires.valid
 pub first-requires-clause-ready : goal.first-requires-clause-ready
 first-requires-clause-ready g c = c.requires.ready
 
-pub try_insert-requires-clause-valid : goal.try_insert-requires-clause-valid
-try_insert-requires-clause-valid g c = c.requires.valid
+pub insert-requires-clause-valid : goal.insert-requires-clause-valid
+insert-requires-clause-valid g c = c.requires.valid
 
-pub try_insert-requires-clause-ready : goal.try_insert-requires-clause-ready
-try_insert-requires-clause-ready g c = c.requires.ready
+pub insert-requires-clause-ready : goal.insert-requires-clause-ready
+insert-requires-clause-ready g c = c.requires.ready
 
 pub write-requires-clause-valid : goal.write-requires-clause-valid
 write-requires-clause-valid g c = c.requires.valid
@@ -117,7 +117,7 @@ pub returns-in-Remove-clause-goes : goal.returns-in-Remove-clause-goes
 returns-in-Remove-clause-goes g c = c.take_out.ensures.goes
 
 pub returns-in-Put-clause-acts : goal.returns-in-Put-clause-acts
-returns-in-Put-clause-acts g c = rw c.in-Put.is (c.try_insert.result, refl, c.try_insert.ensures.inserted, c.try_insert.ensures.goes.spot)
+returns-in-Put-clause-acts g c = rw c.in-Put.is (c.insert.result, refl, c.insert.ensures.inserted, c.insert.ensures.goes.spot)
 
 pub returns-in-Put-clause-goes : goal.returns-in-Put-clause-goes
-returns-in-Put-clause-goes g c = map-goes g.C.Comparator.order c.args.cursor.now c.try_insert.new.self _ c.try_insert.ensures.goes
+returns-in-Put-clause-goes g c = map-goes g.C.Comparator.order c.args.cursor.now c.insert.new.self _ c.insert.ensures.goes

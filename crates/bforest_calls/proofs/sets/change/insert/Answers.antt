@@ -12,8 +12,8 @@ returns g c =
     let passed = c.refused.ensures.made c.in_default.is in
     let number = get_or_default c.args.handles.now c.args.h c.index-handles-h.result None passed.0.0 in
     let order = is_order g.C.Comparator.order c.args.comps.now c.args.c c.index-comps-c.result c.index-comps-c.is passed.0.1 in
-    let forest = c.try_insert.new.forest in
-    let handle = c.try_insert.new.self in
+    let forest = c.insert.new.forest in
+    let handle = c.insert.new.self in
     inr (
       passed.0,
       passed.1,
@@ -25,13 +25,13 @@ returns g c =
           handle,
           refl,
           at_both (λ o n. Inserts 15 o c.args.forest.now n c.args.k tt c.old_unit.result forest handle) order number
-              (subst (λ r. Inserts 15 (g.C.Comparator.order c.index-comps-c.result) c.args.forest.now (get_or c.args.handles.now c.args.h c.index-handles-h.result) c.args.k tt r forest handle) (sym c.old_unit.ensures) c.try_insert.ensures),
+              (subst (λ r. Inserts 15 (g.C.Comparator.order c.index-comps-c.result) c.args.forest.now (get_or c.args.handles.now c.args.h c.index-handles-h.result) c.args.k tt r forest handle) (sym c.old_unit.ensures) c.insert.ensures),
         ),
       ),
     )
 
-pub try_insert-requires : goal.try_insert-requires
-try_insert-requires g c =
+pub insert-requires : goal.insert-requires
+insert-requires g c =
     let passed = c.refused.ensures.made c.in_default.is in
     let n = named g.C.Comparator.order c.args.forest.now c.args.handles.now c.args.comps.now c.args.h c.args.c _ _ passed (get_or_default c.args.handles.now c.args.h c.index-handles-h.result None passed.0.0) c.index-comps-c.is in
     (search rules, (n.live, n.ordered))

@@ -69,12 +69,12 @@ returns-in-First-clause-acts g c =
 pub returns-in-Put-clause-acts : goal.returns-in-Put-clause-acts
 returns-in-Put-clause-acts g c =
     let old = c.args.cursor.now in
-    let new = c.try_insert.new.self in
+    let new = c.insert.new.self in
     rw c.in-Put.is (
       c.old_unit.result,
       refl,
-      subst (λ r. Inserts 15 (g.C.Comparator.order (comparator old)) (forest_now old) (set_now old) c.in-Put.k tt r (forest_now new) (set_now new)) (sym c.old_unit.ensures) c.try_insert.ensures.inserted,
-      c.try_insert.ensures.goes.spot,
+      subst (λ r. Inserts 15 (g.C.Comparator.order (comparator old)) (forest_now old) (set_now old) c.in-Put.k tt r (forest_now new) (set_now new)) (sym c.old_unit.ensures) c.insert.ensures.inserted,
+      c.insert.ensures.goes.spot,
     )
 
 pub returns-in-Write-clause-acts : goal.returns-in-Write-clause-acts
@@ -109,7 +109,7 @@ pub returns-in-First-clause-goes : goal.returns-in-First-clause-goes
 returns-in-First-clause-goes g c = set-goes g.C.Comparator.order c.args.cursor.now c.goto_first.new.self _ c.goto_first.ensures.moves.goes
 
 pub returns-in-Put-clause-goes : goal.returns-in-Put-clause-goes
-returns-in-Put-clause-goes g c = set-goes g.C.Comparator.order c.args.cursor.now c.try_insert.new.self _ c.try_insert.ensures.goes
+returns-in-Put-clause-goes g c = set-goes g.C.Comparator.order c.args.cursor.now c.insert.new.self _ c.insert.ensures.goes
 
 pub returns-in-Remove-clause-goes : goal.returns-in-Remove-clause-goes
 returns-in-Remove-clause-goes g c = set-goes g.C.Comparator.order c.args.cursor.now c.remove.new.self _ c.remove.ensures.goes
