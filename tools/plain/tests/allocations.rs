@@ -106,7 +106,8 @@ fn change_map(call: u32, key: u32, map: &mut Map<u32, u32>, forest: &mut MapFore
 /// Makes one call on a set, by its number.
 fn call_set(call: u32, key: u32, set: &mut Set<u32>, forest: &mut SetForest<u32>) {
     match call {
-        0 => drop(set.insert(key, forest, &())),
+        0 if key % 2 == 0 => drop(set.insert(key, forest, &())),
+        0 => drop(set.try_insert(key, forest, &())),
         1 => drop(set.remove(key, forest, &())),
         2 => {
             let mut cursor = set.cursor(forest, &());
