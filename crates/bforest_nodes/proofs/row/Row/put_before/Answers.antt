@@ -1,4 +1,4 @@
-use Rattle.std.proofs.Common.{◌≡◌, ◌≤◌, ◌+◌, ◌-◌, ◌/◌, length, rules, arith}
+use Rattle.std.proofs.Common.{◌≡◌, ◌-◌, ◌/◌, length, rules, arith}
 use Rattle.bforest_nodes.proofs.Rows.{put_front}
 use Rattle.bforest_nodes.proofs.row.Row.put_before.Goals as goal
 
