@@ -13,3 +13,5 @@ pub mod Backward
 pub mod Turns
 pub mod Standing
 pub mod Nearby
+pub mod Codes
+pub mod CodesDown
