@@ -15,3 +15,4 @@ pub mod Standing
 pub mod Nearby
 pub mod Codes
 pub mod CodesDown
+pub mod Cousins

@@ -1,8 +1,8 @@
 -- The place of a leaf in its tree as a number, with an octal digit for each level of inner nodes.
-use Rattle.std.specs.Prelude.{◌≡◌, ℕ, ◌+◌, ◌<◌, ◌/◌, ◌%◌, IsTrue, List, [], ◌∷◌, ◌++◌, drop, length, get_or, slice_get, Some}
+use Rattle.std.specs.Prelude.{◌≡◌, ℕ, ◌+◌, ◌<◌, ◌/◌, ◌%◌, IsTrue, List, [], ◌∷◌, ◌++◌, drop, length, get_or, slice_get, take, Some, ◌≤◌}
 use Rattle.bforest_nodes.specs.Content.{Content}
-use Rattle.bforest_core.specs.Levels.{LevelNode, node, Stacked}
-use Rattle.bforest_core.specs.Place.{IsAt, RowsIn, inner_content, root_above}
+use Rattle.bforest_core.specs.Levels.{LevelNode, flat, node, Stacked}
+use Rattle.bforest_core.specs.Place.{IsAt, RowsIn, inner_content, leaf_content, root_above}
 use Rattle.bforest_core.specs.Table.{Table}
 use Rattle.bforest_core.specs.Trees.{is_root, tree_of}
 use Rattle.bforest_core.specs.declared.spot.Spot.{Spot}
@@ -14,6 +14,11 @@ module _ {K : Type 0} where
   Coded numbers [] code place = (code ≡ 0) × (place ≡ 0)
   Coded numbers (row ∷ rows) code place =
       (at : IsAt row (get_or numbers 0 0) (code % 8) place) × Coded (drop 1 numbers) rows (code / 8) (length at.before)
+
+  -- the place to which a code leads down rows, the lowest first
+  abbrev pub place_by : List (List (LevelNode K ℕ)) → ℕ → ℕ
+  place_by [] code = 0
+  place_by (row ∷ rows) code = length (flat (take (place_by rows (code / 8)) row)) + code % 8
 
   -- the node at this place of a level has this number
   abbrev pub NumberAt : List (K × ℕ) → ℕ → ℕ → Type 0
@@ -27,6 +32,10 @@ module _ {K : Type 0} where
     pub root_is : root_above list rows ≡ root
     pub depth_is : depth ≡ length rows
 
+-- no inner node is above a spot's leaf: it is the only one of its tree, or there is none
+abbrev pub HasNoParent : Spot → Type 0
+HasNoParent spot = spot.height ≡ 0
+
 module _ {K V : Type 0} where
   -- the spot is that of the leaf at this place of the leaves of the tree under a root
   pub record IsSpot (table : Table K V) (root : ℕ) (spot : Spot) (place : ℕ) : Type 0 where
@@ -37,17 +46,23 @@ module _ {K V : Type 0} where
     pub grand_is : 1 < spot.height → get_or (drop 1 numbers) 0 0 ≡ spot.grand
     pub height_is : spot.height ≡ length (tree_of table.nodes root).above
 
-  -- the leaf at this place
-  pub record IsLeafAt (table : Table K V) (root number place : ℕ) : Type 0 where
+  -- the leaf with this number stands at this place among the leaves of the tree under a root, and has these entries
+  pub record IsLeafAt (table : Table K V) (root place number : ℕ) : Type 0 where
     pub before : List (LevelNode K V)
     pub entries : List (K × V)
     pub after : List (LevelNode K V)
     pub leaves_are : (tree_of table.nodes root).leaves ≡ before ++ node number entries ∷ after
     pub at : length before ≡ place
+    pub slot_is : slice_get table.nodes number ≡ Some (leaf_content entries)
+    pub some : 1 ≤ length entries
 
-  -- how many leaves the tree has
+  -- how many leaves the tree under a root has
   abbrev pub leaf_count : Table K V → ℕ → ℕ
   leaf_count table root = length (tree_of table.nodes root).leaves
+
+  -- the place of a spot's leaf among the leaves of the tree under a root, computed
+  abbrev pub leaf_place : Table K V → ℕ → Spot → ℕ
+  leaf_place table root spot = place_by (tree_of table.nodes root).above spot.code
 
   -- the root and the place of a spot's leaf
   pub record SpotOn (table : Table K V) (spot : Spot) : Type 0 where

@@ -4,7 +4,7 @@ ghost use Rattle.bforest_core.specs.Levels.{LevelNode, heads};
 ghost use Rattle.bforest_core.specs.Trees.{IsUnion, is_root, tree_of};
 ghost use Rattle.bforest_nodes.specs.Content.{IsLeafCapacity};
 ghost use Rattle.bforest_core.specs.Descent.{Under};
-ghost use Rattle.bforest_core.specs.Spots.{CodedOver, HasNext, IsSpot, IsWay, NumberAt, SpotOn};
+ghost use Rattle.bforest_core.specs.Spots.{CodedOver, HasNext, HasNoParent, IsLeafAt, IsSpot, IsWay, NumberAt, SpotOn, leaf_count};
 
 use crate::access::{child, entries};
 use crate::pool::NodePool;
@@ -45,7 +45,7 @@ impl Spot {
         requires union { IsUnion N pool.now }
         requires root { IsTrue (is_root pool.now.nodes root) }
         ensures spot { IsSpot pool.now root result.0 0 }
-        ensures leaf { NumberAt (heads (tree_of pool.now.nodes root).leaves) 0 result.1 }
+        ensures leaf { IsLeafAt pool.now root 0 result.1 }
     {
         first_below(Spot::root(root), root, pool)
     }
@@ -58,37 +58,20 @@ impl Spot {
         pool: &NodePool<K, V, N>,
     ) -> Option<(Spot, Node)>
         requires union { IsUnion N pool.now }
-        requires spot { (place : ℕ) × IsSpot pool.now root self.now place }
+        requires spot { (¬ HasNoParent self.now) → (place : ℕ) × IsSpot pool.now root self.now place }
         ensures some { IfSome result (λ found. (place : ℕ) → IsSpot pool.now root self.now place
-            → IsSpot pool.now root found.0 (suc place)
-            × NumberAt (heads (tree_of pool.now.nodes root).leaves) (suc place) found.1) }
-        ensures none { result ≡ None → (place : ℕ) → IsSpot pool.now root self.now place → suc place
-            ≡ length (heads (tree_of pool.now.nodes root).leaves) }
+            → IsSpot pool.now root found.0 (suc place) × IsLeafAt pool.now root (suc place) found.1) }
+        ensures none { result ≡ None → (place : ℕ) → IsSpot pool.now root self.now place
+            → suc place ≡ leaf_count pool.now root }
+        ensures alone { HasNoParent self.now → result ≡ None }
     {
         if self.has_next(pool) {
             return Some(self.next_sibling(pool));
         }
-        self.next_far(root, pool)
-    }
-
-    /// The next leaf, and its place, if there is one, by a way from the root.
-    fn next_far<K: Copy, V: Copy, const N: usize>(
-        &self,
-        root: Node,
-        pool: &NodePool<K, V, N>,
-    ) -> Option<(Spot, Node)>
-        requires union { IsUnion N pool.now }
-        requires spot { (place : ℕ) × IsSpot pool.now root self.now place }
-        ensures some { IfSome result (λ found. (place : ℕ) → IsSpot pool.now root self.now place
-            → IsSpot pool.now root found.0 (suc place)
-            × NumberAt (heads (tree_of pool.now.nodes root).leaves) (suc place) found.1) }
-        ensures none { result ≡ None → (place : ℕ) → IsSpot pool.now root self.now place → suc place
-            ≡ length (heads (tree_of pool.now.nodes root).leaves) }
-    {
-        match next_on(self.code, self.height, root, pool) {
-            Some(found) => Some((spot_of(found.0, self.height, root, pool), found.1)),
-            None => None,
+        if self.height < 2 {
+            return None;
         }
+        self.next_cousin(root, pool)
     }
 
     // One level down.
@@ -110,12 +93,13 @@ impl Spot {
         }
     }
 
-    /// Whether the next leaf has the same parent.
+    // Whether the next leaf has the same parent.
     #[inline(always)]
-    pub fn has_next<K: Copy, V: Copy, const N: usize>(&self, pool: &NodePool<K, V, N>) -> bool
+    fn has_next<K: Copy, V: Copy, const N: usize>(&self, pool: &NodePool<K, V, N>) -> bool
         requires union { IsUnion N pool.now }
-        requires spot { SpotOn pool.now self.now }
+        requires spot { (¬ HasNoParent self.now) → SpotOn pool.now self.now }
         ensures next { result ≡ true → HasNext pool.now self.now }
+        ensures none { result ≡ false → ¬ HasNext pool.now self.now }
     {
         if self.height == 0 {
             return false;
@@ -123,9 +107,9 @@ impl Spot {
         (self.code % 8) as usize + 1 < entries(pool, self.parent)
     }
 
-    /// That leaf, and its place.
+    // The next leaf, which has the same parent, and its place.
     #[inline(always)]
-    pub fn next_sibling<K: Copy, V: Copy, const N: usize>(
+    fn next_sibling<K: Copy, V: Copy, const N: usize>(
         &self,
         pool: &NodePool<K, V, N>,
     ) -> (Spot, Node)
@@ -133,7 +117,7 @@ impl Spot {
         requires spot { SpotOn pool.now self.now }
         requires next { HasNext pool.now self.now }
         ensures leaf { (root place : ℕ) → IsSpot pool.now root self.now place
-            → NumberAt (heads (tree_of pool.now.nodes root).leaves) (suc place) result.1 }
+            → IsLeafAt pool.now root (suc place) result.1 }
         ensures spot { (root place : ℕ) → IsSpot pool.now root self.now place
             → IsSpot pool.now root result.0 (suc place) }
     {
@@ -145,6 +129,60 @@ impl Spot {
             height: self.height,
         };
         (spot, leaf)
+    }
+
+    // The next leaf, and its place, if there is one, where it has another parent.
+    #[inline(always)]
+    fn next_cousin<K: Copy, V: Copy, const N: usize>(
+        &self,
+        root: Node,
+        pool: &NodePool<K, V, N>,
+    ) -> Option<(Spot, Node)>
+        requires union { IsUnion N pool.now }
+        requires spot { (place : ℕ) × IsSpot pool.now root self.now place }
+        requires deep { 2 ≤ self.now.height }
+        requires last { ¬ HasNext pool.now self.now }
+        ensures some { IfSome result (λ found. (place : ℕ) → IsSpot pool.now root self.now place
+            → IsSpot pool.now root found.0 (suc place) × IsLeafAt pool.now root (suc place) found.1) }
+        ensures none { result ≡ None → (place : ℕ) → IsSpot pool.now root self.now place
+            → suc place ≡ leaf_count pool.now root }
+    {
+        let index = (self.code / 8 % 8) as usize + 1;
+        if index < entries(pool, self.grand) {
+            let parent = child(pool, self.grand, index);
+            let leaf = child(pool, parent, 0);
+            let spot = Spot {
+                code: (self.code / 8 + 1) * 8,
+                parent,
+                grand: self.grand,
+                height: self.height,
+            };
+            return Some((spot, leaf));
+        }
+        next_far(self.code, self.height, root, pool)
+    }
+}
+
+// The next node at the end of a way down from the root, and its spot, if there is one.
+fn next_far<K: Copy, V: Copy, const N: usize>(
+    code: u64,
+    height: u32,
+    root: Node,
+    pool: &NodePool<K, V, N>,
+) -> Option<(Spot, Node)>
+    requires low { height ≤ 16 }
+    requires over { (numbers : List ℕ) × (rows : List (List (LevelNode K ℕ))) × (list : List (K × ℕ))
+        × (place : ℕ) × CodedOver pool.now.nodes root code height numbers rows list place }
+    ensures some { IfSome result (λ found. (numbers : List ℕ) (rows : List (List (LevelNode K ℕ)))
+        (list : List (K × ℕ)) (place : ℕ) → CodedOver pool.now.nodes root code height numbers rows list place
+        → (others : List ℕ) × IsWay others found.0 rows (suc place) × NumberAt list (suc place) found.1) }
+    ensures none { result ≡ None → (numbers : List ℕ) (rows : List (List (LevelNode K ℕ)))
+        (list : List (K × ℕ)) (place : ℕ) → CodedOver pool.now.nodes root code height numbers rows list place
+        → suc place ≡ length list }
+{
+    match next_on(code, height, root, pool) {
+        Some(found) => Some((spot_of(found.0, height, root, pool), found.1)),
+        None => None,
     }
 }
 

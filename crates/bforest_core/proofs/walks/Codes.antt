@@ -1,14 +1,15 @@
 -- The way of a code down rows of inner nodes, and the way to the next node: each answer of `node_of` and `next_on` is one of these.
-use Rattle.std.proofs.Common.{◌≡◌, ◌≢◌, ℕ, zero, suc, ◌+◌, ◌-◌, ◌*◌, ◌/◌, ◌%◌, ◌≤◌, ◌<◌, List, [], ◌∷◌, ◌++◌, length, take, drop, get_or, slice_get, option_map, Some, refl, sym, ap, subst, ◌∙◌, arith, append_assoc, length-append}
+use Rattle.std.proofs.Common.{IsTrue, ◌≡◌, ◌≢◌, ℕ, zero, suc, ◌+◌, ◌-◌, ◌*◌, ◌/◌, ◌%◌, ◌≤◌, ◌<◌, List, [], ◌∷◌, ◌++◌, length, take, drop, get_or, slice_get, option_map, Some, refl, sym, ap, subst, ◌∙◌, arith, append_assoc, length-append}
 use Rattle.bforest_core.proofs.Words.{nil_from_length, take_at, slice_get_within, Content, Inner, IsFree, entry_count, LevelNode, node, flat, heads, FitRow, RowIn, inner_content, entry_items, entry_keys}
-use Rattle.bforest_core.specs.Spots.{Coded, CodedOver, HasNext, IsSpot, IsWay, NumberAt}
+use Rattle.bforest_core.specs.Spots.{Coded, CodedOver, HasNext, IsLeafAt, IsSpot, IsWay, NumberAt, leaf_count}
 use Rattle.bforest_core.specs.declared.spot.Spot.{Spot}
 use Rattle.bforest_core.proofs.union.Unions.{is-rooted}
-use Rattle.bforest_core.proofs.Words.{IsUnion, Table, tree_of}
+use Rattle.bforest_core.proofs.Words.{IsUnion, Table, half_of, is_root, leaf_content, tree_of}
 use Rattle.bforest_core.proofs.rows.LevelRows.{flat-append, least-pos, FitRow-split}
 use Rattle.bforest_core.proofs.rows.Zipper.{cut}
 use Rattle.bforest_core.proofs.table.Stored.{some_same, slice_get_at, item_count}
 use Rattle.bforest_core.proofs.table.Tables.{row-split}
+use Rattle.bforest_core.proofs.walks.Descent.{some_leaf}
 use Rattle.bforest_core.proofs.walks.Downward.{seen}
 use Rattle.bforest_core.proofs.walks.LeafSearch.{items-read}
 use Rattle.bforest_core.proofs.walks.Steps.{entry_at, fit_full, read}
@@ -174,12 +175,20 @@ one-carry slots root code depth numbers (row ∷ rest) list place p some l same 
     }
 
 module _ {K V : Type 0} {slots : List (Content K V)} {root code depth : ℕ} {numbers : List ℕ} {rows : List (List (LevelNode K ℕ))} {list : List (K × ℕ)} {place : ℕ} (p : CodedOver slots root code depth numbers rows list place) (some : depth ≢ 0) where
-  abbrev here : Lowest slots root code depth numbers rows list place
+  abbrev pub here : Lowest slots root code depth numbers rows list place
   here = lowest slots root code depth numbers rows list place p some
 
   -- what going on above asks
   pub above-asks : (numbers : List ℕ) × (rows : List (List (LevelNode K ℕ))) × (list : List (K × ℕ)) × (place : ℕ) × CodedOver slots root (code / 8) (depth - 1) numbers rows list place
   above-asks = (drop 1 numbers, here.rest, heads here.row, here.top, here.over)
+
+  -- the node behind this one on the level above, and the way there
+  abbrev pub NextAbove : ℕ → ℕ → Type 0
+  NextAbove above number =
+      (others : List ℕ) × CodedOver slots root above (depth - 1) others here.rest (heads here.row) (suc here.top) × NumberAt (heads here.row) (suc here.top) number
+
+  pub next-above : (above number : ℕ) → ((numbers : List ℕ) (rows : List (List (LevelNode K ℕ))) (list : List (K × ℕ)) (place : ℕ) → CodedOver slots root (code / 8) (depth - 1) numbers rows list place → (others : List ℕ) × CodedOver slots root above (depth - 1) others rows list (suc place) × NumberAt list (suc place) number) → NextAbove above number
+  next-above above number found = found (drop 1 numbers) here.rest (heads here.row) here.top here.over
 
   -- what is said of the last node of its level above
   pub above-last : ((numbers : List ℕ) (rows : List (List (LevelNode K ℕ))) (list : List (K × ℕ)) (place : ℕ) → CodedOver slots root (code / 8) (depth - 1) numbers rows list place → suc place ≡ length list) → suc here.top ≡ length (heads here.row)
@@ -240,10 +249,7 @@ module _ {K V : Type 0} {slots : List (Content K V)} {root code depth : ℕ} {nu
       pub none-next : count ≤ code % 8 + 1 → suc here.top ≡ length (heads here.row) → suc place ≡ length list
       none-next high last = omega (arith, past high, here.within, here.place_is, ap length here.flat_is, none-behind inner_content slots 8 here.at 4 (omega arith) here.fit last)
 
-      module _ (high : count ≤ code % 8 + 1) (above node : ℕ) (found : (numbers : List ℕ) (rows : List (List (LevelNode K ℕ))) (list : List (K × ℕ)) (place : ℕ) → CodedOver slots root (code / 8) (depth - 1) numbers rows list place → (others : List ℕ) × CodedOver slots root above (depth - 1) others rows list (suc place) × NumberAt list (suc place) node) where
-        on : (others : List ℕ) × CodedOver slots root above (depth - 1) others here.rest (heads here.row) (suc here.top) × NumberAt (heads here.row) (suc here.top) node
-        on = found (drop 1 numbers) here.rest (heads here.row) here.top here.over
-
+      module _ (high : count ≤ code % 8 + 1) (above node : ℕ) (on : NextAbove above node) where
         next-node : NodeIn inner_content slots 8 here.row node (suc here.top)
         next-node = node-at inner_content slots 8 4 (omega arith) here.row here.fit here.inside node (suc here.top) on.2
 
@@ -254,10 +260,18 @@ module _ {K V : Type 0} {slots : List (Content K V)} {root code depth : ℕ} {nu
         pub above-low : depth ≤ 16 → above < 35184372088832
         above-low low = code-low 15 here.rest on.0 above (suc here.top) on.1.coded (omega (arith, low, here.low))
 
+        start : suc place ≡ length (flat next-node.before) + 0
+        start = omega (arith, seam inner_content slots 8 here.at next-node, here.place_is, here.within, past high)
+
+        -- the way goes on to that child
+        pub first-code : CodedOver slots root (above * 8) depth (node ∷ on.0) rows list (suc place)
+        first-code = one-carry slots root code depth numbers rows list place p some here refl (past high) above node on.0 next-node on.1
+
+        pub first-child : (child : ℕ) → ((keys : List K) (children : List ℕ) → slice_get slots node ≡ Some (Inner keys children) → slice_get children 0 ≡ Some child) → NumberAt list (suc place) child
+        first-child child reads = child-is next-node 0 child (suc place) next-node.some start reads
+
         pub first-on : (child : ℕ) → ((keys : List K) (children : List ℕ) → slice_get slots node ≡ Some (Inner keys children) → slice_get children 0 ≡ Some child) → (others : List ℕ) × CodedOver slots root (above * 8) depth others rows list (suc place) × NumberAt list (suc place) child
-        first-on child reads =
-            let start : suc place ≡ length (flat next-node.before) + 0 = omega (arith, seam inner_content slots 8 here.at next-node, here.place_is, here.within, past high) in
-            (node ∷ on.0, one-carry slots root code depth numbers rows list place p some here refl (past high) above node on.0 next-node on.1, child-is next-node 0 child (suc place) next-node.some start reads)
+        first-on child reads = (node ∷ on.0, first-code, first-child child reads)
 
 -- the lowest node is the first of the numbers
 pub kept-same : {K V : Type 0} (slots : List (Content K V)) (root code depth : ℕ) (numbers : List ℕ) (rows : List (List (LevelNode K ℕ))) (list : List (K × ℕ)) (place : ℕ) (p : CodedOver slots root code depth numbers rows list place) (some : depth ≢ 0) (parent : ℕ) → get_or numbers 0 0 ≡ parent → parent ≡ (lowest slots root code depth numbers rows list place p some).number
@@ -265,22 +279,39 @@ unfolding lowest
 kept-same slots root code depth numbers [] list place p some parent is = absurd (some p.depth_is)
 kept-same slots root code depth numbers (row ∷ rest) list place p some parent is = sym is
 
+module _ {K V : Type 0} {n : ℕ} {table : Table K V} (union : IsUnion n table) (root : ℕ) (is : IsTrue (is_root table.nodes root)) where
+  -- the leaf that is the node at this place of the lowest level
+  pub leaf-at : {place number : ℕ} → NumberAt (heads (tree_of table.nodes root).leaves) place number → IsLeafAt table root place number
+  leaf-at {place} {number} m =
+      let w = is-rooted n table root union is in
+      let a = node-at leaf_content table.nodes n (half_of n) (some_leaf n union.1.capacity) (tree_of table.nodes root).leaves w.fit.leaves_fit w.inside.leaves_in number place m in
+      record { before = a.before; entries = a.entries; after = a.after; leaves_are = a.row_is; at = a.at; slot_is = a.slot_is; some = a.some }
+
+  -- the last node of the lowest level is the last leaf
+  pub last-leaf : {place : ℕ} → suc place ≡ length (heads (tree_of table.nodes root).leaves) → suc place ≡ leaf_count table root
+  last-leaf {place} last =
+      let w = is-rooted n table root union is in
+      last ∙ fit_full (half_of n) n (some_leaf n union.1.capacity) (tree_of table.nodes root).leaves w.fit.leaves_fit
+
 module _ {K V : Type 0} {n : ℕ} {table : Table K V} (union : IsUnion n table) {root : ℕ} {spot : Spot} {place : ℕ} (s : IsSpot table root spot place) where
   -- a spot's code is a way down
   pub spot-over : CodedOver table.nodes root spot.code spot.height s.numbers (tree_of table.nodes root).above (heads (tree_of table.nodes root).leaves) place
   spot-over = let w = is-rooted n table root union s.root_is in record { stacked = w.fit.stacked; inside = w.inside.rows_in; coded = s.coded; root_is = w.root_is; depth_is = s.height_is }
 
   module _ (some : 0 < spot.height) where
-    abbrev other : spot.height ≢ 0
+    abbrev pub other : spot.height ≢ 0
     other = λ none. omega (arith, none, some)
 
-    abbrev its : spot.parent ≡ (here spot-over other).number
+    abbrev pub its : spot.parent ≡ (here spot-over other).number
     its = kept-same table.nodes root spot.code spot.height s.numbers (tree_of table.nodes root).above (heads (tree_of table.nodes root).leaves) place spot-over other spot.parent (s.parent_is some)
 
     pub spot-count : (content : Content K V) × (slice_get table.nodes spot.parent ≡ Some content) × (IsFree content → ⊥)
     spot-count = count-asks spot-over other spot.parent its
 
     module _ (count : ℕ) (counts : (content : Content K V) → slice_get table.nodes spot.parent ≡ Some content → count ≡ entry_count content) where
+      pub spot-last : count ≤ spot.code % 8 + 1 → HasNext table spot → ⊥
+      spot-last high h = omega (arith, high, h.within, counts (inner_content h.entries) h.parent, item_count h.entries)
+
       pub spot-has : spot.code % 8 + 1 < count → HasNext table spot
       spot-has low = record { some = some; entries = (here spot-over other).at.entries; parent = (node-here spot-over other spot.parent its).slot_is; within = omega (arith, low, count-is spot-over other spot.parent its count counts) }
 
@@ -291,8 +322,8 @@ module _ {K V : Type 0} {n : ℕ} {table : Table K V} (union : IsUnion n table) 
       pub sibling-asks : (keys : List K) × (children : List ℕ) × (slice_get table.nodes spot.parent ≡ Some (Inner keys children)) × (spot.code % 8 + 1 < length children)
       sibling-asks = next-asks spot-over other spot.parent its (length h.entries) counts-next h.within
 
-      pub sibling-child : (child : ℕ) → ((keys : List K) (children : List ℕ) → slice_get table.nodes spot.parent ≡ Some (Inner keys children) → slice_get children (spot.code % 8 + 1) ≡ Some child) → NumberAt (heads (tree_of table.nodes root).leaves) (suc place) child
-      sibling-child child reads = next-child spot-over other spot.parent its (length h.entries) counts-next child h.within reads
+      pub sibling-child : (child : ℕ) → ((keys : List K) (children : List ℕ) → slice_get table.nodes spot.parent ≡ Some (Inner keys children) → slice_get children (spot.code % 8 + 1) ≡ Some child) → IsLeafAt table root (suc place) child
+      sibling-child child reads = leaf-at union root s.root_is (next-child spot-over other spot.parent its (length h.entries) counts-next child h.within reads)
 
       pub sibling-spot : (next : Spot) → next.code ≡ spot.code + 1 → next.parent ≡ spot.parent → next.grand ≡ spot.grand → next.height ≡ spot.height → IsSpot table root next (suc place)
       sibling-spot next code parent grand height =
