@@ -38,7 +38,7 @@ HasNoParent spot = spot.height ≡ 0
 
 module _ {K V : Type 0} where
   -- the spot is that of the leaf at this place of the leaves of the tree under a root
-  pub record IsSpot (table : Table K V) (root : ℕ) (spot : Spot) (place : ℕ) : Type 0 where
+  pub record IsSpotAt (table : Table K V) (root : ℕ) (spot : Spot) (place : ℕ) : Type 0 where
     pub root_is : IsTrue (is_root table.nodes root)
     pub numbers : List ℕ
     pub coded : Coded numbers (tree_of table.nodes root).above spot.code place
@@ -68,7 +68,7 @@ module _ {K V : Type 0} where
   pub record SpotOn (table : Table K V) (spot : Spot) : Type 0 where
     pub root : ℕ
     pub place : ℕ
-    pub is : IsSpot table root spot place
+    pub is : IsSpotAt table root spot place
 
   -- the next leaf has the same parent
   pub record HasNext (table : Table K V) (spot : Spot) : Type 0 where

@@ -4,7 +4,7 @@ ghost use Rattle.bforest_core.specs.Levels.{LevelNode, heads};
 ghost use Rattle.bforest_core.specs.Trees.{IsUnion, is_root, tree_of};
 ghost use Rattle.bforest_nodes.specs.Content.{IsLeafCapacity};
 ghost use Rattle.bforest_core.specs.Descent.{Under};
-ghost use Rattle.bforest_core.specs.Spots.{CodedOver, HasNext, HasNoParent, IsLeafAt, IsSpot, IsWay, NumberAt, SpotOn, leaf_count};
+ghost use Rattle.bforest_core.specs.Spots.{CodedOver, HasNext, HasNoParent, IsLeafAt, IsSpotAt, IsWay, NumberAt, SpotOn, leaf_count};
 
 use crate::access::{child, entries};
 use crate::pool::NodePool;
@@ -24,7 +24,7 @@ pub struct Spot {
 }
 
 impl Spot {
-    /// Of the only leaf of a tree.
+    /// The spot of the only leaf of a tree.
     pub fn root(root: Node) -> Spot
         ensures code { result.code ≡ 0 }
         ensures height { result.height ≡ 0 }
@@ -38,19 +38,24 @@ impl Spot {
     }
 
     /// The first leaf below a root, and its place.
+    #[inline(always)]
     pub fn first<K: Copy, V: Copy, const N: usize>(
         root: Node,
         pool: &NodePool<K, V, N>,
     ) -> (Spot, Node)
         requires union { IsUnion N pool.now }
         requires root { IsTrue (is_root pool.now.nodes root) }
-        ensures spot { IsSpot pool.now root result.0 0 }
+        ensures spot { IsSpotAt pool.now root result.0 0 }
         ensures leaf { IsLeafAt pool.now root 0 result.1 }
     {
-        first_below(Spot::root(root), root, pool)
+        let spot = Spot::root(root);
+        if !pool.node(root).is_inner() {
+            return (spot, root);
+        }
+        first_below(spot, root, pool)
     }
 
-    /// The next leaf, and its place, if there is one.
+    /// The next leaf, and its place, if there is one. A spot without a parent has none.
     #[inline(always)]
     pub fn next<K: Copy, V: Copy, const N: usize>(
         &self,
@@ -58,10 +63,10 @@ impl Spot {
         pool: &NodePool<K, V, N>,
     ) -> Option<(Spot, Node)>
         requires union { IsUnion N pool.now }
-        requires spot { (¬ HasNoParent self.now) → (place : ℕ) × IsSpot pool.now root self.now place }
-        ensures some { IfSome result (λ found. (place : ℕ) → IsSpot pool.now root self.now place
-            → IsSpot pool.now root found.0 (suc place) × IsLeafAt pool.now root (suc place) found.1) }
-        ensures none { result ≡ None → (place : ℕ) → IsSpot pool.now root self.now place
+        requires spot { (¬ HasNoParent self.now) → (place : ℕ) × IsSpotAt pool.now root self.now place }
+        ensures some { IfSome result (λ found. (place : ℕ) → IsSpotAt pool.now root self.now place
+            → IsSpotAt pool.now root found.0 (suc place) × IsLeafAt pool.now root (suc place) found.1) }
+        ensures none { result ≡ None → (place : ℕ) → IsSpotAt pool.now root self.now place
             → suc place ≡ leaf_count pool.now root }
         ensures alone { HasNoParent self.now → result ≡ None }
     {
@@ -116,10 +121,10 @@ impl Spot {
         requires union { IsUnion N pool.now }
         requires spot { SpotOn pool.now self.now }
         requires next { HasNext pool.now self.now }
-        ensures leaf { (root place : ℕ) → IsSpot pool.now root self.now place
+        ensures leaf { (root place : ℕ) → IsSpotAt pool.now root self.now place
             → IsLeafAt pool.now root (suc place) result.1 }
-        ensures spot { (root place : ℕ) → IsSpot pool.now root self.now place
-            → IsSpot pool.now root result.0 (suc place) }
+        ensures spot { (root place : ℕ) → IsSpotAt pool.now root self.now place
+            → IsSpotAt pool.now root result.0 (suc place) }
     {
         let leaf = child(pool, self.parent, (self.code % 8) as usize + 1);
         let spot = Spot {
@@ -139,12 +144,12 @@ impl Spot {
         pool: &NodePool<K, V, N>,
     ) -> Option<(Spot, Node)>
         requires union { IsUnion N pool.now }
-        requires spot { (place : ℕ) × IsSpot pool.now root self.now place }
+        requires spot { (place : ℕ) × IsSpotAt pool.now root self.now place }
         requires deep { 2 ≤ self.now.height }
         requires last { ¬ HasNext pool.now self.now }
-        ensures some { IfSome result (λ found. (place : ℕ) → IsSpot pool.now root self.now place
-            → IsSpot pool.now root found.0 (suc place) × IsLeafAt pool.now root (suc place) found.1) }
-        ensures none { result ≡ None → (place : ℕ) → IsSpot pool.now root self.now place
+        ensures some { IfSome result (λ found. (place : ℕ) → IsSpotAt pool.now root self.now place
+            → IsSpotAt pool.now root found.0 (suc place) × IsLeafAt pool.now root (suc place) found.1) }
+        ensures none { result ≡ None → (place : ℕ) → IsSpotAt pool.now root self.now place
             → suc place ≡ leaf_count pool.now root }
     {
         let index = (self.code / 8 % 8) as usize + 1;
@@ -163,7 +168,7 @@ impl Spot {
     }
 }
 
-// The next node at the end of a way down from the root, and its spot, if there is one.
+// The node behind the one at which the way of a code ends, and its spot, if there is one.
 fn next_far<K: Copy, V: Copy, const N: usize>(
     code: u64,
     height: u32,
@@ -186,7 +191,7 @@ fn next_far<K: Copy, V: Copy, const N: usize>(
     }
 }
 
-// The node at the end of a way down from the root, so many levels long.
+// The node at the end of the way of a code, `depth` levels down from the root.
 fn node_of<K: Copy, V: Copy, const N: usize>(
     code: u64,
     depth: u32,
@@ -205,7 +210,7 @@ fn node_of<K: Copy, V: Copy, const N: usize>(
     child(pool, parent, (code % 8) as usize)
 }
 
-// The next node of that level, and the way there, if there is one.
+// The next node of the level at which the way of a code ends, and the code of its way, if there is one.
 fn next_on<K: Copy, V: Copy, const N: usize>(
     code: u64,
     depth: u32,
@@ -260,7 +265,7 @@ fn first_below<K: Copy, V: Copy, const N: usize>(
     first_below(spot.below(node, 0), child, pool)
 }
 
-// The spot at the end of a way.
+// The spot of the node at the end of the way of a code.
 fn spot_of<K: Copy, V: Copy, const N: usize>(
     code: u64,
     height: u32,

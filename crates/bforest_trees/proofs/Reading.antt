@@ -1,5 +1,5 @@
 -- The entries left to be read from a path on, and a step of a reader.
-use Rattle.bforest_trees.specs.Layout.{Entered, IsOnLeaf, IsOnOrEnds, IsReader, Opens, entries_from, entries_on, left_in, left_of}
+use Rattle.bforest_trees.specs.Layout.{Entered, IsOnLeaf, IsOnOrEnds, IsReader, Opens, entries_from, entries_on, unread, left_of}
 use Rattle.bforest_trees.specs.declared.reader.Reader.{Reader}
 use Rattle.bforest_core.proofs.table.Lists.{drop-read, slice_get-append_left}
 use Rattle.bforest_core.proofs.table.Stored.{read_same}
@@ -11,7 +11,7 @@ use Rattle.bforest_core.proofs.walks.Standing.{on-at, on-points, on-within, poin
 use Rattle.bforest_core.specs.Paths.{IsAtEnd, OnEntry, PointsTo, Standing, StandsAt, StandsOn, index_of, leaf_of, list_under, path_root, place_in, spot}
 use Rattle.bforest_core.specs.Place.{entry_items, entry_keys, leaf_content}
 use Rattle.bforest_core.specs.Levels.{flat, node}
-use Rattle.bforest_core.specs.Spots.{HasNoParent, IsLeafAt, IsSpot, leaf_count, leaf_place}
+use Rattle.bforest_core.specs.Spots.{HasNoParent, IsLeafAt, IsSpotAt, leaf_count, leaf_place}
 use Rattle.bforest_core.specs.Table.{Table}
 use Rattle.bforest_core.specs.Trees.{IsUnion, tree_of}
 use Rattle.bforest_core.specs.declared.path.Path.{Path}
@@ -113,11 +113,11 @@ module _ {K V : Type 0} (table : Table K V) where
       ap (λ z. flat z) front_at ∙ ap (λ z. z ++ flat leaf.after) o.entries_are ∙ ap (λ z. entries ++ flat z) (sym behind)
 
   -- what is left where a leaf is held
-  left-some : (keys : List K) (index : ℕ) (entries : List (K × V)) → 1 ≤ length keys → left_in keys index entries ≡ drop index entries
+  left-some : (keys : List K) (index : ℕ) (entries : List (K × V)) → 1 ≤ length keys → unread keys index entries ≡ drop index entries
   left-some [] index entries some = absurd (omega (arith, some))
   left-some (first ∷ keys) index entries some = refl
 
-  left-none : (keys : List K) (index : ℕ) (entries : List (K × V)) → length keys ≡ 0 → left_in keys index entries ≡ []
+  left-none : (keys : List K) (index : ℕ) (entries : List (K × V)) → length keys ≡ 0 → unread keys index entries ≡ []
   left-none [] index entries none = refl
   left-none (first ∷ keys) index entries none = absurd (omega (arith, none))
 
@@ -135,7 +135,7 @@ module _ {K V : Type 0} (table : Table K V) where
     left-here some = left-some reader.keys.now reader.index (entries_on table reader.root reader.spot) (omega (arith, some, key-count)) ∙ ap (λ z. drop reader.index z) (from-leaf reader.root reader.spot r.entries (r.leaf some))
 
     -- the place of a reader's leaf, which is asked for where it has one
-    pub stands : (¬ HasNoParent reader.spot) → (place : ℕ) × IsSpot table reader.root reader.spot place
+    pub stands : (¬ HasNoParent reader.spot) → (place : ℕ) × IsSpotAt table reader.root reader.spot place
     stands more = elim (cases_lt 0 (length r.entries)) [
       | inl some ↦ (let o = r.leaf some in (o.place, o.on))
       | inr past ↦ absurd (more (r.none (omega (arith, past))))
@@ -147,7 +147,7 @@ module _ {K V : Type 0} (table : Table K V) where
       behind some = left-here some ∙ drop_at r.entries (flat (drop (suc (r.leaf some).place) (tree_of table.nodes reader.root).leaves)) reader.index (omega (arith, r.within, read, key-count))
 
       -- the spot of the next leaf opens it with what is left behind the leaf
-      pub opens-next : (next : Spot) (leaf : ℕ) → (¬ HasNoParent reader.spot) → ((place : ℕ) → IsSpot table reader.root reader.spot place → IsSpot table reader.root next (suc place) × IsLeafAt table reader.root (suc place) leaf) → Opens n table (left_of table reader) reader.root next leaf
+      pub opens-next : (next : Spot) (leaf : ℕ) → (¬ HasNoParent reader.spot) → ((place : ℕ) → IsSpotAt table reader.root reader.spot place → IsSpotAt table reader.root next (suc place) × IsLeafAt table reader.root (suc place) leaf) → Opens n table (left_of table reader) reader.root next leaf
       opens-next next leaf more says = elim (cases_lt 0 (length r.entries)) [
         | inl some ↦ (
             let o = r.leaf some in
@@ -158,7 +158,7 @@ module _ {K V : Type 0} (table : Table K V) where
       ]
 
       -- no entries are left behind the last leaf
-      pub none-left : ((place : ℕ) → IsSpot table reader.root reader.spot place → suc place ≡ leaf_count table reader.root) → left_of table reader ≡ []
+      pub none-left : ((place : ℕ) → IsSpotAt table reader.root reader.spot place → suc place ≡ leaf_count table reader.root) → left_of table reader ≡ []
       none-left last = elim (cases_lt 0 (length r.entries)) [
         | inl some ↦ (
             let o = r.leaf some in

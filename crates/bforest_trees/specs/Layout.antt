@@ -2,7 +2,7 @@
 use Rattle.bforest_core.specs.Levels.{flat}
 use Rattle.bforest_core.specs.Paths.{IsAtEnd, OnEntry, list_under, path_root, spot}
 use Rattle.bforest_core.specs.Place.{entry_items, entry_keys}
-use Rattle.bforest_core.specs.Spots.{HasNoParent, IsLeafAt, IsSpot, leaf_place}
+use Rattle.bforest_core.specs.Spots.{HasNoParent, IsLeafAt, IsSpotAt, leaf_place}
 use Rattle.bforest_core.specs.Table.{Table}
 use Rattle.bforest_core.specs.Trees.{IsUnion, tree_of}
 use Rattle.bforest_core.specs.declared.path.Path.{Path}
@@ -25,19 +25,19 @@ module _ {K X : Type 0} where
   entries_on table root spot = flat (drop (leaf_place table root spot) (tree_of table.nodes root).leaves)
 
   -- what is left of the entries from a leaf on, after `index` of them were read: nothing where there is no leaf, and so no key
-  abbrev pub left_in : List K → ℕ → List (K × X) → List (K × X)
-  left_in [] index entries = []
-  left_in (first ∷ keys) index entries = drop index entries
+  abbrev pub unread : List K → ℕ → List (K × X) → List (K × X)
+  unread [] index entries = []
+  unread (first ∷ keys) index entries = drop index entries
 
   -- the entries that are left to a reader
   abbrev pub left_of : {n : ℕ} → Table K X → Reader K X n → List (K × X)
-  left_of table reader = left_in reader.keys.now reader.index (entries_on table reader.root reader.spot)
+  left_of table reader = unread reader.keys.now reader.index (entries_on table reader.root reader.spot)
 
   -- the spot is that of a leaf of these entries
   pub record IsOnLeaf (table : Table K X) (root : ℕ) (spot : Spot) (entries : List (K × X)) : Type 0 where
     pub place : ℕ
     pub number : ℕ
-    pub on : IsSpot table root spot place
+    pub on : IsSpotAt table root spot place
     pub leaf : IsLeafAt table root place number
     pub entries_are : leaf.entries ≡ entries
 
@@ -56,7 +56,7 @@ module _ {K X : Type 0} (most : ℕ) (table : Table K X) (left : List (K × X)) 
   pub record Opens (root : ℕ) (spot : Spot) (number : ℕ) : Type 0 where
     pub union : IsUnion most table
     pub place : ℕ
-    pub on : IsSpot table root spot place
+    pub on : IsSpotAt table root spot place
     pub leaf : IsLeafAt table root place number
     pub left_is : left ≡ flat (drop place (tree_of table.nodes root).leaves)
 

@@ -1,7 +1,7 @@
 -- The way of a code down rows of inner nodes, and the way to the next node: each answer of `node_of` and `next_on` is one of these.
 use Rattle.std.proofs.Common.{IsTrue, ◌≡◌, ◌≢◌, ℕ, zero, suc, ◌+◌, ◌-◌, ◌*◌, ◌/◌, ◌%◌, ◌≤◌, ◌<◌, List, [], ◌∷◌, ◌++◌, length, take, drop, get_or, slice_get, option_map, Some, refl, sym, ap, subst, ◌∙◌, arith, append_assoc, length-append}
 use Rattle.bforest_core.proofs.Words.{nil_from_length, take_at, slice_get_within, Content, Inner, IsFree, entry_count, LevelNode, node, flat, heads, FitRow, RowIn, inner_content, entry_items, entry_keys}
-use Rattle.bforest_core.specs.Spots.{Coded, CodedOver, HasNext, IsLeafAt, IsSpot, IsWay, NumberAt, leaf_count}
+use Rattle.bforest_core.specs.Spots.{Coded, CodedOver, HasNext, IsLeafAt, IsSpotAt, IsWay, NumberAt, leaf_count}
 use Rattle.bforest_core.specs.declared.spot.Spot.{Spot}
 use Rattle.bforest_core.proofs.union.Unions.{is-rooted}
 use Rattle.bforest_core.proofs.Words.{IsUnion, Table, half_of, is_root, leaf_content, tree_of}
@@ -293,7 +293,7 @@ module _ {K V : Type 0} {n : ℕ} {table : Table K V} (union : IsUnion n table) 
       let w = is-rooted n table root union is in
       last ∙ fit_full (half_of n) n (some_leaf n union.1.capacity) (tree_of table.nodes root).leaves w.fit.leaves_fit
 
-module _ {K V : Type 0} {n : ℕ} {table : Table K V} (union : IsUnion n table) {root : ℕ} {spot : Spot} {place : ℕ} (s : IsSpot table root spot place) where
+module _ {K V : Type 0} {n : ℕ} {table : Table K V} (union : IsUnion n table) {root : ℕ} {spot : Spot} {place : ℕ} (s : IsSpotAt table root spot place) where
   -- a spot's code is a way down
   pub spot-over : CodedOver table.nodes root spot.code spot.height s.numbers (tree_of table.nodes root).above (heads (tree_of table.nodes root).leaves) place
   spot-over = let w = is-rooted n table root union s.root_is in record { stacked = w.fit.stacked; inside = w.inside.rows_in; coded = s.coded; root_is = w.root_is; depth_is = s.height_is }
@@ -325,7 +325,7 @@ module _ {K V : Type 0} {n : ℕ} {table : Table K V} (union : IsUnion n table) 
       pub sibling-child : (child : ℕ) → ((keys : List K) (children : List ℕ) → slice_get table.nodes spot.parent ≡ Some (Inner keys children) → slice_get children (spot.code % 8 + 1) ≡ Some child) → IsLeafAt table root (suc place) child
       sibling-child child reads = leaf-at union root s.root_is (next-child spot-over other spot.parent its (length h.entries) counts-next child h.within reads)
 
-      pub sibling-spot : (next : Spot) → next.code ≡ spot.code + 1 → next.parent ≡ spot.parent → next.grand ≡ spot.grand → next.height ≡ spot.height → IsSpot table root next (suc place)
+      pub sibling-spot : (next : Spot) → next.code ≡ spot.code + 1 → next.parent ≡ spot.parent → next.grand ≡ spot.grand → next.height ≡ spot.height → IsSpotAt table root next (suc place)
       sibling-spot next code parent grand height =
           let q = next-code spot-over other spot.parent its (length h.entries) counts-next h.within in
           record {
@@ -359,9 +359,9 @@ module _ {K V : Type 0} {slots : List (Content K V)} {root code depth : ℕ} {nu
   pub second-kept : (grand : ℕ) → ((numbers : List ℕ) (rows : List (List (LevelNode K ℕ))) (list : List (K × ℕ)) (place : ℕ) → CodedOver slots root (code / 8 / 8) (depth - 1 - 1) numbers rows list place → NumberAt list place grand) → get_or (drop 1 numbers) 0 0 ≡ grand
   second-kept grand says = first-kept (here p some).over more grand says
 
-module _ {K V : Type 0} {n : ℕ} {table : Table K V} (union : IsUnion n table) {root : ℕ} {spot : Spot} {place : ℕ} (s : IsSpot table root spot place) where
+module _ {K V : Type 0} {n : ℕ} {table : Table K V} (union : IsUnion n table) {root : ℕ} {spot : Spot} {place : ℕ} (s : IsSpotAt table root spot place) where
   pub spot-height : spot.height ≤ 16
   spot-height = let w = is-rooted n table root union s.root_is in omega (arith, s.height_is, w.low)
 
-  pub far-spot : (next : Spot) (others : List ℕ) → IsWay others next (tree_of table.nodes root).above (suc place) → IsSpot table root next (suc place)
+  pub far-spot : (next : Spot) (others : List ℕ) → IsWay others next (tree_of table.nodes root).above (suc place) → IsSpotAt table root next (suc place)
   far-spot next others w = record { root_is = s.root_is; numbers = others; coded = w.coded; parent_is = w.parent_is; grand_is = w.grand_is; height_is = w.height_is }

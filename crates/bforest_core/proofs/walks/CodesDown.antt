@@ -1,7 +1,7 @@
 -- The way down to the first leaf, as a spot: each answer of `first_below` is one of these.
 use Rattle.std.proofs.Common.{◌≡◌, ℕ, suc, ◌+◌, ◌*◌, ◌/◌, ◌%◌, ◌≤◌, ◌<◌, List, [], ◌∷◌, ◌++◌, IsTrue, length, slice_get, Some, refl, sym, ap, subst, ◌∙◌, arith, append_assoc}
 use Rattle.bforest_core.proofs.Words.{Content, IsInner, LevelNode, heads, half_of, Under, children_of}
-use Rattle.bforest_core.specs.Spots.{Coded, IsSpot, IsWay, NumberAt}
+use Rattle.bforest_core.specs.Spots.{Coded, IsSpotAt, IsWay, NumberAt}
 use Rattle.bforest_core.proofs.Words.{append-nil, Table, is_root, tree_of}
 use Rattle.bforest_core.specs.declared.spot.Spot.{Spot}
 use Rattle.bforest_core.proofs.walks.Codes.{code-low}
@@ -67,7 +67,7 @@ pub way-root : {K : Type 0} (spot : Spot) → spot.code ≡ 0 → spot.height �
 way-root spot code height = record { coded = (code, refl); parent_is = λ low. absurd (omega (arith, low, height)); grand_is = λ low. absurd (omega (arith, low, height)); height_is = height }
 
 -- the way from the root down, at its end
-pub way-spot : {K V : Type 0} (table : Table K V) (root : ℕ) (spot : Spot) (place : ℕ) (numbers : List ℕ) → IsTrue (is_root table.nodes root) → IsWay numbers spot ((tree_of table.nodes root).above ++ []) place → IsSpot table root spot place
+pub way-spot : {K V : Type 0} (table : Table K V) (root : ℕ) (spot : Spot) (place : ℕ) (numbers : List ℕ) → IsTrue (is_root table.nodes root) → IsWay numbers spot ((tree_of table.nodes root).above ++ []) place → IsSpotAt table root spot place
 way-spot {K} table root spot place numbers is w =
     let v = subst (λ (z : List (List (LevelNode K ℕ))). IsWay numbers spot z place) (append-nil (tree_of table.nodes root).above) w in
     record { root_is = is; numbers = numbers; coded = v.coded; parent_is = v.parent_is; grand_is = v.grand_is; height_is = v.height_is }

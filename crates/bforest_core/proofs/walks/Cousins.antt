@@ -1,7 +1,7 @@
 -- The step of a spot to a leaf with another parent, and the place of a spot's leaf.
 use Rattle.std.proofs.Common.{◌≡◌, ◌≢◌, ℕ, suc, ◌+◌, ◌-◌, ◌*◌, ◌/◌, ◌%◌, ◌≤◌, ◌<◌, List, [], ◌∷◌, drop, length, slice_get, take, IfSome, Option, Some, inl, inr, refl, sym, ap, subst, ◌∙◌, arith}
 use Rattle.bforest_core.proofs.Words.{cases_lt, eqb_tells, take_at, Content, Inner, IsFree, IsUnion, LevelNode, Table, entry_count, flat, heads, inner_content, tree_of}
-use Rattle.bforest_core.specs.Spots.{Coded, CodedOver, HasNext, IsLeafAt, IsSpot, IsWay, NumberAt, leaf_count, leaf_place, place_by}
+use Rattle.bforest_core.specs.Spots.{Coded, CodedOver, HasNext, IsLeafAt, IsSpotAt, IsWay, NumberAt, leaf_count, leaf_place, place_by}
 use Rattle.bforest_core.specs.declared.spot.Spot.{Spot}
 use Rattle.bforest_core.proofs.table.Stored.{some_same, item_count}
 use Rattle.bforest_core.proofs.removal.Removal.{if_some}
@@ -17,10 +17,10 @@ coded-place numbers (row ∷ rows) code place c =
     ap (λ z. length (flat z) + code % 8) front ∙ sym at.place_is
 
 -- the place of a spot's leaf
-pub place-is : {K V : Type 0} {table : Table K V} {root : ℕ} {spot : Spot} {place : ℕ} → IsSpot table root spot place → leaf_place table root spot ≡ place
+pub place-is : {K V : Type 0} {table : Table K V} {root : ℕ} {spot : Spot} {place : ℕ} → IsSpotAt table root spot place → leaf_place table root spot ≡ place
 place-is {table = table} {root = root} {spot = spot} {place = place} s = coded-place s.numbers (tree_of table.nodes root).above spot.code place s.coded
 
-module _ {K V : Type 0} {n : ℕ} {table : Table K V} (union : IsUnion n table) {root : ℕ} {spot : Spot} {place : ℕ} (s : IsSpot table root spot place) (last : HasNext table spot → ⊥) where
+module _ {K V : Type 0} {n : ℕ} {table : Table K V} (union : IsUnion n table) {root : ℕ} {spot : Spot} {place : ℕ} (s : IsSpotAt table root spot place) (last : HasNext table spot → ⊥) where
   module _ (some : 0 < spot.height) where
     abbrev way : CodedOver table.nodes root spot.code spot.height s.numbers (tree_of table.nodes root).above (heads (tree_of table.nodes root).leaves) place
     way = spot-over union s
@@ -86,7 +86,7 @@ module _ {K V : Type 0} {n : ℕ} {table : Table K V} (union : IsUnion n table) 
 
         module _ (leaf : ℕ) (found : (keys : List K) (items : List ℕ) → slice_get table.nodes parent ≡ Some (Inner keys items) → slice_get items 0 ≡ Some leaf) where
           -- the next leaf is the first child of the next parent
-          pub cousin : (next : Spot) → next.code ≡ (spot.code / 8 + 1) * 8 → next.parent ≡ parent → next.grand ≡ spot.grand → next.height ≡ spot.height → IsSpot table root next (suc place) × IsLeafAt table root (suc place) leaf
+          pub cousin : (next : Spot) → next.code ≡ (spot.code / 8 + 1) * 8 → next.parent ≡ parent → next.grand ≡ spot.grand → next.height ≡ spot.height → IsSpotAt table root next (suc place) × IsLeafAt table root (suc place) leaf
           cousin next code parent_is grand height =
               let over = first-code (spot-over union s) (other union s some) spot.parent (its union s some) (count some) (counts some) (high some) (spot.code / 8 + 1) parent on in (
                 record {
@@ -102,7 +102,7 @@ module _ {K V : Type 0} {n : ℕ} {table : Table K V} (union : IsUnion n table) 
 
 -- what is said of the node that a way from the root leads to, of a spot
 pub far-said : {K V : Type 0} {n : ℕ} {table : Table K V} (union : IsUnion n table) (root : ℕ) (spot : Spot) (found : Option (Spot × ℕ)) → IfSome found (λ f. (numbers : List ℕ) (rows : List (List (LevelNode K ℕ))) (list : List (K × ℕ)) (place : ℕ) → CodedOver table.nodes root spot.code spot.height numbers rows list place → (others : List ℕ) × IsWay others f.0 rows (suc place) × NumberAt list (suc place) f.1) →
-    IfSome found (λ f. (place : ℕ) → IsSpot table root spot place → IsSpot table root f.0 (suc place) × IsLeafAt table root (suc place) f.1)
+    IfSome found (λ f. (place : ℕ) → IsSpotAt table root spot place → IsSpotAt table root f.0 (suc place) × IsLeafAt table root (suc place) f.1)
 far-said {K} {table = table} union root spot found says = if_some _ _ found (λ f far place s.
     let r = far s.numbers (tree_of table.nodes root).above (heads (tree_of table.nodes root).leaves) place (spot-over union s) in
     (far-spot union s f.0 r.0 r.1, leaf-at union root s.root_is r.2)) says

@@ -21,3 +21,6 @@ returns-then-self-lt2-clause-none g c = λ none place s. last-low c.requires.uni
 
 pub next_cousin-requires : goal.next_cousin-requires
 next_cousin-requires g c = (search rules, (search rules, (c.requires.spot (λ none. omega (arith, none, c.if-self-lt2.false)), (omega (arith, c.if-self-lt2.false), c.has_next.ensures.none c.if-has_next.false))))
+
+pub returns-then-self-lt2-clause-some : goal.returns-then-self-lt2-clause-some
+returns-then-self-lt2-clause-some g c = tt
