@@ -1,7 +1,6 @@
 -- The number of the first keys of a row that are less than a key, or not greater, from tests of a few keys.
-use Rattle.std.proofs.Common.{◌≡◌, ◌≢◌, Bool, ℕ, zero, suc, ◌-◌, ◌<◌, ◌≤◌, true, false, not, Option, Some, List, [], ◌∷◌, get_or, length, take, refl, sym, ap, ◌∙◌, inl, inr, arith}
+use Rattle.std.proofs.Common.{◌≡◌, Bool, ℕ, zero, suc, ◌<◌, ◌≤◌, true, false, not, Option, Some, List, [], ◌∷◌, get_or, length, take, refl, sym, ap, ◌∙◌, inl, inr, arith}
 use Rattle.std.proofs.lemmas.Bool.{cases_lt}
-use Rattle.std.proofs.lemmas.Bool.Decides.{eqb_tells}
 use Rattle.std.proofs.lemmas.List.{get_or-take, get_or_default, length-take-le}
 use Rattle.std.proofs.lemmas.Map.Keys.{Less-from_sorted}
 use Rattle.std.specs.Cmp.{IsTotalOrder}
@@ -11,39 +10,6 @@ use Rattle.std.specs.declared.cmp.Ordering.TheVariants.{Equal, Greater, Less}
 use Rattle.std.specs.declared.cmp.Ordering.{Ordering}
 use Rattle.bforest_nodes.specs.Search.{count_less, count_up_to}
 use Rattle.bforest_nodes.proofs.Searched.{before, count_less-from_parts, count_up_to-no, count_up_to-yes, greater, not_before}
-
--- an index of one of the first keys: the test is low for those before it, and high for it
-pub record Among {K : Type 0} (test : K → Bool) (low high : Bool) (row : List K) (len at : ℕ) : Type 0 where
-  pub within : at < len
-  pub before : (j : ℕ) (d : K) → j < at → test (get_or row j d) ≡ low
-  pub here : (d : K) → at < len → test (get_or row at d) ≡ high
-
--- a scan finds such an index, where the test is low for the first of these keys and high for the last
-module _ {K : Type 0} (test : K → Bool) (low high : Bool) (apart : low ≢ high) (row : List K) (len r : ℕ) (within : len ≤ length row) (some : 0 < len) (first : (d : K) → test (get_or row 0 d) ≡ low) (last : (d : K) → test (get_or row (len - 1) d) ≡ high)
-    (before : (j : ℕ) (d : K) → 0 < j → j < r → test (get_or row j d) ≡ low) (here : (d : K) → suc r ≢ length row → test (get_or row r d) ≡ high) where
-  scan-within : K → r < len
-  scan-within d = elim (cases_lt r len) [
-    | inl less ↦ less
-    | inr past ↦ absurd (elim (eqb_tells len 1) [
-      | inl w ↦ (let one = w.1 in apart (sym (first d) ∙ ap (λ z. test (get_or row z d)) (omega (arith, one)) ∙ last d))
-      | inr w ↦ (let more = w.1 in apart (sym (before (len - 1) d (omega (arith, more, some)) (omega (arith, past, some))) ∙ last d))
-    ])
-  ]
-
-  scan-before : (j : ℕ) (d : K) → j < r → test (get_or row j d) ≡ low
-  scan-before j d less = elim (eqb_tells j 0) [
-    | inl w ↦ ap (λ z. test (get_or row z d)) w.1 ∙ first d
-    | inr w ↦ (let ne = w.1 in before j d (omega (arith, ne)) less)
-  ]
-
-  scan-here : (d : K) → r < len → test (get_or row r d) ≡ high
-  scan-here d less = elim (eqb_tells (suc r) (length row)) [
-    | inl w ↦ (let e = w.1 in ap (λ z. test (get_or row z d)) (omega (arith, e, less, within)) ∙ last d)
-    | inr w ↦ here d w.1
-  ]
-
-  pub among : K → Among test low high row len r
-  among d = record { within = scan-within d; before = scan-before; here = scan-here }
 
 module _ {K : Type 0} (cmp : K → K → Ordering) where
   -- where the first i keys are not greater and the others are, i keys are not greater

@@ -12,3 +12,4 @@ mod States
 mod Shares
 pub mod Scanned
 pub mod Bounds
+mod Halves

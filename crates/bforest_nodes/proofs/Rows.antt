@@ -1,7 +1,7 @@
 -- Inline elements, moved up and down.
 use Rattle.std.proofs.Common.{◌≡◌, ℕ, ◌+◌, ◌-◌, ◌<◌, ◌≤◌, zero, suc, List, [], ◌∷◌, ◌++◌, length, take, drop, insert, remove, slice_set, slice_get, Some, refl, sym, ap, ◌∙◌, arith, append_assoc}
 use Rattle.std.specs.List.{copy_within}
-use Rattle.std.proofs.lemmas.List.{take_at, length-take-le, length-drop, take-take}
+use Rattle.std.proofs.lemmas.List.{take_at, drop_at, length-take-le, length-drop, take-append-le, take-take}
 use Rattle.bforest_nodes.proofs.Seams.{last_taken}
 
 module _ {X : Type 0} where
@@ -71,6 +71,15 @@ module _ {X : Type 0} where
   take_none zero = refl
   take_none (suc n) = refl
 
+  -- the first elements of a list that begins with a whole other list
+  take_beyond : (fs xs : List X) (i n : ℕ) → length fs ≡ i → take (i + n) (fs ++ xs) ≡ fs ++ take n xs
+  take_beyond [] xs zero n e = let same : 0 + n ≡ n = omega arith in ap (λ k. take k xs) same
+  take_beyond [] xs (suc i) n e = absurd (omega arith)
+  take_beyond (f ∷ fs) xs zero n e = absurd (omega arith)
+  take_beyond (f ∷ fs) xs (suc i) n e =
+      let up : suc i + n ≡ suc (i + n) = omega arith in
+      ap (λ k. take k (f ∷ (fs ++ xs))) up ∙ ap (λ zs. f ∷ zs) (take_beyond fs xs i n (omega arith))
+
   -- the elements after the first i of the first n
   pub drop_front : (xs : List X) (n i : ℕ) → i ≤ n → take (n - i) (drop i xs) ≡ drop i (take n xs)
   drop_front xs n zero h = let same : n - 0 ≡ n = omega arith in ap (λ k. take k xs) same
@@ -81,11 +90,25 @@ module _ {X : Type 0} where
       let same : suc n - suc i ≡ n - i = omega arith in
       ap (λ k. take k (drop i ys)) same ∙ drop_front ys n i (omega arith)
 
-  -- removing the first i of the first n elements
-  pub removed_front : (xs : List X) (n i : ℕ) → i ≤ n → n ≤ length xs → take (n - i) (copy_within xs i n 0) ≡ drop i (take n xs)
-  removed_front xs n i h k =
-      let size : length (take (n - i) (drop i xs)) ≡ n - i = length-take-le (n - i) (drop i xs) (omega (arith, length-drop i xs)) in
-      take_at (take (n - i) (drop i xs)) (drop (0 + (n - i)) xs) (n - i) size ∙ drop_front xs n i h
+  -- removing the first i of the first n elements, where those up to m moved down
+  pub removed_front : (xs : List X) (n i m : ℕ) → i ≤ n → n ≤ m → m ≤ length xs → take (n - i) (copy_within xs i m 0) ≡ drop i (take n xs)
+  removed_front xs n i m h k room =
+      let size : length (take (m - i) (drop i xs)) ≡ m - i = length-take-le (m - i) (drop i xs) (omega (arith, length-drop i xs)) in
+      take-append-le (n - i) (take (m - i) (drop i xs)) (drop (0 + (m - i)) xs) (omega (arith, size))
+      ∙ take-take (n - i) (m - i) (drop i xs) (omega arith)
+      ∙ drop_front xs n i h
+
+  -- inserting the first i elements of another list before the first n, where those up to m moved up
+  pub put_front : (xs fs : List X) (n i m : ℕ) → n ≤ m → m + i ≤ length xs → i ≤ length fs → take (i + n) (take i fs ++ drop i (copy_within xs 0 m i)) ≡ take i fs ++ take n xs
+  put_front xs fs n i m h room front =
+      let whole : m - 0 ≡ m = omega arith in
+      let e : drop i (copy_within xs 0 m i) ≡ take m xs ++ drop (i + m) xs =
+      ap (drop i) (append_assoc (take i xs) (take (m - 0) xs) (drop (i + (m - 0)) xs))
+      ∙ drop_at (take i xs) (take (m - 0) xs ++ drop (i + (m - 0)) xs) i (length-take-le i xs (omega arith))
+      ∙ ap (λ k. take k xs ++ drop (i + k) xs) whole in
+      ap (λ zs. take (i + n) (take i fs ++ zs)) e
+      ∙ take_beyond (take i fs) (take m xs ++ drop (i + m) xs) i n (length-take-le i fs front)
+      ∙ ap (λ zs. take i fs ++ zs) (take-append-le n (take m xs) (drop (i + m) xs) (omega (arith, length-take-le m xs)) ∙ take-take n m xs h)
 
   -- an element of the first n
   pub at_front : (xs : List X) (n i : ℕ) (x : X) → i < n → slice_get xs i ≡ Some x → slice_get (take n xs) i ≡ Some x

@@ -3,7 +3,7 @@ ghost use Rattle.bforest_nodes.specs.Search.{count_less, count_up_to, search_of}
 ghost use Rattle.std.specs.Cmp.{IsTotalOrder};
 ghost use Rattle.std.specs.List.Sorted.{IsStrictlySortedBy};
 ghost use Rattle.std.specs.Ordering.{is_gt, is_lt};
-ghost use Rattle.std.specs.Prelude.{false, get_or, length, suc, take, true, ◌<◌, ◌≡◌, ◌≢◌, ◌≤◌, ℕ};
+ghost use Rattle.std.specs.Prelude.{false, get_or, if◌then◌else◌, length, take, true, ◌+◌, ◌-◌, ◌/◌, ◌<◌, ◌≡◌, ◌≤◌, ℕ};
 ghost use Rattle.std.specs.declared.cmp.Ordering.{Ordering};
 
 use std::cmp::{Ord, Ordering};
@@ -79,10 +79,13 @@ pub trait Comparator<K: Copy> {
     ghost total: { (c : Self) → IsTotalOrder (order c) };
 }
 
+// The length above which a row of an odd length is searched in one of its halves.
+const LONG: usize = 8;
+
 /// The keys' own order, by `Ord`.
 ///
 /// A search in a slice compares with each key once, and then with one of them once more. A search in a node's row compares with the first
-/// key and the last valid one, and only between these two with all other keys of the row.
+/// key and the last valid one, and only between these two with all other keys of the row, or of one half of a long row.
 impl<K: Copy + Ord> Comparator<K> for () {
     ghost order = { λ _. K.cmp };
 
@@ -129,7 +132,7 @@ impl<K: Copy + Ord> Comparator<K> for () {
         if row[len - 1] <= k {
             return len;
         }
-        first_greater(k, row)
+        first_greater(k, row, len)
     }
 }
 
@@ -146,18 +149,25 @@ fn lower_bound<K: Copy + Ord>(k: K, row: &[K], len: usize) -> usize
     if row[len - 1] < k {
         return len;
     }
-    first_not_less(k, row)
+    first_not_less(k, row, len)
 }
 
-// Returns the least index greater than 0 whose key is not less than `k`, or the last index where there is none. It reads the whole row
-// from the right, and chooses without a branch.
-fn first_not_less<K: Copy + Ord>(k: K, row: &[K]) -> usize
-    requires { 0 < length row.now }
-    ensures within { result < length row.now }
-    ensures before { (j : ℕ) (d : K) → 0 < j → j < result → is_lt (K.cmp (get_or row.now j d) k) ≡ true }
-    ensures here { (d : K) → suc result ≢ length row.now
-        → is_lt (K.cmp (get_or row.now result d) k) ≡ false }
+// Returns an index among the first `len` whose key is not less than `k`, while the key before it is less. It reads the whole row from the
+// right, or one half of a long row, and chooses without a branch.
+fn first_not_less<K: Copy + Ord>(k: K, row: &[K], len: usize) -> usize
+    requires some { 0 < len }
+    requires most { len ≤ length row.now }
+    requires first { (d : K) → is_lt (K.cmp (get_or row.now 0 d) k) ≡ true }
+    requires last { (d : K) → is_lt (K.cmp (get_or row.now (len - 1) d) k) ≡ false }
+    ensures within { result < len }
+    ensures before { (d : K) → is_lt (K.cmp (get_or row.now (result - 1) d) k) ≡ true }
+    ensures here { (d : K) → is_lt (K.cmp (get_or row.now result d) k) ≡ false }
 {
+    if row.len() > LONG && row.len() % 2 == 1 {
+        let middle = row.len() / 2;
+        let start = middle_if((len > middle) & (row[middle] < k), middle);
+        return first_not_less_behind(start, k, row);
+    }
     let mut at = row.len() - 1;
     for back in 2..row.len() {
         let index = row.len() - back;
@@ -166,18 +176,72 @@ fn first_not_less<K: Copy + Ord>(k: K, row: &[K]) -> usize
     at
 }
 
-// Returns the least index greater than 0 whose key is greater than `k`, or the last index where there is none, without a branch.
-fn first_greater<K: Copy + Ord>(k: K, row: &[K]) -> usize
-    requires { 0 < length row.now }
-    ensures within { result < length row.now }
-    ensures before { (j : ℕ) (d : K) → 0 < j → j < result → is_gt (K.cmp (get_or row.now j d) k) ≡ false }
-    ensures here { (d : K) → suc result ≢ length row.now
-        → is_gt (K.cmp (get_or row.now result d) k) ≡ true }
+// Returns an index among the first `len` whose key is greater than `k`, while the key before it is not. It reads as `first_not_less` does.
+fn first_greater<K: Copy + Ord>(k: K, row: &[K], len: usize) -> usize
+    requires some { 0 < len }
+    requires most { len ≤ length row.now }
+    requires first { (d : K) → is_gt (K.cmp (get_or row.now 0 d) k) ≡ false }
+    requires last { (d : K) → is_gt (K.cmp (get_or row.now (len - 1) d) k) ≡ true }
+    ensures within { result < len }
+    ensures before { (d : K) → is_gt (K.cmp (get_or row.now (result - 1) d) k) ≡ false }
+    ensures here { (d : K) → is_gt (K.cmp (get_or row.now result d) k) ≡ true }
 {
+    if row.len() > LONG && row.len() % 2 == 1 {
+        let middle = row.len() / 2;
+        let start = middle_if((len > middle) & (row[middle] <= k), middle);
+        return first_greater_behind(start, k, row);
+    }
     let mut at = row.len() - 1;
     for back in 2..row.len() {
         let index = row.len() - back;
-        at = if row[index] > k { index } else { at };
+        at = if row[index] <= k { at } else { index };
+    }
+    at
+}
+
+// Returns `middle` if the right half is to be searched, or 0, without a branch.
+fn middle_if(right: bool, middle: usize) -> usize
+    ensures { result ≡ (if right then middle else 0) }
+{
+    middle * right as usize
+}
+
+// Returns the least index behind `start` whose key is not less than `k`, or the last index that is read where there is none. It reads as many
+// keys behind `start` as half of the row's length, from the right, and chooses without a branch.
+fn first_not_less_behind<K: Copy + Ord>(start: usize, k: K, row: &[K]) -> usize
+    requires some { 1 < length row.now }
+    requires within { start + length row.now / 2 < length row.now }
+    ensures behind { start < result }
+    ensures within { result ≤ start + length row.now / 2 }
+    ensures before { (j : ℕ) (d : K) → start < j → j < result → is_lt (K.cmp (get_or row.now j d) k) ≡ true }
+    ensures here { (d : K) → result < start + length row.now / 2
+        → is_lt (K.cmp (get_or row.now result d) k) ≡ false }
+{
+    let middle = row.len() / 2;
+    let mut at = start + middle;
+    for back in 1..middle {
+        let place = start + middle - back;
+        at = if row[place] < k { at } else { place };
+    }
+    at
+}
+
+// Returns the least index behind `start` whose key is greater than `k`, or the last index that is read where there is none. It reads the keys
+// that `first_not_less_behind` reads.
+fn first_greater_behind<K: Copy + Ord>(start: usize, k: K, row: &[K]) -> usize
+    requires some { 1 < length row.now }
+    requires within { start + length row.now / 2 < length row.now }
+    ensures behind { start < result }
+    ensures within { result ≤ start + length row.now / 2 }
+    ensures before { (j : ℕ) (d : K) → start < j → j < result → is_gt (K.cmp (get_or row.now j d) k) ≡ false }
+    ensures here { (d : K) → result < start + length row.now / 2
+        → is_gt (K.cmp (get_or row.now result d) k) ≡ true }
+{
+    let middle = row.len() / 2;
+    let mut at = start + middle;
+    for back in 1..middle {
+        let place = start + middle - back;
+        at = if row[place] <= k { at } else { place };
     }
     at
 }

@@ -9,6 +9,9 @@ use crate::lent;
 const SHORT: usize = 8;
 
 /// Room for `N` elements. Those after the ones that count have no meaning.
+///
+/// A move whose length is fixed takes a few instructions, and one of another length calls a function of memory. Therefore the numbers of
+/// elements that halving and sharing move most often have a branch of their own, which moves elements without meaning too.
 #[derive(Clone, Copy)]
 pub(crate) struct Row<T, const N: usize> {
     pub(crate) items: [T; N],
@@ -119,7 +122,13 @@ impl<T: Copy, const N: usize> Row<T, N> {
         ensures { take (len - at) result.items ≡ drop at (take len self.now.items) }
     {
         let mut row = *self;
-        row.items.copy_within(at..len, 0);
+        if at == N / 2 {
+            row.items.copy_within(N / 2..N, 0);
+        } else if at == N / 2 + 1 {
+            row.items.copy_within(N / 2 + 1..N, 0);
+        } else {
+            row.items.copy_within(at..len, 0);
+        }
         row
     }
 
@@ -128,8 +137,14 @@ impl<T: Copy, const N: usize> Row<T, N> {
         requires { count + len ≤ N }
         ensures { take (count + len) self.new.items ≡ take count front.now.items ++ take len self.old.items }
     {
-        self.items.copy_within(..len, count);
-        self.items[..count].copy_from_slice(front.front(count));
+        let half = N.saturating_sub(1) / 2;
+        if count == half {
+            self.items.copy_within(..N - half, half);
+            self.items[..half].copy_from_slice(front.front(half));
+        } else {
+            self.items.copy_within(..len, count);
+            self.items[..count].copy_from_slice(front.front(count));
+        }
     }
 
     /// Appends the first `count` of the first `from_len` elements of `from` after the first `len` of this row.
@@ -140,8 +155,15 @@ impl<T: Copy, const N: usize> Row<T, N> {
         ensures { take (len + count) self.new.items ≡ take len self.old.items ++ take count
             (take from_len from.now.items) }
     {
-        let items = &mut self.items[..];
-        items[len..len + count].copy_from_slice(from.front(count));
+        if count == 1 {
+            self.items[len] = from.items[0];
+        } else if count == 2 {
+            self.items[len] = from.items[0];
+            self.items[len + 1] = from.items[1];
+        } else {
+            let items = &mut self.items[..];
+            items[len..len + count].copy_from_slice(from.front(count));
+        }
     }
 
     /// Removes the first `count` of the first `len` elements.
@@ -151,7 +173,13 @@ impl<T: Copy, const N: usize> Row<T, N> {
         requires within { count ≤ len }
         ensures { take (len - count) self.new.items ≡ drop count (take len self.old.items) }
     {
-        self.items.copy_within(count..len, 0);
+        if count == 1 {
+            self.items.copy_within(1..N, 0);
+        } else if count == 2 {
+            self.items.copy_within(2..N, 0);
+        } else {
+            self.items.copy_within(count..len, 0);
+        }
     }
 }
 

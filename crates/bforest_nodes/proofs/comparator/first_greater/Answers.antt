@@ -1,26 +1,37 @@
-use Rattle.std.proofs.Common.{◌≡◌, false, true, sym, ap, ◌∙◌, arith}
-use Rattle.std.specs.Ordering.{is_gt, is_some_and}
-use Rattle.bforest_nodes.proofs.Scanned.{scanning-first, scanning-here, scanning-past}
+use Rattle.std.proofs.Common.{◌/◌, ◌<◌, false, true, length, not, ap, ◌∙◌, arith, refl}
+use Rattle.std.proofs.lemmas.Bool.{false≢true}
+use Rattle.std.specs.Ordering.{is_gt}
+use Rattle.bforest_nodes.proofs.Bounds.{told-le}
+use Rattle.bforest_nodes.proofs.Halves.{Starts, ends-within, half-here, half-starts, whole-here}
+use Rattle.bforest_nodes.proofs.comparator.first_greater.Given.{Over}
 use Rattle.bforest_nodes.proofs.comparator.first_greater.Goals as goal
-use Rattle.bforest_nodes.proofs.comparator.first_greater.Goals.{then-gt, else-gt}
 
-pub loop-back-init : goal.loop-back-init
-loop-back-init g c = scanning-first _ false true c.args.row.now c.requires _ (omega arith)
+-- the start of the half that was chosen
+starts : (g : Over) (c : goal.After-first_greater_behind g) → Starts (λ x. is_gt (g.K.Ord.cmp x c.args.k)) false true false≢true c.args.row.now c.args.len c.requires.most c.requires.some c.requires.first c.requires.last (length c.args.row.now / 2) c.middle_if-start.result
+starts g c =
+    let long : length c.args.row.now / 2 < length c.args.row.now = omega (arith, c.if-row-gt-LONG.true) in
+    let told = told-le g.K.Ord.cmp g.K.PartialOrd.partial_cmp g.met.K.Ord.matches_partial_cmp c.args.row.now (length c.args.row.now / 2) c.index-row-middle.result c.args.k long c.index-row-middle.is c.le.result c.le.ensures in
+    half-starts (λ x. is_gt (g.K.Ord.cmp x c.args.k)) false true false≢true c.args.row.now c.args.len c.requires.most c.requires.some c.requires.first c.requires.last (length c.args.row.now / 2) c.le.result (λ e d. told d ∙ ap not e) (λ e d. told d ∙ ap not e) c.middle_if-start.result c.middle_if-start.ensures
 
-pub loop-back-preserved : goal.loop-back-preserved
-loop-back-preserved g c =
-    let x = c.index-row-index.result in
-    let told : c.gt.result ≡ is_gt (g.K.Ord.cmp x c.args.k) = c.gt.ensures ∙ ap (λ o. is_some_and is_gt o) (g.met.K.Ord.matches_partial_cmp x c.args.k) in
-    elim c.if-gt.branch [
-      | then-gt w ↦ scanning-here _ false true c.args.row.now c.loop-back.at c.loop-back.back c.loop-back.invariant c.loop-back.auto.back c.loop-back-test.true x c.index-row-index.is c.if-gt.at w.at-is (sym told ∙ w.if-gt.true)
-      | else-gt w ↦ scanning-past _ false true c.args.row.now c.loop-back.at c.loop-back.back c.loop-back.invariant c.loop-back.auto.back c.loop-back-test.true x c.index-row-index.is c.if-gt.at w.at-is (sym told ∙ w.if-gt.false)
-    ]
+within : (g : Over) (c : goal.After-first_greater_behind g) → c.first_greater_behind.result < c.args.len
+within g c =
+    let s = starts g c in
+    ends-within (λ x. is_gt (g.K.Ord.cmp x c.args.k)) false true false≢true c.args.row.now c.args.len c.requires.most c.requires.some c.requires.first c.requires.last c.args.k c.middle_if-start.result c.first_greater_behind.result s.among s.at_start c.first_greater_behind.ensures.before
+
+pub returns-then-row-eq1-clause-within : goal.returns-then-row-eq1-clause-within
+returns-then-row-eq1-clause-within g c = within g c
+
+pub returns-then-row-eq1-clause-here : goal.returns-then-row-eq1-clause-here
+returns-then-row-eq1-clause-here g c = half-here (λ x. is_gt (g.K.Ord.cmp x c.args.k)) false true false≢true c.args.row.now c.args.len c.requires.most c.requires.some c.requires.first c.requires.last _ _ _ (starts g c) refl c.if-row-eq1.true c.first_greater_behind.ensures.behind c.first_greater_behind.ensures.within (within g c) c.first_greater_behind.ensures.here
 
 pub returns-clause-within : goal.returns-clause-within
-returns-clause-within g c = c.loop-back.invariant.within
-
-pub returns-clause-before : goal.returns-clause-before
-returns-clause-before g c = λ j d some less. c.loop-back.invariant.before j d (omega (arith, some, c.loop-back-test.false)) less
+returns-clause-within g c =
+    let i = c.loop-back.invariant in
+    ends-within (λ x. is_gt (g.K.Ord.cmp x c.args.k)) false true false≢true c.args.row.now c.args.len c.requires.most c.requires.some c.requires.first c.requires.last c.args.k 0 c.loop-back.at c.requires.some c.requires.first (λ j d some less. i.before j d (omega (arith, some, c.loop-back-test.false)) less)
 
 pub returns-clause-here : goal.returns-clause-here
-returns-clause-here g c = λ d ne. c.loop-back.invariant.here d ne
+returns-clause-here g c =
+    let i = c.loop-back.invariant in
+    whole-here (λ x. is_gt (g.K.Ord.cmp x c.args.k)) false true false≢true c.args.row.now c.args.len c.requires.most c.requires.some c.requires.first c.requires.last c.loop-back.at
+    (ends-within (λ x. is_gt (g.K.Ord.cmp x c.args.k)) false true false≢true c.args.row.now c.args.len c.requires.most c.requires.some c.requires.first c.requires.last c.args.k 0 c.loop-back.at c.requires.some c.requires.first (λ j d some less. i.before j d (omega (arith, some, c.loop-back-test.false)) less))
+    i.here

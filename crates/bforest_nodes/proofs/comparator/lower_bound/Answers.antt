@@ -1,9 +1,7 @@
 use Rattle.std.proofs.Common.{◌-◌, ◌<◌, true, false, get_or, ap, sym, ◌∙◌, inl, inr, arith}
-use Rattle.std.proofs.lemmas.Bool.{false≢true}
 use Rattle.std.proofs.lemmas.Bool.Decides.{eqb_tells}
 use Rattle.std.specs.Ordering.{is_lt}
-use Rattle.bforest_nodes.proofs.Bounds.{Among, among, less-at, less-before, told-ge, told-lt}
-use Rattle.bforest_nodes.proofs.comparator.lower_bound.Given.{Over}
+use Rattle.bforest_nodes.proofs.Bounds.{less-at, less-before, told-ge, told-lt}
 use Rattle.bforest_nodes.proofs.comparator.lower_bound.Goals.{then-len-eq0-via-then-len-eq0, then-len-eq0-via-else-len-eq0+then-ge}
 use Rattle.bforest_nodes.proofs.comparator.lower_bound.Goals as goal
 
@@ -30,24 +28,27 @@ returns-then-lt-clause-count g c = λ sorted.
     ])
     (λ d bad. absurd (omega (arith, bad)))
 
--- the scan finds an index among the keys that count
-found : (g : Over) (c : goal.After-first_not_less g) → Among (λ x. is_lt (g.K.Ord.cmp x c.args.k)) true false c.args.row.now c.args.len c.first_not_less.result
-found g c =
+pub first_not_less-requires : goal.first_not_less-requires
+first_not_less-requires g c =
     let cmp = g.K.Ord.cmp in
     let partial = g.K.PartialOrd.partial_cmp in
     let matches = g.met.K.Ord.matches_partial_cmp in
     let row = c.args.row.now in
     let len = c.args.len in
     let some : 0 < len = let ne = c.if-len-eq0.false in omega (arith, ne) in
-    let first = told-ge cmp partial matches row 0 c.index-row-0.result c.args.k (omega (arith, some, c.requires)) c.index-row-0.is false (sym c.if-ge.false ∙ c.ge.ensures) in
-    let last = told-lt cmp partial matches row (len - 1) c.index-row-len.result c.args.k (omega (arith, some, c.requires)) c.index-row-len.is false (sym c.if-lt.false ∙ c.lt.ensures) in
-    let r = c.first_not_less.ensures in
-    among (λ (x : g.row.K.Denot). is_lt (cmp x c.args.k)) true false (λ e. false≢true (sym e)) row len c.first_not_less.result c.requires some first last r.before r.here c.args.k
-
-pub returns-clause-within : goal.returns-clause-within
-returns-clause-within g c = let f = found g c in omega (arith, f.within)
+    record {
+      some = some;
+      most = c.requires;
+      first = told-ge cmp partial matches row 0 c.index-row-0.result c.args.k (omega (arith, some, c.requires)) c.index-row-0.is false (sym c.if-ge.false ∙ c.ge.ensures);
+      last = told-lt cmp partial matches row (len - 1) c.index-row-len.result c.args.k (omega (arith, some, c.requires)) c.index-row-len.is false (sym c.if-lt.false ∙ c.lt.ensures);
+    }
 
 pub returns-clause-count : goal.returns-clause-count
 returns-clause-count g c = λ sorted.
-    let f = found g c in
-    less-at g.K.Ord.cmp g.met.K.Ord.total c.args.row.now c.args.len c.args.k c.requires sorted c.first_not_less.result (omega (arith, f.within)) f.before f.here
+    let r = c.first_not_less.ensures in
+    less-at g.K.Ord.cmp g.met.K.Ord.total c.args.row.now c.args.len c.args.k c.requires sorted c.first_not_less.result (omega (arith, r.within))
+    (λ j d low. elim (eqb_tells j (c.first_not_less.result - 1)) [
+      | inl w ↦ ap (λ z. is_lt (g.K.Ord.cmp (get_or c.args.row.now z d) c.args.k)) w.1 ∙ r.before d
+      | inr w ↦ less-before g.K.Ord.cmp g.met.K.Ord.total c.args.row.now c.args.len c.args.k c.requires sorted (c.first_not_less.result - 1) j d (let ne = w.1 in omega (arith, ne, low)) (omega (arith, r.within)) (r.before d)
+    ])
+    (λ d _. r.here d)

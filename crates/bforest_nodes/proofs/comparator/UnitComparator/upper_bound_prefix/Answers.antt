@@ -1,9 +1,7 @@
 use Rattle.std.proofs.Common.{◌-◌, ◌<◌, true, false, get_or, ap, sym, ◌∙◌, inl, inr, arith}
-use Rattle.std.proofs.lemmas.Bool.{false≢true}
 use Rattle.std.proofs.lemmas.Bool.Decides.{eqb_tells}
 use Rattle.std.specs.Ordering.{is_gt}
-use Rattle.bforest_nodes.proofs.Bounds.{Among, among, told-gt, told-le, up_to-at, up_to-before}
-use Rattle.bforest_nodes.proofs.comparator.UnitComparator.upper_bound_prefix.Given.{Over}
+use Rattle.bforest_nodes.proofs.Bounds.{told-gt, told-le, up_to-at, up_to-before}
 use Rattle.bforest_nodes.proofs.comparator.UnitComparator.upper_bound_prefix.Goals.{then-len-eq0-via-then-len-eq0, then-len-eq0-via-else-len-eq0+then-gt}
 use Rattle.bforest_nodes.proofs.comparator.UnitComparator.upper_bound_prefix.Goals as goal
 
@@ -30,21 +28,27 @@ returns-then-le g c = λ sorted.
     ])
     (λ d bad. absurd (omega (arith, bad)))
 
--- the scan finds an index among the keys that count
-found : (g : Over) (c : goal.After-first_greater g) → Among (λ x. is_gt (g.K.Ord.cmp x c.args.k)) false true c.args.row.now c.args.len c.first_greater.result
-found g c =
+pub first_greater-requires : goal.first_greater-requires
+first_greater-requires g c =
     let cmp = g.K.Ord.cmp in
     let partial = g.K.PartialOrd.partial_cmp in
     let matches = g.met.K.Ord.matches_partial_cmp in
     let row = c.args.row.now in
     let len = c.args.len in
     let some : 0 < len = let ne = c.if-len-eq0.false in omega (arith, ne) in
-    let first = told-gt cmp partial matches row 0 c.index-row-0.result c.args.k (omega (arith, some, c.requires)) c.index-row-0.is false (sym c.if-gt.false ∙ c.gt.ensures) in
-    let last = told-le cmp partial matches row (len - 1) c.index-row-len.result c.args.k (omega (arith, some, c.requires)) c.index-row-len.is false (sym c.if-le.false ∙ c.le.ensures) in
-    let r = c.first_greater.ensures in
-    among (λ (x : g.row.K.Denot). is_gt (cmp x c.args.k)) false true false≢true row len c.first_greater.result c.requires some first last r.before r.here c.args.k
+    record {
+      some = some;
+      most = c.requires;
+      first = told-gt cmp partial matches row 0 c.index-row-0.result c.args.k (omega (arith, some, c.requires)) c.index-row-0.is false (sym c.if-gt.false ∙ c.gt.ensures);
+      last = told-le cmp partial matches row (len - 1) c.index-row-len.result c.args.k (omega (arith, some, c.requires)) c.index-row-len.is false (sym c.if-le.false ∙ c.le.ensures);
+    }
 
 pub returns : goal.returns
 returns g c = λ sorted.
-    let f = found g c in
-    up_to-at g.K.Ord.cmp g.met.K.Ord.total c.args.row.now c.args.len c.args.k c.requires sorted c.first_greater.result (omega (arith, f.within)) f.before f.here
+    let r = c.first_greater.ensures in
+    up_to-at g.K.Ord.cmp g.met.K.Ord.total c.args.row.now c.args.len c.args.k c.requires sorted c.first_greater.result (omega (arith, r.within))
+    (λ j d low. elim (eqb_tells j (c.first_greater.result - 1)) [
+      | inl w ↦ ap (λ z. is_gt (g.K.Ord.cmp (get_or c.args.row.now z d) c.args.k)) w.1 ∙ r.before d
+      | inr w ↦ up_to-before g.K.Ord.cmp g.met.K.Ord.total c.args.row.now c.args.len c.args.k c.requires sorted (c.first_greater.result - 1) j d (let ne = w.1 in omega (arith, ne, low)) (omega (arith, r.within)) (r.before d)
+    ])
+    (λ d _. r.here d)
