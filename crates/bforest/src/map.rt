@@ -223,6 +223,7 @@ impl<K: Copy, V: Copy> Map<K, V> {
     }
 
     /// Returns an iterator over the entries in order. Visits one node of each level, and then each leaf once. No comparison.
+    #[inline(always)]
     pub fn iter<'a>(&self, forest: &'a MapForest<K, V>) -> MapIter<'a, K, V>
         requires live { IsLive forest.now self.now }
         ensures entries { result ≡ list_of forest.now self.now }

@@ -29,19 +29,17 @@ impl<'a, K: Copy, V: Copy> Model for MapIter<'a, K, V> {
 
 impl<'a, K: Copy, V: Copy> MapIter<'a, K, V> {
     /// Returns an iterator over the entries of a map.
+    #[inline(always)]
     pub(crate) fn new(map: &Map<K, V>, forest: &'a MapForest<K, V>) -> MapIter<'a, K, V>
         requires { IsLive forest.now map.now }
         ensures entries { result ≡ list_of forest.now map.now }
         ensures ready { IsReadable K.row V.row }
     {
         let trees = &forest.trees;
-        // The reader is made in its final place: it is too long to be moved for nothing.
-        let mut iter = MapIter {
+        MapIter {
             trees,
-            reader: Reader::new(),
-        };
-        iter.reader.start(map.root, trees);
-        iter
+            reader: Reader::new(map.root, trees),
+        }
     }
 }
 
@@ -56,6 +54,7 @@ impl<'a, K: Copy, V: Copy> Iterator for MapIter<'a, K, V> {
 
     ghost remaining = { item_count (λ entries. entries) };
 
+    #[inline(always)]
     fn next(&mut self) -> Option<(K, V)> {
         self.reader.next(self.trees)
     }

@@ -217,6 +217,7 @@ impl<K: Copy> Set<K> {
     }
 
     /// Returns an iterator over the keys in order. Visits one node of each level, and then each leaf once. No comparison.
+    #[inline(always)]
     pub fn iter<'a>(&self, forest: &'a SetForest<K>) -> SetIter<'a, K>
         requires live { IsLive forest.now self.now }
         ensures keys { result ≡ elements forest.now self.now }

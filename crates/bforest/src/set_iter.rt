@@ -33,19 +33,17 @@ impl<'a, K: Copy> Model for SetIter<'a, K> {
 
 impl<'a, K: Copy> SetIter<'a, K> {
     /// Returns an iterator over the keys of a set.
+    #[inline(always)]
     pub(crate) fn new(set: &Set<K>, forest: &'a SetForest<K>) -> SetIter<'a, K>
         requires { IsLive forest.now set.now }
         ensures keys { result ≡ elements forest.now set.now }
         ensures ready { IsSetReadable K.row }
     {
         let trees = &forest.trees;
-        // The reader is made in its final place: it is too long to be moved for nothing.
-        let mut iter = SetIter {
+        SetIter {
             trees,
-            reader: Reader::new(),
-        };
-        iter.reader.start(set.root, trees);
-        iter
+            reader: Reader::new(set.root, trees),
+        }
     }
 }
 
@@ -60,6 +58,7 @@ impl<'a, K: Copy> Iterator for SetIter<'a, K> {
 
     ghost remaining = { item_count (λ keys. keys) };
 
+    #[inline(always)]
     fn next(&mut self) -> Option<K> {
         key_of(self.reader.next(self.trees))
     }

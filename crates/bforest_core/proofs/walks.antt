@@ -13,3 +13,6 @@ pub mod Backward
 pub mod Turns
 pub mod Standing
 pub mod Nearby
+pub mod Codes
+pub mod CodesDown
+pub mod Cousins

@@ -9,9 +9,11 @@
 mod access;
 mod path;
 mod pool;
+mod spot;
 mod trees;
 mod value;
 
 pub use bforest_nodes::{Comparator, Node, NodeData, PackedNode, Removed, SetValue, SplitOff};
 pub use path::Path;
 pub use pool::{NodePool, OutOfMemory};
+pub use spot::Spot;

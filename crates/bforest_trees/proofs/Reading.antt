@@ -1,24 +1,27 @@
 -- The entries left to be read from a path on, and a step of a reader.
-use Rattle.bforest_trees.proofs.Changed.{list-root}
-use Rattle.bforest_trees.specs.Forest.{list_of}
-use Rattle.bforest_trees.specs.Layout.{Entered, IsOnOrEnds, IsReader, IsReading, IsSpent, OnFirst, Opens, entries_from, left_from, left_of}
+use Rattle.bforest_trees.specs.Layout.{Entered, IsOnLeaf, IsOnOrEnds, IsReader, Opens, entries_from, entries_on, unread, left_of}
 use Rattle.bforest_trees.specs.declared.reader.Reader.{Reader}
 use Rattle.bforest_core.proofs.table.Lists.{drop-read, slice_get-append_left}
 use Rattle.bforest_core.proofs.table.Stored.{read_same}
 use Rattle.bforest_core.proofs.walks.Backward.{at_end, at_entry}
 use Rattle.bforest_core.proofs.walks.Entered.{pair_read}
+use Rattle.bforest_core.proofs.walks.Cousins.{place-is}
 use Rattle.bforest_core.proofs.walks.Steps.{read}
-use Rattle.bforest_core.proofs.walks.Standing.{on-at, on-points, on-some, on-within, points-root, points-spot}
-use Rattle.bforest_core.specs.Paths.{IsAtEnd, OnEntry, OnLeaf, PointsTo, Standing, StandsAt, StandsOn, index_of, leaf_of, list_under, path_root, place_in, spot}
+use Rattle.bforest_core.proofs.walks.Standing.{on-at, on-points, on-within, points-root, points-spot}
+use Rattle.bforest_core.specs.Paths.{IsAtEnd, OnEntry, PointsTo, Standing, StandsAt, StandsOn, index_of, leaf_of, list_under, path_root, place_in, spot}
 use Rattle.bforest_core.specs.Place.{entry_items, entry_keys, leaf_content}
+use Rattle.bforest_core.specs.Levels.{flat, node}
+use Rattle.bforest_core.specs.Spots.{HasNoParent, IsLeafAt, IsSpotAt, leaf_count, leaf_place}
 use Rattle.bforest_core.specs.Table.{Table}
 use Rattle.bforest_core.specs.Trees.{IsUnion, tree_of}
 use Rattle.bforest_core.specs.declared.path.Path.{Path}
+use Rattle.bforest_core.specs.declared.spot.Spot.{Spot}
 use Rattle.bforest_nodes.specs.Content.{Content, IsLeaf, Leaf, keys_of, vals_of}
-use Rattle.std.proofs.Common.{length-append, arith, List, None, Option, Some, [], ap, drop, if◌then◌else◌, inl, inr, length, slice_get, subst, suc, sym, true, ◌+◌, ◌++◌, ◌≤◌, ◌==◌, ◌∙◌, ◌∷◌, ◌≡◌, ℕ}
+use Rattle.std.proofs.Common.{length-append, append_assoc, arith, refl, List, None, Option, Some, [], ap, drop, if◌then◌else◌, inl, inr, length, slice_get, subst, suc, sym, true, ◌+◌, ◌++◌, ◌≤◌, ◌==◌, ◌∙◌, ◌∷◌, ◌≡◌, ℕ}
 use Rattle.std.proofs.Math.Seq.{drop-length}
+use Rattle.std.proofs.lemmas.Bool.{cases_lt}
 use Rattle.std.proofs.lemmas.Bool.Decides.{eqb_tells}
-use Rattle.std.proofs.lemmas.List.{drop_all, drop_at, length-map}
+use Rattle.std.proofs.lemmas.List.{drop_at, length-map}
 use Rattle.std.proofs.lemmas.Option.{slice_get_within}
 use Rattle.std.specs.Iterator.{MakesProgress, YieldsFirst, YieldsLast, item_count}
 
@@ -96,117 +99,132 @@ held slots number content entries keys vals found leaf is =
       sym (ap vals_of is) ∙ sym (ap vals_of same),
     )
 
-module _ {K V : Type 0} {n : ℕ} (table : Table K V) where
-  -- from the first entry of a leaf on, the leaf's entries and those behind them are left
-  from-leaf : (path : Path K V n) (entries : List (K × V)) → IsUnion n table → (o : OnFirst table path entries) → entries_from table path ≡ entries ++ drop (o.place + length entries) (list_under table o.root)
-  from-leaf path entries union o =
-      let on : StandsOn table o.root path o.place = subst (λ (z : ℕ). StandsOn table o.root path z) (omega (arith, o.first)) o.on.on in
-      standing table o.root path o.place union on ∙ o.on.list
+module _ {K V : Type 0} (table : Table K V) where
+  -- from a spot on, the entries of its leaf and of those behind it are left
+  from-leaf : (root : ℕ) (here : Spot) (entries : List (K × V)) (o : IsOnLeaf table root here entries) → entries_on table root here ≡ entries ++ flat (drop (suc o.place) (tree_of table.nodes root).leaves)
+  from-leaf root here entries o =
+      let leaf = o.leaf in
+      let leaves = (tree_of table.nodes root).leaves in
+      let front = leaf.before ++ node o.number leaf.entries ∷ [] in
+      let front_at : drop (leaf_place table root here) leaves ≡ node o.number leaf.entries ∷ leaf.after =
+      ap (λ z. drop z leaves) (place-is o.on) ∙ ap (λ z. drop o.place z) leaf.leaves_are ∙ drop_at leaf.before (node o.number leaf.entries ∷ leaf.after) o.place leaf.at in
+      let behind : drop (suc o.place) leaves ≡ leaf.after =
+      ap (λ z. drop (suc o.place) z) (leaf.leaves_are ∙ sym (append_assoc leaf.before (node o.number leaf.entries ∷ []) leaf.after)) ∙ drop_at front leaf.after (suc o.place) (omega (arith, leaf.at, length-append leaf.before (node o.number leaf.entries ∷ []))) in
+      ap (λ z. flat z) front_at ∙ ap (λ z. z ++ flat leaf.after) o.entries_are ∙ ap (λ z. entries ++ flat z) (sym behind)
 
-  -- a path on the first entry of a leaf opens it
-  opens-at : (root place : ℕ) (path : Path K V n) (leaf : ℕ) (entries : List (K × V)) → IsUnion n table → OnLeaf table root path place entries → leaf ≡ leaf_of path → index_of path ≡ 0 → Opens table (drop place (list_under table root)) path leaf
-  opens-at root place path leaf entries union on leaf_is first =
-      let o : OnFirst table path entries = record { root = root; place = place; on = on; first = first } in
-      record {
-        entries = entries;
-        slot = subst (λ (z : ℕ). slice_get table.nodes z ≡ Some (leaf_content entries)) (sym leaf_is) on.leaf;
-        reading = record { union = union; within = omega arith; leaf = λ some. o; end = λ none. absurd (on-some table root path _ on.on none) };
-        left_is = sym (from-leaf path entries union o ∙ sym on.list);
-        some = omega (arith, on.within);
-      }
+  -- what is left where a leaf is held
+  left-some : (keys : List K) (index : ℕ) (entries : List (K × V)) → 1 ≤ length keys → unread keys index entries ≡ drop index entries
+  left-some [] index entries some = absurd (omega (arith, some))
+  left-some (first ∷ keys) index entries some = refl
 
-  -- a path on the first leaf of a handle's tree opens it
-  pub opens-first : (handle : Option ℕ) (root : ℕ) (path : Path K V n) (leaf : ℕ) → IsUnion n table → handle ≡ Some root → leaf ≡ leaf_of path → index_of path ≡ 0 → (entries : List (K × V)) × OnLeaf table root path 0 entries → Opens table (list_of table handle) path leaf
-  opens-first handle root path leaf union handle_is leaf_is first w =
-      let list : list_of table handle ≡ list_under table root = ap (λ (h : Option ℕ). list_of table h) handle_is ∙ list-root table root w.1.on.root_is in
-      subst (λ (z : List (K × V)). Opens table z path leaf) (sym list) (opens-at root 0 path leaf w.0 union w.1 leaf_is first)
+  left-none : (keys : List K) (index : ℕ) (entries : List (K × V)) → length keys ≡ 0 → unread keys index entries ≡ []
+  left-none [] index entries none = refl
+  left-none (first ∷ keys) index entries none = absurd (omega (arith, none))
 
-  module _ (path : Path K V n) (entries : List (K × V)) (index : ℕ) (r : IsReading table path entries index) where
-    -- a path that is not at the end stands on an entry
-    pub on-entry : (¬ IsAtEnd path) → OnEntry table path
-    on-entry some = let o = r.leaf some in record { root = o.root; place = o.place + index_of path; on = o.on.on }
+  module _ {n : ℕ} (reader : Reader K V n) (r : IsReader table reader) where
+    -- a reader holds as many keys as its leaf has entries
+    key-count : length reader.keys.now ≡ length r.entries
+    key-count = ap length r.keys ∙ length-map r.entries (λ e. e.0)
 
-    -- the leaf's entry at the index is the first that is left
-    pub first-left : (entry : K × V) → slice_get entries index ≡ Some entry → (left_from table path index ≡ entry ∷ left_from table path (index + 1)) × IsReading table path entries (index + 1)
-    first-left entry found =
-        let low = slice_get_within entries index entry found in
-        let o = r.leaf (λ none. omega (arith, low, ap length (r.end none))) in
-        let rest = drop (o.place + length entries) (list_under table o.root) in
-        let read = drop-read (entries_from table path) index entry (ap (λ z. slice_get z index) (from-leaf path entries r.union o) ∙ slice_get-append_left entries rest index entry found) in
-        let next : suc index ≡ index + 1 = omega arith in (
-          read ∙ ap (λ z. entry ∷ drop z (entries_from table path)) next,
-          record { union = r.union; within = omega (arith, low); leaf = r.leaf; end = r.end },
-        )
+    -- a reader holds as many values as keys
+    pub held-same : length reader.keys.now ≡ length reader.vals.now
+    held-same = key-count ∙ sym (length-map r.entries (λ e. e.1)) ∙ sym (ap length r.vals)
 
-    module _ (read : length entries ≤ index) where
+    -- a reader with a leaf has what is left of the leaf and what is behind it
+    left-here : (some : 1 ≤ length r.entries) → left_of table reader ≡ drop reader.index (r.entries ++ flat (drop (suc (r.leaf some).place) (tree_of table.nodes reader.root).leaves))
+    left-here some = left-some reader.keys.now reader.index (entries_on table reader.root reader.spot) (omega (arith, some, key-count)) ∙ ap (λ z. drop reader.index z) (from-leaf reader.root reader.spot r.entries (r.leaf some))
+
+    -- the place of a reader's leaf, which is asked for where it has one
+    pub stands : (¬ HasNoParent reader.spot) → (place : ℕ) × IsSpotAt table reader.root reader.spot place
+    stands more = elim (cases_lt 0 (length r.entries)) [
+      | inl some ↦ (let o = r.leaf some in (o.place, o.on))
+      | inr past ↦ absurd (more (r.none (omega (arith, past))))
+    ]
+
+    module _ (read : length reader.keys.now ≤ reader.index) where
       -- where the leaf's entries are read, those behind the leaf are left
-      behind-leaf : (o : OnFirst table path entries) → left_from table path index ≡ drop (o.place + length entries) (list_under table o.root)
-      behind-leaf o = ap (λ z. drop index z) (from-leaf path entries r.union o) ∙ drop_at entries (drop (o.place + length entries) (list_under table o.root)) index (omega (arith, r.within, read))
+      behind : (some : 1 ≤ length r.entries) → left_of table reader ≡ flat (drop (suc (r.leaf some).place) (tree_of table.nodes reader.root).leaves)
+      behind some = left-here some ∙ drop_at r.entries (flat (drop (suc (r.leaf some).place) (tree_of table.nodes reader.root).leaves)) reader.index (omega (arith, r.within, read, key-count))
 
-      -- a path on the next leaf opens it with what is left behind the leaf
-      pub opens-next : (new : Path K V n) (leaf : ℕ) → (¬ IsAtEnd path) → leaf ≡ leaf_of new → index_of new ≡ 0 → ((root place : ℕ) (es : List (K × V)) → OnLeaf table root path place es → (more : List (K × V)) × OnLeaf table root new (place + length es) more) → Opens table (left_from table path index) new leaf
-      opens-next new leaf some leaf_is first stands =
-          let o = r.leaf some in
-          let w = stands o.root o.place entries o.on in
-          subst (λ (z : List (K × V)). Opens table z new leaf) (sym (behind-leaf o)) (opens-at o.root (o.place + length entries) new leaf w.0 r.union w.1 leaf_is first)
-
-      -- no entries are left behind the last leaf
-      pub none-left : ((root place : ℕ) (es : List (K × V)) → OnLeaf table root path place es → place + length es ≡ length (list_under table root)) → left_from table path index ≡ []
-      none-left last = elim (eqb_tells path.size 0) [
-        | inl w ↦ ap (λ z. drop index z) (ended table path w.1) ∙ drop_all index [] (omega arith)
-        | inr w ↦ (
-            let o = r.leaf w.1 in
-            behind-leaf o ∙ ap (λ z. drop z (list_under table o.root)) (last o.root o.place entries o.on) ∙ drop-length (list_under table o.root)
+      -- the spot of the next leaf opens it with what is left behind the leaf
+      pub opens-next : (next : Spot) (leaf : ℕ) → (¬ HasNoParent reader.spot) → ((place : ℕ) → IsSpotAt table reader.root reader.spot place → IsSpotAt table reader.root next (suc place) × IsLeafAt table reader.root (suc place) leaf) → Opens n table (left_of table reader) reader.root next leaf
+      opens-next next leaf more says = elim (cases_lt 0 (length r.entries)) [
+        | inl some ↦ (
+            let o = r.leaf some in
+            let s = says o.place o.on in
+            record { union = r.union; place = suc o.place; on = s.0; leaf = s.1; left_is = behind some }
             )
+        | inr past ↦ absurd (more (r.none (omega (arith, past))))
       ]
 
-  -- a reader has read its leaf's entries where it has read the keys that it holds
-  pub all-read : (reader : Reader K V n) (r : IsReader table reader) → length reader.keys.now ≤ reader.index → length r.entries ≤ reader.index
-  all-read reader r read = omega (arith, read, ap length r.keys, length-map r.entries (λ e. e.0))
+      -- no entries are left behind the last leaf
+      pub none-left : ((place : ℕ) → IsSpotAt table reader.root reader.spot place → suc place ≡ leaf_count table reader.root) → left_of table reader ≡ []
+      none-left last = elim (cases_lt 0 (length r.entries)) [
+        | inl some ↦ (
+            let o = r.leaf some in
+            behind some ∙ ap (λ z. flat z) (ap (λ z. drop z (tree_of table.nodes reader.root).leaves) (last o.place o.on) ∙ drop-length (tree_of table.nodes reader.root).leaves)
+            )
+        | inr past ↦ left-none reader.keys.now reader.index (entries_on table reader.root reader.spot) (omega (arith, past, key-count))
+      ]
 
-  -- a reader holds as many values as keys
-  pub held-same : (reader : Reader K V n) → IsReader table reader → length reader.keys.now ≡ length reader.vals.now
-  held-same reader r = ap length r.keys ∙ length-map r.entries (λ e. e.0) ∙ sym (length-map r.entries (λ e. e.1)) ∙ sym (ap length r.vals)
+  module _ {n : ℕ} where
+    -- a reader that took an entry of its leaf
+    pub record Taken (old new : Reader K V n) (entry : K × V) : Type 0 where
+      pub left : left_of table old ≡ entry ∷ left_of table new
+      pub reader : IsReader table new
 
-  -- a reader that took an entry of its leaf
-  pub record Taken (old new : Reader K V n) (entry : K × V) : Type 0 where
-    pub left : left_of table old ≡ entry ∷ left_of table new
-    pub reader : IsReader table new
+    pub taken : (old new : Reader K V n) (entry : K × V) → IsReader table old → slice_get old.keys.now old.index ≡ Some entry.0 → slice_get old.vals.now old.index ≡ Some entry.1 → new ≡ record old { index = old.index + 1 } → Taken old new entry
+    taken old new entry r key value is =
+        let found = pair_read r.entries old.index entry.0 entry.1 (ap (λ z. slice_get z old.index) (sym r.keys) ∙ key) (ap (λ z. slice_get z old.index) (sym r.vals) ∙ value) in
+        let low = slice_get_within r.entries old.index entry found in
+        let some : 1 ≤ length r.entries = omega (arith, low) in
+        let keys : 1 ≤ length old.keys.now = omega (arith, some, key-count old r) in
+        let rest = flat (drop (suc (r.leaf some).place) (tree_of table.nodes old.root).leaves) in
+        let all = entries_on table old.root old.spot in
+        let whole : all ≡ r.entries ++ rest = from-leaf old.root old.spot r.entries (r.leaf some) in
+        let read = drop-read all old.index entry (ap (λ z. slice_get z old.index) whole ∙ slice_get-append_left r.entries rest old.index entry found) in
+        let next : suc old.index ≡ old.index + 1 = omega arith in
+        subst (λ (z : Reader K V n). Taken old z entry) (sym is) (record {
+          left = left-some old.keys.now old.index all keys ∙ read ∙ ap (λ z. entry ∷ drop z all) next ∙ ap (λ z. entry ∷ z) (sym (left-some old.keys.now (old.index + 1) all keys));
+          reader = record { union = r.union; entries = r.entries; within = omega (arith, low); leaf = r.leaf; none = r.none; keys = r.keys; vals = r.vals };
+        })
 
-  pub taken : (old new : Reader K V n) (entry : K × V) → IsReader table old → slice_get old.keys.now old.index ≡ Some entry.0 → slice_get old.vals.now old.index ≡ Some entry.1 → new ≡ record old { index = old.index + 1 } → Taken old new entry
-  taken old new entry r key value is =
-      let found = pair_read r.entries old.index entry.0 entry.1 (ap (λ z. slice_get z old.index) (sym r.keys) ∙ key) (ap (λ z. slice_get z old.index) (sym r.vals) ∙ value) in
-      let s = first-left old.path r.entries old.index r.reading entry found in
-      subst (λ (z : Reader K V n). Taken old z entry) (sym is) (record { left = s.0; reader = record { entries = r.entries; reading = s.1; keys = r.keys; vals = r.vals } })
+    -- a reader to which nothing is left, and that stays as it is
+    pub record Over (old new : Reader K V n) : Type 0 where
+      pub left : (left_of table old ≡ []) × (left_of table new ≡ [])
+      pub reader : IsReader table new
 
-  -- a reader to which nothing is left, and that stays as it is
-  pub record Over (old new : Reader K V n) : Type 0 where
-    pub left : (left_of table old ≡ []) × (left_of table new ≡ [])
-    pub reader : IsReader table new
+    pub over : (old new : Reader K V n) → IsReader table old → left_of table old ≡ [] → new ≡ old → Over old new
+    over old new r none is = subst (λ (z : Reader K V n). Over old z) (sym is) (record { left = (none, none); reader = r })
 
-  pub over : (old new : Reader K V n) → IsReader table old → left_of table old ≡ [] → new ≡ old → Over old new
-  over old new r none is = subst (λ (z : Reader K V n). Over old z) (sym is) (record { left = (none, none); reader = r })
+    -- a reader with no leaf
+    pub leafless : (reader : Reader K V n) → IsUnion n table → reader.keys.now ≡ [] → reader.vals.now ≡ [] → reader.index ≡ 0 → HasNoParent reader.spot → IsReader table reader
+    leafless reader union keys vals index none = record { union = union; entries = []; within = omega (arith, index); leaf = λ some. absurd (omega (arith, some)); none = λ e. none; keys = keys; vals = vals }
 
-  -- a reader at the end, with no leaf, has nothing left
-  pub unstarted : (reader : Reader K V n) → IsAtEnd reader.path → reader.keys.now ≡ [] → reader.vals.now ≡ [] → reader.index ≡ 0 → IsSpent table reader
-  unstarted reader end keys vals index = record {
-    left = ap (λ z. left_from table reader.path z) index ∙ ended table reader.path end;
-    is_reader = λ union. record { entries = []; reading = record { union = union; within = omega (arith, index); leaf = λ some. absurd (some end); end = λ none. (λ i. []) }; keys = keys; vals = vals };
-  }
-
-  -- a reader that holds the leaf which a path opens
-  pub entered : (left : List (K × V)) (path : Path K V n) (leaf : ℕ) (content : Content K V) (new : Reader K V n) → Opens table left path leaf → slice_get table.nodes leaf ≡ Some content → content ≡ Leaf new.keys.now new.vals.now → new.index ≡ 0 → new.path ≡ path → Entered table left new
-  entered left path leaf content new o found leaf_is index_is path_is =
-      let h = held table.nodes leaf content o.entries new.keys.now new.vals.now found o.slot leaf_is in
-      let keys : length new.keys.now ≡ length o.entries = ap length h.0 ∙ length-map o.entries (λ e. e.0) in
-      let vals : length new.vals.now ≡ length o.entries = ap length h.1 ∙ length-map o.entries (λ e. e.1) in
-      let reading : IsReading table new.path o.entries 0 = subst (λ (z : Path K V n). IsReading table z o.entries 0) (sym path_is) o.reading in
-      record {
-        left_is = o.left_is ∙ ap (λ z. left_from table z 0) (sym path_is) ∙ ap (λ z. left_from table new.path z) (sym index_is);
-        reader_is = record { entries = o.entries; reading = subst (λ (z : ℕ). IsReading table new.path o.entries z) (sym index_is) reading; keys = h.0; vals = h.1 };
-        within = omega (arith, index_is, keys, o.some);
-        same = keys ∙ sym vals;
-      }
+    -- a reader that holds the leaf which a spot opens
+    pub entered : (left : List (K × V)) (root : ℕ) (at : Spot) (leaf : ℕ) (content : Content K V) (new : Reader K V n) → Opens n table left root at leaf → slice_get table.nodes leaf ≡ Some content → content ≡ Leaf new.keys.now new.vals.now → new.index ≡ 0 → new.root ≡ root → new.spot ≡ at → Entered table left new
+    entered left root at leaf content new o found leaf_is index root_is spot_is =
+        let es = o.leaf.entries in
+        let h = held table.nodes leaf content es new.keys.now new.vals.now found o.leaf.slot_is leaf_is in
+        let keys : length new.keys.now ≡ length es = ap length h.0 ∙ length-map es (λ e. e.0) in
+        let vals : length new.vals.now ≡ length es = ap length h.1 ∙ length-map es (λ e. e.1) in
+        let on : IsOnLeaf table root at es = record { place = o.place; number = leaf; on = o.on; leaf = o.leaf; entries_are = refl } in
+        let all : entries_on table root at ≡ left = ap (λ z. flat (drop z (tree_of table.nodes root).leaves)) (place-is o.on) ∙ sym o.left_is in
+        let same : entries_on table new.root new.spot ≡ left = ap (λ z. entries_on table z new.spot) root_is ∙ ap (λ z. entries_on table root z) spot_is ∙ all in
+        record {
+          left_is = sym (left-some new.keys.now new.index (entries_on table new.root new.spot) (omega (arith, keys, o.leaf.some)) ∙ ap (λ z. drop z (entries_on table new.root new.spot)) index ∙ same);
+          reader_is = record {
+            union = o.union;
+            entries = es;
+            within = omega (arith, index);
+            leaf = λ some. subst (λ (z : Spot). IsOnLeaf table new.root z es) (sym spot_is) (subst (λ (z : ℕ). IsOnLeaf table z at es) (sym root_is) on);
+            none = λ e. absurd (omega (arith, e, o.leaf.some));
+            keys = h.0;
+            vals = h.1;
+          };
+          within = omega (arith, index, keys, o.leaf.some);
+          same = keys ∙ sym vals;
+        }
 
 -- an iterator that yields the first of the entries left makes progress
 pub progress : {A P : Type 0} (ready : P) (old new : List A) (o : Option A) → YieldsFirst (λ (entries : List A). entries) old o new → MakesProgress (λ (entries : List A). P) (item_count (λ (entries : List A). entries)) old o new

@@ -1,11 +1,14 @@
 -- How an iterator keeps the entries that are left. No public clause of a forest cites this module.
-use Rattle.bforest_core.specs.Paths.{IsAtEnd, OnEntry, OnLeaf, index_of, list_under, path_root, spot}
-use Rattle.bforest_core.specs.Place.{entry_items, entry_keys, leaf_content}
+use Rattle.bforest_core.specs.Levels.{flat}
+use Rattle.bforest_core.specs.Paths.{IsAtEnd, OnEntry, list_under, path_root, spot}
+use Rattle.bforest_core.specs.Place.{entry_items, entry_keys}
+use Rattle.bforest_core.specs.Spots.{HasNoParent, IsLeafAt, IsSpotAt, leaf_place}
 use Rattle.bforest_core.specs.Table.{Table}
-use Rattle.bforest_core.specs.Trees.{IsUnion}
+use Rattle.bforest_core.specs.Trees.{IsUnion, tree_of}
 use Rattle.bforest_core.specs.declared.path.Path.{Path}
+use Rattle.bforest_core.specs.declared.spot.Spot.{Spot}
 use Rattle.bforest_trees.specs.declared.reader.Reader.{Reader}
-use Rattle.std.specs.Prelude.{List, Some, [], drop, length, slice_get, ◌<◌, ◌≡◌, ◌≤◌, ℕ}
+use Rattle.std.specs.Prelude.{List, [], drop, length, ◌<◌, ◌∷◌, ◌≡◌, ◌≤◌, ℕ}
 
 module _ {K X : Type 0} where
   -- the entries of a path's tree from the place where it stands
@@ -17,49 +20,47 @@ module _ {K X : Type 0} where
     pub union : IsUnion n table
     pub stands : (¬ IsAtEnd path) → OnEntry table path
 
-  -- the entries that are left from a path on, after `index` of them were read
-  abbrev pub left_from : {n : ℕ} → Table K X → Path K X n → ℕ → List (K × X)
-  left_from table path index = drop index (entries_from table path)
+  -- the entries of a spot's leaf and of the leaves behind it
+  abbrev pub entries_on : Table K X → ℕ → Spot → List (K × X)
+  entries_on table root spot = flat (drop (leaf_place table root spot) (tree_of table.nodes root).leaves)
 
-  -- the path stands on the first entry of a leaf of these entries
-  pub record OnFirst {n : ℕ} (table : Table K X) (path : Path K X n) (entries : List (K × X)) : Type 0 where
-    pub root : ℕ
-    pub place : ℕ
-    pub on : OnLeaf table root path place entries
-    pub first : index_of path ≡ 0
-
-  -- a path stands on the first entry of a leaf of these entries, of which `index` are read, or is at the end
-  pub record IsReading {n : ℕ} (table : Table K X) (path : Path K X n) (entries : List (K × X)) (index : ℕ) : Type 0 where
-    pub union : IsUnion n table
-    pub within : index ≤ length entries
-    pub leaf : (¬ IsAtEnd path) → OnFirst table path entries
-    pub end : IsAtEnd path → entries ≡ []
+  -- what is left of the entries from a leaf on, after `index` of them were read: nothing where there is no leaf, and so no key
+  abbrev pub unread : List K → ℕ → List (K × X) → List (K × X)
+  unread [] index entries = []
+  unread (first ∷ keys) index entries = drop index entries
 
   -- the entries that are left to a reader
   abbrev pub left_of : {n : ℕ} → Table K X → Reader K X n → List (K × X)
-  left_of table reader = left_from table reader.path reader.index
+  left_of table reader = unread reader.keys.now reader.index (entries_on table reader.root reader.spot)
 
-  -- a reader holds the keys and the values of the leaf where its path stands
+  -- the spot is that of a leaf of these entries
+  pub record IsOnLeaf (table : Table K X) (root : ℕ) (spot : Spot) (entries : List (K × X)) : Type 0 where
+    pub place : ℕ
+    pub number : ℕ
+    pub on : IsSpotAt table root spot place
+    pub leaf : IsLeafAt table root place number
+    pub entries_are : leaf.entries ≡ entries
+
+  -- a reader holds the keys and the values of the leaf of its spot, or none where it has no leaf
   pub record IsReader {n : ℕ} (table : Table K X) (reader : Reader K X n) : Type 0 where
+    pub union : IsUnion n table
     pub entries : List (K × X)
-    pub reading : IsReading table reader.path entries reader.index
+    pub within : reader.index ≤ length entries
+    pub leaf : 1 ≤ length entries → IsOnLeaf table reader.root reader.spot entries
+    pub none : length entries ≡ 0 → HasNoParent reader.spot
     pub keys : reader.keys.now ≡ entry_keys entries
     pub vals : reader.vals.now ≡ entry_items entries
 
-  -- nothing is left to a reader, which was not started or has read all
-  pub record IsSpent {n : ℕ} (table : Table K X) (reader : Reader K X n) : Type 0 where
-    pub left : left_of table reader ≡ []
-    pub is_reader : IsUnion n table → IsReader table reader
+module _ {K X : Type 0} (most : ℕ) (table : Table K X) (left : List (K × X)) where
+  -- the spot is that of this leaf, and `left` are the entries of the leaf and of those behind it
+  pub record Opens (root : ℕ) (spot : Spot) (number : ℕ) : Type 0 where
+    pub union : IsUnion most table
+    pub place : ℕ
+    pub on : IsSpotAt table root spot place
+    pub leaf : IsLeafAt table root place number
+    pub left_is : left ≡ flat (drop place (tree_of table.nodes root).leaves)
 
 module _ {K X : Type 0} {n : ℕ} (table : Table K X) (left : List (K × X)) where
-  -- the path stands on the first entry of this leaf, and `left` are the entries from there on
-  pub record Opens (path : Path K X n) (leaf : ℕ) : Type 0 where
-    pub entries : List (K × X)
-    pub slot : slice_get table.nodes leaf ≡ Some (leaf_content entries)
-    pub reading : IsReading table path entries 0
-    pub left_is : left ≡ left_from table path 0
-    pub some : 0 < length entries
-
   -- `left` are the entries left to a reader, and the first of them is in the leaf that the reader holds
   pub record Entered (reader : Reader K X n) : Type 0 where
     pub left_is : left ≡ left_of table reader

@@ -1,51 +1,78 @@
 //! Reading the entries of a tree in order.
-ghost use Rattle.bforest_trees.specs.Forest.{Forest, IsLive, list_of};
-ghost use Rattle.bforest_trees.specs.Layout.{Entered, IsReader, IsSpent, Opens, left_of};
+ghost use Rattle.bforest_core.specs.Paths.{list_under};
+ghost use Rattle.bforest_core.specs.Trees.{IsUnion, is_root};
+ghost use Rattle.bforest_trees.specs.Forest.{IsLive, list_of};
+ghost use Rattle.bforest_trees.specs.Layout.{Entered, IsReader, Opens, left_of};
 ghost use Rattle.std.specs.Iterator.{YieldsFirst};
-ghost use Rattle.std.specs.Prelude.{List, Some, [], false, length, slice_get, true, ◌+◌, ◌<◌, ◌≡◌};
+ghost use Rattle.std.specs.Prelude.{IsTrue, List, Some, [], false, length, slice_get, true, ◌+◌, ◌<◌, ◌≡◌};
 
 use crate::trees::Trees;
-use bforest_core::{Node, NodePool, PackedNode, Path};
+use bforest_core::{Node, NodePool, PackedNode, Spot};
 
 /// The entries of a tree that are still to be read: those of one leaf, held as two slices, and those behind that leaf. A step inside a leaf
-/// reads the slices alone; the path is for the steps from leaf to leaf.
+/// reads the slices alone; the spot is for the steps from leaf to leaf.
 #[derive(Drop)]
 pub struct Reader<'a, K: Copy, V: Copy, const N: usize> {
     keys: &'a [K],
     vals: &'a [V],
     // The index of the leaf's next entry.
     index: usize,
-    // A path on the first entry of the leaf.
-    path: Path<K, V, N>,
+    root: Node,
+    // The place of the leaf.
+    spot: Spot,
 }
 
 impl<'a, K: Copy, V: Copy, const N: usize> Reader<'a, K, V, N> {
-    /// A reader with no entry left. It is large, so build it in place, and then `start` it.
-    pub fn new() -> Reader<'a, K, V, N>
-        ensures spent { (forest : Forest K V) → IsSpent forest result }
+    /// A reader of all entries of a handle's tree, if it has one.
+    #[inline(always)]
+    pub fn new(handle: PackedNode, trees: &'a Trees<K, V, N>) -> Reader<'a, K, V, N>
+        requires live { IsLive trees.now handle }
+        ensures left { left_of trees.now result ≡ list_of trees.now handle }
+        ensures reader { IsReader trees.now result }
     {
-        Reader {
-            keys: &[],
-            vals: &[],
-            index: 0,
-            path: Path::default(),
+        match handle.expand() {
+            Some(root) => Reader::of(root, &trees.pool),
+            None => Reader {
+                keys: &[],
+                vals: &[],
+                index: 0,
+                root: Node::new(0),
+                spot: Spot::root(Node::new(0)),
+            },
         }
     }
 
-    /// Goes to the first entry of a handle's tree, if it has one. Before the call no entry may be left.
-    pub fn start(&mut self, handle: PackedNode, trees: &'a Trees<K, V, N>)
-        requires live { IsLive trees.now handle }
-        requires spent { IsSpent trees.now self.old }
-        ensures left { left_of trees.now self.new ≡ list_of trees.now handle }
-        ensures reader { IsReader trees.now self.new }
+    // A reader of all entries of the tree under a root.
+    #[inline(always)]
+    fn of(root: Node, pool: &'a NodePool<K, V, N>) -> Reader<'a, K, V, N>
+        requires union { IsUnion N pool.now }
+        requires root { IsTrue (is_root pool.now.nodes root) }
+        ensures left { left_of pool.now result ≡ list_under pool.now root }
+        ensures reader { IsReader pool.now result }
     {
-        if let Some(root) = handle.expand() {
-            let leaf = self.path.first_leaf(root, &trees.pool);
-            self.enter(leaf, &trees.pool);
+        let (spot, leaf) = Spot::first(root, pool);
+        Reader::at(root, spot, leaf, pool)
+    }
+
+    // A reader with a leaf of which no entry is read.
+    #[inline(always)]
+    fn at(root: Node, spot: Spot, leaf: Node, pool: &'a NodePool<K, V, N>) -> Reader<'a, K, V, N>
+        requires opens { (left : List (K × V)) × Opens N pool.now left root spot leaf }
+        ensures entered { (left : List (K × V)) → Opens N pool.now left root spot leaf
+            → Entered pool.now left result }
+    {
+        let (keys, vals) = pool.node(leaf).unwrap_leaf();
+        Reader {
+            keys,
+            vals,
+            index: 0,
+            root,
+            spot,
         }
     }
 
     /// Removes the first of the entries that are left, and returns it.
+    #[inline(always)]
     pub fn next(&mut self, trees: &'a Trees<K, V, N>) -> Option<(K, V)>
         requires reader { IsReader trees.now self.old }
         ensures steps { YieldsFirst (left_of trees.now) self.old result self.new }
@@ -59,6 +86,7 @@ impl<'a, K: Copy, V: Copy, const N: usize> Reader<'a, K, V, N> {
     }
 
     // Whether an entry is left. At the end of a leaf the reader goes to the next leaf.
+    #[inline(always)]
     fn is_left(&mut self, pool: &'a NodePool<K, V, N>) -> bool
         requires reader { IsReader pool.now self.old }
         ensures entered { result ≡ true → Entered pool.now (left_of pool.now self.old) self.new }
@@ -68,28 +96,17 @@ impl<'a, K: Copy, V: Copy, const N: usize> Reader<'a, K, V, N> {
         if self.index < self.keys.len() {
             return true;
         }
-        match self.path.next_leaf(pool) {
-            Some(leaf) => {
-                self.enter(leaf, pool);
+        match self.spot.next(self.root, pool) {
+            Some((spot, leaf)) => {
+                *self = Reader::at(self.root, spot, leaf, pool);
                 true
             }
             None => false,
         }
     }
 
-    // Holds the leaf on whose first entry the path stands.
-    fn enter(&mut self, leaf: Node, pool: &'a NodePool<K, V, N>)
-        requires opens { (left : List (K × V)) × Opens pool.now left self.old.path leaf }
-        ensures entered { (left : List (K × V)) → Opens pool.now left self.old.path leaf
-            → Entered pool.now left self.new }
-    {
-        let (keys, vals) = pool.node(leaf).unwrap_leaf();
-        self.keys = keys;
-        self.vals = vals;
-        self.index = 0;
-    }
-
     // Removes the first entry, which is in the leaf that the reader holds, and returns it.
+    #[inline(always)]
     fn take_first(&mut self) -> (K, V)
         requires within { self.old.index < length self.old.keys.now }
         requires same { length self.old.keys.now ≡ length self.old.vals.now }

@@ -97,7 +97,7 @@ module _ {K V : Type 0} (most : ℕ) (one : 1 ≤ half_of most) (slots : List (C
       (sym (ap length s.lower_is), record { leaf = l.leaf; stands = l.stands; nodes_above = l.nodes_above; entries_above = l.entries_above })
 
   module _ (u : Under most slots leaves lower ((first, number) ∷ b)) (content content2 : Content K V) (read : slice_get slots number ≡ Some content) (inner : IsInner content) (read2 : slice_get slots number ≡ Some content2) where
-    abbrev front_node : InnerUnder most slots leaves lower [] first number b
+    abbrev pub front_node : InnerUnder most slots leaves lower [] first number b
     front_node = inner_under most one slots leaves lower [] first number b u content read inner
 
     -- the first node meets what reading its first child requires
@@ -110,6 +110,11 @@ module _ {K V : Type 0} (most : ℕ) (one : 1 ≤ half_of most) (slots : List (C
           let c = child_under most slots leaves lower [] first number b front_node content2 read2 0 child child_read in
           let none = nil_from_length c.0 (omega (arith, c.4, none_flat front_node.at.before front_node.at.before_is)) in
           record { rows = front_node.rows; first = c.1; rest = c.2; under = subst (λ (z : List (K × ℕ)). Under most slots leaves front_node.rows (z ++ (c.1, child) ∷ c.2)) none c.3; count_is = front_node.count_is }
+
+      -- what lies under the first child
+      pub front-under : (key : K) × (rest : List (K × ℕ)) × Under most slots leaves front_node.rows ((key, child) ∷ rest)
+      unfolding front_below
+      front-under = (front_below.first, front_below.rest, front_below.under)
 
       module _ {path indices path1 indices1 : List ℕ} {below : ℕ} (leads : LeadsFirst most slots path indices path1 indices1 child below) where
         led : (below ≡ length front_below.rows) × Led leaves front_below.rows path indices path1 indices1

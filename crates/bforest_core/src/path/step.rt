@@ -44,33 +44,6 @@ impl<K: Copy, V: Copy, const N: usize> Path<K, V, N> {
         self.node[0]
     }
 
-    /// Goes to the first entry of the next leaf, and returns that leaf. In the last leaf and at the end it returns `None`, and changes
-    /// nothing.
-    pub fn next_leaf(&mut self, pool: &NodePool<K, V, N>) -> Option<Node>
-        requires union { IsUnion N pool.now }
-        requires stands { (¬ IsAtEnd self.old) → OnEntry pool.now self.old }
-        ensures leaf { IfSome result (λ leaf. leaf ≡ leaf_of self.new) }
-        ensures index { IfSome result (λ leaf. index_of self.new ≡ 0) }
-        ensures stands { (root place : ℕ) (entries : List (K × V))
-            → OnLeaf pool.now root self.old place entries
-            → IfSome result (λ leaf. (more : List (K × V))
-            × OnLeaf pool.now root self.new (place + length entries) more) }
-        ensures last { result ≡ None → (root place : ℕ) (entries : List (K × V))
-            → OnLeaf pool.now root self.old place entries
-            → place + length entries ≡ length (list_under pool.now root) }
-        ensures same { result ≡ None → self.new ≡ self.old }
-        ensures end { IsAtEnd self.old → result ≡ None }
-    {
-        if self.size < 2 {
-            return None;
-        }
-        if !self.next_node(0, pool) {
-            return None;
-        }
-        self.set_entry(0);
-        Some(self.node[0])
-    }
-
     // Descends from `node` to the first entry below it. Returns the node's level; `depth` levels are above it.
     fn descend_first(&mut self, node: Node, depth: usize, pool: &NodePool<K, V, N>) -> usize
         requires capacity { IsLeafCapacity N }

@@ -1,0 +1,19 @@
+use Rattle.std.proofs.Common.{rules, refl, suc}
+use Rattle.bforest_core.proofs.spot.next_far.Goals as goal
+
+pub next_on-requires : goal.next_on-requires
+next_on-requires g c = (search rules, (c.requires.low, c.requires.over))
+
+pub spot_of-requires : goal.spot_of-requires
+spot_of-requires g c =
+    let o = c.requires.over in
+    let r = c.in-Some.ensures.some o.0 o.1 o.2 o.3 o.4 in
+    (search rules, (r.0, o.1, o.2, suc o.3, r.1))
+
+pub returns-in-Some-clause-some : goal.returns-in-Some-clause-some
+returns-in-Some-clause-some g c = λ numbers rows list place p.
+    let r = c.in-Some.ensures.some numbers rows list place p in
+    (r.0, c.spot_of.ensures.way r.0 rows list (suc place) r.1, r.2)
+
+pub returns-in-None-clause-none : goal.returns-in-None-clause-none
+returns-in-None-clause-none g c = λ none numbers rows list place p. c.in-None.ensures.none refl numbers rows list place p

@@ -1,0 +1,367 @@
+-- The way of a code down rows of inner nodes, and the way to the next node: each answer of `node_of` and `next_on` is one of these.
+use Rattle.std.proofs.Common.{IsTrue, ◌≡◌, ◌≢◌, ℕ, zero, suc, ◌+◌, ◌-◌, ◌*◌, ◌/◌, ◌%◌, ◌≤◌, ◌<◌, List, [], ◌∷◌, ◌++◌, length, take, drop, get_or, slice_get, option_map, Some, refl, sym, ap, subst, ◌∙◌, arith, append_assoc, length-append}
+use Rattle.bforest_core.proofs.Words.{nil_from_length, take_at, slice_get_within, Content, Inner, IsFree, entry_count, LevelNode, node, flat, heads, FitRow, RowIn, inner_content, entry_items, entry_keys}
+use Rattle.bforest_core.specs.Spots.{Coded, CodedOver, HasNext, IsLeafAt, IsSpotAt, IsWay, NumberAt, leaf_count}
+use Rattle.bforest_core.specs.declared.spot.Spot.{Spot}
+use Rattle.bforest_core.proofs.union.Unions.{is-rooted}
+use Rattle.bforest_core.proofs.Words.{IsUnion, Table, half_of, is_root, leaf_content, tree_of}
+use Rattle.bforest_core.proofs.rows.LevelRows.{flat-append, least-pos, FitRow-split}
+use Rattle.bforest_core.proofs.rows.Zipper.{cut}
+use Rattle.bforest_core.proofs.table.Stored.{some_same, slice_get_at, item_count}
+use Rattle.bforest_core.proofs.table.Tables.{row-split}
+use Rattle.bforest_core.proofs.walks.Descent.{some_leaf}
+use Rattle.bforest_core.proofs.walks.Downward.{seen}
+use Rattle.bforest_core.proofs.walks.LeafSearch.{items-read}
+use Rattle.bforest_core.proofs.walks.Steps.{entry_at, fit_full, read}
+
+-- a list cut at one place is cut into the same parts
+same-cut : {A : Type 0} (b1 : List A) (x1 : A) (a1 b2 : List A) (x2 : A) (a2 : List A) → b1 ++ x1 ∷ a1 ≡ b2 ++ x2 ∷ a2 → length b1 ≡ length b2 → (b1 ≡ b2) × (x1 ≡ x2)
+same-cut [] x1 a1 [] x2 a2 e l = (refl, cc)
+same-cut [] x1 a1 (y ∷ b2) x2 a2 e l = absurd (omega (arith, l))
+same-cut (y ∷ b1) x1 a1 [] x2 a2 e l = absurd (omega (arith, l))
+same-cut (y ∷ b1) x1 a1 (z ∷ b2) x2 a2 e l = let r = same-cut b1 x1 a1 b2 x2 a2 (cc) (omega (arith, l)) in (cc, r.1)
+
+node-number : {K X : Type 0} (i : ℕ) (xs : List (K × X)) (j : ℕ) (ys : List (K × X)) → node i xs ≡ node j ys → i ≡ j
+node-number i xs j ys e = cc
+
+module _ {K V X : Type 0} (content : List (K × X) → Content K V) (slots : List (Content K V)) (most : ℕ) where
+  -- the node of this number at a place of a row
+  pub record NodeIn (row : List (LevelNode K X)) (number place : ℕ) : Type 0 where
+    pub before : List (LevelNode K X)
+    pub entries : List (K × X)
+    pub after : List (LevelNode K X)
+    pub row_is : row ≡ before ++ node number entries ∷ after
+    pub at : length before ≡ place
+    pub slot_is : slice_get slots number ≡ Some (content entries)
+    pub some : 1 ≤ length entries
+    pub room : length entries ≤ most
+
+  module _ (half : ℕ) (one : 1 ≤ half) (row : List (LevelNode K X)) (fit : FitRow half most row) (inside : RowIn content slots row) where
+    abbrev pub node-in : (number place : ℕ) (before : List (LevelNode K X)) (entries : List (K × X)) (after : List (LevelNode K X)) → row ≡ before ++ node number entries ∷ after → length before ≡ place → NodeIn row number place
+    node-in number place before entries after row_is at =
+        let f = (FitRow-split half most before (node number entries) after (subst (FitRow half most) row_is fit)).1 in
+        let i = (row-split content slots before (node number entries ∷ after) (subst (RowIn content slots) row_is inside)).1.0 in
+        record { before = before; entries = entries; after = after; row_is = row_is; at = at; slot_is = i; some = omega (arith, f.0, least-pos half one after); room = f.1 }
+
+    pub node-at : (number place : ℕ) → NumberAt (heads row) place number → NodeIn row number place
+    node-at number place m =
+        let c = cut (heads row) place (slice_get_within (heads row) place (m.0, number) m.1) in
+        let same : c.x ≡ (m.0, number) = some_same c.x (m.0, number) (sym (ap (λ z. slice_get z place) c.es_is ∙ slice_get_at c.l c.x c.r place c.place_is) ∙ m.1) in
+        let s = seen half most one row c.l m.0 number c.r fit (c.es_is ∙ ap (λ z. c.l ++ z ∷ c.r) same) in
+        node-in number place s.before (s.e ∷ s.es) s.after s.row_is (s.before_is ∙ c.place_is)
+
+  module _ {row : List (LevelNode K X)} {number place : ℕ} (a : NodeIn row number place) where
+    -- no other node is at that place
+    pub node-same : {number1 : ℕ} (b : NodeIn row number1 place) → number1 ≡ number
+    node-same {number1} b =
+        let same = (same-cut b.before (node number1 b.entries) b.after a.before (node number a.entries) a.after (sym b.row_is ∙ a.row_is) (b.at ∙ sym a.at)).1 in
+        node-number number1 b.entries number a.entries same
+
+    -- the entries of the node are those in front of the next node's
+    pub seam : {number1 : ℕ} (b : NodeIn row number1 (suc place)) → length (flat b.before) ≡ length (flat a.before) + length a.entries
+    seam {number1} b =
+        let k = length b.before in
+        let x = node number a.entries in
+        let two : b.before ≡ a.before ++ x ∷ [] = sym (take_at b.before (node number1 b.entries ∷ b.after) k refl) ∙ ap (λ z. take k z) (sym b.row_is ∙ a.row_is ∙ sym (append_assoc a.before (x ∷ []) a.after)) ∙ take_at (a.before ++ x ∷ []) a.after k (omega (arith, a.at, b.at, length-append a.before (x ∷ []))) in
+        omega (arith, ap (λ z. length (flat z)) two, ap length (flat-append a.before (x ∷ [])), length-append (flat a.before) (a.entries ++ []), length-append a.entries [])
+
+    -- the entries of the last node of a row end the row's entries
+    pub none-behind : (half : ℕ) → 1 ≤ half → FitRow half most row → suc place ≡ length (heads row) → length (flat row) ≡ length (flat a.before) + length a.entries
+    none-behind half one fit last =
+        let x = node number a.entries in
+        let none = nil_from_length a.after (omega (arith, last, a.at, fit_full half most one row fit, ap length a.row_is, length-append a.before (x ∷ a.after))) in
+        omega (arith, ap (λ z. length (flat z)) a.row_is, ap length (flat-append a.before (x ∷ a.after)), length-append (flat a.before) (a.entries ++ flat a.after), length-append a.entries (flat a.after), ap (λ z. length (flat z)) none)
+
+-- a power of eight
+abbrev pub eights : ℕ → ℕ
+eights zero = 1
+eights (suc n) = 8 * eights n
+
+eights-pos : (n : ℕ) → 1 ≤ eights n
+eights-pos zero = omega arith
+eights-pos (suc n) = omega (arith, eights-pos n)
+
+digits-low : (code x : ℕ) → code / 8 < x → code < 8 * x
+digits-low code x low = omega (arith, low)
+
+-- a code has no more digits than levels
+pub code-low : {K : Type 0} (n : ℕ) (rows : List (List (LevelNode K ℕ))) (numbers : List ℕ) (code place : ℕ) → Coded numbers rows code place → length rows ≤ n → code < eights n
+code-low n [] numbers code place c low = omega (arith, c.0, eights-pos n)
+code-low zero (row ∷ rows) numbers code place c low = absurd (omega (arith, low))
+code-low (suc n) (row ∷ rows) numbers code place c low = digits-low code (eights n) (code-low n rows (drop 1 numbers) (code / 8) (length c.0.before) c.1 (omega (arith, low)))
+
+module _ {K V : Type 0} (slots : List (Content K V)) (root code depth : ℕ) where
+  -- the lowest node of a way, and the way to it
+  pub record Lowest (numbers : List ℕ) (rows : List (List (LevelNode K ℕ))) (list : List (K × ℕ)) (place : ℕ) : Type 0 where
+    pub row : List (LevelNode K ℕ)
+    pub rest : List (List (LevelNode K ℕ))
+    pub rows_are : rows ≡ row ∷ rest
+    pub number : ℕ
+    pub top : ℕ
+    pub at : NodeIn inner_content slots 8 row number top
+    pub within : code % 8 < length at.entries
+    pub place_is : place ≡ length (flat at.before) + code % 8
+    pub fit : FitRow 4 8 row
+    pub inside : RowIn inner_content slots row
+    pub flat_is : flat row ≡ list
+    pub over : CodedOver slots root (code / 8) (depth - 1) (drop 1 numbers) rest (heads row) top
+    pub low : length rest ≤ depth - 1
+
+  pub lowest : (numbers : List ℕ) (rows : List (List (LevelNode K ℕ))) (list : List (K × ℕ)) (place : ℕ) → CodedOver slots root code depth numbers rows list place → depth ≢ 0 → Lowest numbers rows list place
+  lowest numbers [] list place p some = absurd (some p.depth_is)
+  lowest numbers (row ∷ rest) list place p some =
+      let at = p.coded.0 in
+      record {
+        row = row;
+        rest = rest;
+        rows_are = refl;
+        number = get_or numbers 0 0;
+        top = length at.before;
+        at = node-in inner_content slots 8 4 (omega arith) row p.stacked.1 p.inside.0 (get_or numbers 0 0) (length at.before) at.before at.entries at.after at.row_is refl;
+        within = at.within;
+        place_is = at.place_is;
+        fit = p.stacked.1;
+        inside = p.inside.0;
+        flat_is = p.stacked.0;
+        over = record { stacked = p.stacked.2; inside = p.inside.1; coded = p.coded.1; root_is = p.root_is; depth_is = omega (arith, p.depth_is) };
+        low = omega (arith, p.depth_is);
+      }
+
+  -- with no levels, the root
+  pub way-none : (numbers : List ℕ) (rows : List (List (LevelNode K ℕ))) (list : List (K × ℕ)) (place : ℕ) → CodedOver slots root code depth numbers rows list place → depth ≡ 0 → NumberAt list place root × (suc place ≡ length list)
+  way-none numbers [] [] place p none = absurd (omega (arith, p.stacked))
+  way-none numbers [] (x ∷ y ∷ list) place p none = absurd (omega (arith, p.stacked))
+  way-none numbers [] (x ∷ []) place p none =
+      ((x.0, ap (λ z. slice_get (x ∷ []) z) p.coded.1 ∙ ap (λ z. Some (x.0, z)) p.root_is), omega (arith, p.coded.1))
+  way-none numbers (row ∷ rest) list place p none = absurd (omega (arith, p.depth_is, none))
+
+digit-more : (code : ℕ) → code % 8 + 1 < 8 → ((code + 1) % 8 ≡ code % 8 + 1) × ((code + 1) / 8 ≡ code / 8)
+digit-more code low = (omega (arith, low), omega (arith, low))
+
+digit-none : (code : ℕ) → ((code * 8) % 8 ≡ 0) × ((code * 8) / 8 ≡ code)
+digit-none code = (omega arith, omega arith)
+
+-- one digit more in the same node
+one-more : {K V : Type 0} (slots : List (Content K V)) (root code depth : ℕ) (numbers : List ℕ) (rows : List (List (LevelNode K ℕ))) (list : List (K × ℕ)) (place : ℕ) (p : CodedOver slots root code depth numbers rows list place) (some : depth ≢ 0) → code % 8 + 1 < 8 → code % 8 + 1 < length (lowest slots root code depth numbers rows list place p some).at.entries → CodedOver slots root (code + 1) depth numbers rows list (suc place)
+unfolding lowest
+one-more slots root code depth numbers [] list place p some eight low = absurd (some p.depth_is)
+one-more slots root code depth numbers (row ∷ rest) list place p some eight low =
+    let d = digit-more code eight in
+    let at = p.coded.0 in
+    record {
+      stacked = p.stacked;
+      inside = p.inside;
+      coded = (record { before = at.before; entries = at.entries; after = at.after; row_is = at.row_is; within = omega (arith, d.0, low); place_is = omega (arith, d.0, at.place_is) }, subst (λ z. Coded (drop 1 numbers) rest z (length at.before)) (sym d.1) p.coded.1);
+      root_is = p.root_is;
+      depth_is = p.depth_is;
+    }
+
+-- from the last child of a node on to the first child of the next
+one-carry : {K V : Type 0} (slots : List (Content K V)) (root code depth : ℕ) (numbers : List ℕ) (rows : List (List (LevelNode K ℕ))) (list : List (K × ℕ)) (place : ℕ) (p : CodedOver slots root code depth numbers rows list place) (some : depth ≢ 0) (l : Lowest slots root code depth numbers rows list place) → l ≡ lowest slots root code depth numbers rows list place p some →
+    length l.at.entries ≤ code % 8 + 1 → (above number : ℕ) (others : List ℕ) (w : NodeIn inner_content slots 8 l.row number (suc l.top)) → CodedOver slots root above (depth - 1) others l.rest (heads l.row) (suc l.top) → CodedOver slots root (above * 8) depth (number ∷ others) rows list (suc place)
+unfolding lowest
+one-carry slots root code depth numbers [] list place p some l same past above number others w q = absurd (some p.depth_is)
+one-carry slots root code depth numbers (row ∷ rest) list place p some l same past above number others w q =
+    let d = digit-none above in
+    let row_same : l.row ≡ row = ap (λ z. z.row) same in
+    let rest_same : l.rest ≡ rest = ap (λ z. z.rest) same in
+    let start : suc place ≡ length (flat w.before) + (above * 8) % 8 = omega (arith, d.0, seam inner_content slots 8 l.at w, l.place_is, l.within, past) in
+    record {
+      stacked = p.stacked;
+      inside = p.inside;
+      coded = (record { before = w.before; entries = w.entries; after = w.after; row_is = sym row_same ∙ w.row_is; within = omega (arith, d.0, w.some); place_is = start }, subst (λ z. Coded others rest z (length w.before)) (sym d.1) (subst (λ z. Coded others rest above z) (sym w.at) (subst (λ z. Coded others z above (suc l.top)) rest_same q.coded)));
+      root_is = p.root_is;
+      depth_is = p.depth_is;
+    }
+
+module _ {K V : Type 0} {slots : List (Content K V)} {root code depth : ℕ} {numbers : List ℕ} {rows : List (List (LevelNode K ℕ))} {list : List (K × ℕ)} {place : ℕ} (p : CodedOver slots root code depth numbers rows list place) (some : depth ≢ 0) where
+  abbrev pub here : Lowest slots root code depth numbers rows list place
+  here = lowest slots root code depth numbers rows list place p some
+
+  -- what going on above asks
+  pub above-asks : (numbers : List ℕ) × (rows : List (List (LevelNode K ℕ))) × (list : List (K × ℕ)) × (place : ℕ) × CodedOver slots root (code / 8) (depth - 1) numbers rows list place
+  above-asks = (drop 1 numbers, here.rest, heads here.row, here.top, here.over)
+
+  -- the node behind this one on the level above, and the way there
+  abbrev pub NextAbove : ℕ → ℕ → Type 0
+  NextAbove above number =
+      (others : List ℕ) × CodedOver slots root above (depth - 1) others here.rest (heads here.row) (suc here.top) × NumberAt (heads here.row) (suc here.top) number
+
+  pub next-above : (above number : ℕ) → ((numbers : List ℕ) (rows : List (List (LevelNode K ℕ))) (list : List (K × ℕ)) (place : ℕ) → CodedOver slots root (code / 8) (depth - 1) numbers rows list place → (others : List ℕ) × CodedOver slots root above (depth - 1) others rows list (suc place) × NumberAt list (suc place) number) → NextAbove above number
+  next-above above number found = found (drop 1 numbers) here.rest (heads here.row) here.top here.over
+
+  -- what is said of the last node of its level above
+  pub above-last : ((numbers : List ℕ) (rows : List (List (LevelNode K ℕ))) (list : List (K × ℕ)) (place : ℕ) → CodedOver slots root (code / 8) (depth - 1) numbers rows list place → suc place ≡ length list) → suc here.top ≡ length (heads here.row)
+  above-last says = says (drop 1 numbers) here.rest (heads here.row) here.top here.over
+
+  -- what a child of a node is, as it was read
+  child-is : {number top : ℕ} (w : NodeIn inner_content slots 8 here.row number top) (index child to : ℕ) → index < length w.entries → to ≡ length (flat w.before) + index →
+      ((keys : List K) (children : List ℕ) → slice_get slots number ≡ Some (Inner keys children) → slice_get children index ≡ Some child) → NumberAt list to child
+  child-is {number} w index child to low to_is reads =
+      let e = read w.entries index low in
+      let item : slice_get (entry_items w.entries) index ≡ Some e.0.1 = items-read w.entries index ∙ ap (λ z. option_map (λ (x : K × ℕ). x.1) z) e.1 in
+      let same : e.0.1 ≡ child = some_same e.0.1 child (sym item ∙ reads (drop 1 (entry_keys w.entries)) (entry_items w.entries) w.slot_is) in
+      (e.0.0, ap (λ z. slice_get z to) (sym here.flat_is) ∙ ap (λ z. slice_get (flat here.row) z) to_is ∙ entry_at here.row w.before number w.entries w.after index e.0 w.row_is e.1 ∙ ap (λ z. Some (e.0.0, z)) same)
+
+  child-asks : {number top : ℕ} (w : NodeIn inner_content slots 8 here.row number top) (index : ℕ) → index < length w.entries → (keys : List K) × (children : List ℕ) × (slice_get slots number ≡ Some (Inner keys children)) × (index < length children)
+  child-asks w index low = (drop 1 (entry_keys w.entries), entry_items w.entries, w.slot_is, omega (arith, low, item_count w.entries))
+
+  -- the lowest node is the one that was read
+  pub read-same : (parent : ℕ) → ((numbers : List ℕ) (rows : List (List (LevelNode K ℕ))) (list : List (K × ℕ)) (place : ℕ) → CodedOver slots root (code / 8) (depth - 1) numbers rows list place → NumberAt list place parent) → parent ≡ here.number
+  read-same parent says = node-same inner_content slots 8 here.at (node-at inner_content slots 8 4 (omega arith) here.row here.fit here.inside parent here.top (says (drop 1 numbers) here.rest (heads here.row) here.top here.over))
+
+  module _ (parent : ℕ) (same : parent ≡ here.number) where
+    abbrev node-here : NodeIn inner_content slots 8 here.row parent here.top
+    node-here = record { before = here.at.before; entries = here.at.entries; after = here.at.after; row_is = here.at.row_is ∙ ap (λ z. here.at.before ++ node z here.at.entries ∷ here.at.after) (sym same); at = here.at.at; slot_is = ap (slice_get slots) same ∙ here.at.slot_is; some = here.at.some; room = here.at.room }
+
+    -- the child to which the code goes
+    pub code-asks : (keys : List K) × (children : List ℕ) × (slice_get slots parent ≡ Some (Inner keys children)) × (code % 8 < length children)
+    code-asks = child-asks node-here (code % 8) here.within
+
+    pub code-child : (child : ℕ) → ((keys : List K) (children : List ℕ) → slice_get slots parent ≡ Some (Inner keys children) → slice_get children (code % 8) ≡ Some child) → NumberAt list place child
+    code-child child reads = child-is node-here (code % 8) child place here.within here.place_is reads
+
+    -- what the number of children asks, and says
+    pub count-asks : (content : Content K V) × (slice_get slots parent ≡ Some content) × (IsFree content → ⊥)
+    count-asks = (inner_content here.at.entries, node-here.slot_is, λ free. free)
+
+    module _ (count : ℕ) (counts : (content : Content K V) → slice_get slots parent ≡ Some content → count ≡ entry_count content) where
+      count-is : count ≡ length here.at.entries
+      count-is = counts (inner_content here.at.entries) node-here.slot_is ∙ item_count here.at.entries
+
+      -- the next child of the same node
+      pub next-asks : code % 8 + 1 < count → (keys : List K) × (children : List ℕ) × (slice_get slots parent ≡ Some (Inner keys children)) × (code % 8 + 1 < length children)
+      next-asks low = child-asks node-here (code % 8 + 1) (omega (arith, low, count-is))
+
+      pub next-child : (child : ℕ) → code % 8 + 1 < count → ((keys : List K) (children : List ℕ) → slice_get slots parent ≡ Some (Inner keys children) → slice_get children (code % 8 + 1) ≡ Some child) → NumberAt list (suc place) child
+      next-child child low reads = child-is node-here (code % 8 + 1) child (suc place) (omega (arith, low, count-is)) (omega (arith, here.place_is)) reads
+
+      next-low : code % 8 + 1 < count → code % 8 + 1 < 8
+      next-low low = omega (arith, low, count-is, here.at.room)
+
+      pub next-code : code % 8 + 1 < count → CodedOver slots root (code + 1) depth numbers rows list (suc place)
+      next-code low = one-more slots root code depth numbers rows list place p some (next-low low) (omega (arith, low, count-is))
+
+      past : count ≤ code % 8 + 1 → length here.at.entries ≤ code % 8 + 1
+      past high = omega (arith, high, count-is)
+
+      -- the last child of the last node is the last of its level
+      pub none-next : count ≤ code % 8 + 1 → suc here.top ≡ length (heads here.row) → suc place ≡ length list
+      none-next high last = omega (arith, past high, here.within, here.place_is, ap length here.flat_is, none-behind inner_content slots 8 here.at 4 (omega arith) here.fit last)
+
+      module _ (high : count ≤ code % 8 + 1) (above node : ℕ) (on : NextAbove above node) where
+        next-node : NodeIn inner_content slots 8 here.row node (suc here.top)
+        next-node = node-at inner_content slots 8 4 (omega arith) here.row here.fit here.inside node (suc here.top) on.2
+
+        -- the first child of the node behind
+        pub first-asks : (keys : List K) × (children : List ℕ) × (slice_get slots node ≡ Some (Inner keys children)) × (0 < length children)
+        first-asks = child-asks next-node 0 next-node.some
+
+        pub above-low : depth ≤ 16 → above < 35184372088832
+        above-low low = code-low 15 here.rest on.0 above (suc here.top) on.1.coded (omega (arith, low, here.low))
+
+        start : suc place ≡ length (flat next-node.before) + 0
+        start = omega (arith, seam inner_content slots 8 here.at next-node, here.place_is, here.within, past high)
+
+        -- the way goes on to that child
+        pub first-code : CodedOver slots root (above * 8) depth (node ∷ on.0) rows list (suc place)
+        first-code = one-carry slots root code depth numbers rows list place p some here refl (past high) above node on.0 next-node on.1
+
+        pub first-child : (child : ℕ) → ((keys : List K) (children : List ℕ) → slice_get slots node ≡ Some (Inner keys children) → slice_get children 0 ≡ Some child) → NumberAt list (suc place) child
+        first-child child reads = child-is next-node 0 child (suc place) next-node.some start reads
+
+        pub first-on : (child : ℕ) → ((keys : List K) (children : List ℕ) → slice_get slots node ≡ Some (Inner keys children) → slice_get children 0 ≡ Some child) → (others : List ℕ) × CodedOver slots root (above * 8) depth others rows list (suc place) × NumberAt list (suc place) child
+        first-on child reads = (node ∷ on.0, first-code, first-child child reads)
+
+-- the lowest node is the first of the numbers
+pub kept-same : {K V : Type 0} (slots : List (Content K V)) (root code depth : ℕ) (numbers : List ℕ) (rows : List (List (LevelNode K ℕ))) (list : List (K × ℕ)) (place : ℕ) (p : CodedOver slots root code depth numbers rows list place) (some : depth ≢ 0) (parent : ℕ) → get_or numbers 0 0 ≡ parent → parent ≡ (lowest slots root code depth numbers rows list place p some).number
+unfolding lowest
+kept-same slots root code depth numbers [] list place p some parent is = absurd (some p.depth_is)
+kept-same slots root code depth numbers (row ∷ rest) list place p some parent is = sym is
+
+module _ {K V : Type 0} {n : ℕ} {table : Table K V} (union : IsUnion n table) (root : ℕ) (is : IsTrue (is_root table.nodes root)) where
+  -- the leaf that is the node at this place of the lowest level
+  pub leaf-at : {place number : ℕ} → NumberAt (heads (tree_of table.nodes root).leaves) place number → IsLeafAt table root place number
+  leaf-at {place} {number} m =
+      let w = is-rooted n table root union is in
+      let a = node-at leaf_content table.nodes n (half_of n) (some_leaf n union.1.capacity) (tree_of table.nodes root).leaves w.fit.leaves_fit w.inside.leaves_in number place m in
+      record { before = a.before; entries = a.entries; after = a.after; leaves_are = a.row_is; at = a.at; slot_is = a.slot_is; some = a.some }
+
+  -- the last node of the lowest level is the last leaf
+  pub last-leaf : {place : ℕ} → suc place ≡ length (heads (tree_of table.nodes root).leaves) → suc place ≡ leaf_count table root
+  last-leaf {place} last =
+      let w = is-rooted n table root union is in
+      last ∙ fit_full (half_of n) n (some_leaf n union.1.capacity) (tree_of table.nodes root).leaves w.fit.leaves_fit
+
+module _ {K V : Type 0} {n : ℕ} {table : Table K V} (union : IsUnion n table) {root : ℕ} {spot : Spot} {place : ℕ} (s : IsSpotAt table root spot place) where
+  -- a spot's code is a way down
+  pub spot-over : CodedOver table.nodes root spot.code spot.height s.numbers (tree_of table.nodes root).above (heads (tree_of table.nodes root).leaves) place
+  spot-over = let w = is-rooted n table root union s.root_is in record { stacked = w.fit.stacked; inside = w.inside.rows_in; coded = s.coded; root_is = w.root_is; depth_is = s.height_is }
+
+  module _ (some : 0 < spot.height) where
+    abbrev pub other : spot.height ≢ 0
+    other = λ none. omega (arith, none, some)
+
+    abbrev pub its : spot.parent ≡ (here spot-over other).number
+    its = kept-same table.nodes root spot.code spot.height s.numbers (tree_of table.nodes root).above (heads (tree_of table.nodes root).leaves) place spot-over other spot.parent (s.parent_is some)
+
+    pub spot-count : (content : Content K V) × (slice_get table.nodes spot.parent ≡ Some content) × (IsFree content → ⊥)
+    spot-count = count-asks spot-over other spot.parent its
+
+    module _ (count : ℕ) (counts : (content : Content K V) → slice_get table.nodes spot.parent ≡ Some content → count ≡ entry_count content) where
+      pub spot-last : count ≤ spot.code % 8 + 1 → HasNext table spot → ⊥
+      spot-last high h = omega (arith, high, h.within, counts (inner_content h.entries) h.parent, item_count h.entries)
+
+      pub spot-has : spot.code % 8 + 1 < count → HasNext table spot
+      spot-has low = record { some = some; entries = (here spot-over other).at.entries; parent = (node-here spot-over other spot.parent its).slot_is; within = omega (arith, low, count-is spot-over other spot.parent its count counts) }
+
+    module _ (h : HasNext table spot) where
+      counts-next : (content : Content K V) → slice_get table.nodes spot.parent ≡ Some content → length h.entries ≡ entry_count content
+      counts-next content found = sym (ap entry_count (some_same content (inner_content h.entries) (sym found ∙ h.parent)) ∙ item_count h.entries)
+
+      pub sibling-asks : (keys : List K) × (children : List ℕ) × (slice_get table.nodes spot.parent ≡ Some (Inner keys children)) × (spot.code % 8 + 1 < length children)
+      sibling-asks = next-asks spot-over other spot.parent its (length h.entries) counts-next h.within
+
+      pub sibling-child : (child : ℕ) → ((keys : List K) (children : List ℕ) → slice_get table.nodes spot.parent ≡ Some (Inner keys children) → slice_get children (spot.code % 8 + 1) ≡ Some child) → IsLeafAt table root (suc place) child
+      sibling-child child reads = leaf-at union root s.root_is (next-child spot-over other spot.parent its (length h.entries) counts-next child h.within reads)
+
+      pub sibling-spot : (next : Spot) → next.code ≡ spot.code + 1 → next.parent ≡ spot.parent → next.grand ≡ spot.grand → next.height ≡ spot.height → IsSpotAt table root next (suc place)
+      sibling-spot next code parent grand height =
+          let q = next-code spot-over other spot.parent its (length h.entries) counts-next h.within in
+          record {
+            root_is = s.root_is;
+            numbers = s.numbers;
+            coded = subst (λ z. Coded s.numbers (tree_of table.nodes root).above z (suc place)) (sym code) q.coded;
+            parent_is = λ low. s.parent_is some ∙ sym parent;
+            grand_is = λ low. s.grand_is (omega (arith, low, height)) ∙ sym grand;
+            height_is = height ∙ s.height_is;
+          }
+
+  pub spot-low : spot.code < 281474976710656
+  spot-low = let w = is-rooted n table root union s.root_is in code-low 16 (tree_of table.nodes root).above s.numbers spot.code place s.coded w.low
+
+module _ {K V : Type 0} {slots : List (Content K V)} {root code depth : ℕ} {numbers : List ℕ} {rows : List (List (LevelNode K ℕ))} {list : List (K × ℕ)} {place : ℕ} (p : CodedOver slots root code depth numbers rows list place) where
+  -- the node that was read is the first of the numbers
+  pub first-kept : (some : depth ≢ 0) (parent : ℕ) → ((numbers : List ℕ) (rows : List (List (LevelNode K ℕ))) (list : List (K × ℕ)) (place : ℕ) → CodedOver slots root (code / 8) (depth - 1) numbers rows list place → NumberAt list place parent) → get_or numbers 0 0 ≡ parent
+  first-kept some parent says = kept-same slots root code depth numbers rows list place p some (get_or numbers 0 0) refl ∙ sym (read-same p some parent says)
+
+  -- a spot of this code
+  pub way-of : (spot : Spot) → spot.code ≡ code → spot.height ≡ depth → (0 < depth → get_or numbers 0 0 ≡ spot.parent) → (1 < depth → get_or (drop 1 numbers) 0 0 ≡ spot.grand) → IsWay numbers spot rows place
+  way-of spot code_is height parent grand = record { coded = subst (λ z. Coded numbers rows z place) (sym code_is) p.coded; parent_is = λ low. parent (omega (arith, low, height)); grand_is = λ low. grand (omega (arith, low, height)); height_is = height ∙ p.depth_is }
+
+module _ {K V : Type 0} {slots : List (Content K V)} {root code depth : ℕ} {numbers : List ℕ} {rows : List (List (LevelNode K ℕ))} {list : List (K × ℕ)} {place : ℕ} (p : CodedOver slots root code depth numbers rows list place) (some : depth ≢ 0) (two : depth ≢ 1) where
+  more : depth - 1 ≢ 0
+  more = λ none. two (omega (arith, none, some))
+
+  pub grand-asks : (numbers : List ℕ) × (rows : List (List (LevelNode K ℕ))) × (list : List (K × ℕ)) × (place : ℕ) × CodedOver slots root (code / 8 / 8) (depth - 1 - 1) numbers rows list place
+  grand-asks = above-asks (here p some).over more
+
+  pub second-kept : (grand : ℕ) → ((numbers : List ℕ) (rows : List (List (LevelNode K ℕ))) (list : List (K × ℕ)) (place : ℕ) → CodedOver slots root (code / 8 / 8) (depth - 1 - 1) numbers rows list place → NumberAt list place grand) → get_or (drop 1 numbers) 0 0 ≡ grand
+  second-kept grand says = first-kept (here p some).over more grand says
+
+module _ {K V : Type 0} {n : ℕ} {table : Table K V} (union : IsUnion n table) {root : ℕ} {spot : Spot} {place : ℕ} (s : IsSpotAt table root spot place) where
+  pub spot-height : spot.height ≤ 16
+  spot-height = let w = is-rooted n table root union s.root_is in omega (arith, s.height_is, w.low)
+
+  pub far-spot : (next : Spot) (others : List ℕ) → IsWay others next (tree_of table.nodes root).above (suc place) → IsSpotAt table root next (suc place)
+  far-spot next others w = record { root_is = s.root_is; numbers = others; coded = w.coded; parent_is = w.parent_is; grand_is = w.grand_is; height_is = w.height_is }

@@ -1,0 +1,86 @@
+-- The place of a leaf in its tree as a number, with an octal digit for each level of inner nodes.
+use Rattle.std.specs.Prelude.{◌≡◌, ℕ, ◌+◌, ◌<◌, ◌/◌, ◌%◌, IsTrue, List, [], ◌∷◌, ◌++◌, drop, length, get_or, slice_get, take, Some, ◌≤◌}
+use Rattle.bforest_nodes.specs.Content.{Content}
+use Rattle.bforest_core.specs.Levels.{LevelNode, flat, node, Stacked}
+use Rattle.bforest_core.specs.Place.{IsAt, RowsIn, inner_content, leaf_content, root_above}
+use Rattle.bforest_core.specs.Table.{Table}
+use Rattle.bforest_core.specs.Trees.{is_root, tree_of}
+use Rattle.bforest_core.specs.declared.spot.Spot.{Spot}
+
+module _ {K : Type 0} where
+  -- the way down through rows, whose nodes have these numbers, the lowest first, to the entry at this place of the lowest: the code's digits
+  -- are the indices, the last digit that in the lowest row
+  abbrev pub Coded : List ℕ → List (List (LevelNode K ℕ)) → ℕ → ℕ → Type 0
+  Coded numbers [] code place = (code ≡ 0) × (place ≡ 0)
+  Coded numbers (row ∷ rows) code place =
+      (at : IsAt row (get_or numbers 0 0) (code % 8) place) × Coded (drop 1 numbers) rows (code / 8) (length at.before)
+
+  -- the place to which a code leads down rows, the lowest first
+  abbrev pub place_by : List (List (LevelNode K ℕ)) → ℕ → ℕ
+  place_by [] code = 0
+  place_by (row ∷ rows) code = length (flat (take (place_by rows (code / 8)) row)) + code % 8
+
+  -- the node at this place of a level has this number
+  abbrev pub NumberAt : List (K × ℕ) → ℕ → ℕ → Type 0
+  NumberAt list place number = (first : K) × (slice_get list place ≡ Some (first, number))
+
+  -- the rows stand over these nodes and lie in the slots, under a root, and the way of this code goes down to the node at this place
+  pub record CodedOver {V : Type 0} (slots : List (Content K V)) (root code depth : ℕ) (numbers : List ℕ) (rows : List (List (LevelNode K ℕ))) (list : List (K × ℕ)) (place : ℕ) : Type 0 where
+    pub stacked : Stacked list rows
+    pub inside : RowsIn slots rows
+    pub coded : Coded numbers rows code place
+    pub root_is : root_above list rows ≡ root
+    pub depth_is : depth ≡ length rows
+
+-- no inner node is above a spot's leaf: it is the only one of its tree, or there is none
+abbrev pub HasNoParent : Spot → Type 0
+HasNoParent spot = spot.height ≡ 0
+
+module _ {K V : Type 0} where
+  -- the spot is that of the leaf at this place of the leaves of the tree under a root
+  pub record IsSpotAt (table : Table K V) (root : ℕ) (spot : Spot) (place : ℕ) : Type 0 where
+    pub root_is : IsTrue (is_root table.nodes root)
+    pub numbers : List ℕ
+    pub coded : Coded numbers (tree_of table.nodes root).above spot.code place
+    pub parent_is : 0 < spot.height → get_or numbers 0 0 ≡ spot.parent
+    pub grand_is : 1 < spot.height → get_or (drop 1 numbers) 0 0 ≡ spot.grand
+    pub height_is : spot.height ≡ length (tree_of table.nodes root).above
+
+  -- the leaf with this number stands at this place among the leaves of the tree under a root, and has these entries
+  pub record IsLeafAt (table : Table K V) (root place number : ℕ) : Type 0 where
+    pub before : List (LevelNode K V)
+    pub entries : List (K × V)
+    pub after : List (LevelNode K V)
+    pub leaves_are : (tree_of table.nodes root).leaves ≡ before ++ node number entries ∷ after
+    pub at : length before ≡ place
+    pub slot_is : slice_get table.nodes number ≡ Some (leaf_content entries)
+    pub some : 1 ≤ length entries
+
+  -- how many leaves the tree under a root has
+  abbrev pub leaf_count : Table K V → ℕ → ℕ
+  leaf_count table root = length (tree_of table.nodes root).leaves
+
+  -- the place of a spot's leaf among the leaves of the tree under a root, computed
+  abbrev pub leaf_place : Table K V → ℕ → Spot → ℕ
+  leaf_place table root spot = place_by (tree_of table.nodes root).above spot.code
+
+  -- the root and the place of a spot's leaf
+  pub record SpotOn (table : Table K V) (spot : Spot) : Type 0 where
+    pub root : ℕ
+    pub place : ℕ
+    pub is : IsSpotAt table root spot place
+
+  -- the next leaf has the same parent
+  pub record HasNext (table : Table K V) (spot : Spot) : Type 0 where
+    pub some : 0 < spot.height
+    pub entries : List (K × ℕ)
+    pub parent : slice_get table.nodes spot.parent ≡ Some (inner_content entries)
+    pub within : spot.code % 8 + 1 < length entries
+
+module _ {K : Type 0} where
+  -- the spot of a node at this place of a level, below these rows
+  pub record IsWay (numbers : List ℕ) (spot : Spot) (rows : List (List (LevelNode K ℕ))) (place : ℕ) : Type 0 where
+    pub coded : Coded numbers rows spot.code place
+    pub parent_is : 0 < spot.height → get_or numbers 0 0 ≡ spot.parent
+    pub grand_is : 1 < spot.height → get_or (drop 1 numbers) 0 0 ≡ spot.grand
+    pub height_is : spot.height ≡ length rows

@@ -1,0 +1,304 @@
+//! The place of a leaf in its tree, in one word.
+ghost use Rattle.std.specs.Prelude.{◌≡◌, ℕ, suc, ◌+◌, ◌*◌, ◌<◌, ◌≤◌, ◌/◌, ◌%◌, ◌++◌, ◌∷◌, IfSome, IsTrue, List, length, slice_get, Some, None, true, false};
+ghost use Rattle.bforest_core.specs.Levels.{LevelNode, heads};
+ghost use Rattle.bforest_core.specs.Trees.{IsUnion, is_root, tree_of};
+ghost use Rattle.bforest_nodes.specs.Content.{IsLeafCapacity};
+ghost use Rattle.bforest_core.specs.Descent.{Under};
+ghost use Rattle.bforest_core.specs.Spots.{CodedOver, HasNext, HasNoParent, IsLeafAt, IsSpotAt, IsWay, NumberAt, SpotOn, leaf_count};
+
+use crate::access::{child, entries};
+use crate::pool::NodePool;
+use bforest_nodes::Node;
+
+/// The place of a leaf in its tree: at which child the way from the root down to it goes on, an octal digit for each level of inner nodes,
+/// that of the leaf's parent the last.
+#[derive(Clone, Copy, Drop)]
+pub struct Spot {
+    code: u64,
+    // The leaf's parent, where it has one.
+    parent: Node,
+    // The parent of that, where it has one.
+    grand: Node,
+    // How many digits there are.
+    height: u32,
+}
+
+impl Spot {
+    /// The spot of the only leaf of a tree.
+    pub fn root(root: Node) -> Spot
+        ensures code { result.code ≡ 0 }
+        ensures height { result.height ≡ 0 }
+    {
+        Spot {
+            code: 0,
+            parent: root,
+            grand: root,
+            height: 0,
+        }
+    }
+
+    /// The first leaf below a root, and its place.
+    #[inline(always)]
+    pub fn first<K: Copy, V: Copy, const N: usize>(
+        root: Node,
+        pool: &NodePool<K, V, N>,
+    ) -> (Spot, Node)
+        requires union { IsUnion N pool.now }
+        requires root { IsTrue (is_root pool.now.nodes root) }
+        ensures spot { IsSpotAt pool.now root result.0 0 }
+        ensures leaf { IsLeafAt pool.now root 0 result.1 }
+    {
+        let spot = Spot::root(root);
+        if !pool.node(root).is_inner() {
+            return (spot, root);
+        }
+        first_below(spot, root, pool)
+    }
+
+    /// The next leaf, and its place, if there is one. A spot without a parent has none.
+    #[inline(always)]
+    pub fn next<K: Copy, V: Copy, const N: usize>(
+        &self,
+        root: Node,
+        pool: &NodePool<K, V, N>,
+    ) -> Option<(Spot, Node)>
+        requires union { IsUnion N pool.now }
+        requires spot { (¬ HasNoParent self.now) → (place : ℕ) × IsSpotAt pool.now root self.now place }
+        ensures some { IfSome result (λ found. (place : ℕ) → IsSpotAt pool.now root self.now place
+            → IsSpotAt pool.now root found.0 (suc place) × IsLeafAt pool.now root (suc place) found.1) }
+        ensures none { result ≡ None → (place : ℕ) → IsSpotAt pool.now root self.now place
+            → suc place ≡ leaf_count pool.now root }
+        ensures alone { HasNoParent self.now → result ≡ None }
+    {
+        if self.has_next(pool) {
+            return Some(self.next_sibling(pool));
+        }
+        if self.height < 2 {
+            return None;
+        }
+        self.next_cousin(root, pool)
+    }
+
+    // One level down.
+    #[inline(always)]
+    fn below(self, node: Node, index: usize) -> Spot
+        requires code { self.code < 35184372088832 }
+        requires height { self.height < 16 }
+        requires index { index < 8 }
+        ensures code { result.code ≡ self.code * 8 + index }
+        ensures parent { result.parent ≡ node }
+        ensures grand { result.grand ≡ self.parent }
+        ensures height { result.height ≡ suc self.height }
+    {
+        Spot {
+            code: self.code * 8 + index as u64,
+            parent: node,
+            grand: self.parent,
+            height: self.height + 1,
+        }
+    }
+
+    // Whether the next leaf has the same parent.
+    #[inline(always)]
+    fn has_next<K: Copy, V: Copy, const N: usize>(&self, pool: &NodePool<K, V, N>) -> bool
+        requires union { IsUnion N pool.now }
+        requires spot { (¬ HasNoParent self.now) → SpotOn pool.now self.now }
+        ensures next { result ≡ true → HasNext pool.now self.now }
+        ensures none { result ≡ false → ¬ HasNext pool.now self.now }
+    {
+        if self.height == 0 {
+            return false;
+        }
+        (self.code % 8) as usize + 1 < entries(pool, self.parent)
+    }
+
+    // The next leaf, which has the same parent, and its place.
+    #[inline(always)]
+    fn next_sibling<K: Copy, V: Copy, const N: usize>(
+        &self,
+        pool: &NodePool<K, V, N>,
+    ) -> (Spot, Node)
+        requires union { IsUnion N pool.now }
+        requires spot { SpotOn pool.now self.now }
+        requires next { HasNext pool.now self.now }
+        ensures leaf { (root place : ℕ) → IsSpotAt pool.now root self.now place
+            → IsLeafAt pool.now root (suc place) result.1 }
+        ensures spot { (root place : ℕ) → IsSpotAt pool.now root self.now place
+            → IsSpotAt pool.now root result.0 (suc place) }
+    {
+        let leaf = child(pool, self.parent, (self.code % 8) as usize + 1);
+        let spot = Spot {
+            code: self.code + 1,
+            parent: self.parent,
+            grand: self.grand,
+            height: self.height,
+        };
+        (spot, leaf)
+    }
+
+    // The next leaf, and its place, if there is one, where it has another parent.
+    #[inline(always)]
+    fn next_cousin<K: Copy, V: Copy, const N: usize>(
+        &self,
+        root: Node,
+        pool: &NodePool<K, V, N>,
+    ) -> Option<(Spot, Node)>
+        requires union { IsUnion N pool.now }
+        requires spot { (place : ℕ) × IsSpotAt pool.now root self.now place }
+        requires deep { 2 ≤ self.now.height }
+        requires last { ¬ HasNext pool.now self.now }
+        ensures some { IfSome result (λ found. (place : ℕ) → IsSpotAt pool.now root self.now place
+            → IsSpotAt pool.now root found.0 (suc place) × IsLeafAt pool.now root (suc place) found.1) }
+        ensures none { result ≡ None → (place : ℕ) → IsSpotAt pool.now root self.now place
+            → suc place ≡ leaf_count pool.now root }
+    {
+        let index = (self.code / 8 % 8) as usize + 1;
+        if index < entries(pool, self.grand) {
+            let parent = child(pool, self.grand, index);
+            let leaf = child(pool, parent, 0);
+            let spot = Spot {
+                code: (self.code / 8 + 1) * 8,
+                parent,
+                grand: self.grand,
+                height: self.height,
+            };
+            return Some((spot, leaf));
+        }
+        next_far(self.code, self.height, root, pool)
+    }
+}
+
+// The node behind the one at which the way of a code ends, and its spot, if there is one.
+fn next_far<K: Copy, V: Copy, const N: usize>(
+    code: u64,
+    height: u32,
+    root: Node,
+    pool: &NodePool<K, V, N>,
+) -> Option<(Spot, Node)>
+    requires low { height ≤ 16 }
+    requires over { (numbers : List ℕ) × (rows : List (List (LevelNode K ℕ))) × (list : List (K × ℕ))
+        × (place : ℕ) × CodedOver pool.now.nodes root code height numbers rows list place }
+    ensures some { IfSome result (λ found. (numbers : List ℕ) (rows : List (List (LevelNode K ℕ)))
+        (list : List (K × ℕ)) (place : ℕ) → CodedOver pool.now.nodes root code height numbers rows list place
+        → (others : List ℕ) × IsWay others found.0 rows (suc place) × NumberAt list (suc place) found.1) }
+    ensures none { result ≡ None → (numbers : List ℕ) (rows : List (List (LevelNode K ℕ)))
+        (list : List (K × ℕ)) (place : ℕ) → CodedOver pool.now.nodes root code height numbers rows list place
+        → suc place ≡ length list }
+{
+    match next_on(code, height, root, pool) {
+        Some(found) => Some((spot_of(found.0, height, root, pool), found.1)),
+        None => None,
+    }
+}
+
+// The node at the end of the way of a code, `depth` levels down from the root.
+fn node_of<K: Copy, V: Copy, const N: usize>(
+    code: u64,
+    depth: u32,
+    root: Node,
+    pool: &NodePool<K, V, N>,
+) -> Node
+    requires over { (numbers : List ℕ) × (rows : List (List (LevelNode K ℕ))) × (list : List (K × ℕ))
+        × (place : ℕ) × CodedOver pool.now.nodes root code depth numbers rows list place }
+    ensures number { (numbers : List ℕ) (rows : List (List (LevelNode K ℕ))) (list : List (K × ℕ)) (place : ℕ)
+        → CodedOver pool.now.nodes root code depth numbers rows list place → NumberAt list place result }
+{
+    if depth == 0 {
+        return root;
+    }
+    let parent = node_of(code / 8, depth - 1, root, pool);
+    child(pool, parent, (code % 8) as usize)
+}
+
+// The next node of the level at which the way of a code ends, and the code of its way, if there is one.
+fn next_on<K: Copy, V: Copy, const N: usize>(
+    code: u64,
+    depth: u32,
+    root: Node,
+    pool: &NodePool<K, V, N>,
+) -> Option<(u64, Node)>
+    requires low { depth ≤ 16 }
+    requires over { (numbers : List ℕ) × (rows : List (List (LevelNode K ℕ))) × (list : List (K × ℕ))
+        × (place : ℕ) × CodedOver pool.now.nodes root code depth numbers rows list place }
+    ensures some { IfSome result (λ found. (numbers : List ℕ) (rows : List (List (LevelNode K ℕ)))
+        (list : List (K × ℕ)) (place : ℕ) → CodedOver pool.now.nodes root code depth numbers rows list place
+        → (others : List ℕ) × CodedOver pool.now.nodes root found.0 depth others rows list (suc place)
+        × NumberAt list (suc place) found.1) }
+    ensures none { result ≡ None → (numbers : List ℕ) (rows : List (List (LevelNode K ℕ)))
+        (list : List (K × ℕ)) (place : ℕ) → CodedOver pool.now.nodes root code depth numbers rows list place
+        → suc place ≡ length list }
+{
+    if depth == 0 {
+        return None;
+    }
+    let parent = node_of(code / 8, depth - 1, root, pool);
+    let index = (code % 8) as usize + 1;
+    if index < entries(pool, parent) {
+        return Some((code + 1, child(pool, parent, index)));
+    }
+    match next_on(code / 8, depth - 1, root, pool) {
+        Some(above) => Some((above.0 * 8, child(pool, above.1, 0))),
+        None => None,
+    }
+}
+
+// From a node at this place, the first of its level, down to the first leaf below it.
+fn first_below<K: Copy, V: Copy, const N: usize>(
+    spot: Spot,
+    node: Node,
+    pool: &NodePool<K, V, N>,
+) -> (Spot, Node)
+    requires capacity { IsLeafCapacity N }
+    requires under { (leaves : List (LevelNode K V)) × (lower upper : List (List (LevelNode K ℕ)))
+        × (numbers : List ℕ) × (first : K) × (b : List (K × ℕ))
+        × Under N pool.now.nodes leaves lower ((first, node) ∷ b) × IsWay numbers spot upper 0
+        × (length lower + spot.height ≤ 16) }
+    ensures first { (leaves : List (LevelNode K V)) (lower upper : List (List (LevelNode K ℕ)))
+        (numbers : List ℕ) (first : K) (b : List (K × ℕ))
+        → Under N pool.now.nodes leaves lower ((first, node) ∷ b) → IsWay numbers spot upper 0
+        → (others : List ℕ) × IsWay others result.0 (lower ++ upper) 0 × NumberAt (heads leaves) 0 result.1 }
+{
+    if !pool.node(node).is_inner() {
+        return (spot, node);
+    }
+    let child = pool.node(node).child(0);
+    first_below(spot.below(node, 0), child, pool)
+}
+
+// The spot of the node at the end of the way of a code.
+fn spot_of<K: Copy, V: Copy, const N: usize>(
+    code: u64,
+    height: u32,
+    root: Node,
+    pool: &NodePool<K, V, N>,
+) -> Spot
+    requires over { (numbers : List ℕ) × (rows : List (List (LevelNode K ℕ))) × (list : List (K × ℕ))
+        × (place : ℕ) × CodedOver pool.now.nodes root code height numbers rows list place }
+    ensures way { (numbers : List ℕ) (rows : List (List (LevelNode K ℕ))) (list : List (K × ℕ)) (place : ℕ)
+        → CodedOver pool.now.nodes root code height numbers rows list place → IsWay numbers result rows place }
+{
+    if height == 0 {
+        return Spot {
+            code,
+            parent: root,
+            grand: root,
+            height,
+        };
+    }
+    let parent = node_of(code / 8, height - 1, root, pool);
+    if height == 1 {
+        return Spot {
+            code,
+            parent,
+            grand: root,
+            height,
+        };
+    }
+    let grand = node_of(code / 8 / 8, height - 1 - 1, root, pool);
+    Spot {
+        code,
+        parent,
+        grand,
+        height,
+    }
+}
