@@ -1,4 +1,4 @@
-use Rattle.std.proofs.Common.{rules, arith}
+use Rattle.std.proofs.Common.{rules, refl, arith}
 use Rattle.bforest_core.specs.Spots.{SpotOn}
 use Rattle.bforest_core.proofs.walks.Cousins.{last-low}
 use Rattle.bforest_core.proofs.spot.Spot.next.Goals as goal
@@ -24,3 +24,6 @@ next_cousin-requires g c = (search rules, (search rules, (c.requires.spot (λ no
 
 pub returns-then-self-lt2-clause-some : goal.returns-then-self-lt2-clause-some
 returns-then-self-lt2-clause-some g c = tt
+
+pub returns-then-self-lt2-clause-alone : goal.returns-then-self-lt2-clause-alone
+returns-then-self-lt2-clause-alone g c = λ alone. refl
