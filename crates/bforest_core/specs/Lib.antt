@@ -11,3 +11,4 @@ pub mod Steps
 pub mod Change
 pub mod Removal
 pub mod Paths
+pub mod Leaves
