@@ -13,3 +13,4 @@ pub mod Backward
 pub mod Turns
 pub mod Standing
 pub mod Nearby
+pub mod Alone

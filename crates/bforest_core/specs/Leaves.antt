@@ -41,6 +41,7 @@ module _ {K V : Type 0} (cmp : K → K → Ordering) (table : Table K V) (root :
     pub chain : new.chain ≡ table.chain
     pub written : (old : V) → result ≡ Ok (Some old) → Changes most table new root root (with_value list (place cmp list key) value) shape
     pub inserted : result ≡ Ok None → Changes most table new root root (insert list (place cmp list key) (key, value)) (growth most (place cmp list key) shape)
+    pub takes : result ≡ Ok None → TakesNodes (need most (place cmp list key) shape) table new
     pub room : result ≡ Ok None → need most (place cmp list key) shape ≡ 0
     pub levels : result ≡ Ok None → length (growth most (place cmp list key) shape) ≡ length shape
     pub full : (index : ℕ) → result ≡ Err index → value_for cmp list key ≡ None

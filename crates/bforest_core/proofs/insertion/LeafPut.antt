@@ -75,6 +75,7 @@ module _ {K V : Type 0} (cmp : K → K → Ordering) (most : ℕ) (table : Table
           chain = ap (λ z. z.chain) after;
           written = λ old is. changes;
           inserted = λ is. absurd (valued (entry_for cmp es key) here (let same : Ok (value_for cmp es key) ≡ Ok None = sym said ∙ is in cc));
+          takes = λ is. absurd (valued (entry_for cmp es key) here (let same : Ok (value_for cmp es key) ≡ Ok None = sym said ∙ is in cc));
           room = λ is. absurd (valued (entry_for cmp es key) here (let same : Ok (value_for cmp es key) ≡ Ok None = sym said ∙ is in cc));
           levels = λ is. absurd (valued (entry_for cmp es key) here (let same : Ok (value_for cmp es key) ≡ Ok None = sym said ∙ is in cc));
           full = λ index is. absurd (let bad : Ok (value_for cmp es key) ≡ Err index = sym said ∙ is in cc);
@@ -121,6 +122,7 @@ module _ {K V : Type 0} (cmp : K → K → Ordering) (most : ℕ) (table : Table
             chain = ap (λ z. z.chain) put_is;
             written = λ old is. absurd (let bad : Ok None ≡ Ok (Some old) = sym ok ∙ is in cc);
             inserted = λ is. subst (λ (z : ℕ). Changes most table new root z (insert list at (key, value)) (growth most at (sizes_of tree))) (put.is.same_root.1 levels) put.is.changes;
+            takes = λ is. put.is.takes;
             room = λ is. ap (λ z. need_above z.0 (map sizes tree.above)) gain;
             levels = λ is. levels;
             full = λ index is. absurd (let bad : Ok None ≡ Err index = sym ok ∙ is in cc);
@@ -139,6 +141,7 @@ module _ {K V : Type 0} (cmp : K → K → Ordering) (most : ℕ) (table : Table
             chain = ap (λ z. z.chain) same;
             written = λ old is. absurd (let bad : Err (place cmp es key) ≡ Ok (Some old) = sym err ∙ is in cc);
             inserted = λ is. absurd (let bad : Err (place cmp es key) ≡ Ok None = sym err ∙ is in cc);
+            takes = λ is. absurd (let bad : Err (place cmp es key) ≡ Ok None = sym err ∙ is in cc);
             room = λ is. absurd (let bad : Err (place cmp es key) ≡ Ok None = sym err ∙ is in cc);
             levels = λ is. absurd (let bad : Err (place cmp es key) ≡ Ok None = sym err ∙ is in cc);
             full = λ index is. gone;
