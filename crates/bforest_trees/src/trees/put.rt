@@ -91,7 +91,7 @@ impl<K: Copy, V: Copy, const N: usize> Trees<K, V, N> {
             Ok(old) => Ok(old),
             Err(index) => {
                 path.set_index(index);
-                self.put_at(root, handle, &mut path, key, value)
+                self.put_at(handle, &mut path, key, value)
             }
         }
     }
@@ -118,7 +118,7 @@ impl<K: Copy, V: Copy, const N: usize> Trees<K, V, N> {
                 let mut path = Path::default();
                 path.set_root_node(root);
                 path.set_index(index);
-                self.put_at(root, handle, &mut path, key, value)
+                self.put_at(handle, &mut path, key, value)
             }
         }
     }
@@ -126,17 +126,14 @@ impl<K: Copy, V: Copy, const N: usize> Trees<K, V, N> {
     // Inserts an absent key where the path is placed for it.
     fn put_at(
         &mut self,
-        root: Node,
         handle: &mut PackedNode,
         path: &mut Path<K, V, N>,
         key: K,
         value: V,
     ) -> Result<Option<V>, OutOfMemory>
-        requires root { handle.old ≡ Some root }
-        requires live { list_at self.old root ≢ [] }
-        requires placed { (at : ℕ) × IsPlaced self.old root path.old at }
-        ensures { (order : K → K → Ordering) → IsTotalOrder order
-            → IsIncreasing order (list_at self.old root)
+        requires placed { (root at : ℕ) × (handle.old ≡ Some root) × IsPlaced self.old root path.old at }
+        ensures { (root : ℕ) (order : K → K → Ordering) → handle.old ≡ Some root
+            → list_at self.old root ≢ [] → IsTotalOrder order → IsIncreasing order (list_at self.old root)
             → value_for order (list_under self.old root) key ≡ None
             → IsPlaced self.old root path.old (place order (list_under self.old root) key)
             → Inserts N order self.old (Some root) key value result self.new handle.new }

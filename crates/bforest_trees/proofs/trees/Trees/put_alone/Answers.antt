@@ -28,8 +28,7 @@ pub put_at-requires : goal.put_at-requires
 put_at-requires g c =
     let wrote = (c.put_in_leaf.ensures.put c.args.root (lone c.args.root) (lone 0) 1 (ends-at-root g.row.N (g.C.Comparator.order c.args.comp.now) (g.met.C.Comparator.total c.args.comp.now) c.self.inside.pool c.args.self.now c.args.root c.args.key c.self.view_is c.self.invariant c.requires.live c.requires.leaf c.requires.increasing)) in
     let same = wrote.refused c.in-Err.index c.in-Err.is in
-    let live = rw (← c.self.view_is) at c.requires.live in
-    (search rules, (search rules, (c.requires.root, (rw same live, (place (g.C.Comparator.order c.args.comp.now) (list_under c.self.inside.pool c.args.root) c.args.key, rw (wrote.refused c.in-Err.index c.in-Err.is, c.set_index.ensures.size, c.set_root_node.ensures.size) (placed-alone c.self.inside.pool.nodes c.args.root (lone c.args.root) (set (lone 0) 0 c.in-Err.index) _ _ _ (sym (ap (λ z. get_or z 0 0) c.set_index.ensures.node ∙ c.set_root_node.ensures.leaf)) (sym c.set_index.ensures.index) (wrote.placed c.in-Err.index c.in-Err.is)))))))
+    (search rules, (search rules, (c.args.root, place (g.C.Comparator.order c.args.comp.now) (list_under c.self.inside.pool c.args.root) c.args.key, c.requires.root, rw (wrote.refused c.in-Err.index c.in-Err.is, c.set_index.ensures.size, c.set_root_node.ensures.size) (placed-alone c.self.inside.pool.nodes c.args.root (lone c.args.root) (set (lone 0) 0 c.in-Err.index) _ _ _ (sym (ap (λ z. get_or z 0 0) c.set_index.ensures.node ∙ c.set_root_node.ensures.leaf)) (sym c.set_index.ensures.index) (wrote.placed c.in-Err.index c.in-Err.is)))))
 
 pub returns-in-Err : goal.returns-in-Err
 returns-in-Err g c =
@@ -37,5 +36,6 @@ returns-in-Err g c =
     let wrote = (c.put_in_leaf.ensures.put c.args.root (lone c.args.root) (lone 0) 1 (ends-at-root g.row.N (g.C.Comparator.order c.args.comp.now) (g.met.C.Comparator.total c.args.comp.now) c.self.inside.pool c.args.self.now c.args.root c.args.key c.self.view_is c.self.invariant c.requires.live c.requires.leaf c.requires.increasing)) in
     let same = wrote.refused c.in-Err.index c.in-Err.is in
     let up = rw (← c.self.view_is) at c.requires.increasing in
+    let live = rw (← c.self.view_is) at c.requires.live in
     rw (← c.self.view_is, ← same)
-    (c.put_at.ensures cmp (g.met.C.Comparator.total c.args.comp.now) (rw same up) (rw same (wrote.full c.in-Err.index c.in-Err.is)) (rw (wrote.refused c.in-Err.index c.in-Err.is, c.set_index.ensures.size, c.set_root_node.ensures.size) (placed-alone c.self.inside.pool.nodes c.args.root (lone c.args.root) (set (lone 0) 0 c.in-Err.index) _ _ _ (sym (ap (λ z. get_or z 0 0) c.set_index.ensures.node ∙ c.set_root_node.ensures.leaf)) (sym c.set_index.ensures.index) (wrote.placed c.in-Err.index c.in-Err.is))))
+    (c.put_at.ensures c.args.root cmp c.requires.root (rw same live) (g.met.C.Comparator.total c.args.comp.now) (rw same up) (rw same (wrote.full c.in-Err.index c.in-Err.is)) (rw (wrote.refused c.in-Err.index c.in-Err.is, c.set_index.ensures.size, c.set_root_node.ensures.size) (placed-alone c.self.inside.pool.nodes c.args.root (lone c.args.root) (set (lone 0) 0 c.in-Err.index) _ _ _ (sym (ap (λ z. get_or z 0 0) c.set_index.ensures.node ∙ c.set_root_node.ensures.leaf)) (sym c.set_index.ensures.index) (wrote.placed c.in-Err.index c.in-Err.is))))

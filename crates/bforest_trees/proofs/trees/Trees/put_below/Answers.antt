@@ -31,8 +31,7 @@ pub put_at-requires : goal.put_at-requires
 put_at-requires g c =
     let wrote = (c.put_in_leaf.ensures.put c.args.root _ _ _ c.find_leaf-leaf.ensures) in
     let same = wrote.refused c.in-Err.index c.in-Err.is in
-    let live = rw (← c.self.view_is) at c.requires.live in
-    (search rules, (search rules, (c.requires.root, (rw same live, (place (g.C.Comparator.order c.args.comp.now) (list_under c.self.inside.pool c.args.root) c.args.key, rw (wrote.refused c.in-Err.index c.in-Err.is, c.set_index.ensures.node, c.set_index.ensures.entry, c.set_index.ensures.size) (wrote.placed c.in-Err.index c.in-Err.is))))))
+    (search rules, (search rules, (c.args.root, place (g.C.Comparator.order c.args.comp.now) (list_under c.self.inside.pool c.args.root) c.args.key, c.requires.root, rw (wrote.refused c.in-Err.index c.in-Err.is, c.set_index.ensures.node, c.set_index.ensures.entry, c.set_index.ensures.size) (wrote.placed c.in-Err.index c.in-Err.is))))
 
 pub returns-in-Err : goal.returns-in-Err
 returns-in-Err g c =
@@ -40,5 +39,6 @@ returns-in-Err g c =
     let wrote = (c.put_in_leaf.ensures.put c.args.root _ _ _ c.find_leaf-leaf.ensures) in
     let same = wrote.refused c.in-Err.index c.in-Err.is in
     let up = rw (← c.self.view_is) at c.requires.increasing in
+    let live = rw (← c.self.view_is) at c.requires.live in
     rw (← c.self.view_is, ← same)
-    (c.put_at.ensures cmp (g.met.C.Comparator.total c.args.comp.now) (rw same up) (rw same (wrote.full c.in-Err.index c.in-Err.is)) (rw (wrote.refused c.in-Err.index c.in-Err.is, c.set_index.ensures.node, c.set_index.ensures.entry, c.set_index.ensures.size) (wrote.placed c.in-Err.index c.in-Err.is)))
+    (c.put_at.ensures c.args.root cmp c.requires.root (rw same live) (g.met.C.Comparator.total c.args.comp.now) (rw same up) (rw same (wrote.full c.in-Err.index c.in-Err.is)) (rw (wrote.refused c.in-Err.index c.in-Err.is, c.set_index.ensures.node, c.set_index.ensures.entry, c.set_index.ensures.size) (wrote.placed c.in-Err.index c.in-Err.is)))
