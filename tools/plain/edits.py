@@ -30,7 +30,7 @@ DOCUMENTS = {"CHOOSING": "choosing", "TUTORIAL": "tutorial", "CALLS": "calls", "
 # Functions that the package does not call.
 UNUSED = {
     "forest_run/main.rt": ["arguments", "main"],
-    "bforest_nodes/node.rt": ["unwrap_leaf_mut"],
+    "bforest_nodes/node.rt": ["take", "unwrap_leaf_mut"],
     "bforest_nodes/entries.rt": ["parts_mut"],
     "bforest_nodes/row.rt": ["front_mut"],
     "bforest_nodes/lent.rt": ["front_mut"],
@@ -84,7 +84,7 @@ EDITS = {
         (r"pub fn new\(_alloc: Global\) -> Result<Self, AllocError>", "pub fn new() -> Self", 1),
         (r"Ok\((NodeData \{\s*state: State::Vacant\(PackedNode::none\(\)\),\s*\})\)", r"\1", 1),
         (r" It takes no memory and always succeeds, since the room for the entries is the node's own\.", " It takes no memory.", 1),
-        (r"\bunreachable!\(\)", MISUSED, 23),
+        (r"\bunreachable!\(\)", MISUSED, 25),
         # what only a caller of the prover reads
         (r"\n    /// Of the right half\.\n    pub rhs_entries: usize,", "", 1),
         (r"\n *rhs_entries: len - \w+,", "", 2),

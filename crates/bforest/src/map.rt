@@ -17,8 +17,8 @@ use crate::map_cursor_mut::MapCursorMut;
 use crate::map_into_iter::MapIntoIter;
 use crate::map_iter::MapIter;
 use crate::map_range::MapRange;
-use bforest_core::{Comparator, OutOfMemory, PackedNode, Path};
-use bforest_trees::{Asked, Start};
+use bforest_core::{Comparator, OutOfMemory, PackedNode};
+use bforest_trees::Asked;
 use std::cmp::Ordering;
 use std::default::Default;
 use std::marker::{Model, PhantomData};
@@ -157,10 +157,7 @@ impl<K: Copy, V: Copy> Map<K, V> {
         requires increasing { IsIncreasing (C.order comp.now) (list_of forest.old self.old) }
         ensures { Inserts 7 (C.order comp.now) forest.old self.old key value result forest.new self.new }
     {
-        let mut path = Path::default();
-        forest
-            .trees
-            .insert(&mut self.root, &mut path, Start::Root, key, value, comp)
+        forest.trees.put(&mut self.root, key, value, comp)
     }
 
     /// Removes the entry whose key compares equal to `key` and returns its value, or returns `None` and changes nothing.

@@ -15,7 +15,6 @@ use crate::forest::MapForest;
 use crate::map::Map;
 use crate::map_cursor::{key_of, value_of};
 use bforest_core::{Comparator, OutOfMemory, Path};
-use bforest_trees::Start;
 
 /// A cursor that reads and writes a map: it stands at an entry, or at the end behind the last one. [`Map::cursor_mut`] makes it, at the
 /// end.
@@ -212,14 +211,9 @@ impl<'a, K: Copy, V: Copy, C: Comparator<K>> MapCursorMut<'a, K, V, C> {
     {
         let map = &mut *self.map;
         let forest = &mut *self.forest;
-        forest.trees.insert(
-            &mut map.root,
-            &mut self.path,
-            Start::Path,
-            key,
-            value,
-            self.comp,
-        )
+        forest
+            .trees
+            .insert(&mut map.root, &mut self.path, key, value, self.comp)
     }
 
     /// Removes the entry where the cursor stands and returns its value. The cursor stands at the entry that followed then, or at the end.

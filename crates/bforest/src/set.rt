@@ -17,8 +17,7 @@ use crate::set_cursor::SetCursor;
 use crate::set_forest::SetForest;
 use crate::set_iter::SetIter;
 use crate::set_range::SetRange;
-use bforest_core::{Comparator, OutOfMemory, PackedNode, Path, SetValue};
-use bforest_trees::Start;
+use bforest_core::{Comparator, OutOfMemory, PackedNode, SetValue};
 use std::default::Default;
 use std::marker::{Model, PhantomData};
 use std::ops::Bound;
@@ -159,10 +158,7 @@ impl<K: Copy> Set<K> {
         ensures { Inserts 15 (C.order comp.now) forest.old self.old key the_value (as_put result)
             forest.new self.new }
     {
-        let mut path = Path::default();
-        let put = forest
-            .trees
-            .insert(&mut self.root, &mut path, Start::Root, key, (), comp);
+        let put = forest.trees.put(&mut self.root, key, (), comp);
         is_new(put)
     }
 

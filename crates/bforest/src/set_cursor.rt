@@ -12,7 +12,6 @@ use crate::map_cursor::key_of;
 use crate::set::{Set, is_new};
 use crate::set_forest::SetForest;
 use bforest_core::{Comparator, OutOfMemory, Path, SetValue};
-use bforest_trees::Start;
 
 /// A cursor that reads and writes a set: it stands at a key, or at the end behind the last one. [`Set::cursor`] makes it, at the end.
 ///
@@ -164,14 +163,9 @@ impl<'a, K: Copy, C: Comparator<K>> SetCursor<'a, K, C> {
     {
         let set = &mut *self.set;
         let forest = &mut *self.forest;
-        let put = forest.trees.insert(
-            &mut set.root,
-            &mut self.path,
-            Start::Path,
-            elem,
-            (),
-            self.comp,
-        );
+        let put = forest
+            .trees
+            .insert(&mut set.root, &mut self.path, elem, (), self.comp);
         is_new(put)
     }
 

@@ -7,3 +7,4 @@ pub mod LeafSpot
 pub mod LeafParted
 pub mod HalvingLeaf
 pub mod HalvingNode
+pub mod LeafPut

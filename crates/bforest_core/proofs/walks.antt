@@ -16,3 +16,4 @@ pub mod Nearby
 pub mod Codes
 pub mod CodesDown
 pub mod Cousins
+pub mod Alone

@@ -1,10 +1,10 @@
 -- Descending a tree: the leaves and rows below some of its nodes, and where a path stands there.
-use Rattle.std.specs.Prelude.{◌≡◌, ◌≢◌, ℕ, suc, ◌+◌, ◌-◌, ◌≤◌, ◌<◌, true, false, List, [], ◌∷◌, ◌++◌, length, get_or}
+use Rattle.std.specs.Prelude.{◌≡◌, ◌≢◌, ℕ, suc, ◌+◌, ◌-◌, ◌≤◌, ◌<◌, true, false, List, [], ◌∷◌, ◌++◌, length, get_or, slice_get, slice_set, Some}
 use Rattle.std.specs.declared.cmp.Ordering.{Ordering}
 use Rattle.std.specs.declared.cmp.Ordering.TheVariants.{Greater}
 use Rattle.bforest_nodes.specs.Content.{Content}
 use Rattle.bforest_nodes.specs.Search.{count_up_to}
-use Rattle.bforest_nodes.specs.Entries.{place, is_present}
+use Rattle.bforest_nodes.specs.Entries.{IsIncreasing, is_present, place, value_for}
 use Rattle.bforest_core.specs.Levels.{LevelNode, node, flat, heads, FitRow, half_of, Tree, IsFit, top_level}
 use Rattle.bforest_core.specs.Place.{RowIn, RowsIn, leaf_content, IsAt, IsIn, root_of, StandsAbove}
 
@@ -74,6 +74,19 @@ module _ {K V : Type 0} (cmp : K → K → Ordering) where
     pub stands : StandsTo path' indices' 1 lower (length leaf.before) top
     pub nodes_above : SameAbove (length lower) path path'
     pub entries_above : SameAbove (length lower) indices indices'
+
+  -- the path is in the leaf in which a search for the key ends, which has these entries: it descended there,
+  -- once its index in the leaf is the key's place among these entries
+  pub record Reached (slots : List (Content K V)) (leaves : List (LevelNode K V)) (lower : List (List (LevelNode K ℕ))) (key : K) (top : ℕ) (path indices path' indices' : List ℕ) (leaf : ℕ) : Type 0 where
+    pub leaf_is : get_or path' 0 0 ≡ leaf
+    pub entries : List (K × V)
+    pub slot_is : slice_get slots leaf ≡ Some (leaf_content entries)
+    pub increasing : IsIncreasing cmp entries
+    pub value_is : value_for cmp (flat leaves) key ≡ value_for cmp entries key
+    pub found_is : is_present cmp (flat leaves) key ≡ is_present cmp entries key
+    pub nodes_wide : length path' ≡ length path
+    pub indices_wide : length indices' ≡ length indices
+    pub descended : Descended leaves lower key top path indices path' (slice_set indices' 0 (place cmp entries key))
 
 -- the path stands at the first entry of the leaves, and on the rows from there up to the first node of the
 -- top; above that it is unchanged

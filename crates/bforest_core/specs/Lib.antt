@@ -12,3 +12,4 @@ pub mod Change
 pub mod Removal
 pub mod Paths
 pub mod Spots
+pub mod Leaves

@@ -1,10 +1,11 @@
 //! Reading and writing one node of a pool, by its number.
-ghost use Rattle.std.specs.Prelude.{◌≡◌, ℕ, ◌-◌, ◌<◌, ◌≤◌, ◌↔◌, IsTrue, List, length, slice_get, Some, if◌then◌else◌};
+ghost use Rattle.std.specs.Prelude.{◌≡◌, ℕ, ◌-◌, ◌<◌, ◌≤◌, ◌↔◌, IsTrue, List, length, slice_get, Some, Err, if◌then◌else◌};
 ghost use Rattle.std.specs.List.Sorted.{IsStrictlySortedBy};
-ghost use Rattle.bforest_nodes.specs.Content.{Content, Inner, IsLeafCapacity, IsFree, with_child, Leaf, with_entry, with_key, without_child, without_entry, removed_answer, entry_count};
+ghost use Rattle.bforest_nodes.specs.Content.{Content, Inner, IsLeafCapacity, IsFree, with_child, Leaf, with_entry, with_key, without_child, without_entry, removed_answer, entry_count, put_answer, with_put};
+ghost use Rattle.bforest_nodes.specs.Search.{search_of};
 ghost use Rattle.bforest_core.specs.Descent.{child_index};
 ghost use Rattle.bforest_nodes.specs.Entries.{IsIncreasing, place, value_for};
-ghost use Rattle.bforest_core.specs.Place.{leaf_content};
+ghost use Rattle.bforest_core.specs.Place.{entry_keys, leaf_content};
 ghost use Rattle.bforest_core.specs.Table.{IsUsed, with_node};
 
 use crate::pool::NodePool;
@@ -101,6 +102,28 @@ pub(crate) fn put_entry<K: Copy, V: Copy, const N: usize>(
         Leaf keys vals) }
 {
     pool.node_mut(node).try_leaf_insert(index, key, value)
+}
+
+// Puts a value in at a key of a leaf, and returns the value that it replaces, or the key's place if the key is absent and the leaf is full.
+pub(crate) fn put<K: Copy, V: Copy, const N: usize, C: Comparator<K>>(
+    pool: &mut NodePool<K, V, N>,
+    node: Node,
+    key: K,
+    value: V,
+    comp: &C,
+) -> Result<Option<V>, usize>
+    requires used { IsUsed pool.old node }
+    requires leaf { (entries : List (K × V)) × (slice_get pool.old.nodes node ≡ Some (leaf_content entries))
+        × IsIncreasing (C.order comp.now) entries }
+    ensures answer { (entries : List (K × V)) → slice_get pool.old.nodes node ≡ Some (leaf_content entries)
+        → result
+        ≡ put_answer N (leaf_content entries) (search_of (C.order comp.now) (entry_keys entries) key) }
+    ensures node { (entries : List (K × V)) → slice_get pool.old.nodes node ≡ Some (leaf_content entries)
+        → pool.new ≡ with_node pool.old node (with_put N (leaf_content entries)
+        (search_of (C.order comp.now) (entry_keys entries) key) key value) }
+    ensures most { (index : ℕ) → result ≡ Err index → index ≤ 255 }
+{
+    pool.node_mut(node).put(key, value, comp)
 }
 
 // The number of children or entries.

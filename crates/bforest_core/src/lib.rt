@@ -7,6 +7,7 @@
 #![tactic(auto)]
 
 mod access;
+mod leaf;
 mod path;
 mod pool;
 mod spot;

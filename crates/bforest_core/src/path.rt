@@ -38,6 +38,7 @@ impl<K: Copy, V: Copy, const N: usize> Path<K, V, N> {
     /// Goes to the first entry of a tree of one leaf, its root.
     pub fn set_root_node(&mut self, root: Node)
         ensures leaf { leaf_of self.new ≡ root }
+        ensures size { self.new.size ≡ 1 }
         ensures stands { (table : Table K V) → IsUnion N table → IsTrue (is_root table.nodes root)
             → IsLeaf (slot table.nodes root) → StandsOn table root self.new 0 }
     {

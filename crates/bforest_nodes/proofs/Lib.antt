@@ -13,3 +13,4 @@ mod Shares
 pub mod Scanned
 pub mod Bounds
 mod Halves
+mod Puts

@@ -1,5 +1,5 @@
 -- What a node holds, and how each call changes it.
-use Rattle.std.specs.Prelude.{◌≡◌, ℕ, ◌+◌, ◌-◌, ◌*◌, ◌/◌, ◌%◌, ◌<◌, ◌≤◌, ◌==◌, nat_lt, nat_le, List, [], ◌∷◌, ◌++◌, length, take, drop, insert, remove, slice_get, slice_set, Option, Some, None, if◌then◌else◌}
+use Rattle.std.specs.Prelude.{◌≡◌, ℕ, ◌+◌, ◌-◌, ◌*◌, ◌/◌, ◌%◌, ◌<◌, ◌≤◌, ◌==◌, nat_lt, nat_le, List, [], ◌∷◌, ◌++◌, length, take, drop, insert, remove, slice_get, slice_set, Option, Some, None, Result, Ok, Err, option_map, if◌then◌else◌}
 use Rattle.bforest_nodes.specs.declared.node.Removed.TheVariants.{Empty, Healthy, Rightmost, Underflow}
 use Rattle.bforest_nodes.specs.declared.node.Removed.{Removed}
 
@@ -125,6 +125,27 @@ module _ {K V : Type 0} where
   without_entry (Inner keys children) index = Inner keys children
   without_entry (Leaf keys vals) index = Leaf (remove keys index) (remove vals index)
   without_entry (Free next) index = Free next
+
+  -- the answer of putting a value in at a key, from the answer of a search for the key, where at most n
+  -- entries fit: the old value, nothing if there is room for the key, or the key's place if there is none
+  abbrev pub put_answer : ℕ → Content K V → Result ℕ ℕ → Result (Option V) ℕ
+  put_answer n node (Ok index) = Ok (slice_get (vals_of node) index)
+  put_answer n node (Err index) = if nat_lt (entry_count node) n then Ok None else Err index
+
+  -- the node after a value was put in at a key, from the answer of a search for the key
+  abbrev pub with_put : ℕ → Content K V → Result ℕ ℕ → K → V → Content K V
+  with_put n node (Ok index) key value = with_value node index value
+  with_put n node (Err index) key value = if nat_lt (entry_count node) n then with_entry node index key value else node
+
+  -- the answer of taking a key out, from the answer of a search for it: its place and its value, or nothing
+  abbrev pub take_answer : Content K V → Result ℕ ℕ → Option (ℕ × V)
+  take_answer node (Ok index) = option_map (λ v. (index, v)) (slice_get (vals_of node) index)
+  take_answer node (Err index) = None
+
+  -- the node after a key was taken out, from the answer of a search for it
+  abbrev pub with_taken : Content K V → Result ℕ ℕ → Content K V
+  with_taken node (Ok index) = without_entry node index
+  with_taken node (Err index) = node
 
   -- the first `count` children or entries
   abbrev pub first_part : ℕ → Content K V → Content K V

@@ -12,4 +12,4 @@ mod trees;
 pub use bforest_core::{Comparator, Node, NodePool, OutOfMemory, PackedNode, Path};
 pub use predicate::{Asked, Predicate};
 pub use reader::Reader;
-pub use trees::{Ends, Start, Trees};
+pub use trees::{Ends, Trees};

@@ -13,6 +13,7 @@ ghost use Rattle.bforest_nodes.specs.Entries.{IsIncreasing, is_present, place, v
 ghost use Rattle.std.specs.declared.cmp.Ordering.{Ordering};
 ghost use Rattle.std.specs.Prelude.{Err, IsTrue, None, Option, Some, [], false, true, length, remove, ◌*◌, ◌+◌, ◌-◌, ◌/◌, ◌<◌, ◌^◌, ◌≡◌, ◌≢◌, ◌≤◌, ◌↔◌, ℕ};
 
+mod put;
 mod range;
 mod take;
 mod value;
@@ -24,15 +25,6 @@ use bforest_core::{Comparator, Node, NodePool, OutOfMemory, PackedNode, Path};
 pub use range::Ends;
 use std::alloc::Global;
 use std::marker::Model;
-
-/// Where a search begins.
-#[derive(Clone, Copy, Drop)]
-pub enum Start {
-    /// At the root.
-    Root,
-    /// Where the path stands: two comparisons find a key that is near.
-    Path,
-}
 
 /// Many trees in one table of nodes, whose leaves have at most `N` entries. Each tree is named by its root's number.
 #[derive(Drop)]
@@ -179,11 +171,11 @@ impl<K: Copy, V: Copy, const N: usize> Trees<K, V, N> {
     }
 
     /// Inserts a value at a key, and returns the value that it replaces. The path goes to the key's place, also where the entry is refused.
+    /// The search begins where the path stands: two comparisons find a key that is near.
     pub fn insert<C: Comparator<K>>(
         &mut self,
         handle: &mut PackedNode,
         path: &mut Path<K, V, N>,
-        start: Start,
         key: K,
         value: V,
         comp: &C,
@@ -198,7 +190,7 @@ impl<K: Copy, V: Copy, const N: usize> Trees<K, V, N> {
         ensures computed { IsComputed N self.new handle.new }
     {
         match handle.expand() {
-            Some(root) => self.insert_under(root, handle, path, start, key, value, comp),
+            Some(root) => self.insert_under(root, handle, path, key, value, comp),
             None => self.insert_first(handle, path, key, value),
         }
     }
@@ -209,7 +201,6 @@ impl<K: Copy, V: Copy, const N: usize> Trees<K, V, N> {
         root: Node,
         handle: &mut PackedNode,
         path: &mut Path<K, V, N>,
-        start: Start,
         key: K,
         value: V,
         comp: &C,
@@ -224,7 +215,7 @@ impl<K: Copy, V: Copy, const N: usize> Trees<K, V, N> {
             (place (C.order comp.now) (list_at self.old root) key) }
         ensures union { IsUnion N self.new }
     {
-        if let Some(old) = search(start, key, root, path, &self.pool, comp) {
+        if let Some(old) = path.find_here(key, root, &self.pool, comp) {
             path.set_value(value, &mut self.pool);
             return Ok(Some(old));
         }
@@ -315,31 +306,6 @@ impl<K: Copy, V: Copy, const N: usize> Trees<K, V, N> {
         ensures computed { IsComputed N self.new handle.new }
     {
         *handle = packed(path.remove(&mut self.pool));
-    }
-}
-
-// Goes to where a search for a key ends, and returns its value.
-fn search<K: Copy, V: Copy, const N: usize, C: Comparator<K>>(
-    start: Start,
-    key: K,
-    root: Node,
-    path: &mut Path<K, V, N>,
-    pool: &NodePool<K, V, N>,
-    comp: &C,
-) -> Option<V>
-    requires union { IsUnion N pool.now }
-    requires root { IsTrue (is_root pool.now.nodes root) }
-    requires increasing { IsIncreasing (C.order comp.now) (list_under pool.now root) }
-    requires stands { StandingUnder pool.now root path.old }
-    ensures value { result ≡ value_for (C.order comp.now) (list_under pool.now root) key }
-    ensures present { is_present (C.order comp.now) (list_under pool.now root) key ≡ true
-        → StandsOn pool.now root path.new (place (C.order comp.now) (list_under pool.now root) key) }
-    ensures absent { is_present (C.order comp.now) (list_under pool.now root) key ≡ false
-        → IsPlaced pool.now root path.new (place (C.order comp.now) (list_under pool.now root) key) }
-{
-    match start {
-        Start::Root => path.find(key, root, pool, comp),
-        Start::Path => path.find_here(key, root, pool, comp),
     }
 }
 

@@ -1,7 +1,7 @@
 -- The descent of a search: one level of it, and its end in a leaf.
-use Rattle.std.proofs.Common.{◌≡◌, ◌≢◌, ℕ, ◌+◌, ◌≤◌, ◌<◌, ◌⊎◌, inl, inr, List, [], ◌∷◌, ◌++◌, length, get_or, set, slice_get, Option, Some, sym, ap, subst, ◌∙◌, arith, append_assoc, length-append}
+use Rattle.std.proofs.Common.{◌≡◌, ◌≢◌, ℕ, ◌+◌, ◌≤◌, ◌<◌, ◌⊎◌, inl, inr, List, [], ◌∷◌, ◌++◌, length, get_or, set, slice_get, Option, Some, refl, sym, ap, subst, ◌∙◌, arith, append_assoc, length-append, length-set}
 use Rattle.bforest_core.proofs.Words.{get_or-set_same, nil_from_length, slice_get_within, IsTotalOrder, IsStrictlySortedBy, AllByRecursion, is_some, option_map, Content, Inner, IsLeafCapacity, IsIncreasing, place, is_present, value_for, LevelNode, node}
-use Rattle.bforest_core.proofs.Words.{flat, heads, half_of, entry_keys, entry_items, StandsTo, child_index, IsFrom, IsUpTo, GoesThrough, Under, Descended}
+use Rattle.bforest_core.proofs.Words.{flat, heads, half_of, entry_keys, entry_items, StandsTo, child_index, IsFrom, IsUpTo, GoesThrough, Under, Descended, Reached}
 use Rattle.std.specs.Map.{keys_of}
 use Rattle.std.specs.declared.cmp.Ordering.{Ordering}
 use Rattle.std.specs.declared.cmp.Ordering.TheVariants.{Less, Greater}
@@ -16,6 +16,11 @@ use Rattle.bforest_core.proofs.walks.TopNode.{InnerUnder, LeafUnder, flat_parted
 
 pub some_leaf : (n : ℕ) → IsLeafCapacity n → 1 ≤ half_of n
 some_leaf n c = omega (arith, c.least)
+
+-- writing the first of a list twice
+set_twice : (xs : List ℕ) (i j : ℕ) → set (set xs 0 i) 0 j ≡ set xs 0 j
+set_twice [] i j = refl
+set_twice (x ∷ xs) i j = refl
 
 module _ {K : Type 0} (cmp : K → K → Ordering) where
   is_from : (a : List (K × ℕ)) (first key : K) → cmp first key ≢ Greater → IsFrom cmp a first key
@@ -158,6 +163,10 @@ module _ {K V : Type 0} (cmp : K → K → Ordering) (o : IsTotalOrder cmp) (mos
     pub leaf_value : value_for cmp (flat leaves) key ≡ value_for cmp entries key
     leaf_value = ap (λ z. value_for cmp z key) all_are ∙ ap (λ z. option_map (λ (e : K × V). e.1) z) (entry_between cmp o (flat s.here.at.before) entries (flat s.here.at.after) key s.increasing_after s.low s.high)
 
+    -- the key is present in the leaf exactly if it is present among all entries
+    leaf_found : is_present cmp (flat leaves) key ≡ is_present cmp entries key
+    leaf_found = ap (λ z. is_present cmp z key) all_are ∙ ap is_some (entry_between cmp o (flat s.here.at.before) entries (flat s.here.at.after) key s.increasing_after s.low s.high)
+
     abbrev placed : (m j : ℕ) → m ≡ number → j ≡ place cmp entries key → IsPlaced cmp leaves key m j
     placed m j m_is j_is =
         let at = s.here.at in
@@ -184,3 +193,17 @@ module _ {K V : Type 0} (cmp : K → K → Ordering) (o : IsTotalOrder cmp) (mos
         entries_above = λ i low. set_but indices indices' 0 (place cmp entries key) indices_are i (λ z. omega (arith, z, low));
       }),
     )
+
+    -- the end of the descent, before the search in the leaf
+    pub reached : (path indices path' indices' : List ℕ) → 0 < length path → 0 < length indices → path' ≡ set path 0 number → indices' ≡ set indices 0 0 → Reached cmp slots leaves lower key (length a) path indices path' indices' number
+    reached path indices path' indices' wide wide' nodes indices_are = record {
+      leaf_is = ap (λ z. get_or z 0 0) nodes ∙ get_or-set_same path 0 number 0 wide;
+      entries = entries;
+      slot_is = s.here.slot_is;
+      increasing = s.increasing;
+      value_is = leaf_value;
+      found_is = leaf_found;
+      nodes_wide = ap length nodes ∙ length-set path 0 number;
+      indices_wide = ap length indices_are ∙ length-set indices 0 0;
+      descended = (landed path indices path' (set indices' 0 (place cmp entries key)) (value_for cmp entries key) wide wide' nodes (ap (λ z. set z 0 (place cmp entries key)) indices_are ∙ set_twice indices 0 (place cmp entries key)) refl).1;
+    }

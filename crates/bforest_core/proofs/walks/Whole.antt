@@ -1,7 +1,7 @@
 -- A whole tree as the leaves and rows under its root, and a path that descended from there.
 use Rattle.std.proofs.Common.{◌≡◌, ℕ, suc, true, false, IsTrue, ◌<◌, List, [], ◌∷◌, length, get_or, ap, arith}
 use Rattle.std.specs.declared.cmp.Ordering.{Ordering}
-use Rattle.bforest_core.proofs.Words.{Content, place, is_present, LevelNode, flat, heads, Stacked, Tree, StandsAbove, Stands, root_above, StackedTo, StandsTo, Under, GoesThrough, Descended, Led, IsRooted, PlacedUnder, PointsAt, StandsUnder, is_root, tree_of}
+use Rattle.bforest_core.proofs.Words.{Content, EndsIn, Reached, Table, place, is_present, LevelNode, flat, heads, Stacked, Tree, StandsAbove, Stands, root_above, StackedTo, StandsTo, Under, GoesThrough, Descended, Led, IsRooted, PlacedUnder, PointsAt, StandsUnder, is_root, tree_of}
 
 module _ {K : Type 0} where
   -- the root alone is the top level
@@ -42,3 +42,20 @@ module _ {K V : Type 0} (cmp : K → K → Ordering) (slots : List (Content K V)
 
   pub placed-found : is_present cmp (flat (tree_of slots root).leaves) key ≡ false → PlacedUnder slots root path' indices' size (place cmp (flat (tree_of slots root).leaves) key)
   placed-found none = record { root_is = is; at = record { points = points; first = d.leaf.first none } }
+
+-- the leaf that a search reached under a root is the one in which it ends
+pub ends-in : {K V : Type 0} (cmp : K → K → Ordering) (table : Table K V) (root : ℕ) → IsTrue (is_root table.nodes root) → {key : K} {path indices path' indices' : List ℕ} {size leaf : ℕ} →
+    Reached cmp table.nodes (tree_of table.nodes root).leaves (tree_of table.nodes root).above key 0 path indices path' indices' leaf → size ≡ suc (length (tree_of table.nodes root).above) → length path' ≡ 17 → length indices' ≡ 17 → EndsIn cmp table root key leaf path' indices' size
+ends-in cmp table root is r size_is wide indexed = record {
+  root_is = is;
+  leaf_is = r.leaf_is;
+  entries = r.entries;
+  slot_is = r.slot_is;
+  increasing = r.increasing;
+  value_is = r.value_is;
+  found_is = r.found_is;
+  wide = wide;
+  indexed = omega (arith, indexed);
+  present = stands-found cmp table.nodes root is r.descended size_is;
+  absent = placed-found cmp table.nodes root is r.descended size_is;
+}

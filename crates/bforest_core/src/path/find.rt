@@ -2,9 +2,9 @@
 ghost use Rattle.std.specs.Prelude.{◌≡◌, ℕ, ◌+◌, ◌-◌, ◌<◌, ◌≤◌, IsTrue, false, true, List, ◌∷◌, ◌++◌, length, get_or, slice_get, slice_set, Some};
 ghost use Rattle.bforest_nodes.specs.Content.{IsLeafCapacity};
 ghost use Rattle.bforest_core.specs.Levels.{LevelNode, flat, top_level};
-ghost use Rattle.bforest_core.specs.Descent.{GoesThrough, Under, Descended};
+ghost use Rattle.bforest_core.specs.Descent.{GoesThrough, Under, Reached};
+ghost use Rattle.bforest_core.specs.Leaves.{EndsIn};
 ghost use Rattle.bforest_nodes.specs.Entries.{is_present, IsIncreasing, place, value_for};
-ghost use Rattle.bforest_core.specs.Place.{leaf_content};
 ghost use Rattle.bforest_core.specs.Trees.{IsUnion, is_root};
 
 use crate::access::{follow, look_up};
@@ -13,7 +13,7 @@ use crate::pool::NodePool;
 use bforest_nodes::{Comparator, Node};
 
 impl<K: Copy, V: Copy, const N: usize> Path<K, V, N> {
-    ghost use Rattle.bforest_core.specs.Paths.{IsPlaced, StandsOn, list_under};
+    ghost use Rattle.bforest_core.specs.Paths.{IsPlaced, StandsOn, index_of, list_under};
 
     /// Goes to where a search for `key` ends in the tree under `root`, and returns the key's value. Where the key is absent, the path
     /// stands at the leaf's place for it, which may be past the leaf's last entry.
@@ -33,12 +33,44 @@ impl<K: Copy, V: Copy, const N: usize> Path<K, V, N> {
         ensures absent { is_present (C.order comp.now) (list_under pool.now root) key ≡ false
             → IsPlaced pool.now root self.new (place (C.order comp.now) (list_under pool.now root) key) }
     {
+        let leaf = self.find_leaf(key, root, pool, comp);
+        let (index, value) = look_up(pool, leaf, key, comp);
+        self.set_index(index);
+        value
+    }
+
+    /// Goes to the leaf in which a search for `key` ends in the tree under `root`, and returns it. The path's index there is 0, also where
+    /// the key is elsewhere in the leaf.
+    pub fn find_leaf<C: Comparator<K>>(
+        &mut self,
+        key: K,
+        root: Node,
+        pool: &NodePool<K, V, N>,
+        comp: &C,
+    ) -> Node
+        requires union { IsUnion N pool.now }
+        requires root { IsTrue (is_root pool.now.nodes root) }
+        requires increasing { IsIncreasing (C.order comp.now) (list_under pool.now root) }
+        ensures { EndsIn (C.order comp.now) pool.now root key result self.new.node self.new.entry
+            self.new.size }
+    {
         let levels = pool.levels(root);
         self.size = levels;
         self.descend(key, root, levels - 1, pool, comp)
     }
 
-    // Descends from `node` on `level` to where a search for `key` ends. Returns the key's value.
+    /// Goes to an index in the path's leaf.
+    pub fn set_index(&mut self, index: usize)
+        requires { index ≤ 255 }
+        ensures node { self.new.node ≡ self.old.node }
+        ensures entry { self.new.entry ≡ slice_set self.old.entry 0 index }
+        ensures index { index_of self.new ≡ index }
+        ensures size { self.new.size ≡ self.old.size }
+    {
+        self.entry[0] = index as u8;
+    }
+
+    // Descends from `node` on `level` to the leaf in which a search for `key` ends. Returns the leaf.
     fn descend<C: Comparator<K>>(
         &mut self,
         key: K,
@@ -46,7 +78,7 @@ impl<K: Copy, V: Copy, const N: usize> Path<K, V, N> {
         level: usize,
         pool: &NodePool<K, V, N>,
         comp: &C,
-    ) -> Option<V>
+    ) -> Node
         requires capacity { IsLeafCapacity N }
         requires height { level ≤ top_level }
         requires under { (leaves : List (LevelNode K V)) × (lower : List (List (LevelNode K ℕ)))
@@ -58,40 +90,17 @@ impl<K: Copy, V: Copy, const N: usize> Path<K, V, N> {
             (before : List (K × ℕ)) (first : K) (after : List (K × ℕ)) → Under N pool.now.nodes leaves lower
             (before ++ (first, node) ∷ after) → IsIncreasing (C.order comp.now) (flat leaves)
             → GoesThrough (C.order comp.now) before first after key → level ≡ length lower
-            → (result ≡ value_for (C.order comp.now) (flat leaves) key) × Descended (C.order comp.now) leaves
-            lower key (length before) self.old.node self.old.entry self.new.node self.new.entry }
+            → Reached (C.order comp.now) pool.now.nodes leaves lower key (length before) self.old.node
+            self.old.entry self.new.node self.new.entry result }
         ensures size { self.new.size ≡ self.old.size }
     {
         if level == 0 {
-            return self.search_leaf(key, node, pool, comp);
+            self.set_level(0, node, 0);
+            return node;
         }
         let (index, child) = follow(pool, node, key, comp);
         self.set_level(level, node, index);
         self.descend(key, child, level - 1, pool, comp)
-    }
-
-    // Goes to the place of `key` in the leaf `node`. Returns the key's value.
-    fn search_leaf<C: Comparator<K>>(
-        &mut self,
-        key: K,
-        node: Node,
-        pool: &NodePool<K, V, N>,
-        comp: &C,
-    ) -> Option<V>
-        requires capacity { IsLeafCapacity N }
-        requires leaf { (entries : List (K × V))
-            × (slice_get pool.now.nodes node ≡ Some (leaf_content entries))
-            × IsIncreasing (C.order comp.now) entries }
-        ensures node { self.new.node ≡ slice_set self.old.node 0 node }
-        ensures entry { (entries : List (K × V)) → slice_get pool.now.nodes node ≡ Some (leaf_content entries)
-            → self.new.entry ≡ slice_set self.old.entry 0 (place (C.order comp.now) entries key) }
-        ensures value { (entries : List (K × V)) → slice_get pool.now.nodes node ≡ Some (leaf_content entries)
-            → result ≡ value_for (C.order comp.now) entries key }
-        ensures size { self.new.size ≡ self.old.size }
-    {
-        let (index, value) = look_up(pool, node, key, comp);
-        self.set_level(0, node, index);
-        value
     }
 
     // Writes the path's node and index on a level.
