@@ -1,5 +1,5 @@
 use Rattle.std.proofs.Common.{rules, ◌<◌, arith, refl}
-use Rattle.bforest_core.proofs.walks.Codes.{above-asks, read-same, above-last, code-low, count-asks, next-asks, next-child, next-code, none-next, first-asks, above-low, next-above, first-on}
+use Rattle.bforest_core.proofs.walks.Codes.{way-none, above-asks, read-same, above-last, code-low, count-asks, next-asks, next-child, next-code, none-next, first-asks, above-low, next-above, first-on}
 use Rattle.bforest_core.proofs.spot.+next_on.Goals as goal
 
 pub node_of-parent-requires : goal.node_of-parent-requires
@@ -40,3 +40,18 @@ returns-in-Some-clause-some g t c = λ numbers rows list place p. first-on p c.i
 
 pub returns-in-None-clause-none : goal.returns-in-None-clause-none
 returns-in-None-clause-none g t c = λ none numbers rows list place p. none-next p c.if-depth-eq0.false c.node_of-parent.result (read-same p c.if-depth-eq0.false c.node_of-parent.result c.node_of-parent.ensures.number) c.entries.result c.entries.ensures.value c.if-index-entries.false (above-last p c.if-depth-eq0.false (c.in-None.ensures.none refl))
+
+pub returns-then-depth-eq0-clause-some : goal.returns-then-depth-eq0-clause-some
+returns-then-depth-eq0-clause-some g t c = tt
+
+pub returns-then-depth-eq0-clause-none : goal.returns-then-depth-eq0-clause-none
+returns-then-depth-eq0-clause-none g t c = λ none numbers rows list place p. (way-none _ _ _ _ numbers rows list place p c.if-depth-eq0.true).1
+
+pub returns-then-index-entries-clause-none : goal.returns-then-index-entries-clause-none
+returns-then-index-entries-clause-none g t c = λ bad. absurd (let no = bad in cc)
+
+pub returns-in-Some-clause-none : goal.returns-in-Some-clause-none
+returns-in-Some-clause-none g t c = λ bad. absurd (let no = bad in cc)
+
+pub returns-in-None-clause-some : goal.returns-in-None-clause-some
+returns-in-None-clause-some g t c = tt

@@ -27,3 +27,18 @@ returns-then-self-lt2-clause-some g c = tt
 
 pub returns-then-self-lt2-clause-alone : goal.returns-then-self-lt2-clause-alone
 returns-then-self-lt2-clause-alone g c = λ alone. refl
+
+pub returns-then-has_next-clause-none : goal.returns-then-has_next-clause-none
+returns-then-has_next-clause-none g c = λ bad. absurd (let no = bad in cc)
+
+pub returns-then-has_next-clause-alone : goal.returns-then-has_next-clause-alone
+returns-then-has_next-clause-alone g c = λ alone. absurd (omega (arith, alone, (c.has_next.ensures.next c.if-has_next.true).some))
+
+pub returns-clause-some : goal.returns-clause-some
+returns-clause-some g c = c.next_cousin.ensures.some
+
+pub returns-clause-none : goal.returns-clause-none
+returns-clause-none g c = c.next_cousin.ensures.none
+
+pub returns-clause-alone : goal.returns-clause-alone
+returns-clause-alone g c = λ alone. absurd (omega (arith, alone, c.if-self-lt2.false))
