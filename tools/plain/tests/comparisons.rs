@@ -2,7 +2,8 @@
 
 use bforest::{Comparator, Map, MapForest, Set, SetForest};
 use std::cell::Cell;
-use std::cmp::Ordering;
+use std::cmp::{Ordering, Reverse};
+use std::ops::Bound::{self, Excluded, Included, Unbounded};
 
 /// The order of the keys, which counts how often it is asked.
 #[derive(Default)]
@@ -133,4 +134,262 @@ fn steps_of_cursors() {
     }
     assert_eq!(counting.taken(), 0);
     assert!(map.iter(&forest).map(|entry| entry.0).eq((1..=36).step_by(2)));
+}
+
+// Calls that search once.
+
+/// How often a search compares at most, on its way through nodes of so many keys. Each comparison leaves half of a node's keys, rounded up, and
+/// the key that is left is compared too: with 7 keys that is 7, 4, 2 and 1, so four comparisons, and with 15 keys five.
+fn of_search(way: &[u32]) -> u32 {
+    way.iter().map(|&keys| if keys == 0 { 0 } else { keys.next_power_of_two().ilog2() + 1 }).sum()
+}
+
+/// A call on a handle in a forest, which searches for a key once.
+type Search<H, F> = fn(&mut H, u32, &mut F, &Counting);
+
+type MapSearch = Search<Map<u32, u32>, MapForest<u32, u32>>;
+type SetSearch = Search<Set<u32>, SetForest<u32>>;
+
+const OF_MAPS: [(&str, MapSearch); 8] = [
+    ("get", |map, key, forest, comp| _ = map.get(key, forest, comp)),
+    ("get_or_less", |map, key, forest, comp| _ = map.get_or_less(key, forest, comp)),
+    ("insert", |map, key, forest, comp| _ = map.insert(key, 0, forest, comp).unwrap()),
+    ("try_insert", |map, key, forest, comp| _ = map.try_insert(key, 0, forest, comp).unwrap()),
+    ("remove", |map, key, forest, comp| _ = map.remove(key, forest, comp)),
+    ("goto of a reading cursor", |map, key, forest, comp| _ = map.cursor(forest, comp).goto(key)),
+    ("goto of a writing cursor", |map, key, forest, comp| _ = map.cursor_mut(forest, comp).goto(key)),
+    ("goto and remove", |map, key, forest, comp| {
+        let mut cursor = map.cursor_mut(forest, comp);
+        cursor.goto(key);
+        cursor.remove();
+    }),
+];
+
+const OF_SETS: [(&str, SetSearch); 7] = [
+    ("contains", |set, key, forest, comp| _ = set.contains(key, forest, comp)),
+    ("get_or_less", |set, key, forest, comp| _ = set.get_or_less(key, forest, comp)),
+    ("insert", |set, key, forest, comp| _ = set.insert(key, forest, comp).unwrap()),
+    ("try_insert", |set, key, forest, comp| _ = set.try_insert(key, forest, comp).unwrap()),
+    ("remove", |set, key, forest, comp| _ = set.remove(key, forest, comp)),
+    ("goto", |set, key, forest, comp| _ = set.cursor(forest, comp).goto(key)),
+    ("goto and remove", |set, key, forest, comp| {
+        let mut cursor = set.cursor(forest, comp);
+        cursor.goto(key);
+        cursor.remove();
+    }),
+];
+
+/// Makes each call of the table with the key, each in a forest as it was, and none compares more often than this.
+fn each_search<H: Clone, F: Clone>(calls: &[(&str, Search<H, F>)], handle: &H, key: u32, forest: &F, most: u32) {
+    for (name, call) in calls {
+        let counting = Counting::default();
+        call(&mut handle.clone(), key, &mut forest.clone(), &counting);
+        let taken = counting.taken();
+        assert!(taken <= most, "{name} of {key} compares {taken} times, more than {most}");
+    }
+}
+
+/// A map of so many even keys from 2 on, put in from the least up.
+fn even_map(count: u32, forest: &mut MapForest<u32, u32>) -> Map<u32, u32> {
+    let mut map = Map::new();
+    for key in 1..=count {
+        map.insert(2 * key, key, forest, &()).unwrap();
+    }
+    map
+}
+
+fn even_set(count: u32, forest: &mut SetForest<u32>) -> Set<u32> {
+    let mut set = Set::new();
+    for key in 1..=count {
+        set.insert(2 * key, forest, &()).unwrap();
+    }
+    set
+}
+
+/// A leaf is searched once by each call, whether the key is there or not. In an empty map or set there is nothing to compare with.
+#[test]
+fn searches_of_one_leaf() {
+    for count in [0, 1, 2, 3, 4, 7] {
+        let mut forest = MapForest::new();
+        let map = even_map(count, &mut forest);
+        for key in 0..=2 * count + 1 {
+            each_search(&OF_MAPS, &map, key, &forest, of_search(&[count]));
+        }
+    }
+    for count in [0, 1, 2, 3, 4, 8, 15] {
+        let mut forest = SetForest::new();
+        let set = even_set(count, &mut forest);
+        for key in 0..=2 * count + 1 {
+            each_search(&OF_SETS, &set, key, &forest, of_search(&[count]));
+        }
+    }
+}
+
+/// How often a search compares at most in a map of 35 even keys. They lie below 7 separators, in seven leaves of 4 keys and a last one of 7,
+/// which begins with 58.
+fn of_search_in_35(key: u32) -> u32 {
+    of_search(if key < 58 { &[7, 4] } else { &[7, 7] })
+}
+
+/// How often a search compares at most in a set of 71 even keys. They lie below 7 separators, in seven leaves of 8 keys and a last one of 15,
+/// which begins with 114.
+fn of_search_in_71(key: u32) -> u32 {
+    of_search(if key < 114 { &[7, 8] } else { &[7, 15] })
+}
+
+/// Each node on the way is searched once, also where the insertion then halves a leaf and the root.
+#[test]
+fn searches_below_a_full_root() {
+    assert_eq!((of_search_in_35(57), of_search_in_35(58)), (7, 8));
+    let mut forest = MapForest::new();
+    let map = even_map(35, &mut forest);
+    for key in 0..=71 {
+        each_search(&OF_MAPS, &map, key, &forest, of_search_in_35(key));
+    }
+    assert_eq!((of_search_in_71(113), of_search_in_71(114)), (8, 9));
+    let mut forest = SetForest::new();
+    let set = even_set(71, &mut forest);
+    for key in 0..=143 {
+        each_search(&OF_SETS, &set, key, &forest, of_search_in_71(key));
+    }
+}
+
+/// One more key halves the last leaf and the root: one separator, then 3 or 4 of them, and leaves of 4 keys in a map or 8 in a set.
+#[test]
+fn searches_of_three_levels() {
+    let mut forest = MapForest::new();
+    let map = even_map(36, &mut forest);
+    assert_eq!(map.levels(&forest), 3);
+    for key in 0..=73 {
+        each_search(&OF_MAPS, &map, key, &forest, 1 + 3 + 3);
+    }
+    let mut forest = SetForest::new();
+    let set = even_set(72, &mut forest);
+    assert_eq!(set.levels(&forest), 3);
+    for key in 0..=145 {
+        each_search(&OF_SETS, &set, key, &forest, 1 + 3 + 4);
+    }
+}
+
+/// A key that does not belong where the cursor stands takes one search more than one that does.
+#[test]
+fn insertions_far_from_a_cursor() {
+    let mut forest = MapForest::new();
+    let mut map = even_map(35, &mut forest);
+    let mut set_forest = SetForest::new();
+    let mut set = even_set(71, &mut set_forest);
+    let counting = Counting::default();
+    for (place, key) in [(2, 70), (70, 2), (34, 2), (34, 70), (100, 2)] {
+        let mut cursor = map.cursor_mut(&mut forest, &counting);
+        cursor.goto(place);
+        counting.taken();
+        assert_eq!(cursor.insert(key, key / 2), Ok(Some(key / 2)));
+        assert!(counting.taken() <= 2 + of_search_in_35(key), "{key} from {place}");
+        let mut cursor = set.cursor(&mut set_forest, &counting);
+        cursor.goto(place);
+        counting.taken();
+        assert_eq!(cursor.insert(key), Ok(false));
+        assert!(counting.taken() <= 2 + of_search_in_71(key), "{key} from {place}");
+    }
+}
+
+// Ranges, and the test of an order.
+
+type Bounds = (Bound<u32>, Bound<u32>);
+
+/// The ranges that have this key as one bound, and no other bound.
+fn with_one_bound(key: u32) -> [Bounds; 4] {
+    let bounds = [Included(key), Excluded(key)];
+    [(bounds[0], Unbounded), (bounds[1], Unbounded), (Unbounded, bounds[0]), (Unbounded, bounds[1])]
+}
+
+/// The ranges from one key to another, each of which is included or excluded.
+fn with_two_bounds(start: u32, end: u32) -> [Bounds; 4] {
+    let (starts, ends) = ([Included(start), Excluded(start)], [Included(end), Excluded(end)]);
+    [(starts[0], ends[0]), (starts[0], ends[1]), (starts[1], ends[0]), (starts[1], ends[1])]
+}
+
+/// Makes ranges whose bounds are keys up to `last`; `taken` makes one, and returns how often it compared: in one search for each bound, and in
+/// one comparison more.
+fn each_range(last: u32, search: impl Fn(u32) -> u32, taken: impl Fn(Bounds) -> u32) {
+    assert!(taken((Unbounded, Unbounded)) <= 1);
+    for start in 0..=last {
+        for bounds in with_one_bound(start) {
+            assert!(taken(bounds) <= search(start) + 1, "{bounds:?}");
+        }
+        for end in 0..=last {
+            for bounds in with_two_bounds(start, end) {
+                assert!(taken(bounds) <= search(start) + search(end) + 1, "{bounds:?}");
+            }
+        }
+    }
+}
+
+#[test]
+fn ranges_of_one_leaf() {
+    let counting = Counting::default();
+    let mut forest = MapForest::new();
+    let mut set_forest = SetForest::new();
+    for count in [0, 1, 7] {
+        let map = even_map(count, &mut forest);
+        let set = even_set(count, &mut set_forest);
+        let search = |_| of_search(&[count]);
+        each_range(2 * count + 1, search, |bounds| {
+            _ = map.range(bounds, &forest, &counting);
+            counting.taken()
+        });
+        each_range(2 * count + 1, search, |bounds| {
+            _ = set.range(bounds, &set_forest, &counting);
+            counting.taken()
+        });
+    }
+}
+
+#[test]
+fn ranges_below_a_full_root() {
+    let counting = Counting::default();
+    let mut forest = MapForest::new();
+    let map = even_map(35, &mut forest);
+    each_range(71, of_search_in_35, |bounds| {
+        _ = map.range(bounds, &forest, &counting);
+        counting.taken()
+    });
+    let mut forest = SetForest::new();
+    let set = even_set(71, &mut forest);
+    each_range(143, of_search_in_71, |bounds| {
+        _ = set.range(bounds, &forest, &counting);
+        counting.taken()
+    });
+}
+
+/// A test of an order compares each two neighbours once.
+#[test]
+fn tests_of_an_order() {
+    let counting = Counting::default();
+    let mut forest = MapForest::new();
+    let mut set_forest = SetForest::new();
+    for count in [0, 1, 2, 7, 36, 100] {
+        assert!(even_map(count, &mut forest).increases(&forest, &counting));
+        assert_eq!(counting.taken(), count.saturating_sub(1));
+        assert!(even_set(count, &mut set_forest).increases(&set_forest, &counting));
+        assert_eq!(counting.taken(), count.saturating_sub(1));
+    }
+}
+
+/// An order that does not fit is told by no more comparisons than one that fits.
+#[test]
+fn tests_of_an_order_that_does_not_fit() {
+    let counting = Counting::default();
+    let mut forest = MapForest::new();
+    let mut map = Map::new();
+    let mut set_forest = SetForest::new();
+    let mut set = Set::new();
+    for key in 1..=36 {
+        map.insert(key, key, &mut forest, &Reverse(())).unwrap();
+        set.insert(key, &mut set_forest, &Reverse(())).unwrap();
+    }
+    assert!(!map.increases(&forest, &counting));
+    assert!((1..=35).contains(&counting.taken()));
+    assert!(!set.increases(&set_forest, &counting));
+    assert!((1..=35).contains(&counting.taken()));
 }

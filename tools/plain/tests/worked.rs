@@ -1,0 +1,518 @@
+//! Short runs whose answers are worked out by hand from the rules of the trees: a leaf of a map has at most 7 entries, one of a set at most 15,
+//! and an inner node at most 8 children. Each run is made twice, with the package's own search in a node and with a scan from the front.
+
+use bforest::{Comparator, Map, MapForest, OutOfMemory, Set, SetForest};
+use std::cmp::{Ordering, Reverse};
+use std::ops::Bound::{Excluded, Included, Unbounded};
+
+// The orders.
+
+/// An order whose search looks at the keys of a node one by one, from the front.
+struct FromFront<C>(C);
+
+impl<C: Comparator<u32>> Comparator<u32> for FromFront<C> {
+    fn cmp(&self, a: u32, b: u32) -> Ordering {
+        self.0.cmp(a, b)
+    }
+
+    fn search(&self, k: u32, s: &[u32]) -> Result<usize, usize> {
+        for (at, &key) in s.iter().enumerate() {
+            match self.cmp(key, k) {
+                Ordering::Less => {}
+                Ordering::Equal => return Ok(at),
+                Ordering::Greater => return Err(at),
+            }
+        }
+        Err(s.len())
+    }
+}
+
+/// Keys that differ in their last digit alone are equal.
+struct Tens;
+
+impl Comparator<u32> for Tens {
+    fn cmp(&self, a: u32, b: u32) -> Ordering {
+        (a / 10).cmp(&(b / 10))
+    }
+}
+
+// Maps and sets.
+
+type Numbers = Map<u32, u32>;
+type Forest = MapForest<u32, u32>;
+
+/// `insert` or `try_insert` of a map.
+type MapInsert<C> = fn(&mut Numbers, u32, u32, &mut Forest, &C) -> Result<Option<u32>, OutOfMemory>;
+
+/// How many levels a map has, and how many slots its forest has in all and free.
+#[derive(Debug, PartialEq, Eq)]
+struct Sizes {
+    levels: usize,
+    slots: u32,
+    free: u32,
+}
+
+fn sizes(map: &Numbers, forest: &Forest) -> Sizes {
+    Sizes { levels: map.levels(forest), slots: forest.slots(), free: forest.free_slots() }
+}
+
+/// Entries with these keys, each with ten times its key as its value.
+fn tenfold(keys: impl IntoIterator<Item = u32>) -> Vec<(u32, u32)> {
+    keys.into_iter().map(|key| (key, 10 * key)).collect()
+}
+
+/// A map of the keys with ten times each as its value, put in one after another.
+fn filled_by<C: Comparator<u32>>(
+    insert: MapInsert<C>,
+    keys: impl IntoIterator<Item = u32>,
+    forest: &mut Forest,
+    comp: &C,
+) -> Numbers {
+    let mut map = Map::new();
+    for (key, value) in tenfold(keys) {
+        assert_eq!(insert(&mut map, key, value, forest, comp), Ok(None), "{key}");
+    }
+    map
+}
+
+fn filled<C: Comparator<u32>>(keys: impl IntoIterator<Item = u32>, forest: &mut Forest, comp: &C) -> Numbers {
+    filled_by(Map::insert, keys, forest, comp)
+}
+
+/// The map of 10, 20 and 30 to 1, 2 and 3.
+fn three<C: Comparator<u32>>(forest: &mut Forest, comp: &C) -> Numbers {
+    let mut map = Map::new();
+    for (key, value) in [(10, 1), (20, 2), (30, 3)] {
+        assert_eq!(map.insert(key, value, forest, comp), Ok(None));
+    }
+    map
+}
+
+fn entries(map: &Numbers, forest: &Forest) -> Vec<(u32, u32)> {
+    map.iter(forest).collect()
+}
+
+// The tests: each run with both searches.
+
+macro_rules! with_both_searches {
+    ($($run:ident),* $(,)?) => {
+        mod own_search {
+            $(#[test]
+            fn $run() {
+                super::$run(&());
+            })*
+        }
+
+        mod scan_from_the_front {
+            $(#[test]
+            fn $run() {
+                super::$run(&super::FromFront(()));
+            })*
+        }
+    };
+}
+
+with_both_searches!(
+    an_empty_map_answers_none,
+    a_second_insertion_replaces_the_value,
+    get_or_less_finds_the_key_or_the_one_before,
+    a_cursor_goes_to_the_next_greater_key_and_back,
+    a_new_cursor_stands_at_the_end,
+    removing_at_a_cursor_goes_on_to_the_next_entry,
+    the_last_entry_before_an_excluded_end,
+    ranges_of_few_entries_or_none,
+    a_range_taken_from_both_ends_in_turn,
+    the_eighth_key_halves_a_leaf,
+    leaves_that_fit_into_one_are_merged,
+    an_insertion_past_the_limit_changes_nothing,
+    a_refused_cursor_stands_at_the_next_greater_key,
+    a_key_that_needs_no_node_is_never_refused,
+    a_handle_is_live_again_where_its_slot_is_a_root_again,
+    a_clone_names_the_same_tree_until_the_root_changes,
+    clearing_a_map_leaves_the_other,
+    retain_changes_values_and_merges_leaves,
+    the_sixteenth_key_halves_a_leaf_of_a_set,
+    the_greatest_and_the_least_key,
+    the_thirty_sixth_key_adds_a_level,
+    a_refused_level_changes_nothing,
+    removing_the_first_key_of_the_last_leaf,
+    a_leaf_too_empty_takes_from_the_next_one,
+    retaining_nothing_frees_every_node,
+    a_set_of_one_key,
+    a_forest_of_no_nodes_takes_no_key,
+);
+
+/// Keys that compare equal share an entry, which keeps the first one's key.
+#[test]
+fn keys_of_the_same_ten_share_an_entry() {
+    equal_keys_share_an_entry(&Tens);
+    equal_keys_share_an_entry(&FromFront(Tens));
+}
+
+/// Under the reversed order the greatest key is first, and the list increases under that order alone.
+#[test]
+fn the_reversed_order_begins_with_the_greatest_key() {
+    reversed_map(&(), &Reverse(()));
+    reversed_map(&FromFront(()), &FromFront(Reverse(())));
+}
+
+// Maps of one leaf.
+
+fn an_empty_map_answers_none<C: Comparator<u32>>(comp: &C) {
+    let (map, forest) = (Numbers::new(), Forest::new());
+    assert!(map.is_empty());
+    assert_eq!(map.get(5, &forest, comp), None);
+    assert_eq!(map.get_or_less(5, &forest, comp), None);
+    let mut cursor = map.cursor(&forest, comp);
+    assert_eq!(cursor.next(), None);
+    assert_eq!(cursor.prev(), None);
+}
+
+fn a_second_insertion_replaces_the_value<C: Comparator<u32>>(comp: &C) {
+    for insert in [Map::insert, Map::try_insert] {
+        let (mut map, mut forest) = (Numbers::new(), Forest::new());
+        assert_eq!(insert(&mut map, 5, 50, &mut forest, comp), Ok(None));
+        assert_eq!(insert(&mut map, 5, 51, &mut forest, comp), Ok(Some(50)));
+        assert_eq!(map.get(5, &forest, comp), Some(51));
+    }
+}
+
+fn get_or_less_finds_the_key_or_the_one_before<C: Comparator<u32>>(comp: &C) {
+    let mut forest = Forest::new();
+    let map = three(&mut forest, comp);
+    assert_eq!(map.get_or_less(25, &forest, comp), Some((20, 2)));
+    assert_eq!(map.get_or_less(20, &forest, comp), Some((20, 2)));
+    assert_eq!(map.get_or_less(5, &forest, comp), None);
+    assert_eq!(map.get_or_less(99, &forest, comp), Some((30, 3)));
+}
+
+fn equal_keys_share_an_entry<C: Comparator<u32>>(tens: &C) {
+    let (mut map, mut forest) = (Numbers::new(), Forest::new());
+    assert_eq!(map.insert(12, 1, &mut forest, tens), Ok(None));
+    assert_eq!(map.insert(15, 2, &mut forest, tens), Ok(Some(1)));
+    let mut cursor = map.cursor(&forest, tens);
+    assert_eq!(cursor.goto(19), Some(2));
+    assert_eq!(cursor.key(), Some(12));
+    assert_eq!(map.get_or_less(17, &forest, tens), Some((12, 2)));
+}
+
+fn reversed_map<C: Comparator<u32>, R: Comparator<u32>>(own: &C, reversed: &R) {
+    let (mut map, mut forest) = (Numbers::new(), Forest::new());
+    assert_eq!(map.insert(5, 50, &mut forest, reversed), Ok(None));
+    assert_eq!(map.insert(3, 30, &mut forest, reversed), Ok(None));
+    assert_eq!(entries(&map, &forest), [(5, 50), (3, 30)]);
+    assert!(!map.increases(&forest, own));
+    assert!(map.increases(&forest, reversed));
+}
+
+fn the_greatest_and_the_least_key<C: Comparator<u32>>(comp: &C) {
+    let (mut map, mut forest) = (Numbers::new(), Forest::new());
+    assert_eq!(map.insert(4_294_967_295, 1, &mut forest, comp), Ok(None));
+    assert_eq!(map.insert(0, 2, &mut forest, comp), Ok(None));
+    assert_eq!(entries(&map, &forest), [(0, 2), (4_294_967_295, 1)]);
+    let mut cursor = map.cursor(&forest, comp);
+    assert_eq!(cursor.goto(4_294_967_295), Some(1));
+    assert_eq!(cursor.next(), None);
+}
+
+// Cursors and ranges.
+
+fn a_cursor_goes_to_the_next_greater_key_and_back<C: Comparator<u32>>(comp: &C) {
+    let mut forest = Forest::new();
+    let map = three(&mut forest, comp);
+    let mut cursor = map.cursor(&forest, comp);
+    assert_eq!(cursor.goto(25), None);
+    assert_eq!(cursor.key(), Some(30));
+    assert_eq!(cursor.prev(), Some((20, 2)));
+    assert_eq!(cursor.prev(), Some((10, 1)));
+    assert_eq!(cursor.prev(), None);
+    assert_eq!(cursor.key(), Some(10));
+    assert_eq!(cursor.next(), Some((20, 2)));
+}
+
+fn a_new_cursor_stands_at_the_end<C: Comparator<u32>>(comp: &C) {
+    let mut forest = Forest::new();
+    let map = three(&mut forest, comp);
+    let mut cursor = map.cursor(&forest, comp);
+    assert_eq!(cursor.next(), None);
+    assert_eq!(cursor.prev(), Some((30, 3)));
+    assert_eq!(cursor.next(), None);
+    assert_eq!(cursor.key(), None);
+}
+
+fn removing_at_a_cursor_goes_on_to_the_next_entry<C: Comparator<u32>>(comp: &C) {
+    let mut forest = Forest::new();
+    let mut map = three(&mut forest, comp);
+    let mut cursor = map.cursor_mut(&mut forest, comp);
+    assert_eq!(cursor.goto(20), Some(2));
+    assert_eq!(cursor.remove(), Some(2));
+    assert_eq!(cursor.key(), Some(30));
+    assert_eq!(cursor.remove(), Some(3));
+    assert_eq!(cursor.key(), None);
+    assert_eq!(cursor.remove(), None);
+    assert_eq!(entries(&map, &forest), [(10, 1)]);
+}
+
+fn the_last_entry_before_an_excluded_end<C: Comparator<u32>>(comp: &C) {
+    let mut forest = Forest::new();
+    let map = three(&mut forest, comp);
+    let mut below = map.range((Unbounded, Excluded(25)), &forest, comp);
+    assert_eq!(below.next_back(), Some((20, 2)));
+    let mut all = map.range((Unbounded, Excluded(99)), &forest, comp);
+    assert_eq!(all.next_back(), Some((30, 3)));
+    assert_eq!(all.next_back(), Some((20, 2)));
+}
+
+fn ranges_of_few_entries_or_none<C: Comparator<u32>>(comp: &C) {
+    let mut forest = Forest::new();
+    let map = three(&mut forest, comp);
+    let mut reversed = map.range((Included(30), Excluded(10)), &forest, comp);
+    assert_eq!(reversed.next(), None);
+    assert_eq!(reversed.next_back(), None);
+    let mut single = map.range((Included(20), Included(20)), &forest, comp);
+    assert_eq!(single.next_back(), Some((20, 2)));
+    assert_eq!(single.next(), None);
+    let mut between = map.range((Excluded(10), Excluded(30)), &forest, comp);
+    assert_eq!(between.next(), Some((20, 2)));
+    assert_eq!(between.next(), None);
+}
+
+fn a_range_taken_from_both_ends_in_turn<C: Comparator<u32>>(comp: &C) {
+    let mut forest = Forest::new();
+    let map = filled([1, 2, 3], &mut forest, comp);
+    let mut range = map.range(.., &forest, comp);
+    assert_eq!(range.next(), Some((1, 10)));
+    assert_eq!(range.next_back(), Some((3, 30)));
+    assert_eq!(range.next(), Some((2, 20)));
+    assert_eq!(range.next_back(), None);
+    assert_eq!(range.next(), None);
+}
+
+// Leaves that are halved, merged and evened out.
+
+fn the_eighth_key_halves_a_leaf<C: Comparator<u32>>(comp: &C) {
+    for insert in [Map::insert, Map::try_insert] {
+        let mut forest = Forest::new();
+        let map = filled_by(insert, 1..=8, &mut forest, comp);
+        assert_eq!(sizes(&map, &forest), Sizes { levels: 2, slots: 3, free: 0 });
+        assert_eq!(entries(&map, &forest), tenfold(1..=8));
+    }
+}
+
+fn leaves_that_fit_into_one_are_merged<C: Comparator<u32>>(comp: &C) {
+    let mut forest = Forest::new();
+    let mut map = filled(1..=8, &mut forest, comp);
+    assert_eq!(map.remove(1, &mut forest, comp), Some(10));
+    assert_eq!(entries(&map, &forest), tenfold(2..=8));
+    assert_eq!(sizes(&map, &forest), Sizes { levels: 1, slots: 3, free: 2 });
+    assert_eq!(map.insert(1, 10, &mut forest, comp), Ok(None));
+    assert_eq!(entries(&map, &forest), tenfold(1..=8));
+    assert_eq!(sizes(&map, &forest), Sizes { levels: 2, slots: 3, free: 0 });
+}
+
+fn removing_the_first_key_of_the_last_leaf<C: Comparator<u32>>(comp: &C) {
+    let mut forest = Forest::new();
+    let mut map = filled(1..=8, &mut forest, comp);
+    let mut cursor = map.cursor_mut(&mut forest, comp);
+    assert_eq!(cursor.goto(5), Some(50));
+    assert_eq!(cursor.remove(), Some(50));
+    assert_eq!(cursor.key(), Some(6));
+    assert_eq!(entries(&map, &forest), tenfold([1, 2, 3, 4, 6, 7, 8]));
+    assert_eq!(sizes(&map, &forest), Sizes { levels: 2, slots: 3, free: 0 });
+}
+
+fn a_leaf_too_empty_takes_from_the_next_one<C: Comparator<u32>>(comp: &C) {
+    let mut forest = Forest::new();
+    let mut map = filled(1..=11, &mut forest, comp);
+    assert_eq!(map.remove(1, &mut forest, comp), Some(10));
+    assert_eq!(entries(&map, &forest), tenfold(2..=11));
+    assert_eq!(sizes(&map, &forest), Sizes { levels: 2, slots: 3, free: 0 });
+}
+
+fn the_thirty_sixth_key_adds_a_level<C: Comparator<u32>>(comp: &C) {
+    let mut forest = Forest::new();
+    let mut map = filled(1..=35, &mut forest, comp);
+    assert_eq!(sizes(&map, &forest), Sizes { levels: 2, slots: 9, free: 0 });
+    assert_eq!(map.insert(36, 0, &mut forest, comp), Ok(None));
+    assert_eq!(sizes(&map, &forest), Sizes { levels: 3, slots: 12, free: 0 });
+    assert_eq!(entries(&map, &forest), [tenfold(1..=35), vec![(36, 0)]].concat());
+}
+
+fn retain_changes_values_and_merges_leaves<C: Comparator<u32>>(comp: &C) {
+    let (mut map, mut forest) = (Numbers::new(), Forest::new());
+    for key in 1..=36 {
+        assert_eq!(map.insert(key, key, &mut forest, comp), Ok(None));
+    }
+    map.retain(&mut forest, |key, value| {
+        *value += 1;
+        key % 9 == 0
+    });
+    assert_eq!(entries(&map, &forest), [(9, 10), (18, 19), (27, 28), (36, 37)]);
+    assert_eq!(sizes(&map, &forest), Sizes { levels: 1, slots: 12, free: 11 });
+}
+
+fn retaining_nothing_frees_every_node<C: Comparator<u32>>(comp: &C) {
+    let mut forest = Forest::new();
+    let mut map = filled(1..=8, &mut forest, comp);
+    map.retain(&mut forest, |_, _| false);
+    assert!(map.is_empty());
+    assert_eq!(sizes(&map, &forest), Sizes { levels: 0, slots: 3, free: 3 });
+}
+
+// Limits.
+
+fn an_insertion_past_the_limit_changes_nothing<C: Comparator<u32>>(comp: &C) {
+    let mut forest = Forest::with_node_limit(2);
+    let mut map = filled(1..=7, &mut forest, comp);
+    assert_eq!(map.insert(8, 80, &mut forest, comp), Err(OutOfMemory::Full));
+    assert_eq!(entries(&map, &forest), tenfold(1..=7));
+    assert_eq!(sizes(&map, &forest), Sizes { levels: 1, slots: 1, free: 0 });
+    assert_eq!(map.insert(7, 71, &mut forest, comp), Ok(Some(70)));
+    assert_eq!(map.remove(1, &mut forest, comp), Some(10));
+    assert_eq!(map.insert(8, 80, &mut forest, comp), Ok(None));
+    assert_eq!(entries(&map, &forest), [tenfold(2..=6), vec![(7, 71), (8, 80)]].concat());
+}
+
+fn a_refused_cursor_stands_at_the_next_greater_key<C: Comparator<u32>>(comp: &C) {
+    let mut forest = Forest::with_node_limit(1);
+    let mut map = filled((10..=70).step_by(10), &mut forest, comp);
+    let mut cursor = map.cursor_mut(&mut forest, comp);
+    assert_eq!(cursor.try_insert(35, 0), Err(OutOfMemory::Full));
+    assert_eq!(cursor.key(), Some(40));
+    assert_eq!(entries(&map, &forest), tenfold((10..=70).step_by(10)));
+}
+
+fn a_key_that_needs_no_node_is_never_refused<C: Comparator<u32>>(comp: &C) {
+    let mut forest = Forest::with_node_limit(4);
+    let mut map = filled(1..=15, &mut forest, comp);
+    assert_eq!(map.insert(16, 160, &mut forest, comp), Err(OutOfMemory::Full));
+    assert_eq!(map.insert(0, 0, &mut forest, comp), Ok(None));
+    assert_eq!(entries(&map, &forest), tenfold(0..=15));
+}
+
+fn a_refused_level_changes_nothing<C: Comparator<u32>>(comp: &C) {
+    let mut forest = Forest::with_node_limit(11);
+    let mut map = filled(1..=35, &mut forest, comp);
+    assert_eq!(map.insert(36, 0, &mut forest, comp), Err(OutOfMemory::Full));
+    assert_eq!(sizes(&map, &forest), Sizes { levels: 2, slots: 9, free: 0 });
+    assert_eq!(entries(&map, &forest), tenfold(1..=35));
+}
+
+fn a_forest_of_no_nodes_takes_no_key<C: Comparator<u32>>(comp: &C) {
+    let (mut map, mut forest) = (Numbers::new(), Forest::with_node_limit(0));
+    assert_eq!(map.insert(1, 1, &mut forest, comp), Err(OutOfMemory::Full));
+    assert!(map.is_empty());
+}
+
+// Handles.
+
+fn a_handle_is_live_again_where_its_slot_is_a_root_again<C: Comparator<u32>>(comp: &C) {
+    let mut forest = Forest::new();
+    let a = filled([1], &mut forest, comp);
+    forest.clear();
+    assert!(!forest.holds(&a));
+    assert_eq!(forest.slots(), 0);
+    let mut b = Map::new();
+    assert_eq!(b.insert(5, 50, &mut forest, comp), Ok(None));
+    assert!(forest.holds(&a));
+    assert_eq!(a.get(5, &forest, comp), Some(50));
+}
+
+fn a_clone_names_the_same_tree_until_the_root_changes<C: Comparator<u32>>(comp: &C) {
+    let mut forest = Forest::new();
+    let mut a = filled([1], &mut forest, comp);
+    let b = a.clone();
+    assert_eq!(a.insert(2, 20, &mut forest, comp), Ok(None));
+    assert_eq!(b.get(2, &forest, comp), Some(20));
+    for key in 3..=8 {
+        assert_eq!(a.insert(key, 10 * key, &mut forest, comp), Ok(None));
+    }
+    assert!(!forest.holds(&b));
+}
+
+fn clearing_a_map_leaves_the_other<C: Comparator<u32>>(comp: &C) {
+    let mut forest = Forest::new();
+    let mut first = filled(1..=100, &mut forest, comp);
+    let second = filled([7], &mut forest, comp);
+    first.clear(&mut forest);
+    assert!(first.is_empty());
+    assert_eq!(entries(&first, &forest), []);
+    assert_eq!(entries(&second, &forest), [(7, 70)]);
+    assert_eq!(forest.free_slots(), forest.slots() - 1);
+}
+
+// Sets.
+
+fn the_sixteenth_key_halves_a_leaf_of_a_set<C: Comparator<u32>>(comp: &C) {
+    for insert in [Set::insert, Set::try_insert] {
+        let (mut set, mut forest) = (Set::new(), SetForest::new());
+        for key in 1..=16 {
+            assert_eq!(insert(&mut set, key, &mut forest, comp), Ok(true));
+        }
+        assert_eq!((set.levels(&forest), forest.slots(), forest.free_slots()), (2, 3, 0));
+        assert_eq!(insert(&mut set, 16, &mut forest, comp), Ok(false));
+        assert!(set.iter(&forest).eq(1..=16));
+    }
+}
+
+fn a_set_of_one_key<C: Comparator<u32>>(comp: &C) {
+    for insert in [Set::insert, Set::try_insert] {
+        let (mut set, mut forest) = (Set::new(), SetForest::new());
+        assert_eq!(insert(&mut set, 3, &mut forest, comp), Ok(true));
+        assert_eq!(insert(&mut set, 3, &mut forest, comp), Ok(false));
+        assert!(set.contains(3, &forest, comp));
+        assert!(set.remove(3, &mut forest, comp));
+        assert!(!set.remove(3, &mut forest, comp));
+        assert!(set.is_empty());
+    }
+}
+
+// Iterators, which compare nothing.
+
+/// What an iterator says that does not know how many entries are left.
+const UNKNOWN: (usize, Option<usize>) = (0, None);
+
+#[test]
+fn no_iterator_of_a_map_knows_how_many_are_left() {
+    for last in [0, 1, 36] {
+        let mut forest = Forest::new();
+        let map = filled(1..=last, &mut forest, &());
+        let mut iter = map.iter(&forest);
+        let mut range = map.range(.., &forest, &());
+        assert_eq!((iter.size_hint(), range.size_hint()), (UNKNOWN, UNKNOWN), "{last}");
+        assert!(iter.by_ref().eq(range.by_ref()));
+        assert_eq!((iter.size_hint(), range.size_hint()), (UNKNOWN, UNKNOWN), "{last}");
+        let mut owner = map.into_iter(forest);
+        assert_eq!(owner.size_hint(), UNKNOWN, "{last}");
+        assert_eq!(owner.by_ref().count(), last as usize);
+        assert_eq!(owner.size_hint(), UNKNOWN, "{last}");
+    }
+}
+
+#[test]
+fn no_iterator_of_a_set_knows_how_many_are_left() {
+    for last in [0, 1, 36] {
+        let (mut set, mut forest) = (Set::new(), SetForest::new());
+        for key in 1..=last {
+            assert_eq!(set.insert(key, &mut forest, &()), Ok(true));
+        }
+        let mut iter = set.iter(&forest);
+        let mut range = set.range(.., &forest, &());
+        assert_eq!((iter.size_hint(), range.size_hint()), (UNKNOWN, UNKNOWN), "{last}");
+        assert!(iter.by_ref().eq(range.by_ref()));
+        assert_eq!((iter.size_hint(), range.size_hint()), (UNKNOWN, UNKNOWN), "{last}");
+    }
+}
+
+/// The iterator that owns its forest goes through three levels, and then stays at the end.
+#[test]
+fn into_iter_ends_once_and_for_all() {
+    let mut forest = Forest::new();
+    let map = filled(1..=36, &mut forest, &());
+    let mut iter = map.into_iter(forest);
+    for key in 1..=36 {
+        assert_eq!(iter.next(), Some((key, 10 * key)));
+    }
+    assert_eq!(iter.next(), None);
+    assert_eq!(iter.next(), None);
+}
