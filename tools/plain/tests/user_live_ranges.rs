@@ -49,7 +49,8 @@ impl Live {
     /// Makes two ranges of the one that goes over a point. They touch.
     fn cut(&mut self, at: Point, forest: &mut Forest) -> Result<(), OutOfMemory> {
         let over = self.0.get_or_less(at, forest, &());
-        if let Some((start, end)) = over.filter(|it| it.0 < at && at < it.1) {
+        let cut = over.filter(|it| it.0 < at && at < it.1);
+        if let Some((start, end)) = cut {
             let mut cursor = self.0.cursor_mut(forest, &());
             cursor.goto(start);
             cursor.next();
