@@ -1,9 +1,11 @@
 pub mod Bounds
 pub mod Calls
 pub mod Cursor
+pub mod Entries
 pub mod Forest
 pub mod Lending
 pub mod Memory
+pub mod Refusal
 pub mod Retain
 pub mod Set
 pub mod SetCursor

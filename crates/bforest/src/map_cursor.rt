@@ -91,6 +91,7 @@ impl<'a, K: Copy, V: Copy, C: Comparator<K>> MapCursor<'a, K, V, C> {
     pub fn entry(&self) -> Option<(K, V)>
         requires ready { IsReadable K.row V.row }
         ensures entry { result ≡ slice_get self.now.entries self.now.spot }
+        ensures within { self.now.spot ≤ length self.now.entries }
     {
         self.trees.entry(self.root, &self.path)
     }
@@ -99,6 +100,7 @@ impl<'a, K: Copy, V: Copy, C: Comparator<K>> MapCursor<'a, K, V, C> {
     pub fn key(&self) -> Option<K>
         requires ready { IsReadable K.row V.row }
         ensures key { result ≡ option_map (λ e. e.0) (slice_get self.now.entries self.now.spot) }
+        ensures within { self.now.spot ≤ length self.now.entries }
     {
         key_of(self.entry())
     }

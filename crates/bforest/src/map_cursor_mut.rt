@@ -9,7 +9,7 @@ ghost use Rattle.bforest_core.specs.Place.{entry_before};
 ghost use Rattle.bforest_nodes.specs.Entries.{IsIncreasing, place, value_at_place, value_for};
 ghost use Rattle.std.specs.Borrow.{sem};
 ghost use Rattle.std.specs.Option.{option_copied_mut};
-ghost use Rattle.std.specs.Prelude.{IsTrue, Some, [], length, min, option_map, slice_get, ◌+◌, ◌-◌, ◌≡◌, ◌↔◌};
+ghost use Rattle.std.specs.Prelude.{IsTrue, Some, [], length, min, option_map, slice_get, ◌+◌, ◌-◌, ◌≡◌, ◌≤◌, ◌↔◌};
 
 use crate::forest::MapForest;
 use crate::map::Map;
@@ -96,6 +96,7 @@ impl<'a, K: Copy, V: Copy, C: Comparator<K>> MapCursorMut<'a, K, V, C> {
         requires valid { IsCursor C.order self.now }
         requires ready { IsReadable K.row V.row }
         ensures entry { result ≡ slice_get (entries self.now) (spot self.now) }
+        ensures within { spot self.now ≤ length (entries self.now) }
     {
         let map = &*self.map;
         let forest = &*self.forest;
@@ -107,6 +108,7 @@ impl<'a, K: Copy, V: Copy, C: Comparator<K>> MapCursorMut<'a, K, V, C> {
         requires valid { IsCursor C.order self.now }
         requires ready { IsReadable K.row V.row }
         ensures key { result ≡ option_map (λ e. e.0) (slice_get (entries self.now) (spot self.now)) }
+        ensures within { spot self.now ≤ length (entries self.now) }
     {
         key_of(self.entry())
     }

@@ -6,7 +6,7 @@ ghost use Rattle.bforest.specs.Set.{as_put, the_value};
 ghost use Rattle.bforest.specs.SetCursor.{Goes, IsCursor, Moves, comparator, forest_loan, forest_now, keys, set_loan, set_now, spot};
 ghost use Rattle.bforest_core.specs.Place.{entry_before};
 ghost use Rattle.bforest_nodes.specs.Entries.{IsIncreasing, is_present, place};
-ghost use Rattle.std.specs.Prelude.{IsTrue, [], length, min, slice_get, ◌+◌, ◌-◌, ◌≡◌, ◌↔◌};
+ghost use Rattle.std.specs.Prelude.{IsTrue, [], length, min, slice_get, ◌+◌, ◌-◌, ◌≡◌, ◌≤◌, ◌↔◌};
 
 use crate::map_cursor::key_of;
 use crate::set::{Set, is_new};
@@ -91,6 +91,7 @@ impl<'a, K: Copy, C: Comparator<K>> SetCursor<'a, K, C> {
         requires valid { IsCursor C.order self.now }
         requires ready { IsSetReadable K.row }
         ensures key { result ≡ slice_get (keys self.now) (spot self.now) }
+        ensures within { spot self.now ≤ length (keys self.now) }
     {
         let set = &*self.set;
         let forest = &*self.forest;

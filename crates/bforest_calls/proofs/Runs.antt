@@ -1,23 +1,25 @@
 -- The next step of a script, and the next call of a run.
+use Rattle.bforest_calls.proofs.Adding.{act-adds, step-adds}
 use Rattle.bforest_calls.specs.Machine.{AsksRoom, MayStopAt, Orders, Run, State, Step}
 use Rattle.bforest_calls.specs.State.{Acts, Held, Script}
 use Rattle.bforest_calls.specs.declared.call.Act.{Act}
 use Rattle.bforest_calls.specs.declared.call.Answer.{Answer}
 use Rattle.bforest_calls.specs.declared.call.Call.{Call}
 use Rattle.bforest_calls.specs.declared.call.Seen.{Seen}
-use Rattle.std.proofs.Common.{Bool, Err, List, Ok, Result, [], ap, get_or, length, refl, subst, sym, take, ◌+◌, ◌++◌, ◌<◌, ◌∙◌, ◌≡◌, ◌≤◌, ◌∷◌, ℕ}
+use Rattle.std.proofs.Common.{Bool, Err, List, Ok, Result, [], ap, get_or, length, refl, subst, sym, take, ◌%◌, ◌+◌, ◌++◌, ◌<◌, ◌∙◌, ◌≡◌, ◌≤◌, ◌∷◌, ℕ}
 use Rattle.std.proofs.lemmas.List.{take_all, take_more}
 use Rattle.std.proofs.lemmas.Option.{slice_get_read}
 use Rattle.std.specs.Result.{OnErr}
 use Rattle.std.specs.declared.cmp.Ordering.{Ordering}
 
-module _ {K V : Type 0} (most : ℕ) where
+module _ {K V : Type 0} (most : ℕ) (odd : most % 2 ≡ 1) where
   script_more : (order : K → K → Ordering) (old : Held K V) (p : ℕ) (steps : List (Act K V)) (sights : List (Seen K V)) (mid : Held K V) (m : ℕ) (step : Act K V) (sight : Seen K V) (new : Held K V) (q : ℕ)
       → Script most order old p steps sights mid m → Acts most order mid m step sight new q → Script most order old p (steps ++ step ∷ []) (sights ++ sight ∷ []) new q
   script_more order old p [] [] mid m step sight new q h next =
-      (new, q, subst (λ (s : Held K V). Acts most order s p step sight new q) h.0 (subst (λ (r : ℕ). Acts most order mid r step sight new q) h.1 next), (refl, refl))
+      let first = subst (λ (s : Held K V). Acts most order s p step sight new q) h.0 (subst (λ (r : ℕ). Acts most order mid r step sight new q) h.1 next) in
+      (new, q, first, (refl, refl), act-adds most odd order old p step sight new q first)
   script_more order old p (s ∷ steps) (t ∷ sights) mid m step sight new q h next =
-      (h.0, h.1, h.2, script_more order h.0 h.1 steps sights mid m step sight new q h.3 next)
+      (h.0, h.1, h.2, script_more order h.0 h.1 steps sights mid m step sight new q h.3 next, h.4)
   script_more order old p [] (t ∷ sights) mid m step sight new q h next = absurd h
   script_more order old p (s ∷ steps) [] mid m step sight new q h next = absurd h
 
@@ -44,11 +46,13 @@ module _ {K V : Type 0} (most : ℕ) where
       subst (λ (s : Held K V). Script most order old p steps sights s m) (λ j. record { forest = sym forest j; number = sym number j })
       (subst (λ (ss : List (Act K V)). Script most order old p ss sights mid m) (take_all i steps end) h)
 
-module _ {K V : Type 0} (most : ℕ) (reads : Bool) where
+module _ {K V : Type 0} (most : ℕ) (odd : most % 2 ≡ 1) (reads : Bool) where
   run_more : (orders : Orders K) (old : State K V) (calls : List (Call K V)) (answers : List (Answer K V)) (mid : State K V) (call : Call K V) (given : Answer K V) (new : State K V)
       → Run most reads orders old calls answers mid → Step most reads orders mid call given new → Run most reads orders old (calls ++ call ∷ []) (answers ++ given ∷ []) new
-  run_more orders old [] [] mid call given new h next = (new, subst (λ (m : State K V). Step most reads orders m call given new) h next, refl)
-  run_more orders old (d ∷ calls) (b ∷ answers) mid call given new h next = (h.0, h.1, run_more orders h.0 calls answers mid call given new h.2 next)
+  run_more orders old [] [] mid call given new h next =
+      let first = subst (λ (m : State K V). Step most reads orders m call given new) h next in
+      (new, first, refl, step-adds most odd reads orders old call given new first)
+  run_more orders old (d ∷ calls) (b ∷ answers) mid call given new h next = (h.0, h.1, run_more orders h.0 calls answers mid call given new h.2 next, h.3)
   run_more orders old [] (b ∷ answers) mid call given new h next = absurd h
   run_more orders old (d ∷ calls) [] mid call given new h next = absurd h
 

@@ -3,7 +3,7 @@ use Rattle.bforest.specs.Bounds.{entries_between, entry_at_most}
 use Rattle.bforest.specs.Calls.{Clears, Inserts, Removes}
 use Rattle.bforest.specs.Forest.{Forest, IsLive, empty, limit_of, list_of}
 use Rattle.bforest_calls.specs.Looks.{all_taken, sights_of}
-use Rattle.bforest_calls.specs.State.{Edits, Held, Retained}
+use Rattle.bforest_calls.specs.State.{Edits, Held, Retained, StillAddsUp}
 use Rattle.bforest_calls.specs.declared.call.Answer.TheVariants as answer
 use Rattle.bforest_calls.specs.declared.call.Answer.{Answer}
 use Rattle.bforest_calls.specs.declared.call.Call.TheVariants as call
@@ -135,6 +135,7 @@ module _ {K V : Type 0} where
     -- the steps of a list of calls, each from the state that the call before it left
     abbrev pub Run : Orders K → State K V → List (Call K V) → List (Answer K V) → State K V → Type 0
     Run orders old [] [] new = new ≡ old
-    Run orders old (call ∷ calls) (given ∷ answers) new = (mid : State K V) × Step orders old call given mid × Run orders mid calls answers new
+    Run orders old (call ∷ calls) (given ∷ answers) new =
+        (mid : State K V) × Step orders old call given mid × Run orders mid calls answers new × StillAddsUp most old.forest mid.forest
     Run orders old [] (given ∷ answers) new = ⊥
     Run orders old (call ∷ calls) [] new = ⊥

@@ -1,6 +1,6 @@
 -- The state of a call on one handle, and what the call leaves.
 use Rattle.bforest.specs.Calls.{Filters, Inserts, RemovesAt}
-use Rattle.bforest.specs.Forest.{Becomes, Forest, free_of, list_of, sizes_of, slots_of}
+use Rattle.bforest.specs.Forest.{Becomes, Forest, IsAccounted, free_of, limit_of, list_at, list_of, sizes_at, sizes_of, slots_of}
 use Rattle.bforest_calls.specs.Looks.{place_after, sight_of}
 use Rattle.bforest_calls.specs.declared.call.Act.TheVariants as act
 use Rattle.bforest_calls.specs.declared.call.Act.{Act}
@@ -8,12 +8,24 @@ use Rattle.bforest_calls.specs.declared.call.Look.TheVariants as look
 use Rattle.bforest_calls.specs.declared.call.Look.{Look}
 use Rattle.bforest_calls.specs.declared.call.Seen.TheVariants as seen
 use Rattle.bforest_calls.specs.declared.call.Seen.{Seen}
+use Rattle.bforest_core.specs.Sizes.{IsFitFor}
 use Rattle.bforest_core.specs.declared.pool.OutOfMemory.{OutOfMemory}
 use Rattle.bforest_nodes.specs.Entries.{place, with_value}
 use Rattle.std.specs.List.{list_any}
 use Rattle.std.specs.Ordering.{is_eq}
-use Rattle.std.specs.Prelude.{Bool, List, Option, Result, [], is_some, length, slice_get, unwrap_or, ◌≡◌, ◌∷◌, ℕ}
+use Rattle.std.specs.Prelude.{Bool, List, Option, Result, [], is_some, length, slice_get, unwrap_or, ◌≡◌, ◌≤◌, ◌∷◌, ℕ}
 use Rattle.std.specs.declared.cmp.Ordering.{Ordering}
+
+-- Each number's sizes are those of a fit tree of its list, the slots are the free ones and the nodes of all
+-- trees, and there are no more than the limit allows. `most` is the number of entries that a leaf has at most.
+pub record AddsUp {K V : Type 0} (most : ℕ) (f : Forest K V) : Type 0 where
+  pub slots : IsAccounted f
+  pub within : slots_of f ≤ limit_of f
+  pub fit : (n : ℕ) → IsFitFor most (length (list_at f n)) (sizes_at f n)
+
+-- where f adds up, f' does
+abbrev pub StillAddsUp : {K V : Type 0} → ℕ → Forest K V → Forest K V → Type 0
+StillAddsUp most f f' = AddsUp most f → AddsUp most f'
 
 -- the state of a call on one handle: the forest, and the handle's number
 pub record Held (K V : Type 0) : Type 0 where
@@ -67,7 +79,7 @@ module _ {K V : Type 0} where
     abbrev pub Script : Held K V → ℕ → List (Act K V) → List (Seen K V) → Held K V → ℕ → Type 0
     Script old p [] [] new q = (new ≡ old) × (q ≡ p)
     Script old p (step ∷ steps) (sight ∷ sights) new q =
-        (mid : Held K V) × (m : ℕ) × Acts old p step sight mid m × Script mid m steps sights new q
+        (mid : Held K V) × (m : ℕ) × Acts old p step sight mid m × Script mid m steps sights new q × StillAddsUp most old.forest mid.forest
     Script old p [] (sight ∷ sights) new q = ⊥
     Script old p (step ∷ steps) [] new q = ⊥
 

@@ -156,6 +156,7 @@ module _ {K V : Type 0} where
           turned i j r.0,
           step-exchanged i j old r.0 within within' most reads orders call given r.1,
           run-exchanged i j r.0 calls answers new (subst (λ n. i < n) (sym many) within) (subst (λ n. j < n) (sym many) within') r.2,
+          r.3,
         )
     run-exchanged i j old [] (given ∷ answers) new within within' r = absurd r
     run-exchanged i j old (call ∷ calls) [] new within within' r = absurd r

@@ -2,6 +2,7 @@ pub mod Searched
 pub mod Found
 pub mod Ordered
 pub mod Lookups
+pub mod AfterCut
 pub mod Seams
 pub mod Rows
 pub mod Shifted

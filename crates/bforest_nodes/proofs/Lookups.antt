@@ -1,6 +1,6 @@
 -- Increasing lists, looked up and changed from the front: lemmas for callers.
 use Rattle.bforest_nodes.proofs.Ordered.{IsIncreasing-put, place-here, place-later}
-use Rattle.bforest_nodes.specs.Entries.{IsIncreasing, is_present, place, put, value_for, with_value}
+use Rattle.bforest_nodes.specs.Entries.{IsIncreasing, entry_for, is_present, place, put, value_for, with_value}
 use Rattle.std.proofs.Common.{Bool, List, None, Option, Some, [], ap, false, if◌then◌else◌, insert, refl, slice_get, sym, true, ◌∙◌, ◌∷◌, ◌≡◌, ℕ}
 use Rattle.std.specs.Cmp.{IsTotalOrder, tied_itself}
 use Rattle.std.specs.List.Sorted.{IsStrictlySortedBy}
@@ -80,6 +80,14 @@ module _ {K X : Type 0} (cmp : K → K → Ordering) (o : IsTotalOrder cmp) wher
     -- after an insertion the key has the inserted value
     pub value_for-put : (es : List (K × X)) → IsIncreasing cmp es → value_for cmp (put cmp es k v) k ≡ Some v
     value_for-put es h = value_for-lookup (put cmp es k v) k (IsIncreasing-put cmp o es k v h) ∙ lookup-put es h
+
+    -- after an insertion the key is present
+    pub is_present-put : (es : List (K × X)) → IsIncreasing cmp es → is_present cmp (put cmp es k v) k ≡ true
+    is_present-put es h = go (entry_for cmp (put cmp es k v) k) (value_for-put es h)
+      where
+        go : (x : Option (K × X)) → option_map (λ e. e.1) x ≡ Some v → is_some x ≡ true
+        go None e = absurd (cc)
+        go (Some x) e = refl
 
   module _ (k q : K) (v : X) (apart : is_eq (cmp k q) ≡ false) where
     -- a lookup of another key after an insertion

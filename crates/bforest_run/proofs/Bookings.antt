@@ -32,6 +32,7 @@ none_told tells is_bad start bytes o = record {
   all = λ e. absurd (cc);
   bad = λ e. absurd (cc);
   memory = λ _. record { count = 0; text = []; end = start; told = (refl, refl); appended = Appends-none o };
+  failed = λ e. absurd (cc);
 }
 
 -- what holds of every value holds of an optional one

@@ -2,12 +2,12 @@
 use Rattle.bforest_run.proofs.Parts.{few_lines}
 use Rattle.bforest_run.proofs.Written.{Appends-none, appends_more}
 use Rattle.bforest_run.specs.Lines.{lines_of}
-use Rattle.bforest_run.specs.Session.{AllAnswered, Answered, IsBad, Outcome, bad_text}
+use Rattle.bforest_run.specs.Session.{AllAnswered, Answered, Breaks, IsBad, IsFor, Outcome, bad_text}
 use Rattle.bforest_run.specs.Statuses.{status_of}
 use Rattle.bforest_run.specs.Words.{Word}
 use Rattle.bforest_run.specs.declared.stop.Stop.TheVariants.{BadLine, InputOutput, Memory}
 use Rattle.bforest_run.specs.declared.stop.Stop.{Stop}
-use Rattle.std.proofs.Common.{Err, List, Option, [], ap, append_assoc, arith, length, length-append, min, refl, subst, sym, take, ◌+◌, ◌++◌, ◌-◌, ◌<◌, ◌^◌, ◌∙◌, ◌∷◌, ◌≡◌, ℕ}
+use Rattle.std.proofs.Common.{Err, List, Option, [], ap, append_assoc, arith, inr, length, length-append, min, refl, subst, sym, take, ◌+◌, ◌++◌, ◌-◌, ◌<◌, ◌^◌, ◌∙◌, ◌∷◌, ◌≡◌, ℕ}
 use Rattle.std.proofs.Math.Seq.{take-append_seam}
 use Rattle.std.proofs.lemmas.List.{append-nil}
 use Rattle.std.specs.Io.KnownBytes.{Appends}
@@ -48,8 +48,8 @@ module _ {S : Type 0} (tells : S → List Word → List ℕ → S → Type 0) (i
     }
 
     -- the outcome of a run that stopped at a line
-    pub turned-stopped : (number' : ℕ) → number' ≡ number + 1 → (next : Option (List ℕ)) (why : Stop) → (why ≡ BadLine → IsBad tells is_bad line × Appends new next (bad_text number')) → (why ≡ Memory → Appends new next []) → Outcome tells is_bad start bytes old next (status_of (Err why))
-    turned-stopped number' is next BadLine bad memory = record {
+    pub turned-stopped : (number' : ℕ) → number' ≡ number + 1 → (next : Option (List ℕ)) (why : Stop) → (why ≡ BadLine → IsBad tells is_bad line × Appends new next (bad_text number')) → (why ≡ Memory → Appends new next []) → (why ≡ InputOutput → Breaks tells is_bad now number' line new next) → Outcome tells is_bad start bytes old next (status_of (Err why))
+    turned-stopped number' is next BadLine bad memory failed = record {
       all = λ e. absurd (cc);
       bad = λ _. let b = bad refl in record {
         before = t.before;
@@ -63,8 +63,9 @@ module _ {S : Type 0} (tells : S → List Word → List ℕ → S → Type 0) (i
         appended = subst (λ n. Appends old next (t.text ++ bad_text n)) (is ∙ ap (λ n. n + 1) (sym t.count)) (appends_more old new next t.text (bad_text number') t.appended b.1);
       };
       memory = λ e. absurd (cc);
+      failed = λ e. absurd (cc);
     }
-    turned-stopped number' is next Memory bad memory = record {
+    turned-stopped number' is next Memory bad memory failed = record {
       all = λ e. absurd (cc);
       bad = λ e. absurd (cc);
       memory = λ _. record {
@@ -74,8 +75,27 @@ module _ {S : Type 0} (tells : S → List Word → List ℕ → S → Type 0) (i
         told = subst (λ ls. AllAnswered tells is_bad start ls t.text now) (sym (ap (take (length t.before)) t.lines ∙ take-append_seam t.before (line ∷ rest))) t.told;
         appended = subst (λ x. Appends old next x) (append-nil t.text) (appends_more old new next t.text [] t.appended (memory refl));
       };
+      failed = λ e. absurd (cc);
     }
-    turned-stopped number' is next InputOutput bad memory = record { all = λ e. absurd (cc); bad = λ e. absurd (cc); memory = λ e. absurd (cc) }
+    turned-stopped number' is next InputOutput bad memory failed = record {
+      all = λ e. absurd (cc);
+      bad = λ e. absurd (cc);
+      memory = λ e. absurd (cc);
+      failed = λ _. let b = failed refl in inr (record {
+        before = t.before;
+        line = line;
+        after = rest;
+        lines = t.lines;
+        text = t.text;
+        end = now;
+        told = t.told;
+        written = b.written;
+        missing = b.missing;
+        some = b.some;
+        next = subst (λ n. IsFor tells is_bad now n line (b.written ++ b.missing)) (is ∙ ap (λ n. n + 1) (sym t.count)) b.next;
+        appended = appends_more old new next t.text b.written t.appended b.appended;
+      });
+    }
 
   -- the outcome of a run with no line left
   pub turned-last : (start : S) (bytes : List ℕ) (old : Option (List ℕ)) (number : ℕ) (now : S) (new : Option (List ℕ)) → Turned start bytes old number [] now new → Outcome tells is_bad start bytes old new 0
@@ -88,6 +108,7 @@ module _ {S : Type 0} (tells : S → List Word → List ℕ → S → Type 0) (i
     };
     bad = λ e. absurd (cc);
     memory = λ e. absurd (cc);
+    failed = λ e. absurd (cc);
   }
 
   -- the number of the next line fits

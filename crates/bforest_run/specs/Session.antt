@@ -6,7 +6,7 @@ use Rattle.bforest_run.specs.declared.reply.Reply.{Reply}
 use Rattle.std.proofs.Math.Logic.{◌⊎◌}
 use Rattle.std.specs.Fmt.{decimal}
 use Rattle.std.specs.Io.KnownBytes.{Appends}
-use Rattle.std.specs.Prelude.{IsUtf8, List, Option, [], codes, string_bytes, length, take, ◌+◌, ◌++◌, ◌∷◌, ◌≡◌, ℕ}
+use Rattle.std.specs.Prelude.{IsUtf8, List, Option, [], codes, string_bytes, length, take, ◌+◌, ◌++◌, ◌∷◌, ◌≡◌, ◌≢◌, ℕ}
 
 -- the answer to a bad line, by its number
 abbrev pub bad_text : ℕ → List ℕ
@@ -34,6 +34,18 @@ module _ {S : Type 0} (tells : S → List Word → List ℕ → S → Type 0) (i
   AllAnswered old [] text new = (text ≡ []) × (new ≡ old)
   AllAnswered old (line ∷ lines) text new =
       (first rest : List ℕ) × (mid : S) × Answered old line first mid × AllAnswered mid lines rest new × (text ≡ first ++ rest)
+
+  -- the text that is to be written for the line with this number
+  abbrev pub IsFor : S → ℕ → List ℕ → List ℕ → Type 0
+  IsFor old number line text = ((new : S) × Answered old line text new) ⊎ (IsBad line × (text ≡ bad_text number))
+
+  -- a part of the text for a line was written, and not all of it
+  pub record Breaks (now : S) (number : ℕ) (line : List ℕ) (old new : Option (List ℕ)) : Type 0 where
+    pub written : List ℕ
+    pub missing : List ℕ
+    pub some : missing ≢ []
+    pub next : IsFor now number line (written ++ missing)
+    pub appended : Appends old new written
 
   module _ (start : S) (bytes : List ℕ) (old new : Option (List ℕ)) where
     -- each line was answered
@@ -63,8 +75,24 @@ module _ {S : Type 0} (tells : S → List Word → List ℕ → S → Type 0) (i
       pub told : AllAnswered start (take count (lines_of bytes)) text end
       pub appended : Appends old new text
 
+    -- each line before one was answered, and of the text for that one a part was written
+    pub record BrokenOff : Type 0 where
+      pub before : List (List ℕ)
+      pub line : List ℕ
+      pub after : List (List ℕ)
+      pub lines : lines_of bytes ≡ before ++ line ∷ after
+      pub text : List ℕ
+      pub end : S
+      pub told : AllAnswered start before text end
+      pub written : List ℕ
+      pub missing : List ℕ
+      pub some : missing ≢ []
+      pub next : IsFor end (length before + 1) line (written ++ missing)
+      pub appended : Appends old new (text ++ written)
+
     -- what follows from a status
     pub record Outcome (status : ℕ) : Type 0 where
       pub all : status ≡ 0 → AllTold
       pub bad : status ≡ 2 → ToldUpToBad
       pub memory : status ≡ 3 → FirstTold
+      pub failed : status ≡ 4 → Appends old new [] ⊎ BrokenOff

@@ -1,11 +1,11 @@
 //! The run of an input of lines to an output of lines.
 ghost use Rattle.bforest_run.specs.Answers.{IsBadForMaps, IsBadForSets, MapTells, SetTells, at_start};
 ghost use Rattle.bforest_run.specs.Bookings.{AreNew, BookTells, IsBadForBooks};
-ghost use Rattle.bforest_run.specs.Output.{AppendsBeginning, Grows};
-ghost use Rattle.bforest_run.specs.Session.{Answered, IsBad, Outcome, Replies, bad_text};
+ghost use Rattle.bforest_run.specs.Output.{AppendsBeginning, AppendsPart, Grows};
+ghost use Rattle.bforest_run.specs.Session.{Answered, Breaks, IsBad, Outcome, Replies, bad_text};
 ghost use Rattle.bforest_run.specs.Statuses.{status_of};
 ghost use Rattle.std.specs.Io.KnownBytes.{Appends, IsAtEnd};
-ghost use Rattle.std.specs.Prelude.{Err, IfErr, IfOk, IfSome, List, OnOk, [], ◌≡◌, ◌≢◌, ◌≤◌, ℕ};
+ghost use Rattle.std.specs.Prelude.{Err, IfErr, IfOk, IfSome, List, OnErr, OnOk, [], ◌≡◌, ◌≢◌, ◌≤◌, ℕ};
 
 use crate::engine::Engine;
 use crate::lines::Lines;
@@ -179,6 +179,8 @@ fn answer_line<E: Engine, W: Write>(
     ensures bad { result ≡ Err Stop.BadLine → IsBad E.tells E.is_bad line.now
         × Appends (W.contents output.old) (W.contents output.new) (bad_text number) }
     ensures memory { result ≡ Err Stop.Memory → Appends (W.contents output.old) (W.contents output.new) [] }
+    ensures failed { result ≡ Err Stop.InputOutput → Breaks E.tells E.is_bad engine.old number line.now
+        (W.contents output.old) (W.contents output.new) }
 {
     match reply_to(alloc, engine, line)? {
         Reply::Skipped => Ok(()),
@@ -237,6 +239,7 @@ fn read_all<R: Read>(alloc: Global, input: &mut R) -> Result<Vec<u8>, Stop>
 fn write_line<W: Write>(output: &mut W, line: &[u8]) -> Result<(), Stop>
     ensures ok { OnOk result (Appends (W.contents output.old) (W.contents output.new) line.now) }
     ensures begins { AppendsBeginning (W.contents output.old) (W.contents output.new) line.now }
+    ensures part { OnErr result (AppendsPart (W.contents output.old) (W.contents output.new) line.now) }
     ensures fails { IfErr result (λ why. why ≡ Stop.InputOutput) }
 {
     let mut rest = line;

@@ -94,3 +94,26 @@ fn an_interrupted_call_is_made_again(rt: HostRuntime) {
         assert_eq!(rt; output.written(), ANSWERS);
     }
 }
+
+#[test]
+fn the_last_call_of_a_read_counts(rt: HostRuntime) {
+    // The lines take 18 calls, and one more finds their end.
+    for (interrupted, wanted) in [(1048557, 0), (1048558, 4)] {
+        let mut input = Source::with_fault(LINES, Fault::IsInterruptedUpTo, interrupted);
+        let mut output = Sink::new();
+        let status = run_text(rt.alloc(), Kind::Map, u32::MAX, &mut input, &mut output);
+        assert_eq!(rt; (status, input.calls), (wanted, 1048576));
+    }
+}
+
+#[test]
+fn the_last_call_of_a_write_counts(rt: HostRuntime) {
+    // The first answer has four bytes, which take two calls.
+    for (interrupted, wanted, written) in [(1048574, 0, ANSWERS), (1048575, 4, b"ne".as_slice())] {
+        let mut input = Source::of(LINES);
+        let mut output = Sink::with_fault(Fault::IsInterruptedUpTo, interrupted);
+        let status = run_text(rt.alloc(), Kind::Map, u32::MAX, &mut input, &mut output);
+        assert_eq!(rt; status, wanted);
+        assert_eq!(rt; output.written(), written);
+    }
+}

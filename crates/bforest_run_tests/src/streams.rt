@@ -3,12 +3,13 @@ ghost use Rattle.std.specs.Prelude.{IfOk, ◌≡◌, ◌≤◌};
 
 use std::io::{self, ErrorKind, Read, Write};
 
-/// The behavior of a stream from its call `at` on, or at that call alone.
+/// The behavior of a stream from its call `at` on, at that call alone, or up to that call.
 #[derive(Clone, Copy, PartialEq, Eq)]
 pub(crate) enum Fault {
     Fails,
     IsInterrupted,
     IsInterruptedOnce,
+    IsInterruptedUpTo,
     TakesNothing,
 }
 
@@ -17,6 +18,7 @@ impl Fault {
     fn comes(self, call: usize, at: usize) -> bool {
         match self {
             Fault::IsInterruptedOnce => call == at,
+            Fault::IsInterruptedUpTo => call <= at,
             _ => call >= at,
         }
     }
@@ -128,7 +130,7 @@ fn faulty(fault: Fault) -> io::Result<usize>
 {
     match fault {
         Fault::Fails => Err(io::Error::from(ErrorKind::Other)),
-        Fault::IsInterrupted | Fault::IsInterruptedOnce => {
+        Fault::IsInterrupted | Fault::IsInterruptedOnce | Fault::IsInterruptedUpTo => {
             Err(io::Error::from(ErrorKind::Interrupted))
         }
         Fault::TakesNothing => Ok(0),

@@ -1,13 +1,14 @@
 //! What a caller can prove of maps from their contracts alone.
-ghost use Rattle.bforest_nodes.specs.Entries.{IsIncreasing, is_present, put, value_for};
+ghost use Rattle.bforest.specs.Entries.{IsIncreasing, is_present, put, value_for};
 ghost use Rattle.bforest.specs.Forest.{Becomes, IsLive, list_of};
 ghost use Rattle.std.specs.Ordering.{is_eq};
-ghost use Rattle.std.specs.Prelude.{IfOk, IsOk, OnOk, Some, false, true, ◌≡◌, ◌≢◌};
+ghost use Rattle.std.specs.Prelude.{IfOk, IsOk, None, OnOk, Some, false, true, ◌≡◌, ◌≢◌};
 
 use bforest::{Comparator, Map, MapForest, OutOfMemory};
 
 pub mod cursors;
 pub mod loops;
+pub mod sets;
 
 /// Inserts a value and looks its key up again: the lookup finds it.
 pub fn insert_and_get<K: Copy, V: Copy, C: Comparator<K>>(
@@ -41,6 +42,22 @@ pub fn insert_and_get_other<K: Copy, V: Copy, C: Comparator<K>>(
 {
     map.insert(entry.0, entry.1, forest, comp)?;
     Ok(map.get(other, forest, comp))
+}
+
+/// Removes a key, and answers the value that it had. Then it is absent.
+pub fn remove_and_get<K: Copy, V: Copy, C: Comparator<K>>(
+    map: &mut Map<K, V>,
+    key: K,
+    forest: &mut MapForest<K, V>,
+    comp: &C,
+) -> (Option<V>, Option<V>)
+    requires live { IsLive forest.old map.old }
+    requires increasing { IsIncreasing (C.order comp.now) (list_of forest.old map.old) }
+    ensures value { result.0 ≡ value_for (C.order comp.now) (list_of forest.old map.old) key }
+    ensures absent { result.1 ≡ None }
+{
+    let value = map.remove(key, forest, comp);
+    (value, map.get(key, forest, comp))
 }
 
 /// Replaces the value of a key that is present: that is never refused.

@@ -40,6 +40,7 @@ module _ {K X : Type 0} where
   pub record Clears (f : Forest K X) (h : Option ℕ) (f' : Forest K X) (h' : Option ℕ) : Type 0 where
     pub handle : h' ≡ None
     pub cleared : Becomes f h f' h' []
+    pub same_levels : SameLevels f h f' h'
     pub account : Gives (sizes_of f h) [] f f'
 
   -- q was asked of each entry of h; the entries answered true stay, with the values that the calls left

@@ -2,9 +2,9 @@
 use Rattle.bforest.specs.Calls.{Inserts, Removes, Reserves}
 use Rattle.bforest.specs.Forest.{Becomes, Forest, IsLive, Keeps, free_of, list_of, need_of, sizes_of}
 use Rattle.bforest.specs.Set.{as_put, the_value}
-use Rattle.bforest_core.specs.Sizes.{inner_gain, leaf_gain, need, need_above}
-use Rattle.bforest_core.specs.declared.pool.OutOfMemory.{OutOfMemory}
-use Rattle.bforest_nodes.specs.Entries.{IsIncreasing, cut, is_present, place, put}
+use Rattle.bforest.specs.Forest.{inner_gain, leaf_gain, need, need_above}
+use Rattle.bforest.specs.Refusal.{OutOfMemory}
+use Rattle.bforest.specs.Entries.{IsIncreasing, cut, is_present, place, put}
 use Rattle.control_flow_example.proofs.Keeping.{list_at_handle, lists-changed, lists-kept, mirrored-set, ordered-changed, ordered-kept, present-cut, present-cut_other, present-put, present-put_other, present-value}
 use Rattle.control_flow_example.specs.Graphs.{AreKept, AreOrdered, Graph, blocks, branch_of, graph_of, list_in, lists_of, with_edge, without_edge}
 use Rattle.std.proofs.Common.{Bool, Err, IsOk, List, None, Ok, OnErr, OnOk, Option, Result, Some, [], ap, arith, false, get_or, if◌then◌else◌, length, refl, replicate, slice_set, subst, suc, sym, true, zero, ◌+◌, ◌<◌, ◌∙◌, ◌≡◌, ◌≢◌, ◌≤◌, ◌∷◌, ℕ}

@@ -1,8 +1,8 @@
 -- What a call on one block's handle leaves of all blocks, and edges that stay mirrored.
 use Rattle.bforest.specs.Forest.{Becomes, Forest, IsLive, Keeps, list_of}
-use Rattle.bforest_nodes.proofs.Lookups.{value_for-put, value_for-put_other}
-use Rattle.bforest_nodes.specs.Entries.{IsIncreasing, cut, entry_for, is_present, put, value_for}
-use Rattle.control_flow_example.proofs.Cuts.{value_for-cut, value_for-cut_other}
+use Rattle.bforest.proofs.Entries.{value_for-put, value_for-put_other}
+use Rattle.bforest.specs.Entries.{IsIncreasing, cut, entry_for, is_present, put, value_for}
+use Rattle.bforest.proofs.Entries.{value_for-cut, value_for-cut_other}
 use Rattle.control_flow_example.specs.Graphs.{AreOrdered, list_in, lists_of}
 use Rattle.std.proofs.Common.{Bool, List, None, Option, Some, [], ap, arith, cond, false, get_or, inl, inr, length, refl, slice_set, subst, suc, sym, true, zero, ◌<◌, ◌==◌, ◌∙◌, ◌≡◌, ◌≢◌, ◌∷◌, ℕ}
 use Rattle.std.proofs.lemmas.Bool.Decides.{eqb_tells}

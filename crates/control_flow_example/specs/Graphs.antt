@@ -1,7 +1,7 @@
 -- What contracts see of a control flow graph, and its invariant.
 use Rattle.bforest.specs.Forest.{Forest, IsLive, list_of}
 use Rattle.bforest.specs.Set.{the_value}
-use Rattle.bforest_nodes.specs.Entries.{IsIncreasing, cut, is_present, put, value_for}
+use Rattle.bforest.specs.Entries.{IsIncreasing, cut, is_present, put, value_for}
 use Rattle.std.specs.Ordering.{nat_cmp}
 use Rattle.std.specs.Prelude.{List, None, Option, Some, [], get_or, length, map, slice_set, suc, zero, ◌≡◌, ℕ}
 

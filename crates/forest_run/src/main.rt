@@ -1,6 +1,9 @@
 //! Answers lines: calls on maps or sets of numbers in one forest, or bookings of resources.
 #![tactic(auto)]
 
+ghost use Rattle.forest_run.specs.Asked.{asked_by, kind_of, numbered_by};
+ghost use Rattle.std.specs.Prelude.{map, string_bytes, ◌≡◌};
+
 use bforest_run::{Kind, number, run_text};
 use std::io::ErrorKind;
 use std::process::ExitCode;
@@ -8,7 +11,9 @@ use std::rt::Env;
 use std::{env, io};
 
 /// The subject of the lines and the limit on nodes, as the arguments give them.
-fn asked(words: &[String]) -> Option<(Kind, u32)> {
+fn asked(words: &[String]) -> Option<(Kind, u32)>
+    ensures { result ≡ asked_by (map string_bytes words.now) }
+{
     match words {
         [] => Some((Kind::Map, u32::MAX)),
         [kind] => Some((kind_named(kind)?, u32::MAX)),
@@ -17,7 +22,9 @@ fn asked(words: &[String]) -> Option<(Kind, u32)> {
     }
 }
 
-fn kind_named(word: &str) -> Option<Kind> {
+fn kind_named(word: &str) -> Option<Kind>
+    ensures { result ≡ kind_of word.now }
+{
     match word {
         "map" => Some(Kind::Map),
         "set" => Some(Kind::Set),
@@ -26,7 +33,9 @@ fn kind_named(word: &str) -> Option<Kind> {
 }
 
 /// The subject of the lines, and the number behind it: the number of resources, or the limit on nodes.
-fn numbered(kind: &str, number: u32) -> Option<(Kind, u32)> {
+fn numbered(kind: &str, number: u32) -> Option<(Kind, u32)>
+    ensures { result ≡ numbered_by kind.now number }
+{
     match kind {
         "books" => Some((Kind::Books(number), u32::MAX)),
         _ => Some((kind_named(kind)?, number)),

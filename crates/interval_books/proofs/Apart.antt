@@ -1,7 +1,7 @@
 -- Lists of bookings that are apart: their starts increase, and they stay apart after insertions and removals.
-use Rattle.bforest_nodes.proofs.Found.{put-absent}
-use Rattle.bforest_nodes.proofs.Ordered.{place-here, place-later}
-use Rattle.bforest_nodes.specs.Entries.{IsIncreasing, cut, is_present, place, put}
+use Rattle.bforest.proofs.Entries.{put-absent}
+use Rattle.bforest.proofs.Entries.{place-here, place-later}
+use Rattle.bforest.specs.Entries.{IsIncreasing, cut, is_present, place, put}
 use Rattle.interval_books.specs.Bookings.{AreApart, first_met, meets}
 use Rattle.std.proofs.Common.{Bool, List, None, Some, [], ap, arith, cond, false, if◌then◌else◌, inl, inr, insert, refl, remove, slice_get, subst, suc, sym, true, zero, ◌&&◌, ◌<◌, ◌==◌, ◌∙◌, ◌∷◌, ◌≡◌, ◌≤◌, ℕ}
 use Rattle.std.proofs.lemmas.Bool.{cases_lt, cases_order, le-ltb, lt-ltb}

@@ -1,9 +1,9 @@
 -- What a call on the map of one resource leaves of all books.
 use Rattle.bforest.specs.Calls.{Inserts, Removes}
 use Rattle.bforest.specs.Forest.{Becomes, Forest, Gives, IsLive, Takes, list_at, list_of, room_of, sizes_of, sizes_with}
-use Rattle.bforest_core.specs.declared.pool.OutOfMemory.TheVariants.{Full, Memory}
-use Rattle.bforest_core.specs.declared.pool.OutOfMemory.{OutOfMemory}
-use Rattle.bforest_nodes.specs.Entries.{IsIncreasing, cut, put, value_for}
+use Rattle.bforest.specs.Refusal.{Full, Memory}
+use Rattle.bforest.specs.Refusal.{OutOfMemory}
+use Rattle.bforest.specs.Entries.{IsIncreasing, cut, put, value_for}
 use Rattle.interval_books.proofs.Apart.{cut-apart, increasing, put-apart}
 use Rattle.interval_books.specs.Bookings.{AreApart, first_met, holding}
 use Rattle.interval_books.specs.Books.{AreKept, Books, Cancelled, MayAnswer, Recorded, at_moment, bookings, need, objection, node_sizes}

@@ -1,6 +1,6 @@
 -- What searches in a map find among bookings that are apart.
 use Rattle.bforest.specs.Bounds.{entry_at_most}
-use Rattle.bforest_nodes.specs.Entries.{place}
+use Rattle.bforest.specs.Entries.{place}
 use Rattle.interval_books.proofs.Apart.{less, met, none-found, not_met-after, not_met-before, place-after, place-first}
 use Rattle.interval_books.specs.Bookings.{AreApart, contains, first_met, holding, meets}
 use Rattle.std.proofs.Common.{Bool, List, None, Option, Some, [], ap, arith, cond, false, if◌then◌else◌, inl, inr, not, refl, slice_get, sym, true, ◌&&◌, ◌<◌, ◌∙◌, ◌∷◌, ◌≡◌, ◌≤◌, ℕ}

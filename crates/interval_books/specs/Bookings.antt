@@ -1,6 +1,6 @@
 -- The bookings of one resource: a list of intervals, each with its start and its end, which it does not
 -- contain.
-use Rattle.bforest_nodes.specs.Entries.{cut, put, value_for}
+use Rattle.bforest.specs.Entries.{cut, put, value_for}
 use Rattle.std.specs.List.{AllByRecursion, find}
 use Rattle.std.specs.Ordering.{nat_cmp}
 use Rattle.std.specs.Prelude.{Bool, List, Option, [], nat_lt, not, ◌&&◌, ◌<◌, ◌∷◌, ◌≤◌, ℕ}

@@ -1,5 +1,5 @@
 -- Searches among bookings after an insertion, and after a removal and an insertion.
-use Rattle.bforest_nodes.specs.Entries.{cut, entry_for, is_present, place, put, value_for}
+use Rattle.bforest.specs.Entries.{cut, entry_for, is_present, place, put, value_for}
 use Rattle.interval_books.proofs.Apart.{less, met, place-after, place-first, put-insert, unmet}
 use Rattle.interval_books.specs.Bookings.{AreApart, contains, end_of, first_met, holding, meets}
 use Rattle.interval_books.specs.Books.{Books, Cancelled, MayAnswer, Recorded, at_moment, bookings, end_at, need, objection, resource_count, table}

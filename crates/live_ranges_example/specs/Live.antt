@@ -1,7 +1,7 @@
 -- The ranges that are live at points, by a list of ranges: from the point where each begins to the point
 -- where it ends.
 use Rattle.bforest.specs.Bounds.{entry_at_most}
-use Rattle.bforest_nodes.specs.Entries.{put}
+use Rattle.bforest.specs.Entries.{put}
 use Rattle.std.specs.Ordering.{nat_cmp}
 use Rattle.std.specs.Prelude.{List, None, Option, Some, if◌then◌else◌, nat_lt, ℕ}
 

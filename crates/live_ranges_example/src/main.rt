@@ -5,10 +5,11 @@
 ghost use Rattle.bforest.specs.Bounds.{entries_between};
 ghost use Rattle.bforest.specs.Calls.{Inserts};
 ghost use Rattle.bforest.specs.Forest.{IsLive, list_of};
-ghost use Rattle.bforest_nodes.specs.Entries.{IsIncreasing, put};
+ghost use Rattle.bforest.specs.Entries.{IsIncreasing, put};
 ghost use Rattle.live_ranges_example.specs.Live.{live_in, split_in};
 ghost use Rattle.std.specs.Ordering.{nat_cmp};
-ghost use Rattle.std.specs.Prelude.{List, OnErr, OnOk, [], slice_get, ◌≡◌, ℕ};
+ghost use Rattle.std.specs.List.{last_or};
+ghost use Rattle.std.specs.Prelude.{List, None, OnErr, OnOk, [], drop, slice_get, ◌≡◌, ℕ};
 ghost use Rattle.std.specs.declared.ops.Bound.TheVariants.{Excluded, Included};
 
 use bforest::{Comparator, Map, MapForest, OutOfMemory};
@@ -70,10 +71,12 @@ impl Ranges {
         }
     }
 
-    /// The first and the last range that begin in a span, without the span's end. If there is one, the first range is the first of them.
+    /// The first range that begins in a span, without the span's end, and the last of the others.
     fn begin_in(&self, from: u32, to: u32) -> (Option<Range>, Option<Range>)
         ensures first { result.0
             ≡ slice_get (entries_between nat_cmp (Included from) (Excluded to) self.now) 0 }
+        ensures last { result.1
+            ≡ last_or None (drop 1 (entries_between nat_cmp (Included from) (Excluded to) self.now)) }
     {
         let bounds = (Bound::Included(from), Bound::Excluded(to));
         let mut range = self.map.range(bounds, &self.forest, &());

@@ -4,9 +4,10 @@
 
 ghost use Rattle.bforest.specs.Bounds.{entries_between};
 ghost use Rattle.bforest.specs.Forest.{IsLive, list_of};
-ghost use Rattle.bforest_nodes.specs.Entries.{IsIncreasing, put};
+ghost use Rattle.bforest.specs.Entries.{IsIncreasing, put, value_at_place};
 ghost use Rattle.order_book_example.specs.Sides.{IsTotalOrder-order_of, order_of};
-ghost use Rattle.std.specs.Prelude.{OnErr, OnOk, [], remove, slice_get, ◌≡◌};
+ghost use Rattle.std.specs.List.{last_or};
+ghost use Rattle.std.specs.Prelude.{None, OnErr, OnOk, [], drop, remove, slice_get, ◌≡◌};
 ghost use Rattle.std.specs.declared.ops.Bound.TheVariants.{Included};
 
 use bforest::{Comparator, Map, MapForest, OutOfMemory};
@@ -51,7 +52,7 @@ struct Levels {
 
 impl Model for Levels {
     ghost use Rattle.bforest.specs.Forest.{IsLive, list_of};
-    ghost use Rattle.bforest_nodes.specs.Entries.{IsIncreasing};
+    ghost use Rattle.bforest.specs.Entries.{IsIncreasing};
     ghost use Rattle.order_book_example.specs.Sides.{order_of};
     ghost use Rattle.order_book_example.specs.declared.Side.{Side};
     ghost use Rattle.std.specs.Prelude.{List, ℕ};
@@ -91,25 +92,28 @@ impl Levels {
         self.map.iter(&self.forest).next()
     }
 
-    /// The first and the last level from one price to another. If there is one, the first level is the first of them.
+    /// The first level from one price to another, and the last of the others.
     fn within(&self, from: u32, to: u32) -> (Option<Level>, Option<Level>)
         ensures first { result.0 ≡ slice_get
             (entries_between (order_of self.now.1) (Included from) (Included to) self.now.0) 0 }
+        ensures last { result.1 ≡ last_or None (drop 1
+            (entries_between (order_of self.now.1) (Included from) (Included to) self.now.0)) }
     {
         let bounds = (Bound::Included(from), Bound::Included(to));
         let mut levels = self.map.range(bounds, &self.forest, &self.side);
         (levels.next(), levels.next_back())
     }
 
-    /// Removes the best level: then the second is the best, and all others stay.
+    /// Removes the best level, and returns its amount: then the second is the best, and all others stay.
     fn take_best(&mut self) -> Option<u32>
-        ensures { self.new ≡ (remove self.old.0 0, self.old.1) }
+        ensures amount { result ≡ value_at_place self.old.0 0 }
+        ensures rest { self.new ≡ (remove self.old.0 0, self.old.1) }
     {
         remove_first(&mut self.map, &mut self.forest, &self.side)
     }
 }
 
-// Removes the first entry of a map by a cursor, which compares nothing.
+// Removes the first entry of a map by a cursor, which compares nothing, and returns its value.
 fn remove_first<C: Comparator<u32>>(
     map: &mut Map<u32, u32>,
     forest: &mut MapForest<u32, u32>,
@@ -117,6 +121,7 @@ fn remove_first<C: Comparator<u32>>(
 ) -> Option<u32>
     requires live { IsLive forest.old map.old }
     requires increasing { IsIncreasing (C.order comp.now) (list_of forest.old map.old) }
+    ensures value { result ≡ value_at_place (list_of forest.old map.old) 0 }
     ensures live { IsLive forest.new map.new }
     ensures increasing { IsIncreasing (C.order comp.now) (list_of forest.new map.new) }
     ensures rest { list_of forest.new map.new ≡ remove (list_of forest.old map.old) 0 }

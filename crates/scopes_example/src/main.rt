@@ -2,7 +2,7 @@
 #![tactic(auto)]
 
 ghost use Rattle.bforest.specs.Forest.{IsLive, list_of};
-ghost use Rattle.bforest_nodes.specs.Entries.{IsIncreasing, value_for};
+ghost use Rattle.bforest.specs.Entries.{IsIncreasing, value_for};
 ghost use Rattle.scopes_example.specs.Scopes.{hides};
 ghost use Rattle.std.specs.Ordering.{nat_cmp};
 ghost use Rattle.std.specs.Prelude.{IsTrue, None, Option, ◌≡◌, ◌≢◌, ℕ};

@@ -3,7 +3,7 @@ ghost use Rattle.bforest.specs.Calls.{Inserts};
 ghost use Rattle.bforest.specs.Cursor.{IsCursor, Moves, entries, spot};
 ghost use Rattle.bforest.specs.Forest.{IsLive, list_of};
 ghost use Rattle.bforest.specs.Memory.{IsReadable};
-ghost use Rattle.bforest_nodes.specs.Entries.{IsIncreasing};
+ghost use Rattle.bforest.specs.Entries.{IsIncreasing};
 ghost use Rattle.std.specs.Prelude.{IsSome, Option, slice_get, ℕ, ◌+◌, ◌≡◌, ◌≢◌};
 
 use bforest::{Comparator, Map, MapCursor, MapCursorMut, MapForest, OutOfMemory};

@@ -31,7 +31,7 @@ returns-in_err-answer_line-clause-outcome g c =
     let left : lines_left c.lines.lines.rest ≡ c.in-Some.line.now ∷ lines_left c.next.new.self.rest = c.in-Some.ensures.steps in
     let now = subst (λ ls. Turned g.E.Engine.tells g.E.Engine.is_bad c.args.engine.now c.args.bytes.now (g.W.Write.contents c.args.output.now) c.lines.number ls c.lines.engine (g.W.Write.contents c.lines.output)) left c.lines.invariant in
     subst (λ r. Outcome g.E.Engine.tells g.E.Engine.is_bad c.args.engine.now c.args.bytes.now (g.W.Write.contents c.args.output.now) (g.W.Write.contents c.answer_line.new.output) (status_of r)) (sym (err_at g c))
-    (turned-stopped g.E.Engine.tells g.E.Engine.is_bad _ _ _ c.lines.number c.in-Some.line.now _ _ _ now c.saturating_add-number.result (saturated _ _ c.saturating_add-number.ensures (numbered g.E.Engine.tells g.E.Engine.is_bad _ _ _ _ _ _ _ _ now (omega (arith, c.well_formed.1.1.0.1)))) _ c.in_err-answer_line.field-0.0 (λ e. c.in_err-answer_line.ensures.bad (ap Err e)) (λ e. c.in_err-answer_line.ensures.memory (ap Err e)))
+    (turned-stopped g.E.Engine.tells g.E.Engine.is_bad _ _ _ c.lines.number c.in-Some.line.now _ _ _ now c.saturating_add-number.result (saturated _ _ c.saturating_add-number.ensures (numbered g.E.Engine.tells g.E.Engine.is_bad _ _ _ _ _ _ _ _ now (omega (arith, c.well_formed.1.1.0.1)))) _ c.in_err-answer_line.field-0.0 (λ e. c.in_err-answer_line.ensures.bad (ap Err e)) (λ e. c.in_err-answer_line.ensures.memory (ap Err e)) (λ e. c.in_err-answer_line.ensures.failed (ap Err e)))
 
 pub returns-in_err-answer_line-clause-grows : goal.returns-in_err-answer_line-clause-grows
 returns-in_err-answer_line-clause-grows g c =

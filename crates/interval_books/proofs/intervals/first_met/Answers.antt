@@ -1,5 +1,5 @@
 use Rattle.bforest.specs.Forest.{list_of}
-use Rattle.bforest_nodes.specs.Entries.{place}
+use Rattle.bforest.specs.Entries.{place}
 use Rattle.interval_books.proofs.Apart.{increasing}
 use Rattle.interval_books.proofs.Searches.{first-held, first-next}
 use Rattle.interval_books.proofs.intervals.first_met.Goals as goal

@@ -11,7 +11,7 @@ loop-step-init g c =
     let made = c.cursor_mut-cursor.ensures in
     let cursor = c.cursor_mut-cursor.result in
     record {
-      steps = script_none 7 (g.C.Comparator.order c.args.comp.now) (record { forest = c.args.forest.now; number = c.args.handle.now }) (length (list_of c.args.forest.now c.args.handle.now)) _
+      steps = script_none 7 refl (g.C.Comparator.order c.args.comp.now) (record { forest = c.args.forest.now; number = c.args.handle.now }) (length (list_of c.args.forest.now c.args.handle.now)) _
           (record { forest = forest_now cursor; number = map_now cursor }) (spot cursor) c.in_ok-sights.ensures.items made.forest made.map made.spot;
       valid = made.valid;
       ready = made.ready;
@@ -27,7 +27,7 @@ loop-step-preserved g c =
     let l = c.loop-step in
     let a = c.act-sight in
     record {
-      steps = script_next 7 (g.C.Comparator.order c.args.comp.now) (record { forest = c.args.forest.now; number = c.args.handle.now }) (length (list_of c.args.forest.now c.args.handle.now))
+      steps = script_next 7 refl (g.C.Comparator.order c.args.comp.now) (record { forest = c.args.forest.now; number = c.args.handle.now }) (length (list_of c.args.forest.now c.args.handle.now))
           c.args.steps.now l.step-index l.sights.items (record { forest = forest_now l.cursor; number = map_now l.cursor }) (spot l.cursor)
           (g.C.Comparator.order (comparator l.cursor)) c.step-item.result a.result
           (record { forest = forest_now a.new.cursor; number = map_now a.new.cursor }) (spot a.new.cursor) c.push.new.self.items
@@ -48,7 +48,7 @@ returns-clause-script g c =
     let forest = c.forest-1.given.1 (sym (l.invariant.forest_loan ∙ made.forest_loan)) in
     let map = c.handle-1.given.1 (sym (l.invariant.map_loan ∙ made.map_loan)) in (
       spot l.cursor,
-      script_whole 7 (g.C.Comparator.order c.args.comp.now) (record { forest = c.args.forest.now; number = c.args.handle.now }) (length (list_of c.args.forest.now c.args.handle.now))
+      script_whole 7 refl (g.C.Comparator.order c.args.comp.now) (record { forest = c.args.forest.now; number = c.args.handle.now }) (length (list_of c.args.forest.now c.args.handle.now))
           c.args.steps.now l.step-index l.sights.items (record { forest = forest_now l.cursor; number = map_now l.cursor }) (spot l.cursor) _
           l.invariant.steps c.loop-step-test.false forest map,
     )

@@ -2,9 +2,9 @@ use Rattle.bforest_trees.proofs.Changed.{seen-as}
 use Rattle.bforest_trees.proofs.Cutting.{becomes-ended, gives}
 use Rattle.bforest_trees.proofs.trees.Trees.free_tree.Goals as goal
 use Rattle.bforest_trees.specs.Forest.{Gives}
-use Rattle.bforest_core.specs.Levels.{sizes_of as tree_sizes}
+use Rattle.bforest_core.specs.Levels.{sizes, sizes_of as tree_sizes}
 use Rattle.bforest_core.specs.Trees.{tree_of}
-use Rattle.std.proofs.Common.{List, Some, [], refl, rules, subst, sym, ◌∙◌, ◌≡◌, ℕ}
+use Rattle.std.proofs.Common.{List, Some, [], ap, length, map, refl, rules, subst, suc, sym, ◌∙◌, ◌≡◌, ℕ}
 
 pub free_tree-requires : goal.free_tree-requires
 free_tree-requires g c =
@@ -21,5 +21,6 @@ returns-in-Some g c =
     rw (handle, c.take.ensures.after, ← c.self.view_is) (record {
       handle = refl;
       cleared = becomes-ended g.row.N p new n c.free_tree.ensures.ended;
+      same_levels = (λ same. absurd (cc), λ e. absurd (let some : 0 ≡ suc (length (map sizes (tree_of p.nodes n).above)) = e ∙ sym (ap length s.sizes) in cc));
       account = subst (λ (z : List (List ℕ)). Gives z [] p new) s.sizes (gives p new (tree_sizes (tree_of p.nodes n)) [] c.free_tree.ensures.account);
     })

@@ -1,6 +1,6 @@
 -- Lookups after a removal, from the front of a list.
 use Rattle.bforest_nodes.proofs.Ordered.{IsIncreasing-cut, above, place-here, place-later}
-use Rattle.bforest_nodes.specs.Entries.{IsIncreasing, cut, is_present, place, value_for}
+use Rattle.bforest_nodes.specs.Entries.{IsIncreasing, cut, entry_for, is_present, place, value_for}
 use Rattle.std.proofs.Common.{Bool, List, None, Option, Some, [], ap, false, if◌then◌else◌, refl, remove, slice_get, subst, sym, true, ◌∙◌, ◌∷◌, ◌≡◌}
 use Rattle.std.specs.Cmp.{IsTotalOrder}
 use Rattle.std.specs.List.Sorted.{IsStrictlySortedBy}
@@ -71,6 +71,14 @@ module _ {K X : Type 0} (cmp : K → K → Ordering) (o : IsTotalOrder cmp) wher
       go further Less t = ap (λ l. value_for cmp l k) (cut-less e es k t) ∙ value-less e (cut cmp es k) k t ∙ further
       go further Equal t = ap (λ l. value_for cmp l k) (cut-here e es k h Equal t refl) ∙ value-before es k h.1 (like-first cmp o e.0 k (keys_of es) t h.0)
       go further Greater t = ap (λ l. value_for cmp l k) (cut-here e es k h Greater t refl) ∙ value-here e es k h Greater t refl
+
+  -- a removed key is absent
+  pub is_present-cut : (es : List (K × X)) (k : K) → IsIncreasing cmp es → is_present cmp (cut cmp es k) k ≡ false
+  is_present-cut es k h = go (entry_for cmp (cut cmp es k) k) (value_for-cut es k h)
+    where
+      go : (o : Option (K × X)) → option_map (λ e. e.1) o ≡ None → is_some o ≡ false
+      go None e = refl
+      go (Some x) e = absurd (cc)
 
   module _ (k q : K) (apart : is_eq (cmp k q) ≡ false) where
     -- every key that compares unequal to a removed key keeps its value

@@ -1,0 +1,3 @@
+-- Why a call that takes nodes was refused.
+pub use Rattle.bforest_core.specs.declared.pool.OutOfMemory.{OutOfMemory}
+pub use Rattle.bforest_core.specs.declared.pool.OutOfMemory.TheVariants.{Full, Memory}

@@ -1,0 +1,72 @@
+//! What a caller can prove of sets from their contracts alone.
+ghost use Rattle.bforest.specs.Entries.{IsIncreasing, is_present};
+ghost use Rattle.bforest.specs.Forest.{IsLive, limit_of, list_of, need_of};
+ghost use Rattle.std.specs.Prelude.{IfOk, IsOk, None, false, true, ◌≡◌, ◌≤◌};
+
+use bforest::{Comparator, OutOfMemory, Set, SetForest};
+use std::default::Default;
+
+/// Inserts a key and looks for it: it is there.
+pub fn insert_and_test<K: Copy, C: Comparator<K>>(
+    set: &mut Set<K>,
+    key: K,
+    forest: &mut SetForest<K>,
+    comp: &C,
+) -> Result<bool, OutOfMemory>
+    requires live { IsLive forest.old set.old }
+    requires increasing { IsIncreasing (C.order comp.now) (list_of forest.old set.old) }
+    ensures { IfOk result (λ found. found ≡ true) }
+{
+    set.insert(key, forest, comp)?;
+    Ok(set.contains(key, forest, comp))
+}
+
+/// Removes a key, and answers whether it was there. Then it is absent.
+pub fn remove_and_test<K: Copy, C: Comparator<K>>(
+    set: &mut Set<K>,
+    key: K,
+    forest: &mut SetForest<K>,
+    comp: &C,
+) -> (bool, bool)
+    requires live { IsLive forest.old set.old }
+    requires increasing { IsIncreasing (C.order comp.now) (list_of forest.old set.old) }
+    ensures was { result.0 ≡ is_present (C.order comp.now) (list_of forest.old set.old) key }
+    ensures absent { result.1 ≡ false }
+{
+    let was = set.remove(key, forest, comp);
+    (was, set.contains(key, forest, comp))
+}
+
+/// Reserves nodes and inserts a key that needs no more: where the nodes could be had, the insertion can't be refused.
+pub fn insert_reserved<K: Copy, C: Comparator<K>>(
+    set: &mut Set<K>,
+    key: K,
+    nodes: u32,
+    forest: &mut SetForest<K>,
+    comp: &C,
+) -> Result<Result<bool, OutOfMemory>, OutOfMemory>
+    requires live { IsLive forest.old set.old }
+    requires increasing { IsIncreasing (C.order comp.now) (list_of forest.old set.old) }
+    requires enough { need_of 15 (C.order comp.now) forest.old set.old key ≤ nodes }
+    ensures { IfOk result (λ put. IsOk put) }
+{
+    forest.reserve_nodes(nodes)?;
+    Ok(set.insert(key, forest, comp))
+}
+
+/// Makes an empty set, and asks whether it is empty.
+pub fn make_empty<K: Copy>() -> (Set<K>, bool)
+    ensures set { result.0 ≡ None }
+    ensures empty { result.1 ≡ true }
+{
+    let set = Set::default();
+    let is_empty = set.is_empty();
+    (set, is_empty)
+}
+
+/// Whether as many nodes may be had as a limit says.
+pub fn has_limit<K: Copy>(forest: &SetForest<K>, limit: u32) -> bool
+    ensures { result ≡ true → limit_of forest.now ≡ limit }
+{
+    forest.node_limit() == limit
+}
