@@ -30,7 +30,7 @@ DOCUMENTS = {"CHOOSING": "choosing", "TUTORIAL": "tutorial", "CALLS": "calls", "
 # Functions that the package does not call.
 UNUSED = {
     "forest_run/main.rt": ["arguments", "main"],
-    "bforest_nodes/node.rt": ["take", "unwrap_leaf_mut"],
+    "bforest_nodes/node.rt": ["unwrap_leaf_mut"],
     "bforest_nodes/entries.rt": ["parts_mut"],
     "bforest_nodes/row.rt": ["front_mut"],
     "bforest_nodes/lent.rt": ["front_mut"],

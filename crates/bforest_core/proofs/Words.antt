@@ -1,9 +1,9 @@
 -- Re-exports the definitions of the specs that proofs cite. Declares nothing.
 pub use Rattle.bforest_core.specs.Chain.{IsChain, IsPool, chain_from, next_of}
-pub use Rattle.bforest_core.specs.Change.{AtUnder, Changes, Ends, GivesInOrder, GivesNodes, KeepsTrees, PlacedUnder, Plants, StandsUnder, TakesNodes}
-pub use Rattle.bforest_core.specs.Change.{node_count}
+pub use Rattle.bforest_core.specs.Change.{AtUnder, Changes, Ends, EntryTaken, GivesInOrder, GivesNodes, KeepsTrees, LeafTaken, PlacedUnder, Plants, Shrinks}
+pub use Rattle.bforest_core.specs.Change.{StandsUnder, TakesNodes, node_count}
 pub use Rattle.bforest_core.specs.Climb.{Above, Grown, Halved, Inserted, LeafHalved, NextIs, Placed, SameBelow, nodes_up, top_of}
-pub use Rattle.bforest_core.specs.Leaves.{EndsIn, PutsInLeaf}
+pub use Rattle.bforest_core.specs.Leaves.{EndsIn, PutsInLeaf, TakesFromLeaf}
 pub use Rattle.bforest_core.specs.Descent.{Descended, Reached, GoesThrough, IsFrom, IsRooted, IsUpTo, Led, LedLast, SameAbove, StackedTo, StandsTo}
 pub use Rattle.bforest_core.specs.Descent.{Under, child_index}
 pub use Rattle.bforest_core.specs.Levels.{FitRow, IsFit, LevelNode, Solid, Stacked, Topped, Tree, flat, half_of, head_of, heads, least, node, numbers}
@@ -11,7 +11,7 @@ pub use Rattle.bforest_core.specs.Levels.{sizes, sizes_of}
 pub use Rattle.bforest_core.specs.Paths.{OnLeaf, PointsTo, StandsAt, StandsOn, index_of, leaf_of, list_under, path_root, place_in, spot}
 pub use Rattle.bforest_core.specs.Place.{Distinct, IsAt, IsIn, IsPathAt, PointsAt, RowIn, RowsIn, Stands, StandsAbove, count, entry_before}
 pub use Rattle.bforest_core.specs.Place.{entry_items, entry_keys, first_number, inner_content, leaf_content, numbers_of, root_above, root_of}
-pub use Rattle.bforest_core.specs.Removal.{Dropped, Emptied, Frees, GivesAll, Healed, Joined, LeafLoss, Loosened, OnLevel, Rebuilt, Removed, StandsIn}
+pub use Rattle.bforest_core.specs.Removal.{Dropped, Emptied, Frees, GivesAll, HasOthers, Healed, IsSingle, Joined, LeafLoss, Loosened, OnLevel, Rebuilt, Removed, StandsIn}
 pub use Rattle.bforest_core.specs.Removal.{Trimmed, UpTo, numbers_under}
 pub use Rattle.bforest_core.specs.Sizes.{gain_above, growth, inner_gain, leaf_gain, loss, loss_above, need, need_above, past, rebalanced, shrink}
 pub use Rattle.bforest_core.specs.Sizes.{trimmed}

@@ -16,3 +16,5 @@ pub mod Rebalancing
 pub mod Separating
 pub mod RemovingMerged
 pub mod RemovingEmptied
+pub mod Healing
+pub mod LeafTake

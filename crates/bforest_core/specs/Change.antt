@@ -1,11 +1,12 @@
 -- What a call that changes one tree of a table states of it and of the others.
-use Rattle.std.specs.Prelude.{◌≡◌, ◌≢◌, ℕ, ◌+◌, ◌-◌, ◌++◌, ◌∷◌, [], IsTrue, List, drop, length}
+use Rattle.std.specs.Prelude.{◌≡◌, ◌≢◌, ℕ, ◌+◌, ◌-◌, ◌<◌, ◌↔◌, ◌++◌, ◌∷◌, [], IfSome, IsTrue, List, None, Option, Some, drop, get_or, length, remove, slice_get}
 use Rattle.std.specs.List.{sum_by}
-use Rattle.bforest_core.specs.Table.{Table, slot_count, free_count, reserved}
-use Rattle.bforest_nodes.specs.Content.{Content}
+use Rattle.bforest_core.specs.Sizes.{shrink}
+use Rattle.bforest_core.specs.Table.{Table, slot_count, free_count, reserved, with_node}
+use Rattle.bforest_nodes.specs.Content.{Content, without_entry}
 use Rattle.bforest_core.specs.Climb.{nodes_up}
 use Rattle.bforest_core.specs.Levels.{flat, sizes_of}
-use Rattle.bforest_core.specs.Place.{IsPathAt, PlacedAt, PointsAt, Stands}
+use Rattle.bforest_core.specs.Place.{IsPathAt, PlacedAt, PointsAt, Stands, count, leaf_content}
 use Rattle.bforest_core.specs.Trees.{tree_of, is_root, IsUnion, OthersKeep}
 
 -- how many nodes a tree of these sizes has
@@ -85,3 +86,27 @@ module _ {K V : Type 0} where
   pub record PointsUnder (slots : List (Content K V)) (root : ℕ) (path indices : List ℕ) (size place : ℕ) : Type 0 where
     pub root_is : IsTrue (is_root slots root)
     pub points : PointsAt path indices size (tree_of slots root) place
+
+  -- the path's leaf lost the entry at the path's index; the rest of the table is unchanged
+  pub record LeafTaken (old new : Table K V) (path indices : List ℕ) : Type 0 where
+    pub entries : List (K × V)
+    pub slot_was : slice_get old.nodes (get_or path 0 0) ≡ Some (leaf_content entries)
+    pub new_is : new ≡ with_node old (get_or path 0 0) (without_entry (leaf_content entries) (get_or indices 0 0))
+
+  -- the path stood on the entry at this place of the list under this root, and its leaf lost that entry
+  pub record EntryTaken (most : ℕ) (old new : Table K V) (root place : ℕ) (path indices : List ℕ) (size : ℕ) : Type 0 where
+    pub union : IsUnion most old
+    pub stood : StandsUnder old.nodes root path indices size place
+    pub leaf : LeafTaken old new path indices
+
+  -- the tree under `root` lost the entry at this place and has the root `left`, or is empty; the nodes of this
+  -- path that it freed are in front of the chain
+  pub record Shrinks (most : ℕ) (old new : Table K V) (path : List ℕ) (root place : ℕ) (left : Option ℕ) : Type 0 where
+    pub changes : IfSome left (λ root'. Changes most old new root root' (remove (flat (tree_of old.nodes root).leaves) place) (shrink most place (sizes_of (tree_of old.nodes root))))
+    pub account : GivesNodes (sizes_of (tree_of old.nodes root)) (shrink most place (sizes_of (tree_of old.nodes root))) old new
+    pub order : GivesInOrder path (sizes_of (tree_of old.nodes root)) (shrink most place (sizes_of (tree_of old.nodes root))) old new
+    pub same_root : IfSome left (λ root'. (root' ≡ root) ↔ (length (shrink most place (sizes_of (tree_of old.nodes root))) ≡ length (sizes_of (tree_of old.nodes root))))
+    pub last : (left ≡ None) ↔ (length (flat (tree_of old.nodes root).leaves) ≡ 1)
+    pub ended : left ≡ None → Ends most old new root
+    pub none_left : left ≡ None → shrink most place (sizes_of (tree_of old.nodes root)) ≡ []
+    pub freed_root : left ≢ Some root → 0 < count root new.chain

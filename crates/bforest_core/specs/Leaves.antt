@@ -1,8 +1,9 @@
--- The leaf of a tree in which a search for a key ends, and what putting a value in there answers and leaves.
-use Rattle.std.specs.Prelude.{◌≡◌, ℕ, ◌<◌, IsTrue, true, false, List, length, get_or, insert, slice_get, slice_set, Option, Some, None, Result, Ok, Err, IfOk}
+-- The leaf of a tree in which a search for a key ends, and what putting a value in there, and removing the
+-- key, answers and leaves.
+use Rattle.std.specs.Prelude.{◌≡◌, ℕ, ◌<◌, IsTrue, true, false, List, length, get_or, insert, slice_get, slice_set, Option, Some, None, Result, Ok, Err, IfOk, IfSome, option_map}
 use Rattle.std.specs.declared.cmp.Ordering.{Ordering}
 use Rattle.bforest_nodes.specs.Entries.{IsIncreasing, is_present, place, value_for, with_value}
-use Rattle.bforest_core.specs.Change.{Changes, PlacedUnder, StandsUnder, TakesNodes}
+use Rattle.bforest_core.specs.Change.{Changes, EntryTaken, PlacedUnder, StandsUnder, TakesNodes}
 use Rattle.bforest_core.specs.Levels.{flat, most_levels, sizes_of}
 use Rattle.bforest_core.specs.Place.{leaf_content}
 use Rattle.bforest_core.specs.Sizes.{growth, need}
@@ -47,3 +48,9 @@ module _ {K V : Type 0} (cmp : K → K → Ordering) (table : Table K V) (root :
     pub full : (index : ℕ) → result ≡ Err index → value_for cmp list key ≡ None
     pub placed : (index : ℕ) → result ≡ Err index → PlacedUnder table.nodes root path (slice_set indices 0 index) size (place cmp list key)
     pub refused : (index : ℕ) → result ≡ Err index → new ≡ table
+
+  -- the key was removed from the leaf of such a path; its index there and its value are answered
+  pub record TakesFromLeaf (most : ℕ) (path indices : List ℕ) (size : ℕ) (result : Option (ℕ × V)) (new : Table K V) : Type 0 where
+    pub value : option_map (λ e. e.1) result ≡ value_for cmp list key
+    pub taken : IfSome result (λ e. EntryTaken most table new root (place cmp list key) path (slice_set indices 0 e.0) size)
+    pub absent : result ≡ None → new ≡ table

@@ -1,6 +1,6 @@
 -- Where a path stands in a pool, in the terms of its public calls; contracts read a path only through these.
 use Rattle.std.specs.Prelude.{◌≡◌, ℕ, List, Some, drop, length, get_or, slice_get, if◌then◌else◌, ◌==◌, ◌+◌, ◌++◌, ◌∷◌, [], nat_eq, ◌<◌}
-use Rattle.bforest_core.specs.Change.{AtUnder, PlacedUnder, PointsUnder, StandsUnder}
+use Rattle.bforest_core.specs.Change.{AtUnder, EntryTaken, PlacedUnder, PointsUnder, StandsUnder}
 use Rattle.bforest_core.specs.Climb.{top_of}
 use Rattle.bforest_core.specs.Levels.{LevelNode, flat, node, sizes_of}
 use Rattle.bforest_core.specs.Place.{leaf_content}
@@ -54,6 +54,10 @@ module _ {K V : Type 0} where
   -- the path is on the entry at this place, or past the last entry of the leaf before this place
   abbrev pub PointsTo : {n : ℕ} → Table K V → ℕ → Path K V n → ℕ → Type 0
   PointsTo table root path place = PointsUnder table.nodes root path.node path.entry path.size place
+
+  -- the path stood on the entry at this place of the list under a root, and its leaf lost that entry
+  abbrev pub LeafLost : {n : ℕ} → Table K V → Table K V → ℕ → ℕ → Path K V n → Type 0
+  LeafLost {n} old new root place path = EntryTaken n old new root place path.node path.entry path.size
 
   -- the root and the place of the entry on which a path stands
   pub record OnEntry {n : ℕ} (table : Table K V) (path : Path K V n) : Type 0 where

@@ -1,8 +1,8 @@
 -- What the calls of a path state of the rows above a level, and of a whole tree, when an entry is removed.
 use Rattle.std.specs.Prelude.{Some, remove, ◌≡◌, ◌≢◌, ℕ, suc, ◌+◌, ◌-◌, ◌≤◌, ◌<◌, true, false, List, [], ◌∷◌, ◌++◌, map, length, get_or, slice_get}
 use Rattle.std.specs.List.{flat_map}
-use Rattle.bforest_nodes.specs.Content.{Content, IsFree}
-use Rattle.bforest_core.specs.Table.{Table}
+use Rattle.bforest_nodes.specs.Content.{Content, IsFree, without_entry}
+use Rattle.bforest_core.specs.Table.{Table, with_freed, with_node}
 use Rattle.bforest_core.specs.Levels.{LevelNode, node, flat, heads, sizes, numbers, FitRow, Solid, Stacked, Topped, least, Tree, IsFit, half_of, sizes_of, top_level}
 use Rattle.bforest_core.specs.Sizes.{rebalanced, shrink}
 use Rattle.bforest_core.specs.Place.{RowIn, RowsIn, IsIn, leaf_content, inner_content, count, Distinct, root_above, root_of, numbers_of, Stands}
@@ -169,6 +169,20 @@ module _ {K V : Type 0} where
     pub apart : Distinct (numbers_of tree ++ table.chain)
     pub low : length tree.above ≤ top_level
     pub stands : Stands path indices size tree place
+
+  -- a leaf had one entry, which may be removed already; freed, both tables are the same
+  pub record IsSingle (old new : Table K V) (leaf : ℕ) : Type 0 where
+    pub entry : K × V
+    pub slot_was : slice_get old.nodes leaf ≡ Some (leaf_content (entry ∷ []))
+    pub freed_is : with_freed new leaf ≡ with_freed old leaf
+
+  -- the path's leaf lost the entry at the path's index, and has others; the rest of the table is unchanged
+  pub record HasOthers (old new : Table K V) (path indices : List ℕ) : Type 0 where
+    pub x : K × V
+    pub y : K × V
+    pub more : List (K × V)
+    pub slot_was : slice_get old.nodes (get_or path 0 0) ≡ Some (leaf_content (x ∷ y ∷ more))
+    pub new_is : new ≡ with_node old (get_or path 0 0) (without_entry (leaf_content (x ∷ y ∷ more)) (get_or indices 0 0))
 
   -- the entry at the place is removed from the path's leaf, which has others: the path keeps its index, at
   -- the next entry or past the leaf's last

@@ -1,7 +1,7 @@
 //! Reading and writing one node of a pool, by its number.
-ghost use Rattle.std.specs.Prelude.{◌≡◌, ℕ, ◌-◌, ◌<◌, ◌≤◌, ◌↔◌, IsTrue, List, length, slice_get, Some, Err, if◌then◌else◌};
+ghost use Rattle.std.specs.Prelude.{◌≡◌, ℕ, ◌-◌, ◌<◌, ◌≤◌, ◌↔◌, IsTrue, IfSome, List, length, slice_get, Some, Err, if◌then◌else◌};
 ghost use Rattle.std.specs.List.Sorted.{IsStrictlySortedBy};
-ghost use Rattle.bforest_nodes.specs.Content.{Content, Inner, IsLeafCapacity, IsFree, with_child, Leaf, with_entry, with_key, without_child, without_entry, removed_answer, entry_count, put_answer, with_put};
+ghost use Rattle.bforest_nodes.specs.Content.{Content, Inner, IsLeafCapacity, IsFree, with_child, Leaf, with_entry, with_key, without_child, without_entry, removed_answer, entry_count, put_answer, take_answer, with_put, with_taken};
 ghost use Rattle.bforest_nodes.specs.Search.{search_of};
 ghost use Rattle.bforest_core.specs.Descent.{child_index};
 ghost use Rattle.bforest_nodes.specs.Entries.{IsIncreasing, place, value_for};
@@ -124,6 +124,27 @@ pub(crate) fn put<K: Copy, V: Copy, const N: usize, C: Comparator<K>>(
     ensures most { (index : ℕ) → result ≡ Err index → index ≤ 255 }
 {
     pool.node_mut(node).put(key, value, comp)
+}
+
+// Removes a key from a leaf, and returns its place and its value, or `None` if it is absent.
+pub(crate) fn take<K: Copy, V: Copy, const N: usize, C: Comparator<K>>(
+    pool: &mut NodePool<K, V, N>,
+    node: Node,
+    key: K,
+    comp: &C,
+) -> Option<(usize, V)>
+    requires used { IsUsed pool.old node }
+    requires leaf { (entries : List (K × V)) × (slice_get pool.old.nodes node ≡ Some (leaf_content entries))
+        × IsIncreasing (C.order comp.now) entries }
+    ensures answer { (entries : List (K × V)) → slice_get pool.old.nodes node ≡ Some (leaf_content entries)
+        → result
+        ≡ take_answer (leaf_content entries) (search_of (C.order comp.now) (entry_keys entries) key) }
+    ensures node { (entries : List (K × V)) → slice_get pool.old.nodes node ≡ Some (leaf_content entries)
+        → pool.new ≡ with_node pool.old node (with_taken (leaf_content entries)
+        (search_of (C.order comp.now) (entry_keys entries) key)) }
+    ensures most { IfSome result (λ e. e.0 ≤ 255) }
+{
+    pool.node_mut(node).take(key, comp)
 }
 
 // The number of children or entries.

@@ -1,9 +1,11 @@
-//! One leaf of a tree: a value is put in at a key with one search, and without a path.
-ghost use Rattle.std.specs.Prelude.{◌≡◌, ℕ, ◌≤◌, List, Err};
-ghost use Rattle.bforest_core.specs.Leaves.{EndsIn, PutsInLeaf};
+//! One leaf of a tree: a value is put in at a key, or a key is removed, with one search and without a path.
+ghost use Rattle.std.specs.Prelude.{◌≡◌, ℕ, ◌≤◌, IfSome, List, Err};
+ghost use Rattle.bforest_core.specs.Change.{EntryTaken, Shrinks};
+ghost use Rattle.bforest_core.specs.Leaves.{EndsIn, PutsInLeaf, TakesFromLeaf};
+ghost use Rattle.bforest_core.specs.Table.{Table};
 ghost use Rattle.bforest_core.specs.Trees.{IsUnion};
 
-use crate::access::put;
+use crate::access::{entries, put, take};
 use crate::pool::NodePool;
 use bforest_nodes::{Comparator, Node};
 
@@ -29,5 +31,41 @@ impl<K: Copy, V: Copy, const N: usize> NodePool<K, V, N> {
         ensures most { (index : ℕ) → result ≡ Err index → index ≤ 255 }
     {
         put(self, leaf, key, value, comp)
+    }
+
+    /// Removes a key from the leaf in which a search for it ends, and returns its place there and its value, or `None` if it is absent.
+    /// Nothing else changes: the leaf may be left with too few entries, or with none, and the rows above may keep its old first key. A call
+    /// of `Path::heal` restores the tree, or of `heal_alone` where the leaf is the whole tree.
+    pub fn take_from_leaf<C: Comparator<K>>(
+        &mut self,
+        leaf: Node,
+        key: K,
+        comp: &C,
+    ) -> Option<(usize, V)>
+        requires union { IsUnion N self.old }
+        requires leaf { (root : ℕ) × (path indices : List ℕ) × (size : ℕ)
+            × EndsIn (C.order comp.now) self.old root key leaf path indices size }
+        ensures taken { (root : ℕ) (path indices : List ℕ) (size : ℕ)
+            → EndsIn (C.order comp.now) self.old root key leaf path indices size
+            → TakesFromLeaf (C.order comp.now) self.old root key N path indices size result self.new }
+        ensures most { IfSome result (λ e. e.0 ≤ 255) }
+    {
+        take(self, leaf, key, comp)
+    }
+
+    /// Restores a tree of one leaf after the leaf lost an entry: if it has no other, its node is freed. Returns the root, or `None` if the
+    /// tree is empty.
+    pub fn heal_alone(&mut self, root: Node) -> Option<Node>
+        requires taken { (old : Table K V) × (place : ℕ) × (path indices : List ℕ)
+            × EntryTaken N old self.old root place path indices 1 }
+        ensures healed { (old : Table K V) (place : ℕ) (path indices : List ℕ)
+            → EntryTaken N old self.old root place path indices 1
+            → Shrinks N old self.new path root place result }
+    {
+        if entries(self, root) > 0 {
+            return Some(root);
+        }
+        self.free_node(root);
+        None
     }
 }

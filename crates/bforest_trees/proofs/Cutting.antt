@@ -1,12 +1,14 @@
 -- What a removal leaves, where its key is present and where it is absent, and what the end of a tree leaves.
-use Rattle.bforest_trees.proofs.Changed.{becomes, list-none, list-root, same_list, same_sizes, seen-as, sizes-new, sizes-none, sizes-root}
+use Rattle.bforest_trees.proofs.Changed.{becomes, list-none, list-root, live-root, same_list, same_sizes, sizes-new, sizes-none, sizes-root}
 use Rattle.bforest_trees.proofs.Spots.{spot-on}
 use Rattle.bforest_trees.specs.Place.{IsSpot, OnSpot}
+use Rattle.bforest_core.proofs.removal.Removal.{place_low}
 use Rattle.bforest_core.proofs.walks.Standing.{on-within}
-use Rattle.bforest_core.specs.Paths.{IsAtEnd, OnEntry, StandsAt, StandsOn, list_under, sizes_under}
+use Rattle.bforest_core.specs.Paths.{IsAtEnd, OnEntry, StandsAt, list_under, sizes_under}
 use Rattle.bforest_core.specs.declared.path.Path.{Path}
 use Rattle.bforest_trees.specs.Forest.{Becomes, Forest, Gives, IsLive, list_at, list_of, sizes_at, sizes_of as forest_sizes, sizes_without}
-use Rattle.bforest_core.specs.Change.{Changes, Ends, GivesNodes}
+use Rattle.bforest_core.specs.Change.{Changes, EntryTaken, Ends, GivesNodes, Shrinks}
+use Rattle.bforest_core.specs.Leaves.{TakesFromLeaf}
 use Rattle.bforest_core.specs.Levels.{flat, sizes_of}
 use Rattle.bforest_core.specs.Sizes.{shrink}
 use Rattle.bforest_core.specs.Table.{Table}
@@ -16,7 +18,7 @@ use Rattle.bforest_nodes.proofs.Ordered.{IsIncreasing-cut}
 use Rattle.bforest_nodes.specs.Entries.{IsIncreasing, is_present, place, value_for}
 use Rattle.bforest_trees.proofs.Putting.{absent-none, present-some}
 use Rattle.bforest_trees.specs.Calls.{Removes}
-use Rattle.std.proofs.Common.{IsTrue, List, None, Option, Some, [], IfSome, ap, arith, false, if◌then◌else◌, length, length-append, refl, remove, subst, suc, sym, true, zero, ◌<◌, ◌∙◌, ◌∷◌, ◌≡◌, ◌≤◌, ◌↔◌, ℕ}
+use Rattle.std.proofs.Common.{IsTrue, List, None, Option, Some, [], IfSome, ap, arith, false, if◌then◌else◌, length, length-append, option_map, refl, remove, set, subst, suc, sym, true, zero, ◌<◌, ◌∙◌, ◌∷◌, ◌≡◌, ◌≢◌, ◌≤◌, ◌↔◌, ℕ}
 use Rattle.std.specs.declared.cmp.Ordering.{Ordering}
 
 -- a removal from a list of one entry leaves none
@@ -116,19 +118,18 @@ module _ {K X : Type 0} where
     pub same_levels : (o ≡ h) ↔ (length (forest_sizes f' o) ≡ length (forest_sizes f h))
     pub account : Gives (forest_sizes f h) (forest_sizes f' o) f f'
 
-  module _ (most : ℕ) (f f' : Forest K X) (n p : ℕ) (path : Path K X most) (on : StandsOn f n path p) where
+  module _ (most : ℕ) (f f' : Forest K X) (n p : ℕ) (root : IsTrue (is_root f.nodes n)) (low : p < length (list_under f n)) where
     abbrev es : List (K × X)
     es = list_under f n
 
     abbrev ss : List (List ℕ)
     ss = sizes_under f n
 
-    pub taken : (o : Option ℕ) → IfSome o (λ r'. Changes most f f' n r' (remove es p) (shrink most p ss)) → GivesNodes ss (shrink most p ss) f f' → IfSome o (λ r'. (r' ≡ n) ↔ (length (shrink most p ss) ≡ length ss)) →
+    taken : (o : Option ℕ) → IfSome o (λ r'. Changes most f f' n r' (remove es p) (shrink most p ss)) → GivesNodes ss (shrink most p ss) f f' → IfSome o (λ r'. (r' ≡ n) ↔ (length (shrink most p ss) ≡ length ss)) →
         ((o ≡ None) ↔ (length es ≡ 1)) → (o ≡ None → Ends most f f' n) → (o ≡ None → shrink most p ss ≡ []) → IsTaken most f f' (Some n) p o
     taken o changes gv same last ended none =
-        let list : es ≡ list_at f n = sym (list-root f n on.root_is) in
-        let sizes : ss ≡ sizes_at f n = sym (sizes-root f n on.root_is) in
-        let low = on-within f n path p on in
+        let list : es ≡ list_at f n = sym (list-root f n root) in
+        let sizes : ss ≡ sizes_at f n = sym (sizes-root f n root) in
         let now = sizes-cut most f f' n (remove es p) (shrink most p ss) o changes none in
         record {
           union = union-cut most f f' n (remove es p) (shrink most p ss) o changes ended;
@@ -140,9 +141,13 @@ module _ {K X : Type 0} where
           account = subst (λ (z : List (List ℕ)). Gives z (forest_sizes f' o) f f') sizes (subst (λ (z : List (List ℕ)). Gives ss z f f') (sym now) (gives f f' ss (shrink most p ss) gv));
         }
 
+    -- the same of a tree that lost an entry
+    pub shrunk : (path : List ℕ) (o : Option ℕ) → Shrinks most f f' path n p o → IsTaken most f f' (Some n) p o
+    shrunk path o s = taken o s.changes s.account s.same_root s.last s.ended s.none_left
+
     -- after a removal the path stands where the next entry is, or at the end
     spot-left : (path' : Path K X most) (o : Option ℕ) → IfSome o (λ r'. StandsAt f' r' path' p) → ((o ≡ None) ↔ (length es ≡ 1)) → (o ≡ None → IsAtEnd path') → IsSpot f' o path' p
-    spot-left path' None at last end = (end refl, (let one = last.0 refl in let low = on-within f n path p on in omega (arith, one, low)))
+    spot-left path' None at last end = (end refl, (let one = last.0 refl in omega (arith, one, low)))
     spot-left path' (Some r') at last end = at
 
   -- a removal at a path of a handle removes the entry at the path's place
@@ -156,14 +161,14 @@ module _ {K X : Type 0} where
       let t = spot-on f path h at.place at.spot at.within in
       let e : OnEntry f path = record { root = t.0; place = at.place; on = t.2 } in
       subst (λ (z : Option ℕ). IsTaken most f f' z at.place o) (sym t.1)
-      (taken most f f' t.0 at.place path t.2 o (removed e) (account e) (same e) (last e) (λ z. ended z e) (λ z. none z e))
+      (taken most f f' t.0 at.place t.2.root_is (on-within f t.0 path at.place t.2) o (removed e) (account e) (same e) (last e) (λ z. ended z e) (λ z. none z e))
 
   -- after a removal at a path of a handle, the path stands at the same place
   pub spot-at : (most : ℕ) (f f' : Forest K X) (h : Option ℕ) (path path' : Path K X most) (o : Option ℕ) (at : OnSpot f h path) → ((e : OnEntry f path) → IfSome o (λ r'. StandsAt f' r' path' e.place)) → ((e : OnEntry f path) → (o ≡ None) ↔ (length (list_under f e.root) ≡ 1)) → (o ≡ None → IsAtEnd path') → IsSpot f' o path' at.place
   spot-at most f f' h path path' o at stands last end =
       let t = spot-on f path h at.place at.spot at.within in
       let e : OnEntry f path = record { root = t.0; place = at.place; on = t.2 } in
-      spot-left most f f' t.0 at.place path t.2 path' o (stands e) (last e) end
+      spot-left most f f' t.0 at.place t.2.root_is (on-within f t.0 path at.place t.2) path' o (stands e) (last e) end
 
 module _ {K X : Type 0} (most : ℕ) (cmp : K → K → Ordering) (f : Forest K X) (h : Option ℕ) (k : K) (live : IsLive f h) (increasing : IsIncreasing cmp (list_of f h)) where
   abbrev entries : List (K × X)
@@ -184,13 +189,6 @@ module _ {K X : Type 0} (most : ℕ) (cmp : K → K → Ordering) (f : Forest K 
         absent_handle = λ none. absurd (cc);
       }
 
-  -- `remove` of a key that is present
-  pub removes-under : (t : Forest K X) (n : ℕ) (f' : Forest K X) (o : Option ℕ) (v : X) → t ≡ f → h ≡ Some n → value_for cmp (list_under t n) k ≡ Some v → IsTaken most t f' (Some n) (place cmp (list_under t n) k) o → Removes most cmp f h k (Some v) f' o
-  removes-under t n f' o v is handle found left =
-      let list = (seen-as t f h n is handle live).list in
-      removes f' o v (subst (λ (l : List (K × X)). value_for cmp l k ≡ Some v) list found)
-      (subst (λ (z : Forest K X). IsTaken most z f' h (place cmp entries k) o) is (subst (λ (z : Option ℕ). IsTaken most t f' z (place cmp entries k) o) (sym handle) (subst (λ (l : List (K × X)). IsTaken most t f' (Some n) (place cmp l k) o) list left)))
-
   -- `remove` of a key that is absent changes nothing
   pub removes-none : value_for cmp entries k ≡ None → Removes most cmp f h k None f h
   removes-none none =
@@ -205,3 +203,36 @@ module _ {K X : Type 0} (most : ℕ) (cmp : K → K → Ordering) (f : Forest K 
         absent_forest = λ is. refl;
         absent_handle = λ is. refl;
       }
+
+module _ {K X : Type 0} (most : ℕ) (cmp : K → K → Ordering) (f : Forest K X) (n : ℕ) (k : K) (live : list_at f n ≢ []) (increasing : IsIncreasing cmp (list_at f n)) where
+  abbrev at : ℕ
+  at = place cmp (list_under f n) k
+
+  list : list_at f n ≡ list_under f n
+  list = list-root f n (live-root f n live)
+
+  module _ {path indices : List ℕ} {size : ℕ} {found : Option (ℕ × X)} {mid : Forest K X} (t : TakesFromLeaf cmp f n k most path indices size found mid) where
+    -- the key is absent, and the table is the old one
+    pub removes-absent : found ≡ None → Removes most cmp f (Some n) k None mid (Some n)
+    removes-absent is =
+        let none : value_for cmp (list_at f n) k ≡ None = ap (λ z. value_for cmp z k) list ∙ sym t.value ∙ ap (option_map (λ e. e.1)) is in
+        rw (t.absent is) (removes-none most cmp f (Some n) k live increasing none)
+
+    module _ (e : ℕ × X) (is : found ≡ Some e) where
+      -- the path stood on the key's entry, which its leaf lost
+      pub lost : EntryTaken most f mid n at path (set indices 0 e.0) size
+      lost = rw is at t.taken
+
+      module _ (f' : Forest K X) (path' : List ℕ) (o : Option ℕ) (s : Shrinks most f f' path' n at o) where
+        left : IsTaken most f f' (Some n) at o
+        left = let l = lost in shrunk most f f' n at l.stood.root_is (place_low path (set indices 0 e.0) size (tree_of f.nodes n) at l.stood.stands) path' o s
+
+        -- the trees are a union again
+        pub removed-union : IsUnion most f'
+        removed-union = left.union
+
+        -- the effect of the removal
+        pub removes-present : Removes most cmp f (Some n) k (Some e.1) f' o
+        removes-present =
+            let value : value_for cmp (list_at f n) k ≡ Some e.1 = ap (λ z. value_for cmp z k) list ∙ sym t.value ∙ ap (option_map (λ w. w.1)) is in
+            removes most cmp f (Some n) k live increasing f' o e.1 value (subst (λ (l : List (K × X)). IsTaken most f f' (Some n) (place cmp l k) o) (sym list) left)

@@ -15,6 +15,7 @@ ghost use Rattle.std.specs.Prelude.{Err, IsTrue, None, Option, Some, [], false, 
 
 mod put;
 mod range;
+mod remove;
 mod take;
 mod value;
 mod walk;
@@ -285,10 +286,7 @@ impl<K: Copy, V: Copy, const N: usize> Trees<K, V, N> {
         ensures { Removes N (C.order comp.now) self.old handle.old key result self.new handle.new }
     {
         let root = handle.expand()?;
-        let mut path = Path::default();
-        let value = path.find(key, root, &self.pool, comp)?;
-        *handle = packed(path.remove_only(&mut self.pool));
-        Some(value)
+        self.remove_under(root, handle, key, comp)
     }
 
     /// Removes the entry where a path stands. The path goes to the next entry, or to the end.
@@ -310,7 +308,7 @@ impl<K: Copy, V: Copy, const N: usize> Trees<K, V, N> {
 }
 
 // The handle of a root, or an empty handle.
-fn packed(root: Option<Node>) -> PackedNode
+pub(crate) fn packed(root: Option<Node>) -> PackedNode
     ensures { result ≡ root }
 {
     match root {

@@ -1,9 +1,9 @@
 -- Putting a value in at a key of the leaf in which a search for the key ends: the answers of `put_in_leaf`.
-use Rattle.std.proofs.Common.{◌≡◌, ◌<◌, ◌++◌, ◌∷◌, ◌↔◌, ℕ, Bool, IfOk, IsTrue, Option, Some, None, Result, Ok, Err, List, insert, length, map, get_or, set, slice_get, nat_lt, if◌then◌else◌, true, false, refl, sym, ap, ◌∙◌, subst, length-set, arith}
-use Rattle.bforest_core.proofs.Words.{EndsIn, PutsInLeaf, Content, Leaf, Table, Tree, IsUnion, IsUsed, Inserted, Placed, PlacedUnder, StandsUnder, Changes, sizes, sizes_of, flat, tree_of, entry_count, entry_items, entry_keys, entry_for, is_present, leaf_content, place, value_for, search_of, slot_count, with_entry, with_node}
-use Rattle.bforest_core.proofs.Words.{with_value_at, growth, need, gain_above, need_above, top_of, is_some, option_map, get_or-set_same, lt-ltb, ltb-true}
+use Rattle.std.proofs.Common.{◌≡◌, ◌<◌, ◌++◌, ◌∷◌, ◌↔◌, ℕ, Bool, IsTrue, Option, Some, None, Result, Ok, Err, List, insert, length, map, get_or, set, slice_get, nat_lt, if◌then◌else◌, true, false, refl, sym, ap, ◌∙◌, subst, length-set}
+use Rattle.bforest_core.proofs.Words.{EndsIn, PutsInLeaf, Content, Leaf, Table, IsUnion, IsUsed, Placed, PlacedUnder, StandsUnder, Changes, sizes, sizes_of, flat, tree_of, entry_count, entry_keys, entry_for, is_present, leaf_content, place, value_for, search_of, slot_count, with_entry, with_node}
+use Rattle.bforest_core.proofs.Words.{with_value_at, growth, gain_above, need_above, is_some, option_map, get_or-set_same, lt-ltb, ltb-true}
 use Rattle.bforest_nodes.specs.Content.{put_answer, with_put, with_value as content_with}
-use Rattle.bforest_nodes.specs.Entries.{search_for, with_value}
+use Rattle.bforest_nodes.specs.Entries.{with_value}
 use Rattle.bforest_nodes.proofs.Found.{search_of-keys_of, value_for-absent, value_for-present}
 use Rattle.std.specs.declared.cmp.Ordering.{Ordering}
 use Rattle.bforest_core.proofs.table.Stored.{read_same}
@@ -12,12 +12,12 @@ use Rattle.bforest_core.proofs.table.Tables.{is_used}
 use Rattle.bforest_core.proofs.walks.LeafSearch.{items-read}
 use Rattle.bforest_core.proofs.insertion.Halving.{HasRoom, Written}
 use Rattle.bforest_core.proofs.insertion.HalvingLeaf.{put_full, put_inserts}
-use Rattle.bforest_core.proofs.insertion.Insertion.{Put, placed-under, put-here}
+use Rattle.bforest_core.proofs.insertion.Insertion.{placed-under, put-here}
 use Rattle.bforest_core.proofs.insertion.LeafSpot.{keys_count, leaf_spot, room_gain}
 use Rattle.bforest_core.proofs.union.Written.{entry-used, value-written}
 
 -- a present key has a value
-valued : {K V : Type 0} (o : Option (K × V)) → is_some o ≡ true → ¬ (option_map (λ e. e.1) o ≡ None)
+pub valued : {K V : Type 0} (o : Option (K × V)) → is_some o ≡ true → ¬ (option_map (λ e. e.1) o ≡ None)
 valued None here none = absurd (cc)
 valued (Some e) here none = absurd (cc)
 
@@ -35,13 +35,16 @@ module _ {K V : Type 0} (cmp : K → K → Ordering) (most : ℕ) (table : Table
   abbrev js : List ℕ
   js = set indices 0 (place cmp es key)
 
-  index_is : get_or js 0 0 ≡ place cmp es key
+  -- the path's index is the key's place in the leaf
+  pub index_is : get_or js 0 0 ≡ place cmp es key
   index_is = get_or-set_same indices 0 (place cmp es key) 0 e.indexed
 
-  slot : slice_get table.nodes (get_or path 0 0) ≡ Some (leaf_content es)
+  -- the entries of the path's leaf
+  pub slot : slice_get table.nodes (get_or path 0 0) ≡ Some (leaf_content es)
   slot = ap (λ z. slice_get table.nodes z) e.leaf_is ∙ e.slot_is
 
-  stands : is_present cmp es key ≡ true → StandsUnder table.nodes root path js size at
+  -- where the key is present, the path stands on its entry
+  pub stands : is_present cmp es key ≡ true → StandsUnder table.nodes root path js size at
   stands here = e.present (e.found_is ∙ here)
 
   placed : is_present cmp es key ≡ false → PlacedUnder table.nodes root path js size at

@@ -1,6 +1,6 @@
 -- What the calls on the nodes of a path and on the rows above a level require and ensure, as their contracts
 -- state it.
-use Rattle.std.proofs.Common.{◌≡◌, ℕ, suc, ◌+◌, ◌≤◌, ◌<◌, Option, Some, List, [], ◌∷◌, ◌++◌, map, length, drop, get_or, slice_get, ap, ◌∙◌, arith}
+use Rattle.std.proofs.Common.{◌≡◌, ℕ, suc, ◌+◌, ◌≤◌, ◌<◌, Option, Some, List, [], ◌∷◌, ◌++◌, map, length, drop, get_or, slice_get, ap, subst, ◌∙◌, arith}
 use Rattle.bforest_core.proofs.Words.{Content, Inner, IsFree, IsUsed, entry_count, with_key, without_child, Table, with_node, LevelNode, sizes, inner_content, entry_keys, entry_items, count, Above, NextIs, Rebuilt, get_or_default}
 use Rattle.bforest_core.proofs.table.Stored.{key_count, item_count}
 use Rattle.bforest_core.proofs.table.Tables.{is_used}
@@ -70,6 +70,10 @@ module _ {K V : Type 0} where
   -- the answer of the call for the right neighbour
   abbrev pub Beside : Table K V → List ℕ → List ℕ → ℕ → ℕ → Option (K × ℕ) → Type 0
   Beside t path indices up size r = (rows : List (List (LevelNode K ℕ))) (before : List (K × ℕ)) (x : K × ℕ) (after : List (K × ℕ)) → Above t path indices up size rows (before ++ x ∷ after) (length before) → NextIs r after
+
+  -- the same answer, where it is known
+  pub beside_is : (t : Table K V) (path indices : List ℕ) (up size : ℕ) (r : Option (K × ℕ)) (next : K × ℕ) → Beside t path indices up size r → r ≡ Some next → Beside t path indices up size (Some next)
+  beside_is t path indices up size r next beside is = subst (λ (z : Option (K × ℕ)). Beside t path indices up size z) is beside
 
   -- the effect of the call that updates the key between two neighbours
   abbrev pub Rekeys : Table K V → Table K V → List ℕ → List ℕ → ℕ → ℕ → K → Type 0

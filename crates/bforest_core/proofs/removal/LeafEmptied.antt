@@ -1,9 +1,9 @@
 -- Removing the only entry of a leaf together with the leaf, which is the rightmost.
 use Rattle.std.proofs.Common.{◌≡◌, ◌≢◌, suc, ◌+◌, ◌≤◌, Some, List, ◌∷◌, ◌++◌, map, length, get_or, slice_get, refl, sym, ap, ◌∙◌, subst, append-nil, length-append, arith, ℕ, []}
-use Rattle.bforest_core.proofs.Words.{nil_from_length, flat_map, remove, get_or_default, IsLeafCapacity, Table, IsUsed, with_freed, LevelNode, node, flat, heads, sizes, numbers, FitRow, Stacked, Topped, Tree, half_of, sizes_of, loss, loss_above}
-use Rattle.bforest_core.proofs.Words.{shrink, RowIn, leaf_content, count, Distinct, root_above, root_of, numbers_of, IsPathAt, nodes_up, Above, UpTo, Trimmed, StandsIn, Removed, Emptied}
+use Rattle.bforest_core.proofs.Words.{nil_from_length, flat_map, remove, IsLeafCapacity, Table, IsUsed, with_freed, LevelNode, node, flat, heads, sizes, numbers, FitRow, Stacked, Topped, Tree, half_of, sizes_of, loss, loss_above}
+use Rattle.bforest_core.proofs.Words.{shrink, RowIn, leaf_content, count, Distinct, root_above, root_of, numbers_of, IsPathAt, nodes_up, Above, UpTo, Trimmed, StandsIn, IsSingle, Removed, Emptied}
 use Rattle.bforest_core.proofs.rows.LevelRows.{flat-append, heads-append, sizes-append, Solid-full}
-use Rattle.bforest_core.proofs.table.Tables.{count-append, counts, count-same, row-split, row-same, is_used, ne_from_count}
+use Rattle.bforest_core.proofs.table.Tables.{count-append, counts, count-same, row-split, row-same, ne_from_count}
 use Rattle.bforest_core.proofs.rows.Tops.{root-stands}
 use Rattle.bforest_core.proofs.removal.Asked.{LastTwo}
 use Rattle.bforest_core.proofs.removal.Merge.{loss_at}
@@ -22,13 +22,13 @@ two_leaves : {K : Type 0} (list : List (K × ℕ)) (rows : List (List (LevelNode
 two_leaves list [] topped ne = absurd (ne refl)
 two_leaves list (row ∷ rows) topped ne = topped.0
 
-module _ {K V : Type 0} (most : ℕ) (t : Table K V) (path indices : List ℕ) (size : ℕ) (capacity : IsLeafCapacity most) (y : K × V) (slot : slice_get t.nodes (get_or path 0 0) ≡ Some (leaf_content (y ∷ []))) (r : ℕ) (wide : length path ≡ 17)
+module _ {K V : Type 0} (most : ℕ) (t : Table K V) (path indices : List ℕ) (size : ℕ) (capacity : IsLeafCapacity most) (p : Table K V) (alone : IsSingle t p (get_or path 0 0)) (read : ℕ) (num_is : read ≡ get_or path 0 0)
     (tree : Tree K V) (place : ℕ) (s : StandsIn most t path indices size tree place) where
   f : LeafAt most t path indices size tree place
   f = leaf_at most t path indices size tree place s
 
   one : length (f.l ++ f.x ∷ f.r) ≡ 1
-  one = leaf_count (f.l ++ f.x ∷ f.r) (y ∷ []) (slice_get t.nodes (get_or path 0 0)) f.slot_is slot
+  one = leaf_count (f.l ++ f.x ∷ f.r) (alone.entry ∷ []) (slice_get t.nodes (get_or path 0 0)) f.slot_is alone.slot_was
 
   none_left : f.l ≡ []
   none_left = nil_from_length f.l (omega (arith, one, length-append f.l (f.x ∷ f.r)))
@@ -53,16 +53,13 @@ module _ {K V : Type 0} (most : ℕ) (t : Table K V) (path indices : List ℕ) (
   apart : Distinct ((numbers (f.before ++ node (get_or path 0 0) (f.x ∷ []) ∷ []) ++ flat_map numbers tree.above) ++ t.chain)
   apart = subst (λ (z : List (LevelNode K V)). Distinct ((numbers z ++ flat_map numbers tree.above) ++ t.chain)) row_is f.apart
 
-  num_is : get_or path 0 r ≡ get_or path 0 0
-  num_is = get_or_default path 0 r 0 (omega (arith, wide))
-
   -- the leaf meets what freeing it requires
-  pub free_asks : IsUsed t (get_or path 0 r)
-  free_asks = subst (λ (z : ℕ). IsUsed t z) (sym num_is) (is_used t (get_or path 0 0) (leaf_content (f.l ++ f.x ∷ f.r)) f.slot_is f.none_chain)
+  pub free_asks : IsUsed p (get_or path 0 0) → IsUsed p read
+  free_asks used = subst (λ (z : ℕ). IsUsed p z) (sym num_is) used
 
-  module _ (v : Table K V) (freed : v ≡ with_freed t (get_or path 0 r)) where
+  module _ (v : Table K V) (freed : v ≡ with_freed p read) where
     freed_is : v ≡ with_freed t (get_or path 0 0)
-    freed_is = freed ∙ ap (λ z. with_freed t z) num_is
+    freed_is = freed ∙ ap (λ z. with_freed p z) num_is ∙ alone.freed_is
 
     -- the only leaf was removed, so the tree is empty
     pub emptied_tree : size ≡ 1 → Emptied most t v tree place

@@ -65,6 +65,16 @@ module _ {K V : Type 0} where
       above_same t u path indices up size rows list p (λ m some. w.same m (ne_from_count m n (flat_map numbers rows) some none))
       (λ m. omega (arith, a.apart m, count-append m (flat_map numbers rows) t.chain, count-append m (flat_map numbers rows) u.chain, ap (λ z. count m z) w.chain_is)) a
 
+  -- without a row above, only the length of the list matters
+  pub above_top : (t : Table K V) (path indices : List ℕ) (up size : ℕ) (rows : List (List (LevelNode K ℕ))) (list list' : List (K × ℕ)) (p : ℕ) → size ≤ up → length list' ≡ length list → Above t path indices up size rows list p → Above t path indices up size rows list' p
+  above_top t path indices up size (row ∷ rows) list list' p high same a = absurd (omega (arith, a.height, high))
+  above_top t path indices up size [] list list' p high same a = record { stacked = same ∙ a.stacked; inside = tt; stands = a.stands; height = a.height; apart = a.apart }
+
+  -- without a row above, the list has one element
+  pub top_one : (t : Table K V) (path indices : List ℕ) (up size : ℕ) (rows : List (List (LevelNode K ℕ))) (list : List (K × ℕ)) (p : ℕ) → size ≤ up → Above t path indices up size rows list p → length list ≡ 1
+  top_one t path indices up size (row ∷ rows) list p high a = absurd (omega (arith, a.height, high))
+  top_one t path indices up size [] list p high a = a.stacked
+
   -- the rows above, unchanged
   pub rebuilt_same : (u : Table K V) (path indices : List ℕ) (up size : ℕ) (rows : List (List (LevelNode K ℕ))) (list : List (K × ℕ)) (p : ℕ) → Above u path indices up size rows list p →
       Rebuilt u u path indices path indices up size rows list p (map sizes rows) []

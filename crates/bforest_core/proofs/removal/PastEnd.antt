@@ -1,10 +1,10 @@
 -- The leaf after it lost an entry: whether the path is past all entries, and the leaf as a level to
 -- rebalance.
 use Rattle.std.proofs.Common.{◌≡◌, ℕ, ◌≤◌, ◌<◌, Some, None, Option, Bool, true, false, not, List, [], ◌∷◌, ◌++◌, length, get_or, slice_get, refl, ap, ◌∙◌, length-append, arith}
-use Rattle.bforest_core.proofs.Words.{is_some, Table, node, flat, heads, Tree, half_of, leaf_content, Above, NextIs, LeafLoss, OnLevel, get_or_default, Content, entry_count}
+use Rattle.bforest_core.proofs.Words.{is_some, nil_from_length, Table, node, flat, heads, Tree, half_of, leaf_content, Above, NextIs, LeafLoss, OnLevel, get_or_default, Content, entry_count}
 use Rattle.bforest_core.proofs.rows.LevelRows.{HeadIs, head-is}
 use Rattle.bforest_core.proofs.table.Tables.{row-split}
-use Rattle.bforest_core.proofs.removal.Lifted.{headed}
+use Rattle.bforest_core.proofs.removal.Lifted.{headed, top_one}
 use Rattle.bforest_core.proofs.removal.Asked.{NodeAt, OneAbove, Beside}
 use Rattle.bforest_core.proofs.removal.Taking.{no_nodes, leaf_keys}
 use Rattle.bforest_core.proofs.removal.Collapse.{heads-flat}
@@ -45,6 +45,16 @@ module _ {K V : Type 0} (most : ℕ) (t v : Table K V) (path indices : List ℕ)
   none_follows : (found : Option (K × ℕ)) → NextIs found (heads l.after) → is_some found ≡ false → l.after ≡ []
   none_follows None next is = no_nodes (half_of most) most loss_half l.after l.fits next
   none_follows (Some x) next is = absurd cc
+
+  -- no leaf follows where the leaf is the whole tree
+  pub alone_last : size ≤ 1 → l.after ≡ []
+  alone_last low =
+      let one = top_one v path indices 1 size l.rest (heads l.before ++ (named.first.0, get_or path 0 0) ∷ heads l.after) (length (heads l.before)) low above in
+      no_nodes (half_of most) most loss_half l.after l.fits (nil_from_length (heads l.after) (omega (arith, one, length-append (heads l.before) ((named.first.0, get_or path 0 0) ∷ heads l.after))))
+
+  -- the last leaf has no right neighbour
+  pub last_leaf : Beside v path indices 1 size None → l.after ≡ []
+  last_leaf beside = none_follows None (beside l.rest (heads l.before) (named.first.0, get_or path 0 0) (heads l.after) above) refl
 
   -- a leaf follows
   pub one_follows : (found : Option (K × ℕ)) (none : Bool) → Beside v path indices 1 size found → is_some found ≡ not none → none ≡ false → get_or indices 0 0 < length (l.entries ++ flat l.after)

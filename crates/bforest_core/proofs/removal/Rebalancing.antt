@@ -1,10 +1,12 @@
--- Rebalancing a level, from what its calls state: the answers of `rebalance_leaf` and `rebalance_inner`.
+-- Rebalancing a level, from what its calls state: the answers of `rebalance_leaf`, `join_leaf` and
+-- `rebalance_inner`.
 use Rattle.std.proofs.Common.{◌≡◌, suc, ◌+◌, ◌≤◌, ◌<◌, ◌≢◌, List, [], ◌∷◌, ◌++◌, length, set, get_or, slice_get, Some, None, Option, refl, sym, ap, ◌∙◌, subst, inl, inr, length-append, arith, ℕ}
-use Rattle.bforest_core.proofs.Words.{get_or_default, flat_map, Content, Table, IsUsed, IsUnderflowedAt, IsBalancedAt, with_freed, LevelNode, node, flat, heads, numbers, FitRow, count, Above, NextIs, SameBelow, top_of, OnLevel, Healed, Joined}
+use Rattle.bforest_core.proofs.Words.{get_or_default, flat_map, entry_count, half_of, leaf_content, IsLeafCapacity, Content, Table, IsUsed, IsUnderflowedAt, IsBalancedAt, with_freed, LevelNode, node, flat, heads, numbers, FitRow, count, Above, NextIs, SameBelow, top_of, OnLevel, Healed, Joined}
 use Rattle.bforest_core.proofs.rows.LevelRows.{least-pos, head-is, HeadIs}
 use Rattle.bforest_core.proofs.table.Tables.{row-split, is_used}
 use Rattle.bforest_core.proofs.rows.Zipper.{apart_here}
-use Rattle.bforest_core.proofs.removal.Taking.{no_nodes}
+use Rattle.bforest_core.proofs.table.Stored.{read_same}
+use Rattle.bforest_core.proofs.removal.Taking.{leaf_keys, no_nodes}
 use Rattle.bforest_core.proofs.removal.Lifted.{headed, NextNode, next_of}
 use Rattle.bforest_core.proofs.removal.Balance.{IsHalf, IsStored, AllRight, Spread, all_right_at, spread_at}
 use Rattle.bforest_core.proofs.removal.Asked.{NodeAt, Counts, OneAbove, NextAbove, TwoAbove, Beside, Rekeys, Enters}
@@ -47,6 +49,14 @@ module _ {K V X : Type 0} (content : List (K × X) → Content K V) (half most c
 
   count_read : (m : ℕ) → Counts t (get_or path up r) m → m ≡ length es
   count_read m value = value (content es) slot_read ∙ s.count_is es
+
+  -- the number of the node's entries, as a count answers it
+  pub counts_here : Counts t (get_or path up r) (length es)
+  counts_here c slot = sym (ap entry_count (read_same t.nodes (get_or path up r) (content es) c slot_read slot) ∙ s.count_is es)
+
+  -- the node is less than half full, by a count of its entries
+  pub under_here : (m : ℕ) → Counts t (get_or path up r) m → m < half → (held : Content K V) → slice_get t.nodes (get_or path up 0) ≡ Some held → entry_count held < half
+  under_here m value under held slot = omega (arith, under, count_read m value, s.count_is es, ap entry_count (read_same t.nodes (get_or path up 0) (content es) held (ap (λ z. slice_get t.nodes z) p.number_is ∙ slot_here) slot))
 
   named : HeadIs n es
   named = head-is n es p.some
@@ -181,3 +191,13 @@ module _ {K V X : Type 0} (content : List (K × X) → Content K V) (half most c
             let d = near_is in
             let w = settle_join content half most hm t path indices up size before n named.first named.others next.1 d.f d.fs d.rest rest (level next.0 next.1 d) u v under_is all_right (freed ∙ ap (λ z. with_freed u z) num_is) low in
             both_back (λ (y : List (K × X)) (z : List (LevelNode K X)). Joined content half most t v path indices (set path up next.1) indices up size before n y z rest) es _ after _ named.es_is d.after_is w
+
+-- a leaf is half full with half of its capacity
+pub half_leaf : (n : ℕ) → IsLeafCapacity n → IsHalf (half_of n) n
+half_leaf n c = record { two = omega (arith, c.least); lo = omega (arith, c.odd); hi = omega (arith, c.odd) }
+
+-- the leaf of a level is less than half full, if what its slot holds is
+pub under_level : {K V : Type 0} (half most : ℕ) (t : Table K V) (path indices : List ℕ) (size : ℕ) (before : List (LevelNode K V)) (n : ℕ) (es : List (K × V)) (after : List (LevelNode K V)) (rest : List (List (LevelNode K ℕ))) →
+    OnLevel leaf_content half most t path indices 0 size before n es after rest → ((content : Content K V) → slice_get t.nodes (get_or path 0 0) ≡ Some content → entry_count content < half) → length es < half
+under_level half most t path indices size before n es after rest p few =
+    omega (arith, few (leaf_content es) (ap (λ z. slice_get t.nodes z) p.number_is ∙ (row-split leaf_content t.nodes before (node n es ∷ after) p.inside).1.0), leaf_keys es)

@@ -1,7 +1,7 @@
 -- The effect of a removal from the tree under a root on the table.
 use Rattle.std.proofs.Common.{◌≡◌, ◌≢◌, ℕ, suc, ◌<◌, ◌↔◌, Option, Some, None, IfSome, List, [], ◌∷◌, ◌++◌, length, get_or, refl, sym, ap, ◌∙◌, subst, inl, inr, append_assoc, length-append, arith}
 use Rattle.std.proofs.lemmas.List.Edits.{length-remove}
-use Rattle.bforest_core.proofs.Words.{remove, eqb_tells, length-map, Table, node, flat, sizes, Tree, sizes_of, nodes_up, shrink, count, root_of, numbers_of, Stands, tree_of, IsUnion, Changes, Ends, GivesInOrder}
+use Rattle.bforest_core.proofs.Words.{remove, eqb_tells, length-map, Table, node, flat, sizes, Tree, sizes_of, nodes_up, shrink, count, root_of, numbers_of, Stands, tree_of, IsUnion, Changes, Ends, GivesInOrder, Shrinks}
 use Rattle.bforest_core.proofs.Words.{GivesNodes, StandsUnder, node_count, StandsIn, Removed, Emptied}
 use Rattle.bforest_core.proofs.rows.LevelRows.{flat-append}
 use Rattle.bforest_core.proofs.table.Tables.{count-append}
@@ -24,7 +24,7 @@ module _ {K V : Type 0} where
       record { fit = r.fit; inside = r.inside; apart = r.apart; low = r.low; stands = s.stands }
 
   -- the place where a path stands is that of an entry
-  place_low : (path indices : List ℕ) (size : ℕ) (tree : Tree K V) (place : ℕ) → Stands path indices size tree place → place < length (flat tree.leaves)
+  pub place_low : (path indices : List ℕ) (size : ℕ) (tree : Tree K V) (place : ℕ) → Stands path indices size tree place → place < length (flat tree.leaves)
   place_low path indices size tree place s =
       let at = s.leaf in
       omega (arith, at.place_is, at.within, ap (λ z. length (flat z)) at.row_is, ap length (flat-append at.before (node (get_or path 0 0) at.entries ∷ at.after)), length-append (flat at.before) (at.entries ++ flat at.after), length-append at.entries (flat at.after))
@@ -129,3 +129,16 @@ module _ {K V : Type 0} where
     pub outcome : (found : Option ℕ) → IfSome found (λ root'. Removed most old new path Now (tree_of old.nodes root) place root') → (found ≡ None → Emptied most old new (tree_of old.nodes root) place) → Said most old new path root place Now found
     outcome None removed emptied = ending (emptied refl)
     outcome (Some root') removed emptied = removal root' removed
+
+    -- the effect of a removal, without where the path is
+    pub shrinks : (found : Option ℕ) → Said most old new path root place Now found → Shrinks most old new path root place found
+    shrinks found said = record {
+      changes = if_some _ _ found (λ root' r. r.changes) said.some;
+      account = said.gives;
+      order = said.order;
+      same_root = if_some _ _ found (λ root' r. r.same_root) said.some;
+      last = said.last;
+      ended = said.ended;
+      none_left = said.none_left;
+      freed_root = said.freed_root;
+    }

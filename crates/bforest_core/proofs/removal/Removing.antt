@@ -21,14 +21,34 @@ length-numbers (node n es ∷ row) = ap suc (length-numbers row)
 
 module _ {K V : Type 0} where
   -- two trees in which one path stands have the same root
-  pub stands_root : (most : ℕ) (t : Table K V) (path indices : List ℕ) (size : ℕ) (tree tree1 : Tree K V) (place place1 root : ℕ) → StandsIn most t path indices size tree place → StandsIn most t path indices size tree1 place1 → root_of tree1 ≡ root → root_of tree ≡ root
-  stands_root most t path indices size tree tree1 place place1 root s s1 is =
+  pub stands_root : (most : ℕ) (t t1 : Table K V) (path indices : List ℕ) (size : ℕ) (tree tree1 : Tree K V) (place place1 root : ℕ) → StandsIn most t path indices size tree place → StandsIn most t1 path indices size tree1 place1 → root_of tree1 ≡ root → root_of tree ≡ root
+  stands_root most t t1 path indices size tree tree1 place place1 root s s1 is =
       root-stands most tree path indices size place s.fit s.stands ∙ sym (root-stands most tree1 path indices size place1 s1.fit s1.stands) ∙ is
 
   -- a path that stands in a tree is at an entry
   pub path-at : (path indices : List ℕ) (size : ℕ) (tree : Tree K V) (place : ℕ) → Stands path indices size tree place → IsPathAt path indices size tree place
   path-at path indices zero tree place s = absurd (omega (arith, s.size_is))
   path-at path indices (suc size) tree place s = s
+
+  -- a removal, with nothing stated of where the path is
+  pub anywhere : (most : ℕ) (old new : Table K V) (path : List ℕ) (Now : Tree K V → Type 0) (tree : Tree K V) (place root' : ℕ) → Removed most old new path Now tree place root' → Removed most old new path (λ z. Unit {0}) tree place root'
+  anywhere most old new path Now tree place root' r = record {
+    tree' = r.tree';
+    freed = r.freed;
+    flat_is = r.flat_is;
+    sizes_are = r.sizes_are;
+    fit = r.fit;
+    inside = r.inside;
+    some = r.some;
+    at = tt;
+    numbers_are = r.numbers_are;
+    root_is = r.root_is;
+    same_root = r.same_root;
+    old_root = r.old_root;
+    low = r.low;
+    order = r.order;
+    frees = r.frees;
+  }
 
   -- the tree without the entry: its levels have the sizes of a removal, but the root may have a single child
   pub record Untrimmed (most : ℕ) (old new : Table K V) (tree : Tree K V) (place : ℕ) (leaves : List (LevelNode K V)) (rows : List (List (LevelNode K ℕ))) (freed : List ℕ) : Type 0 where

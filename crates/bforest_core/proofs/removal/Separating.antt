@@ -6,7 +6,7 @@ use Rattle.bforest_core.proofs.rows.LevelRows.{heads-append, least-pos}
 use Rattle.bforest_core.proofs.table.Tables.{row-split, row-join}
 use Rattle.bforest_core.proofs.rows.Zipper.{Spot, above_two}
 use Rattle.bforest_core.proofs.removal.Asked.{Counts, Writes, TwoAbove, Rekeys, Seen, seen}
-use Rattle.bforest_core.proofs.removal.Lifted.{rebuilt_same, rows_above, lifted_above, renamed}
+use Rattle.bforest_core.proofs.removal.Lifted.{above_top, rebuilt_same, rows_above, lifted_above, renamed}
 
 -- the next node has the same parent
 pub next_in : {K : Type 0} (l : List (K × ℕ)) (x : K × ℕ) (r : List (K × ℕ)) (e : ℕ) (y : K × ℕ) (b more : List (K × ℕ)) → y ∷ b ≡ r ++ more → length l ≡ e → e + 1 < length (l ++ x ∷ r) → (ys : List (K × ℕ)) × (r ≡ y ∷ ys) × (b ≡ ys ++ more)
@@ -49,10 +49,8 @@ module _ {K V : Type 0} where
   -- without a row above there is no key to update
   pub rekey_top : (t : Table K V) (path indices : List ℕ) (up size : ℕ) (rows : List (List (LevelNode K ℕ))) (a : List (K × ℕ)) (k : K) (n : ℕ) (b : List (K × ℕ)) (key : K) → Above t path indices up size rows (a ++ (k, n) ∷ b) (length a) → size ≤ up →
       Rebuilt t t path indices path indices up size rows (a ++ (key, n) ∷ b) (length a) (map sizes rows) []
-  rekey_top t path indices up size (row ∷ rows) a k n b key p high = absurd (omega (arith, p.height, high))
-  rekey_top t path indices up size [] a k n b key p high =
-      let one : length (a ++ (key, n) ∷ b) ≡ 1 = omega (arith, p.stacked, length-append a ((k, n) ∷ b), length-append a ((key, n) ∷ b)) in
-      rebuilt_same t path indices up size [] (a ++ (key, n) ∷ b) (length a) (record { stacked = one; inside = tt; stands = p.stands; height = p.height; apart = p.apart })
+  rekey_top t path indices up size rows a k n b key p high =
+      rebuilt_same t path indices up size rows (a ++ (key, n) ∷ b) (length a) (above_top t path indices up size rows _ (a ++ (key, n) ∷ b) (length a) high (omega (arith, length-append a ((k, n) ∷ b), length-append a ((key, n) ∷ b))) p)
 
   module _ (t u : Table K V) (path indices : List ℕ) (up size : ℕ) (rows : List (List (LevelNode K ℕ))) (a : List (K × ℕ)) (k : K) (n : ℕ) (b : List (K × ℕ)) (key : K) (d : Spot t path indices up size rows a (k, n) b) where
     -- updating the key where it is a separator in the path's parent

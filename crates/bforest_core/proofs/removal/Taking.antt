@@ -1,16 +1,16 @@
 -- Removing the entry where a path stands from its leaf, which has others: the answers of `remove`,
--- `remove_only` and `take_entry`.
+-- `take_entry` and `renew_first`.
 use Rattle.std.proofs.Common.{◌≡◌, ℕ, suc, ◌+◌, ◌≤◌, ◌<◌, Some, Option, List, [], ◌∷◌, ◌++◌, map, length, get_or, slice_get, refl, sym, ap, ◌∙◌, subst, append_assoc, length-append, arith, ◌≢◌}
-use Rattle.bforest_core.proofs.Words.{map-append, flat_map, remove, length-map, Content, Leaf, without_entry, Table, LevelNode, node, flat, heads, sizes, numbers, FitRow, Solid, Stacked, Tree, half_of, RowIn, leaf_content, entry_keys, count, Distinct, numbers_of, Above, Rebuilt, StandsIn, LeafLoss}
-use Rattle.bforest_core.proofs.Words.{nil_from_length, get_or_default, entry_count, IsUsed, with_node, head_of, entry_items}
+use Rattle.bforest_core.proofs.Words.{map-append, flat_map, remove, length-map, Content, Leaf, without_entry, Table, LevelNode, node, flat, heads, sizes, numbers, FitRow, Solid, Stacked, Tree, half_of, RowIn, leaf_content, entry_keys, count, Distinct, numbers_of, Above, Rebuilt, StandsIn, HasOthers, IsSingle, LeafLoss}
+use Rattle.bforest_core.proofs.Words.{nil_from_length, entry_count, IsUsed, with_node, head_of, entry_items}
 use Rattle.bforest_core.proofs.rows.LevelRows.{flat-append, sizes-append, FitRow-split, Solid-full, least-pos, heads-append}
 use Rattle.bforest_core.proofs.table.Tables.{count-append, counts, count-same, row-split, row-put, row-same, Puts, is_used, puts}
 use Rattle.bforest_core.proofs.rows.Contents.{remove_at}
 use Rattle.bforest_core.proofs.rows.Zipper.{cut, apart_here}
 use Rattle.bforest_core.proofs.removal.Frees.{frees-after, frees-puts}
-use Rattle.bforest_core.proofs.table.Stored.{some_same}
+use Rattle.bforest_core.proofs.table.Stored.{read_same, some_same}
 use Rattle.bforest_core.proofs.removal.Asked.{NodeAt}
-use Rattle.bforest_core.proofs.removal.Lifted.{above_written, rebuilt_same}
+use Rattle.bforest_core.proofs.removal.Lifted.{above_top, above_written, rebuilt_same}
 
 remove_map : {X Y : Type 0} (f : X → Y) (l r : List X) (x : X) → remove (map f (l ++ x ∷ r)) (length l) ≡ map f (l ++ r)
 remove_map f l r x = ap (λ z. remove z (length l)) (map-append f l (x ∷ r)) ∙ remove_at (map f l) (f x) (map f r) (length l) (length-map l f) ∙ sym (map-append f l r)
@@ -42,6 +42,13 @@ no_nodes half most one (node n (x ∷ es) ∷ row) f e = absurd cc
 pub some_first : {A : Type 0} (es : List A) → 0 < length es → (y : A) × (others : List A) × (es ≡ y ∷ others)
 some_first [] low = absurd (omega (arith, low))
 some_first (y ∷ es) low = (y, es, refl)
+
+-- a row has as many heads where a node has other entries
+as_many_heads : {K X : Type 0} (before : List (LevelNode K X)) (n : ℕ) (es fs : List (K × X)) (after : List (LevelNode K X)) → 1 ≤ length es → 1 ≤ length fs → length (heads (before ++ node n fs ∷ after)) ≡ length (heads (before ++ node n es ∷ after))
+as_many_heads before n [] fs after some too = absurd (omega (arith, some))
+as_many_heads before n (e ∷ es) [] after some too = absurd (omega (arith, too))
+as_many_heads before n (e ∷ es) (f ∷ fs) after some too =
+    omega (arith, ap length (heads-append before (node n (e ∷ es) ∷ after)), ap length (heads-append before (node n (f ∷ fs) ∷ after)), length-append (heads before) ((e.0, n) ∷ heads after), length-append (heads before) ((f.0, n) ∷ heads after))
 
 module _ {K V : Type 0} where
   -- removing an entry from a leaf
@@ -159,24 +166,21 @@ module _ {K V : Type 0} where
   abbrev pub LeafKeyAt : Table K V → ℕ → ℕ → Type 0
   LeafKeyAt t number index = (keys : List K) × (vals : List V) × (slice_get t.nodes number ≡ Some (Leaf keys vals)) × (index < length keys)
 
-  module _ (most : ℕ) (t : Table K V) (path indices : List ℕ) (size : ℕ) (tree : Tree K V) (place : ℕ) (s : StandsIn most t path indices size tree place) (r : ℕ) (wide : length path ≡ 17) where
+  module _ (most : ℕ) (t : Table K V) (path indices : List ℕ) (size : ℕ) (tree : Tree K V) (place : ℕ) (s : StandsIn most t path indices size tree place) (read : ℕ) (num_is : read ≡ get_or path 0 0) where
     d : LeafAt most t path indices size tree place
     d = leaf_at most t path indices size tree place s
 
     abbrev es : List (K × V)
     es = d.l ++ d.x ∷ d.r
 
-    num_is : get_or path 0 r ≡ get_or path 0 0
-    num_is = get_or_default path 0 r 0 (omega (arith, wide))
-
-    slot : slice_get t.nodes (get_or path 0 r) ≡ Some (leaf_content es)
+    slot : slice_get t.nodes read ≡ Some (leaf_content es)
     slot = ap (λ z. slice_get t.nodes z) num_is ∙ d.slot_is
 
     -- the leaf meets what counting its entries requires
-    pub counted_asks : NodeAt t (get_or path 0 r)
+    pub counted_asks : NodeAt t read
     counted_asks = (leaf_content es, slot, λ free. free)
 
-    module _ (m : ℕ) (value : (x : Content K V) → slice_get t.nodes (get_or path 0 r) ≡ Some x → m ≡ entry_count x) where
+    module _ (m : ℕ) (value : (x : Content K V) → slice_get t.nodes read ≡ Some x → m ≡ entry_count x) where
       count_is : m ≡ length es
       count_is = value (leaf_content es) slot ∙ leaf_keys es
 
@@ -184,10 +188,10 @@ module _ {K V : Type 0} where
       first = some_first es (omega (arith, length-append d.l (d.x ∷ d.r)))
 
       -- the leaf has no other entry
-      pub single : m ≡ 1 → (x : K × V) × (slice_get t.nodes (get_or path 0 0) ≡ Some (leaf_content (x ∷ [])))
+      pub single : m ≡ 1 → IsSingle t t (get_or path 0 0)
       single one =
           let h = first in
-          (h.0, d.slot_is ∙ ap (λ z. Some (leaf_content z)) (h.2 ∙ ap (λ z. h.0 ∷ z) (nil_from_length h.1 (omega (arith, count_is, one, ap length h.2)))))
+          record { entry = h.0; slot_was = d.slot_is ∙ ap (λ z. Some (leaf_content z)) (h.2 ∙ ap (λ z. h.0 ∷ z) (nil_from_length h.1 (omega (arith, count_is, one, ap length h.2)))); freed_is = refl }
 
       -- the leaf has another entry
       pub others : m ≢ 1 → (x y : K × V) × (rest : List (K × V)) × (slice_get t.nodes (get_or path 0 0) ≡ Some (leaf_content (x ∷ y ∷ rest)))
@@ -196,26 +200,51 @@ module _ {K V : Type 0} where
           let k = some_first h.1 (omega (arith, more, count_is, ap length h.2)) in
           (h.0, k.0, k.1, d.slot_is ∙ ap (λ z. Some (leaf_content z)) (h.2 ∙ ap (λ z. h.0 ∷ z) k.2))
 
-      -- the leaf had one entry more than it has after the removal
-      pub left_is : (u : Table K V) (l : LeafLoss most t u path indices size tree place) → m ≡ suc (length l.entries)
-      left_is u l = count_is ∙ l.leaf_was es d.slot_is
+    -- the leaf is used
+    pub leaf_used : IsUsed t (get_or path 0 0)
+    leaf_used = is_used t (get_or path 0 0) (leaf_content es) d.slot_is d.none_chain
 
     -- the leaf meets what removing the entry requires
-    pub out_asks : IsUsed t (get_or path 0 r) × LeafKeyAt t (get_or path 0 r) (get_or indices 0 0)
+    pub out_asks : IsUsed t read × LeafKeyAt t read (get_or indices 0 0)
     out_asks = (
-      subst (λ (z : ℕ). IsUsed t z) (sym num_is) (is_used t (get_or path 0 0) (leaf_content es) d.slot_is d.none_chain),
+      subst (λ (z : ℕ). IsUsed t z) (sym num_is) leaf_used,
       (entry_keys es, entry_items es, slot, omega (arith, leaf_keys es, d.index_is, length-append d.l (d.x ∷ d.r))),
     )
 
-    module _ (u : Table K V) (has : (x y : K × V) × (rest : List (K × V)) × (slice_get t.nodes (get_or path 0 0) ≡ Some (leaf_content (x ∷ y ∷ rest))))
-        (takes : (keys : List K) (vals : List V) → slice_get t.nodes (get_or path 0 r) ≡ Some (Leaf keys vals) → u ≡ with_node t (get_or path 0 r) (without_entry (Leaf keys vals) (get_or indices 0 0))) where
+    -- the entry was removed from the leaf, which has others
+    pub has_others : (u : Table K V) (has : (x y : K × V) × (rest : List (K × V)) × (slice_get t.nodes (get_or path 0 0) ≡ Some (leaf_content (x ∷ y ∷ rest)))) →
+        ((keys : List K) (vals : List V) → slice_get t.nodes read ≡ Some (Leaf keys vals) → u ≡ with_node t read (without_entry (Leaf keys vals) (get_or indices 0 0))) → HasOthers t u path indices
+    has_others u has takes =
+        let all : List (K × V) = has.0 ∷ has.1 ∷ has.2 in
+        record {
+          x = has.0;
+          y = has.1;
+          more = has.2;
+          slot_was = has.3;
+          new_is = takes (entry_keys all) (entry_items all) (ap (λ z. slice_get t.nodes z) num_is ∙ has.3) ∙ ap (λ z. with_node t z (without_entry (leaf_content all) (get_or indices 0 0))) num_is;
+        }
+
+    module _ (u : Table K V) (h : HasOthers t u path indices) where
+      abbrev all : List (K × V)
+      all = h.x ∷ h.y ∷ h.more
+
       more : 1 ≤ length (d.l ++ d.r)
-      more = omega (arith, leaf_count es (has.0 ∷ has.1 ∷ has.2) (slice_get t.nodes (get_or path 0 0)) d.slot_is has.3, length-append d.l (d.x ∷ d.r), length-append d.l d.r)
+      more = omega (arith, leaf_count es all (slice_get t.nodes (get_or path 0 0)) d.slot_is h.slot_was, length-append d.l (d.x ∷ d.r), length-append d.l d.r)
 
       w : Puts t u (get_or path 0 0) (leaf_content (d.l ++ d.r))
       w =
-          let done = takes (entry_keys es) (entry_items es) slot in
-          puts t u (get_or path 0 0) (leaf_content (d.l ++ d.r)) (leaf_content es) d.slot_is ((rw num_is at done) ∙ ap (λ z. with_node t (get_or path 0 0) z) (without_entry_is d.l d.x d.r (get_or indices 0 0) d.index_is))
+          let n = get_or path 0 0 in
+          let same : leaf_content all ≡ leaf_content es = read_same t.nodes n (leaf_content es) (leaf_content all) d.slot_is h.slot_was in
+          puts t u n (leaf_content (d.l ++ d.r)) (leaf_content es) d.slot_is (h.new_is ∙ ap (λ z. with_node t n (without_entry z (get_or indices 0 0))) same ∙ ap (λ z. with_node t n z) (without_entry_is d.l d.x d.r (get_or indices 0 0) d.index_is))
+
+      -- where the leaf is the whole tree, there is no row above that names it
+      pub alone_loss : size ≤ 1 → LeafLoss most t u path indices size tree place
+      alone_loss low =
+          let n = get_or path 0 0 in
+          let then : List (LevelNode K V) = d.before ++ node n (d.l ++ d.r) ∷ d.after in
+          let a = above_written t u n (leaf_content (d.l ++ d.r)) path indices 1 size tree.above _ (length (heads d.before)) w d.none_rows d.above in
+          let len = as_many_heads d.before n es (d.l ++ d.r) d.after (omega (arith, length-append d.l (d.x ∷ d.r))) more in
+          leaf_loss most t u u path indices size tree place d more w (rebuilt_same u path indices 1 size tree.above (heads then) (length (heads d.before)) (above_top u path indices 1 size tree.above _ (heads then) (length (heads d.before)) low len a))
 
       -- the rows above, which name the leaf by its old first key
       above_then : (k : K) → ((rs : List (K × V)) → head_of (get_or path 0 0) (d.l ++ d.x ∷ rs) ≡ (k, get_or path 0 0) ∷ []) → Above u path indices 1 size tree.above (heads d.before ++ (k, get_or path 0 0) ∷ heads d.after) (length (heads d.before))
@@ -243,11 +272,11 @@ module _ {K V : Type 0} where
             let none = nil_from_length d.l (omega (arith, first, d.index_is)) in
             above_then d.x.0 (λ rs. ap (λ z. head_of (get_or path 0 0) (z ++ d.x ∷ rs)) none)
 
-        slot_then : slice_get u.nodes (get_or path 0 r) ≡ Some (leaf_content (next.0 ∷ next.1))
+        slot_then : slice_get u.nodes read ≡ Some (leaf_content (next.0 ∷ next.1))
         slot_then = ap (λ z. slice_get u.nodes z) num_is ∙ w.here ∙ ap (λ z. Some (leaf_content z)) next.2
 
         -- the leaf meets what reading its new first key requires
-        pub first_asks : LeafKeyAt u (get_or path 0 r) 0
+        pub first_asks : LeafKeyAt u read 0
         first_asks = (entry_keys (next.0 ∷ next.1), entry_items (next.0 ∷ next.1), slot_then, omega (arith, leaf_keys (next.0 ∷ next.1)))
 
         -- the rows above meet what writing the new first key requires
@@ -255,7 +284,7 @@ module _ {K V : Type 0} where
         above_asks = (tree.above, heads d.before, d.x.0, get_or path 0 0, heads d.after, above)
 
         -- the first entry of the leaf was removed
-        pub ahead : (v : Table K V) (key : K) → ((keys : List K) (vals : List V) → slice_get u.nodes (get_or path 0 r) ≡ Some (Leaf keys vals) → slice_get keys 0 ≡ Some key) →
+        pub ahead : (v : Table K V) (key : K) → ((keys : List K) (vals : List V) → slice_get u.nodes read ≡ Some (Leaf keys vals) → slice_get keys 0 ≡ Some key) →
             ((rows : List (List (LevelNode K ℕ))) (before : List (K × ℕ)) (k : K) (n : ℕ) (after : List (K × ℕ)) → Above u path indices 1 size rows (before ++ (k, n) ∷ after) (length before) →
             Rebuilt u v path indices path indices 1 size rows (before ++ (key, n) ∷ after) (length before) (map sizes rows) []) →
             LeafLoss most t v path indices size tree place

@@ -18,6 +18,12 @@ module _ {X : Type 0} where
   slice_get-set_apart (y ∷ xs) (suc i) zero x ne = refl
   slice_get-set_apart (y ∷ xs) (suc i) (suc j) x ne = slice_get-set_apart xs i j x (λ (e : j ≡ i). ne (ap suc e))
 
+  -- writing what an index holds changes nothing
+  pub set-kept : (xs : List X) (at : ℕ) (e : X) → slice_get xs at ≡ Some e → set xs at e ≡ xs
+  set-kept [] at e is = refl
+  set-kept (x ∷ xs) zero e is = let same : e ≡ x = cc in ap (λ z. z ∷ xs) same
+  set-kept (x ∷ xs) (suc at) e is = ap (λ z. x ∷ z) (set-kept xs at e is)
+
   -- a write gives the element that was written
   pub slice_get-set_same : (xs : List X) (at : ℕ) (e : X) → at < length xs → slice_get (set xs at e) at ≡ Some e
   slice_get-set_same xs at e within =

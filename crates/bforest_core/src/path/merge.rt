@@ -1,15 +1,16 @@
 //! Removing a merged or emptied node from the rows above it, on the way up, and rebalancing nodes that underflow.
-ghost use Rattle.std.specs.Prelude.{◌≡◌, ℕ, suc, ◌+◌, ◌-◌, ◌<◌, ◌≤◌, List, [], ◌∷◌, ◌++◌, map, length, get_or, Some, None, true, false};
-ghost use Rattle.bforest_nodes.specs.Content.{IsLeafCapacity};
+ghost use Rattle.std.specs.Prelude.{◌≡◌, ℕ, suc, ◌+◌, ◌-◌, ◌<◌, ◌≤◌, List, [], ◌∷◌, ◌++◌, map, length, get_or, slice_get, Some, None, true, false};
+ghost use Rattle.bforest_nodes.specs.Content.{Content, IsLeafCapacity, entry_count};
 ghost use Rattle.bforest_core.specs.Levels.{LevelNode, sizes, half_of, most_levels};
 ghost use Rattle.bforest_core.specs.Sizes.{loss_above};
 ghost use Rattle.bforest_core.specs.Place.{inner_content, leaf_content};
-ghost use Rattle.bforest_core.specs.Climb.{Above, nodes_up};
+ghost use Rattle.bforest_core.specs.Climb.{Above, NextIs, nodes_up};
 ghost use Rattle.bforest_core.specs.Removal.{Rebuilt, OnLevel, Loosened, Healed, Joined, Dropped};
 
 use crate::access::{entries, remove_child, separator, set_separator};
 use crate::path::{MIN_CHILDREN, Path};
 use crate::pool::NodePool;
+use bforest_nodes::Node;
 
 impl<K: Copy, V: Copy, const N: usize> Path<K, V, N> {
     // Removes the entry at the path from level `up`, and gives its key to the next one.
@@ -59,8 +60,7 @@ impl<K: Copy, V: Copy, const N: usize> Path<K, V, N> {
             self.new.node self.new.entry 0 self.old.size before n es after rest }
         ensures size { self.new.size ≡ self.old.size }
     {
-        let leaf = self.node[0];
-        let left = entries(pool, leaf);
+        let left = entries(pool, self.node[0]);
         if left > N / 2 {
             if self.entry[0] as usize == left {
                 self.enter_next(0, pool);
@@ -69,17 +69,48 @@ impl<K: Copy, V: Copy, const N: usize> Path<K, V, N> {
         }
         match self.right_sibling(1, pool) {
             None => false,
-            Some(next) => match pool.balance_nodes(leaf, next.0, next.1) {
-                Some(new_key) => {
-                    self.update_next_separator(1, new_key, pool);
-                    false
-                }
-                None => {
-                    pool.free_node(leaf);
-                    self.node[0] = next.1;
-                    true
-                }
-            },
+            Some(next) => self.join_leaf(next, pool),
+        }
+    }
+
+    // Balances the path's leaf, which lost an entry and is less than half full, with its right neighbour. Returns whether the leaf was merged
+    // into it.
+    pub(super) fn join_leaf(&mut self, next: (K, Node), pool: &mut NodePool<K, V, N>) -> bool
+        requires capacity { IsLeafCapacity N }
+        requires height { self.old.size ≤ most_levels }
+        requires next { (rows : List (List (LevelNode K ℕ))) (before : List (K × ℕ)) (x : K × ℕ)
+            (after : List (K × ℕ)) → Above pool.old self.old.node self.old.entry 1 self.old.size rows
+            (before ++ x ∷ after) (length before) → NextIs (Some next) after }
+        requires few { (content : Content K V)
+            → slice_get pool.old.nodes (get_or self.old.node 0 0) ≡ Some content
+            → entry_count content < half_of N }
+        requires pending { (before : List (LevelNode K V)) × (n : ℕ) × (es : List (K × V))
+            × (after : List (LevelNode K V)) × (rest : List (List (LevelNode K ℕ)))
+            × OnLevel leaf_content (half_of N) N pool.old self.old.node self.old.entry 0 self.old.size before
+            n es after rest }
+        ensures healed { result ≡ false → (before : List (LevelNode K V)) (n : ℕ) (es : List (K × V))
+            (after : List (LevelNode K V)) (rest : List (List (LevelNode K ℕ)))
+            → OnLevel leaf_content (half_of N) N pool.old self.old.node self.old.entry 0 self.old.size before
+            n es after rest → Healed leaf_content (half_of N) N pool.old pool.new self.old.node self.old.entry
+            self.new.node self.new.entry 0 self.old.size before n es after rest }
+        ensures joined { result ≡ true → (before : List (LevelNode K V)) (n : ℕ) (es : List (K × V))
+            (after : List (LevelNode K V)) (rest : List (List (LevelNode K ℕ)))
+            → OnLevel leaf_content (half_of N) N pool.old self.old.node self.old.entry 0 self.old.size before
+            n es after rest → Joined leaf_content (half_of N) N pool.old pool.new self.old.node self.old.entry
+            self.new.node self.new.entry 0 self.old.size before n es after rest }
+        ensures size { self.new.size ≡ self.old.size }
+    {
+        let leaf = self.node[0];
+        match pool.balance_nodes(leaf, next.0, next.1) {
+            Some(new_key) => {
+                self.update_next_separator(1, new_key, pool);
+                false
+            }
+            None => {
+                pool.free_node(leaf);
+                self.node[0] = next.1;
+                true
+            }
         }
     }
 

@@ -1,12 +1,12 @@
 //! Removing the entry where a path is.
 ghost use Rattle.std.specs.Prelude.{remove, true, false, IfSome, ◌≡◌, ◌≢◌, ℕ, ◌+◌, ◌-◌, ◌<◌, ◌≤◌, ◌↔◌, List, [], ◌∷◌, ◌++◌, length, get_or, slice_get, Some, None};
-ghost use Rattle.bforest_nodes.specs.Content.{IsLeafCapacity};
-ghost use Rattle.bforest_core.specs.Levels.{LevelNode, flat, Tree, most_levels};
+ghost use Rattle.bforest_nodes.specs.Content.{Content, IsLeafCapacity, entry_count};
+ghost use Rattle.bforest_core.specs.Levels.{LevelNode, flat, half_of, Tree, most_levels};
 ghost use Rattle.bforest_core.specs.Sizes.{shrink};
-ghost use Rattle.bforest_core.specs.Table.{Table};
+ghost use Rattle.bforest_core.specs.Table.{IsUsed, Table};
 ghost use Rattle.bforest_core.specs.Place.{IsPathAt, leaf_content, root_of, count};
-ghost use Rattle.bforest_core.specs.Removal.{UpTo, Trimmed, StandsIn, LeafLoss, Removed, Emptied};
-ghost use Rattle.bforest_core.specs.Change.{Changes, Ends, GivesInOrder, GivesNodes};
+ghost use Rattle.bforest_core.specs.Removal.{UpTo, Trimmed, StandsIn, HasOthers, IsSingle, LeafLoss, Removed, Emptied};
+ghost use Rattle.bforest_core.specs.Change.{Changes, Ends, GivesInOrder, GivesNodes, Shrinks};
 ghost use Rattle.bforest_core.specs.Trees.{IsUnion};
 
 use crate::access::{child, entries, leaf_key, remove_entry};
@@ -15,7 +15,7 @@ use crate::pool::NodePool;
 use bforest_nodes::Node;
 
 impl<K: Copy, V: Copy, const N: usize> Path<K, V, N> {
-    ghost use Rattle.bforest_core.specs.Paths.{IsAtEnd, OnEntry, StandsAt, list_under, nodes_of, sizes_under};
+    ghost use Rattle.bforest_core.specs.Paths.{IsAtEnd, LeafLost, OnEntry, StandsAt, list_under, nodes_of, sizes_under};
 
     /// Removes the entry here, and returns the root of its tree, or `None` if it was the tree's last entry, whose node is freed with it.
     /// The path goes to the next entry, or to the end. Takes no memory.
@@ -60,56 +60,74 @@ impl<K: Copy, V: Copy, const N: usize> Path<K, V, N> {
         }
     }
 
-    /// Removes the entry here as `remove` does, for a caller that does not use the path afterwards: nothing is stated of where it goes.
-    /// Where the leaf stays half full, no neighbour is read.
-    pub fn remove_only(&mut self, pool: &mut NodePool<K, V, N>) -> Option<Node>
-        requires union { IsUnion N pool.old }
-        requires stands { OnEntry pool.old self.old }
-
-        // The effect of a removal.
-        ensures removed { (at : OnEntry pool.old self.old)
-            → IfSome result (λ root'. Changes N pool.old pool.new at.root root'
-            (remove (list_under pool.old at.root) at.place)
-            (shrink N at.place (sizes_under pool.old at.root))) }
-        ensures account { (at : OnEntry pool.old self.old) → GivesNodes (sizes_under pool.old at.root)
-            (shrink N at.place (sizes_under pool.old at.root)) pool.old pool.new }
-        ensures order { (at : OnEntry pool.old self.old) → GivesInOrder (nodes_of self.old)
-            (sizes_under pool.old at.root) (shrink N at.place (sizes_under pool.old at.root)) pool.old
-            pool.new }
-        ensures same_root { (at : OnEntry pool.old self.old) → IfSome result (λ root'. (root' ≡ at.root)
-            ↔ (length (shrink N at.place (sizes_under pool.old at.root))
-            ≡ length (sizes_under pool.old at.root))) }
-
-        // When it was the last entry, and the effect then.
-        ensures last { (at : OnEntry pool.old self.old)
-            → (result ≡ None) ↔ (length (list_under pool.old at.root) ≡ 1) }
-        ensures ended { result ≡ None → (at : OnEntry pool.old self.old) → Ends N pool.old pool.new at.root }
-        ensures none_left { result ≡ None → (at : OnEntry pool.old self.old)
-            → shrink N at.place (sizes_under pool.old at.root) ≡ [] }
-        ensures freed_root { (at : OnEntry pool.old self.old)
-            → result ≢ Some at.root → 0 < count at.root pool.new.chain }
+    /// Restores the tree under `root` after the path's leaf lost the entry at the path's index, and nothing else changed. Returns the root
+    /// that the tree has then, or `None` if it is empty. For a caller that does not use the path afterwards: nothing is stated of where it
+    /// goes.
+    ///
+    /// The rows above get the leaf's first key. A leaf that falls under half full is filled from its right neighbour or merged into it, as
+    /// `remove` does, and a leaf with no entry is freed.
+    pub fn heal(&mut self, root: Node, pool: &mut NodePool<K, V, N>) -> Option<Node>
+        requires taken { (old : Table K V) × (place : ℕ) × LeafLost old pool.old root place self.old }
+        ensures healed { (old : Table K V) (place : ℕ) → LeafLost old pool.old root place self.old
+            → Shrinks N old pool.new (nodes_of self.old) root place result }
     {
-        if entries(pool, self.node[0]) > N / 2 + 1 {
-            self.take_entry(pool);
-            Some(self.root())
-        } else {
-            self.remove(pool)
+        let left = entries(pool, self.node[0]);
+        if left == 0 {
+            return self.remove_leaf(root, pool);
+        }
+        self.renew_first(pool);
+        if left > N / 2 {
+            return Some(root);
+        }
+        Some(self.fill_leaf(root, pool))
+    }
+
+    // Fills the path's leaf, which lost an entry and is less than half full, from its right neighbour, or merges it into that, and so on
+    // upwards. Returns the tree's root.
+    fn fill_leaf(&mut self, root: Node, pool: &mut NodePool<K, V, N>) -> Node
+        requires capacity { IsLeafCapacity N }
+        requires lost { (old : Table K V) × (tree : Tree K V) × (place : ℕ)
+            × StandsIn N old self.old.node self.old.entry self.old.size tree place
+            × LeafLoss N old pool.old self.old.node self.old.entry self.old.size tree place
+            × (root_of tree ≡ root) }
+        requires few { (content : Content K V)
+            → slice_get pool.old.nodes (get_or self.old.node 0 0) ≡ Some content
+            → entry_count content < half_of N }
+        ensures { (old : Table K V) (tree : Tree K V) (place : ℕ)
+            → StandsIn N old self.old.node self.old.entry self.old.size tree place
+            → LeafLoss N old pool.old self.old.node self.old.entry self.old.size tree place
+            → root_of tree ≡ root
+            → Removed N old pool.new self.old.node (λ now. Unit {0}) tree place result }
+    {
+        match self.right_sibling(1, pool) {
+            None => root,
+            Some(next) => {
+                if self.join_leaf(next, pool) {
+                    self.merge_above(1, pool);
+                    self.collapse_root(root, pool)
+                } else {
+                    root
+                }
+            }
         }
     }
 
-    // Removes the only entry of the path's leaf, with the leaf, and goes to the end: only the rightmost leaf can have one entry. Returns
-    // the tree's root, or `None` if the tree is empty.
+    // Frees the path's leaf, which has one entry, or had one before it was removed, and goes to the end: only the rightmost leaf can have one
+    // entry. Returns the tree's root, or `None` if the tree is empty.
     fn remove_leaf(&mut self, root: Node, pool: &mut NodePool<K, V, N>) -> Option<Node>
         requires capacity { IsLeafCapacity N }
-        requires stands { (tree : Tree K V) × (place : ℕ) × StandsIn N pool.old self.old.node self.old.entry
-            self.old.size tree place × (root_of tree ≡ root) }
-        requires single { (x : K × V) × (slice_get pool.old.nodes (get_or self.old.node 0 0)
-            ≡ Some (leaf_content (x ∷ []))) }
-        ensures removed { (tree : Tree K V) (place : ℕ) → StandsIn N pool.old self.old.node self.old.entry
-            self.old.size tree place → IfSome result (λ root'. Removed N pool.old pool.new self.old.node
+        requires used { IsUsed pool.old (get_or self.old.node 0 0) }
+        requires single { (old : Table K V) × (tree : Tree K V) × (place : ℕ)
+            × StandsIn N old self.old.node self.old.entry self.old.size tree place × (root_of tree ≡ root)
+            × IsSingle old pool.old (get_or self.old.node 0 0) }
+        ensures removed { (old : Table K V) (tree : Tree K V) (place : ℕ)
+            → StandsIn N old self.old.node self.old.entry self.old.size tree place
+            → IsSingle old pool.old (get_or self.old.node 0 0) → IfSome result (λ root'.
+            Removed N old pool.new self.old.node
             (λ now. IsPathAt self.new.node self.new.entry self.new.size now place) tree place root') }
-        ensures emptied { result ≡ None → (tree : Tree K V) (place : ℕ) → StandsIn N pool.old self.old.node
-            self.old.entry self.old.size tree place → Emptied N pool.old pool.new tree place }
+        ensures emptied { result ≡ None → (old : Table K V) (tree : Tree K V) (place : ℕ)
+            → StandsIn N old self.old.node self.old.entry self.old.size tree place
+            → IsSingle old pool.old (get_or self.old.node 0 0) → Emptied N old pool.new tree place }
         ensures end { self.new.size ≡ 0 }
     {
         pool.free_node(self.node[0]);
@@ -157,13 +175,24 @@ impl<K: Copy, V: Copy, const N: usize> Path<K, V, N> {
             self.now.size tree place → LeafLoss N pool.old pool.new self.now.node self.now.entry self.now.size
             tree place }
     {
-        let leaf = self.node[0];
-        let index = self.entry[0] as usize;
-        remove_entry(pool, leaf, index);
-        if index > 0 {
+        remove_entry(pool, self.node[0], self.entry[0] as usize);
+        self.renew_first(pool);
+    }
+
+    // Gives the rows above the first key of the path's leaf, which lost the entry at the path's index and has others, if it was the first.
+    fn renew_first(&self, pool: &mut NodePool<K, V, N>)
+        requires taken { (old : Table K V) × (tree : Tree K V) × (place : ℕ)
+            × StandsIn N old self.now.node self.now.entry self.now.size tree place
+            × HasOthers old pool.old self.now.node self.now.entry }
+        ensures { (old : Table K V) (tree : Tree K V) (place : ℕ)
+            → StandsIn N old self.now.node self.now.entry self.now.size tree place
+            → HasOthers old pool.old self.now.node self.now.entry
+            → LeafLoss N old pool.new self.now.node self.now.entry self.now.size tree place }
+    {
+        if self.entry[0] > 0 {
             return;
         }
-        let key = leaf_key(pool, leaf);
+        let key = leaf_key(pool, self.node[0]);
         self.update_separator(1, key, pool);
     }
 

@@ -1,11 +1,9 @@
 use Rattle.std.proofs.Common.{rules, ℕ, ◌≤◌, ◌<◌, ◌/◌, refl, arith}
 use Rattle.bforest_core.proofs.Words.{IsLeafCapacity, half_of, leaf_content}
-use Rattle.bforest_core.proofs.removal.Balance.{IsHalf, leaf_stored}
-use Rattle.bforest_core.proofs.removal.Rebalancing.{counted_asks, past_asks, past_heals, stay_heals, beside_asks, last_heals, balance_asks, rekey_asks, rekey_heals, free_asks, free_joins}
+use Rattle.bforest_core.proofs.removal.Asked.{beside_is}
+use Rattle.bforest_core.proofs.removal.Balance.{leaf_stored}
+use Rattle.bforest_core.proofs.removal.Rebalancing.{beside_asks, counted_asks, half_leaf, last_heals, past_asks, past_heals, stay_heals, under_here}
 use Rattle.bforest_core.proofs.path.Path.rebalance_leaf.Goals as goal
-
-half_leaf : (n : ℕ) → IsLeafCapacity n → IsHalf (half_of n) n
-half_leaf n c = record { two = omega (arith, c.least); lo = omega (arith, c.odd); hi = omega (arith, c.odd) }
 
 under_half : (n m : ℕ) → IsLeafCapacity n → m ≤ n / 2 → m < half_of n
 under_half n m c low = omega (arith, c.odd)
@@ -37,35 +35,12 @@ right_sibling-requires g c =
     let w = c.requires.pending in
     (search rules, (search rules, (c.requires.height, beside_asks leaf_content _ _ _ (half_leaf _ c.requires.capacity) (leaf_stored g.row.N) _ _ _ _ _ _ c.index-self-0.result refl (omega arith) c.requires.height w.0 w.1 w.2 w.3 w.4 w.5)))
 
-pub balance_nodes-requires : goal.balance_nodes-requires
-balance_nodes-requires g c =
+pub join_leaf-requires : goal.join_leaf-requires
+join_leaf-requires g c =
     let w = c.requires.pending in
-    (search rules, balance_asks leaf_content _ _ _ (half_leaf _ c.requires.capacity) (leaf_stored g.row.N) _ _ _ _ _ _ c.index-self-0.result refl (omega arith) c.requires.height w.0 w.1 w.2 w.3 w.4 w.5 c.entries-left.result c.entries-left.ensures.value (under_half _ _ c.requires.capacity c.if-left.false) _ _ c.in-Some.is c.right_sibling.ensures)
-
-pub update_next_separator-requires : goal.update_next_separator-requires
-update_next_separator-requires g c =
-    let w = c.requires.pending in
-    let asked = rekey_asks leaf_content _ _ _ (half_leaf _ c.requires.capacity) (leaf_stored g.row.N) _ _ _ _ _ _ c.index-self-0.result refl (omega arith) c.requires.height w.0 w.1 w.2 w.3 w.4 w.5 c.entries-left.result c.entries-left.ensures.value (under_half _ _ c.requires.capacity c.if-left.false) _ _ c.in-Some.is c.right_sibling.ensures
-    c.balance_nodes.new.self _ c.balance_nodes.ensures.balanced _ c.in-Some-balance_nodes.is in
-    (search rules, (search rules, (c.requires.height, asked)))
-
-pub free_node-requires : goal.free_node-requires
-free_node-requires g c =
-    let w = c.requires.pending in
-    let asked = free_asks leaf_content _ _ _ (half_leaf _ c.requires.capacity) (leaf_stored g.row.N) _ _ _ _ _ _ c.index-self-0.result refl (omega arith) c.requires.height w.0 w.1 w.2 w.3 w.4 w.5 c.entries-left.result c.entries-left.ensures.value (under_half _ _ c.requires.capacity c.if-left.false) _ _ c.in-Some.is c.right_sibling.ensures
-    c.balance_nodes.new.self _ c.balance_nodes.ensures.balanced c.in-None-balance_nodes.is in
-    (search rules, asked)
+    let few = under_here leaf_content _ _ _ (half_leaf _ c.requires.capacity) (leaf_stored g.row.N) _ _ _ _ _ _ c.index-self-0.result refl (omega arith) c.requires.height w.0 w.1 w.2 w.3 w.4 w.5 c.entries-left.result c.entries-left.ensures.value (under_half _ _ c.requires.capacity c.if-left.false) in
+    (search rules, (search rules, (c.requires.capacity, (c.requires.height, (beside_is _ _ _ _ _ _ _ c.right_sibling.ensures c.in-Some.is, (few, w))))))
 
 pub returns-in-None-clause-healed : goal.returns-in-None-clause-healed
 returns-in-None-clause-healed g c = λ same before n es after rest p.
     last_heals leaf_content _ _ _ (half_leaf _ c.requires.capacity) (leaf_stored g.row.N) _ _ _ _ _ _ c.index-self-0.result refl (omega arith) c.requires.height before n es after rest p c.in-None.ensures
-
-pub returns-in-Some-balance_nodes-clause-healed : goal.returns-in-Some-balance_nodes-clause-healed
-returns-in-Some-balance_nodes-clause-healed g c = λ same before n es after rest p.
-    rekey_heals leaf_content _ _ _ (half_leaf _ c.requires.capacity) (leaf_stored g.row.N) _ _ _ _ _ _ c.index-self-0.result refl (omega arith) c.requires.height before n es after rest p c.entries-left.result c.entries-left.ensures.value (under_half _ _ c.requires.capacity c.if-left.false) _ _ c.in-Some.is c.right_sibling.ensures
-    c.balance_nodes.new.self _ c.balance_nodes.ensures.balanced _ c.in-Some-balance_nodes.is c.update_next_separator.new.pool c.update_next_separator.ensures
-
-pub returns-in-None-balance_nodes-clause-joined : goal.returns-in-None-balance_nodes-clause-joined
-returns-in-None-balance_nodes-clause-joined g c = λ same before n es after rest p.
-    free_joins leaf_content _ _ _ (half_leaf _ c.requires.capacity) (leaf_stored g.row.N) _ _ _ _ _ _ c.index-self-0.result refl (omega arith) c.requires.height before n es after rest p c.entries-left.result c.entries-left.ensures.value (under_half _ _ c.requires.capacity c.if-left.false) _ _ c.in-Some.is c.right_sibling.ensures
-    c.balance_nodes.new.self _ c.balance_nodes.ensures.balanced c.in-None-balance_nodes.is c.free_node.new.self c.free_node.ensures.freed

@@ -1,7 +1,7 @@
 use Rattle.std.proofs.Common.{rules, ℕ, Some, sym, ◌∙◌, arith}
-use Rattle.bforest_core.proofs.Words.{IsPathAt, tree_of, StandsUnder}
+use Rattle.bforest_core.proofs.Words.{IsPathAt, get_or_default, tree_of, StandsUnder}
 use Rattle.bforest_core.proofs.rows.Tops.{root-stands}
-use Rattle.bforest_core.proofs.removal.Taking.{counted_asks, single, others}
+use Rattle.bforest_core.proofs.removal.Taking.{counted_asks, leaf_used, single, others}
 use Rattle.bforest_core.proofs.removal.Removal.{stands_in, removal, Said, outcome, if_some}
 use Rattle.bforest_core.proofs.path.Path.remove.Given.{Over}
 use Rattle.bforest_core.proofs.path.Path.remove.Goals as goal
@@ -15,22 +15,23 @@ root-root-requires g c =
 pub entries-requires : goal.entries-requires
 entries-requires g c =
     let w = c.requires.stands in
-    (search rules, counted_asks _ _ _ _ _ _ w.place (stands_in _ _ w.root w.place _ _ _ c.requires.union w.on) c.index-self-0.result (omega arith))
+    (search rules, counted_asks _ _ _ _ _ _ w.place (stands_in _ _ w.root w.place _ _ _ c.requires.union w.on) _ (get_or_default c.args.self.now.node 0 c.index-self-0.result 0 (omega arith)))
 
 pub remove_leaf-requires : goal.remove_leaf-requires
 remove_leaf-requires g c =
     let w = c.requires.stands in
     let s = stands_in _ _ w.root w.place _ _ _ c.requires.union w.on in
     let tree = tree_of c.args.pool.now.nodes w.root in
-    let alone = single _ _ _ _ _ tree w.place s c.index-self-0.result (omega arith) c.entries.result c.entries.ensures.value c.if-entries-eq1.true in
-    (search rules, (search rules, (c.requires.union.1.capacity, ((tree, w.place, s, root-stands g.row.N tree c.args.self.now.node _ _ w.place s.fit s.stands ∙ sym c.root-root.ensures), alone))))
+    let num = get_or_default c.args.self.now.node 0 c.index-self-0.result 0 (omega arith) in
+    let alone = single _ _ _ _ _ tree w.place s _ num c.entries.result c.entries.ensures.value c.if-entries-eq1.true in
+    (search rules, (search rules, (c.requires.union.1.capacity, (leaf_used _ _ _ _ _ tree w.place s _ num, (c.args.pool.now, tree, w.place, s, root-stands g.row.N tree c.args.self.now.node _ _ w.place s.fit s.stands ∙ sym c.root-root.ensures, alone)))))
 
 pub remove_entry-requires : goal.remove_entry-requires
 remove_entry-requires g c =
     let w = c.requires.stands in
     let s = stands_in _ _ w.root w.place _ _ _ c.requires.union w.on in
     let tree = tree_of c.args.pool.now.nodes w.root in
-    let more = others _ _ _ _ _ tree w.place s c.index-self-0.result (omega arith) c.entries.result c.entries.ensures.value (λ one. c.if-entries-eq1.false one) in
+    let more = others _ _ _ _ _ tree w.place s _ (get_or_default c.args.self.now.node 0 c.index-self-0.result 0 (omega arith)) c.entries.result c.entries.ensures.value (λ one. c.if-entries-eq1.false one) in
     (search rules, (search rules, (c.requires.union.1.capacity, ((tree, w.place, s, root-stands g.row.N tree c.args.self.now.node _ _ w.place s.fit s.stands ∙ sym c.root-root.ensures), more))))
 
 -- the effect of removing a leaf
@@ -39,7 +40,8 @@ leaf_said : (g : Over) (c : goal.After-remove_leaf g) (root place : ℕ) → Sta
 leaf_said g c root place u =
     let s = stands_in g.row.N c.args.pool.now root place _ _ _ c.requires.union u in
     let tree = tree_of c.args.pool.now.nodes root in
-    outcome _ _ _ root place _ _ _ _ c.requires.union u c.remove_leaf.result (c.remove_leaf.ensures.removed tree place s) (λ none. c.remove_leaf.ensures.emptied none tree place s)
+    let alone = single _ _ _ _ _ tree place s _ (get_or_default c.args.self.now.node 0 c.index-self-0.result 0 (omega arith)) c.entries.result c.entries.ensures.value c.if-entries-eq1.true in
+    outcome _ _ _ root place _ _ _ _ c.requires.union u c.remove_leaf.result (c.remove_leaf.ensures.removed c.args.pool.now tree place s alone) (λ none. c.remove_leaf.ensures.emptied none c.args.pool.now tree place s alone)
 
 -- the effect of removing an entry from a leaf that has others
 entry_said : (g : Over) (c : goal.After-remove_entry g) (root place : ℕ) → StandsUnder c.args.pool.now.nodes root c.args.self.now.node c.args.self.now.entry c.args.self.now.size place →

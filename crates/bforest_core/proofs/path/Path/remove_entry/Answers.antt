@@ -14,7 +14,7 @@ returns-then-is_past_end g c = λ tree place s.
     let s1 = c.requires.stands in
     let l = c.take_entry.ensures tree place s in
     let past = c.is_past_end.ensures.past c.if-is_past_end.true c.args.pool.now tree place l in
-    past_removed _ _ c.take_entry.new.pool _ _ _ tree place s l c.args.root (stands_root _ _ _ _ _ tree s1.0 place s1.1 c.args.root s s1.2 s1.3) past.0 past.1
+    past_removed _ _ c.take_entry.new.pool _ _ _ tree place s l c.args.root (stands_root _ _ _ _ _ _ tree s1.0 place s1.1 c.args.root s s1.2 s1.3) past.0 past.1
 
 pub rebalance_leaf-requires : goal.rebalance_leaf-requires
 rebalance_leaf-requires g c =
@@ -44,11 +44,11 @@ returns-then-rebalance_leaf g c = λ tree place s.
     let l = c.take_entry.ensures tree place s in
     let low = c.is_past_end.ensures.within c.if-is_past_end.false c.args.pool.now tree place l in
     let size_is = c.merge_above.ensures.size ∙ c.rebalance_leaf.ensures.size in
-    joined_removed _ _ _ _ _ _ tree place s l c.args.root (stands_root _ _ _ _ _ tree s1.0 place s1.1 c.args.root s s1.2 s1.3) low c.rebalance_leaf.new.pool _ _ c.rebalance_leaf.new.self.size c.rebalance_leaf.ensures.size (c.rebalance_leaf.ensures.joined c.if-rebalance_leaf.true) c.merge_above.new.pool _ _ c.merge_above.ensures.merged c.merge_above.new.self.size size_is c.collapse_root.new.pool _ _ c.collapse_root.new.self.size c.collapse_root.result c.collapse_root.ensures.trimmed c.collapse_root.ensures.nodes c.collapse_root.ensures.entries
+    joined_removed _ _ _ _ _ _ tree place s l c.args.root (stands_root _ _ _ _ _ _ tree s1.0 place s1.1 c.args.root s s1.2 s1.3) low c.rebalance_leaf.new.pool _ _ c.rebalance_leaf.new.self.size c.rebalance_leaf.ensures.size (c.rebalance_leaf.ensures.joined c.if-rebalance_leaf.true) c.merge_above.new.pool _ _ c.merge_above.ensures.merged c.merge_above.new.self.size size_is c.collapse_root.new.pool _ _ c.collapse_root.new.self.size c.collapse_root.result c.collapse_root.ensures.trimmed c.collapse_root.ensures.nodes c.collapse_root.ensures.entries
 
 pub returns-else-rebalance_leaf : goal.returns-else-rebalance_leaf
 returns-else-rebalance_leaf g c = λ tree place s.
     let s1 = c.requires.stands in
     let l = c.take_entry.ensures tree place s in
     let low = c.is_past_end.ensures.within c.if-is_past_end.false c.args.pool.now tree place l in
-    healed_removed _ _ _ _ _ _ tree place s l c.args.root (stands_root _ _ _ _ _ tree s1.0 place s1.1 c.args.root s s1.2 s1.3) low c.rebalance_leaf.new.pool _ _ c.rebalance_leaf.new.self.size (c.rebalance_leaf.ensures.healed c.if-rebalance_leaf.false) c.rebalance_leaf.ensures.size
+    healed_removed _ _ _ _ _ _ tree place s l c.args.root (stands_root _ _ _ _ _ _ tree s1.0 place s1.1 c.args.root s s1.2 s1.3) low c.rebalance_leaf.new.pool _ _ c.rebalance_leaf.new.self.size (c.rebalance_leaf.ensures.healed c.if-rebalance_leaf.false) c.rebalance_leaf.ensures.size

@@ -1,10 +1,9 @@
 use Rattle.bforest_trees.proofs.Entering.{ends-at-root, leaf-put, leaf-union}
-use Rattle.bforest_trees.proofs.trees.Trees.put_alone.Given.{Over}
 use Rattle.bforest_trees.proofs.trees.Trees.put_alone.Goals as goal
 use Rattle.bforest_core.proofs.walks.Alone.{lone, placed-alone}
 use Rattle.bforest_core.specs.Paths.{list_under}
 use Rattle.bforest_nodes.specs.Entries.{place}
-use Rattle.std.proofs.Common.{ap, get_or, rules, set, sym, ◌∙◌, ◌≡◌}
+use Rattle.std.proofs.Common.{ap, get_or, rules, set, sym, ◌∙◌}
 
 pub put_in_leaf-requires : goal.put_in_leaf-requires
 put_in_leaf-requires g c = (search rules, (c.self.invariant, (c.args.root, lone c.args.root, lone 0, 1, (ends-at-root g.row.N (g.C.Comparator.order c.args.comp.now) (g.met.C.Comparator.total c.args.comp.now) c.self.inside.pool c.args.self.now c.args.root c.args.key c.self.view_is c.self.invariant c.requires.live c.requires.leaf c.requires.increasing))))

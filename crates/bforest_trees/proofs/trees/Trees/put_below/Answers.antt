@@ -1,10 +1,9 @@
 use Rattle.bforest_trees.proofs.Changed.{list-root, live-root}
 use Rattle.bforest_trees.proofs.Entering.{leaf-put, leaf-union}
-use Rattle.bforest_trees.proofs.trees.Trees.put_below.Given.{Over}
 use Rattle.bforest_trees.proofs.trees.Trees.put_below.Goals as goal
 use Rattle.bforest_core.specs.Paths.{list_under}
 use Rattle.bforest_nodes.specs.Entries.{place}
-use Rattle.std.proofs.Common.{rules, ◌≡◌}
+use Rattle.std.proofs.Common.{rules}
 
 pub find_leaf-leaf-requires : goal.find_leaf-leaf-requires
 find_leaf-leaf-requires g c =
