@@ -36,6 +36,10 @@ module _ {K : Type 0} where
 abbrev pub HasNoParent : Spot → Type 0
 HasNoParent spot = spot.height ≡ 0
 
+-- the leaf before has the same parent
+abbrev pub HasPrev : Spot → Type 0
+HasPrev spot = (0 < spot.height) × (0 < spot.code % 8)
+
 module _ {K V : Type 0} where
   -- the spot is that of the leaf at this place of the leaves of the tree under a root
   pub record IsSpotAt (table : Table K V) (root : ℕ) (spot : Spot) (place : ℕ) : Type 0 where
