@@ -32,6 +32,17 @@ module _ {K : Type 0} where
     pub root_is : root_above list rows ≡ root
     pub depth_is : depth ≡ length rows
 
+module _ {K V : Type 0} (slots : List (Content K V)) (root code depth : ℕ) where
+  -- the way of a code goes down some rows
+  abbrev pub HasWay : Type 0
+  HasWay =
+      (numbers : List ℕ) × (rows : List (List (LevelNode K ℕ))) × (list : List (K × ℕ)) × (place : ℕ) × CodedOver slots root code depth numbers rows list place
+
+  -- what is said of the rows down which the way of a code goes, of the nodes below them and of its place there, whichever they are
+  abbrev pub OnWay : (List ℕ → List (List (LevelNode K ℕ)) → List (K × ℕ) → ℕ → Type 0) → Type 0
+  OnWay Said =
+      (numbers : List ℕ) (rows : List (List (LevelNode K ℕ))) (list : List (K × ℕ)) (place : ℕ) → CodedOver slots root code depth numbers rows list place → Said numbers rows list place
+
 -- no inner node is above a spot's leaf: it is the only one of its tree, or there is none
 abbrev pub HasNoParent : Spot → Type 0
 HasNoParent spot = spot.height ≡ 0

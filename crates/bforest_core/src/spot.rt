@@ -4,7 +4,7 @@ ghost use Rattle.bforest_core.specs.Levels.{LevelNode, heads};
 ghost use Rattle.bforest_core.specs.Trees.{IsUnion, is_root, tree_of};
 ghost use Rattle.bforest_nodes.specs.Content.{IsLeafCapacity};
 ghost use Rattle.bforest_core.specs.Descent.{Under};
-ghost use Rattle.bforest_core.specs.Spots.{CodedOver, HasNext, HasNoParent, HasPrev, IsLeafAt, IsSpotAt, IsWay, NumberAt, SpotOn, leaf_count};
+ghost use Rattle.bforest_core.specs.Spots.{CodedOver, HasNext, HasNoParent, HasPrev, HasWay, IsLeafAt, IsSpotAt, IsWay, NumberAt, OnWay, SpotOn, leaf_count};
 
 use crate::access::{child, entries, last_index};
 use crate::pool::NodePool;
@@ -281,14 +281,11 @@ fn next_far<K: Copy, V: Copy, const N: usize>(
     pool: &NodePool<K, V, N>,
 ) -> Option<(Spot, Node)>
     requires low { height ≤ 16 }
-    requires over { (numbers : List ℕ) × (rows : List (List (LevelNode K ℕ))) × (list : List (K × ℕ))
-        × (place : ℕ) × CodedOver pool.now.nodes root code height numbers rows list place }
-    ensures some { IfSome result (λ found. (numbers : List ℕ) (rows : List (List (LevelNode K ℕ)))
-        (list : List (K × ℕ)) (place : ℕ) → CodedOver pool.now.nodes root code height numbers rows list place
-        → (others : List ℕ) × IsWay others found.0 rows (suc place) × NumberAt list (suc place) found.1) }
-    ensures none { result ≡ None → (numbers : List ℕ) (rows : List (List (LevelNode K ℕ)))
-        (list : List (K × ℕ)) (place : ℕ) → CodedOver pool.now.nodes root code height numbers rows list place
-        → suc place ≡ length list }
+    requires over { HasWay pool.now.nodes root code height }
+    ensures some { IfSome result (λ found. OnWay pool.now.nodes root code height (λ numbers rows list place.
+        (others : List ℕ) × IsWay others found.0 rows (suc place) × NumberAt list (suc place) found.1)) }
+    ensures none { result ≡ None → OnWay pool.now.nodes root code height (λ numbers rows list place.
+        suc place ≡ length list) }
 {
     match next_on(code, height, root, pool) {
         Some(found) => Some((spot_of(found.0, height, root, pool), found.1)),
@@ -304,15 +301,12 @@ fn prev_far<K: Copy, V: Copy, const N: usize>(
     pool: &NodePool<K, V, N>,
 ) -> Option<(Spot, Node)>
     requires low { height ≤ 16 }
-    requires over { (numbers : List ℕ) × (rows : List (List (LevelNode K ℕ))) × (list : List (K × ℕ))
-        × (place : ℕ) × CodedOver pool.now.nodes root code height numbers rows list place }
-    ensures some { IfSome result (λ found. (numbers : List ℕ) (rows : List (List (LevelNode K ℕ)))
-        (list : List (K × ℕ)) (place : ℕ) → CodedOver pool.now.nodes root code height numbers rows list place
-        → (0 < place) × (others : List ℕ) × IsWay others found.0 rows (place - 1)
-        × NumberAt list (place - 1) found.1) }
-    ensures none { result ≡ None → (numbers : List ℕ) (rows : List (List (LevelNode K ℕ)))
-        (list : List (K × ℕ)) (place : ℕ) → CodedOver pool.now.nodes root code height numbers rows list place
-        → place ≡ 0 }
+    requires over { HasWay pool.now.nodes root code height }
+    ensures some { IfSome result (λ found. OnWay pool.now.nodes root code height (λ numbers rows list place.
+        (0 < place) × (others : List ℕ) × IsWay others found.0 rows (place - 1)
+        × NumberAt list (place - 1) found.1)) }
+    ensures none { result ≡ None → OnWay pool.now.nodes root code height (λ numbers rows list place.
+        place ≡ 0) }
 {
     match prev_on(code, height, root, pool) {
         Some(before) => Some((spot_of(before.0, height, root, pool), before.1)),
@@ -327,10 +321,9 @@ fn node_of<K: Copy, V: Copy, const N: usize>(
     root: Node,
     pool: &NodePool<K, V, N>,
 ) -> Node
-    requires over { (numbers : List ℕ) × (rows : List (List (LevelNode K ℕ))) × (list : List (K × ℕ))
-        × (place : ℕ) × CodedOver pool.now.nodes root code depth numbers rows list place }
-    ensures number { (numbers : List ℕ) (rows : List (List (LevelNode K ℕ))) (list : List (K × ℕ)) (place : ℕ)
-        → CodedOver pool.now.nodes root code depth numbers rows list place → NumberAt list place result }
+    requires over { HasWay pool.now.nodes root code depth }
+    ensures number { OnWay pool.now.nodes root code depth (λ numbers rows list place.
+        NumberAt list place result) }
 {
     if depth == 0 {
         return root;
@@ -347,15 +340,12 @@ fn next_on<K: Copy, V: Copy, const N: usize>(
     pool: &NodePool<K, V, N>,
 ) -> Option<(u64, Node)>
     requires low { depth ≤ 16 }
-    requires over { (numbers : List ℕ) × (rows : List (List (LevelNode K ℕ))) × (list : List (K × ℕ))
-        × (place : ℕ) × CodedOver pool.now.nodes root code depth numbers rows list place }
-    ensures some { IfSome result (λ found. (numbers : List ℕ) (rows : List (List (LevelNode K ℕ)))
-        (list : List (K × ℕ)) (place : ℕ) → CodedOver pool.now.nodes root code depth numbers rows list place
-        → (others : List ℕ) × CodedOver pool.now.nodes root found.0 depth others rows list (suc place)
-        × NumberAt list (suc place) found.1) }
-    ensures none { result ≡ None → (numbers : List ℕ) (rows : List (List (LevelNode K ℕ)))
-        (list : List (K × ℕ)) (place : ℕ) → CodedOver pool.now.nodes root code depth numbers rows list place
-        → suc place ≡ length list }
+    requires over { HasWay pool.now.nodes root code depth }
+    ensures some { IfSome result (λ found. OnWay pool.now.nodes root code depth (λ numbers rows list place.
+        (others : List ℕ) × CodedOver pool.now.nodes root found.0 depth others rows list (suc place)
+        × NumberAt list (suc place) found.1)) }
+    ensures none { result ≡ None → OnWay pool.now.nodes root code depth (λ numbers rows list place.
+        suc place ≡ length list) }
 {
     if depth == 0 {
         return None;
@@ -379,16 +369,13 @@ fn prev_on<K: Copy, V: Copy, const N: usize>(
     pool: &NodePool<K, V, N>,
 ) -> Option<(u64, Node)>
     requires low { depth ≤ 16 }
-    requires over { (numbers : List ℕ) × (rows : List (List (LevelNode K ℕ))) × (list : List (K × ℕ))
-        × (place : ℕ) × CodedOver pool.now.nodes root code depth numbers rows list place }
-    ensures some { IfSome result (λ found. (numbers : List ℕ) (rows : List (List (LevelNode K ℕ)))
-        (list : List (K × ℕ)) (place : ℕ) → CodedOver pool.now.nodes root code depth numbers rows list place
-        → (0 < place) × (others : List ℕ)
+    requires over { HasWay pool.now.nodes root code depth }
+    ensures some { IfSome result (λ found. OnWay pool.now.nodes root code depth (λ numbers rows list place.
+        (0 < place) × (others : List ℕ)
         × CodedOver pool.now.nodes root found.0 depth others rows list (place - 1)
-        × NumberAt list (place - 1) found.1) }
-    ensures none { result ≡ None → (numbers : List ℕ) (rows : List (List (LevelNode K ℕ)))
-        (list : List (K × ℕ)) (place : ℕ) → CodedOver pool.now.nodes root code depth numbers rows list place
-        → place ≡ 0 }
+        × NumberAt list (place - 1) found.1)) }
+    ensures none { result ≡ None → OnWay pool.now.nodes root code depth (λ numbers rows list place.
+        place ≡ 0) }
 {
     if depth == 0 {
         return None;
@@ -460,10 +447,9 @@ fn spot_of<K: Copy, V: Copy, const N: usize>(
     root: Node,
     pool: &NodePool<K, V, N>,
 ) -> Spot
-    requires over { (numbers : List ℕ) × (rows : List (List (LevelNode K ℕ))) × (list : List (K × ℕ))
-        × (place : ℕ) × CodedOver pool.now.nodes root code height numbers rows list place }
-    ensures way { (numbers : List ℕ) (rows : List (List (LevelNode K ℕ))) (list : List (K × ℕ)) (place : ℕ)
-        → CodedOver pool.now.nodes root code height numbers rows list place → IsWay numbers result rows place }
+    requires over { HasWay pool.now.nodes root code height }
+    ensures way { OnWay pool.now.nodes root code height (λ numbers rows list place.
+        IsWay numbers result rows place) }
 {
     if height == 0 {
         return Spot {
