@@ -1,6 +1,7 @@
 -- The place of a leaf in its tree as a number, with an octal digit for each level of inner nodes.
 use Rattle.std.specs.Prelude.{◌≡◌, ℕ, ◌+◌, ◌<◌, ◌/◌, ◌%◌, IsTrue, List, [], ◌∷◌, ◌++◌, drop, length, get_or, slice_get, take, Some, ◌≤◌}
 use Rattle.bforest_nodes.specs.Content.{Content}
+use Rattle.bforest_core.specs.Descent.{Under}
 use Rattle.bforest_core.specs.Levels.{LevelNode, flat, node, Stacked}
 use Rattle.bforest_core.specs.Place.{IsAt, RowsIn, inner_content, leaf_content, root_above}
 use Rattle.bforest_core.specs.Table.{Table}
@@ -99,3 +100,22 @@ module _ {K : Type 0} where
     pub parent_is : 0 < spot.height → get_or numbers 0 0 ≡ spot.parent
     pub grand_is : 1 < spot.height → get_or (drop 1 numbers) 0 0 ≡ spot.grand
     pub height_is : spot.height ≡ length rows
+
+module _ {K : Type 0} where
+  -- no node of a level is before a node, or none is after it
+  abbrev pub IsFirst : List (K × ℕ) → List (K × ℕ) → Type 0
+  IsFirst before after = before ≡ []
+
+  abbrev pub IsLast : List (K × ℕ) → List (K × ℕ) → Type 0
+  IsLast before after = after ≡ []
+
+module _ {K V : Type 0} (most : ℕ) (slots : List (Content K V)) (Side : List (K × ℕ) → List (K × ℕ) → Type 0) (spot : Spot) (number : ℕ) where
+  -- a spot's way goes to a node on one side of its level, under which lie some leaves and rows
+  abbrev pub HasUnder : Type 0
+  HasUnder =
+      (leaves : List (LevelNode K V)) × (lower : List (List (LevelNode K ℕ))) × (upper : List (List (LevelNode K ℕ))) × (numbers : List ℕ) × (before : List (K × ℕ)) × (first : K) × (after : List (K × ℕ)) × Side before after × Under most slots leaves lower (before ++ (first, number) ∷ after) × IsWay numbers spot upper (length before) × (length lower + spot.height ≤ 16)
+
+  -- what is said of the leaves under that node and of all rows above them, whichever they are
+  abbrev pub OnUnder : (List (LevelNode K V) → List (List (LevelNode K ℕ)) → Type 0) → Type 0
+  OnUnder Said =
+      (leaves : List (LevelNode K V)) (lower upper : List (List (LevelNode K ℕ))) (numbers : List ℕ) (before : List (K × ℕ)) (first : K) (after : List (K × ℕ)) → Side before after → Under most slots leaves lower (before ++ (first, number) ∷ after) → IsWay numbers spot upper (length before) → Said leaves (lower ++ upper)

@@ -1,10 +1,9 @@
 //! The place of a leaf in its tree, in one word.
-ghost use Rattle.std.specs.Prelude.{◌≡◌, ℕ, suc, ◌+◌, ◌-◌, ◌*◌, ◌<◌, ◌≤◌, ◌/◌, ◌%◌, ◌++◌, ◌∷◌, [], IfSome, IsTrue, List, length, slice_get, Some, None, true, false};
+ghost use Rattle.std.specs.Prelude.{◌≡◌, ℕ, suc, ◌+◌, ◌-◌, ◌*◌, ◌<◌, ◌≤◌, ◌/◌, ◌%◌, IfSome, IsTrue, List, length, slice_get, Some, None, true, false};
 ghost use Rattle.bforest_core.specs.Levels.{LevelNode, heads};
 ghost use Rattle.bforest_core.specs.Trees.{IsUnion, is_root, tree_of};
 ghost use Rattle.bforest_nodes.specs.Content.{IsLeafCapacity};
-ghost use Rattle.bforest_core.specs.Descent.{Under};
-ghost use Rattle.bforest_core.specs.Spots.{CodedOver, HasNext, HasNoParent, HasPrev, HasWay, IsLeafAt, IsSpotAt, IsWay, NumberAt, OnWay, SpotOn, leaf_count};
+ghost use Rattle.bforest_core.specs.Spots.{CodedOver, HasNext, HasNoParent, HasPrev, HasUnder, HasWay, IsFirst, IsLast, IsLeafAt, IsSpotAt, IsWay, NumberAt, OnUnder, OnWay, SpotOn, leaf_count};
 
 use crate::access::{child, entries, last_index};
 use crate::pool::NodePool;
@@ -401,14 +400,9 @@ fn first_below<K: Copy, V: Copy, const N: usize>(
     pool: &NodePool<K, V, N>,
 ) -> (Spot, Node)
     requires capacity { IsLeafCapacity N }
-    requires under { (leaves : List (LevelNode K V)) × (lower upper : List (List (LevelNode K ℕ)))
-        × (numbers : List ℕ) × (first : K) × (b : List (K × ℕ))
-        × Under N pool.now.nodes leaves lower ((first, node) ∷ b) × IsWay numbers spot upper 0
-        × (length lower + spot.height ≤ 16) }
-    ensures first { (leaves : List (LevelNode K V)) (lower upper : List (List (LevelNode K ℕ)))
-        (numbers : List ℕ) (first : K) (b : List (K × ℕ))
-        → Under N pool.now.nodes leaves lower ((first, node) ∷ b) → IsWay numbers spot upper 0
-        → (others : List ℕ) × IsWay others result.0 (lower ++ upper) 0 × NumberAt (heads leaves) 0 result.1 }
+    requires under { HasUnder N pool.now.nodes IsFirst spot node }
+    ensures first { OnUnder N pool.now.nodes IsFirst spot node (λ leaves rows. (others : List ℕ)
+        × IsWay others result.0 rows 0 × NumberAt (heads leaves) 0 result.1) }
 {
     if !pool.node(node).is_inner() {
         return (spot, node);
@@ -423,15 +417,10 @@ fn last_below<K: Copy, V: Copy, const N: usize>(
     pool: &NodePool<K, V, N>,
 ) -> (Spot, Node)
     requires capacity { IsLeafCapacity N }
-    requires under { (leaves : List (LevelNode K V)) × (lower upper : List (List (LevelNode K ℕ)))
-        × (numbers : List ℕ) × (a : List (K × ℕ)) × (first : K)
-        × Under N pool.now.nodes leaves lower (a ++ (first, node) ∷ []) × IsWay numbers spot upper (length a)
-        × (length lower + spot.height ≤ 16) }
-    ensures last { (leaves : List (LevelNode K V)) (lower upper : List (List (LevelNode K ℕ)))
-        (numbers : List ℕ) (a : List (K × ℕ)) (first : K)
-        → Under N pool.now.nodes leaves lower (a ++ (first, node) ∷ []) → IsWay numbers spot upper (length a)
-        → (others : List ℕ) × IsWay others result.0 (lower ++ upper) (length leaves - 1)
-        × NumberAt (heads leaves) (length leaves - 1) result.1 }
+    requires under { HasUnder N pool.now.nodes IsLast spot node }
+    ensures last { OnUnder N pool.now.nodes IsLast spot node (λ leaves rows. (others : List ℕ)
+        × IsWay others result.0 rows (length leaves - 1)
+        × NumberAt (heads leaves) (length leaves - 1) result.1) }
 {
     if !pool.node(node).is_inner() {
         return (spot, node);

@@ -1,33 +1,18 @@
 -- The way down to the first leaf below a node, and to the last, as a spot: each answer of `first_below` and `last_below` is one of these.
 use Rattle.std.proofs.Common.{◌≡◌, ℕ, suc, ◌+◌, ◌-◌, ◌*◌, ◌≤◌, ◌<◌, List, [], ◌∷◌, ◌++◌, IsTrue, length, slice_get, Some, refl, sym, ap, subst, ◌∙◌, arith, append_assoc, length-append}
 use Rattle.bforest_core.proofs.Words.{Content, FitRow, Inner, IsInner, IsLeafCapacity, IsUnion, LevelNode, StackedTo, flat, heads, half_of, inner_content, node, Under, entry_count, nil_from_length}
-use Rattle.bforest_core.specs.Spots.{Coded, IsLeafAt, IsSpotAt, IsWay, NumberAt, leaf_count}
+use Rattle.bforest_core.specs.Spots.{Coded, HasUnder, IsFirst, IsLast, IsLeafAt, IsSpotAt, IsWay, NumberAt, OnUnder, leaf_count}
 use Rattle.bforest_core.proofs.Words.{append-nil, Table, is_root, tree_of}
 use Rattle.bforest_core.specs.declared.spot.Spot.{Spot}
 use Rattle.bforest_core.proofs.rows.LevelRows.{FitRow-split}
 use Rattle.bforest_core.proofs.table.Stored.{item_count, slice_get_at}
 use Rattle.bforest_core.proofs.walks.Codes.{code-low, digit-put, leaf-at}
 use Rattle.bforest_core.proofs.walks.Descent.{some_leaf}
-use Rattle.bforest_core.proofs.walks.Downward.{stacked_last}
+use Rattle.bforest_core.proofs.walks.Downward.{Seen, stacked_last}
 use Rattle.bforest_core.proofs.walks.Leading.{child_under, last_place}
 use Rattle.bforest_core.proofs.walks.Standing.{under-root}
 use Rattle.bforest_core.proofs.walks.Steps.{no_heads}
 use Rattle.bforest_core.proofs.walks.TopNode.{InnerUnder, LeafUnder, inner_under, leaf_under, node_held, none_flat}
-
-module _ {K V : Type 0} (most : ℕ) (slots : List (Content K V)) where
-  -- what the way down to the first leaf is asked, and what it says
-  abbrev pub FirstAsked : Spot → ℕ → Type 0
-  FirstAsked spot number = (leaves : List (LevelNode K V)) × (lower : List (List (LevelNode K ℕ))) × (upper : List (List (LevelNode K ℕ))) × (numbers : List ℕ) × (first : K) × (b : List (K × ℕ)) × Under most slots leaves lower ((first, number) ∷ b) × IsWay numbers spot upper 0 × (length lower + spot.height ≤ 16)
-
-  abbrev pub FirstSaid : Spot → ℕ → Spot → ℕ → Type 0
-  FirstSaid spot number end leaf = (leaves : List (LevelNode K V)) (lower upper : List (List (LevelNode K ℕ))) (numbers : List ℕ) (first : K) (b : List (K × ℕ)) → Under most slots leaves lower ((first, number) ∷ b) → IsWay numbers spot upper 0 → (others : List ℕ) × IsWay others end (lower ++ upper) 0 × NumberAt (heads leaves) 0 leaf
-
-  -- what the way down to the last leaf is asked, and what it says
-  abbrev pub LastAsked : Spot → ℕ → Type 0
-  LastAsked spot number = (leaves : List (LevelNode K V)) × (lower : List (List (LevelNode K ℕ))) × (upper : List (List (LevelNode K ℕ))) × (numbers : List ℕ) × (a : List (K × ℕ)) × (first : K) × Under most slots leaves lower (a ++ (first, number) ∷ []) × IsWay numbers spot upper (length a) × (length lower + spot.height ≤ 16)
-
-  abbrev pub LastSaid : Spot → ℕ → Spot → ℕ → Type 0
-  LastSaid spot number end leaf = (leaves : List (LevelNode K V)) (lower upper : List (List (LevelNode K ℕ))) (numbers : List ℕ) (a : List (K × ℕ)) (first : K) → Under most slots leaves lower (a ++ (first, number) ∷ []) → IsWay numbers spot upper (length a) → (others : List ℕ) × IsWay others end (lower ++ upper) (length leaves - 1) × NumberAt (heads leaves) (length leaves - 1) leaf
 
 -- the node at a place of the lowest level
 number-here : {K V : Type 0} (most : ℕ) (slots : List (Content K V)) (leaves : List (LevelNode K V)) (lower : List (List (LevelNode K ℕ))) (a : List (K × ℕ)) (first : K) (number : ℕ) (b : List (K × ℕ)) → Under most slots leaves lower (a ++ (first, number) ∷ b) → lower ≡ [] → NumberAt (heads leaves) (length a) number
@@ -60,9 +45,6 @@ module _ {K V : Type 0} {most : ℕ} {slots : List (Content K V)} (capacity : Is
         let fit = (stacked_last (heads leaves) below.rows below.row (a ++ (first, number) ∷ b) (subst (λ (z : List (List (LevelNode K ℕ))). StackedTo (heads leaves) z (a ++ (first, number) ∷ b)) below.lower_is u.stacked)).1 in
         let f = (FitRow-split 4 8 below.at.before (node number (below.at.e ∷ below.at.es)) below.at.after (subst (FitRow 4 8) below.at.row_is fit)).1 in
         omega (arith, f.1)
-
-    last-index : {last : ℕ} → ((content : Content K V) → slice_get slots number ≡ Some content → last ≡ entry_count content - 1) → last ≡ length below.at.es
-    last-index says = omega (arith, says (inner_content (below.at.e ∷ below.at.es)) below.slot_is, item_count (below.at.e ∷ below.at.es))
 
     child-at : (index : ℕ) → index ≤ length below.at.es → (keys : List K) × (children : List ℕ) × (slice_get slots number ≡ Some (Inner keys children)) × (index < length children)
     child-at index low = (_, _, below.slot_is, omega (arith, low, item_count (below.at.e ∷ below.at.es)))
@@ -99,79 +81,85 @@ module _ {K V : Type 0} {most : ℕ} {slots : List (Content K V)} (capacity : Is
           let c = child_under most slots leaves lower a first number b below (inner_content (below.at.e ∷ below.at.es)) below.slot_is index child (reads _ _ below.slot_is) in
           record { front = c.0; key = c.1; back = c.2; under = c.3; way = way-down (length c.0) c.4; front_is = c.4; sum_is = c.5 }
 
+-- the entries of a row end with those of its last node
+last-end : {K : Type 0} (row : List (LevelNode K ℕ)) (a : List (K × ℕ)) (first : K) (number : ℕ) (b : List (K × ℕ)) (at : Seen 4 8 row a first number b) → b ≡ [] → length (flat row) ≡ length (flat at.before) + suc (length at.es)
+last-end row a first number [] at none = last_place 4 8 (omega arith) row a first number at
+last-end row a first number (x ∷ b) at none = absurd (omega (arith, ap length none))
+
+module _ {K V : Type 0} (most : ℕ) (slots : List (Content K V)) (Side : List (K × ℕ) → List (K × ℕ) → Type 0) (number index : ℕ) where
+  -- the way down one side of a tree goes on from a node to its child at this index
+  pub record Turns : Type 0 where
+    pub within : (leaves : List (LevelNode K V)) (lower : List (List (LevelNode K ℕ))) (a : List (K × ℕ)) (first : K) (b : List (K × ℕ)) (s : InnerUnder most slots leaves lower a first number b) → Side a b → index ≤ length s.at.es
+    pub keeps : (leaves : List (LevelNode K V)) (lower : List (List (LevelNode K ℕ))) (a : List (K × ℕ)) (first : K) (b : List (K × ℕ)) (s : InnerUnder most slots leaves lower a first number b) → Side a b → (front back : List (K × ℕ)) → length front ≡ length (flat s.at.before) + index → length front + suc (length back) ≡ length (flat s.row) → Side front back
+
+module _ {K V : Type 0} {most : ℕ} {slots : List (Content K V)} where
+  pub first-turns : {number : ℕ} → Turns most slots IsFirst number 0
+  first-turns = record {
+    within = λ leaves lower a first b s side. omega arith;
+    keeps = λ leaves lower a first b s side front back front_is sum_is. nil_from_length front (omega (arith, front_is, none_flat s.at.before (s.at.before_is ∙ ap length side)));
+  }
+
+  pub last-turns : {number last : ℕ} → ((content : Content K V) → slice_get slots number ≡ Some content → last ≡ entry_count content - 1) → Turns most slots IsLast number last
+  last-turns {number} {last} says = record {
+    within = λ leaves lower a first b s side. omega (arith, index leaves lower a first b s);
+    keeps = λ leaves lower a first b s side front back front_is sum_is. nil_from_length back (omega (arith, front_is, sum_is, index leaves lower a first b s, last-end s.row a first number b s.at side));
+  }
+    where
+      index : (leaves : List (LevelNode K V)) (lower : List (List (LevelNode K ℕ))) (a : List (K × ℕ)) (first : K) (b : List (K × ℕ)) (s : InnerUnder most slots leaves lower a first number b) → last ≡ length s.at.es
+      index leaves lower a first b s = omega (arith, says (inner_content (s.at.e ∷ s.at.es)) s.slot_is, item_count (s.at.e ∷ s.at.es))
+
+-- what is said of the first leaf, and of the last, as the end of a way
+module _ {K V : Type 0} (end : Spot) (leaf : ℕ) (leaves : List (LevelNode K V)) (rows : List (List (LevelNode K ℕ))) where
+  abbrev pub FirstSaid : Type 0
+  FirstSaid = (others : List ℕ) × IsWay others end rows 0 × NumberAt (heads leaves) 0 leaf
+
+  abbrev pub LastSaid : Type 0
+  LastSaid = (others : List ℕ) × IsWay others end rows (length leaves - 1) × NumberAt (heads leaves) (length leaves - 1) leaf
+
 module _ {K V : Type 0} {most : ℕ} {slots : List (Content K V)} (capacity : IsLeafCapacity most) {number : ℕ} {content : Content K V} (read : slice_get slots number ≡ Some content) where
-  pub first-here : (IsInner content → ⊥) → (spot : Spot) → FirstSaid most slots spot number spot number
-  first-here other spot leaves lower upper numbers first b u w = way-here capacity leaves lower [] first number b u read other upper numbers spot 0 w refl
+  module _ (other : IsInner content → ⊥) (spot : Spot) where
+    pub first-here : OnUnder most slots IsFirst spot number (FirstSaid spot number)
+    first-here leaves lower upper numbers a first b side u w = way-here capacity leaves lower a first number b u read other upper numbers spot 0 w (ap length side)
 
-  pub last-here : (IsInner content → ⊥) → (spot : Spot) → LastSaid most slots spot number spot number
-  last-here other spot leaves lower upper numbers a first u w = way-here capacity leaves lower a first number [] u read other upper numbers spot (length leaves - 1) w (ends capacity leaves lower a first number [] u read other refl)
+    pub last-here : OnUnder most slots IsLast spot number (LastSaid spot number)
+    last-here leaves lower upper numbers a first b side u w = way-here capacity leaves lower a first number b u read other upper numbers spot (length leaves - 1) w (ends capacity leaves lower a first number b u read other side)
 
-  module _ (inner : IsInner content) where
-    module _ {spot : Spot} (asked : FirstAsked most slots spot number) where
-      pub first-asks : (keys : List K) × (children : List ℕ) × (slice_get slots number ≡ Some (Inner keys children)) × (0 < length children)
-      first-asks = child-at capacity asked.0 asked.1 [] asked.4 number asked.5 asked.6 read inner 0 (omega arith)
+  module _ (inner : IsInner content) {Side : List (K × ℕ) → List (K × ℕ) → Type 0} {index : ℕ} (turns : Turns most slots Side number index) where
+    module _ {spot : Spot} (asked : HasUnder most slots Side spot number) where
+      low-here : index ≤ length (below capacity asked.0 asked.1 asked.4 asked.5 number asked.6 asked.8 read inner).at.es
+      low-here = turns.within asked.0 asked.1 asked.4 asked.5 asked.6 (below capacity asked.0 asked.1 asked.4 asked.5 number asked.6 asked.8 read inner) asked.7
 
-      pub first-low : (spot.code < 35184372088832) × (spot.height < 16)
-      first-low = way-low capacity asked.0 asked.1 [] asked.4 number asked.5 asked.6 read inner asked.7 asked.8
+      pub down-asks : (keys : List K) × (children : List ℕ) × (slice_get slots number ≡ Some (Inner keys children)) × (index < length children)
+      down-asks = child-at capacity asked.0 asked.1 asked.4 asked.5 number asked.6 asked.8 read inner index low-here
 
-    module _ {child : ℕ} (reads : (keys : List K) (children : List ℕ) → slice_get slots number ≡ Some (Inner keys children) → slice_get children 0 ≡ Some child) {spot next : Spot} (code : next.code ≡ spot.code * 8 + 0) (parent : next.parent ≡ number) (grand : next.grand ≡ spot.parent) (height : next.height ≡ suc spot.height) where
-      module _ (leaves : List (LevelNode K V)) (lower upper : List (List (LevelNode K ℕ))) (numbers : List ℕ) (first : K) (b : List (K × ℕ)) (u : Under most slots leaves lower ((first, number) ∷ b)) (w : IsWay numbers spot upper 0) where
-        abbrev first-below : InnerUnder most slots leaves lower [] first number b
-        first-below = below capacity leaves lower [] first number b u read inner
+      pub down-low : (spot.code < 35184372088832) × (spot.height < 16) × (index < 8)
+      down-low =
+          let r = way-low capacity asked.0 asked.1 asked.4 asked.5 number asked.6 asked.8 read inner asked.9 asked.10 in
+          (r.0, r.1, omega (arith, low-here, room capacity asked.0 asked.1 asked.4 asked.5 number asked.6 asked.8 read inner))
 
-        first-down : (key : K) × (back : List (K × ℕ)) × Under most slots leaves first-below.rows ((key, child) ∷ back) × IsWay (number ∷ numbers) next (first-below.row ∷ upper) 0
-        first-down =
-            let d = down capacity leaves lower [] first number b u read inner (omega arith) reads code parent grand height w in
-            let none = nil_from_length d.front (omega (arith, d.front_is, none_flat first-below.at.before first-below.at.before_is)) in
-            (d.key, d.back, subst (λ (z : List (K × ℕ)). Under most slots leaves first-below.rows (z ++ (d.key, child) ∷ d.back)) none d.under, subst (IsWay (number ∷ numbers) next (first-below.row ∷ upper)) (ap length none) d.way)
+    module _ {child : ℕ} (reads : (keys : List K) (children : List ℕ) → slice_get slots number ≡ Some (Inner keys children) → slice_get children index ≡ Some child) {spot next : Spot} (code : next.code ≡ spot.code * 8 + index) (parent : next.parent ≡ number) (grand : next.grand ≡ spot.parent) (height : next.height ≡ suc spot.height) where
+      module _ (leaves : List (LevelNode K V)) (lower upper : List (List (LevelNode K ℕ))) (numbers : List ℕ) (a : List (K × ℕ)) (first : K) (b : List (K × ℕ)) (side : Side a b) (u : Under most slots leaves lower (a ++ (first, number) ∷ b)) (w : IsWay numbers spot upper (length a)) where
+        abbrev here : InnerUnder most slots leaves lower a first number b
+        here = below capacity leaves lower a first number b u read inner
 
-      pub first-ask : FirstAsked most slots spot number → FirstAsked most slots next child
-      first-ask asked =
-          let s = first-below asked.0 asked.1 asked.2 asked.3 asked.4 asked.5 asked.6 asked.7 in
-          let d = first-down asked.0 asked.1 asked.2 asked.3 asked.4 asked.5 asked.6 asked.7 in
-          (asked.0, s.rows, s.row ∷ asked.2, number ∷ asked.3, d.0, d.1, d.2, d.3, omega (arith, asked.8, s.count_is, height))
+        went : Down capacity leaves lower a first number b u read inner upper numbers next index child
+        went = down capacity leaves lower a first number b u read inner (turns.within leaves lower a first b here side) reads code parent grand height w
 
-      pub first-on : {end : Spot} {leaf : ℕ} → FirstSaid most slots next child end leaf → FirstSaid most slots spot number end leaf
-      first-on {end} says leaves lower upper numbers first b u w =
-          let s = first-below leaves lower upper numbers first b u w in
-          let d = first-down leaves lower upper numbers first b u w in
-          let r = says leaves s.rows (s.row ∷ upper) (number ∷ numbers) d.0 d.1 d.2 d.3 in
-          (r.0, subst (λ (z : List (List (LevelNode K ℕ))). IsWay r.0 end z 0) (rows-join capacity leaves lower [] first number b u read inner upper) r.1, r.2)
+        kept : Side went.front went.back
+        kept = turns.keeps leaves lower a first b here side went.front went.back went.front_is went.sum_is
 
-    module _ {last : ℕ} (last_is : (content : Content K V) → slice_get slots number ≡ Some content → last ≡ entry_count content - 1) where
-      module _ {spot : Spot} (asked : LastAsked most slots spot number) where
-        pub last-asks : (keys : List K) × (children : List ℕ) × (slice_get slots number ≡ Some (Inner keys children)) × (last < length children)
-        last-asks = child-at capacity asked.0 asked.1 asked.4 asked.5 number [] asked.6 read inner last (omega (arith, last-index capacity asked.0 asked.1 asked.4 asked.5 number [] asked.6 read inner last_is))
+      pub down-ask : HasUnder most slots Side spot number → HasUnder most slots Side next child
+      down-ask asked =
+          let s = here asked.0 asked.1 asked.2 asked.3 asked.4 asked.5 asked.6 asked.7 asked.8 asked.9 in
+          let d = went asked.0 asked.1 asked.2 asked.3 asked.4 asked.5 asked.6 asked.7 asked.8 asked.9 in
+          let side = kept asked.0 asked.1 asked.2 asked.3 asked.4 asked.5 asked.6 asked.7 asked.8 asked.9 in
+          (asked.0, s.rows, s.row ∷ asked.2, number ∷ asked.3, d.front, d.key, d.back, side, d.under, d.way, omega (arith, asked.10, s.count_is, height))
 
-        pub last-low : (spot.code < 35184372088832) × (spot.height < 16) × (last < 8)
-        last-low =
-            let r = way-low capacity asked.0 asked.1 asked.4 asked.5 number [] asked.6 read inner asked.7 asked.8 in
-            (r.0, r.1, omega (arith, last-index capacity asked.0 asked.1 asked.4 asked.5 number [] asked.6 read inner last_is, room capacity asked.0 asked.1 asked.4 asked.5 number [] asked.6 read inner))
-
-      module _ {child : ℕ} (reads : (keys : List K) (children : List ℕ) → slice_get slots number ≡ Some (Inner keys children) → slice_get children last ≡ Some child) {spot next : Spot} (code : next.code ≡ spot.code * 8 + last) (parent : next.parent ≡ number) (grand : next.grand ≡ spot.parent) (height : next.height ≡ suc spot.height) where
-        module _ (leaves : List (LevelNode K V)) (lower upper : List (List (LevelNode K ℕ))) (numbers : List ℕ) (a : List (K × ℕ)) (first : K) (u : Under most slots leaves lower (a ++ (first, number) ∷ [])) (w : IsWay numbers spot upper (length a)) where
-          abbrev last-below : InnerUnder most slots leaves lower a first number []
-          last-below = below capacity leaves lower a first number [] u read inner
-
-          last-down : (front : List (K × ℕ)) × (key : K) × Under most slots leaves last-below.rows (front ++ (key, child) ∷ []) × IsWay (number ∷ numbers) next (last-below.row ∷ upper) (length front)
-          last-down =
-              let index = last-index capacity leaves lower a first number [] u read inner last_is in
-              let d = down capacity leaves lower a first number [] u read inner (omega (arith, index)) reads code parent grand height w in
-              let none = nil_from_length d.back (omega (arith, d.front_is, d.sum_is, index, last_place 4 8 (omega arith) last-below.row a first number last-below.at)) in
-              (d.front, d.key, subst (λ (z : List (K × ℕ)). Under most slots leaves last-below.rows (d.front ++ (d.key, child) ∷ z)) none d.under, d.way)
-
-        pub last-ask : LastAsked most slots spot number → LastAsked most slots next child
-        last-ask asked =
-            let s = last-below asked.0 asked.1 asked.2 asked.3 asked.4 asked.5 asked.6 asked.7 in
-            let d = last-down asked.0 asked.1 asked.2 asked.3 asked.4 asked.5 asked.6 asked.7 in
-            (asked.0, s.rows, s.row ∷ asked.2, number ∷ asked.3, d.0, d.1, d.2, d.3, omega (arith, asked.8, s.count_is, height))
-
-        pub last-on : {end : Spot} {leaf : ℕ} → LastSaid most slots next child end leaf → LastSaid most slots spot number end leaf
-        last-on {end} says leaves lower upper numbers a first u w =
-            let s = last-below leaves lower upper numbers a first u w in
-            let d = last-down leaves lower upper numbers a first u w in
-            let r = says leaves s.rows (s.row ∷ upper) (number ∷ numbers) d.0 d.1 d.2 d.3 in
-            (r.0, subst (λ (z : List (List (LevelNode K ℕ))). IsWay r.0 end z (length leaves - 1)) (rows-join capacity leaves lower a first number [] u read inner upper) r.1, r.2)
+      pub down-on : (Said : List (LevelNode K V) → List (List (LevelNode K ℕ)) → Type 0) → OnUnder most slots Side next child Said → OnUnder most slots Side spot number Said
+      down-on Said says leaves lower upper numbers a first b side u w =
+          let s = here leaves lower upper numbers a first b side u w in
+          let d = went leaves lower upper numbers a first b side u w in
+          subst (Said leaves) (rows-join capacity leaves lower a first number b u read inner upper) (says leaves s.rows (s.row ∷ upper) (number ∷ numbers) d.front d.key d.back (kept leaves lower upper numbers a first b side u w) d.under d.way)
 
 -- the way from the root down, at its beginning
 pub way-root : {K : Type 0} (spot : Spot) → spot.code ≡ 0 → spot.height ≡ 0 → IsWay {K = K} [] spot [] 0
@@ -191,21 +179,19 @@ root-held {n = n} {table = table} union root is =
 
 -- the ways down from a root
 module _ {K V : Type 0} {n : ℕ} {table : Table K V} (union : IsUnion n table) {root : ℕ} (is : IsTrue (is_root table.nodes root)) {spot : Spot} (code : spot.code ≡ 0) (height : spot.height ≡ 0) where
-  pub root-first : FirstAsked n table.nodes spot root
-  root-first = let u = under-root n table root union is in ((tree_of table.nodes root).leaves, (tree_of table.nodes root).above, [], [], u.first, [], u.under, way-root spot code height, omega (arith, u.low, height))
-
-  pub root-last : LastAsked n table.nodes spot root
-  root-last = let u = under-root n table root union is in ((tree_of table.nodes root).leaves, (tree_of table.nodes root).above, [], [], [], u.first, u.under, way-root spot code height, omega (arith, u.low, height))
+  pub root-under : {Side : List (K × ℕ) → List (K × ℕ) → Type 0} → Side [] [] → HasUnder n table.nodes Side spot root
+  root-under side = let u = under-root n table root union is in ((tree_of table.nodes root).leaves, (tree_of table.nodes root).above, [], [], [], u.first, [], side, u.under, way-root spot code height, omega (arith, u.low, height))
 
   -- what is said at the end of the way, of the leaves of the tree
-  pub first-of : {end : Spot} {leaf : ℕ} → FirstSaid n table.nodes spot root end leaf → IsSpotAt table root end 0 × IsLeafAt table root 0 leaf
-  first-of {end} says =
-      let u = under-root n table root union is in
-      let r = says (tree_of table.nodes root).leaves (tree_of table.nodes root).above [] [] u.first [] u.under (way-root spot code height) in
+  said-root : {Side : List (K × ℕ) → List (K × ℕ) → Type 0} (side : Side [] []) (Said : List (LevelNode K V) → List (List (LevelNode K ℕ)) → Type 0) → OnUnder n table.nodes Side spot root Said → Said (tree_of table.nodes root).leaves ((tree_of table.nodes root).above ++ [])
+  said-root side Said says = let u = under-root n table root union is in says (tree_of table.nodes root).leaves (tree_of table.nodes root).above [] [] [] u.first [] side u.under (way-root spot code height)
+
+  pub first-of : {end : Spot} {leaf : ℕ} → OnUnder n table.nodes IsFirst spot root (FirstSaid end leaf) → IsSpotAt table root end 0 × IsLeafAt table root 0 leaf
+  first-of {end} {leaf} says =
+      let r = said-root refl (FirstSaid end leaf) says in
       (way-spot table root end 0 r.0 is r.1, leaf-at union root is r.2)
 
-  pub last-of : {end : Spot} {leaf : ℕ} → LastSaid n table.nodes spot root end leaf → IsSpotAt table root end (leaf_count table root - 1) × IsLeafAt table root (leaf_count table root - 1) leaf
-  last-of {end} says =
-      let u = under-root n table root union is in
-      let r = says (tree_of table.nodes root).leaves (tree_of table.nodes root).above [] [] [] u.first u.under (way-root spot code height) in
+  pub last-of : {end : Spot} {leaf : ℕ} → OnUnder n table.nodes IsLast spot root (LastSaid end leaf) → IsSpotAt table root end (leaf_count table root - 1) × IsLeafAt table root (leaf_count table root - 1) leaf
+  last-of {end} {leaf} says =
+      let r = said-root refl (LastSaid end leaf) says in
       (way-spot table root end (leaf_count table root - 1) r.0 is r.1, leaf-at union root is r.2)

@@ -1,6 +1,6 @@
-use Rattle.std.proofs.Common.{rules, sym, ◌∙◌}
+use Rattle.std.proofs.Common.{refl, rules, sym, ◌∙◌}
 use Rattle.bforest_core.proofs.Words.{false≢true, slice_get_within}
-use Rattle.bforest_core.proofs.walks.CodesDown.{first-here, first-of, root-first, root-held}
+use Rattle.bforest_core.proofs.walks.CodesDown.{first-here, first-of, root-held, root-under}
 use Rattle.bforest_core.proofs.spot.Spot.first.Goals as goal
 
 pub node-requires : goal.node-requires
@@ -14,7 +14,7 @@ returns-then-not-is_inner g c =
     record { spot = r.0; leaf = r.1 }
 
 pub first_below-requires : goal.first_below-requires
-first_below-requires g c = (search rules, (c.requires.union.1.capacity, root-first c.requires.union c.requires.root c.root-spot.ensures.code c.root-spot.ensures.height))
+first_below-requires g c = (search rules, (c.requires.union.1.capacity, root-under c.requires.union c.requires.root c.root-spot.ensures.code c.root-spot.ensures.height refl))
 
 pub returns : goal.returns
 returns g c =

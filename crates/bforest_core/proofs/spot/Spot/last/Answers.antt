@@ -1,6 +1,6 @@
-use Rattle.std.proofs.Common.{rules, sym, ◌∙◌}
+use Rattle.std.proofs.Common.{refl, rules, sym, ◌∙◌}
 use Rattle.bforest_core.proofs.Words.{false≢true, slice_get_within}
-use Rattle.bforest_core.proofs.walks.CodesDown.{last-here, last-of, root-held, root-last}
+use Rattle.bforest_core.proofs.walks.CodesDown.{last-here, last-of, root-held, root-under}
 use Rattle.bforest_core.proofs.spot.Spot.last.Goals as goal
 
 pub node-requires : goal.node-requires
@@ -14,7 +14,7 @@ returns-then-not-is_inner g c =
     record { spot = r.0; leaf = r.1 }
 
 pub last_below-requires : goal.last_below-requires
-last_below-requires g c = (search rules, (c.requires.union.1.capacity, root-last c.requires.union c.requires.root c.root-start.ensures.code c.root-start.ensures.height))
+last_below-requires g c = (search rules, (c.requires.union.1.capacity, root-under c.requires.union c.requires.root c.root-start.ensures.code c.root-start.ensures.height refl))
 
 pub returns : goal.returns
 returns g c =
