@@ -36,6 +36,7 @@ UNUSED = {
     "bforest_nodes/lent.rt": ["front_mut"],
     "bforest_core/path/insert.rt": ["needed"],
     "bforest_core/pool.rt": ["new"],
+    "bforest_core/spot.rt": ["last", "prev", "has_prev", "prev_sibling", "prev_cousin", "prev_far", "prev_on", "last_below"],
 }
 
 USE_GLOBAL = (r"^use std::alloc::Global;\n", "", 1)
@@ -116,6 +117,7 @@ EDITS = {
         (r"NodeData::new\(alloc\)\.unwrap\(\)", "NodeData::new()", 1),
         (r"nodes\.push_reserved\(node\)", "nodes.push(node)", 1),
     ],
+    "bforest_core/spot.rt": [(r"\{child, entries, last_index\}", "{child, entries}", 1)],
     "bforest_trees/lib.rt": [
         (r" What a contract sees is the list of entries under\n(?://![^\n]*\n)+", "\n", 1),
         (r"^pub use bforest_core::\{[^}]*\};\n", "", 1),

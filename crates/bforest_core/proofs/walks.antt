@@ -16,4 +16,6 @@ pub mod Nearby
 pub mod Codes
 pub mod CodesDown
 pub mod Cousins
+pub mod Back
+pub mod OnLevel
 pub mod Alone

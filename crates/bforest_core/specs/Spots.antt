@@ -1,6 +1,7 @@
 -- The place of a leaf in its tree as a number, with an octal digit for each level of inner nodes.
 use Rattle.std.specs.Prelude.{◌≡◌, ℕ, ◌+◌, ◌<◌, ◌/◌, ◌%◌, IsTrue, List, [], ◌∷◌, ◌++◌, drop, length, get_or, slice_get, take, Some, ◌≤◌}
 use Rattle.bforest_nodes.specs.Content.{Content}
+use Rattle.bforest_core.specs.Descent.{Under}
 use Rattle.bforest_core.specs.Levels.{LevelNode, flat, node, Stacked}
 use Rattle.bforest_core.specs.Place.{IsAt, RowsIn, inner_content, leaf_content, root_above}
 use Rattle.bforest_core.specs.Table.{Table}
@@ -32,9 +33,24 @@ module _ {K : Type 0} where
     pub root_is : root_above list rows ≡ root
     pub depth_is : depth ≡ length rows
 
+module _ {K V : Type 0} (slots : List (Content K V)) (root code depth : ℕ) where
+  -- the way of a code goes down some rows
+  abbrev pub HasWay : Type 0
+  HasWay =
+      (numbers : List ℕ) × (rows : List (List (LevelNode K ℕ))) × (list : List (K × ℕ)) × (place : ℕ) × CodedOver slots root code depth numbers rows list place
+
+  -- what is said of the rows down which the way of a code goes, of the nodes below them and of its place there, whichever they are
+  abbrev pub OnWay : (List ℕ → List (List (LevelNode K ℕ)) → List (K × ℕ) → ℕ → Type 0) → Type 0
+  OnWay Said =
+      (numbers : List ℕ) (rows : List (List (LevelNode K ℕ))) (list : List (K × ℕ)) (place : ℕ) → CodedOver slots root code depth numbers rows list place → Said numbers rows list place
+
 -- no inner node is above a spot's leaf: it is the only one of its tree, or there is none
 abbrev pub HasNoParent : Spot → Type 0
 HasNoParent spot = spot.height ≡ 0
+
+-- the leaf before has the same parent
+abbrev pub HasPrev : Spot → Type 0
+HasPrev spot = (0 < spot.height) × (0 < spot.code % 8)
 
 module _ {K V : Type 0} where
   -- the spot is that of the leaf at this place of the leaves of the tree under a root
@@ -84,3 +100,22 @@ module _ {K : Type 0} where
     pub parent_is : 0 < spot.height → get_or numbers 0 0 ≡ spot.parent
     pub grand_is : 1 < spot.height → get_or (drop 1 numbers) 0 0 ≡ spot.grand
     pub height_is : spot.height ≡ length rows
+
+module _ {K : Type 0} where
+  -- no node of a level is before a node, or none is after it
+  abbrev pub IsFirst : List (K × ℕ) → List (K × ℕ) → Type 0
+  IsFirst before after = before ≡ []
+
+  abbrev pub IsLast : List (K × ℕ) → List (K × ℕ) → Type 0
+  IsLast before after = after ≡ []
+
+module _ {K V : Type 0} (most : ℕ) (slots : List (Content K V)) (Side : List (K × ℕ) → List (K × ℕ) → Type 0) (spot : Spot) (number : ℕ) where
+  -- a spot's way goes to a node on one side of its level, under which lie some leaves and rows
+  abbrev pub HasUnder : Type 0
+  HasUnder =
+      (leaves : List (LevelNode K V)) × (lower : List (List (LevelNode K ℕ))) × (upper : List (List (LevelNode K ℕ))) × (numbers : List ℕ) × (before : List (K × ℕ)) × (first : K) × (after : List (K × ℕ)) × Side before after × Under most slots leaves lower (before ++ (first, number) ∷ after) × IsWay numbers spot upper (length before) × (length lower + spot.height ≤ 16)
+
+  -- what is said of the leaves under that node and of all rows above them, whichever they are
+  abbrev pub OnUnder : (List (LevelNode K V) → List (List (LevelNode K ℕ)) → Type 0) → Type 0
+  OnUnder Said =
+      (leaves : List (LevelNode K V)) (lower upper : List (List (LevelNode K ℕ))) (numbers : List ℕ) (before : List (K × ℕ)) (first : K) (after : List (K × ℕ)) → Side before after → Under most slots leaves lower (before ++ (first, number) ∷ after) → IsWay numbers spot upper (length before) → Said leaves (lower ++ upper)

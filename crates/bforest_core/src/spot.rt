@@ -1,12 +1,11 @@
 //! The place of a leaf in its tree, in one word.
-ghost use Rattle.std.specs.Prelude.{◌≡◌, ℕ, suc, ◌+◌, ◌*◌, ◌<◌, ◌≤◌, ◌/◌, ◌%◌, ◌++◌, ◌∷◌, IfSome, IsTrue, List, length, slice_get, Some, None, true, false};
+ghost use Rattle.std.specs.Prelude.{◌≡◌, ℕ, suc, ◌+◌, ◌-◌, ◌*◌, ◌<◌, ◌≤◌, ◌/◌, ◌%◌, IfSome, IsTrue, List, length, slice_get, Some, None, true, false};
 ghost use Rattle.bforest_core.specs.Levels.{LevelNode, heads};
 ghost use Rattle.bforest_core.specs.Trees.{IsUnion, is_root, tree_of};
 ghost use Rattle.bforest_nodes.specs.Content.{IsLeafCapacity};
-ghost use Rattle.bforest_core.specs.Descent.{Under};
-ghost use Rattle.bforest_core.specs.Spots.{CodedOver, HasNext, HasNoParent, IsLeafAt, IsSpotAt, IsWay, NumberAt, SpotOn, leaf_count};
+ghost use Rattle.bforest_core.specs.Spots.{CodedOver, HasNext, HasNoParent, HasPrev, HasUnder, HasWay, IsFirst, IsLast, IsLeafAt, IsSpotAt, IsWay, NumberAt, OnUnder, OnWay, SpotOn, leaf_count};
 
-use crate::access::{child, entries};
+use crate::access::{child, entries, last_index};
 use crate::pool::NodePool;
 use bforest_nodes::Node;
 
@@ -53,6 +52,24 @@ impl Spot {
             return (spot, root);
         }
         first_below(spot, root, pool)
+    }
+
+    /// The last leaf below a root, and its place.
+    #[inline(always)]
+    pub fn last<K: Copy, V: Copy, const N: usize>(
+        root: Node,
+        pool: &NodePool<K, V, N>,
+    ) -> (Spot, Node)
+        requires union { IsUnion N pool.now }
+        requires root { IsTrue (is_root pool.now.nodes root) }
+        ensures spot { IsSpotAt pool.now root result.0 (leaf_count pool.now root - 1) }
+        ensures leaf { IsLeafAt pool.now root (leaf_count pool.now root - 1) result.1 }
+    {
+        let start = Spot::root(root);
+        if !pool.node(root).is_inner() {
+            return (start, root);
+        }
+        last_below(start, root, pool)
     }
 
     /// The next leaf, and its place, if there is one. A spot without a parent has none.
@@ -166,6 +183,93 @@ impl Spot {
         }
         next_far(self.code, self.height, root, pool)
     }
+
+    /// The leaf before, and its place, if there is one. A spot without a parent has none.
+    #[inline(always)]
+    pub fn prev<K: Copy, V: Copy, const N: usize>(
+        &self,
+        root: Node,
+        pool: &NodePool<K, V, N>,
+    ) -> Option<(Spot, Node)>
+        requires union { IsUnion N pool.now }
+        requires spot { (¬ HasNoParent self.now) → (place : ℕ) × IsSpotAt pool.now root self.now place }
+        ensures some { IfSome result (λ found. (place : ℕ) → IsSpotAt pool.now root self.now place
+            → (0 < place) × IsSpotAt pool.now root found.0 (place - 1)
+            × IsLeafAt pool.now root (place - 1) found.1) }
+        ensures none { result ≡ None → (place : ℕ) → IsSpotAt pool.now root self.now place → place ≡ 0 }
+        ensures alone { HasNoParent self.now → result ≡ None }
+    {
+        if self.has_prev() {
+            return Some(self.prev_sibling(pool));
+        }
+        if self.height < 2 {
+            return None;
+        }
+        self.prev_cousin(root, pool)
+    }
+
+    // Whether the leaf before has the same parent.
+    #[inline(always)]
+    fn has_prev(&self) -> bool
+        ensures prev { result ≡ true → HasPrev self.now }
+        ensures none { result ≡ false → ¬ HasPrev self.now }
+    {
+        self.height > 0 && self.code % 8 > 0
+    }
+
+    // The leaf before, which has the same parent, and its place.
+    #[inline(always)]
+    fn prev_sibling<K: Copy, V: Copy, const N: usize>(
+        &self,
+        pool: &NodePool<K, V, N>,
+    ) -> (Spot, Node)
+        requires union { IsUnion N pool.now }
+        requires spot { SpotOn pool.now self.now }
+        requires prev { HasPrev self.now }
+        ensures before { (root place : ℕ) → IsSpotAt pool.now root self.now place → (0 < place)
+            × IsSpotAt pool.now root result.0 (place - 1) × IsLeafAt pool.now root (place - 1) result.1 }
+    {
+        let leaf = child(pool, self.parent, (self.code % 8) as usize - 1);
+        let spot = Spot {
+            code: self.code - 1,
+            parent: self.parent,
+            grand: self.grand,
+            height: self.height,
+        };
+        (spot, leaf)
+    }
+
+    // The leaf before, and its place, if there is one, where it has another parent.
+    #[inline(always)]
+    fn prev_cousin<K: Copy, V: Copy, const N: usize>(
+        &self,
+        root: Node,
+        pool: &NodePool<K, V, N>,
+    ) -> Option<(Spot, Node)>
+        requires union { IsUnion N pool.now }
+        requires spot { (place : ℕ) × IsSpotAt pool.now root self.now place }
+        requires deep { 2 ≤ self.now.height }
+        requires first { ¬ HasPrev self.now }
+        ensures some { IfSome result (λ found. (place : ℕ) → IsSpotAt pool.now root self.now place
+            → (0 < place) × IsSpotAt pool.now root found.0 (place - 1)
+            × IsLeafAt pool.now root (place - 1) found.1) }
+        ensures none { result ≡ None → (place : ℕ) → IsSpotAt pool.now root self.now place → place ≡ 0 }
+    {
+        let index = (self.code / 8 % 8) as usize;
+        if index == 0 {
+            return prev_far(self.code, self.height, root, pool);
+        }
+        let parent = child(pool, self.grand, index - 1);
+        let last = last_index(pool, parent);
+        let leaf = child(pool, parent, last);
+        let spot = Spot {
+            code: (self.code / 8 - 1) * 8 + last as u64,
+            parent,
+            grand: self.grand,
+            height: self.height,
+        };
+        Some((spot, leaf))
+    }
 }
 
 // The node behind the one at which the way of a code ends, and its spot, if there is one.
@@ -176,17 +280,35 @@ fn next_far<K: Copy, V: Copy, const N: usize>(
     pool: &NodePool<K, V, N>,
 ) -> Option<(Spot, Node)>
     requires low { height ≤ 16 }
-    requires over { (numbers : List ℕ) × (rows : List (List (LevelNode K ℕ))) × (list : List (K × ℕ))
-        × (place : ℕ) × CodedOver pool.now.nodes root code height numbers rows list place }
-    ensures some { IfSome result (λ found. (numbers : List ℕ) (rows : List (List (LevelNode K ℕ)))
-        (list : List (K × ℕ)) (place : ℕ) → CodedOver pool.now.nodes root code height numbers rows list place
-        → (others : List ℕ) × IsWay others found.0 rows (suc place) × NumberAt list (suc place) found.1) }
-    ensures none { result ≡ None → (numbers : List ℕ) (rows : List (List (LevelNode K ℕ)))
-        (list : List (K × ℕ)) (place : ℕ) → CodedOver pool.now.nodes root code height numbers rows list place
-        → suc place ≡ length list }
+    requires over { HasWay pool.now.nodes root code height }
+    ensures some { IfSome result (λ found. OnWay pool.now.nodes root code height (λ numbers rows list place.
+        (others : List ℕ) × IsWay others found.0 rows (suc place) × NumberAt list (suc place) found.1)) }
+    ensures none { result ≡ None → OnWay pool.now.nodes root code height (λ numbers rows list place.
+        suc place ≡ length list) }
 {
     match next_on(code, height, root, pool) {
         Some(found) => Some((spot_of(found.0, height, root, pool), found.1)),
+        None => None,
+    }
+}
+
+// The node before the one at which the way of a code ends, and its spot, if there is one.
+fn prev_far<K: Copy, V: Copy, const N: usize>(
+    code: u64,
+    height: u32,
+    root: Node,
+    pool: &NodePool<K, V, N>,
+) -> Option<(Spot, Node)>
+    requires low { height ≤ 16 }
+    requires over { HasWay pool.now.nodes root code height }
+    ensures some { IfSome result (λ found. OnWay pool.now.nodes root code height (λ numbers rows list place.
+        (0 < place) × (others : List ℕ) × IsWay others found.0 rows (place - 1)
+        × NumberAt list (place - 1) found.1)) }
+    ensures none { result ≡ None → OnWay pool.now.nodes root code height (λ numbers rows list place.
+        place ≡ 0) }
+{
+    match prev_on(code, height, root, pool) {
+        Some(before) => Some((spot_of(before.0, height, root, pool), before.1)),
         None => None,
     }
 }
@@ -198,10 +320,9 @@ fn node_of<K: Copy, V: Copy, const N: usize>(
     root: Node,
     pool: &NodePool<K, V, N>,
 ) -> Node
-    requires over { (numbers : List ℕ) × (rows : List (List (LevelNode K ℕ))) × (list : List (K × ℕ))
-        × (place : ℕ) × CodedOver pool.now.nodes root code depth numbers rows list place }
-    ensures number { (numbers : List ℕ) (rows : List (List (LevelNode K ℕ))) (list : List (K × ℕ)) (place : ℕ)
-        → CodedOver pool.now.nodes root code depth numbers rows list place → NumberAt list place result }
+    requires over { HasWay pool.now.nodes root code depth }
+    ensures number { OnWay pool.now.nodes root code depth (λ numbers rows list place.
+        NumberAt list place result) }
 {
     if depth == 0 {
         return root;
@@ -218,15 +339,12 @@ fn next_on<K: Copy, V: Copy, const N: usize>(
     pool: &NodePool<K, V, N>,
 ) -> Option<(u64, Node)>
     requires low { depth ≤ 16 }
-    requires over { (numbers : List ℕ) × (rows : List (List (LevelNode K ℕ))) × (list : List (K × ℕ))
-        × (place : ℕ) × CodedOver pool.now.nodes root code depth numbers rows list place }
-    ensures some { IfSome result (λ found. (numbers : List ℕ) (rows : List (List (LevelNode K ℕ)))
-        (list : List (K × ℕ)) (place : ℕ) → CodedOver pool.now.nodes root code depth numbers rows list place
-        → (others : List ℕ) × CodedOver pool.now.nodes root found.0 depth others rows list (suc place)
-        × NumberAt list (suc place) found.1) }
-    ensures none { result ≡ None → (numbers : List ℕ) (rows : List (List (LevelNode K ℕ)))
-        (list : List (K × ℕ)) (place : ℕ) → CodedOver pool.now.nodes root code depth numbers rows list place
-        → suc place ≡ length list }
+    requires over { HasWay pool.now.nodes root code depth }
+    ensures some { IfSome result (λ found. OnWay pool.now.nodes root code depth (λ numbers rows list place.
+        (others : List ℕ) × CodedOver pool.now.nodes root found.0 depth others rows list (suc place)
+        × NumberAt list (suc place) found.1)) }
+    ensures none { result ≡ None → OnWay pool.now.nodes root code depth (λ numbers rows list place.
+        suc place ≡ length list) }
 {
     if depth == 0 {
         return None;
@@ -242,6 +360,39 @@ fn next_on<K: Copy, V: Copy, const N: usize>(
     }
 }
 
+// The node before, on the level at which the way of a code ends, and the code of its way, if there is one.
+fn prev_on<K: Copy, V: Copy, const N: usize>(
+    code: u64,
+    depth: u32,
+    root: Node,
+    pool: &NodePool<K, V, N>,
+) -> Option<(u64, Node)>
+    requires low { depth ≤ 16 }
+    requires over { HasWay pool.now.nodes root code depth }
+    ensures some { IfSome result (λ found. OnWay pool.now.nodes root code depth (λ numbers rows list place.
+        (0 < place) × (others : List ℕ)
+        × CodedOver pool.now.nodes root found.0 depth others rows list (place - 1)
+        × NumberAt list (place - 1) found.1)) }
+    ensures none { result ≡ None → OnWay pool.now.nodes root code depth (λ numbers rows list place.
+        place ≡ 0) }
+{
+    if depth == 0 {
+        return None;
+    }
+    let index = (code % 8) as usize;
+    if index > 0 {
+        let parent = node_of(code / 8, depth - 1, root, pool);
+        return Some((code - 1, child(pool, parent, index - 1)));
+    }
+    match prev_on(code / 8, depth - 1, root, pool) {
+        Some(above) => {
+            let last = last_index(pool, above.1);
+            Some((above.0 * 8 + last as u64, child(pool, above.1, last)))
+        }
+        None => None,
+    }
+}
+
 // From a node at this place, the first of its level, down to the first leaf below it.
 fn first_below<K: Copy, V: Copy, const N: usize>(
     spot: Spot,
@@ -249,20 +400,33 @@ fn first_below<K: Copy, V: Copy, const N: usize>(
     pool: &NodePool<K, V, N>,
 ) -> (Spot, Node)
     requires capacity { IsLeafCapacity N }
-    requires under { (leaves : List (LevelNode K V)) × (lower upper : List (List (LevelNode K ℕ)))
-        × (numbers : List ℕ) × (first : K) × (b : List (K × ℕ))
-        × Under N pool.now.nodes leaves lower ((first, node) ∷ b) × IsWay numbers spot upper 0
-        × (length lower + spot.height ≤ 16) }
-    ensures first { (leaves : List (LevelNode K V)) (lower upper : List (List (LevelNode K ℕ)))
-        (numbers : List ℕ) (first : K) (b : List (K × ℕ))
-        → Under N pool.now.nodes leaves lower ((first, node) ∷ b) → IsWay numbers spot upper 0
-        → (others : List ℕ) × IsWay others result.0 (lower ++ upper) 0 × NumberAt (heads leaves) 0 result.1 }
+    requires under { HasUnder N pool.now.nodes IsFirst spot node }
+    ensures first { OnUnder N pool.now.nodes IsFirst spot node (λ leaves rows. (others : List ℕ)
+        × IsWay others result.0 rows 0 × NumberAt (heads leaves) 0 result.1) }
 {
     if !pool.node(node).is_inner() {
         return (spot, node);
     }
-    let child = pool.node(node).child(0);
-    first_below(spot.below(node, 0), child, pool)
+    first_below(spot.below(node, 0), child(pool, node, 0), pool)
+}
+
+// From a node at this place, the last of its level, down to the last leaf below it.
+fn last_below<K: Copy, V: Copy, const N: usize>(
+    spot: Spot,
+    node: Node,
+    pool: &NodePool<K, V, N>,
+) -> (Spot, Node)
+    requires capacity { IsLeafCapacity N }
+    requires under { HasUnder N pool.now.nodes IsLast spot node }
+    ensures last { OnUnder N pool.now.nodes IsLast spot node (λ leaves rows. (others : List ℕ)
+        × IsWay others result.0 rows (length leaves - 1)
+        × NumberAt (heads leaves) (length leaves - 1) result.1) }
+{
+    if !pool.node(node).is_inner() {
+        return (spot, node);
+    }
+    let last = last_index(pool, node);
+    last_below(spot.below(node, last), child(pool, node, last), pool)
 }
 
 // The spot of the node at the end of the way of a code.
@@ -272,10 +436,9 @@ fn spot_of<K: Copy, V: Copy, const N: usize>(
     root: Node,
     pool: &NodePool<K, V, N>,
 ) -> Spot
-    requires over { (numbers : List ℕ) × (rows : List (List (LevelNode K ℕ))) × (list : List (K × ℕ))
-        × (place : ℕ) × CodedOver pool.now.nodes root code height numbers rows list place }
-    ensures way { (numbers : List ℕ) (rows : List (List (LevelNode K ℕ))) (list : List (K × ℕ)) (place : ℕ)
-        → CodedOver pool.now.nodes root code height numbers rows list place → IsWay numbers result rows place }
+    requires over { HasWay pool.now.nodes root code height }
+    ensures way { OnWay pool.now.nodes root code height (λ numbers rows list place.
+        IsWay numbers result rows place) }
 {
     if height == 0 {
         return Spot {

@@ -58,11 +58,11 @@ module _ {K V X : Type 0} (content : List (K × X) → Content K V) (slots : Lis
         node-number number1 b.entries number a.entries same
 
     -- the entries of the node are those in front of the next node's
-    pub seam : {number1 : ℕ} (b : NodeIn row number1 (suc place)) → length (flat b.before) ≡ length (flat a.before) + length a.entries
-    seam {number1} b =
+    pub seam : {number1 place1 : ℕ} (b : NodeIn row number1 place1) → place1 ≡ suc place → length (flat b.before) ≡ length (flat a.before) + length a.entries
+    seam {number1} b next =
         let k = length b.before in
         let x = node number a.entries in
-        let two : b.before ≡ a.before ++ x ∷ [] = sym (take_at b.before (node number1 b.entries ∷ b.after) k refl) ∙ ap (λ z. take k z) (sym b.row_is ∙ a.row_is ∙ sym (append_assoc a.before (x ∷ []) a.after)) ∙ take_at (a.before ++ x ∷ []) a.after k (omega (arith, a.at, b.at, length-append a.before (x ∷ []))) in
+        let two : b.before ≡ a.before ++ x ∷ [] = sym (take_at b.before (node number1 b.entries ∷ b.after) k refl) ∙ ap (λ z. take k z) (sym b.row_is ∙ a.row_is ∙ sym (append_assoc a.before (x ∷ []) a.after)) ∙ take_at (a.before ++ x ∷ []) a.after k (omega (arith, a.at, b.at, next, length-append a.before (x ∷ []))) in
         omega (arith, ap (λ z. length (flat z)) two, ap length (flat-append a.before (x ∷ [])), length-append (flat a.before) (a.entries ++ []), length-append a.entries [])
 
     -- the entries of the last node of a row end the row's entries
@@ -135,44 +135,9 @@ module _ {K V : Type 0} (slots : List (Content K V)) (root code depth : ℕ) whe
       ((x.0, ap (λ z. slice_get (x ∷ []) z) p.coded.1 ∙ ap (λ z. Some (x.0, z)) p.root_is), omega (arith, p.coded.1))
   way-none numbers (row ∷ rest) list place p none = absurd (omega (arith, p.depth_is, none))
 
-digit-more : (code : ℕ) → code % 8 + 1 < 8 → ((code + 1) % 8 ≡ code % 8 + 1) × ((code + 1) / 8 ≡ code / 8)
-digit-more code low = (omega (arith, low), omega (arith, low))
-
-digit-none : (code : ℕ) → ((code * 8) % 8 ≡ 0) × ((code * 8) / 8 ≡ code)
-digit-none code = (omega arith, omega arith)
-
--- one digit more in the same node
-one-more : {K V : Type 0} (slots : List (Content K V)) (root code depth : ℕ) (numbers : List ℕ) (rows : List (List (LevelNode K ℕ))) (list : List (K × ℕ)) (place : ℕ) (p : CodedOver slots root code depth numbers rows list place) (some : depth ≢ 0) → code % 8 + 1 < 8 → code % 8 + 1 < length (lowest slots root code depth numbers rows list place p some).at.entries → CodedOver slots root (code + 1) depth numbers rows list (suc place)
-unfolding lowest
-one-more slots root code depth numbers [] list place p some eight low = absurd (some p.depth_is)
-one-more slots root code depth numbers (row ∷ rest) list place p some eight low =
-    let d = digit-more code eight in
-    let at = p.coded.0 in
-    record {
-      stacked = p.stacked;
-      inside = p.inside;
-      coded = (record { before = at.before; entries = at.entries; after = at.after; row_is = at.row_is; within = omega (arith, d.0, low); place_is = omega (arith, d.0, at.place_is) }, subst (λ z. Coded (drop 1 numbers) rest z (length at.before)) (sym d.1) p.coded.1);
-      root_is = p.root_is;
-      depth_is = p.depth_is;
-    }
-
--- from the last child of a node on to the first child of the next
-one-carry : {K V : Type 0} (slots : List (Content K V)) (root code depth : ℕ) (numbers : List ℕ) (rows : List (List (LevelNode K ℕ))) (list : List (K × ℕ)) (place : ℕ) (p : CodedOver slots root code depth numbers rows list place) (some : depth ≢ 0) (l : Lowest slots root code depth numbers rows list place) → l ≡ lowest slots root code depth numbers rows list place p some →
-    length l.at.entries ≤ code % 8 + 1 → (above number : ℕ) (others : List ℕ) (w : NodeIn inner_content slots 8 l.row number (suc l.top)) → CodedOver slots root above (depth - 1) others l.rest (heads l.row) (suc l.top) → CodedOver slots root (above * 8) depth (number ∷ others) rows list (suc place)
-unfolding lowest
-one-carry slots root code depth numbers [] list place p some l same past above number others w q = absurd (some p.depth_is)
-one-carry slots root code depth numbers (row ∷ rest) list place p some l same past above number others w q =
-    let d = digit-none above in
-    let row_same : l.row ≡ row = ap (λ z. z.row) same in
-    let rest_same : l.rest ≡ rest = ap (λ z. z.rest) same in
-    let start : suc place ≡ length (flat w.before) + (above * 8) % 8 = omega (arith, d.0, seam inner_content slots 8 l.at w, l.place_is, l.within, past) in
-    record {
-      stacked = p.stacked;
-      inside = p.inside;
-      coded = (record { before = w.before; entries = w.entries; after = w.after; row_is = sym row_same ∙ w.row_is; within = omega (arith, d.0, w.some); place_is = start }, subst (λ z. Coded others rest z (length w.before)) (sym d.1) (subst (λ z. Coded others rest above z) (sym w.at) (subst (λ z. Coded others z above (suc l.top)) rest_same q.coded)));
-      root_is = p.root_is;
-      depth_is = p.depth_is;
-    }
+-- a code, with one digit more
+pub digit-put : (above digit code : ℕ) → digit < 8 → code ≡ above * 8 + digit → (code % 8 ≡ digit) × (code / 8 ≡ above)
+digit-put above digit code low is = (omega (arith, low, is), omega (arith, low, is))
 
 module _ {K V : Type 0} {slots : List (Content K V)} {root code depth : ℕ} {numbers : List ℕ} {rows : List (List (LevelNode K ℕ))} {list : List (K × ℕ)} {place : ℕ} (p : CodedOver slots root code depth numbers rows list place) (some : depth ≢ 0) where
   abbrev pub here : Lowest slots root code depth numbers rows list place
@@ -195,7 +160,7 @@ module _ {K V : Type 0} {slots : List (Content K V)} {root code depth : ℕ} {nu
   above-last says = says (drop 1 numbers) here.rest (heads here.row) here.top here.over
 
   -- what a child of a node is, as it was read
-  child-is : {number top : ℕ} (w : NodeIn inner_content slots 8 here.row number top) (index child to : ℕ) → index < length w.entries → to ≡ length (flat w.before) + index →
+  pub child-is : {number top : ℕ} (w : NodeIn inner_content slots 8 here.row number top) (index child to : ℕ) → index < length w.entries → to ≡ length (flat w.before) + index →
       ((keys : List K) (children : List ℕ) → slice_get slots number ≡ Some (Inner keys children) → slice_get children index ≡ Some child) → NumberAt list to child
   child-is {number} w index child to low to_is reads =
       let e = read w.entries index low in
@@ -203,15 +168,27 @@ module _ {K V : Type 0} {slots : List (Content K V)} {root code depth : ℕ} {nu
       let same : e.0.1 ≡ child = some_same e.0.1 child (sym item ∙ reads (drop 1 (entry_keys w.entries)) (entry_items w.entries) w.slot_is) in
       (e.0.0, ap (λ z. slice_get z to) (sym here.flat_is) ∙ ap (λ z. slice_get (flat here.row) z) to_is ∙ entry_at here.row w.before number w.entries w.after index e.0 w.row_is e.1 ∙ ap (λ z. Some (e.0.0, z)) same)
 
-  child-asks : {number top : ℕ} (w : NodeIn inner_content slots 8 here.row number top) (index : ℕ) → index < length w.entries → (keys : List K) × (children : List ℕ) × (slice_get slots number ≡ Some (Inner keys children)) × (index < length children)
+  pub child-asks : {number top : ℕ} (w : NodeIn inner_content slots 8 here.row number top) (index : ℕ) → index < length w.entries → (keys : List K) × (children : List ℕ) × (slice_get slots number ≡ Some (Inner keys children)) × (index < length children)
   child-asks w index low = (drop 1 (entry_keys w.entries), entry_items w.entries, w.slot_is, omega (arith, low, item_count w.entries))
+
+  -- the way to a child of a node of the level above, by the way to that node
+  pub child-code : {number top above : ℕ} {others : List ℕ} (w : NodeIn inner_content slots 8 here.row number top) → CodedOver slots root above (depth - 1) others here.rest (heads here.row) top → (digit code1 to : ℕ) → digit < length w.entries → code1 ≡ above * 8 + digit → to ≡ length (flat w.before) + digit → CodedOver slots root code1 depth (number ∷ others) rows list to
+  child-code {number} {above = above} {others = others} w q digit code1 to low code_is to_is =
+      let d = digit-put above digit code1 (omega (arith, low, w.room)) code_is in
+      record {
+        stacked = p.stacked;
+        inside = p.inside;
+        coded = subst (λ z. Coded (number ∷ others) z code1 to) (sym here.rows_are) (record { before = w.before; entries = w.entries; after = w.after; row_is = w.row_is; within = omega (arith, d.0, low); place_is = omega (arith, d.0, to_is) }, subst (λ z. Coded others here.rest z (length w.before)) (sym d.1) (subst (λ z. Coded others here.rest above z) (sym w.at) q.coded));
+        root_is = p.root_is;
+        depth_is = p.depth_is;
+      }
 
   -- the lowest node is the one that was read
   pub read-same : (parent : ℕ) → ((numbers : List ℕ) (rows : List (List (LevelNode K ℕ))) (list : List (K × ℕ)) (place : ℕ) → CodedOver slots root (code / 8) (depth - 1) numbers rows list place → NumberAt list place parent) → parent ≡ here.number
   read-same parent says = node-same inner_content slots 8 here.at (node-at inner_content slots 8 4 (omega arith) here.row here.fit here.inside parent here.top (says (drop 1 numbers) here.rest (heads here.row) here.top here.over))
 
   module _ (parent : ℕ) (same : parent ≡ here.number) where
-    abbrev node-here : NodeIn inner_content slots 8 here.row parent here.top
+    abbrev pub node-here : NodeIn inner_content slots 8 here.row parent here.top
     node-here = record { before = here.at.before; entries = here.at.entries; after = here.at.after; row_is = here.at.row_is ∙ ap (λ z. here.at.before ++ node z here.at.entries ∷ here.at.after) (sym same); at = here.at.at; slot_is = ap (slice_get slots) same ∙ here.at.slot_is; some = here.at.some; room = here.at.room }
 
     -- the child to which the code goes
@@ -236,11 +213,8 @@ module _ {K V : Type 0} {slots : List (Content K V)} {root code depth : ℕ} {nu
       pub next-child : (child : ℕ) → code % 8 + 1 < count → ((keys : List K) (children : List ℕ) → slice_get slots parent ≡ Some (Inner keys children) → slice_get children (code % 8 + 1) ≡ Some child) → NumberAt list (suc place) child
       next-child child low reads = child-is node-here (code % 8 + 1) child (suc place) (omega (arith, low, count-is)) (omega (arith, here.place_is)) reads
 
-      next-low : code % 8 + 1 < count → code % 8 + 1 < 8
-      next-low low = omega (arith, low, count-is, here.at.room)
-
-      pub next-code : code % 8 + 1 < count → CodedOver slots root (code + 1) depth numbers rows list (suc place)
-      next-code low = one-more slots root code depth numbers rows list place p some (next-low low) (omega (arith, low, count-is))
+      pub next-code : code % 8 + 1 < count → CodedOver slots root (code + 1) depth (parent ∷ drop 1 numbers) rows list (suc place)
+      next-code low = child-code node-here here.over (code % 8 + 1) (code + 1) (suc place) (omega (arith, low, count-is)) (omega arith) (omega (arith, here.place_is))
 
       past : count ≤ code % 8 + 1 → length here.at.entries ≤ code % 8 + 1
       past high = omega (arith, high, count-is)
@@ -261,11 +235,11 @@ module _ {K V : Type 0} {slots : List (Content K V)} {root code depth : ℕ} {nu
         above-low low = code-low 15 here.rest on.0 above (suc here.top) on.1.coded (omega (arith, low, here.low))
 
         start : suc place ≡ length (flat next-node.before) + 0
-        start = omega (arith, seam inner_content slots 8 here.at next-node, here.place_is, here.within, past high)
+        start = omega (arith, seam inner_content slots 8 here.at next-node refl, here.place_is, here.within, past high)
 
         -- the way goes on to that child
         pub first-code : CodedOver slots root (above * 8) depth (node ∷ on.0) rows list (suc place)
-        first-code = one-carry slots root code depth numbers rows list place p some here refl (past high) above node on.0 next-node on.1
+        first-code = child-code next-node on.1 0 (above * 8) (suc place) next-node.some (omega arith) start
 
         pub first-child : (child : ℕ) → ((keys : List K) (children : List ℕ) → slice_get slots node ≡ Some (Inner keys children) → slice_get children 0 ≡ Some child) → NumberAt list (suc place) child
         first-child child reads = child-is next-node 0 child (suc place) next-node.some start reads
@@ -330,9 +304,9 @@ module _ {K V : Type 0} {n : ℕ} {table : Table K V} (union : IsUnion n table) 
           let q = next-code spot-over other spot.parent its (length h.entries) counts-next h.within in
           record {
             root_is = s.root_is;
-            numbers = s.numbers;
-            coded = subst (λ z. Coded s.numbers (tree_of table.nodes root).above z (suc place)) (sym code) q.coded;
-            parent_is = λ low. s.parent_is some ∙ sym parent;
+            numbers = spot.parent ∷ drop 1 s.numbers;
+            coded = subst (λ z. Coded (spot.parent ∷ drop 1 s.numbers) (tree_of table.nodes root).above z (suc place)) (sym code) q.coded;
+            parent_is = λ low. sym parent;
             grand_is = λ low. s.grand_is (omega (arith, low, height)) ∙ sym grand;
             height_is = height ∙ s.height_is;
           }
@@ -363,5 +337,6 @@ module _ {K V : Type 0} {n : ℕ} {table : Table K V} (union : IsUnion n table) 
   pub spot-height : spot.height ≤ 16
   spot-height = let w = is-rooted n table root union s.root_is in omega (arith, s.height_is, w.low)
 
-  pub far-spot : (next : Spot) (others : List ℕ) → IsWay others next (tree_of table.nodes root).above (suc place) → IsSpotAt table root next (suc place)
+  -- the spot at the end of a way from the same root
+  pub far-spot : (next : Spot) (others : List ℕ) {to : ℕ} → IsWay others next (tree_of table.nodes root).above to → IsSpotAt table root next to
   far-spot next others w = record { root_is = s.root_is; numbers = others; coded = w.coded; parent_is = w.parent_is; grand_is = w.grand_is; height_is = w.height_is }

@@ -1,66 +1,165 @@
--- The way down to the first leaf, as a spot: each answer of `first_below` is one of these.
-use Rattle.std.proofs.Common.{◌≡◌, ℕ, suc, ◌+◌, ◌*◌, ◌/◌, ◌%◌, ◌≤◌, ◌<◌, List, [], ◌∷◌, ◌++◌, IsTrue, length, slice_get, Some, refl, sym, ap, subst, ◌∙◌, arith, append_assoc}
-use Rattle.bforest_core.proofs.Words.{Content, IsInner, LevelNode, heads, half_of, Under, children_of}
-use Rattle.bforest_core.specs.Spots.{Coded, IsSpotAt, IsWay, NumberAt}
+-- The way down to the first leaf below a node, and to the last, as a spot: each answer of `first_below` and `last_below` is one of these.
+use Rattle.std.proofs.Common.{◌≡◌, ℕ, suc, ◌+◌, ◌-◌, ◌*◌, ◌≤◌, ◌<◌, List, [], ◌∷◌, ◌++◌, IsTrue, length, slice_get, Some, refl, sym, ap, subst, ◌∙◌, arith, append_assoc, length-append}
+use Rattle.bforest_core.proofs.Words.{Content, FitRow, Inner, IsInner, IsLeafCapacity, IsUnion, LevelNode, StackedTo, flat, heads, half_of, inner_content, node, Under, entry_count, nil_from_length}
+use Rattle.bforest_core.specs.Spots.{Coded, HasUnder, IsFirst, IsLast, IsLeafAt, IsSpotAt, IsWay, NumberAt, OnUnder, leaf_count}
 use Rattle.bforest_core.proofs.Words.{append-nil, Table, is_root, tree_of}
 use Rattle.bforest_core.specs.declared.spot.Spot.{Spot}
-use Rattle.bforest_core.proofs.walks.Codes.{code-low}
-use Rattle.bforest_core.proofs.walks.Leading.{front_node, front-under}
-use Rattle.bforest_core.proofs.walks.TopNode.{InnerUnder, LeafUnder, none_flat}
+use Rattle.bforest_core.proofs.rows.LevelRows.{FitRow-split}
+use Rattle.bforest_core.proofs.table.Stored.{item_count, slice_get_at}
+use Rattle.bforest_core.proofs.walks.Codes.{code-low, digit-put, leaf-at}
+use Rattle.bforest_core.proofs.walks.Descent.{some_leaf}
+use Rattle.bforest_core.proofs.walks.Downward.{Seen, stacked_last}
+use Rattle.bforest_core.proofs.walks.Leading.{child_under, last_place}
+use Rattle.bforest_core.proofs.walks.Standing.{under-root}
+use Rattle.bforest_core.proofs.walks.Steps.{no_heads}
+use Rattle.bforest_core.proofs.walks.TopNode.{InnerUnder, LeafUnder, inner_under, leaf_under, node_held, none_flat}
 
-module _ {K V : Type 0} (most : ℕ) (slots : List (Content K V)) (leaves : List (LevelNode K V)) where
-  first-number : (lower : List (List (LevelNode K ℕ))) (first : K) (number : ℕ) (b : List (K × ℕ)) → Under most slots leaves lower ((first, number) ∷ b) → lower ≡ [] → NumberAt (heads leaves) 0 number
-  first-number [] first number b u none = (first, ap (λ z. slice_get z 0) u.stacked)
-  first-number (row ∷ lower) first number b u none = absurd (omega (arith, ap length none))
+-- the node at a place of the lowest level
+number-here : {K V : Type 0} (most : ℕ) (slots : List (Content K V)) (leaves : List (LevelNode K V)) (lower : List (List (LevelNode K ℕ))) (a : List (K × ℕ)) (first : K) (number : ℕ) (b : List (K × ℕ)) → Under most slots leaves lower (a ++ (first, number) ∷ b) → lower ≡ [] → NumberAt (heads leaves) (length a) number
+number-here most slots leaves [] a first number b u none = (first, ap (λ z. slice_get z (length a)) u.stacked ∙ slice_get_at a (first, number) b (length a) refl)
+number-here most slots leaves (row ∷ lower) a first number b u none = absurd (omega (arith, ap length none))
 
-  -- at the leaf
-  pub first-leaf : (lower upper : List (List (LevelNode K ℕ))) (numbers : List ℕ) (first : K) (number : ℕ) (b : List (K × ℕ)) (spot : Spot) → Under most slots leaves lower ((first, number) ∷ b) → LeafUnder most slots leaves lower [] first number b → IsWay numbers spot upper 0 → (others : List ℕ) × IsWay others spot (lower ++ upper) 0 × NumberAt (heads leaves) 0 number
-  first-leaf lower upper numbers first number b spot u s w =
-      (numbers, subst (λ (z : List (List (LevelNode K ℕ))). IsWay numbers spot (z ++ upper) 0) (sym s.lower_is) w, first-number lower first number b u s.lower_is)
+module _ {K V : Type 0} {most : ℕ} {slots : List (Content K V)} (capacity : IsLeafCapacity most) (leaves : List (LevelNode K V)) (lower : List (List (LevelNode K ℕ))) (a : List (K × ℕ)) (first : K) (number : ℕ) (b : List (K × ℕ)) (u : Under most slots leaves lower (a ++ (first, number) ∷ b)) {content : Content K V} (read : slice_get slots number ≡ Some content) where
+  -- at a leaf the way has ended
+  module _ (other : IsInner content → ⊥) where
+    ended : LeafUnder most slots leaves lower a first number b
+    ended = leaf_under most (some_leaf most capacity) slots leaves lower a first number b u content read other
+
+    way-here : (upper : List (List (LevelNode K ℕ))) (numbers : List ℕ) (spot : Spot) (place : ℕ) → IsWay numbers spot upper (length a) → length a ≡ place → (others : List ℕ) × IsWay others spot (lower ++ upper) place × NumberAt (heads leaves) place number
+    way-here upper numbers spot place w is =
+        (numbers, subst (λ (z : List (List (LevelNode K ℕ))). IsWay numbers spot (z ++ upper) place) (sym ended.lower_is) (subst (IsWay numbers spot upper) is w), subst (λ z. NumberAt (heads leaves) z number) is (number-here most slots leaves lower a first number b u ended.lower_is))
+
+    ends : b ≡ [] → length a ≡ length leaves - 1
+    ends none =
+        let s = ended.at in
+        let after = no_heads (half_of most) most (some_leaf most capacity) s.after s.after_fit (s.after_is ∙ none) in
+        omega (arith, s.before_is, ap length after, ap length s.row_is, length-append s.before (node number (s.e ∷ s.es) ∷ s.after))
 
   -- a level down
-  module _ (one : 1 ≤ half_of most) (lower : List (List (LevelNode K ℕ))) (first : K) (number : ℕ) (b : List (K × ℕ)) (u : Under most slots leaves lower ((first, number) ∷ b)) (content content2 : Content K V) (read : slice_get slots number ≡ Some content) (inner : IsInner content) (read2 : slice_get slots number ≡ Some content2) where
-    abbrev at : InnerUnder most slots leaves lower [] first number b
-    at = front_node most one slots leaves lower first number b u content content2 read inner read2
+  module _ (inner : IsInner content) where
+    below : InnerUnder most slots leaves lower a first number b
+    below = inner_under most (some_leaf most capacity) slots leaves lower a first number b u content read inner
 
-    pub way-down : (upper : List (List (LevelNode K ℕ))) (numbers : List ℕ) (spot next : Spot) → IsWay numbers spot upper 0 → next.code ≡ spot.code * 8 + 0 → next.parent ≡ number → next.grand ≡ spot.parent → next.height ≡ suc spot.height → IsWay (number ∷ numbers) next (at.row ∷ upper) 0
-    way-down upper numbers spot next w code parent grand height =
-        let digit : next.code % 8 ≡ 0 = omega (arith, code) in
-        let rest : next.code / 8 ≡ spot.code = omega (arith, code) in
-        record {
-          coded = (record { before = at.at.before; entries = at.at.e ∷ at.at.es; after = at.at.after; row_is = at.at.row_is; within = omega (arith, digit); place_is = omega (arith, digit, none_flat at.at.before at.at.before_is) }, subst (λ z. Coded numbers upper z (length at.at.before)) (sym rest) (subst (λ z. Coded numbers upper spot.code z) (sym at.at.before_is) w.coded));
-          parent_is = λ low. sym parent;
-          grand_is = λ low. w.parent_is (omega (arith, low, height)) ∙ sym grand;
-          height_is = height ∙ ap suc w.height_is;
-        }
+    room : suc (length below.at.es) ≤ 8
+    room =
+        let fit = (stacked_last (heads leaves) below.rows below.row (a ++ (first, number) ∷ b) (subst (λ (z : List (List (LevelNode K ℕ))). StackedTo (heads leaves) z (a ++ (first, number) ∷ b)) below.lower_is u.stacked)).1 in
+        let f = (FitRow-split 4 8 below.at.before (node number (below.at.e ∷ below.at.es)) below.at.after (subst (FitRow 4 8) below.at.row_is fit)).1 in
+        omega (arith, f.1)
 
-    pub rows-join : (upper : List (List (LevelNode K ℕ))) → at.rows ++ (at.row ∷ upper) ≡ lower ++ upper
-    rows-join upper = sym (append_assoc at.rows (at.row ∷ []) upper) ∙ ap (λ z. z ++ upper) (sym at.lower_is)
+    child-at : (index : ℕ) → index ≤ length below.at.es → (keys : List K) × (children : List ℕ) × (slice_get slots number ≡ Some (Inner keys children)) × (index < length children)
+    child-at index low = (_, _, below.slot_is, omega (arith, low, item_count (below.at.e ∷ below.at.es)))
 
-    pub down-low : (upper : List (List (LevelNode K ℕ))) (numbers : List ℕ) (spot : Spot) → IsWay numbers spot upper 0 → length lower + spot.height ≤ 16 → (spot.code < 35184372088832) × (spot.height < 16)
-    down-low upper numbers spot w low = (code-low 15 upper numbers spot.code 0 w.coded (omega (arith, w.height_is, low, at.count_is)), omega (arith, low, at.count_is))
+    way-low : {upper : List (List (LevelNode K ℕ))} {numbers : List ℕ} {spot : Spot} {place : ℕ} → IsWay numbers spot upper place → length lower + spot.height ≤ 16 → (spot.code < 35184372088832) × (spot.height < 16)
+    way-low {upper} {numbers} {spot} {place} w low = (code-low 15 upper numbers spot.code place w.coded (omega (arith, w.height_is, low, below.count_is)), omega (arith, low, below.count_is))
 
-    -- what the call on the child is asked, and what its answer says
-    pub record Down (upper : List (List (LevelNode K ℕ))) (child : ℕ) (next : Spot) : Type 0 where
-      pub rows : List (List (LevelNode K ℕ))
-      pub upper1 : List (List (LevelNode K ℕ))
-      pub numbers1 : List ℕ
-      pub first1 : K
-      pub rest1 : List (K × ℕ)
-      pub under : Under most slots leaves rows ((first1, child) ∷ rest1)
-      pub way : IsWay numbers1 next upper1 0
-      pub join : rows ++ upper1 ≡ lower ++ upper
-      pub count : length lower ≡ suc (length rows)
+    rows-join : (upper : List (List (LevelNode K ℕ))) → below.rows ++ (below.row ∷ upper) ≡ lower ++ upper
+    rows-join upper = sym (append_assoc below.rows (below.row ∷ []) upper) ∙ ap (λ z. z ++ upper) (sym below.lower_is)
 
-    pub down : (upper : List (List (LevelNode K ℕ))) (numbers : List ℕ) (spot next : Spot) → IsWay numbers spot upper 0 → next.code ≡ spot.code * 8 + 0 → next.parent ≡ number → next.grand ≡ spot.parent → next.height ≡ suc spot.height → (child : ℕ) → slice_get (children_of content2) 0 ≡ Some child → Down upper child next
-    down upper numbers spot next w code parent grand height child found =
-        let f = front-under most one slots leaves lower first number b u content content2 read inner read2 child found in
-        record { rows = at.rows; upper1 = at.row ∷ upper; numbers1 = number ∷ numbers; first1 = f.0; rest1 = f.1; under = f.2; way = way-down upper numbers spot next w code parent grand height; join = rows-join upper; count = at.count_is }
+    -- the spot of the child at an index, and what lies under it
+    record Down (upper : List (List (LevelNode K ℕ))) (numbers : List ℕ) (next : Spot) (index child : ℕ) : Type 0 where
+      pub front : List (K × ℕ)
+      pub key : K
+      pub back : List (K × ℕ)
+      pub under : Under most slots leaves below.rows (front ++ (key, child) ∷ back)
+      pub way : IsWay (number ∷ numbers) next (below.row ∷ upper) (length front)
+      pub front_is : length front ≡ length (flat below.at.before) + index
+      pub sum_is : length front + suc (length back) ≡ length (flat below.row)
 
-    pub down-says : (upper : List (List (LevelNode K ℕ))) (child : ℕ) (next : Spot) (d : Down upper child next) (end : Spot) (leaf : ℕ) → ((leaves : List (LevelNode K V)) (lower upper : List (List (LevelNode K ℕ))) (numbers : List ℕ) (first : K) (b : List (K × ℕ)) → Under most slots leaves lower ((first, child) ∷ b) → IsWay numbers next upper 0 → (others : List ℕ) × IsWay others end (lower ++ upper) 0 × NumberAt (heads leaves) 0 leaf) → (others : List ℕ) × IsWay others end (lower ++ upper) 0 × NumberAt (heads leaves) 0 leaf
-    down-says upper child next d end leaf says =
-        let r = says leaves d.rows d.upper1 d.numbers1 d.first1 d.rest1 d.under d.way in
-        (r.0, subst (λ (z : List (List (LevelNode K ℕ))). IsWay r.0 end z 0) d.join r.1, r.2)
+    module _ {index child : ℕ} (low : index ≤ length below.at.es) (reads : (keys : List K) (children : List ℕ) → slice_get slots number ≡ Some (Inner keys children) → slice_get children index ≡ Some child) {spot next : Spot} (code : next.code ≡ spot.code * 8 + index) (parent : next.parent ≡ number) (grand : next.grand ≡ spot.parent) (height : next.height ≡ suc spot.height) {upper : List (List (LevelNode K ℕ))} {numbers : List ℕ} (w : IsWay numbers spot upper (length a)) where
+      way-down : (place : ℕ) → place ≡ length (flat below.at.before) + index → IsWay (number ∷ numbers) next (below.row ∷ upper) place
+      way-down place place_is =
+          let d = digit-put spot.code index next.code (omega (arith, low, room)) code in
+          record {
+            coded = (record { before = below.at.before; entries = below.at.e ∷ below.at.es; after = below.at.after; row_is = below.at.row_is; within = omega (arith, d.0, low); place_is = omega (arith, d.0, place_is) }, subst (λ z. Coded numbers upper z (length below.at.before)) (sym d.1) (subst (λ z. Coded numbers upper spot.code z) (sym below.at.before_is) w.coded));
+            parent_is = λ some. sym parent;
+            grand_is = λ some. w.parent_is (omega (arith, some, height)) ∙ sym grand;
+            height_is = height ∙ ap suc w.height_is;
+          }
+
+      down : Down upper numbers next index child
+      down =
+          let c = child_under most slots leaves lower a first number b below (inner_content (below.at.e ∷ below.at.es)) below.slot_is index child (reads _ _ below.slot_is) in
+          record { front = c.0; key = c.1; back = c.2; under = c.3; way = way-down (length c.0) c.4; front_is = c.4; sum_is = c.5 }
+
+-- the entries of a row end with those of its last node
+last-end : {K : Type 0} (row : List (LevelNode K ℕ)) (a : List (K × ℕ)) (first : K) (number : ℕ) (b : List (K × ℕ)) (at : Seen 4 8 row a first number b) → b ≡ [] → length (flat row) ≡ length (flat at.before) + suc (length at.es)
+last-end row a first number [] at none = last_place 4 8 (omega arith) row a first number at
+last-end row a first number (x ∷ b) at none = absurd (omega (arith, ap length none))
+
+module _ {K V : Type 0} (most : ℕ) (slots : List (Content K V)) (Side : List (K × ℕ) → List (K × ℕ) → Type 0) (number index : ℕ) where
+  -- the way down one side of a tree goes on from a node to its child at this index
+  pub record Turns : Type 0 where
+    pub within : (leaves : List (LevelNode K V)) (lower : List (List (LevelNode K ℕ))) (a : List (K × ℕ)) (first : K) (b : List (K × ℕ)) (s : InnerUnder most slots leaves lower a first number b) → Side a b → index ≤ length s.at.es
+    pub keeps : (leaves : List (LevelNode K V)) (lower : List (List (LevelNode K ℕ))) (a : List (K × ℕ)) (first : K) (b : List (K × ℕ)) (s : InnerUnder most slots leaves lower a first number b) → Side a b → (front back : List (K × ℕ)) → length front ≡ length (flat s.at.before) + index → length front + suc (length back) ≡ length (flat s.row) → Side front back
+
+module _ {K V : Type 0} {most : ℕ} {slots : List (Content K V)} where
+  pub first-turns : {number : ℕ} → Turns most slots IsFirst number 0
+  first-turns = record {
+    within = λ leaves lower a first b s side. omega arith;
+    keeps = λ leaves lower a first b s side front back front_is sum_is. nil_from_length front (omega (arith, front_is, none_flat s.at.before (s.at.before_is ∙ ap length side)));
+  }
+
+  pub last-turns : {number last : ℕ} → ((content : Content K V) → slice_get slots number ≡ Some content → last ≡ entry_count content - 1) → Turns most slots IsLast number last
+  last-turns {number} {last} says = record {
+    within = λ leaves lower a first b s side. omega (arith, index leaves lower a first b s);
+    keeps = λ leaves lower a first b s side front back front_is sum_is. nil_from_length back (omega (arith, front_is, sum_is, index leaves lower a first b s, last-end s.row a first number b s.at side));
+  }
+    where
+      index : (leaves : List (LevelNode K V)) (lower : List (List (LevelNode K ℕ))) (a : List (K × ℕ)) (first : K) (b : List (K × ℕ)) (s : InnerUnder most slots leaves lower a first number b) → last ≡ length s.at.es
+      index leaves lower a first b s = omega (arith, says (inner_content (s.at.e ∷ s.at.es)) s.slot_is, item_count (s.at.e ∷ s.at.es))
+
+-- what is said of the first leaf, and of the last, as the end of a way
+module _ {K V : Type 0} (end : Spot) (leaf : ℕ) (leaves : List (LevelNode K V)) (rows : List (List (LevelNode K ℕ))) where
+  abbrev pub FirstSaid : Type 0
+  FirstSaid = (others : List ℕ) × IsWay others end rows 0 × NumberAt (heads leaves) 0 leaf
+
+  abbrev pub LastSaid : Type 0
+  LastSaid = (others : List ℕ) × IsWay others end rows (length leaves - 1) × NumberAt (heads leaves) (length leaves - 1) leaf
+
+module _ {K V : Type 0} {most : ℕ} {slots : List (Content K V)} (capacity : IsLeafCapacity most) {number : ℕ} {content : Content K V} (read : slice_get slots number ≡ Some content) where
+  module _ (other : IsInner content → ⊥) (spot : Spot) where
+    pub first-here : OnUnder most slots IsFirst spot number (FirstSaid spot number)
+    first-here leaves lower upper numbers a first b side u w = way-here capacity leaves lower a first number b u read other upper numbers spot 0 w (ap length side)
+
+    pub last-here : OnUnder most slots IsLast spot number (LastSaid spot number)
+    last-here leaves lower upper numbers a first b side u w = way-here capacity leaves lower a first number b u read other upper numbers spot (length leaves - 1) w (ends capacity leaves lower a first number b u read other side)
+
+  module _ (inner : IsInner content) {Side : List (K × ℕ) → List (K × ℕ) → Type 0} {index : ℕ} (turns : Turns most slots Side number index) where
+    module _ {spot : Spot} (asked : HasUnder most slots Side spot number) where
+      low-here : index ≤ length (below capacity asked.0 asked.1 asked.4 asked.5 number asked.6 asked.8 read inner).at.es
+      low-here = turns.within asked.0 asked.1 asked.4 asked.5 asked.6 (below capacity asked.0 asked.1 asked.4 asked.5 number asked.6 asked.8 read inner) asked.7
+
+      pub down-asks : (keys : List K) × (children : List ℕ) × (slice_get slots number ≡ Some (Inner keys children)) × (index < length children)
+      down-asks = child-at capacity asked.0 asked.1 asked.4 asked.5 number asked.6 asked.8 read inner index low-here
+
+      pub down-low : (spot.code < 35184372088832) × (spot.height < 16) × (index < 8)
+      down-low =
+          let r = way-low capacity asked.0 asked.1 asked.4 asked.5 number asked.6 asked.8 read inner asked.9 asked.10 in
+          (r.0, r.1, omega (arith, low-here, room capacity asked.0 asked.1 asked.4 asked.5 number asked.6 asked.8 read inner))
+
+    module _ {child : ℕ} (reads : (keys : List K) (children : List ℕ) → slice_get slots number ≡ Some (Inner keys children) → slice_get children index ≡ Some child) {spot next : Spot} (code : next.code ≡ spot.code * 8 + index) (parent : next.parent ≡ number) (grand : next.grand ≡ spot.parent) (height : next.height ≡ suc spot.height) where
+      module _ (leaves : List (LevelNode K V)) (lower upper : List (List (LevelNode K ℕ))) (numbers : List ℕ) (a : List (K × ℕ)) (first : K) (b : List (K × ℕ)) (side : Side a b) (u : Under most slots leaves lower (a ++ (first, number) ∷ b)) (w : IsWay numbers spot upper (length a)) where
+        abbrev here : InnerUnder most slots leaves lower a first number b
+        here = below capacity leaves lower a first number b u read inner
+
+        went : Down capacity leaves lower a first number b u read inner upper numbers next index child
+        went = down capacity leaves lower a first number b u read inner (turns.within leaves lower a first b here side) reads code parent grand height w
+
+        kept : Side went.front went.back
+        kept = turns.keeps leaves lower a first b here side went.front went.back went.front_is went.sum_is
+
+      pub down-ask : HasUnder most slots Side spot number → HasUnder most slots Side next child
+      down-ask asked =
+          let s = here asked.0 asked.1 asked.2 asked.3 asked.4 asked.5 asked.6 asked.7 asked.8 asked.9 in
+          let d = went asked.0 asked.1 asked.2 asked.3 asked.4 asked.5 asked.6 asked.7 asked.8 asked.9 in
+          let side = kept asked.0 asked.1 asked.2 asked.3 asked.4 asked.5 asked.6 asked.7 asked.8 asked.9 in
+          (asked.0, s.rows, s.row ∷ asked.2, number ∷ asked.3, d.front, d.key, d.back, side, d.under, d.way, omega (arith, asked.10, s.count_is, height))
+
+      pub down-on : (Said : List (LevelNode K V) → List (List (LevelNode K ℕ)) → Type 0) → OnUnder most slots Side next child Said → OnUnder most slots Side spot number Said
+      down-on Said says leaves lower upper numbers a first b side u w =
+          let s = here leaves lower upper numbers a first b side u w in
+          let d = went leaves lower upper numbers a first b side u w in
+          subst (Said leaves) (rows-join capacity leaves lower a first number b u read inner upper) (says leaves s.rows (s.row ∷ upper) (number ∷ numbers) d.front d.key d.back (kept leaves lower upper numbers a first b side u w) d.under d.way)
 
 -- the way from the root down, at its beginning
 pub way-root : {K : Type 0} (spot : Spot) → spot.code ≡ 0 → spot.height ≡ 0 → IsWay {K = K} [] spot [] 0
@@ -71,3 +170,28 @@ pub way-spot : {K V : Type 0} (table : Table K V) (root : ℕ) (spot : Spot) (pl
 way-spot {K} table root spot place numbers is w =
     let v = subst (λ (z : List (List (LevelNode K ℕ))). IsWay numbers spot z place) (append-nil (tree_of table.nodes root).above) w in
     record { root_is = is; numbers = numbers; coded = v.coded; parent_is = v.parent_is; grand_is = v.grand_is; height_is = v.height_is }
+
+-- a root has entries
+pub root-held : {K V : Type 0} {n : ℕ} {table : Table K V} (union : IsUnion n table) (root : ℕ) (is : IsTrue (is_root table.nodes root)) → (content : Content K V) × (slice_get table.nodes root ≡ Some content) × (1 ≤ entry_count content)
+root-held {n = n} {table = table} union root is =
+    let u = under-root n table root union is in
+    node_held n (some_leaf n union.1.capacity) table.nodes (tree_of table.nodes root).leaves (tree_of table.nodes root).above [] u.first root [] u.under
+
+-- the ways down from a root
+module _ {K V : Type 0} {n : ℕ} {table : Table K V} (union : IsUnion n table) {root : ℕ} (is : IsTrue (is_root table.nodes root)) {spot : Spot} (code : spot.code ≡ 0) (height : spot.height ≡ 0) where
+  pub root-under : {Side : List (K × ℕ) → List (K × ℕ) → Type 0} → Side [] [] → HasUnder n table.nodes Side spot root
+  root-under side = let u = under-root n table root union is in ((tree_of table.nodes root).leaves, (tree_of table.nodes root).above, [], [], [], u.first, [], side, u.under, way-root spot code height, omega (arith, u.low, height))
+
+  -- what is said at the end of the way, of the leaves of the tree
+  said-root : {Side : List (K × ℕ) → List (K × ℕ) → Type 0} (side : Side [] []) (Said : List (LevelNode K V) → List (List (LevelNode K ℕ)) → Type 0) → OnUnder n table.nodes Side spot root Said → Said (tree_of table.nodes root).leaves ((tree_of table.nodes root).above ++ [])
+  said-root side Said says = let u = under-root n table root union is in says (tree_of table.nodes root).leaves (tree_of table.nodes root).above [] [] [] u.first [] side u.under (way-root spot code height)
+
+  pub first-of : {end : Spot} {leaf : ℕ} → OnUnder n table.nodes IsFirst spot root (FirstSaid end leaf) → IsSpotAt table root end 0 × IsLeafAt table root 0 leaf
+  first-of {end} {leaf} says =
+      let r = said-root refl (FirstSaid end leaf) says in
+      (way-spot table root end 0 r.0 is r.1, leaf-at union root is r.2)
+
+  pub last-of : {end : Spot} {leaf : ℕ} → OnUnder n table.nodes IsLast spot root (LastSaid end leaf) → IsSpotAt table root end (leaf_count table root - 1) × IsLeafAt table root (leaf_count table root - 1) leaf
+  last-of {end} {leaf} says =
+      let r = said-root refl (LastSaid end leaf) says in
+      (way-spot table root end (leaf_count table root - 1) r.0 is r.1, leaf-at union root is r.2)

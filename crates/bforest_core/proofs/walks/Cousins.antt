@@ -20,85 +20,87 @@ coded-place numbers (row ∷ rows) code place c =
 pub place-is : {K V : Type 0} {table : Table K V} {root : ℕ} {spot : Spot} {place : ℕ} → IsSpotAt table root spot place → leaf_place table root spot ≡ place
 place-is {table = table} {root = root} {spot = spot} {place = place} s = coded-place s.numbers (tree_of table.nodes root).above spot.code place s.coded
 
-module _ {K V : Type 0} {n : ℕ} {table : Table K V} (union : IsUnion n table) {root : ℕ} {spot : Spot} {place : ℕ} (s : IsSpotAt table root spot place) (last : HasNext table spot → ⊥) where
-  module _ (some : 0 < spot.height) where
-    abbrev way : CodedOver table.nodes root spot.code spot.height s.numbers (tree_of table.nodes root).above (heads (tree_of table.nodes root).leaves) place
-    way = spot-over union s
-
-    abbrev count : ℕ
-    count = length (here way (other union s some)).at.entries
-
-    slot : slice_get table.nodes spot.parent ≡ Some (inner_content (here way (other union s some)).at.entries)
-    slot = ap (slice_get table.nodes) (its union s some) ∙ (here way (other union s some)).at.slot_is
-
-    counts : (content : Content K V) → slice_get table.nodes spot.parent ≡ Some content → count ≡ entry_count content
-    counts content found = sym (ap entry_count (some_same content (inner_content (here way (other union s some)).at.entries) (sym found ∙ slot)) ∙ item_count (here way (other union s some)).at.entries)
-
-    -- the leaf is the last of its parent
-    high : count ≤ spot.code % 8 + 1
-    high = elim (cases_lt (spot.code % 8 + 1) count) [
-      | inl low ↦ absurd (last (record { some = some; entries = (here way (other union s some)).at.entries; parent = slot; within = low }))
-      | inr past ↦ past
-    ]
-
-    -- where that parent is the root, the leaf is the last of the tree
-    pub last-below : spot.height < 2 → suc place ≡ leaf_count table root
-    last-below low =
-        let over = (here way (other union s some)).over in
-        last-leaf union root s.root_is (none-next way (other union s some) spot.parent (its union s some) count counts high (way-none table.nodes root _ _ _ _ _ _ over (omega (arith, low, some))).1)
-
-  -- a leaf without a grandparent and without a next sibling is the last of the tree
-  pub last-low : spot.height < 2 → suc place ≡ leaf_count table root
-  last-low low = elim (eqb_tells spot.height 0) [
-    | inl none ↦ last-leaf union root s.root_is (way-none table.nodes root _ _ _ _ _ _ (spot-over union s) none.1).1
-    | inr w ↦ last-below (omega (arith, w.1)) low
-  ]
-
+module _ {K V : Type 0} {n : ℕ} {table : Table K V} (union : IsUnion n table) {root : ℕ} {spot : Spot} {place : ℕ} (s : IsSpotAt table root spot place) where
   module _ (deep : 2 ≤ spot.height) where
-    abbrev some : 0 < spot.height
-    some = omega (arith, deep)
+    abbrev deep-some : 0 < spot.height
+    deep-some = omega (arith, deep)
 
-    abbrev more : spot.height - 1 ≢ 0
+    abbrev pub more : spot.height - 1 ≢ 0
     more = λ none. omega (arith, none, deep)
 
     -- the way to the parent
-    abbrev up : CodedOver table.nodes root (spot.code / 8) (spot.height - 1) (drop 1 s.numbers) (here (spot-over union s) (other union s some)).rest (heads (here (spot-over union s) (other union s some)).row) (here (spot-over union s) (other union s some)).top
-    up = (here (spot-over union s) (other union s some)).over
+    abbrev pub up : CodedOver table.nodes root (spot.code / 8) (spot.height - 1) (drop 1 s.numbers) (here (spot-over union s) (other union s deep-some)).rest (heads (here (spot-over union s) (other union s deep-some)).row) (here (spot-over union s) (other union s deep-some)).top
+    up = (here (spot-over union s) (other union s deep-some)).over
 
-    grand-is : spot.grand ≡ (here up more).number
+    pub grand-is : spot.grand ≡ (here up more).number
     grand-is = kept-same table.nodes root (spot.code / 8) (spot.height - 1) (drop 1 s.numbers) _ _ _ up more spot.grand (s.grand_is (omega (arith, deep)))
 
     -- what the number of the grandparent's children asks
     pub grand-count : (content : Content K V) × (slice_get table.nodes spot.grand ≡ Some content) × (IsFree content → ⊥)
     grand-count = count-asks up more spot.grand grand-is
 
-    module _ (children : ℕ) (says : (content : Content K V) → slice_get table.nodes spot.grand ≡ Some content → children ≡ entry_count content) (low : spot.code / 8 % 8 + 1 < children) where
-      pub parent-asks : (keys : List K) × (items : List ℕ) × (slice_get table.nodes spot.grand ≡ Some (Inner keys items)) × (spot.code / 8 % 8 + 1 < length items)
-      parent-asks = next-asks up more spot.grand grand-is children says low
+  module _ (last : HasNext table spot → ⊥) where
+    module _ (some : 0 < spot.height) where
+      abbrev way : CodedOver table.nodes root spot.code spot.height s.numbers (tree_of table.nodes root).above (heads (tree_of table.nodes root).leaves) place
+      way = spot-over union s
 
-      module _ (parent : ℕ) (reads : (keys : List K) (items : List ℕ) → slice_get table.nodes spot.grand ≡ Some (Inner keys items) → slice_get items (spot.code / 8 % 8 + 1) ≡ Some parent) where
-        abbrev on : NextAbove (spot-over union s) (other union s some) (spot.code / 8 + 1) parent
-        on = (drop 1 s.numbers, next-code up more spot.grand grand-is children says low, next-child up more spot.grand grand-is children says parent low reads)
+      abbrev count : ℕ
+      count = length (here way (other union s some)).at.entries
 
-        -- what the first child of the next parent asks
-        pub cousin-asks : (keys : List K) × (items : List ℕ) × (slice_get table.nodes parent ≡ Some (Inner keys items)) × (0 < length items)
-        cousin-asks = first-asks (spot-over union s) (other union s some) spot.parent (its union s some) (count some) (counts some) (high some) (spot.code / 8 + 1) parent on
+      slot : slice_get table.nodes spot.parent ≡ Some (inner_content (here way (other union s some)).at.entries)
+      slot = ap (slice_get table.nodes) (its union s some) ∙ (here way (other union s some)).at.slot_is
 
-        module _ (leaf : ℕ) (found : (keys : List K) (items : List ℕ) → slice_get table.nodes parent ≡ Some (Inner keys items) → slice_get items 0 ≡ Some leaf) where
-          -- the next leaf is the first child of the next parent
-          pub cousin : (next : Spot) → next.code ≡ (spot.code / 8 + 1) * 8 → next.parent ≡ parent → next.grand ≡ spot.grand → next.height ≡ spot.height → IsSpotAt table root next (suc place) × IsLeafAt table root (suc place) leaf
-          cousin next code parent_is grand height =
-              let over = first-code (spot-over union s) (other union s some) spot.parent (its union s some) (count some) (counts some) (high some) (spot.code / 8 + 1) parent on in (
-                record {
-                  root_is = s.root_is;
-                  numbers = parent ∷ drop 1 s.numbers;
-                  coded = subst (λ z. Coded (parent ∷ drop 1 s.numbers) (tree_of table.nodes root).above z (suc place)) (sym code) over.coded;
-                  parent_is = λ low. sym parent_is;
-                  grand_is = λ low. s.grand_is (omega (arith, deep)) ∙ sym grand;
-                  height_is = height ∙ s.height_is;
-                },
-                leaf-at union root s.root_is (first-child (spot-over union s) (other union s some) spot.parent (its union s some) (count some) (counts some) (high some) (spot.code / 8 + 1) parent on leaf found),
-              )
+      counts : (content : Content K V) → slice_get table.nodes spot.parent ≡ Some content → count ≡ entry_count content
+      counts content found = sym (ap entry_count (some_same content (inner_content (here way (other union s some)).at.entries) (sym found ∙ slot)) ∙ item_count (here way (other union s some)).at.entries)
+
+      -- the leaf is the last of its parent
+      high : count ≤ spot.code % 8 + 1
+      high = elim (cases_lt (spot.code % 8 + 1) count) [
+        | inl low ↦ absurd (last (record { some = some; entries = (here way (other union s some)).at.entries; parent = slot; within = low }))
+        | inr past ↦ past
+      ]
+
+      -- where that parent is the root, the leaf is the last of the tree
+      pub last-below : spot.height < 2 → suc place ≡ leaf_count table root
+      last-below low =
+          let over = (here way (other union s some)).over in
+          last-leaf union root s.root_is (none-next way (other union s some) spot.parent (its union s some) count counts high (way-none table.nodes root _ _ _ _ _ _ over (omega (arith, low, some))).1)
+
+    -- a leaf without a grandparent and without a next sibling is the last of the tree
+    pub last-low : spot.height < 2 → suc place ≡ leaf_count table root
+    last-low low = elim (eqb_tells spot.height 0) [
+      | inl none ↦ last-leaf union root s.root_is (way-none table.nodes root _ _ _ _ _ _ (spot-over union s) none.1).1
+      | inr w ↦ last-below (omega (arith, w.1)) low
+    ]
+
+    module _ (deep : 2 ≤ spot.height) where
+      module _ (children : ℕ) (says : (content : Content K V) → slice_get table.nodes spot.grand ≡ Some content → children ≡ entry_count content) (low : spot.code / 8 % 8 + 1 < children) where
+        pub parent-asks : (keys : List K) × (items : List ℕ) × (slice_get table.nodes spot.grand ≡ Some (Inner keys items)) × (spot.code / 8 % 8 + 1 < length items)
+        parent-asks = next-asks (up deep) (more deep) spot.grand (grand-is deep) children says low
+
+        module _ (parent : ℕ) (reads : (keys : List K) (items : List ℕ) → slice_get table.nodes spot.grand ≡ Some (Inner keys items) → slice_get items (spot.code / 8 % 8 + 1) ≡ Some parent) where
+          abbrev on : NextAbove (spot-over union s) (other union s (deep-some deep)) (spot.code / 8 + 1) parent
+          on = (spot.grand ∷ drop 1 (drop 1 s.numbers), next-code (up deep) (more deep) spot.grand (grand-is deep) children says low, next-child (up deep) (more deep) spot.grand (grand-is deep) children says parent low reads)
+
+          -- what the first child of the next parent asks
+          pub cousin-asks : (keys : List K) × (items : List ℕ) × (slice_get table.nodes parent ≡ Some (Inner keys items)) × (0 < length items)
+          cousin-asks = first-asks (spot-over union s) (other union s (deep-some deep)) spot.parent (its union s (deep-some deep)) (count (deep-some deep)) (counts (deep-some deep)) (high (deep-some deep)) (spot.code / 8 + 1) parent on
+
+          module _ (leaf : ℕ) (found : (keys : List K) (items : List ℕ) → slice_get table.nodes parent ≡ Some (Inner keys items) → slice_get items 0 ≡ Some leaf) where
+            -- the next leaf is the first child of the next parent
+            pub cousin : (next : Spot) → next.code ≡ (spot.code / 8 + 1) * 8 → next.parent ≡ parent → next.grand ≡ spot.grand → next.height ≡ spot.height → IsSpotAt table root next (suc place) × IsLeafAt table root (suc place) leaf
+            cousin next code parent_is grand height =
+                let over = first-code (spot-over union s) (other union s (deep-some deep)) spot.parent (its union s (deep-some deep)) (count (deep-some deep)) (counts (deep-some deep)) (high (deep-some deep)) (spot.code / 8 + 1) parent on in (
+                  record {
+                    root_is = s.root_is;
+                    numbers = parent ∷ on.0;
+                    coded = subst (λ z. Coded (parent ∷ on.0) (tree_of table.nodes root).above z (suc place)) (sym code) over.coded;
+                    parent_is = λ low. sym parent_is;
+                    grand_is = λ low. sym grand;
+                    height_is = height ∙ s.height_is;
+                  },
+                  leaf-at union root s.root_is (first-child (spot-over union s) (other union s (deep-some deep)) spot.parent (its union s (deep-some deep)) (count (deep-some deep)) (counts (deep-some deep)) (high (deep-some deep)) (spot.code / 8 + 1) parent on leaf found),
+                )
 
 -- what is said of the node that a way from the root leads to, of a spot
 pub far-said : {K V : Type 0} {n : ℕ} {table : Table K V} (union : IsUnion n table) (root : ℕ) (spot : Spot) (found : Option (Spot × ℕ)) → IfSome found (λ f. (numbers : List ℕ) (rows : List (List (LevelNode K ℕ))) (list : List (K × ℕ)) (place : ℕ) → CodedOver table.nodes root spot.code spot.height numbers rows list place → (others : List ℕ) × IsWay others f.0 rows (suc place) × NumberAt list (suc place) f.1) →

@@ -22,7 +22,7 @@ child_cut (y ∷ es) zero child found = ([], y.0, es, ap (λ z. (y.0, z) ∷ es)
 child_cut (y ∷ es) (suc index) child found = let r = child_cut es index child found in (y ∷ r.0, r.1, r.2, ap (λ z. y ∷ z) r.3, ap suc r.4)
 
 -- a row ends with the last entry of its last node
-last_place : {K X : Type 0} (half most : ℕ) → 1 ≤ half → (row : List (LevelNode K X)) (a : List (K × ℕ)) (first : K) (number : ℕ) (at : Seen half most row a first number []) → length (flat row) ≡ length (flat at.before) + suc (length at.es)
+pub last_place : {K X : Type 0} (half most : ℕ) → 1 ≤ half → (row : List (LevelNode K X)) (a : List (K × ℕ)) (first : K) (number : ℕ) (at : Seen half most row a first number []) → length (flat row) ≡ length (flat at.before) + suc (length at.es)
 last_place half most one row a first number at =
     let none = ap (λ z. length (flat z)) (no_heads half most one at.after at.after_fit at.after_is) in
     let parts = ap length (ap flat at.row_is ∙ flat-append at.before (node number (at.e ∷ at.es) ∷ at.after)) in
@@ -58,11 +58,11 @@ module _ {K V : Type 0} (most : ℕ) (slots : List (Content K V)) (leaves : List
   content_is = some_same content2 (inner_content (s.at.e ∷ s.at.es)) (sym read2 ∙ s.slot_is)
 
   -- the node meets what reading a child requires
-  child_asks : (index : ℕ) → index ≤ length s.at.es → IsInner content2 × (index < entry_count content2)
+  pub child_asks : (index : ℕ) → index ≤ length s.at.es → IsInner content2 × (index < entry_count content2)
   child_asks index within = (subst IsInner (sym content_is) tt, subst (λ (z : Content K V). index < entry_count z) (sym content_is) (omega (arith, within, item_count (s.at.e ∷ s.at.es))))
 
   -- the leaves and rows under a child
-  child_under : (index child : ℕ) → slice_get (children_of content2) index ≡ Some child → (front : List (K × ℕ)) × (key : K) × (back : List (K × ℕ)) × Under most slots leaves s.rows (front ++ (key, child) ∷ back) × (length front ≡ length (flat s.at.before) + index) × (length front + suc (length back) ≡ length (flat s.row))
+  pub child_under : (index child : ℕ) → slice_get (children_of content2) index ≡ Some child → (front : List (K × ℕ)) × (key : K) × (back : List (K × ℕ)) × Under most slots leaves s.rows (front ++ (key, child) ∷ back) × (length front ≡ length (flat s.at.before) + index) × (length front + suc (length back) ≡ length (flat s.row))
   child_under index child found =
       let c = child_cut (s.at.e ∷ s.at.es) index child (ap (λ z. slice_get (children_of z) index) (sym content_is) ∙ found) in
       let front = flat s.at.before ++ c.0 in

@@ -5,7 +5,7 @@ use Rattle.bforest_core.proofs.walks.Cousins.{cousin, cousin-asks, far-said, gra
 use Rattle.bforest_core.proofs.spot.Spot.next_cousin.Goals as goal
 
 pub entries-requires : goal.entries-requires
-entries-requires g c = (search rules, grand-count c.requires.union c.requires.spot.1 c.requires.last c.requires.deep)
+entries-requires g c = (search rules, grand-count c.requires.union c.requires.spot.1 c.requires.deep)
 
 pub child-parent-requires : goal.child-parent-requires
 child-parent-requires g c = (search rules, parent-asks c.requires.union c.requires.spot.1 c.requires.last c.requires.deep c.entries.result c.entries.ensures.value c.if-index-entries.true)

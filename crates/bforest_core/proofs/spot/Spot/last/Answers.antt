@@ -1,0 +1,22 @@
+use Rattle.std.proofs.Common.{refl, rules, sym, ◌∙◌}
+use Rattle.bforest_core.proofs.Words.{false≢true, slice_get_within}
+use Rattle.bforest_core.proofs.walks.CodesDown.{last-here, last-of, root-held, root-under}
+use Rattle.bforest_core.proofs.spot.Spot.last.Goals as goal
+
+pub node-requires : goal.node-requires
+node-requires g c =
+    let held = root-held c.requires.union c.args.root c.requires.root in
+    (search rules, (search rules, slice_get_within c.args.pool.now.nodes c.args.root held.0 held.1))
+
+pub returns-then-not-is_inner : goal.returns-then-not-is_inner
+returns-then-not-is_inner g c =
+    let r = last-of c.requires.union c.requires.root c.root-start.ensures.code c.root-start.ensures.height (last-here c.requires.union.1.capacity c.node.ensures.value (λ i. false≢true (sym c.if-not-is_inner.true ∙ c.is_inner.ensures.inner.1 i)) c.root-start.result) in
+    record { spot = r.0; leaf = r.1 }
+
+pub last_below-requires : goal.last_below-requires
+last_below-requires g c = (search rules, (c.requires.union.1.capacity, root-under c.requires.union c.requires.root c.root-start.ensures.code c.root-start.ensures.height refl))
+
+pub returns : goal.returns
+returns g c =
+    let r = last-of c.requires.union c.requires.root c.root-start.ensures.code c.root-start.ensures.height c.last_below.ensures.last in
+    record { spot = r.0; leaf = r.1 }
