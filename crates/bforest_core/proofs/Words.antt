@@ -3,7 +3,7 @@ pub use Rattle.bforest_core.specs.Chain.{IsChain, IsPool, chain_from, next_of}
 pub use Rattle.bforest_core.specs.Change.{AtUnder, Changes, Ends, GivesInOrder, GivesNodes, KeepsTrees, PlacedUnder, Plants, StandsUnder, TakesNodes}
 pub use Rattle.bforest_core.specs.Change.{node_count}
 pub use Rattle.bforest_core.specs.Climb.{Above, Grown, Halved, Inserted, LeafHalved, NextIs, Placed, SameBelow, nodes_up, top_of}
-pub use Rattle.bforest_core.specs.Leaves.{EndsIn, PutsInLeaf}
+pub use Rattle.bforest_core.specs.Leaves.{EndsIn, EndsOn, Narrows, PutsInLeaf, SearchEndsAt, entry_up_to}
 pub use Rattle.bforest_core.specs.Descent.{Descended, Reached, GoesThrough, IsFrom, IsRooted, IsUpTo, Led, LedLast, SameAbove, StackedTo, StandsTo}
 pub use Rattle.bforest_core.specs.Descent.{Under, child_index}
 pub use Rattle.bforest_core.specs.Levels.{FitRow, IsFit, LevelNode, Solid, Stacked, Topped, Tree, flat, half_of, head_of, heads, least, node, numbers}

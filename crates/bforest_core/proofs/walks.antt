@@ -17,3 +17,5 @@ pub mod Codes
 pub mod CodesDown
 pub mod Cousins
 pub mod Alone
+pub mod Searches
+pub mod AtMost

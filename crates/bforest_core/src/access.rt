@@ -1,5 +1,5 @@
 //! Reading and writing one node of a pool, by its number.
-ghost use Rattle.std.specs.Prelude.{◌≡◌, ℕ, ◌-◌, ◌<◌, ◌≤◌, ◌↔◌, IsTrue, List, length, slice_get, Some, Err, if◌then◌else◌};
+ghost use Rattle.std.specs.Prelude.{◌≡◌, ℕ, ◌-◌, ◌<◌, ◌≤◌, ◌↔◌, IfSome, IsTrue, List, length, slice_get, Some, Err, if◌then◌else◌};
 ghost use Rattle.std.specs.List.Sorted.{IsStrictlySortedBy};
 ghost use Rattle.bforest_nodes.specs.Content.{Content, Inner, IsLeafCapacity, IsFree, with_child, Leaf, with_entry, with_key, without_child, without_entry, removed_answer, entry_count, put_answer, with_put};
 ghost use Rattle.bforest_nodes.specs.Search.{search_of};
@@ -224,4 +224,18 @@ pub(crate) fn leaf_key<K: Copy, V: Copy, const N: usize>(pool: &NodePool<K, V, N
         → slice_get keys 0 ≡ Some result }
 {
     pool.node(node).leaf_crit_key()
+}
+
+// The entry of a leaf at `index`, or `None` if there is none.
+pub(crate) fn leaf_entry<K: Copy, V: Copy, const N: usize>(
+    pool: &NodePool<K, V, N>,
+    node: Node,
+    index: usize,
+) -> Option<(K, V)>
+    requires { (entries : List (K × V)) × (slice_get pool.now.nodes node ≡ Some (leaf_content entries)) }
+    ensures value { (entries : List (K × V)) → slice_get pool.now.nodes node ≡ Some (leaf_content entries)
+        → result ≡ slice_get entries index }
+    ensures most { IfSome result (λ entry. index ≤ 255) }
+{
+    pool.node(node).get_entry(index)
 }

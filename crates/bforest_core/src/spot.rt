@@ -1,14 +1,17 @@
 //! The place of a leaf in its tree, in one word.
 ghost use Rattle.std.specs.Prelude.{◌≡◌, ℕ, suc, ◌+◌, ◌*◌, ◌<◌, ◌≤◌, ◌/◌, ◌%◌, ◌++◌, ◌∷◌, IfSome, IsTrue, List, length, slice_get, Some, None, true, false};
-ghost use Rattle.bforest_core.specs.Levels.{LevelNode, heads};
+ghost use Rattle.bforest_core.specs.Leaves.{EndsOn, SearchEndsAt};
+ghost use Rattle.bforest_core.specs.Levels.{LevelNode, flat, heads};
+ghost use Rattle.bforest_core.specs.Paths.{list_under};
 ghost use Rattle.bforest_core.specs.Trees.{IsUnion, is_root, tree_of};
 ghost use Rattle.bforest_nodes.specs.Content.{IsLeafCapacity};
-ghost use Rattle.bforest_core.specs.Descent.{Under};
-ghost use Rattle.bforest_core.specs.Spots.{CodedOver, HasNext, HasNoParent, IsLeafAt, IsSpotAt, IsWay, NumberAt, SpotOn, leaf_count};
+ghost use Rattle.bforest_nodes.specs.Entries.{IsIncreasing};
+ghost use Rattle.bforest_core.specs.Descent.{GoesThrough, Under};
+ghost use Rattle.bforest_core.specs.Spots.{CodedOver, HasNext, HasNoParent, IsLeafAt, IsSpotAt, IsWay, NumberAt, SpotOn, leaf_count, leaf_place};
 
-use crate::access::{child, entries};
+use crate::access::{child, entries, follow};
 use crate::pool::NodePool;
-use bforest_nodes::Node;
+use bforest_nodes::{Comparator, Node};
 
 /// The place of a leaf in its tree: at which child the way from the root down to it goes on, an octal digit for each level of inner nodes,
 /// that of the leaf's parent the last.
@@ -166,6 +169,24 @@ impl Spot {
         }
         next_far(self.code, self.height, root, pool)
     }
+
+    /// The leaf in which a search for `key` ends in the tree under `root`, and its place.
+    #[inline(always)]
+    pub fn find<K: Copy, V: Copy, const N: usize, C: Comparator<K>>(
+        key: K,
+        root: Node,
+        pool: &NodePool<K, V, N>,
+        comp: &C,
+    ) -> (Spot, Node)
+        requires union { IsUnion N pool.now }
+        requires root { IsTrue (is_root pool.now.nodes root) }
+        requires increasing { IsIncreasing (C.order comp.now) (list_under pool.now root) }
+        ensures spot { IsSpotAt pool.now root result.0 (leaf_place pool.now root result.0) }
+        ensures leaf { SearchEndsAt (C.order comp.now) pool.now root key
+            (leaf_place pool.now root result.0) result.1 }
+    {
+        find_below(Spot::root(root), root, key, pool, comp)
+    }
 }
 
 // The node behind the one at which the way of a code ends, and its spot, if there is one.
@@ -301,4 +322,32 @@ fn spot_of<K: Copy, V: Copy, const N: usize>(
         grand,
         height,
     }
+}
+
+// From a node at this place down to the leaf in which a search for `key` ends, which goes through the node.
+fn find_below<K: Copy, V: Copy, const N: usize, C: Comparator<K>>(
+    spot: Spot,
+    node: Node,
+    key: K,
+    pool: &NodePool<K, V, N>,
+    comp: &C,
+) -> (Spot, Node)
+    requires capacity { IsLeafCapacity N }
+    requires under { (leaves : List (LevelNode K V)) × (lower upper : List (List (LevelNode K ℕ)))
+        × (numbers : List ℕ) × (before : List (K × ℕ)) × (first : K) × (after : List (K × ℕ))
+        × Under N pool.now.nodes leaves lower (before ++ (first, node) ∷ after)
+        × IsWay numbers spot upper (length before) × IsIncreasing (C.order comp.now) (flat leaves)
+        × GoesThrough (C.order comp.now) before first after key × (length lower + spot.height ≤ 16) }
+    ensures found { (leaves : List (LevelNode K V)) (lower upper : List (List (LevelNode K ℕ)))
+        (numbers : List ℕ) (before : List (K × ℕ)) (first : K) (after : List (K × ℕ))
+        → Under N pool.now.nodes leaves lower (before ++ (first, node) ∷ after)
+        → IsWay numbers spot upper (length before) → IsIncreasing (C.order comp.now) (flat leaves)
+        → GoesThrough (C.order comp.now) before first after key → EndsOn (C.order comp.now) pool.now.nodes
+        leaves (lower ++ upper) key result.0 result.1 }
+{
+    if !pool.node(node).is_inner() {
+        return (spot, node);
+    }
+    let (index, child) = follow(pool, node, key, comp);
+    find_below(spot.below(node, index), child, key, pool, comp)
 }
