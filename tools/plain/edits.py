@@ -36,6 +36,7 @@ UNUSED = {
     "bforest_nodes/lent.rt": ["front_mut"],
     "bforest_core/path/insert.rt": ["needed"],
     "bforest_core/pool.rt": ["new"],
+    "bforest_core/spot.rt": ["find", "find_below"],
 }
 
 USE_GLOBAL = (r"^use std::alloc::Global;\n", "", 1)
@@ -99,6 +100,11 @@ EDITS = {
         (r"; a tree is seen as its levels, each a\n//! row of nodes \(`specs/Levels\.antt`\)\. docs/MODEL\.md reads these definitions aloud\.", ".", 1),
         (r"\[`NodeData`\]", "`NodeData`", 1),
         (r"Comparator, Node, NodeData, PackedNode, Removed, SetValue, SplitOff,?", "Comparator, Node, PackedNode, SetValue", 1),
+    ],
+    # What the search alone uses, which goes with it.
+    "bforest_core/spot.rt": [
+        (r"^use crate::access::\{child, entries, follow\};", "use crate::access::{child, entries};", 1),
+        (r"^use bforest_nodes::\{Comparator, Node\};", "use bforest_nodes::Node;", 1),
     ],
     "bforest_core/pool.rt": [
         (r"^use std::alloc::\{AllocError, Global\};\n", "use alloc::collections::TryReserveError;\nuse alloc::vec::Vec;\n", 1),
