@@ -1,12 +1,12 @@
 //! The place of a leaf in its tree, in one word.
 ghost use Rattle.std.specs.Prelude.{◌≡◌, ℕ, suc, ◌+◌, ◌*◌, ◌<◌, ◌≤◌, ◌/◌, ◌%◌, ◌++◌, ◌∷◌, IfSome, IsTrue, List, length, slice_get, Some, None, true, false};
 ghost use Rattle.bforest_core.specs.Leaves.{EndsOn, SearchEndsAt};
-ghost use Rattle.bforest_core.specs.Levels.{LevelNode, flat, heads};
+ghost use Rattle.bforest_core.specs.Levels.{LevelNode, heads};
 ghost use Rattle.bforest_core.specs.Paths.{list_under};
 ghost use Rattle.bforest_core.specs.Trees.{IsUnion, is_root, tree_of};
 ghost use Rattle.bforest_nodes.specs.Content.{IsLeafCapacity};
 ghost use Rattle.bforest_nodes.specs.Entries.{IsIncreasing};
-ghost use Rattle.bforest_core.specs.Descent.{GoesThrough, Under};
+ghost use Rattle.bforest_core.specs.Descent.{SearchThrough, Under};
 ghost use Rattle.bforest_core.specs.Spots.{CodedOver, HasNext, HasNoParent, IsLeafAt, IsSpotAt, IsWay, NumberAt, SpotOn, leaf_count, leaf_place};
 
 use crate::access::{child, entries, follow};
@@ -333,17 +333,14 @@ fn find_below<K: Copy, V: Copy, const N: usize, C: Comparator<K>>(
     comp: &C,
 ) -> (Spot, Node)
     requires capacity { IsLeafCapacity N }
-    requires under { (leaves : List (LevelNode K V)) × (lower upper : List (List (LevelNode K ℕ)))
-        × (numbers : List ℕ) × (before : List (K × ℕ)) × (first : K) × (after : List (K × ℕ))
-        × Under N pool.now.nodes leaves lower (before ++ (first, node) ∷ after)
-        × IsWay numbers spot upper (length before) × IsIncreasing (C.order comp.now) (flat leaves)
-        × GoesThrough (C.order comp.now) before first after key × (length lower + spot.height ≤ 16) }
-    ensures found { (leaves : List (LevelNode K V)) (lower upper : List (List (LevelNode K ℕ)))
-        (numbers : List ℕ) (before : List (K × ℕ)) (first : K) (after : List (K × ℕ))
-        → Under N pool.now.nodes leaves lower (before ++ (first, node) ∷ after)
-        → IsWay numbers spot upper (length before) → IsIncreasing (C.order comp.now) (flat leaves)
-        → GoesThrough (C.order comp.now) before first after key → EndsOn (C.order comp.now) pool.now.nodes
-        leaves (lower ++ upper) key result.0 result.1 }
+    requires under { (leaves : List (LevelNode K V)) × (upper : List (List (LevelNode K ℕ)))
+        × (numbers : List ℕ)
+        × (on : SearchThrough (C.order comp.now) N pool.now.nodes leaves key node spot.height)
+        × IsWay numbers spot upper (length on.before) }
+    ensures found { (leaves : List (LevelNode K V)) (upper : List (List (LevelNode K ℕ))) (numbers : List ℕ)
+        (on : SearchThrough (C.order comp.now) N pool.now.nodes leaves key node spot.height)
+        → IsWay numbers spot upper (length on.before)
+        → EndsOn (C.order comp.now) pool.now.nodes leaves (on.lower ++ upper) key result.0 result.1 }
 {
     if !pool.node(node).is_inner() {
         return (spot, node);

@@ -1,10 +1,10 @@
 //! The value of a key, and the last entry up to a key.
-ghost use Rattle.std.specs.Prelude.{◌≡◌, ℕ, ◌+◌, ◌≤◌, IsTrue, List, ◌∷◌, ◌++◌, length, slice_get, Some};
+ghost use Rattle.std.specs.Prelude.{◌≡◌, IsTrue, List, slice_get, Some};
 ghost use Rattle.bforest_nodes.specs.Content.{IsLeafCapacity};
 ghost use Rattle.bforest_nodes.specs.Entries.{IsIncreasing, value_for};
-ghost use Rattle.bforest_core.specs.Descent.{GoesThrough, Under};
+ghost use Rattle.bforest_core.specs.Descent.{SearchThrough};
 ghost use Rattle.bforest_core.specs.Leaves.{entry_up_to};
-ghost use Rattle.bforest_core.specs.Levels.{LevelNode, flat, top_level};
+ghost use Rattle.bforest_core.specs.Levels.{LevelNode, flat};
 ghost use Rattle.bforest_core.specs.Place.{leaf_content};
 ghost use Rattle.bforest_core.specs.Trees.{IsUnion, is_root, tree_of};
 
@@ -27,15 +27,10 @@ impl<K: Copy, V: Copy, const N: usize> NodePool<K, V, N> {
     // The value of a key, the search for which goes through `node`; `depth` levels are above it.
     fn value_below<C: Comparator<K>>(&self, key: K, node: Node, depth: usize, comp: &C) -> Option<V>
         requires capacity { IsLeafCapacity N }
-        requires under { (leaves : List (LevelNode K V)) × (lower : List (List (LevelNode K ℕ)))
-            × (before : List (K × ℕ)) × (first : K) × (after : List (K × ℕ))
-            × Under N self.now.nodes leaves lower (before ++ (first, node) ∷ after)
-            × IsIncreasing (C.order comp.now) (flat leaves) × GoesThrough (C.order comp.now) before first
-            after key × (depth + length lower ≤ top_level) }
-        ensures { (leaves : List (LevelNode K V)) (lower : List (List (LevelNode K ℕ)))
-            (before : List (K × ℕ)) (first : K) (after : List (K × ℕ)) → Under N self.now.nodes leaves lower
-            (before ++ (first, node) ∷ after) → IsIncreasing (C.order comp.now) (flat leaves)
-            → GoesThrough (C.order comp.now) before first after key → result
+        requires through { (leaves : List (LevelNode K V))
+            × SearchThrough (C.order comp.now) N self.now.nodes leaves key node depth }
+        ensures { (leaves : List (LevelNode K V))
+            → SearchThrough (C.order comp.now) N self.now.nodes leaves key node depth → result
             ≡ value_for (C.order comp.now) (flat leaves) key }
     {
         if !self.node(node).is_inner() {
@@ -65,15 +60,10 @@ impl<K: Copy, V: Copy, const N: usize> NodePool<K, V, N> {
         comp: &C,
     ) -> Option<(K, V)>
         requires capacity { IsLeafCapacity N }
-        requires under { (leaves : List (LevelNode K V)) × (lower : List (List (LevelNode K ℕ)))
-            × (before : List (K × ℕ)) × (first : K) × (after : List (K × ℕ))
-            × Under N self.now.nodes leaves lower (before ++ (first, node) ∷ after)
-            × IsIncreasing (C.order comp.now) (flat leaves) × GoesThrough (C.order comp.now) before first
-            after key × (depth + length lower ≤ top_level) }
-        ensures { (leaves : List (LevelNode K V)) (lower : List (List (LevelNode K ℕ)))
-            (before : List (K × ℕ)) (first : K) (after : List (K × ℕ)) → Under N self.now.nodes leaves lower
-            (before ++ (first, node) ∷ after) → IsIncreasing (C.order comp.now) (flat leaves)
-            → GoesThrough (C.order comp.now) before first after key → result
+        requires through { (leaves : List (LevelNode K V))
+            × SearchThrough (C.order comp.now) N self.now.nodes leaves key node depth }
+        ensures { (leaves : List (LevelNode K V))
+            → SearchThrough (C.order comp.now) N self.now.nodes leaves key node depth → result
             ≡ entry_up_to (C.order comp.now) (flat leaves) key }
     {
         if !self.node(node).is_inner() {
@@ -85,8 +75,8 @@ impl<K: Copy, V: Copy, const N: usize> NodePool<K, V, N> {
 
     // The last entry of a leaf whose key is not greater than `key`.
     //
-    // Where a search for `key` ends in the leaf, it is that of the tree: `key` is less than all keys of the leaf only if it is less than all
-    // keys of the tree.
+    // Where a search for `key` ends in the leaf, it is that of the tree: `key` is less than all keys of the leaf only if it is less than
+    // all keys of the tree.
     fn entry_in_leaf<C: Comparator<K>>(&self, key: K, leaf: Node, comp: &C) -> Option<(K, V)>
         requires capacity { IsLeafCapacity N }
         requires leaf { (entries : List (K × V)) × (slice_get self.now.nodes leaf

@@ -1,6 +1,6 @@
--- The way down to the leaf in which a search ends, as a spot: each answer of `find_below` is one of these.
+-- The way down to the leaf in which a search ends: each answer of `value_below`, `entry_below` and, as a spot, `find_below` is one of these.
 use Rattle.std.proofs.Common.{◌≡◌, ℕ, suc, ◌+◌, ◌*◌, ◌/◌, ◌%◌, ◌≤◌, ◌<◌, List, [], ◌∷◌, ◌++◌, IsTrue, length, slice_get, Some, refl, sym, ap, subst, ◌∙◌, arith, append_assoc}
-use Rattle.bforest_core.proofs.Words.{Content, EndsOn, FitRow, GoesThrough, Inner, IsInner, IsIncreasing, IsTotalOrder, IsStrictlySortedBy, LevelNode, Narrows, SearchEndsAt, StackedTo, Table, Under, child_index, flat, half_of, heads, is_root, node, place, tree_of}
+use Rattle.bforest_core.proofs.Words.{Content, EndsOn, FitRow, Inner, IsInner, IsIncreasing, IsTotalOrder, IsStrictlySortedBy, IsUnion, LevelNode, Narrows, SearchEndsAt, SearchThrough, StackedTo, Table, Under, child_index, flat, half_of, heads, is_root, leaf_content, node, place, tree_of}
 use Rattle.bforest_core.specs.Spots.{Coded, IsSpotAt, IsWay, leaf_place}
 use Rattle.bforest_core.specs.declared.spot.Spot.{Spot}
 use Rattle.std.specs.declared.cmp.Ordering.{Ordering}
@@ -10,7 +10,9 @@ use Rattle.bforest_core.proofs.walks.CodesDown.{way-spot}
 use Rattle.bforest_core.proofs.walks.Cousins.{place-is}
 use Rattle.bforest_core.proofs.walks.Descent.{Below, InnerStep, LeafStep, below, follow_asks, inner_step, leaf_found, leaf_step, leaf_value, placed}
 use Rattle.bforest_core.proofs.walks.Downward.{stacked_last}
-use Rattle.bforest_core.proofs.walks.TopNode.{InnerUnder, inner_under, leaf_under}
+use Rattle.bforest_core.proofs.walks.Standing.{under-root}
+use Rattle.bforest_core.proofs.walks.TopNode.{InnerUnder, inner_under, leaf_under, node_within}
+use Rattle.bforest_core.proofs.walks.Whole.{all_through}
 
 -- a node of a row over eight children at most
 row-low : {K V : Type 0} {most : ℕ} {slots : List (Content K V)} {leaves : List (LevelNode K V)} {lower : List (List (LevelNode K ℕ))} {a : List (K × ℕ)} {first : K} {number : ℕ} {b : List (K × ℕ)} → Under most slots leaves lower (a ++ (first, number) ∷ b) → (s : InnerUnder most slots leaves lower a first number b) → length s.at.es < 8
@@ -22,99 +24,109 @@ row-low {leaves = leaves} {a = a} {first = first} {number = number} {b = b} u s 
 digits : (code index next : ℕ) → next ≡ code * 8 + index → index < 8 → (next % 8 ≡ index) × (next / 8 ≡ code)
 digits code index next is low = (omega (arith, is, low), omega (arith, is, low))
 
--- the search one level down, below these rows, at a child with this spot
+-- the search one level down, with the way there, below these rows
 pub record WayBelow {K V : Type 0} (cmp : K → K → Ordering) (most : ℕ) (slots : List (Content K V)) (leaves : List (LevelNode K V)) (lower upper : List (List (LevelNode K ℕ))) (key : K) (next : Spot) (child : ℕ) : Type 0 where
-  pub rows : List (List (LevelNode K ℕ))
   pub above : List (List (LevelNode K ℕ))
   pub numbers : List ℕ
-  pub front : List (K × ℕ)
-  pub head : K
-  pub back : List (K × ℕ)
-  pub under : Under most slots leaves rows (front ++ (head, child) ∷ back)
-  pub way : IsWay numbers next above (length front)
-  pub through : GoesThrough cmp front head back key
-  pub join : rows ++ above ≡ lower ++ upper
-  pub count_is : length lower ≡ suc (length rows)
+  pub on : SearchThrough cmp most slots leaves key child next.height
+  pub way : IsWay numbers next above (length on.before)
+  pub join : on.lower ++ above ≡ lower ++ upper
 
-module _ {K V : Type 0} {cmp : K → K → Ordering} (o : IsTotalOrder cmp) {most : ℕ} (one : 1 ≤ half_of most) {slots : List (Content K V)} {leaves : List (LevelNode K V)} {lower : List (List (LevelNode K ℕ))} {a : List (K × ℕ)} {first : K} (number : ℕ) {b : List (K × ℕ)} {key : K}
-    (u : Under most slots leaves lower (a ++ (first, number) ∷ b)) (inc : IsIncreasing cmp (flat leaves)) (g : GoesThrough cmp a first b key) (content : Content K V) (found : slice_get slots number ≡ Some content) where
-  -- at the leaf
-  module _ (other : IsInner content → ⊥) where
-    pub step-leaf : LeafStep cmp most slots leaves lower a first number b key
-    step-leaf = leaf_step cmp o most one slots leaves lower a first number b key inc g (leaf_under most one slots leaves lower a first number b u content found other)
+module _ {K V : Type 0} {cmp : K → K → Ordering} (o : IsTotalOrder cmp) {most : ℕ} (one : 1 ≤ half_of most) {slots : List (Content K V)} {leaves : List (LevelNode K V)} {key : K} {number depth : ℕ} (t : SearchThrough cmp most slots leaves key number depth) where
+  -- the node is in the slots
+  pub within : number < length slots
+  within = node_within most one slots leaves t.lower t.before t.first number t.after t.under
 
-    -- what a search in the leaf tells
-    pub narrowed : Narrows cmp leaves key step-leaf.here.at.before (step-leaf.here.at.e ∷ step-leaf.here.at.es)
-    narrowed =
-        let s = step-leaf in
-        let p = placed cmp o most one slots leaves lower a first number b key s number (place cmp (s.here.at.e ∷ s.here.at.es) key) refl refl in
-        record { increasing = s.increasing; place_is = p.place_is; value_is = leaf_value cmp o most one slots leaves lower a first number b key s; found_is = leaf_found cmp o most one slots leaves lower a first number b key s; first = p.first }
+  module _ (content : Content K V) (found : slice_get slots number ≡ Some content) where
+    -- at the leaf
+    module _ (other : IsInner content → ⊥) where
+      pub step-leaf : LeafStep cmp most slots leaves t.lower t.before t.first number t.after key
+      step-leaf = leaf_step cmp o most one slots leaves t.lower t.before t.first number t.after key t.increasing t.through (leaf_under most one slots leaves t.lower t.before t.first number t.after t.under content found other)
 
-    pub ends-on : (upper : List (List (LevelNode K ℕ))) (numbers : List ℕ) (spot : Spot) → IsWay numbers spot upper (length a) → EndsOn cmp slots leaves (lower ++ upper) key spot number
-    ends-on upper numbers spot w =
-        let s = step-leaf in
-        let at = s.here.at in
-        record {
-          before = at.before;
-          entries = at.e ∷ at.es;
-          after = at.after;
-          leaves_are = at.row_is;
-          slot_is = s.here.slot_is;
-          some = omega arith;
-          tells = narrowed;
-          numbers = numbers;
-          way = subst (λ z. IsWay numbers spot (z ++ upper) (length at.before)) (sym s.here.lower_is) (subst (λ z. IsWay numbers spot upper z) (sym at.before_is) w);
-        }
+      -- what a search in the leaf asks
+      pub leaf-asks : (entries : List (K × V)) × (slice_get slots number ≡ Some (leaf_content entries)) × IsIncreasing cmp entries
+      leaf-asks = (step-leaf.here.at.e ∷ step-leaf.here.at.es, step-leaf.here.slot_is, step-leaf.increasing)
 
-  -- at an inner node
-  module _ (inner : IsInner content) where
-    pub step : InnerStep cmp most slots leaves lower a first number b key
-    step = inner_step cmp o most one slots leaves lower a first number b key inc g (inner_under most one slots leaves lower a first number b u content found inner)
+      -- what a search in the leaf tells
+      pub narrowed : Narrows cmp leaves key step-leaf.here.at.before (step-leaf.here.at.e ∷ step-leaf.here.at.es)
+      narrowed =
+          let s = step-leaf in
+          let p = placed cmp o most one slots leaves t.lower t.before t.first number t.after key s number (place cmp (s.here.at.e ∷ s.here.at.es) key) refl refl in
+          record { increasing = s.increasing; place_is = p.place_is; value_is = leaf_value cmp o most one slots leaves t.lower t.before t.first number t.after key s; found_is = leaf_found cmp o most one slots leaves t.lower t.before t.first number t.after key s; first = p.first }
 
-    -- what following a child asks
-    pub asks : (keys : List K) × (children : List ℕ) × (slice_get slots number ≡ Some (Inner keys children)) × IsStrictlySortedBy cmp keys
-    asks = follow_asks cmp o most one slots leaves lower a first number b key step
-
-    module _ (index child : ℕ) (says : (keys : List K) (children : List ℕ) → slice_get slots number ≡ Some (Inner keys children) → index ≡ child_index cmp keys key) (reads : (keys : List K) (children : List ℕ) → slice_get slots number ≡ Some (Inner keys children) → slice_get children index ≡ Some child) where
-      pub to : Below cmp o most one slots leaves lower a first number b key step index child
-      to = below cmp o most one slots leaves lower a first number b key step index child says reads
-
-      -- the child's index is a digit
-      pub digit-low : index < 8
-      digit-low = omega (arith, to.within, row-low u step.here)
-
-      module _ (upper : List (List (LevelNode K ℕ))) (numbers : List ℕ) (spot : Spot) (w : IsWay numbers spot upper (length a)) where
-        -- a digit more fits
-        pub code-room : length lower + spot.height ≤ 16 → (spot.code < 35184372088832) × (spot.height < 16)
-        code-room low = (code-low 15 upper numbers spot.code (length a) w.coded (omega (arith, w.height_is, low, step.here.count_is)), omega (arith, low, step.here.count_is))
-
-        module _ (next : Spot) (code : next.code ≡ spot.code * 8 + index) (parent : next.parent ≡ number) (grand : next.grand ≡ spot.parent) (height : next.height ≡ suc spot.height) where
-          way-to : IsWay (number ∷ numbers) next (step.here.row ∷ upper) (length to.front)
-          way-to =
-              let at = step.here.at in
-              let d = digits spot.code index next.code code digit-low in
-              record {
-                coded = (record { before = at.before; entries = at.e ∷ at.es; after = at.after; row_is = at.row_is; within = omega (arith, d.0, to.within); place_is = to.place_is ∙ ap (λ z. length (flat at.before) + z) (sym d.0) }, subst (λ z. Coded numbers upper z (length at.before)) (sym d.1) (subst (λ z. Coded numbers upper spot.code z) (sym at.before_is) w.coded));
-                parent_is = λ low. sym parent;
-                grand_is = λ low. w.parent_is (omega (arith, low, height)) ∙ sym grand;
-                height_is = height ∙ ap suc w.height_is;
-              }
-
-          -- the search one level down, with the way there
-          pub down : WayBelow cmp most slots leaves lower upper key next child
-          down = record {
-            rows = step.here.rows;
-            above = step.here.row ∷ upper;
-            numbers = number ∷ numbers;
-            front = to.front;
-            head = to.head;
-            back = to.back;
-            under = to.under;
-            way = way-to;
-            through = to.through;
-            join = sym (append_assoc step.here.rows (step.here.row ∷ []) upper) ∙ ap (λ z. z ++ upper) (sym step.here.lower_is);
-            count_is = step.here.count_is;
+      pub ends-on : (upper : List (List (LevelNode K ℕ))) (numbers : List ℕ) (spot : Spot) → IsWay numbers spot upper (length t.before) → EndsOn cmp slots leaves (t.lower ++ upper) key spot number
+      ends-on upper numbers spot w =
+          let s = step-leaf in
+          let at = s.here.at in
+          record {
+            before = at.before;
+            entries = at.e ∷ at.es;
+            after = at.after;
+            leaves_are = at.row_is;
+            slot_is = s.here.slot_is;
+            some = omega arith;
+            tells = narrowed;
+            numbers = numbers;
+            way = subst (λ z. IsWay numbers spot (z ++ upper) (length at.before)) (sym s.here.lower_is) (subst (λ z. IsWay numbers spot upper z) (sym at.before_is) w);
           }
+
+    -- at an inner node
+    module _ (inner : IsInner content) where
+      pub step : InnerStep cmp most slots leaves t.lower t.before t.first number t.after key
+      step = inner_step cmp o most one slots leaves t.lower t.before t.first number t.after key t.increasing t.through (inner_under most one slots leaves t.lower t.before t.first number t.after t.under content found inner)
+
+      -- what following a child asks
+      pub asks : (keys : List K) × (children : List ℕ) × (slice_get slots number ≡ Some (Inner keys children)) × IsStrictlySortedBy cmp keys
+      asks = follow_asks cmp o most one slots leaves t.lower t.before t.first number t.after key step
+
+      -- a level more is not too many
+      pub deeper-low : depth < 16
+      deeper-low = omega (arith, t.low, step.here.count_is)
+
+      module _ (index child : ℕ) (says : (keys : List K) (children : List ℕ) → slice_get slots number ≡ Some (Inner keys children) → index ≡ child_index cmp keys key) (reads : (keys : List K) (children : List ℕ) → slice_get slots number ≡ Some (Inner keys children) → slice_get children index ≡ Some child) where
+        pub to : Below cmp o most one slots leaves t.lower t.before t.first number t.after key step index child
+        to = below cmp o most one slots leaves t.lower t.before t.first number t.after key step index child says reads
+
+        -- the search one level down
+        abbrev pub one-down : (deeper : ℕ) → deeper ≡ suc depth → SearchThrough cmp most slots leaves key child deeper
+        one-down deeper is = record { lower = step.here.rows; before = to.front; first = to.head; after = to.back; under = to.under; increasing = t.increasing; through = to.through; low = omega (arith, is, t.low, step.here.count_is) }
+
+        -- the child's index is a digit
+        pub digit-low : index < 8
+        digit-low = omega (arith, to.within, row-low t.under step.here)
+
+        module _ (upper : List (List (LevelNode K ℕ))) (numbers : List ℕ) (spot : Spot) (height_is : depth ≡ spot.height) (w : IsWay numbers spot upper (length t.before)) where
+          -- a digit more fits
+          pub code-low-here : spot.code < 35184372088832
+          code-low-here = code-low 15 upper numbers spot.code (length t.before) w.coded (omega (arith, w.height_is, height_is, deeper-low))
+
+          module _ (next : Spot) (code : next.code ≡ spot.code * 8 + index) (parent : next.parent ≡ number) (grand : next.grand ≡ spot.parent) (height : next.height ≡ suc spot.height) where
+            way-to : IsWay (number ∷ numbers) next (step.here.row ∷ upper) (length to.front)
+            way-to =
+                let at = step.here.at in
+                let d = digits spot.code index next.code code digit-low in
+                record {
+                  coded = (record { before = at.before; entries = at.e ∷ at.es; after = at.after; row_is = at.row_is; within = omega (arith, d.0, to.within); place_is = to.place_is ∙ ap (λ z. length (flat at.before) + z) (sym d.0) }, subst (λ z. Coded numbers upper z (length at.before)) (sym d.1) (subst (λ z. Coded numbers upper spot.code z) (sym at.before_is) w.coded));
+                  parent_is = λ low. sym parent;
+                  grand_is = λ low. w.parent_is (omega (arith, low, height)) ∙ sym grand;
+                  height_is = height ∙ ap suc w.height_is;
+                }
+
+            -- the search one level down, with the way there
+            pub down : WayBelow cmp most slots leaves t.lower upper key next child
+            down = record {
+              above = step.here.row ∷ upper;
+              numbers = number ∷ numbers;
+              on = one-down next.height (height ∙ ap suc (sym height_is));
+              way = way-to;
+              join = sym (append_assoc step.here.rows (step.here.row ∷ []) upper) ∙ ap (λ z. z ++ upper) (sym step.here.lower_is);
+            }
+
+-- the search at the root
+abbrev pub search-root : {K V : Type 0} {cmp : K → K → Ordering} {most : ℕ} {table : Table K V} {root : ℕ} {key : K} (union : IsUnion most table) (is : IsTrue (is_root table.nodes root)) → IsIncreasing cmp (flat (tree_of table.nodes root).leaves) → (depth : ℕ) → depth ≡ 0 → SearchThrough cmp most table.nodes (tree_of table.nodes root).leaves key root depth
+search-root {cmp = cmp} {most = most} {table = table} {root = root} {key = key} union is increasing depth none =
+    let u = under-root most table root union is in
+    record { lower = (tree_of table.nodes root).above; before = []; first = u.first; after = []; under = u.under; increasing = increasing; through = all_through cmp u.first key; low = omega (arith, u.low, none) }
 
 -- from the root down: the leaf in which a search ends, and its spot
 module _ {K V : Type 0} {cmp : K → K → Ordering} {table : Table K V} {root : ℕ} (is : IsTrue (is_root table.nodes root)) {key : K} {spot : Spot} {number : ℕ} (e : EndsOn cmp table.nodes (tree_of table.nodes root).leaves ((tree_of table.nodes root).above ++ []) key spot number) where
