@@ -36,7 +36,7 @@ UNUSED = {
     "bforest_nodes/lent.rt": ["front_mut"],
     "bforest_core/path/insert.rt": ["needed"],
     "bforest_core/pool.rt": ["new"],
-    "bforest_core/spot.rt": ["last", "prev", "has_prev", "prev_sibling", "prev_cousin", "prev_far", "prev_on", "last_below"],
+    "bforest_core/spot.rt": ["last", "prev", "has_prev", "prev_sibling", "prev_cousin", "prev_far", "prev_on", "last_below", "find", "find_below"],
 }
 
 USE_GLOBAL = (r"^use std::alloc::Global;\n", "", 1)
@@ -101,6 +101,11 @@ EDITS = {
         (r"\[`NodeData`\]", "`NodeData`", 1),
         (r"Comparator, Node, NodeData, PackedNode, Removed, SetValue, SplitOff,?", "Comparator, Node, PackedNode, SetValue", 1),
     ],
+    # What the search alone uses, which goes with it.
+    "bforest_core/spot.rt": [
+        (r"^use crate::access::\{child, entries, follow, last_index\};", "use crate::access::{child, entries};", 1),
+        (r"^use bforest_nodes::\{Comparator, Node\};", "use bforest_nodes::Node;", 1),
+    ],
     "bforest_core/pool.rt": [
         (r"^use std::alloc::\{AllocError, Global\};\n", "use alloc::collections::TryReserveError;\nuse alloc::vec::Vec;\n", 1),
         (r"(#\[derive\(Clone, Copy, Debug, PartialEq, Eq)(?=\)\]\npub enum OutOfMemory)", r"\1, Hash", 1),
@@ -117,7 +122,6 @@ EDITS = {
         (r"NodeData::new\(alloc\)\.unwrap\(\)", "NodeData::new()", 1),
         (r"nodes\.push_reserved\(node\)", "nodes.push(node)", 1),
     ],
-    "bforest_core/spot.rt": [(r"\{child, entries, last_index\}", "{child, entries}", 1)],
     "bforest_trees/lib.rt": [
         (r" What a contract sees is the list of entries under\n(?://![^\n]*\n)+", "\n", 1),
         (r"^pub use bforest_core::\{[^}]*\};\n", "", 1),

@@ -103,7 +103,7 @@ impl<K: Copy, V: Copy> Map<K, V> {
 
     /// Returns the last entry whose key is not greater than `key`, as it is stored, or `None` where each key is greater.
     ///
-    /// One search, as in [`Map::get`], and at most one step back, which compares nothing.
+    /// One search, as in [`Map::get`].
     pub fn get_or_less<C: Comparator<K>>(
         &self,
         key: K,

@@ -101,7 +101,7 @@ impl<K: Copy> Set<K> {
 
     /// Returns the last key that is not greater than `key`, as it is stored, or `None` where each key is greater.
     ///
-    /// One search, as in [`Set::contains`], and at most one step back, which compares nothing.
+    /// One search, as in [`Set::contains`].
     pub fn get_or_less<C: Comparator<K>>(
         &self,
         key: K,

@@ -3,9 +3,9 @@ pub use Rattle.bforest_core.specs.Chain.{IsChain, IsPool, chain_from, next_of}
 pub use Rattle.bforest_core.specs.Change.{AtUnder, Changes, Ends, EntryTaken, GivesInOrder, GivesNodes, KeepsTrees, LeafTaken, PlacedUnder, Plants, Shrinks}
 pub use Rattle.bforest_core.specs.Change.{StandsUnder, TakesNodes, node_count}
 pub use Rattle.bforest_core.specs.Climb.{Above, Grown, Halved, Inserted, LeafHalved, NextIs, Placed, SameBelow, nodes_up, top_of}
-pub use Rattle.bforest_core.specs.Leaves.{EndsIn, PutsInLeaf, TakesFromLeaf}
+pub use Rattle.bforest_core.specs.Leaves.{EndsIn, EndsOn, Narrows, PutsInLeaf, SearchEndsAt, TakesFromLeaf, entry_up_to}
 pub use Rattle.bforest_core.specs.Descent.{Descended, Reached, GoesThrough, IsFrom, IsRooted, IsUpTo, Led, LedLast, SameAbove, StackedTo, StandsTo}
-pub use Rattle.bforest_core.specs.Descent.{Under, child_index}
+pub use Rattle.bforest_core.specs.Descent.{SearchThrough, Under, child_index}
 pub use Rattle.bforest_core.specs.Levels.{FitRow, IsFit, LevelNode, Solid, Stacked, Topped, Tree, flat, half_of, head_of, heads, least, node, numbers}
 pub use Rattle.bforest_core.specs.Levels.{sizes, sizes_of}
 pub use Rattle.bforest_core.specs.Paths.{OnLeaf, PointsTo, StandsAt, StandsOn, index_of, leaf_of, list_under, path_root, place_in, spot}

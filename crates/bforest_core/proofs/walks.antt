@@ -19,3 +19,5 @@ pub mod Cousins
 pub mod Back
 pub mod OnLevel
 pub mod Alone
+pub mod Searches
+pub mod AtMost

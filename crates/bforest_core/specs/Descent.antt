@@ -117,3 +117,14 @@ pub record StandsFor {K V : Type 0} (cmp : K → K → Ordering) (path indices :
   pub leaf : IsPlaced cmp tree.leaves key (get_or path 0 0) (get_or indices 0 0)
   pub above : StandsAbove path indices 1 tree.above (length leaf.before)
   pub size_is : size ≡ suc (length tree.above)
+
+-- a search for the key among these leaves goes through this node, above which this many levels are
+pub record SearchThrough {K V : Type 0} (cmp : K → K → Ordering) (most : ℕ) (slots : List (Content K V)) (leaves : List (LevelNode K V)) (key : K) (number depth : ℕ) : Type 0 where
+  pub lower : List (List (LevelNode K ℕ))
+  pub before : List (K × ℕ)
+  pub first : K
+  pub after : List (K × ℕ)
+  pub under : Under most slots leaves lower (before ++ (first, number) ∷ after)
+  pub increasing : IsIncreasing cmp (flat leaves)
+  pub through : GoesThrough cmp before first after key
+  pub low : depth + length lower ≤ top_level

@@ -1,14 +1,17 @@
--- The leaf of a tree in which a search for a key ends, and what putting a value in there, and removing the
--- key, answers and leaves.
-use Rattle.std.specs.Prelude.{◌≡◌, ℕ, ◌<◌, IsTrue, true, false, List, length, get_or, insert, slice_get, slice_set, Option, Some, None, Result, Ok, Err, IfOk, IfSome, option_map}
+-- The leaf of a tree in which a search for a key ends: its path, its spot, what it tells of the whole tree, and what putting a value in there, and
+-- removing the key, answers and leaves.
+use Rattle.std.specs.Prelude.{◌≡◌, ℕ, ◌+◌, ◌<◌, ◌≤◌, IsTrue, true, false, if◌then◌else◌, List, [], ◌∷◌, ◌++◌, length, get_or, insert, slice_get, slice_set, Option, Some, None, Result, Ok, Err, IfOk, IfSome, option_map}
 use Rattle.std.specs.declared.cmp.Ordering.{Ordering}
+use Rattle.bforest_nodes.specs.Content.{Content}
 use Rattle.bforest_nodes.specs.Entries.{IsIncreasing, is_present, place, value_for, with_value}
 use Rattle.bforest_core.specs.Change.{Changes, EntryTaken, PlacedUnder, StandsUnder, TakesNodes}
-use Rattle.bforest_core.specs.Levels.{flat, most_levels, sizes_of}
-use Rattle.bforest_core.specs.Place.{leaf_content}
+use Rattle.bforest_core.specs.Levels.{LevelNode, flat, most_levels, node, sizes_of}
+use Rattle.bforest_core.specs.Place.{entry_before, leaf_content}
 use Rattle.bforest_core.specs.Sizes.{growth, need}
+use Rattle.bforest_core.specs.Spots.{IsLeafAt, IsWay}
 use Rattle.bforest_core.specs.Table.{Table, slot_count}
 use Rattle.bforest_core.specs.Trees.{is_root, tree_of}
+use Rattle.bforest_core.specs.declared.spot.Spot.{Spot}
 
 module _ {K V : Type 0} (cmp : K → K → Ordering) (table : Table K V) (root : ℕ) (key : K) where
   -- the list of the tree under the root
@@ -54,3 +57,35 @@ module _ {K V : Type 0} (cmp : K → K → Ordering) (table : Table K V) (root :
     pub value : option_map (λ e. e.1) result ≡ value_for cmp list key
     pub taken : IfSome result (λ e. EntryTaken most table new root (place cmp list key) path (slice_set indices 0 e.0) size)
     pub absent : result ≡ None → new ≡ table
+
+module _ {K V : Type 0} (cmp : K → K → Ordering) where
+  -- the last entry up to a key: the one whose key compares equal, or the one before the key's place, if there is one
+  abbrev pub entry_up_to : List (K × V) → K → Option (K × V)
+  entry_up_to es key = if is_present cmp es key then slice_get es (place cmp es key) else entry_before es (place cmp es key)
+
+  -- what a search for the key among all leaves tells, a search among these entries tells: those of the leaf that stands behind `before`. An
+  -- absent key's place is in front of all of them in the first leaf alone
+  pub record Narrows (leaves : List (LevelNode K V)) (key : K) (before : List (LevelNode K V)) (entries : List (K × V)) : Type 0 where
+    pub increasing : IsIncreasing cmp entries
+    pub place_is : place cmp (flat leaves) key ≡ length (flat before) + place cmp entries key
+    pub value_is : value_for cmp (flat leaves) key ≡ value_for cmp entries key
+    pub found_is : is_present cmp (flat leaves) key ≡ is_present cmp entries key
+    pub first : is_present cmp (flat leaves) key ≡ false → place cmp entries key ≡ 0 → before ≡ []
+
+  -- a search for the key in the tree under a root ends in the leaf with this number, which stands at this place among the leaves
+  pub record SearchEndsAt (table : Table K V) (root : ℕ) (key : K) (at number : ℕ) : Type 0 where
+    pub leaf : IsLeafAt table root at number
+    pub tells : Narrows (tree_of table.nodes root).leaves key leaf.before leaf.entries
+
+  -- a search for the key among these leaves, which lie in the slots, ends in the leaf with this number, and the spot is that of the leaf
+  -- below these rows
+  pub record EndsOn (slots : List (Content K V)) (leaves : List (LevelNode K V)) (rows : List (List (LevelNode K ℕ))) (key : K) (spot : Spot) (number : ℕ) : Type 0 where
+    pub before : List (LevelNode K V)
+    pub entries : List (K × V)
+    pub after : List (LevelNode K V)
+    pub leaves_are : leaves ≡ before ++ node number entries ∷ after
+    pub slot_is : slice_get slots number ≡ Some (leaf_content entries)
+    pub some : 1 ≤ length entries
+    pub tells : Narrows leaves key before entries
+    pub numbers : List ℕ
+    pub way : IsWay numbers spot rows (length before)

@@ -246,3 +246,17 @@ pub(crate) fn leaf_key<K: Copy, V: Copy, const N: usize>(pool: &NodePool<K, V, N
 {
     pool.node(node).leaf_crit_key()
 }
+
+// The entry of a leaf at `index`, or `None` if there is none.
+pub(crate) fn leaf_entry<K: Copy, V: Copy, const N: usize>(
+    pool: &NodePool<K, V, N>,
+    node: Node,
+    index: usize,
+) -> Option<(K, V)>
+    requires { (entries : List (K × V)) × (slice_get pool.now.nodes node ≡ Some (leaf_content entries)) }
+    ensures value { (entries : List (K × V)) → slice_get pool.now.nodes node ≡ Some (leaf_content entries)
+        → result ≡ slice_get entries index }
+    ensures most { IfSome result (λ entry. index ≤ 255) }
+{
+    pool.node(node).get_entry(index)
+}

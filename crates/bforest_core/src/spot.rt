@@ -1,13 +1,17 @@
 //! The place of a leaf in its tree, in one word.
-ghost use Rattle.std.specs.Prelude.{◌≡◌, ℕ, suc, ◌+◌, ◌-◌, ◌*◌, ◌<◌, ◌≤◌, ◌/◌, ◌%◌, IfSome, IsTrue, List, length, slice_get, Some, None, true, false};
+ghost use Rattle.std.specs.Prelude.{◌≡◌, ℕ, suc, ◌+◌, ◌-◌, ◌*◌, ◌<◌, ◌≤◌, ◌/◌, ◌%◌, ◌++◌, ◌∷◌, IfSome, IsTrue, List, length, slice_get, Some, None, true, false};
+ghost use Rattle.bforest_core.specs.Leaves.{EndsOn, SearchEndsAt};
 ghost use Rattle.bforest_core.specs.Levels.{LevelNode, heads};
+ghost use Rattle.bforest_core.specs.Paths.{list_under};
 ghost use Rattle.bforest_core.specs.Trees.{IsUnion, is_root, tree_of};
 ghost use Rattle.bforest_nodes.specs.Content.{IsLeafCapacity};
-ghost use Rattle.bforest_core.specs.Spots.{CodedOver, HasNext, HasNoParent, HasPrev, HasUnder, HasWay, IsFirst, IsLast, IsLeafAt, IsSpotAt, IsWay, NumberAt, OnUnder, OnWay, SpotOn, leaf_count};
+ghost use Rattle.bforest_nodes.specs.Entries.{IsIncreasing};
+ghost use Rattle.bforest_core.specs.Descent.{SearchThrough};
+ghost use Rattle.bforest_core.specs.Spots.{CodedOver, HasNext, HasNoParent, HasPrev, HasUnder, HasWay, IsFirst, IsLast, IsLeafAt, IsSpotAt, IsWay, NumberAt, OnUnder, OnWay, SpotOn, leaf_count, leaf_place};
 
-use crate::access::{child, entries, last_index};
+use crate::access::{child, entries, follow, last_index};
 use crate::pool::NodePool;
-use bforest_nodes::Node;
+use bforest_nodes::{Comparator, Node};
 
 /// The place of a leaf in its tree: at which child the way from the root down to it goes on, an octal digit for each level of inner nodes,
 /// that of the leaf's parent the last.
@@ -270,6 +274,24 @@ impl Spot {
         };
         Some((spot, leaf))
     }
+
+    /// The leaf in which a search for `key` ends in the tree under `root`, and its place.
+    #[inline(always)]
+    pub fn find<K: Copy, V: Copy, const N: usize, C: Comparator<K>>(
+        key: K,
+        root: Node,
+        pool: &NodePool<K, V, N>,
+        comp: &C,
+    ) -> (Spot, Node)
+        requires union { IsUnion N pool.now }
+        requires root { IsTrue (is_root pool.now.nodes root) }
+        requires increasing { IsIncreasing (C.order comp.now) (list_under pool.now root) }
+        ensures spot { IsSpotAt pool.now root result.0 (leaf_place pool.now root result.0) }
+        ensures leaf { SearchEndsAt (C.order comp.now) pool.now root key
+            (leaf_place pool.now root result.0) result.1 }
+    {
+        find_below(Spot::root(root), root, key, pool, comp)
+    }
 }
 
 // The node behind the one at which the way of a code ends, and its spot, if there is one.
@@ -464,4 +486,29 @@ fn spot_of<K: Copy, V: Copy, const N: usize>(
         grand,
         height,
     }
+}
+
+// From a node at this place down to the leaf in which a search for `key` ends, which goes through the node.
+fn find_below<K: Copy, V: Copy, const N: usize, C: Comparator<K>>(
+    spot: Spot,
+    node: Node,
+    key: K,
+    pool: &NodePool<K, V, N>,
+    comp: &C,
+) -> (Spot, Node)
+    requires capacity { IsLeafCapacity N }
+    requires under { (leaves : List (LevelNode K V)) × (upper : List (List (LevelNode K ℕ)))
+        × (numbers : List ℕ)
+        × (on : SearchThrough (C.order comp.now) N pool.now.nodes leaves key node spot.height)
+        × IsWay numbers spot upper (length on.before) }
+    ensures found { (leaves : List (LevelNode K V)) (upper : List (List (LevelNode K ℕ))) (numbers : List ℕ)
+        (on : SearchThrough (C.order comp.now) N pool.now.nodes leaves key node spot.height)
+        → IsWay numbers spot upper (length on.before)
+        → EndsOn (C.order comp.now) pool.now.nodes leaves (on.lower ++ upper) key result.0 result.1 }
+{
+    if !pool.node(node).is_inner() {
+        return (spot, node);
+    }
+    let (index, child) = follow(pool, node, key, comp);
+    find_below(spot.below(node, index), child, key, pool, comp)
 }

@@ -1,12 +1,14 @@
-//! The value of a key.
-ghost use Rattle.std.specs.Prelude.{◌≡◌, ℕ, ◌+◌, ◌≤◌, IsTrue, List, ◌∷◌, ◌++◌, length};
+//! The value of a key, and the last entry up to a key.
+ghost use Rattle.std.specs.Prelude.{◌≡◌, IsTrue, List, slice_get, Some};
 ghost use Rattle.bforest_nodes.specs.Content.{IsLeafCapacity};
 ghost use Rattle.bforest_nodes.specs.Entries.{IsIncreasing, value_for};
-ghost use Rattle.bforest_core.specs.Descent.{GoesThrough, Under};
-ghost use Rattle.bforest_core.specs.Levels.{LevelNode, flat, top_level};
+ghost use Rattle.bforest_core.specs.Descent.{SearchThrough};
+ghost use Rattle.bforest_core.specs.Leaves.{entry_up_to};
+ghost use Rattle.bforest_core.specs.Levels.{LevelNode, flat};
+ghost use Rattle.bforest_core.specs.Place.{leaf_content};
 ghost use Rattle.bforest_core.specs.Trees.{IsUnion, is_root, tree_of};
 
-use crate::access::{follow, look_up};
+use crate::access::{follow, leaf_entry, look_up};
 use crate::pool::NodePool;
 use bforest_nodes::{Comparator, Node};
 
@@ -25,15 +27,10 @@ impl<K: Copy, V: Copy, const N: usize> NodePool<K, V, N> {
     // The value of a key, the search for which goes through `node`; `depth` levels are above it.
     fn value_below<C: Comparator<K>>(&self, key: K, node: Node, depth: usize, comp: &C) -> Option<V>
         requires capacity { IsLeafCapacity N }
-        requires under { (leaves : List (LevelNode K V)) × (lower : List (List (LevelNode K ℕ)))
-            × (before : List (K × ℕ)) × (first : K) × (after : List (K × ℕ))
-            × Under N self.now.nodes leaves lower (before ++ (first, node) ∷ after)
-            × IsIncreasing (C.order comp.now) (flat leaves) × GoesThrough (C.order comp.now) before first
-            after key × (depth + length lower ≤ top_level) }
-        ensures { (leaves : List (LevelNode K V)) (lower : List (List (LevelNode K ℕ)))
-            (before : List (K × ℕ)) (first : K) (after : List (K × ℕ)) → Under N self.now.nodes leaves lower
-            (before ++ (first, node) ∷ after) → IsIncreasing (C.order comp.now) (flat leaves)
-            → GoesThrough (C.order comp.now) before first after key → result
+        requires through { (leaves : List (LevelNode K V))
+            × SearchThrough (C.order comp.now) N self.now.nodes leaves key node depth }
+        ensures { (leaves : List (LevelNode K V))
+            → SearchThrough (C.order comp.now) N self.now.nodes leaves key node depth → result
             ≡ value_for (C.order comp.now) (flat leaves) key }
     {
         if !self.node(node).is_inner() {
@@ -41,5 +38,59 @@ impl<K: Copy, V: Copy, const N: usize> NodePool<K, V, N> {
         }
         let (_, child) = follow(self, node, key, comp);
         self.value_below(key, child, depth + 1, comp)
+    }
+
+    /// The last entry in the tree under `root` whose key is not greater than `key`. Reads one node of each level, and keeps no path.
+    pub fn entry_at_most<C: Comparator<K>>(&self, key: K, root: Node, comp: &C) -> Option<(K, V)>
+        requires union { IsUnion N self.now }
+        requires root { IsTrue (is_root self.now.nodes root) }
+        requires increasing { IsIncreasing (C.order comp.now) (flat (tree_of self.now.nodes root).leaves) }
+        ensures entry { result
+            ≡ entry_up_to (C.order comp.now) (flat (tree_of self.now.nodes root).leaves) key }
+    {
+        self.entry_below(key, root, 0, comp)
+    }
+
+    // The last entry up to a key, the search for which goes through `node`; `depth` levels are above it.
+    fn entry_below<C: Comparator<K>>(
+        &self,
+        key: K,
+        node: Node,
+        depth: usize,
+        comp: &C,
+    ) -> Option<(K, V)>
+        requires capacity { IsLeafCapacity N }
+        requires through { (leaves : List (LevelNode K V))
+            × SearchThrough (C.order comp.now) N self.now.nodes leaves key node depth }
+        ensures { (leaves : List (LevelNode K V))
+            → SearchThrough (C.order comp.now) N self.now.nodes leaves key node depth → result
+            ≡ entry_up_to (C.order comp.now) (flat leaves) key }
+    {
+        if !self.node(node).is_inner() {
+            return self.entry_in_leaf(key, node, comp);
+        }
+        let (_, child) = follow(self, node, key, comp);
+        self.entry_below(key, child, depth + 1, comp)
+    }
+
+    // The last entry of a leaf whose key is not greater than `key`.
+    //
+    // Where a search for `key` ends in the leaf, it is that of the tree: `key` is less than all keys of the leaf only if it is less than
+    // all keys of the tree.
+    fn entry_in_leaf<C: Comparator<K>>(&self, key: K, leaf: Node, comp: &C) -> Option<(K, V)>
+        requires capacity { IsLeafCapacity N }
+        requires leaf { (entries : List (K × V)) × (slice_get self.now.nodes leaf
+            ≡ Some (leaf_content entries)) × IsIncreasing (C.order comp.now) entries }
+        ensures { (entries : List (K × V)) → slice_get self.now.nodes leaf ≡ Some (leaf_content entries)
+            → result ≡ entry_up_to (C.order comp.now) entries key }
+    {
+        let (index, value) = look_up(self, leaf, key, comp);
+        if value.is_some() {
+            return leaf_entry(self, leaf, index);
+        }
+        if index == 0 {
+            return None;
+        }
+        leaf_entry(self, leaf, index - 1)
     }
 }

@@ -3,8 +3,9 @@ use Rattle.bforest_nodes.proofs.Found.{place-present, search_of-keys_of}
 use Rattle.bforest_nodes.proofs.Searched.{up_to-absent as keys-up_to-absent, up_to-found}
 use Rattle.bforest_nodes.specs.Entries.{IsIncreasing, is_present, place, search_for, value_for}
 use Rattle.bforest_nodes.specs.Search.{count_up_to}
-use Rattle.bforest_trees.proofs.Putting.{absent-none, absent-told, present-some, present-told}
+use Rattle.bforest_trees.proofs.Putting.{absent-told, present-told}
 use Rattle.bforest_trees.specs.Bounds.{end_place, entries_between, entry_at_most, is_from_start, is_past_end, start_place}
+use Rattle.bforest_core.specs.Leaves.{entry_up_to}
 use Rattle.bforest_core.specs.Place.{entry_before}
 use Rattle.std.proofs.Common.{Bool, Err, List, None, Ok, Option, Some, [], ap, arith, cond, count_by, drop, false, filter, if◌then◌else◌, length, min, not, refl, slice_get, slice_range, suc, sym, take, true, zero, ◌&&◌, ◌+◌, ◌-◌, ◌<◌, ◌∙◌, ◌∷◌, ◌≡◌, ◌≤◌, ℕ}
 use Rattle.std.proofs.lemmas.List.Elements.{filter_agree}
@@ -215,10 +216,10 @@ module _ {K : Type 0} (cmp : K → K → Ordering) (o : IsTotalOrder cmp) where
           ∙ ap (λ i. slice_range es i last) (start-unbounded es) ∙ ap (λ n. take n es) whole)
           ∙ last-taken es last (end-most (Included a) es)
 
-      -- where a search found the key, the last entry up to it is its own
-      pub at-most-found : (v : Option X) (x : X) (r : Option (K × X)) → v ≡ value_for cmp es a → v ≡ Some x → r ≡ slice_get es (place cmp es a) → r ≡ entry_at_most cmp es a
-      at-most-found v x r is some read = read ∙ sym (at-most-before ∙ ap (entry_before es) (up-to-present (present-some cmp es a x (sym is ∙ some))))
-
-      -- where a search found no key, the last entry up to it is the one before its place
-      pub at-most-missed : (v : Option X) (r : Option (K × X)) → v ≡ value_for cmp es a → v ≡ None → r ≡ entry_before es (place cmp es a) → r ≡ entry_at_most cmp es a
-      at-most-missed v r is none read = read ∙ sym (at-most-before ∙ ap (entry_before es) (up-to-absent (absent-none cmp es a (sym is ∙ none))))
+      -- the last entry up to a key is its own where it is present, else the one before its place
+      pub at-most : entry_up_to cmp es a ≡ entry_at_most cmp es a
+      at-most = go (is_present cmp es a) refl
+        where
+          go : (b : Bool) → is_present cmp es a ≡ b → entry_up_to cmp es a ≡ entry_at_most cmp es a
+          go true here = (λ j. if here j then slice_get es (place cmp es a) else entry_before es (place cmp es a)) ∙ sym (at-most-before ∙ ap (entry_before es) (up-to-present here))
+          go false gone = (λ j. if gone j then slice_get es (place cmp es a) else entry_before es (place cmp es a)) ∙ sym (at-most-before ∙ ap (entry_before es) (up-to-absent gone))

@@ -138,7 +138,7 @@ impl<K: Copy, V: Copy, const N: usize> Trees<K, V, N> {
         }
     }
 
-    /// The last entry whose key is not greater than `key`: one search, and at most one step back.
+    /// The last entry whose key is not greater than `key`, by one search.
     pub fn get_or_less<C: Comparator<K>>(
         &self,
         handle: PackedNode,
@@ -149,10 +149,9 @@ impl<K: Copy, V: Copy, const N: usize> Trees<K, V, N> {
         requires increasing { IsIncreasing (C.order comp.now) (list_of self.now handle) }
         ensures value { result ≡ entry_at_most (C.order comp.now) (list_of self.now handle) key }
     {
-        let mut path = Path::default();
-        match self.goto(handle, &mut path, key, comp) {
-            Some(_) => self.entry(handle, &path),
-            None => self.prev(handle, &mut path),
+        match handle.expand() {
+            Some(root) => self.pool.entry_at_most(key, root, comp),
+            None => None,
         }
     }
 

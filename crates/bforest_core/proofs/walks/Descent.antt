@@ -156,7 +156,7 @@ module _ {K V : Type 0} (cmp : K → K → Ordering) (o : IsTotalOrder cmp) (mos
     abbrev entries : List (K × V)
     entries = s.here.at.e ∷ s.here.at.es
 
-    all_are : flat leaves ≡ flat s.here.at.before ++ (entries ++ flat s.here.at.after)
+    pub all_are : flat leaves ≡ flat s.here.at.before ++ (entries ++ flat s.here.at.after)
     all_are = ap flat s.here.at.row_is ∙ flat-append s.here.at.before (node number entries ∷ s.here.at.after)
 
     -- the key's value in the leaf is its value among all entries
@@ -164,10 +164,10 @@ module _ {K V : Type 0} (cmp : K → K → Ordering) (o : IsTotalOrder cmp) (mos
     leaf_value = ap (λ z. value_for cmp z key) all_are ∙ ap (λ z. option_map (λ (e : K × V). e.1) z) (entry_between cmp o (flat s.here.at.before) entries (flat s.here.at.after) key s.increasing_after s.low s.high)
 
     -- the key is present in the leaf exactly if it is present among all entries
-    leaf_found : is_present cmp (flat leaves) key ≡ is_present cmp entries key
+    pub leaf_found : is_present cmp (flat leaves) key ≡ is_present cmp entries key
     leaf_found = ap (λ z. is_present cmp z key) all_are ∙ ap is_some (entry_between cmp o (flat s.here.at.before) entries (flat s.here.at.after) key s.increasing_after s.low s.high)
 
-    abbrev placed : (m j : ℕ) → m ≡ number → j ≡ place cmp entries key → IsPlaced cmp leaves key m j
+    abbrev pub placed : (m j : ℕ) → m ≡ number → j ≡ place cmp entries key → IsPlaced cmp leaves key m j
     placed m j m_is j_is =
         let at = s.here.at in
         let same : is_present cmp (flat leaves) key ≡ is_present cmp entries key = ap (λ z. is_present cmp z key) all_are ∙ ap is_some (entry_between cmp o (flat at.before) entries (flat at.after) key s.increasing_after s.low s.high) in

@@ -8,7 +8,7 @@ ghost use Rattle.bforest_core.specs.Place.{inner_content, entry_items, leaf_cont
 ghost use Rattle.bforest_core.specs.Trees.{IsUnion, is_root};
 ghost use Rattle.bforest_core.specs.Steps.{Over, Moved};
 
-use crate::access::{child, entries, last_index};
+use crate::access::{child, entries, last_index, leaf_entry};
 use crate::path::Path;
 use crate::pool::NodePool;
 use bforest_nodes::Node;
@@ -125,7 +125,7 @@ impl<K: Copy, V: Copy, const N: usize> Path<K, V, N> {
             ≡ Some (leaf_content entries) → result ≡ slice_get entries index }
         ensures most { IfSome result (λ entry. index ≤ 255) }
     {
-        pool.node(self.node[0]).get_entry(index)
+        leaf_entry(pool, self.node[0], index)
     }
 
     // Whether the path's leaf has an entry at this index.

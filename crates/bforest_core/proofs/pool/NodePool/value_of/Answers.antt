@@ -1,19 +1,10 @@
-use Rattle.std.proofs.Common.{rules, [], arith}
+use Rattle.std.proofs.Common.{rules, refl}
 use Rattle.bforest_core.specs.Trees.{tree_of}
-use Rattle.bforest_core.proofs.walks.Whole.{all_through}
-use Rattle.bforest_core.proofs.walks.Standing.{under-root}
+use Rattle.bforest_core.proofs.walks.Searches.{search-root}
 use Rattle.bforest_core.proofs.pool.NodePool.value_of.Goals as goal
 
 pub value_below-requires : goal.value_below-requires
-value_below-requires g c =
-    let order = g.C.Comparator.order c.args.comp.now in
-    let tree = tree_of c.args.self.now.nodes c.args.root in
-    let u = under-root g.row.N c.args.self.now c.args.root c.requires.union c.requires.root in
-    (search rules, (c.requires.union.1.capacity, (tree.leaves, tree.above, [], u.first, [], u.under, c.requires.increasing, all_through order _ c.args.key, omega (arith, u.low))))
+value_below-requires g c = (search rules, (c.requires.union.1.capacity, ((tree_of c.args.self.now.nodes c.args.root).leaves, search-root c.requires.union c.requires.root c.requires.increasing 0 refl)))
 
 pub returns : goal.returns
-returns g c =
-    let order = g.C.Comparator.order c.args.comp.now in
-    let tree = tree_of c.args.self.now.nodes c.args.root in
-    let u = under-root g.row.N c.args.self.now c.args.root c.requires.union c.requires.root in
-    record { value = c.value_below.ensures tree.leaves tree.above [] u.first [] u.under c.requires.increasing (all_through order _ c.args.key) }
+returns g c = record { value = c.value_below.ensures (tree_of c.args.self.now.nodes c.args.root).leaves (search-root c.requires.union c.requires.root c.requires.increasing 0 refl) }

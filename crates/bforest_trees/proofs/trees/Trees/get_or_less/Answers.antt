@@ -1,29 +1,20 @@
-use Rattle.bforest_trees.proofs.Between.{at-most-found, at-most-missed}
-use Rattle.bforest_trees.proofs.Spots.{spot-end}
+use Rattle.bforest_trees.proofs.Between.{at-most}
+use Rattle.bforest_trees.proofs.Changed.{seen-as}
 use Rattle.bforest_trees.proofs.trees.Trees.get_or_less.Goals as goal
-use Rattle.bforest_trees.specs.Forest.{list_of}
-use Rattle.bforest_trees.specs.Place.{AtSpot}
-use Rattle.bforest_nodes.specs.Entries.{place}
-use Rattle.std.proofs.Common.{rules}
+use Rattle.bforest_core.specs.Leaves.{entry_up_to}
+use Rattle.bforest_nodes.specs.Entries.{IsIncreasing}
+use Rattle.std.proofs.Common.{List, rules, subst, sym, ◌∙◌, ◌≡◌}
 
-pub goto-requires : goal.goto-requires
-goto-requires g c =
-    let f = c.args.self.now in
-    let h = c.args.handle in
-    (search rules, (search rules, (c.requires.live, (c.requires.increasing, spot-end f c.default-path.result h c.requires.live c.default-path.ensures))))
+pub entry_at_most-requires : goal.entry_at_most-requires
+entry_at_most-requires g c =
+    let cmp = g.C.Comparator.order c.args.comp.now in
+    let s = seen-as c.self.inside.pool c.args.self.now c.args.handle c.in-Some.root c.self.view_is (sym c.expand.ensures.value ∙ c.in-Some.is) c.requires.live in
+    (search rules, (c.self.invariant, (s.root, subst (IsIncreasing cmp) (sym s.list) c.requires.increasing)))
 
 pub returns-in-Some : goal.returns-in-Some
 returns-in-Some g c =
     let cmp = g.C.Comparator.order c.args.comp.now in
-    let es = list_of c.args.self.now c.args.handle in
     let k = c.args.key in
-    let at : AtSpot c.args.self.now c.args.handle c.goto.new.path = record { place = place cmp es k; spot = c.goto.ensures.spot } in
-    record { value = at-most-found cmp (g.met.C.Comparator.total c.args.comp.now) k es c.requires.increasing c.goto.result c.in-Some.field-0 c.entry.result c.goto.ensures.value c.in-Some.is (c.entry.ensures.value at) }
-
-pub returns-in-None : goal.returns-in-None
-returns-in-None g c =
-    let cmp = g.C.Comparator.order c.args.comp.now in
-    let es = list_of c.args.self.now c.args.handle in
-    let k = c.args.key in
-    let at : AtSpot c.args.self.now c.args.handle c.goto.new.path = record { place = place cmp es k; spot = c.goto.ensures.spot } in
-    record { value = at-most-missed cmp (g.met.C.Comparator.total c.args.comp.now) k es c.requires.increasing c.goto.result c.prev.result c.goto.ensures.value c.in-None.is (c.prev.ensures.value at) }
+    let s = seen-as c.self.inside.pool c.args.self.now c.args.handle c.in-Some.root c.self.view_is (sym c.expand.ensures.value ∙ c.in-Some.is) c.requires.live in
+    let entry = subst (λ (es : List (g.row.K.Denot × g.row.V.Denot)). c.entry_at_most.result ≡ entry_up_to cmp es k) s.list c.entry_at_most.ensures.entry in
+    record { value = entry ∙ at-most cmp (g.met.C.Comparator.total c.args.comp.now) k _ c.requires.increasing }

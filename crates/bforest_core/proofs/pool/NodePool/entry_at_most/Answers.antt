@@ -1,0 +1,10 @@
+use Rattle.std.proofs.Common.{rules, refl}
+use Rattle.bforest_core.specs.Trees.{tree_of}
+use Rattle.bforest_core.proofs.walks.Searches.{search-root}
+use Rattle.bforest_core.proofs.pool.NodePool.entry_at_most.Goals as goal
+
+pub entry_below-requires : goal.entry_below-requires
+entry_below-requires g c = (search rules, (c.requires.union.1.capacity, ((tree_of c.args.self.now.nodes c.args.root).leaves, search-root c.requires.union c.requires.root c.requires.increasing 0 refl)))
+
+pub returns : goal.returns
+returns g c = record { entry = c.entry_below.ensures (tree_of c.args.self.now.nodes c.args.root).leaves (search-root c.requires.union c.requires.root c.requires.increasing 0 refl) }
