@@ -1,6 +1,6 @@
 -- What writes append to the bytes that a writer holds, where those are known.
 use Rattle.std.specs.Io.KnownBytes.{Appends}
-use Rattle.std.specs.Prelude.{List, Option, ◌++◌, ◌≡◌, ◌≢◌, ℕ}
+use Rattle.std.specs.Prelude.{List, Option, [], ◌++◌, ◌≡◌, ◌≢◌, ℕ}
 
 -- the old bytes stay, and some text is appended
 pub record Grows (old new : Option (List ℕ)) : Type 0 where
