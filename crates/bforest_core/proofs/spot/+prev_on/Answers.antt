@@ -53,3 +53,15 @@ returns-in-Some-clause-some g t c = back-said c.if-depth-eq0.false (omega (arith
 
 pub returns-in-Some-clause-none : goal.returns-in-Some-clause-none
 returns-in-Some-clause-none g t c = λ bad. absurd (let no = bad in cc)
+
+pub overflow_sub-depth : goal.overflow_sub-depth
+overflow_sub-depth g t c = omega (arith, c.if-depth-eq0.false)
+
+pub overflow_sub-depth-2 : goal.overflow_sub-depth-2
+overflow_sub-depth-2 g t c = omega (arith, c.if-depth-eq0.false)
+
+pub overflow_sub-index : goal.overflow_sub-index
+overflow_sub-index g t c = omega (arith, c.if-index-gt0.true)
+
+pub overflow_sub-result : goal.overflow_sub-result
+overflow_sub-result g t c = omega (arith, c.if-index-gt0.true)

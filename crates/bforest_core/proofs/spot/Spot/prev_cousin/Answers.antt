@@ -34,3 +34,14 @@ pub overflow_add-spot : goal.overflow_add-spot
 overflow_add-spot g c =
     let low : c.args.self.now.code < 281474976710656 = spot-low c.requires.union c.requires.spot.1 in
     omega (arith, low, c.last_index-last.ensures.most)
+
+pub overflow_sub-index : goal.overflow_sub-index
+overflow_sub-index g c = omega (arith, c.if-index-eq0.false)
+
+pub overflow_sub-spot : goal.overflow_sub-spot
+overflow_sub-spot g c = omega (arith, c.if-index-eq0.false)
+
+pub overflow_mul-spot : goal.overflow_mul-spot
+overflow_mul-spot g c =
+    let low : c.args.self.now.code < 281474976710656 = spot-low c.requires.union c.requires.spot.1 in
+    omega (arith, low)
