@@ -260,19 +260,19 @@ impl Spot {
         ensures none { result ≡ None → (place : ℕ) → IsSpotAt pool.now root self.now place → place ≡ 0 }
     {
         let index = (self.code / 8 % 8) as usize;
-        if index == 0 {
-            return prev_far(self.code, self.height, root, pool);
+        if index > 0 {
+            let parent = child(pool, self.grand, index - 1);
+            let last = last_index(pool, parent);
+            let leaf = child(pool, parent, last);
+            let spot = Spot {
+                code: (self.code / 8 - 1) * 8 + last as u64,
+                parent,
+                grand: self.grand,
+                height: self.height,
+            };
+            return Some((spot, leaf));
         }
-        let parent = child(pool, self.grand, index - 1);
-        let last = last_index(pool, parent);
-        let leaf = child(pool, parent, last);
-        let spot = Spot {
-            code: (self.code / 8 - 1) * 8 + last as u64,
-            parent,
-            grand: self.grand,
-            height: self.height,
-        };
-        Some((spot, leaf))
+        prev_far(self.code, self.height, root, pool)
     }
 
     /// The leaf in which a search for `key` ends in the tree under `root`, and its place.

@@ -41,7 +41,7 @@ module _ {K V : Type 0} {slots : List (Content K V)} {root code depth : ℕ} {nu
     PrevAbove above number =
         (0 < (here p some).top) × (others : List ℕ) × CodedOver slots root above (depth - 1) others (here p some).rest (heads (here p some).row) ((here p some).top - 1) × NumberAt (heads (here p some).row) ((here p some).top - 1) number
 
-    module _ (none : code % 8 ≡ 0) where
+    module _ (none : code % 8 ≤ 0) where
       -- the first child of the first node is the first of its level
       pub none-prev : (here p some).top ≡ 0 → place ≡ 0
       none-prev first = omega (arith, (here p some).place_is, none, none_flat (here p some).at.before ((here p some).at.at ∙ first))
@@ -92,8 +92,8 @@ module _ {K V : Type 0} {n : ℕ} {table : Table K V} (union : IsUnion n table) 
         (q.0, far-spot union s next _ (way-of q.1 next code height (λ low. sym parent) (λ low. s.grand_is low ∙ sym grand)), leaf-at union root s.root_is (prev-child (spot-over union s) (other union s h.0) h.1 spot.parent (its union s h.0) child reads))
 
   module _ (first : HasPrev spot → ⊥) where
-    digit-nought : 0 < spot.height → spot.code % 8 ≡ 0
-    digit-nought some = elim (cases_lt 0 (spot.code % 8)) [ inl low ↦ absurd (first (some, low)) | inr none ↦ omega (arith, none) ]
+    digit-nought : 0 < spot.height → spot.code % 8 ≤ 0
+    digit-nought some = elim (cases_lt 0 (spot.code % 8)) [ inl low ↦ absurd (first (some, low)) | inr none ↦ none ]
 
     -- a leaf without a grandparent and without a sibling before it is the first of the tree
     pub first-low : spot.height < 2 → place ≡ 0

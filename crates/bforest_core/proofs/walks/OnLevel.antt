@@ -72,7 +72,7 @@ module _ {K V : Type 0} {slots : List (Content K V)} {root code depth : ℕ} (so
           let q = prev-code p some low parent same in
           (q.0, parent ∷ drop 1 numbers, q.1, prev-child p some low parent same child reads)
 
-  module _ (none : code % 8 ≡ 0) where
+  module _ (none : code % 8 ≤ 0) where
     pub first-said : FirstSaid slots root (code / 8) (depth - 1) → FirstSaid slots root code depth
     first-said says numbers rows list place p = none-prev p some none (says (drop 1 numbers) (here p some).rest (heads (here p some).row) (here p some).top (here p some).over)
 

@@ -52,3 +52,12 @@ returns-in-None-clause-some g t c = tt
 
 pub returns-in-None-clause-none : goal.returns-in-None-clause-none
 returns-in-None-clause-none g t c = λ none. last-said c.if-depth-eq0.false c.node_of-parent.ensures.number c.entries.ensures.value c.if-index-entries.false (c.in-None.ensures.none refl)
+
+pub overflow_sub-depth : goal.overflow_sub-depth
+overflow_sub-depth g t c = omega (arith, c.if-depth-eq0.false)
+
+pub overflow_sub-depth-2 : goal.overflow_sub-depth-2
+overflow_sub-depth-2 g t c = omega (arith, c.if-depth-eq0.false)
+
+pub overflow_add-index : goal.overflow_add-index
+overflow_add-index g t c = omega arith

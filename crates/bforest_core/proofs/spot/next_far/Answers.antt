@@ -17,3 +17,9 @@ returns-in-Some-clause-some g c = λ numbers rows list place p.
 
 pub returns-in-None-clause-none : goal.returns-in-None-clause-none
 returns-in-None-clause-none g c = λ none numbers rows list place p. c.in-None.ensures.none refl numbers rows list place p
+
+pub returns-in-Some-clause-none : goal.returns-in-Some-clause-none
+returns-in-Some-clause-none g c = λ bad. absurd (let no = bad in cc)
+
+pub returns-in-None-clause-some : goal.returns-in-None-clause-some
+returns-in-None-clause-some g c = tt

@@ -31,3 +31,14 @@ returns-clause-some g c = far-said c.requires.union c.args.root c.args.self.now 
 
 pub returns-clause-none : goal.returns-clause-none
 returns-clause-none g c = λ none place s. last-leaf c.requires.union c.args.root s.root_is (c.next_far.ensures.none none s.numbers (tree_of c.args.pool.now.nodes c.args.root).above (heads (tree_of c.args.pool.now.nodes c.args.root).leaves) place (spot-over c.requires.union s))
+
+pub overflow_add-index : goal.overflow_add-index
+overflow_add-index g c = omega arith
+
+pub overflow_add-spot : goal.overflow_add-spot
+overflow_add-spot g c =
+    let low : c.args.self.now.code < 281474976710656 = spot-low c.requires.union c.requires.spot.1 in
+    omega (arith, low)
+
+pub returns-then-index-entries-clause-none : goal.returns-then-index-entries-clause-none
+returns-then-index-entries-clause-none g c = λ bad. absurd (let no = bad in cc)

@@ -9,28 +9,39 @@ prev_far-requires g c =
     let s = c.requires.spot.1 in
     (search rules, (spot-height c.requires.union s, (s.numbers, (tree_of c.args.pool.now.nodes c.args.root).above, heads (tree_of c.args.pool.now.nodes c.args.root).leaves, c.requires.spot.0, spot-over c.requires.union s)))
 
-pub returns-then-index-eq0-clause-some : goal.returns-then-index-eq0-clause-some
-returns-then-index-eq0-clause-some g c = far-before c.requires.union c.args.root c.args.self.now c.prev_far.result c.prev_far.ensures.some
-
-pub returns-then-index-eq0-clause-none : goal.returns-then-index-eq0-clause-none
-returns-then-index-eq0-clause-none g c = λ none place s. c.prev_far.ensures.none none s.numbers (tree_of c.args.pool.now.nodes c.args.root).above (heads (tree_of c.args.pool.now.nodes c.args.root).leaves) place (spot-over c.requires.union s)
-
-pub child-parent-requires : goal.child-parent-requires
-child-parent-requires g c = (search rules, parent-before-asks c.requires.union c.requires.spot.1 c.requires.first c.requires.deep (omega (arith, c.if-index-eq0.false)))
-
-pub last_index-last-requires : goal.last_index-last-requires
-last_index-last-requires g c = (search rules, cousin-last-asks c.requires.union c.requires.spot.1 c.requires.first c.requires.deep (omega (arith, c.if-index-eq0.false)) c.child-parent.ensures)
-
-pub child-leaf-requires : goal.child-leaf-requires
-child-leaf-requires g c = (search rules, cousin-before-asks c.requires.union c.requires.spot.1 c.requires.first c.requires.deep (omega (arith, c.if-index-eq0.false)) c.child-parent.ensures c.last_index-last.ensures.last)
-
 pub returns-clause-some : goal.returns-clause-some
-returns-clause-some g c = λ place s. cousin-before c.requires.union s c.requires.first c.requires.deep (omega (arith, c.if-index-eq0.false)) c.child-parent.ensures c.last_index-last.ensures.last refl refl refl refl c.child-leaf.ensures
+returns-clause-some g c = far-before c.requires.union c.args.root c.args.self.now c.prev_far.result c.prev_far.ensures.some
 
 pub returns-clause-none : goal.returns-clause-none
-returns-clause-none g c = λ bad. absurd (let no = bad in cc)
+returns-clause-none g c = λ none place s. c.prev_far.ensures.none none s.numbers (tree_of c.args.pool.now.nodes c.args.root).above (heads (tree_of c.args.pool.now.nodes c.args.root).leaves) place (spot-over c.requires.union s)
+
+pub child-parent-requires : goal.child-parent-requires
+child-parent-requires g c = (search rules, parent-before-asks c.requires.union c.requires.spot.1 c.requires.first c.requires.deep c.if-index-gt0.true)
+
+pub last_index-last-requires : goal.last_index-last-requires
+last_index-last-requires g c = (search rules, cousin-last-asks c.requires.union c.requires.spot.1 c.requires.first c.requires.deep c.if-index-gt0.true c.child-parent.ensures)
+
+pub child-leaf-requires : goal.child-leaf-requires
+child-leaf-requires g c = (search rules, cousin-before-asks c.requires.union c.requires.spot.1 c.requires.first c.requires.deep c.if-index-gt0.true c.child-parent.ensures c.last_index-last.ensures.last)
+
+pub returns-then-index-gt0-clause-some : goal.returns-then-index-gt0-clause-some
+returns-then-index-gt0-clause-some g c = λ place s. cousin-before c.requires.union s c.requires.first c.requires.deep c.if-index-gt0.true c.child-parent.ensures c.last_index-last.ensures.last refl refl refl refl c.child-leaf.ensures
+
+pub returns-then-index-gt0-clause-none : goal.returns-then-index-gt0-clause-none
+returns-then-index-gt0-clause-none g c = λ bad. absurd (let no = bad in cc)
 
 pub overflow_add-spot : goal.overflow_add-spot
 overflow_add-spot g c =
     let low : c.args.self.now.code < 281474976710656 = spot-low c.requires.union c.requires.spot.1 in
     omega (arith, low, c.last_index-last.ensures.most)
+
+pub overflow_sub-index : goal.overflow_sub-index
+overflow_sub-index g c = omega (arith, c.if-index-gt0.true)
+
+pub overflow_sub-spot : goal.overflow_sub-spot
+overflow_sub-spot g c = omega (arith, c.if-index-gt0.true)
+
+pub overflow_mul-spot : goal.overflow_mul-spot
+overflow_mul-spot g c =
+    let low : c.args.self.now.code < 281474976710656 = spot-low c.requires.union c.requires.spot.1 in
+    omega (arith, low)
