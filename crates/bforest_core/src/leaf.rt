@@ -2,7 +2,7 @@
 ghost use Rattle.std.specs.Prelude.{◌≡◌, ℕ, ◌≤◌, IfSome, List, Err};
 ghost use Rattle.bforest_core.specs.Change.{EntryTaken, Shrinks};
 ghost use Rattle.bforest_core.specs.Leaves.{EndsIn, PutsInLeaf, TakesFromLeaf};
-ghost use Rattle.bforest_core.specs.Table.{Table};
+ghost use Rattle.bforest_core.specs.Table.{IsFullAt, Table};
 ghost use Rattle.bforest_core.specs.Trees.{IsUnion};
 
 use crate::access::{entries, put, take};
@@ -28,6 +28,7 @@ impl<K: Copy, V: Copy, const N: usize> NodePool<K, V, N> {
         ensures put { (root : ℕ) (path indices : List ℕ) (size : ℕ)
             → EndsIn (C.order comp.now) self.old root key leaf path indices size
             → PutsInLeaf (C.order comp.now) self.old root key N value path indices size result self.new }
+        ensures full { (index : ℕ) → result ≡ Err index → IsFullAt N self.old.nodes leaf }
         ensures most { (index : ℕ) → result ≡ Err index → index ≤ 255 }
     {
         put(self, leaf, key, value, comp)

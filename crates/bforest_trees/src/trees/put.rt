@@ -1,7 +1,8 @@
 //! Inserting a value at a key, for a caller that uses no path.
 ghost use Rattle.bforest_trees.specs.Calls.{Inserts};
 ghost use Rattle.bforest_trees.specs.Forest.{IsLive, list_at, list_of};
-ghost use Rattle.bforest_core.specs.Paths.{IsPlaced, list_under};
+ghost use Rattle.bforest_core.specs.Paths.{IsPlaced, leaf_of, list_under};
+ghost use Rattle.bforest_core.specs.Table.{IsFullAt};
 ghost use Rattle.bforest_core.specs.Trees.{IsUnion, slot};
 ghost use Rattle.bforest_nodes.specs.Content.{IsInner, IsLeaf};
 ghost use Rattle.bforest_nodes.specs.Entries.{IsIncreasing, place, value_for};
@@ -123,7 +124,7 @@ impl<K: Copy, V: Copy, const N: usize> Trees<K, V, N> {
         }
     }
 
-    // Inserts an absent key where the path is placed for it.
+    // Inserts an absent key where the path is placed for it, in a full leaf.
     fn put_at(
         &mut self,
         handle: &mut PackedNode,
@@ -132,13 +133,14 @@ impl<K: Copy, V: Copy, const N: usize> Trees<K, V, N> {
         value: V,
     ) -> Result<Option<V>, OutOfMemory>
         requires placed { (root at : ℕ) × (handle.old ≡ Some root) × IsPlaced self.old root path.old at }
+        requires full { IsFullAt N self.old.nodes (leaf_of path.old) }
         ensures { (root : ℕ) (order : K → K → Ordering) → handle.old ≡ Some root
             → list_at self.old root ≢ [] → IsTotalOrder order → IsIncreasing order (list_at self.old root)
             → value_for order (list_under self.old root) key ≡ None
             → IsPlaced self.old root path.old (place order (list_under self.old root) key)
             → Inserts N order self.old (Some root) key value result self.new handle.new }
     {
-        let root = path.insert(key, value, &mut self.pool)?;
+        let root = path.insert_full(key, value, &mut self.pool)?;
         *handle = PackedNode::some(root);
         Ok(None)
     }

@@ -1,5 +1,5 @@
 use Rattle.std.proofs.Common.{rules}
-use Rattle.bforest_core.proofs.insertion.LeafPut.{leaf-used, puts-in-leaf}
+use Rattle.bforest_core.proofs.insertion.LeafPut.{is-full, leaf-used, puts-in-leaf}
 use Rattle.bforest_core.proofs.pool.NodePool.put_in_leaf.Goals as goal
 
 pub put-requires : goal.put-requires
@@ -11,3 +11,9 @@ put-requires g c =
 pub returns-clause-put : goal.returns-clause-put
 returns-clause-put g c = λ root path indices size e.
     puts-in-leaf (g.C.Comparator.order c.args.comp.now) g.row.N c.args.self.now root c.args.leaf c.args.key path indices size c.requires.union e c.args.value c.put.result c.put.new.pool (c.put.ensures.answer e.entries e.slot_is) (c.put.ensures.node e.entries e.slot_is)
+
+pub returns-clause-full : goal.returns-clause-full
+returns-clause-full g c =
+    let w = c.requires.leaf in
+    let e = w.4 in
+    is-full (g.C.Comparator.order c.args.comp.now) g.row.N c.args.self.now w.0 c.args.leaf c.args.key w.1 w.2 w.3 c.requires.union e c.args.value c.put.result c.put.new.pool (c.put.ensures.answer e.entries e.slot_is) (c.put.ensures.node e.entries e.slot_is)

@@ -27,7 +27,7 @@ pub put_at-requires : goal.put_at-requires
 put_at-requires g c =
     let wrote = (c.put_in_leaf.ensures.put c.args.root (lone c.args.root) (lone 0) 1 (ends-at-root g.row.N (g.C.Comparator.order c.args.comp.now) (g.met.C.Comparator.total c.args.comp.now) c.self.inside.pool c.args.self.now c.args.root c.args.key c.self.view_is c.self.invariant c.requires.live c.requires.leaf c.requires.increasing)) in
     let same = wrote.refused c.in-Err.index c.in-Err.is in
-    (search rules, (search rules, (c.args.root, place (g.C.Comparator.order c.args.comp.now) (list_under c.self.inside.pool c.args.root) c.args.key, c.requires.root, rw (wrote.refused c.in-Err.index c.in-Err.is, c.set_index.ensures.size, c.set_root_node.ensures.size) (placed-alone c.self.inside.pool.nodes c.args.root (lone c.args.root) (set (lone 0) 0 c.in-Err.index) _ _ _ (sym (ap (λ z. get_or z 0 0) c.set_index.ensures.node ∙ c.set_root_node.ensures.leaf)) (sym c.set_index.ensures.index) (wrote.placed c.in-Err.index c.in-Err.is)))))
+    (search rules, (search rules, ((c.args.root, place (g.C.Comparator.order c.args.comp.now) (list_under c.self.inside.pool c.args.root) c.args.key, c.requires.root, rw (wrote.refused c.in-Err.index c.in-Err.is, c.set_index.ensures.size, c.set_root_node.ensures.size) (placed-alone c.self.inside.pool.nodes c.args.root (lone c.args.root) (set (lone 0) 0 c.in-Err.index) _ _ _ (sym (ap (λ z. get_or z 0 0) c.set_index.ensures.node ∙ c.set_root_node.ensures.leaf)) (sym c.set_index.ensures.index) (wrote.placed c.in-Err.index c.in-Err.is))), rw (same, ap (λ z. get_or z 0 0) c.set_index.ensures.node ∙ c.set_root_node.ensures.leaf) (c.put_in_leaf.ensures.full c.in-Err.index c.in-Err.is))))
 
 pub returns-in-Err : goal.returns-in-Err
 returns-in-Err g c =

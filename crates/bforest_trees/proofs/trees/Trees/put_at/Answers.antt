@@ -3,8 +3,13 @@ use Rattle.bforest_trees.proofs.trees.Trees.put_at.Given.{Over}
 use Rattle.bforest_trees.proofs.trees.Trees.put_at.Goals as goal
 use Rattle.bforest_core.specs.Paths.{Placing, list_under}
 use Rattle.bforest_nodes.specs.Entries.{place}
-use Rattle.std.proofs.Common.{Err, None, Ok, ap, refl, sym, ◌∙◌, ◌≡◌}
+use Rattle.std.proofs.Common.{Err, None, Ok, ap, refl, rules, sym, ◌∙◌, ◌≡◌}
 use Rattle.std.proofs.lemmas.Result.{err_from_is_err_and}
+
+pub insert_full-requires : goal.insert_full-requires
+insert_full-requires g c =
+    let e : Placing c.self.inside.pool c.args.path.now = record { root = c.requires.placed.0; place = c.requires.placed.1; placed = rw (← c.self.view_is) at c.requires.placed.3 } in
+    (search rules, (search rules, (c.self.invariant, (e, rw (← c.self.view_is) at c.requires.full))))
 
 -- the error is that of the insertion at the path
 err_at : (g : Over) (c : goal.After-from_residual g) → c.from_residual.result ≡ Err c.in_err-root.field-0.0
@@ -34,4 +39,4 @@ returns g c =
     rw (c.some.ensures.node, ← c.self.view_is)
     (λ root order is live total up none placed.
     let e : Placing p c.args.path.now = record { root = root; place = place order (list_under p root) c.args.key; placed = placed } in
-    added g.row.N order p root c.args.key live c.args.path.now None (sym none) (λ gone. placed) refl (Ok c.in_ok-root.root) (told.full e) total up c.args.value c.in_ok-root.root refl c.insert.new.pool (told.inserted e) (told.account e) (told.same_root e))
+    added g.row.N order p root c.args.key live c.args.path.now None (sym none) (λ gone. placed) refl (Ok c.in_ok-root.root) (told.full e) total up c.args.value c.in_ok-root.root refl c.insert_full.new.pool (told.inserted e) (told.account e) (told.same_root e))

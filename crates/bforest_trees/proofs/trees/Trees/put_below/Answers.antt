@@ -30,7 +30,7 @@ pub put_at-requires : goal.put_at-requires
 put_at-requires g c =
     let wrote = (c.put_in_leaf.ensures.put c.args.root _ _ _ c.find_leaf-leaf.ensures) in
     let same = wrote.refused c.in-Err.index c.in-Err.is in
-    (search rules, (search rules, (c.args.root, place (g.C.Comparator.order c.args.comp.now) (list_under c.self.inside.pool c.args.root) c.args.key, c.requires.root, rw (wrote.refused c.in-Err.index c.in-Err.is, c.set_index.ensures.node, c.set_index.ensures.entry, c.set_index.ensures.size) (wrote.placed c.in-Err.index c.in-Err.is))))
+    (search rules, (search rules, ((c.args.root, place (g.C.Comparator.order c.args.comp.now) (list_under c.self.inside.pool c.args.root) c.args.key, c.requires.root, rw (wrote.refused c.in-Err.index c.in-Err.is, c.set_index.ensures.node, c.set_index.ensures.entry, c.set_index.ensures.size) (wrote.placed c.in-Err.index c.in-Err.is)), rw (same, c.set_index.ensures.node, c.find_leaf-leaf.ensures.leaf_is) (c.put_in_leaf.ensures.full c.in-Err.index c.in-Err.is))))
 
 pub returns-in-Err : goal.returns-in-Err
 returns-in-Err g c =

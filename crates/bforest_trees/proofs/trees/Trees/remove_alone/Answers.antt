@@ -1,9 +1,6 @@
 use Rattle.bforest_trees.proofs.Cutting.{lost, removed-union, removes-absent, removes-present}
 use Rattle.bforest_trees.proofs.Entering.{ends-at-root}
-use Rattle.bforest_trees.proofs.trees.Trees.remove_alone.Given.{Over}
-use Rattle.bforest_trees.proofs.trees.Trees.remove_alone.Goals.{After-packed}
 use Rattle.bforest_trees.proofs.trees.Trees.remove_alone.Goals as goal
-use Rattle.bforest_core.specs.Change.{Shrinks}
 use Rattle.bforest_core.proofs.walks.Alone.{lone}
 use Rattle.bforest_core.specs.Paths.{list_under}
 use Rattle.bforest_nodes.specs.Entries.{place}
@@ -22,12 +19,8 @@ invariant_of-self g c = rw ((c.take_from_leaf.ensures.taken c.args.root (lone c.
 pub returns-in_err-taken : goal.returns-in_err-taken
 returns-in_err-taken g c = rw (c.requires.root, c.from_residual.ensures, ← c.self.view_is) (removes-absent g.row.N (g.C.Comparator.order c.args.comp.now) c.self.inside.pool c.args.root c.args.key (rw (← c.self.view_is) at c.requires.live) (rw (← c.self.view_is) at c.requires.increasing) (c.take_from_leaf.ensures.taken c.args.root (lone c.args.root) (lone 0) 1 (ends-at-root g.row.N (g.C.Comparator.order c.args.comp.now) (g.met.C.Comparator.total c.args.comp.now) c.self.inside.pool c.args.self.now c.args.root c.args.key c.self.view_is c.self.invariant c.requires.live c.requires.leaf c.requires.increasing)) c.in_err-taken.was)
 
--- the effect of the call that restores the tree
-shrinks : (g : Over) (c : After-packed g) → Shrinks g.row.N c.self.inside.pool c.heal_alone.new.self (lone c.args.root) c.args.root (place (g.C.Comparator.order c.args.comp.now) (list_under c.self.inside.pool c.args.root) c.args.key) c.heal_alone.result
-shrinks g c = c.heal_alone.ensures.healed c.self.inside.pool (place (g.C.Comparator.order c.args.comp.now) (list_under c.self.inside.pool c.args.root) c.args.key) (lone c.args.root) (set (lone 0) 0 c.in_ok-taken.taken.0) (lost g.row.N (g.C.Comparator.order c.args.comp.now) c.self.inside.pool c.args.root c.args.key (rw (← c.self.view_is) at c.requires.live) (rw (← c.self.view_is) at c.requires.increasing) (c.take_from_leaf.ensures.taken c.args.root (lone c.args.root) (lone 0) 1 (ends-at-root g.row.N (g.C.Comparator.order c.args.comp.now) (g.met.C.Comparator.total c.args.comp.now) c.self.inside.pool c.args.self.now c.args.root c.args.key c.self.view_is c.self.invariant c.requires.live c.requires.leaf c.requires.increasing)) c.in_ok-taken.taken c.in_ok-taken.was)
-
 pub invariant_of-self-2 : goal.invariant_of-self-2
-invariant_of-self-2 g c = removed-union g.row.N (g.C.Comparator.order c.args.comp.now) c.self.inside.pool c.args.root c.args.key (rw (← c.self.view_is) at c.requires.live) (rw (← c.self.view_is) at c.requires.increasing) (c.take_from_leaf.ensures.taken c.args.root (lone c.args.root) (lone 0) 1 (ends-at-root g.row.N (g.C.Comparator.order c.args.comp.now) (g.met.C.Comparator.total c.args.comp.now) c.self.inside.pool c.args.self.now c.args.root c.args.key c.self.view_is c.self.invariant c.requires.live c.requires.leaf c.requires.increasing)) c.in_ok-taken.taken c.in_ok-taken.was c.heal_alone.new.self (lone c.args.root) c.heal_alone.result (shrinks g c)
+invariant_of-self-2 g c = removed-union g.row.N (g.C.Comparator.order c.args.comp.now) c.self.inside.pool c.args.root c.args.key (rw (← c.self.view_is) at c.requires.live) (rw (← c.self.view_is) at c.requires.increasing) (c.take_from_leaf.ensures.taken c.args.root (lone c.args.root) (lone 0) 1 (ends-at-root g.row.N (g.C.Comparator.order c.args.comp.now) (g.met.C.Comparator.total c.args.comp.now) c.self.inside.pool c.args.self.now c.args.root c.args.key c.self.view_is c.self.invariant c.requires.live c.requires.leaf c.requires.increasing)) c.in_ok-taken.taken c.in_ok-taken.was c.heal_alone.new.self (lone c.args.root) c.heal_alone.result (c.heal_alone.ensures.healed c.self.inside.pool (place (g.C.Comparator.order c.args.comp.now) (list_under c.self.inside.pool c.args.root) c.args.key) (lone c.args.root) (set (lone 0) 0 c.in_ok-taken.taken.0) (lost g.row.N (g.C.Comparator.order c.args.comp.now) c.self.inside.pool c.args.root c.args.key (rw (← c.self.view_is) at c.requires.live) (rw (← c.self.view_is) at c.requires.increasing) (c.take_from_leaf.ensures.taken c.args.root (lone c.args.root) (lone 0) 1 (ends-at-root g.row.N (g.C.Comparator.order c.args.comp.now) (g.met.C.Comparator.total c.args.comp.now) c.self.inside.pool c.args.self.now c.args.root c.args.key c.self.view_is c.self.invariant c.requires.live c.requires.leaf c.requires.increasing)) c.in_ok-taken.taken c.in_ok-taken.was))
 
 pub returns : goal.returns
-returns g c = rw (c.packed.ensures, ← c.self.view_is) (removes-present g.row.N (g.C.Comparator.order c.args.comp.now) c.self.inside.pool c.args.root c.args.key (rw (← c.self.view_is) at c.requires.live) (rw (← c.self.view_is) at c.requires.increasing) (c.take_from_leaf.ensures.taken c.args.root (lone c.args.root) (lone 0) 1 (ends-at-root g.row.N (g.C.Comparator.order c.args.comp.now) (g.met.C.Comparator.total c.args.comp.now) c.self.inside.pool c.args.self.now c.args.root c.args.key c.self.view_is c.self.invariant c.requires.live c.requires.leaf c.requires.increasing)) c.in_ok-taken.taken c.in_ok-taken.was c.heal_alone.new.self (lone c.args.root) c.heal_alone.result (shrinks g c))
+returns g c = rw (c.packed.ensures, ← c.self.view_is) (removes-present g.row.N (g.C.Comparator.order c.args.comp.now) c.self.inside.pool c.args.root c.args.key (rw (← c.self.view_is) at c.requires.live) (rw (← c.self.view_is) at c.requires.increasing) (c.take_from_leaf.ensures.taken c.args.root (lone c.args.root) (lone 0) 1 (ends-at-root g.row.N (g.C.Comparator.order c.args.comp.now) (g.met.C.Comparator.total c.args.comp.now) c.self.inside.pool c.args.self.now c.args.root c.args.key c.self.view_is c.self.invariant c.requires.live c.requires.leaf c.requires.increasing)) c.in_ok-taken.taken c.in_ok-taken.was c.heal_alone.new.self (lone c.args.root) c.heal_alone.result (c.heal_alone.ensures.healed c.self.inside.pool (place (g.C.Comparator.order c.args.comp.now) (list_under c.self.inside.pool c.args.root) c.args.key) (lone c.args.root) (set (lone 0) 0 c.in_ok-taken.taken.0) (lost g.row.N (g.C.Comparator.order c.args.comp.now) c.self.inside.pool c.args.root c.args.key (rw (← c.self.view_is) at c.requires.live) (rw (← c.self.view_is) at c.requires.increasing) (c.take_from_leaf.ensures.taken c.args.root (lone c.args.root) (lone 0) 1 (ends-at-root g.row.N (g.C.Comparator.order c.args.comp.now) (g.met.C.Comparator.total c.args.comp.now) c.self.inside.pool c.args.self.now c.args.root c.args.key c.self.view_is c.self.invariant c.requires.live c.requires.leaf c.requires.increasing)) c.in_ok-taken.taken c.in_ok-taken.was)))

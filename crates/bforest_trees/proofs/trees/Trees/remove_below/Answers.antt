@@ -1,9 +1,6 @@
 use Rattle.bforest_trees.proofs.Changed.{list-root, live-root}
 use Rattle.bforest_trees.proofs.Cutting.{lost, removed-union, removes-absent, removes-present}
-use Rattle.bforest_trees.proofs.trees.Trees.remove_below.Given.{Over}
-use Rattle.bforest_trees.proofs.trees.Trees.remove_below.Goals.{After-packed}
 use Rattle.bforest_trees.proofs.trees.Trees.remove_below.Goals as goal
-use Rattle.bforest_core.specs.Change.{Shrinks}
 use Rattle.bforest_core.specs.Paths.{list_under, nodes_of}
 use Rattle.bforest_nodes.specs.Entries.{place}
 use Rattle.std.proofs.Common.{rules}
@@ -24,12 +21,8 @@ invariant_of-self g c = rw ((c.take_from_leaf.ensures.taken c.args.root _ _ _ c.
 pub returns-in_err-taken : goal.returns-in_err-taken
 returns-in_err-taken g c = rw (c.requires.root, c.from_residual.ensures, ← c.self.view_is) (removes-absent g.row.N (g.C.Comparator.order c.args.comp.now) c.self.inside.pool c.args.root c.args.key (rw (← c.self.view_is) at c.requires.live) (rw (← c.self.view_is) at c.requires.increasing) (c.take_from_leaf.ensures.taken c.args.root _ _ _ c.find_leaf-leaf.ensures) c.in_err-taken.was)
 
--- the effect of the call that restores the tree
-shrinks : (g : Over) (c : After-packed g) → Shrinks g.row.N c.self.inside.pool c.heal.new.pool (nodes_of c.set_index.new.self) c.args.root (place (g.C.Comparator.order c.args.comp.now) (list_under c.self.inside.pool c.args.root) c.args.key) c.heal.result
-shrinks g c = c.heal.ensures.healed c.self.inside.pool (place (g.C.Comparator.order c.args.comp.now) (list_under c.self.inside.pool c.args.root) c.args.key) (rw (c.set_index.ensures.node, c.set_index.ensures.entry, c.set_index.ensures.size) (lost g.row.N (g.C.Comparator.order c.args.comp.now) c.self.inside.pool c.args.root c.args.key (rw (← c.self.view_is) at c.requires.live) (rw (← c.self.view_is) at c.requires.increasing) (c.take_from_leaf.ensures.taken c.args.root _ _ _ c.find_leaf-leaf.ensures) c.in_ok-taken.taken c.in_ok-taken.was))
-
 pub invariant_of-self-2 : goal.invariant_of-self-2
-invariant_of-self-2 g c = removed-union g.row.N (g.C.Comparator.order c.args.comp.now) c.self.inside.pool c.args.root c.args.key (rw (← c.self.view_is) at c.requires.live) (rw (← c.self.view_is) at c.requires.increasing) (c.take_from_leaf.ensures.taken c.args.root _ _ _ c.find_leaf-leaf.ensures) c.in_ok-taken.taken c.in_ok-taken.was c.heal.new.pool (nodes_of c.set_index.new.self) c.heal.result (shrinks g c)
+invariant_of-self-2 g c = removed-union g.row.N (g.C.Comparator.order c.args.comp.now) c.self.inside.pool c.args.root c.args.key (rw (← c.self.view_is) at c.requires.live) (rw (← c.self.view_is) at c.requires.increasing) (c.take_from_leaf.ensures.taken c.args.root _ _ _ c.find_leaf-leaf.ensures) c.in_ok-taken.taken c.in_ok-taken.was c.heal.new.pool (nodes_of c.set_index.new.self) c.heal.result (c.heal.ensures.healed c.self.inside.pool (place (g.C.Comparator.order c.args.comp.now) (list_under c.self.inside.pool c.args.root) c.args.key) (rw (c.set_index.ensures.node, c.set_index.ensures.entry, c.set_index.ensures.size) (lost g.row.N (g.C.Comparator.order c.args.comp.now) c.self.inside.pool c.args.root c.args.key (rw (← c.self.view_is) at c.requires.live) (rw (← c.self.view_is) at c.requires.increasing) (c.take_from_leaf.ensures.taken c.args.root _ _ _ c.find_leaf-leaf.ensures) c.in_ok-taken.taken c.in_ok-taken.was)))
 
 pub returns : goal.returns
-returns g c = rw (c.packed.ensures, ← c.self.view_is) (removes-present g.row.N (g.C.Comparator.order c.args.comp.now) c.self.inside.pool c.args.root c.args.key (rw (← c.self.view_is) at c.requires.live) (rw (← c.self.view_is) at c.requires.increasing) (c.take_from_leaf.ensures.taken c.args.root _ _ _ c.find_leaf-leaf.ensures) c.in_ok-taken.taken c.in_ok-taken.was c.heal.new.pool (nodes_of c.set_index.new.self) c.heal.result (shrinks g c))
+returns g c = rw (c.packed.ensures, ← c.self.view_is) (removes-present g.row.N (g.C.Comparator.order c.args.comp.now) c.self.inside.pool c.args.root c.args.key (rw (← c.self.view_is) at c.requires.live) (rw (← c.self.view_is) at c.requires.increasing) (c.take_from_leaf.ensures.taken c.args.root _ _ _ c.find_leaf-leaf.ensures) c.in_ok-taken.taken c.in_ok-taken.was c.heal.new.pool (nodes_of c.set_index.new.self) c.heal.result (c.heal.ensures.healed c.self.inside.pool (place (g.C.Comparator.order c.args.comp.now) (list_under c.self.inside.pool c.args.root) c.args.key) (rw (c.set_index.ensures.node, c.set_index.ensures.entry, c.set_index.ensures.size) (lost g.row.N (g.C.Comparator.order c.args.comp.now) c.self.inside.pool c.args.root c.args.key (rw (← c.self.view_is) at c.requires.live) (rw (← c.self.view_is) at c.requires.increasing) (c.take_from_leaf.ensures.taken c.args.root _ _ _ c.find_leaf-leaf.ensures) c.in_ok-taken.taken c.in_ok-taken.was))))
