@@ -4,13 +4,15 @@ use Rattle.bforest_run.proofs.Written.{Appends-none, appends_more}
 use Rattle.bforest_run.specs.Lines.{lines_of}
 use Rattle.bforest_run.specs.Session.{AllAnswered, Answered, Breaks, IsBad, IsFor, Outcome, bad_text}
 use Rattle.bforest_run.specs.Statuses.{status_of}
-use Rattle.bforest_run.specs.Words.{Word}
+use Rattle.bforest_run.specs.Output.{AppendsPart}
+use Rattle.bforest_run.specs.Words.{Word, words_of}
 use Rattle.bforest_run.specs.declared.stop.Stop.TheVariants.{BadLine, InputOutput, Memory}
 use Rattle.bforest_run.specs.declared.stop.Stop.{Stop}
-use Rattle.std.proofs.Common.{Err, List, Option, [], ap, append_assoc, arith, inr, length, length-append, min, refl, subst, sym, take, ◌+◌, ◌++◌, ◌-◌, ◌<◌, ◌^◌, ◌∙◌, ◌∷◌, ◌≡◌, ℕ}
+use Rattle.std.proofs.Common.{Err, List, Option, [], ap, append_assoc, arith, inl, inr, length, length-append, min, refl, subst, sym, take, ◌+◌, ◌++◌, ◌-◌, ◌<◌, ◌^◌, ◌∙◌, ◌∷◌, ◌≡◌, ℕ}
 use Rattle.std.proofs.Math.Seq.{take-append_seam}
 use Rattle.std.proofs.lemmas.List.{append-nil}
 use Rattle.std.specs.Io.KnownBytes.{Appends}
+use Rattle.std.specs.Prelude.{codes}
 
 -- a saturated sum that fits is the sum
 pub saturated : (r n : ℕ) → r ≡ min (n + 1) (2 ^ 64 - 1) → n + 1 < 18446744073709551616 → r ≡ n + 1
@@ -96,6 +98,26 @@ module _ {S : Type 0} (tells : S → List Word → List ℕ → S → Type 0) (i
         appended = appends_more old new next t.text b.written t.appended b.appended;
       });
     }
+
+  -- the text of an answer was written in part
+  pub breaks-told : (now after : S) (number : ℕ) (line : List ℕ) (old new : Option (List ℕ)) (said text : List ℕ) → tells now (words_of line) said after → text ≡ said ++ codes "\n" → AppendsPart old new text → Breaks tells is_bad now number line old new
+  breaks-told now after number line old new said text told is p = record {
+    written = p.written;
+    missing = p.missing;
+    some = p.some;
+    next = inl (after, inr (said, sym p.whole ∙ is, told));
+    appended = p.appended;
+  }
+
+  -- the number of a bad line was written in part
+  pub breaks-bad : (now : S) (number : ℕ) (line : List ℕ) (old new : Option (List ℕ)) (text : List ℕ) → IsBad tells is_bad line → text ≡ bad_text number → AppendsPart old new text → Breaks tells is_bad now number line old new
+  breaks-bad now number line old new text bad is p = record {
+    written = p.written;
+    missing = p.missing;
+    some = p.some;
+    next = inr (bad, sym p.whole ∙ is);
+    appended = p.appended;
+  }
 
   -- the outcome of a run with no line left
   pub turned-last : (start : S) (bytes : List ℕ) (old : Option (List ℕ)) (number : ℕ) (now : S) (new : Option (List ℕ)) → Turned start bytes old number [] now new → Outcome tells is_bad start bytes old new 0
