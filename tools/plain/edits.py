@@ -36,7 +36,6 @@ UNUSED = {
     "bforest_nodes/lent.rt": ["front_mut"],
     "bforest_core/path/insert.rt": ["needed"],
     "bforest_core/pool.rt": ["new"],
-    "bforest_core/spot.rt": ["last", "prev", "has_prev", "prev_sibling", "prev_cousin", "prev_far", "prev_on", "last_below", "find", "find_below"],
 }
 
 USE_GLOBAL = (r"^use std::alloc::Global;\n", "", 1)
@@ -102,10 +101,6 @@ EDITS = {
         (r"Comparator, Node, NodeData, PackedNode, Removed, SetValue, SplitOff,?", "Comparator, Node, PackedNode, SetValue", 1),
     ],
     # What the search alone uses, which goes with it.
-    "bforest_core/spot.rt": [
-        (r"^use crate::access::\{child, entries, follow, last_index\};", "use crate::access::{child, entries};", 1),
-        (r"^use bforest_nodes::\{Comparator, Node\};", "use bforest_nodes::Node;", 1),
-    ],
     "bforest_core/pool.rt": [
         (r"^use std::alloc::\{AllocError, Global\};\n", "use alloc::collections::TryReserveError;\nuse alloc::vec::Vec;\n", 1),
         (r"(#\[derive\(Clone, Copy, Debug, PartialEq, Eq)(?=\)\]\npub enum OutOfMemory)", r"\1, Hash", 1),
@@ -146,6 +141,7 @@ CLONED = {
     "bforest_core/path.rt": ["Path"],
     "bforest_trees/trees.rt": ["Trees"],
     "bforest_trees/trees/range.rt": ["Ends"],
+    "bforest_trees/look.rt": ["Look"],
     "bforest_trees/reader.rt": ["Reader"],
     "bforest/forest.rt": ["MapForest"],
     "bforest/set_forest.rt": ["SetForest"],

@@ -58,7 +58,7 @@ impl<K: Copy, V: Copy, C: Comparator<K>> Clone for MapCursor<'_, K, V, C> {
             trees: self.trees,
             root: self.root,
             comp: self.comp,
-            path: self.path.clone(),
+            look: self.look.clone(),
         }
     }
 }

@@ -1,6 +1,6 @@
 -- A writing cursor that moves, or changes its list.
 use Rattle.bforest.specs.Calls.{Inserts, RemovesAt}
-use Rattle.bforest.specs.Cursor.{Goes, IsCursor, Moves, StandsIn, Writes, comparator, entries, forest_loan, forest_now, map_loan, map_now, spot, with_value_here}
+use Rattle.bforest.specs.Cursor.{Goes, IsCursor, LooksIn, Moves, StandsIn, Writes, comparator, entries, forest_loan, forest_now, map_loan, map_now, spot, with_value_here}
 use Rattle.bforest.specs.declared.map_cursor_mut.MapCursorMut.{MapCursorMut}
 use Rattle.bforest_core.proofs.walks.Backward.{at_end, at_entry}
 use Rattle.bforest_core.proofs.walks.Standing.{on-within, path-ended}
@@ -13,13 +13,17 @@ use Rattle.bforest_nodes.proofs.Ordered.{IsIncreasing-remove}
 use Rattle.bforest_nodes.specs.Entries.{IsIncreasing, value_at_place, with_value}
 use Rattle.bforest_trees.proofs.Changed.{list-root, live-root}
 use Rattle.bforest_trees.proofs.Cutting.{becomes-same}
+use Rattle.bforest_trees.proofs.Looking.{look-stands}
 use Rattle.bforest_trees.specs.Forest.{Becomes, Forest, IsLive, list_of}
+use Rattle.bforest_trees.specs.Looks.{IsLook}
 use Rattle.bforest_trees.specs.Place.{AtSpot, IsComputed, IsSpot, IsWritten, spot_of}
-use Rattle.std.proofs.Common.{Err, List, None, Ok, Option, Result, Some, [], ap, arith, false, if◌then◌else◌, inl, inr, length, option_map, refl, subst, suc, sym, true, zero, ◌<◌, ◌==◌, ◌∙◌, ◌∷◌, ◌≡◌, ◌≤◌, ℕ}
+use Rattle.bforest_trees.specs.declared.look.Look.{Look}
+use Rattle.std.proofs.Common.{Err, List, None, Ok, Option, Result, Some, [], ap, arith, false, if◌then◌else◌, inl, inr, length, option_map, refl, subst, suc, sym, true, zero, ◌<◌, ◌==◌, ◌∙◌, ◌∷◌, ◌≡◌, ◌≤◌, ◌↔◌, ℕ}
 use Rattle.std.proofs.lemmas.Bool.Decides.{eqb_tells}
 use Rattle.std.proofs.lemmas.Option.{slice_get_past}
 use Rattle.std.specs.List.Sorted.{IsStrictlySortedBy}
 use Rattle.std.specs.Map.{keys_of}
+use Rattle.std.specs.Option.{IsNone}
 use Rattle.std.specs.declared.cmp.Ordering.{Ordering}
 
 module _ {K X C : Type 0} (order : C → K → K → Ordering) (c c' : MapCursorMut K X C) (p : ℕ) where
@@ -147,7 +151,11 @@ module _ {K X C : Type 0} (order : C → K → K → Ordering) (c : MapCursorMut
         } in
         subst (λ d. Writes order c d w) same stays
 
--- a valid path that moves to another place of the list stays valid
-pub stands-at : {K X : Type 0} (cmp : K → K → Ordering) (f : Forest K X) (h : Option ℕ) (path path' : Path K X 7) (p : ℕ) → StandsIn cmp f h path → IsSpot f h path' p → IsComputed 7 f h → StandsIn cmp f h path'
-stands-at cmp f h path path' p v at computed =
-    record { live = v.live; increasing = v.increasing; stands = subst (λ (z : ℕ). IsSpot f h path' z) (sym (computed path' p at)) at }
+-- a look in the list of a live handle that increases
+pub looks-in : {K X : Type 0} {cmp : K → K → Ordering} {f : Forest K X} {h : Option ℕ} {look : Look K X} {p : ℕ} → IsLive f h → IsIncreasing cmp (list_of f h) → IsLook f h look p → LooksIn cmp f h look
+looks-in live increasing at = record { live = live; increasing = increasing; stands = look-stands at }
+
+-- a live handle is empty exactly if its list is
+pub empty-live : {K X : Type 0} (f : Forest K X) (h : Option ℕ) → IsLive f h → IsNone h ↔ (list_of f h ≡ [])
+empty-live f None live = (λ handle. refl, λ list. refl)
+empty-live f (Some root) live = (λ handle. absurd (cc), λ list. absurd (live list))

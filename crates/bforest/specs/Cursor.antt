@@ -5,7 +5,9 @@ use Rattle.bforest_core.specs.Table.{with_value_at}
 use Rattle.bforest_core.specs.declared.path.Path.{Path}
 use Rattle.bforest_nodes.specs.Entries.{IsIncreasing, with_value}
 use Rattle.bforest_trees.specs.Forest.{Becomes, Forest, IsLive, free_of, list_of, sizes_of, slots_of}
+use Rattle.bforest_trees.specs.Looks.{IsLook, look_place}
 use Rattle.bforest_trees.specs.Place.{IsSpot, spot_of}
+use Rattle.bforest_trees.specs.declared.look.Look.{Look}
 use Rattle.std.specs.Borrow.{GName}
 use Rattle.std.specs.Prelude.{List, Option, if◌then◌else◌, length, ◌==◌, ◌≡◌, ℕ}
 use Rattle.std.specs.declared.cmp.Ordering.{Ordering}
@@ -25,6 +27,12 @@ pub record StandsIn {K X : Type 0} {n : ℕ} (cmp : K → K → Ordering) (f : F
   pub live : IsLive f h
   pub increasing : IsIncreasing cmp (list_of f h)
   pub stands : IsSpot f h path (spot_of f h path)
+
+-- a look stands in the list of a live handle, and the list increases
+pub record LooksIn {K X : Type 0} (cmp : K → K → Ordering) (f : Forest K X) (h : Option ℕ) (look : Look K X) : Type 0 where
+  pub live : IsLive f h
+  pub increasing : IsIncreasing cmp (list_of f h)
+  pub stands : IsLook f h look (look_place f h look)
 
 module _ {K X C : Type 0} where
   -- the list in which a writing cursor stands

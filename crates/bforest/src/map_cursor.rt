@@ -8,8 +8,8 @@ ghost use Rattle.std.specs.Prelude.{IsTrue, [], length, min, option_map, slice_g
 
 use crate::forest::MapForest;
 use crate::map::Map;
-use bforest_core::{Comparator, PackedNode, Path};
-use bforest_trees::Trees;
+use bforest_core::{Comparator, PackedNode};
+use bforest_trees::{Look, Trees};
 use std::marker::Model;
 
 /// A cursor that reads a map: it stands at an entry, or at the end behind the last one. [`Map::cursor`] makes it, at the end.
@@ -18,27 +18,28 @@ pub struct MapCursor<'a, K: Copy, V: Copy, C: Comparator<K>> {
     trees: &'a Trees<K, V, 7>,
     root: PackedNode,
     comp: &'a C,
-    path: Path<K, V, 7>,
+    look: Look<'a, K, V>,
 }
 
 impl<'a, K: Copy, V: Copy, C: Comparator<K>> Model for MapCursor<'a, K, V, C> {
-    ghost use Rattle.bforest.specs.Cursor.{Cursor, StandsIn};
+    ghost use Rattle.bforest.specs.Cursor.{Cursor, LooksIn};
     ghost use Rattle.bforest_trees.specs.Forest.{list_of};
-    ghost use Rattle.bforest_trees.specs.Place.{spot_of};
+    ghost use Rattle.bforest_trees.specs.Looks.{look_place};
 
     ghost Value = { Cursor K V C };
 
     ghost view = { λ c. record {
       entries = list_of c.trees.now c.root;
-      spot = spot_of c.trees.now c.root c.path;
+      spot = look_place c.trees.now c.root c.look;
       comparator = c.comp.now;
     } };
 
-    ghost invariant = { λ c. StandsIn (C.order c.comp.now) c.trees.now c.root c.path };
+    ghost invariant = { λ c. LooksIn (C.order c.comp.now) c.trees.now c.root c.look };
 }
 
 impl<'a, K: Copy, V: Copy, C: Comparator<K>> MapCursor<'a, K, V, C> {
     /// Returns a cursor at the end of a map.
+    #[inline(always)]
     pub(crate) fn new(
         map: &Map<K, V>,
         forest: &'a MapForest<K, V>,
@@ -55,7 +56,7 @@ impl<'a, K: Copy, V: Copy, C: Comparator<K>> MapCursor<'a, K, V, C> {
             trees: &forest.trees,
             root: map.root,
             comp,
-            path: Path::default(),
+            look: Look::end(),
         }
     }
 
@@ -69,34 +70,38 @@ impl<'a, K: Copy, V: Copy, C: Comparator<K>> MapCursor<'a, K, V, C> {
 
     /// Moves to the next entry and returns it. From the last entry it moves to the end and returns `None`, and at the end it stays. One
     /// step: no comparison.
+    #[inline(always)]
     pub fn next(&mut self) -> Option<(K, V)>
         requires ready { IsReadable K.row V.row }
         ensures value { result ≡ slice_get self.old.entries (self.old.spot + 1) }
         ensures moves { self.new ≡ at_place self.old (min (self.old.spot + 1) (length self.old.entries)) }
     {
-        self.trees.next(self.root, &mut self.path)
+        self.look.next(self.root, self.trees)
     }
 
     /// Moves to the previous entry and returns it. From the end it moves to the last entry; at the first entry it stays and returns
     /// `None`. One step: no comparison.
+    #[inline(always)]
     pub fn prev(&mut self) -> Option<(K, V)>
         requires ready { IsReadable K.row V.row }
         ensures value { result ≡ entry_before self.old.entries self.old.spot }
         ensures moves { self.new ≡ at_place self.old (self.old.spot - 1) }
     {
-        self.trees.prev(self.root, &mut self.path)
+        self.look.prev(self.root, self.trees)
     }
 
     /// Returns the entry where the cursor stands, or `None` at the end. No comparison.
+    #[inline(always)]
     pub fn entry(&self) -> Option<(K, V)>
         requires ready { IsReadable K.row V.row }
         ensures entry { result ≡ slice_get self.now.entries self.now.spot }
         ensures within { self.now.spot ≤ length self.now.entries }
     {
-        self.trees.entry(self.root, &self.path)
+        self.look.entry()
     }
 
     /// Returns the key of the entry where the cursor stands, or `None` at the end. No comparison.
+    #[inline(always)]
     pub fn key(&self) -> Option<K>
         requires ready { IsReadable K.row V.row }
         ensures key { result ≡ option_map (λ e. e.0) (slice_get self.now.entries self.now.spot) }
@@ -106,6 +111,7 @@ impl<'a, K: Copy, V: Copy, C: Comparator<K>> MapCursor<'a, K, V, C> {
     }
 
     /// Returns the value of the entry where the cursor stands, or `None` at the end. No comparison.
+    #[inline(always)]
     pub fn value(&self) -> Option<V>
         requires ready { IsReadable K.row V.row }
         ensures value { result ≡ value_at_place self.now.entries self.now.spot }
@@ -121,24 +127,26 @@ impl<'a, K: Copy, V: Copy, C: Comparator<K>> MapCursor<'a, K, V, C> {
         ensures moves { self.new
             ≡ at_place self.old (place (C.order self.old.comparator) self.old.entries elem) }
     {
-        self.trees.goto(self.root, &mut self.path, elem, self.comp)
+        self.look.goto(self.root, self.trees, elem, self.comp)
     }
 
     /// Moves to the first entry and returns its value; in an empty map stays at the end and returns `None`. Visits one node of each
     /// level. No comparison.
+    #[inline(always)]
     pub fn goto_first(&mut self) -> Option<V>
         requires ready { IsReadable K.row V.row }
         ensures value { result ≡ value_at_place self.old.entries 0 }
         ensures moves { self.new ≡ at_place self.old 0 }
     {
-        value_of(self.trees.first(self.root, &mut self.path))
+        value_of(self.look.first(self.root, self.trees))
     }
 
     /// Moves to the end, behind the last entry. Constant time.
+    #[inline(always)]
     pub fn goto_end(&mut self)
         ensures moves { self.new ≡ at_place self.old (length self.old.entries) }
     {
-        self.path = Path::default();
+        self.look = Look::end();
     }
 }
 

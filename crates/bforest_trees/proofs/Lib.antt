@@ -4,6 +4,7 @@ pub mod Putting
 pub mod Measures
 pub mod After
 pub mod Reading
+pub mod Looking
 pub mod Inserting
 pub mod Entering
 pub mod Reserving

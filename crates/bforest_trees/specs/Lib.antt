@@ -2,6 +2,7 @@ pub mod Bounds
 pub mod Calls
 pub mod Forest
 pub mod Layout
+pub mod Looks
 pub mod Lending
 pub mod Place
 pub mod Range

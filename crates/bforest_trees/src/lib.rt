@@ -4,12 +4,14 @@
 //! each number (`specs/Forest.antt`); docs/MODEL.md reads these definitions aloud.
 #![tactic(auto)]
 
+mod look;
 mod predicate;
 mod reader;
 mod retain;
 mod trees;
 
 pub use bforest_core::{Comparator, Node, NodePool, OutOfMemory, PackedNode, Path};
+pub use look::Look;
 pub use predicate::{Asked, Predicate};
 pub use reader::Reader;
 pub use trees::{Ends, Trees};

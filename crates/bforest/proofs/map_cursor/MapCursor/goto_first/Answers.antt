@@ -1,6 +1,11 @@
+use Rattle.bforest.proofs.Cursors.{looks-in}
 use Rattle.bforest.proofs.map_cursor.MapCursor.goto_first.Goals as goal
+use Rattle.bforest_trees.proofs.Looking.{look-place-is}
 use Rattle.bforest_trees.specs.Forest.{list_of}
 use Rattle.std.proofs.Common.{ap, option_map, ◌∙◌}
+
+pub invariant_of-self : goal.invariant_of-self
+invariant_of-self g c = looks-in c.self.invariant.live c.self.invariant.increasing c.first.ensures.look
 
 pub returns-clause-value : goal.returns-clause-value
 returns-clause-value g c = c.value_of.ensures ∙ ap (option_map (λ e. e.1)) (rw (← c.self.view_is) c.first.ensures.value)
@@ -8,4 +13,4 @@ returns-clause-value g c = c.value_of.ensures ∙ ap (option_map (λ e. e.1)) (r
 pub returns-clause-moves : goal.returns-clause-moves
 returns-clause-moves g c =
     let i = c.self.inside in
-    rw (← c.self.view_is) (ap (λ z. record { entries = list_of i.trees.now i.root; spot = z; comparator = i.comp.now }) (c.first.ensures.computed c.first.new.path 0 c.first.ensures.spot))
+    rw (← c.self.view_is) (ap (λ z. record { entries = list_of i.trees.now i.root; spot = z; comparator = i.comp.now }) (look-place-is c.first.ensures.look))

@@ -1,0 +1,20 @@
+use Rattle.std.proofs.Common.{Option, rules, subst, sym, ◌∙◌, ℕ}
+use Rattle.bforest_trees.proofs.Changed.{live-root}
+use Rattle.bforest_trees.proofs.Looking.{last-up-to, none-tested, prev-asks, prev-none, prev-some, some-tested}
+use Rattle.bforest_trees.specs.Forest.{IsLive}
+use Rattle.bforest_trees.proofs.look.Look.leaf_before.Goals as goal
+
+pub last-requires : goal.last-requires
+last-requires g c = (search rules, (c.requires.union, live-root c.args.pool.now c.in_ok-root.root (subst (λ (h : Option ℕ). IsLive c.args.pool.now h) (sym c.expand.ensures.value ∙ c.in_ok-root.was) c.requires.live)))
+
+pub returns-then-is_empty-clause-some : goal.returns-then-is_empty-clause-some
+returns-then-is_empty-clause-some g c = last-up-to c.args.pool.now c.args.self.now (sym c.expand.ensures.value ∙ c.in_ok-root.was) c.last.result.0 c.last.result.1 c.last.ensures.spot c.last.ensures.leaf (none-tested c.args.self.now.keys.now c.is_empty.result c.is_empty.ensures c.if-is_empty.true)
+
+pub prev-requires : goal.prev-requires
+prev-requires g c = (search rules, (c.requires.union, prev-asks c.args.pool.now c.args.self.now (sym c.expand.ensures.value ∙ c.in_ok-root.was) c.requires.stands.is))
+
+pub returns-clause-some : goal.returns-clause-some
+returns-clause-some g c = prev-some c.args.pool.now c.args.self.now (sym c.expand.ensures.value ∙ c.in_ok-root.was) c.prev.result c.prev.ensures.alone c.requires.first c.prev.ensures.some
+
+pub returns-clause-none : goal.returns-clause-none
+returns-clause-none g c = λ none. prev-none c.args.pool.now c.args.self.now (sym c.expand.ensures.value ∙ c.in_ok-root.was) c.requires.first (some-tested c.args.self.now.keys.now c.is_empty.result c.is_empty.ensures c.if-is_empty.false) (c.prev.ensures.none none)

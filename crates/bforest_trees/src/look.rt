@@ -1,0 +1,282 @@
+//! A place in a tree, to read at.
+ghost use Rattle.bforest_core.specs.Place.{entry_before};
+ghost use Rattle.bforest_core.specs.Trees.{IsUnion};
+ghost use Rattle.bforest_nodes.specs.Entries.{IsIncreasing, place, value_for};
+ghost use Rattle.bforest_trees.specs.Forest.{Forest, IsLive, list_of};
+ghost use Rattle.bforest_trees.specs.Looks.{AtLook, Holds, IsBehind, IsLook, IsPaired, LeafFrom, LeafUpTo};
+ghost use Rattle.std.specs.Prelude.{IfSome, None, Option, Some, length, min, slice_get, ◌+◌, ◌-◌, ◌<◌, ◌≡◌, ℕ};
+
+use crate::trees::Trees;
+use bforest_core::{Comparator, Node, NodePool, PackedNode, Spot};
+
+/// A place in the list of a handle, to read at: an entry, with the entries of its leaf as two slices, or the end, with none. A step inside
+/// a leaf reads the slices alone; the spot is for the steps from leaf to leaf.
+#[derive(Drop)]
+pub struct Look<'a, K: Copy, V: Copy> {
+    keys: &'a [K],
+    vals: &'a [V],
+    // The index of the entry in its leaf.
+    index: usize,
+    // The place of the leaf.
+    spot: Spot,
+}
+
+impl<'a, K: Copy, V: Copy> Look<'a, K, V> {
+    /// At the end.
+    #[inline(always)]
+    pub fn end() -> Look<'a, K, V>
+        ensures look { (table : Forest K V) (handle : Option ℕ)
+            → IsLook table handle result (length (list_of table handle)) }
+    {
+        Look {
+            keys: &[],
+            vals: &[],
+            index: 0,
+            spot: Spot::root(Node::new(0)),
+        }
+    }
+
+    // At the first entry of a leaf.
+    #[inline(always)]
+    fn enter<const N: usize>(spot: Spot, leaf: Node, pool: &'a NodePool<K, V, N>) -> Look<'a, K, V>
+        requires leaf { (handle : Option ℕ) × (start : ℕ) × LeafFrom pool.now handle spot leaf start }
+        ensures holds { (handle : Option ℕ) (start : ℕ) → LeafFrom pool.now handle spot leaf start
+            → Holds pool.now handle result start }
+        ensures count { (handle : Option ℕ) (start : ℕ) (from : LeafFrom pool.now handle spot leaf start)
+            → length result.keys.now ≡ length from.leaf.entries }
+        ensures index { result.index ≡ 0 }
+    {
+        let (keys, vals) = pool.node(leaf).unwrap_leaf();
+        Look {
+            keys,
+            vals,
+            index: 0,
+            spot,
+        }
+    }
+
+    /// The entry, or `None` at the end.
+    #[inline(always)]
+    pub fn entry(&self) -> Option<(K, V)>
+        requires paired { IsPaired self.now }
+        ensures value { (table : Forest K V) (handle : Option ℕ) (at : ℕ) → IsLook table handle self.now at
+            → result ≡ slice_get (list_of table handle) at }
+    {
+        if self.index < self.keys.len() {
+            Some(self.here())
+        } else {
+            None
+        }
+    }
+
+    // The entry, which is in the leaf that the look holds.
+    #[inline(always)]
+    fn here(&self) -> (K, V)
+        requires within { self.now.index < length self.now.keys.now }
+        requires paired { IsPaired self.now }
+        ensures key { slice_get self.now.keys.now self.now.index ≡ Some result.0 }
+        ensures value { slice_get self.now.vals.now self.now.index ≡ Some result.1 }
+    {
+        (self.keys[self.index], self.vals[self.index])
+    }
+
+    /// Goes to the first entry and returns it. In an empty list that is the end.
+    #[inline(always)]
+    pub fn first<const N: usize>(
+        &mut self,
+        handle: PackedNode,
+        trees: &'a Trees<K, V, N>,
+    ) -> Option<(K, V)>
+        requires live { IsLive trees.now handle }
+        ensures value { result ≡ slice_get (list_of trees.now handle) 0 }
+        ensures look { IsLook trees.now handle self.new 0 }
+    {
+        self.enter_first(handle, &trees.pool);
+        self.entry()
+    }
+
+    // Goes to the first entry, or to the end where there is none.
+    #[inline(always)]
+    fn enter_first<const N: usize>(&mut self, handle: PackedNode, pool: &'a NodePool<K, V, N>)
+        requires union { IsUnion N pool.now }
+        requires live { IsLive pool.now handle }
+        ensures look { IsLook pool.now handle self.new 0 }
+    {
+        match handle.expand() {
+            Some(root) => {
+                let (spot, leaf) = Spot::first(root, pool);
+                *self = Look::enter(spot, leaf, pool);
+            }
+            None => *self = Look::end(),
+        }
+    }
+
+    /// Goes to the next entry and returns it. From the last entry it goes to the end, where it returns `None` from then on.
+    #[inline(always)]
+    pub fn next<const N: usize>(
+        &mut self,
+        handle: PackedNode,
+        trees: &'a Trees<K, V, N>,
+    ) -> Option<(K, V)>
+        requires stands { AtLook trees.now handle self.old }
+        ensures value { (at : AtLook trees.now handle self.old)
+            → result ≡ slice_get (list_of trees.now handle) (at.place + 1) }
+        ensures look { (at : AtLook trees.now handle self.old)
+            → IsLook trees.now handle self.new (min (at.place + 1) (length (list_of trees.now handle))) }
+    {
+        if self.index + 1 < self.keys.len() {
+            self.index += 1;
+            return Some(self.here());
+        }
+        self.enter_next(handle, &trees.pool);
+        self.entry()
+    }
+
+    // Goes to the first entry of the next leaf, or to the end.
+    #[inline(always)]
+    fn enter_next<const N: usize>(&mut self, handle: PackedNode, pool: &'a NodePool<K, V, N>)
+        requires union { IsUnion N pool.now }
+        requires behind { (at : ℕ) × IsBehind pool.now handle self.old at }
+        ensures look { (at : ℕ) → IsBehind pool.now handle self.old at → IsLook pool.now handle self.new at }
+    {
+        match self.next_leaf(handle, pool) {
+            Some((spot, leaf)) => *self = Look::enter(spot, leaf, pool),
+            None => *self = Look::end(),
+        }
+    }
+
+    // The next leaf and its place, if there is one.
+    #[inline(always)]
+    fn next_leaf<const N: usize>(
+        &self,
+        handle: PackedNode,
+        pool: &NodePool<K, V, N>,
+    ) -> Option<(Spot, Node)>
+        requires union { IsUnion N pool.now }
+        requires behind { (at : ℕ) × IsBehind pool.now handle self.now at }
+        ensures some { IfSome result (λ found. (at : ℕ) → IsBehind pool.now handle self.now at
+            → LeafFrom pool.now handle found.0 found.1 at) }
+        ensures none { result ≡ None → (at : ℕ) → IsBehind pool.now handle self.now at
+            → at ≡ length (list_of pool.now handle) }
+    {
+        let root = handle.expand()?;
+        self.spot.next(root, pool)
+    }
+
+    /// Goes to the previous entry and returns it; from the end it goes to the last entry. At the first entry it stays and returns `None`.
+    #[inline(always)]
+    pub fn prev<const N: usize>(
+        &mut self,
+        handle: PackedNode,
+        trees: &'a Trees<K, V, N>,
+    ) -> Option<(K, V)>
+        requires live { IsLive trees.now handle }
+        requires stands { AtLook trees.now handle self.old }
+        ensures value { (at : AtLook trees.now handle self.old)
+            → result ≡ entry_before (list_of trees.now handle) at.place }
+        ensures look { (at : AtLook trees.now handle self.old)
+            → IsLook trees.now handle self.new (at.place - 1) }
+    {
+        if self.index > 0 {
+            self.index -= 1;
+            return Some(self.here());
+        }
+        self.enter_prev(handle, &trees.pool)
+    }
+
+    // Goes from the first entry of a leaf to the last of the leaf before, or from the end to the last of all, and returns it. At the first
+    // entry of all it stays.
+    #[inline(always)]
+    fn enter_prev<const N: usize>(
+        &mut self,
+        handle: PackedNode,
+        pool: &'a NodePool<K, V, N>,
+    ) -> Option<(K, V)>
+        requires union { IsUnion N pool.now }
+        requires live { IsLive pool.now handle }
+        requires stands { AtLook pool.now handle self.old }
+        requires first { self.old.index ≡ 0 }
+        ensures value { (at : AtLook pool.now handle self.old)
+            → result ≡ entry_before (list_of pool.now handle) at.place }
+        ensures look { (at : AtLook pool.now handle self.old)
+            → IsLook pool.now handle self.new (at.place - 1) }
+    {
+        let (spot, leaf) = self.leaf_before(handle, pool)?;
+        *self = Look::enter(spot, leaf, pool);
+        self.index = self.keys.len() - 1;
+        Some(self.here())
+    }
+
+    // The leaf before and its place, if there is one; from the end it is the last leaf.
+    #[inline(always)]
+    fn leaf_before<const N: usize>(
+        &self,
+        handle: PackedNode,
+        pool: &NodePool<K, V, N>,
+    ) -> Option<(Spot, Node)>
+        requires union { IsUnion N pool.now }
+        requires live { IsLive pool.now handle }
+        requires stands { AtLook pool.now handle self.now }
+        requires first { self.now.index ≡ 0 }
+        ensures some { IfSome result (λ found. (at : AtLook pool.now handle self.now)
+            → LeafUpTo pool.now handle found.0 found.1 at.place) }
+        ensures none { result ≡ None → (at : AtLook pool.now handle self.now) → at.place ≡ 0 }
+    {
+        let root = handle.expand()?;
+        if self.keys.is_empty() {
+            return Some(Spot::last(root, pool));
+        }
+        self.spot.prev(root, pool)
+    }
+
+    /// Goes to the place of a key, and returns its value.
+    #[inline(always)]
+    pub fn goto<const N: usize, C: Comparator<K>>(
+        &mut self,
+        handle: PackedNode,
+        trees: &'a Trees<K, V, N>,
+        key: K,
+        comp: &C,
+    ) -> Option<V>
+        requires live { IsLive trees.now handle }
+        requires increasing { IsIncreasing (C.order comp.now) (list_of trees.now handle) }
+        ensures value { result ≡ value_for (C.order comp.now) (list_of trees.now handle) key }
+        ensures look { IsLook trees.now handle self.new
+            (place (C.order comp.now) (list_of trees.now handle) key) }
+    {
+        match handle.expand() {
+            Some(root) => self.goto_under(root, &trees.pool, key, comp),
+            None => {
+                *self = Look::end();
+                None
+            }
+        }
+    }
+
+    // Goes to the place of a key in the list under a root, and returns its value.
+    #[inline(always)]
+    fn goto_under<const N: usize, C: Comparator<K>>(
+        &mut self,
+        root: Node,
+        pool: &'a NodePool<K, V, N>,
+        key: K,
+        comp: &C,
+    ) -> Option<V>
+        requires union { IsUnion N pool.now }
+        requires live { IsLive pool.now (Some root) }
+        requires increasing { IsIncreasing (C.order comp.now) (list_of pool.now (Some root)) }
+        ensures value { result ≡ value_for (C.order comp.now) (list_of pool.now (Some root)) key }
+        ensures look { IsLook pool.now (Some root) self.new
+            (place (C.order comp.now) (list_of pool.now (Some root)) key) }
+    {
+        let (spot, leaf) = Spot::find(key, root, pool, comp);
+        let (index, value) = pool.node(leaf).look_up(key, comp);
+        *self = Look::enter(spot, leaf, pool);
+        if index < self.keys.len() {
+            self.index = index;
+        } else {
+            self.enter_next(PackedNode::some(root), pool);
+        }
+        value
+    }
+}
