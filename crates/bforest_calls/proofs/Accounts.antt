@@ -43,16 +43,16 @@ module _ {K V : Type 0} where
   module _ (most : ℕ) (f f' : Forest K V) (h h' : Option ℕ) (es : List (K × V)) (a : AddsUp most f) (b : Becomes f h f' h' es) (fits : IsFitFor most (length es) (sizes_of f' h')) where
     fit-at-new : (n : ℕ) → IsFitFor most (length (list_at f' n)) (sizes_at f' n)
     fit-at-new n = elim (is-number n h') [
-        | inl new ↦ subst (λ o. IsFitFor most (length (list_of f' o)) (sizes_of f' o)) (sym new) (subst (λ l. IsFitFor most (length l) (sizes_of f' h')) (sym b.list) fits)
-        | inr not-new ↦ elim (is-number n h) [
-          | inl old ↦
-              let left : h' ≢ h = λ same. not-new (old ∙ sym same) in
-              let none : list_at f' n ≡ [] = ap (λ o. list_of f' o) old ∙ b.leaves left in
-              let no-sizes : sizes_at f' n ≡ [] = ap (λ o. sizes_of f' o) old ∙ b.leaves_sizes left in
-              subst (λ l. IsFitFor most (length l) (sizes_at f' n)) (sym none) (subst (λ s. IsFitFor most 0 s) (sym no-sizes) refl)
-          | inr not-old ↦ subst (λ l. IsFitFor most (length l) (sizes_at f' n)) (sym (b.others n not-old not-new)) (subst (λ s. IsFitFor most (length (list_at f n)) s) (sym (b.others_sizes n not-old not-new)) (a.fit n))
-        ]
+      | inl new ↦ subst (λ o. IsFitFor most (length (list_of f' o)) (sizes_of f' o)) (sym new) (subst (λ l. IsFitFor most (length l) (sizes_of f' h')) (sym b.list) fits)
+      | inr not-new ↦ elim (is-number n h) [
+        | inl old ↦
+            let left : h' ≢ h = λ same. not-new (old ∙ sym same) in
+            let none : list_at f' n ≡ [] = ap (λ o. list_of f' o) old ∙ b.leaves left in
+            let no-sizes : sizes_at f' n ≡ [] = ap (λ o. sizes_of f' o) old ∙ b.leaves_sizes left in
+            subst (λ l. IsFitFor most (length l) (sizes_at f' n)) (sym none) (subst (λ s. IsFitFor most 0 s) (sym no-sizes) refl)
+        | inr not-old ↦ subst (λ l. IsFitFor most (length l) (sizes_at f' n)) (sym (b.others n not-old not-new)) (subst (λ s. IsFitFor most (length (list_at f n)) s) (sym (b.others_sizes n not-old not-new)) (a.fit n))
       ]
+    ]
 
     same-nodes : (n : ℕ) → Some n ≢ h → Some n ≢ h' → nodes_at f' n ≡ nodes_at f n
     same-nodes n not-old not-new = ap node_count (b.others_sizes n not-old not-new)
@@ -70,14 +70,14 @@ module _ {K V : Type 0} where
       let zero-at = ap node_count (leaves (λ e. absurd (cc))) in
       omega (arith, upto-one (nodes_at f) (nodes_at f') bound none none' a (λ n ne. same n (λ e. ne (cc)) (λ e. absurd (cc))), zero-at)
   all-nodes f f' (Some a) (Some b) bound none none' leaves fresh same = elim (eqb_tells a b) [
-      | inl w ↦
-          let one = upto-one (nodes_at f) (nodes_at f') bound none none' a (λ n ne. same n (λ e. ne (cc)) (λ e. ne (let is : n ≡ b = cc in is ∙ sym w.1))) in
-          omega (arith, one, ap (nodes_at f') w.1)
-      | inr w ↦
-          let other : Some b ≢ Some a = λ e. w.1 (cc) in
-          let two = upto-two (nodes_at f) (nodes_at f') bound none none' a b w.1 (λ n ne ne'. same n (λ e. ne (cc)) (λ e. ne' (cc))) in
-          omega (arith, two, ap node_count (leaves other), ap node_count (fresh other))
-    ]
+    | inl w ↦
+        let one = upto-one (nodes_at f) (nodes_at f') bound none none' a (λ n ne. same n (λ e. ne (cc)) (λ e. ne (let is : n ≡ b = cc in is ∙ sym w.1))) in
+        omega (arith, one, ap (nodes_at f') w.1)
+    | inr w ↦
+        let other : Some b ≢ Some a = λ e. w.1 (cc) in
+        let two = upto-two (nodes_at f) (nodes_at f') bound none none' a b w.1 (λ n ne ne'. same n (λ e. ne (cc)) (λ e. ne' (cc))) in
+        omega (arith, two, ap node_count (leaves other), ap node_count (fresh other))
+  ]
 
 module _ {K V : Type 0} where
   -- no number from the number of slots on has a tree
@@ -174,9 +174,9 @@ module _ {K V : Type 0} where
 
     pub removes-at-add : (p : ℕ) → RemovesAt most f h p f' h' → AddsUp most f'
     removes-at-add p r = elim (leb_tells (suc p) (length (list_of f h))) [
-        | inl w ↦ removed p w.1 r.removed (r.sizes ∙ ap (λ t. if t then shrink most p (sizes_of f h) else sizes_of f h) w.0) r.account
-        | inr w ↦ still most f f' (r.end_forest (omega (arith, w.1))) a
-      ]
+      | inl w ↦ removed p w.1 r.removed (r.sizes ∙ ap (λ t. if t then shrink most p (sizes_of f h) else sizes_of f h) w.0) r.account
+      | inr w ↦ still most f f' (r.end_forest (omega (arith, w.1))) a
+    ]
 
     module _ (cmp : K → K → Ordering) (k : K) where
       pub removes-add : (result : Option V) → Removes most cmp f h k result f' h' → AddsUp most f'

@@ -45,28 +45,28 @@ module _ {K V : Type 0} (most : ℕ) (odd : most % 2 ≡ 1) where
   step-adds reads orders old (call.Get h c k) given new step a = elim step [ inl w ↦ same-forest old new w.1 a | inr w ↦ same-forest old new w.3.1 a ]
   step-adds reads orders old (call.GetOrLess h c k) given new step a = elim step [ inl w ↦ same-forest old new w.1 a | inr w ↦ same-forest old new w.3.1 a ]
   step-adds reads orders old (call.Insert h c k v) given new step a = elim step [
-      | inl w ↦ same-forest old new w.1 a
-      | inr w ↦ inserts-add most odd old.forest new.forest (number_at old h) w.3.2.0 a (order_at orders c) k v w.3.0 w.3.2.2
-    ]
+    | inl w ↦ same-forest old new w.1 a
+    | inr w ↦ inserts-add most odd old.forest new.forest (number_at old h) w.3.2.0 a (order_at orders c) k v w.3.0 w.3.2.2
+  ]
   step-adds reads orders old (call.Remove h c k) given new step a = elim step [
-      | inl w ↦ same-forest old new w.1 a
-      | inr w ↦ removes-add most odd old.forest new.forest (number_at old h) w.3.2.0 a (order_at orders c) k w.3.0 w.3.2.2
-    ]
+    | inl w ↦ same-forest old new w.1 a
+    | inr w ↦ removes-add most odd old.forest new.forest (number_at old h) w.3.2.0 a (order_at orders c) k w.3.0 w.3.2.2
+  ]
   step-adds reads orders old (call.Clear h) given new step a = elim step [
-      | inl w ↦ same-forest old new w.1 a
-      | inr w ↦ clears-add most odd old.forest new.forest (number_at old h) w.3.1.0 a w.3.1.2
-    ]
+    | inl w ↦ same-forest old new w.1 a
+    | inr w ↦ clears-add most odd old.forest new.forest (number_at old h) w.3.1.0 a w.3.1.2
+  ]
   step-adds reads orders old (call.Iter h) given new step a = elim step [ inl w ↦ same-forest old new w.1 a | inr w ↦ same-forest old new w.3.3 a ]
   step-adds true orders old (call.Read h c steps) given new step a = elim step [ inl w ↦ same-forest old new w.1 a | inr w ↦ same-forest old new w.3.1 a ]
   step-adds false orders old (call.Read h c steps) given new step a = same-forest old new (lacks-same _ old given new step) a
   step-adds reads orders old (call.Edit h c steps) given new step a = elim step [
-      | inl w ↦ same-forest old new w.1 a
-      | inr w ↦ script-adds (order_at orders c) (held_at old h) _ steps.items w.3.0.items (record { forest = new.forest; number = w.3.2.0 }) w.3.2.2.0 w.3.2.2.1 a
-    ]
+    | inl w ↦ same-forest old new w.1 a
+    | inr w ↦ script-adds (order_at orders c) (held_at old h) _ steps.items w.3.0.items (record { forest = new.forest; number = w.3.2.0 }) w.3.2.2.0 w.3.2.2.1 a
+  ]
   step-adds reads orders old (call.Range h c lo hi ends) given new step a = elim step [ inl w ↦ same-forest old new w.1 a | inr w ↦ same-forest old new w.3.1 a ]
   step-adds reads orders old (call.Retain h c keys put) given new step a = elim step [
-      | inl w ↦ same-forest old new w.1 a
-      | inr w ↦ filters-add most odd old.forest new.forest (number_at old h) w.3.1.0 a (KeepsIf (order_at orders c) keys.items put) tt w.3.1.2
-    ]
+    | inl w ↦ same-forest old new w.1 a
+    | inr w ↦ filters-add most odd old.forest new.forest (number_at old h) w.3.1.0 a (KeepsIf (order_at orders c) keys.items put) tt w.3.1.2
+  ]
   step-adds reads orders old (call.Alias from to) given new step a = elim step [ inl w ↦ same-forest old new w.1 a | inr w ↦ still most old.forest new.forest (ap (λ s. s.forest) w.3.1) a ]
   step-adds reads orders old call.ForestClear given new step a = still most _ new.forest (ap (λ s. s.forest) step.1) (none-adds most (limit_of old.forest))

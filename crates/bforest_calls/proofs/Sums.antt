@@ -15,9 +15,9 @@ upto-suc g k = omega (arith, sum_by-append g (numbers_below k) (k ∷ []), sum_b
 pub upto-more : (g : ℕ → ℕ) (k bound : ℕ) → ((n : ℕ) → k ≤ n → g n ≡ 0) → k ≤ bound → upto g bound ≡ upto g k
 upto-more g k zero none more = let is : 0 ≡ k = omega (arith, more) in ap (upto g) is
 upto-more g k (suc bound) none more = elim (leb_tells k bound) [
-    | inl w ↦ omega (arith, upto-suc g bound, upto-more g k bound none w.1, none bound w.1)
-    | inr w ↦ let is : suc bound ≡ k = omega (arith, w.1, more) in ap (upto g) is
-  ]
+  | inl w ↦ omega (arith, upto-suc g bound, upto-more g k bound none w.1, none bound w.1)
+  | inr w ↦ let is : suc bound ≡ k = omega (arith, w.1, more) in ap (upto g) is
+]
 
 -- where no number below the bound changed
 upto-same : (g h : ℕ → ℕ) (k : ℕ) → ((n : ℕ) → n < k → h n ≡ g n) → upto h k ≡ upto g k
@@ -28,16 +28,16 @@ upto-same g h (suc k) same = omega (arith, upto-suc g k, upto-suc h k, upto-same
 one-below : (g h : ℕ → ℕ) (a k : ℕ) → ((n : ℕ) → n ≢ a → h n ≡ g n) → a < k → upto h k + g a ≡ upto g k + h a
 one-below g h a zero same within = absurd (omega (arith, within))
 one-below g h a (suc k) same within = elim (eqb_tells a k) [
-    | inl w ↦ omega (arith, upto-suc g k, upto-suc h k, ap g w.1, ap h w.1, upto-same g h k (λ n less. same n (λ is. absurd (omega (arith, less, is, w.1)))))
-    | inr w ↦ omega (arith, upto-suc g k, upto-suc h k, same k (λ is. w.1 (sym is)), one-below g h a k same (omega (arith, within, w.1)))
-  ]
+  | inl w ↦ omega (arith, upto-suc g k, upto-suc h k, ap g w.1, ap h w.1, upto-same g h k (λ n less. same n (λ is. absurd (omega (arith, less, is, w.1)))))
+  | inr w ↦ omega (arith, upto-suc g k, upto-suc h k, same k (λ is. w.1 (sym is)), one-below g h a k same (omega (arith, within, w.1)))
+]
 
 module _ (g h : ℕ → ℕ) (k : ℕ) (none : (n : ℕ) → k ≤ n → g n ≡ 0) (none' : (n : ℕ) → k ≤ n → h n ≡ 0) where
   pub upto-one : (a : ℕ) → ((n : ℕ) → n ≢ a → h n ≡ g n) → upto h k + g a ≡ upto g k + h a
   upto-one a same = elim (leb_tells (suc a) k) [
-      | inl w ↦ one-below g h a k same w.1
-      | inr w ↦ omega (arith, upto-same g h k (λ n less. same n (λ is. absurd (omega (arith, less, is, w.1)))), none a (omega (arith, w.1)), none' a (omega (arith, w.1)))
-    ]
+    | inl w ↦ one-below g h a k same w.1
+    | inr w ↦ omega (arith, upto-same g h k (λ n less. same n (λ is. absurd (omega (arith, less, is, w.1)))), none a (omega (arith, w.1)), none' a (omega (arith, w.1)))
+  ]
 
 -- two numbers changed
 pub upto-two : (g h : ℕ → ℕ) (k : ℕ) → ((n : ℕ) → k ≤ n → g n ≡ 0) → ((n : ℕ) → k ≤ n → h n ≡ 0) → (a b : ℕ) → a ≢ b → ((n : ℕ) → n ≢ a → n ≢ b → h n ≡ g n) → upto h k + g a + g b ≡ upto g k + h a + h b

@@ -1,5 +1,7 @@
 pub mod BothEnds
 pub mod Changing
+pub mod Ending
 pub mod Ranges
+pub mod Reserved
 pub mod Stepping
 pub mod Thinned

@@ -34,6 +34,25 @@ fn an_iterator_ends_once(rt: HostRuntime) {
 }
 
 #[test]
+fn an_iterator_that_owns_its_forest_ends_for_good(rt: HostRuntime) {
+    let mut forest: NumberForest = MapForest::new(rt.alloc());
+    let mut map = Map::new();
+    for key in 1..=36u32 {
+        assert_eq!(rt;
+            insert(&rt, &mut map, (key, key), &mut forest, &()),
+            Ok(None)
+        );
+    }
+    assert!(rt; forest.holds(&map));
+    let mut entries = map.into_iter(forest);
+    for key in 1..=36u32 {
+        assert_eq!(rt; entries.next(), Some((key, key)));
+    }
+    assert_eq!(rt; entries.next(), None);
+    assert_eq!(rt; entries.next(), None);
+}
+
+#[test]
 fn an_empty_map_takes_no_node(rt: HostRuntime) {
     let forest: NumberForest = MapForest::new(rt.alloc());
     let map: Numbers = Map::default();

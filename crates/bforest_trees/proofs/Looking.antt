@@ -335,9 +335,9 @@ module _ {K V : Type 0} {table : Table K V} {handle : Option ℕ} {spot : Spot} 
 -- a place that is the first is also the one before
 pub stays : {K V : Type 0} {table : Table K V} {handle : Option ℕ} {look : Look K V} (at : AtLook table handle look) → at.place ≡ 0 → IsLook table handle look (at.place - 1)
 stays {table = table} {handle = handle} {look = look} at first = (
-  let is : at.place ≡ at.place - 1 = omega (arith, first) in
-  subst (IsLook table handle look) is at.is
-  )
+    let is : at.place ≡ at.place - 1 = omega (arith, first) in
+    subst (IsLook table handle look) is at.is
+    )
 
 -- a look that holds the leaf of a spot
 pub holds-leaf : {K V : Type 0} {table : Table K V} {handle : Option ℕ} {number start : ℕ} {content : Content K V} {look : Look K V} → LeafFrom table handle look.spot number start → slice_get table.nodes number ≡ Some content → content ≡ Leaf look.keys.now look.vals.now → Holds table handle look start

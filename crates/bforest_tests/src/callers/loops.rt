@@ -4,7 +4,7 @@ ghost use Rattle.bforest.specs.Forest.{Becomes, IsLive, list_of};
 ghost use Rattle.bforest.specs.Memory.{IsReadable};
 ghost use Rattle.bforest.specs.Entries.{IsIncreasing, value_at_place, with_value};
 ghost use Rattle.bforest_tests.specs.Walks.{every_other, joined};
-ghost use Rattle.std.specs.Prelude.{IfOk, Some, length, min, remove, reverse, true, ◌++◌, ◌-◌, ◌<◌, ◌^◌, ◌≡◌};
+ghost use Rattle.std.specs.Prelude.{IfOk, Some, length, remove, reverse, ◌++◌, ◌-◌, ◌<◌, ◌≡◌};
 
 use bforest::{Comparator, Map, MapCursor, MapCursorMut, MapForest, MapRange};
 use std::alloc::{AllocError, Global};
@@ -104,20 +104,6 @@ fn extend<K: Copy, C: Comparator<K>>(cursor: &mut MapCursorMut<K, K, C>, end: K)
     if let Some(value) = cursor.value_mut() {
         *value = end;
     }
-}
-
-/// Reads all entries of a map that owns its forest, and asks once more behind the last: all are counted, and then there is none.
-pub fn count_owned<K: Copy, V: Copy>(map: Map<K, V>, forest: MapForest<K, V>) -> (usize, bool)
-    requires live { IsLive forest map }
-    ensures count { result.0 ≡ min (length (list_of forest map)) (2 ^ 64 - 1) }
-    ensures ended { result.1 ≡ true }
-{
-    let mut entries = map.into_iter(forest);
-    let mut count = 0usize;
-    while entries.next().is_some() {
-        count = count.saturating_add(1);
-    }
-    (count, entries.next().is_none())
 }
 
 /// Goes on until a cursor has no key: then it is at the end.
