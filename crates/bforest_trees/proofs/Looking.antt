@@ -1,7 +1,7 @@
 -- A look at a place of a handle's list, and its steps.
 use Rattle.bforest_trees.proofs.Changed.{list-root}
 use Rattle.bforest_trees.specs.Forest.{list_of}
-use Rattle.bforest_trees.specs.Looks.{AtLook, HasNoLeaf, Holds, IsBehind, IsLook, IsPaired, LeafFrom, LeafUpTo, look_place, place_held, start_of}
+use Rattle.bforest_trees.specs.Looks.{AtLook, HasNoLeaf, Holds, HoldsPlace, IsBehind, IsLook, IsPaired, LeafFrom, LeafUpTo, look_place, place_held, start_of}
 use Rattle.bforest_trees.specs.declared.look.Look.{Look}
 use Rattle.bforest_core.proofs.rows.LevelRows.{flat-append}
 use Rattle.bforest_core.proofs.table.Lists.{slice_get-append_left}
@@ -346,9 +346,9 @@ module _ {K V : Type 0} {table : Table K V} {handle : Option ℕ} {spot : Spot} 
 -- a place that is the first is also the one before
 pub stays : {K V : Type 0} {table : Table K V} {handle : Option ℕ} {look : Look K V} (at : AtLook table handle look) → at.place ≡ 0 → IsLook table handle look (at.place - 1)
 stays {table = table} {handle = handle} {look = look} at first = (
-  let is : at.place ≡ at.place - 1 = omega (arith, first) in
-  subst (IsLook table handle look) is at.is
-  )
+    let is : at.place ≡ at.place - 1 = omega (arith, first) in
+    subst (IsLook table handle look) is at.is
+    )
 
 -- what is read by the number of a spot's leaf
 module _ {K V : Type 0} {table : Table K V} {handle : Option ℕ} {spot : Spot} {number start : ℕ} (f : LeafFrom table handle spot number start) {content : Content K V} (found : slice_get table.nodes number ≡ Some content) where
@@ -410,10 +410,16 @@ module _ {K V : Type 0} {cmp : K → K → Ordering} (table : Table K V) (root :
         held : Holds table (Some root) look search-start
         held = holds (Some root) search-start from-search
 
-        pub searched-look : index < length look.keys.now → IsLook table (Some root) (record look { index = index }) (place cmp (list_of table (Some root)) key)
-        searched-look low = on-entry held index (place cmp (list_of table (Some root)) key) low searched-place
-
-        pub searched-behind : length look.keys.now ≤ index → IsBehind table (Some root) look (place cmp (list_of table (Some root)) key)
-        searched-behind past =
+        pub searched-index : HoldsPlace table (Some root) look index (place cmp (list_of table (Some root)) key)
+        searched-index =
             let most = count_by-le-length (λ e. is_lt (cmp e.0 key)) s.leaf.entries in
-            inl (record { start = search-start; holds = held; place_is = omega (arith, searched-place, told.0, most, count (Some root) search-start from-search, past) })
+            record { start = search-start; holds = held; within = omega (arith, told.0, most, count (Some root) search-start from-search); place_is = searched-place }
+
+module _ {K V : Type 0} {table : Table K V} {handle : Option ℕ} {look : Look K V} {index place : ℕ} (h : HoldsPlace table handle look index place) where
+  -- a look goes to a place in its leaf
+  pub place-look : index < length look.keys.now → IsLook table handle (record look { index = index }) place
+  place-look low = on-entry h.holds index place low h.place_is
+
+  -- a place that is in no entry of the leaf is behind the leaf
+  pub place-behind : length look.keys.now ≤ index → IsBehind table handle look place
+  place-behind past = inl (record { start = h.start; holds = h.holds; place_is = omega (arith, h.place_is, h.within, past) })

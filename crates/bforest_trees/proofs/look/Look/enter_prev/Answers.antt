@@ -15,21 +15,21 @@ enter-requires g c = (search rules, (c.args.handle, (c.in_ok-spot.ensures.some c
 
 pub overflow_sub-self : goal.overflow_sub-self
 overflow_sub-self g c = (
-  let u = c.in_ok-spot.ensures.some c.requires.stands in
-  last-some u (c.enter.ensures.holds c.args.handle u.start u.from) (c.enter.ensures.count c.args.handle u.start u.from)
-  )
+    let u = c.in_ok-spot.ensures.some c.requires.stands in
+    last-some u (c.enter.ensures.holds c.args.handle u.start u.from) (c.enter.ensures.count c.args.handle u.start u.from)
+    )
 
 pub here-requires-clause-within : goal.here-requires-clause-within
 here-requires-clause-within g c = (
-  let u = c.in_ok-spot.ensures.some c.requires.stands in
-  omega (arith, last-some u (c.enter.ensures.holds c.args.handle u.start u.from) (c.enter.ensures.count c.args.handle u.start u.from))
-  )
+    let u = c.in_ok-spot.ensures.some c.requires.stands in
+    omega (arith, last-some u (c.enter.ensures.holds c.args.handle u.start u.from) (c.enter.ensures.count c.args.handle u.start u.from))
+    )
 
 pub here-requires-clause-paired : goal.here-requires-clause-paired
 here-requires-clause-paired g c = (
-  let u = c.in_ok-spot.ensures.some c.requires.stands in
-  held-paired (c.enter.ensures.holds c.args.handle u.start u.from)
-  )
+    let u = c.in_ok-spot.ensures.some c.requires.stands in
+    held-paired (c.enter.ensures.holds c.args.handle u.start u.from)
+    )
 
 pub returns-clause-value : goal.returns-clause-value
 returns-clause-value g c = λ at.
