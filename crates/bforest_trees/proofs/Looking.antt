@@ -1,7 +1,7 @@
 -- A look at a place of a handle's list, and its steps.
 use Rattle.bforest_trees.proofs.Changed.{list-root}
 use Rattle.bforest_trees.specs.Forest.{list_of}
-use Rattle.bforest_trees.specs.Looks.{AtLook, HasNoLeaf, Holds, IsBehind, IsLook, IsPaired, LeafFrom, LeafUpTo, look_place, place_held, start_of}
+use Rattle.bforest_trees.specs.Looks.{AtLook, HasNoLeaf, Holds, HoldsPlace, IsBehind, IsLook, IsPaired, LeafFrom, LeafUpTo, look_place, place_held, start_of}
 use Rattle.bforest_trees.specs.declared.look.Look.{Look}
 use Rattle.bforest_core.proofs.rows.LevelRows.{flat-append}
 use Rattle.bforest_core.proofs.table.Lists.{slice_get-append_left}
@@ -13,7 +13,7 @@ use Rattle.bforest_core.proofs.walks.Steps.{read}
 use Rattle.bforest_core.specs.Leaves.{SearchEndsAt}
 use Rattle.bforest_core.specs.Levels.{LevelNode, flat, node}
 use Rattle.bforest_core.specs.Paths.{list_under}
-use Rattle.bforest_core.specs.Place.{entry_before, leaf_content}
+use Rattle.bforest_core.specs.Place.{entry_before, entry_items, entry_keys, leaf_content}
 use Rattle.bforest_core.specs.Spots.{HasNoParent, IsLeafAt, IsSpotAt, leaf_count, leaf_place}
 use Rattle.bforest_core.specs.Table.{Table}
 use Rattle.bforest_core.specs.Trees.{tree_of}
@@ -216,6 +216,17 @@ module _ {K V : Type 0} {table : Table K V} {handle : Option ℕ} {look : Look K
       | inr end ↦ absurd (omega (arith, more, end.none.index))
     ]
 
+-- with no tree, each place is the end
+module _ {K V : Type 0} {table : Table K V} {handle : Option ℕ} {look : Look K V} (none : handle ≡ None) where
+  holds-none : {start : ℕ} → Holds table handle look start → ⊥
+  holds-none h = absurd (let bad = sym none ∙ h.from.handle_is in cc)
+
+  pub behind-none : (at : ℕ) → IsBehind table handle look at → at ≡ length (list_of table handle)
+  behind-none at b = elim b [ inl past ↦ absurd (holds-none past.holds) | inr end ↦ end.place_is ]
+
+  pub look-none : (at : AtLook table handle look) → at.place ≡ 0
+  look-none at = elim at.is [ inl on ↦ absurd (holds-none on.holds) | inr end ↦ end.place_is ∙ ap (λ h. length (list_of table h)) none ]
+
 -- a read past the end is one at the end
 pub read-min : {X : Type 0} (xs : List X) (p : ℕ) → slice_get xs (min p (length xs)) ≡ slice_get xs p
 read-min xs p = elim (cases_lt p (length xs)) [
@@ -339,11 +350,24 @@ stays {table = table} {handle = handle} {look = look} at first = (
     subst (IsLook table handle look) is at.is
     )
 
+-- what is read by the number of a spot's leaf
+module _ {K V : Type 0} {table : Table K V} {handle : Option ℕ} {spot : Spot} {number start : ℕ} (f : LeafFrom table handle spot number start) {content : Content K V} (found : slice_get table.nodes number ≡ Some content) where
+  pub leaf-read : IsLeaf content
+  leaf-read = subst IsLeaf (read_same table.nodes number content (leaf_content f.leaf.entries) found f.leaf.slot_is) tt
+
+  module _ {keys : List K} {vals : List V} (is : content ≡ Leaf keys vals) where
+    keys-read : keys ≡ entry_keys f.leaf.entries
+    keys-read = sym (ap keys_of is) ∙ sym (ap keys_of (read_same table.nodes number content (leaf_content f.leaf.entries) found f.leaf.slot_is))
+
+    pub count-read : length keys ≡ length f.leaf.entries
+    count-read = ap length keys-read ∙ length-map f.leaf.entries (λ e. e.0)
+
+    vals-read : vals ≡ entry_items f.leaf.entries
+    vals-read = sym (ap vals_of is) ∙ sym (ap vals_of (read_same table.nodes number content (leaf_content f.leaf.entries) found f.leaf.slot_is))
+
 -- a look that holds the leaf of a spot
 pub holds-leaf : {K V : Type 0} {table : Table K V} {handle : Option ℕ} {number start : ℕ} {content : Content K V} {look : Look K V} → LeafFrom table handle look.spot number start → slice_get table.nodes number ≡ Some content → content ≡ Leaf look.keys.now look.vals.now → Holds table handle look start
-holds-leaf {table = table} {number = number} {content = content} f found is =
-    let same = read_same table.nodes number content (leaf_content f.leaf.entries) found f.leaf.slot_is in
-    record { number = number; from = f; keys = sym (ap keys_of is) ∙ sym (ap keys_of same); vals = sym (ap vals_of is) ∙ sym (ap vals_of same) }
+holds-leaf {number = number} f found is = record { number = number; from = f; keys = keys-read f found is; vals = vals-read f found is }
 
 -- the first leaf begins the list
 pub from-first : {K V : Type 0} {table : Table K V} {handle : Option ℕ} {root number : ℕ} {spot : Spot} → handle ≡ Some root → IsSpotAt table root spot 0 → IsLeafAt table root 0 number → LeafFrom table handle spot number 0
@@ -386,10 +410,16 @@ module _ {K V : Type 0} {cmp : K → K → Ordering} (table : Table K V) (root :
         held : Holds table (Some root) look search-start
         held = holds (Some root) search-start from-search
 
-        pub searched-look : index < length look.keys.now → IsLook table (Some root) (record look { index = index }) (place cmp (list_of table (Some root)) key)
-        searched-look low = on-entry held index (place cmp (list_of table (Some root)) key) low searched-place
-
-        pub searched-behind : length look.keys.now ≤ index → IsBehind table (Some root) look (place cmp (list_of table (Some root)) key)
-        searched-behind past =
+        pub searched-index : HoldsPlace table (Some root) look index (place cmp (list_of table (Some root)) key)
+        searched-index =
             let most = count_by-le-length (λ e. is_lt (cmp e.0 key)) s.leaf.entries in
-            inl (record { start = search-start; holds = held; place_is = omega (arith, searched-place, told.0, most, count (Some root) search-start from-search, past) })
+            record { start = search-start; holds = held; within = omega (arith, told.0, most, count (Some root) search-start from-search); place_is = searched-place }
+
+module _ {K V : Type 0} {table : Table K V} {handle : Option ℕ} {look : Look K V} {index place : ℕ} (h : HoldsPlace table handle look index place) where
+  -- a look goes to a place in its leaf
+  pub place-look : index < length look.keys.now → IsLook table handle (record look { index = index }) place
+  place-look low = on-entry h.holds index place low h.place_is
+
+  -- a place that is in no entry of the leaf is behind the leaf
+  pub place-behind : length look.keys.now ≤ index → IsBehind table handle look place
+  place-behind past = inl (record { start = h.start; holds = h.holds; place_is = omega (arith, h.place_is, h.within, past) })

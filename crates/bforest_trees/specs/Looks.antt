@@ -8,7 +8,7 @@ use Rattle.bforest_core.specs.declared.spot.Spot.{Spot}
 use Rattle.bforest_trees.specs.Forest.{list_of}
 use Rattle.bforest_trees.specs.declared.look.Look.{Look}
 use Rattle.std.proofs.Math.Logic.{◌⊎◌}
-use Rattle.std.specs.Prelude.{List, None, Option, Some, [], length, take, ◌+◌, ◌<◌, ◌∷◌, ◌≡◌, ℕ}
+use Rattle.std.specs.Prelude.{List, None, Option, Some, [], length, take, ◌+◌, ◌<◌, ◌∷◌, ◌≡◌, ◌≤◌, ℕ}
 
 module _ {K X : Type 0} where
   -- how many entries are in front of the leaf at this place of the leaves of the tree under a root
@@ -36,6 +36,13 @@ module _ {K X : Type 0} where
     pub from : LeafFrom table handle look.spot number start
     pub keys : look.keys.now ≡ entry_keys from.leaf.entries
     pub vals : look.vals.now ≡ entry_items from.leaf.entries
+
+  -- this place of the handle's list is at an index in the leaf that a look holds, or behind the leaf's entries
+  pub record HoldsPlace (table : Table K X) (handle : Option ℕ) (look : Look K X) (index place : ℕ) : Type 0 where
+    pub start : ℕ
+    pub holds : Holds table handle look start
+    pub within : index ≤ length look.keys.now
+    pub place_is : place ≡ start + index
 
   -- a look has no leaf, and so no entries
   pub record HasNoLeaf (look : Look K X) : Type 0 where

@@ -3,7 +3,7 @@ ghost use Rattle.bforest_core.specs.Place.{entry_before};
 ghost use Rattle.bforest_core.specs.Trees.{IsUnion};
 ghost use Rattle.bforest_nodes.specs.Entries.{IsIncreasing, place, value_for};
 ghost use Rattle.bforest_trees.specs.Forest.{Forest, IsLive, list_of};
-ghost use Rattle.bforest_trees.specs.Looks.{AtLook, Holds, IsBehind, IsLook, IsPaired, LeafFrom, LeafUpTo};
+ghost use Rattle.bforest_trees.specs.Looks.{AtLook, Holds, HoldsPlace, IsBehind, IsLook, IsPaired, LeafFrom, LeafUpTo};
 ghost use Rattle.std.specs.Prelude.{IfSome, None, Option, Some, length, min, slice_get, ◌+◌, ◌-◌, ◌<◌, ◌≡◌, ℕ};
 
 use crate::trees::Trees;
@@ -269,14 +269,33 @@ impl<'a, K: Copy, V: Copy> Look<'a, K, V> {
         ensures look { IsLook pool.now (Some root) self.new
             (place (C.order comp.now) (list_of pool.now (Some root)) key) }
     {
-        let (spot, leaf) = Spot::find(key, root, pool, comp);
-        let (index, value) = pool.node(leaf).look_up(key, comp);
-        *self = Look::enter(spot, leaf, pool);
+        let (index, value) = self.enter_at(root, pool, key, comp);
         if index < self.keys.len() {
             self.index = index;
         } else {
             self.enter_next(PackedNode::some(root), pool);
         }
         value
+    }
+
+    // Goes to the first entry of the leaf in which a search for a key ends, and returns the key's index there and its value.
+    #[inline(always)]
+    fn enter_at<const N: usize, C: Comparator<K>>(
+        &mut self,
+        root: Node,
+        pool: &'a NodePool<K, V, N>,
+        key: K,
+        comp: &C,
+    ) -> (usize, Option<V>)
+        requires union { IsUnion N pool.now }
+        requires live { IsLive pool.now (Some root) }
+        requires increasing { IsIncreasing (C.order comp.now) (list_of pool.now (Some root)) }
+        ensures value { result.1 ≡ value_for (C.order comp.now) (list_of pool.now (Some root)) key }
+        ensures index { HoldsPlace pool.now (Some root) self.new result.0
+            (place (C.order comp.now) (list_of pool.now (Some root)) key) }
+    {
+        let (spot, leaf) = Spot::find(key, root, pool, comp);
+        *self = Look::enter(spot, leaf, pool);
+        pool.node(leaf).look_up(key, comp)
     }
 }

@@ -1,8 +1,14 @@
 use Rattle.std.proofs.Common.{Option, rules, subst, sym, ◌∙◌, ℕ}
 use Rattle.bforest_trees.proofs.Changed.{live-root}
-use Rattle.bforest_trees.proofs.Looking.{last-up-to, none-tested, prev-asks, prev-none, prev-some, some-tested}
+use Rattle.bforest_trees.proofs.Looking.{last-up-to, look-none, none-tested, prev-asks, prev-none, prev-some, some-tested}
 use Rattle.bforest_trees.specs.Forest.{IsLive}
 use Rattle.bforest_trees.proofs.look.Look.leaf_before.Goals as goal
+
+pub returns-in_err-root-clause-none : goal.returns-in_err-root-clause-none
+returns-in_err-root-clause-none g c = λ none. look-none (sym c.expand.ensures.value ∙ c.in_err-root.was)
+
+pub returns-then-is_empty-clause-none : goal.returns-then-is_empty-clause-none
+returns-then-is_empty-clause-none g c = λ none. absurd (cc)
 
 pub last-requires : goal.last-requires
 last-requires g c = (search rules, (c.requires.union, live-root c.args.pool.now c.in_ok-root.root (subst (λ (h : Option ℕ). IsLive c.args.pool.now h) (sym c.expand.ensures.value ∙ c.in_ok-root.was) c.requires.live)))

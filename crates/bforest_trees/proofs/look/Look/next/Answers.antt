@@ -4,6 +4,12 @@ use Rattle.bforest_trees.specs.Forest.{list_of}
 use Rattle.bforest_trees.specs.Looks.{AtLook}
 use Rattle.bforest_trees.proofs.look.Look.next.Goals as goal
 
+pub here-requires-clause-paired : goal.here-requires-clause-paired
+here-requires-clause-paired g c = paired c.requires.stands.is
+
+pub here-requires-clause-within : goal.here-requires-clause-within
+here-requires-clause-within g c = c.if-self.true
+
 pub returns-then-self-clause-value : goal.returns-then-self-clause-value
 returns-then-self-clause-value g c = λ at. step-value at.is c.if-self.true c.here.result c.here.ensures.key c.here.ensures.value
 

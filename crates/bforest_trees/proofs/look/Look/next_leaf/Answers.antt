@@ -1,6 +1,9 @@
 use Rattle.std.proofs.Common.{rules, sym, ◌∙◌}
-use Rattle.bforest_trees.proofs.Looking.{next-asks, next-none, next-some}
+use Rattle.bforest_trees.proofs.Looking.{behind-none, next-asks, next-none, next-some}
 use Rattle.bforest_trees.proofs.look.Look.next_leaf.Goals as goal
+
+pub returns-in_err-root-clause-none : goal.returns-in_err-root-clause-none
+returns-in_err-root-clause-none g c = λ none. behind-none (sym c.expand.ensures.value ∙ c.in_err-root.was)
 
 pub next-requires : goal.next-requires
 next-requires g c = (search rules, (c.requires.union, next-asks c.args.pool.now c.args.self.now (sym c.expand.ensures.value ∙ c.in_ok-root.was) c.requires.behind.1))
