@@ -10,7 +10,7 @@ module _ {A B : Type 0} (f : A → B) where
   inside (e ∷ es) zero some = omega arith
   inside (e ∷ es) (suc p) some = omega (arith, inside es p some)
 
-  -- and one that has none is not
+  -- a place that has no element is behind the list
   past : (es : List A) (p : ℕ) → is_some (option_map f (slice_get es p)) ≡ false → length es ≤ p
   past [] p none = omega arith
   past (e ∷ es) zero none = absurd (cc)
