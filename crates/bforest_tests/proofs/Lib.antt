@@ -2,6 +2,6 @@ pub mod BothEnds
 pub mod Changing
 pub mod Ending
 pub mod Ranges
-pub mod Reserved
+pub mod AfterReserving
 pub mod Stepping
 pub mod Thinned

@@ -1,5 +1,5 @@
 use Rattle.bforest.specs.Entries.{IsIncreasing}
-use Rattle.bforest_tests.proofs.Reserved.{not-refused, same-list, same-need, still-live}
+use Rattle.bforest_tests.proofs.AfterReserving.{not-refused, same-list, same-need, still-live}
 use Rattle.bforest_tests.proofs.callers.sets.insert_reserved.Goals as goal
 use Rattle.std.proofs.Common.{arith, rules, subst, sym}
 
