@@ -1,11 +1,11 @@
 -- The descent to the first entry and to the last: the answers of `descend_first` and `descend_last`.
-use Rattle.std.proofs.Common.{◌≡◌, ℕ, zero, suc, ◌+◌, ◌-◌, ◌≤◌, ◌<◌, List, [], ◌∷◌, ◌++◌, length, get_or, set, slice_get, Some, refl, sym, ap, subst, ◌∙◌, arith, length-append}
-use Rattle.bforest_core.proofs.Words.{length-map, nil_from_length, Content, IsInner, entry_count, children_of, LevelNode, node, flat, Tree, half_of, leaf_content, inner_content, entry_items, IsAt, Stands, StandsTo, SameAbove, Under, Led, LedLast}
+use Rattle.std.proofs.Common.{◌≡◌, ◌≢◌, ℕ, zero, suc, ◌+◌, ◌-◌, ◌≤◌, ◌<◌, List, [], ◌∷◌, ◌++◌, drop, length, get_or, set, slice_get, Some, refl, sym, ap, subst, ◌∙◌, arith, length-append}
+use Rattle.bforest_core.proofs.Words.{length-map, nil_from_length, Content, Inner, IsInner, entry_count, children_of, LevelNode, node, flat, Tree, half_of, leaf_content, inner_content, entry_items, entry_keys, IsAt, Stands, StandsTo, SameAbove, Under, Led, LedLast}
 use Rattle.bforest_core.proofs.rows.LevelRows.{flat-append}
 use Rattle.bforest_core.proofs.table.Stored.{some_same, item_count}
-use Rattle.bforest_core.proofs.walks.Downward.{Seen, at_node, stands_more, stands_same}
+use Rattle.bforest_core.proofs.walks.Downward.{Seen, stands_more}
 use Rattle.bforest_core.proofs.walks.Steps.{no_heads}
-use Rattle.bforest_core.proofs.walks.TopNode.{SameBut, none_flat, flat_parted, seen_at, set_but, LeafUnder, InnerUnder, leaf_under, inner_under}
+use Rattle.bforest_core.proofs.walks.TopNode.{SameBut, none_flat, flat_parted, seen_at, set_but, LeafUnder, InnerUnder, inner_at, inner_under, leaf_at}
 use Rattle.bforest_core.proofs.walks.Whole.{stands_above}
 
 -- the path stands at a place of the leaves, and on the rows up to this node of the top; above it is unchanged
@@ -39,17 +39,18 @@ module _ {K V : Type 0} (most : ℕ) (slots : List (Content K V)) (leaves : List
         entries_above = λ i low. entries i (λ z. omega (arith, z, low));
       })
 
-  -- the path leads on from a child of an inner node
-  inner_led : (s : InnerUnder most slots leaves lower a first number b) (path1 indices1 path2 indices2 : List ℕ) (high index place top : ℕ) → high ≡ suc (length s.rows) → index ≤ length s.at.es → top ≡ length (flat s.at.before) + index → LedTo leaves s.rows place top path indices path1 indices1 → get_or path2 high 0 ≡ number → get_or indices2 high 0 ≡ index →
-      SameBut high path1 path2 → SameBut high indices1 indices2 → LedTo leaves lower place (length a) path indices path2 indices2
+  -- the path, once it was written at an inner node, leads on from a child
+  inner_led : (s : InnerUnder most slots leaves lower a first number b) (path1 indices1 path2 indices2 : List ℕ) (high index place top : ℕ) → high ≡ suc (length s.rows) → index ≤ length s.at.es → top ≡ length (flat s.at.before) + index → LedTo leaves s.rows place top path1 indices1 path2 indices2 → get_or path1 high 0 ≡ number → get_or indices1 high 0 ≡ index →
+      SameBut high path path1 → SameBut high indices indices1 → LedTo leaves lower place (length a) path indices path2 indices2
   inner_led s path1 indices1 path2 indices2 high index place top high_is within top_is d m_is j_is nodes entries =
-      let below = stands_same path1 indices1 path2 indices2 1 s.rows (length d.leaf.before) top (λ i low. nodes i (λ z. omega (arith, z, low, high_is))) (λ i low. entries i (λ z. omega (arith, z, low, high_is))) d.stands in
-      let more = stands_more path2 indices2 1 s.rows s.row (length d.leaf.before) top high below (omega (arith, high_is)) (seen_at s.at (get_or path2 high 0) (get_or indices2 high 0) index top m_is j_is within top_is) in
+      let node_is = d.nodes_above high (omega (arith, high_is)) ∙ m_is in
+      let index_is = d.entries_above high (omega (arith, high_is)) ∙ j_is in
+      let more = stands_more path2 indices2 1 s.rows s.row (length d.leaf.before) top high d.stands (omega (arith, high_is)) (seen_at s.at (get_or path2 high 0) (get_or indices2 high 0) index top node_is index_is within top_is) in
       record {
-        leaf = at_node leaves d.leaf.before (get_or path1 0 0) d.leaf.entries d.leaf.after (get_or path2 0 0) (get_or indices2 0 0) (get_or indices1 0 0) place d.leaf.row_is (nodes 0 (λ z. omega (arith, z, high_is))) (entries 0 (λ z. omega (arith, z, high_is))) d.leaf.within d.leaf.place_is;
+        leaf = d.leaf;
         stands = subst (λ (z : List (List (LevelNode K ℕ))). StandsTo path2 indices2 1 z (length d.leaf.before) (length a)) (sym s.lower_is) (subst (λ (z : ℕ). StandsTo path2 indices2 1 (s.rows ++ s.row ∷ []) (length d.leaf.before) z) s.at.before_is more);
-        nodes_above = λ i low. nodes i (λ z. omega (arith, z, low, high_is, s.count_is)) ∙ d.nodes_above i (omega (arith, low, s.count_is));
-        entries_above = λ i low. entries i (λ z. omega (arith, z, low, high_is, s.count_is)) ∙ d.entries_above i (omega (arith, low, s.count_is));
+        nodes_above = λ i low. d.nodes_above i (omega (arith, low, s.count_is)) ∙ nodes i (λ z. omega (arith, z, low, high_is, s.count_is));
+        entries_above = λ i low. d.entries_above i (omega (arith, low, s.count_is)) ∙ entries i (λ z. omega (arith, z, low, high_is, s.count_is));
       }
 
 module _ {K V : Type 0} (most : ℕ) (slots : List (Content K V)) (leaves : List (LevelNode K V)) (lower : List (List (LevelNode K ℕ))) (a : List (K × ℕ)) (first : K) (number : ℕ) (b : List (K × ℕ)) (s : InnerUnder most slots leaves lower a first number b)
@@ -80,14 +81,15 @@ module _ {K V : Type 0} (most : ℕ) (slots : List (Content K V)) where
     pub under : Under most slots leaves rows ((first, child) ∷ rest)
     pub count_is : length lower ≡ suc (length rows)
 
-  -- the effect of the call one level down the first nodes
+  -- what a call leaves that descends from a node on this level to the first entry below it
   abbrev pub LeadsFirst : List ℕ → List ℕ → List ℕ → List ℕ → ℕ → ℕ → Type 0
-  LeadsFirst path indices path1 indices1 child below =
-      (leaves : List (LevelNode K V)) (lower : List (List (LevelNode K ℕ))) (first : K) (b : List (K × ℕ)) → Under most slots leaves lower ((first, child) ∷ b) → (below ≡ length lower) × Led leaves lower path indices path1 indices1
+  LeadsFirst path indices path1 indices1 child level =
+      (leaves : List (LevelNode K V)) (lower : List (List (LevelNode K ℕ))) (first : K) (b : List (K × ℕ)) → Under most slots leaves lower ((first, child) ∷ b) → level ≡ length lower → Led leaves lower path indices path1 indices1
 
+  -- what a call leaves that descends from the last node of this level to the last entry below it
   abbrev pub LeadsLast : List ℕ → List ℕ → List ℕ → List ℕ → ℕ → ℕ → Type 0
-  LeadsLast path indices path1 indices1 child below =
-      (leaves : List (LevelNode K V)) (lower : List (List (LevelNode K ℕ))) (before : List (K × ℕ)) (first : K) → Under most slots leaves lower (before ++ (first, child) ∷ []) → (below ≡ length lower) × LedLast leaves lower (length before) path indices path1 indices1
+  LeadsLast path indices path1 indices1 child level =
+      (leaves : List (LevelNode K V)) (lower : List (List (LevelNode K ℕ))) (before : List (K × ℕ)) (first : K) → Under most slots leaves lower (before ++ (first, child) ∷ []) → level ≡ length lower → LedLast leaves lower (length before) path indices path1 indices1
 
 module _ {K V : Type 0} (most : ℕ) (one : 1 ≤ half_of most) (slots : List (Content K V)) (leaves : List (LevelNode K V)) (lower : List (List (LevelNode K ℕ))) (first : K) (number : ℕ) (b : List (K × ℕ)) where
   -- the first node is a leaf
@@ -111,68 +113,101 @@ module _ {K V : Type 0} (most : ℕ) (one : 1 ≤ half_of most) (slots : List (C
           let none = nil_from_length c.0 (omega (arith, c.4, none_flat front_node.at.before front_node.at.before_is)) in
           record { rows = front_node.rows; first = c.1; rest = c.2; under = subst (λ (z : List (K × ℕ)). Under most slots leaves front_node.rows (z ++ (c.1, child) ∷ c.2)) none c.3; count_is = front_node.count_is }
 
-      -- what lies under the first child
-      pub front-under : (key : K) × (rest : List (K × ℕ)) × Under most slots leaves front_node.rows ((key, child) ∷ rest)
-      unfolding front_below
-      front-under = (front_below.first, front_below.rest, front_below.under)
+-- a node on a level that is known, whose index in the path was written
+module _ {K V : Type 0} (most : ℕ) (one : 1 ≤ half_of most) (slots : List (Content K V)) (leaves : List (LevelNode K V)) (lower : List (List (LevelNode K ℕ))) (a : List (K × ℕ)) (first : K) (number : ℕ) (b : List (K × ℕ)) (u : Under most slots leaves lower (a ++ (first, number) ∷ b)) {level : ℕ} (level_is : level ≡ length lower) where
+  abbrev at_leaf : level ≡ 0 → LeafUnder most slots leaves lower a first number b
+  at_leaf none = leaf_at most one slots leaves lower a first number b u (omega (arith, level_is, none))
 
-      module _ {path indices path1 indices1 : List ℕ} {below : ℕ} (leads : LeadsFirst most slots path indices path1 indices1 child below) where
-        led : (below ≡ length front_below.rows) × Led leaves front_below.rows path indices path1 indices1
-        led = leads leaves front_below.rows front_below.first front_below.rest front_below.under
+  abbrev at_inner : level ≢ 0 → InnerUnder most slots leaves lower a first number b
+  at_inner some = inner_at most one slots leaves lower a first number b u (λ z. some (level_is ∙ z))
 
-        -- the level of the first node, and the path through it
-        pub front_level : below + 1 ≡ length lower
-        front_level = omega (arith, led.0, front_below.count_is)
+  module _ (path indices path1 indices1 : List ℕ) (index : ℕ) (node_here : get_or path1 level 0 ≡ number) (entry_here : get_or indices1 level 0 ≡ index) (path_is : path1 ≡ set path level number) (indices_are : indices1 ≡ set indices level index) where
+    -- the node is a leaf
+    ended : (none : level ≡ 0) (place : ℕ) → index ≤ length (at_leaf none).at.es → place ≡ length (flat (at_leaf none).at.before) + index → LedTo leaves lower place (length a) path indices path1 indices1
+    ended none place within place_is =
+        leaf_led most slots leaves lower a first number b path indices (at_leaf none) path1 indices1 index place within place_is (ap (λ z. get_or path1 z 0) (sym none) ∙ node_here) (ap (λ z. get_or indices1 z 0) (sym none) ∙ entry_here) (λ i ne. set_but path path1 level number path_is i (λ e. ne (e ∙ none))) (λ i ne. set_but indices indices1 level index indices_are i (λ e. ne (e ∙ none)))
 
-        pub led_here : (path2 indices2 : List ℕ) → get_or path2 (below + 1) 0 ≡ number → get_or indices2 (below + 1) 0 ≡ 0 → path2 ≡ set path1 (below + 1) number → indices2 ≡ set indices1 (below + 1) 0 → (below + 1 ≡ length lower) × Led leaves lower path indices path2 indices2
-        unfolding front_below
-        led_here path2 indices2 node_here entry_here path_is indices_are =
-            let l = inner_led most slots leaves lower [] first number b path indices front_node path1 indices1 path2 indices2 (below + 1) 0 0 0 (omega (arith, led.0)) (omega arith) (omega (arith, none_flat front_node.at.before front_node.at.before_is))
-            (record { leaf = led.1.leaf; stands = led.1.stands; nodes_above = led.1.nodes_above; entries_above = led.1.entries_above }) node_here entry_here (set_but path1 path2 (below + 1) number path_is) (set_but indices1 indices2 (below + 1) 0 indices_are) in
-            (front_level, record { leaf = l.leaf; stands = l.stands; nodes_above = l.nodes_above; entries_above = l.entries_above })
+    -- the path leads on from a child of the node
+    led_on : (some : level ≢ 0) (path2 indices2 : List ℕ) (place top : ℕ) → index ≤ length (at_inner some).at.es → top ≡ length (flat (at_inner some).at.before) + index → LedTo leaves (at_inner some).rows place top path1 indices1 path2 indices2 → LedTo leaves lower place (length a) path indices path2 indices2
+    led_on some path2 indices2 place top within top_is d =
+        inner_led most slots leaves lower a first number b path indices (at_inner some) path1 indices1 path2 indices2 level index place top (level_is ∙ (at_inner some).count_is) within top_is d node_here entry_here (set_but path path1 level number path_is) (set_but indices indices1 level index indices_are)
 
-module _ {K V : Type 0} (most : ℕ) (one : 1 ≤ half_of most) (slots : List (Content K V)) (leaves : List (LevelNode K V)) (lower : List (List (LevelNode K ℕ))) (a : List (K × ℕ)) (first : K) (number : ℕ) (u : Under most slots leaves lower (a ++ (first, number) ∷ [])) where
-  -- the last node is a leaf
-  pub ends_here : (content : Content K V) → slice_get slots number ≡ Some content → (IsInner content → ⊥) → (last : ℕ) → ((x : Content K V) → slice_get slots number ≡ Some x → last ≡ entry_count x - 1) →
-      (path indices path2 indices2 : List ℕ) → get_or path2 0 0 ≡ number → get_or indices2 0 0 ≡ last → path2 ≡ set path 0 number → indices2 ≡ set indices 0 last → (0 ≡ length lower) × LedLast leaves lower (length a) path indices path2 indices2
-  ends_here content read other last last_is path indices path2 indices2 node_here entry_here path_is indices_are =
-      let s = leaf_under most one slots leaves lower a first number [] u content read other in
+  module _ (some : level ≢ 0) (index : ℕ) (within : index ≤ length (at_inner some).at.es) where
+    -- the node meets what reading the child requires
+    inner_asks : (keys : List K) × (children : List ℕ) × (slice_get slots number ≡ Some (Inner keys children)) × (index < length children)
+    inner_asks = let es = (at_inner some).at.e ∷ (at_inner some).at.es in (drop 1 (entry_keys es), entry_items es, (at_inner some).slot_is, omega (arith, within, item_count es))
+
+    -- the leaves and rows under the child
+    inner_below : (child : ℕ) → ((keys : List K) (children : List ℕ) → slice_get slots number ≡ Some (Inner keys children) → slice_get children index ≡ Some child) → (front : List (K × ℕ)) × (key : K) × (back : List (K × ℕ)) × Under most slots leaves (at_inner some).rows (front ++ (key, child) ∷ back) × (length front ≡ length (flat (at_inner some).at.before) + index) × (length front + suc (length back) ≡ length (flat (at_inner some).row))
+    inner_below child says = let es = (at_inner some).at.e ∷ (at_inner some).at.es in child_under most slots leaves lower a first number b (at_inner some) (inner_content es) (at_inner some).slot_is index child (says (drop 1 (entry_keys es)) (entry_items es) (at_inner some).slot_is)
+
+-- the descent to the first entry
+module _ {K V : Type 0} (most : ℕ) (one : 1 ≤ half_of most) (slots : List (Content K V)) (leaves : List (LevelNode K V)) (lower : List (List (LevelNode K ℕ))) (first : K) (number : ℕ) (b : List (K × ℕ)) (u : Under most slots leaves lower ((first, number) ∷ b)) {level : ℕ} (level_is : level ≡ length lower) where
+  -- at the leaf
+  pub first_ends : level ≡ 0 → (path indices path1 indices1 : List ℕ) → get_or path1 level 0 ≡ number → get_or indices1 level 0 ≡ 0 → path1 ≡ set path level number → indices1 ≡ set indices level 0 → Led leaves lower path indices path1 indices1
+  first_ends none path indices path1 indices1 node_here entry_here path_is indices_are =
+      let s = at_leaf most one slots leaves lower [] first number b u level_is none in
+      let l = ended most one slots leaves lower [] first number b u level_is path indices path1 indices1 0 node_here entry_here path_is indices_are none 0 (omega arith) (omega (arith, none_flat s.at.before s.at.before_is)) in
+      record { leaf = l.leaf; stands = l.stands; nodes_above = l.nodes_above; entries_above = l.entries_above }
+
+  module _ (some : level ≢ 0) where
+    pub first_asks : (keys : List K) × (children : List ℕ) × (slice_get slots number ≡ Some (Inner keys children)) × (0 < length children)
+    first_asks = inner_asks most one slots leaves lower [] first number b u level_is some 0 (omega arith)
+
+    module _ (child : ℕ) (says : (keys : List K) (children : List ℕ) → slice_get slots number ≡ Some (Inner keys children) → slice_get children 0 ≡ Some child) where
+      -- what the call one level down requires
+      pub first_goes : (leaves : List (LevelNode K V)) × (lower : List (List (LevelNode K ℕ))) × (first : K) × (b : List (K × ℕ)) × Under most slots leaves lower ((first, child) ∷ b) × (level - 1 ≡ length lower)
+      first_goes =
+          let s = at_inner most one slots leaves lower [] first number b u level_is some in
+          let c = inner_below most one slots leaves lower [] first number b u level_is some 0 (omega arith) child says in
+          let none = nil_from_length c.0 (omega (arith, c.4, none_flat s.at.before s.at.before_is)) in
+          (leaves, s.rows, c.1, c.2, subst (λ (z : List (K × ℕ)). Under most slots leaves s.rows (z ++ (c.1, child) ∷ c.2)) none c.3, omega (arith, level_is, s.count_is))
+
+      pub first_led : (path indices path1 indices1 path2 indices2 : List ℕ) → get_or path1 level 0 ≡ number → get_or indices1 level 0 ≡ 0 → path1 ≡ set path level number → indices1 ≡ set indices level 0 → LeadsFirst most slots path1 indices1 path2 indices2 child (level - 1) → Led leaves lower path indices path2 indices2
+      unfolding first_goes
+      first_led path indices path1 indices1 path2 indices2 node_here entry_here path_is indices_are leads =
+          let s = at_inner most one slots leaves lower [] first number b u level_is some in
+          let g = first_goes in
+          let d = leads g.0 g.1 g.2 g.3 g.4 g.5 in
+          let l = led_on most one slots leaves lower [] first number b u level_is path indices path1 indices1 0 node_here entry_here path_is indices_are some path2 indices2 0 0 (omega arith) (omega (arith, none_flat s.at.before s.at.before_is)) (record { leaf = d.leaf; stands = d.stands; nodes_above = d.nodes_above; entries_above = d.entries_above }) in
+          record { leaf = l.leaf; stands = l.stands; nodes_above = l.nodes_above; entries_above = l.entries_above }
+
+-- the descent to the last entry
+module _ {K V : Type 0} (most : ℕ) (one : 1 ≤ half_of most) (slots : List (Content K V)) (leaves : List (LevelNode K V)) (lower : List (List (LevelNode K ℕ))) (a : List (K × ℕ)) (first : K) (number : ℕ) (u : Under most slots leaves lower (a ++ (first, number) ∷ [])) {level : ℕ} (level_is : level ≡ length lower) (last : ℕ) (last_is : (x : Content K V) → slice_get slots number ≡ Some x → last ≡ entry_count x - 1) where
+  -- at the leaf
+  pub last_ends : level ≡ 0 → (path indices path1 indices1 : List ℕ) → get_or path1 level 0 ≡ number → get_or indices1 level 0 ≡ last → path1 ≡ set path level number → indices1 ≡ set indices level last → LedLast leaves lower (length a) path indices path1 indices1
+  last_ends none path indices path1 indices1 node_here entry_here path_is indices_are =
+      let s = at_leaf most one slots leaves lower a first number [] u level_is none in
       let index : last ≡ length s.at.es = omega (arith, last_is (leaf_content (s.at.e ∷ s.at.es)) s.slot_is, length-map (s.at.e ∷ s.at.es) (λ w. w.0)) in
-      let l = leaf_led most slots leaves lower a first number [] path indices s path2 indices2 last (length (flat leaves) - 1) (omega (arith, index)) (omega (arith, index, last_place (half_of most) most one leaves a first number s.at)) node_here entry_here (set_but path path2 0 number path_is) (set_but indices indices2 0 last indices_are) in
-      (sym (ap length s.lower_is), record { leaf = l.leaf; stands = l.stands; nodes_above = l.nodes_above; entries_above = l.entries_above })
+      let l = ended most one slots leaves lower a first number [] u level_is path indices path1 indices1 last node_here entry_here path_is indices_are none (length (flat leaves) - 1) (omega (arith, index)) (omega (arith, index, last_place (half_of most) most one leaves a first number s.at)) in
+      record { leaf = l.leaf; stands = l.stands; nodes_above = l.nodes_above; entries_above = l.entries_above }
 
-  module _ (content content2 : Content K V) (read : slice_get slots number ≡ Some content) (inner : IsInner content) (read2 : slice_get slots number ≡ Some content2) (last : ℕ) (last_is : (x : Content K V) → slice_get slots number ≡ Some x → last ≡ entry_count x - 1) where
+  module _ (some : level ≢ 0) where
     abbrev back_node : InnerUnder most slots leaves lower a first number []
-    back_node = inner_under most one slots leaves lower a first number [] u content read inner
+    back_node = at_inner most one slots leaves lower a first number [] u level_is some
 
     index : last ≡ length back_node.at.es
     index = omega (arith, last_is (inner_content (back_node.at.e ∷ back_node.at.es)) back_node.slot_is, item_count (back_node.at.e ∷ back_node.at.es))
 
-    -- the last node meets what reading its last child requires
-    pub back_asks : IsInner content2 × (last < entry_count content2)
-    back_asks = child_asks most slots leaves lower a first number [] back_node content2 read2 last (omega (arith, index))
+    pub last_asks : (keys : List K) × (children : List ℕ) × (slice_get slots number ≡ Some (Inner keys children)) × (last < length children)
+    last_asks = inner_asks most one slots leaves lower a first number [] u level_is some last (omega (arith, index))
 
-    module _ (child : ℕ) (child_read : slice_get (children_of content2) last ≡ Some child) where
-      pub back_below : (rows : List (List (LevelNode K ℕ))) × (before : List (K × ℕ)) × (first : K) × Under most slots leaves rows (before ++ (first, child) ∷ []) × (length lower ≡ suc (length rows)) × (length before ≡ length (flat back_node.at.before) + last)
-      back_below =
-          let c = child_under most slots leaves lower a first number [] back_node content2 read2 last child child_read in
+    module _ (child : ℕ) (says : (keys : List K) (children : List ℕ) → slice_get slots number ≡ Some (Inner keys children) → slice_get children last ≡ Some child) where
+      below : (before : List (K × ℕ)) × (first : K) × Under most slots leaves back_node.rows (before ++ (first, child) ∷ []) × (length before ≡ length (flat back_node.at.before) + last)
+      below =
+          let c = inner_below most one slots leaves lower a first number [] u level_is some last (omega (arith, index)) child says in
           let none = nil_from_length c.2 (omega (arith, c.4, c.5, index, last_place 4 8 (omega arith) back_node.row a first number back_node.at)) in
-          (back_node.rows, c.0, c.1, subst (λ (z : List (K × ℕ)). Under most slots leaves back_node.rows (c.0 ++ (c.1, child) ∷ z)) none c.3, back_node.count_is, c.4)
+          (c.0, c.1, subst (λ (z : List (K × ℕ)). Under most slots leaves back_node.rows (c.0 ++ (c.1, child) ∷ z)) none c.3, c.4)
 
-      module _ {path indices path1 indices1 : List ℕ} {below : ℕ} (leads : LeadsLast most slots path indices path1 indices1 child below) where
-        led_last : (below ≡ length back_below.0) × LedLast leaves back_below.0 (length back_below.1) path indices path1 indices1
-        led_last = leads leaves back_below.0 back_below.1 back_below.2 back_below.3
+      -- what the call one level down requires
+      pub last_goes : (leaves : List (LevelNode K V)) × (lower : List (List (LevelNode K ℕ))) × (before : List (K × ℕ)) × (first : K) × Under most slots leaves lower (before ++ (first, child) ∷ []) × (level - 1 ≡ length lower)
+      last_goes = (leaves, back_node.rows, below.0, below.1, below.2, omega (arith, level_is, back_node.count_is))
 
-        -- the level of the last node, and the path through it
-        pub back_level : below + 1 ≡ length lower
-        back_level = omega (arith, led_last.0, back_below.4)
-
-        pub leads_here : (path2 indices2 : List ℕ) → get_or path2 (below + 1) 0 ≡ number → get_or indices2 (below + 1) 0 ≡ last → path2 ≡ set path1 (below + 1) number → indices2 ≡ set indices1 (below + 1) last → (below + 1 ≡ length lower) × LedLast leaves lower (length a) path indices path2 indices2
-        unfolding back_below
-        leads_here path2 indices2 node_here entry_here path_is indices_are =
-            let l = inner_led most slots leaves lower a first number [] path indices back_node path1 indices1 path2 indices2 (below + 1) last (length (flat leaves) - 1) (length back_below.1) (omega (arith, led_last.0)) (omega (arith, index)) back_below.5
-            (record { leaf = led_last.1.leaf; stands = led_last.1.stands; nodes_above = led_last.1.nodes_above; entries_above = led_last.1.entries_above }) node_here entry_here (set_but path1 path2 (below + 1) number path_is) (set_but indices1 indices2 (below + 1) last indices_are) in
-            (back_level, record { leaf = l.leaf; stands = l.stands; nodes_above = l.nodes_above; entries_above = l.entries_above })
+      pub last_led : (path indices path1 indices1 path2 indices2 : List ℕ) → get_or path1 level 0 ≡ number → get_or indices1 level 0 ≡ last → path1 ≡ set path level number → indices1 ≡ set indices level last → LeadsLast most slots path1 indices1 path2 indices2 child (level - 1) → LedLast leaves lower (length a) path indices path2 indices2
+      last_led path indices path1 indices1 path2 indices2 node_here entry_here path_is indices_are leads =
+          let d = leads leaves back_node.rows below.0 below.1 below.2 (omega (arith, level_is, back_node.count_is)) in
+          let l = led_on most one slots leaves lower a first number [] u level_is path indices path1 indices1 last node_here entry_here path_is indices_are some path2 indices2 (length (flat leaves) - 1) (length below.0) (omega (arith, index)) below.3 (record { leaf = d.leaf; stands = d.stands; nodes_above = d.nodes_above; entries_above = d.entries_above }) in
+          record { leaf = l.leaf; stands = l.stands; nodes_above = l.nodes_above; entries_above = l.entries_above }
 
 -- a path that descended from the root stands at the last entry
 pub last_stands : {K V : Type 0} (tree : Tree K V) (path indices path' indices' : List ℕ) (size : ℕ) → LedLast tree.leaves tree.above 0 path indices path' indices' → size ≡ suc (length tree.above) → Stands path' indices' size tree (length (flat tree.leaves) - 1)

@@ -1,10 +1,10 @@
 -- A path at a place of the list under a root.
-use Rattle.std.proofs.Common.{◌≡◌, ◌≢◌, ℕ, zero, suc, ◌+◌, ◌==◌, ◌≤◌, ◌<◌, ◌↔◌, Bool, IsTrue, true, false, Some, slice_get, if◌then◌else◌, List, [], ◌∷◌, ◌++◌, get_or, length, length-append, inl, inr, refl, sym, subst, ap, ◌∙◌, arith}
+use Rattle.std.proofs.Common.{◌≡◌, ◌≢◌, ℕ, zero, suc, ◌+◌, ◌-◌, ◌==◌, ◌≤◌, ◌<◌, ◌↔◌, Bool, IsTrue, true, false, Some, slice_get, if◌then◌else◌, List, [], ◌∷◌, ◌++◌, get_or, length, length-append, inl, inr, refl, sym, subst, ap, ◌∙◌, arith}
 use Rattle.bforest_core.proofs.Words.{flat_map, false≢true, eqb_tells, Path, PointsTo, StandsAt, StandsOn, index_of, leaf_of, list_under, path_root, place_in, spot, IsLeaf, AtUnder, StandsUnder, IsRooted, Under, LevelNode, Tree, flat}
-use Rattle.bforest_core.proofs.Words.{heads, node, numbers, IsFit, IsIn, IsPathAt, PointsAt, Stands, count, leaf_content, numbers_of, Moved, Over, Table, IsUnion, is_root, slot, tree_of}
+use Rattle.bforest_core.proofs.Words.{heads, length-map, node, numbers, sizes, sizes_of, IsFit, IsIn, IsPathAt, PointsAt, Stands, count, leaf_content, numbers_of, Moved, Over, Table, IsUnion, is_root, slot, tree_of}
 use Rattle.bforest_core.specs.Paths.{IsPlaced}
 use Rattle.bforest_core.proofs.walks.Descent.{some_leaf}
-use Rattle.bforest_core.proofs.walks.Leading.{LeadsFirst, led_leaf}
+use Rattle.bforest_core.proofs.walks.Leading.{LeadsFirst, LeadsLast, last_stands, led_leaf}
 use Rattle.bforest_core.proofs.walks.TopNode.{SameBut, node_under}
 use Rattle.bforest_core.proofs.table.Read.{slot-is}
 use Rattle.bforest_core.proofs.rows.LevelRows.{flat-append}
@@ -52,12 +52,29 @@ under-root most table root union is =
     let u = whole_under most table.nodes root (tree_of table.nodes root) w in
     record { first = u.0; under = u.1; low = w.low }
 
--- a path that descended from a root to the first entry
-pub led-first : {K V : Type 0} (most : ℕ) (table : Table K V) (root : ℕ) → IsUnion most table → IsTrue (is_root table.nodes root) → (path indices path' indices' : List ℕ) (level : ℕ) → LeadsFirst most table.nodes path indices path' indices' root level → (level ≤ 16) × StandsUnder table.nodes root path' indices' (level + 1) 0
-led-first most table root union is path indices path' indices' level leads =
-    let u = under-root most table root union is in
-    let d = leads (tree_of table.nodes root).leaves (tree_of table.nodes root).above u.first [] u.under in
-    (omega (arith, d.0, u.low), record { root_is = is; stands = led_stands (tree_of table.nodes root) path indices path' indices' (level + 1) d.1 (omega (arith, d.0)) })
+-- the level of a root, and the number of levels of a path in its tree
+pub root-level : {K V : Type 0} (tree : Tree K V) (levels : ℕ) → levels ≡ length (sizes_of tree) → levels - 1 ≡ length tree.above
+root-level tree levels is = omega (arith, is, length-map tree.above sizes)
+
+pub path-levels : {K V : Type 0} (tree : Tree K V) (levels size : ℕ) → levels ≡ length (sizes_of tree) → size ≡ levels → size ≡ suc (length tree.above)
+path-levels tree levels size is same = omega (arith, is, same, length-map tree.above sizes)
+
+-- a path that descended from a root to the first entry, or to the last
+module _ {K V : Type 0} (most : ℕ) (table : Table K V) (root : ℕ) (union : IsUnion most table) (is : IsTrue (is_root table.nodes root)) (path indices path' indices' : List ℕ) (levels size : ℕ) (levels_is : levels ≡ length (sizes_of (tree_of table.nodes root))) (size_is : size ≡ levels) where
+  abbrev tree_here : Tree K V
+  tree_here = tree_of table.nodes root
+
+  pub led-first : LeadsFirst most table.nodes path indices path' indices' root (levels - 1) → StandsUnder table.nodes root path' indices' size 0
+  led-first leads =
+      let u = under-root most table root union is in
+      let d = leads tree_here.leaves tree_here.above u.first [] u.under (root-level tree_here levels levels_is) in
+      record { root_is = is; stands = led_stands tree_here path indices path' indices' size d (path-levels tree_here levels size levels_is size_is) }
+
+  pub led-last : LeadsLast most table.nodes path indices path' indices' root (levels - 1) → StandsUnder table.nodes root path' indices' size (length (flat tree_here.leaves) - 1)
+  led-last leads =
+      let u = under-root most table root union is in
+      let d = leads tree_here.leaves tree_here.above [] u.first u.under (root-level tree_here levels levels_is) in
+      record { root_is = is; stands = last_stands tree_here path indices path' indices' size d (path-levels tree_here levels size levels_is size_is) }
 
 -- a path of one level at the front of a root that is a leaf is on the first entry
 pub on-leaf : {K V : Type 0} (most : ℕ) (table : Table K V) (root : ℕ) (path indices : List ℕ) → IsUnion most table → IsTrue (is_root table.nodes root) → IsLeaf (slot table.nodes root) → get_or path 0 0 ≡ root → get_or indices 0 0 ≡ 0 → StandsUnder table.nodes root path indices 1 0

@@ -39,31 +39,31 @@ impl<K: Copy, V: Copy, const N: usize> Path<K, V, N> {
             self.set_root_node(root);
             return root;
         }
-        let level = self.descend_first(root, 0, pool);
-        self.size = level + 1;
+        let levels = pool.levels(root);
+        self.size = levels;
+        self.descend_first(root, levels - 1, pool);
         self.node[0]
     }
 
-    // Descends from `node` to the first entry below it. Returns the node's level; `depth` levels are above it.
-    fn descend_first(&mut self, node: Node, depth: usize, pool: &NodePool<K, V, N>) -> usize
+    // Descends from `node` on `level` to the first entry below it.
+    fn descend_first(&mut self, node: Node, level: usize, pool: &NodePool<K, V, N>)
         requires capacity { IsLeafCapacity N }
+        requires height { level ≤ top_level }
         requires under { (leaves : List (LevelNode K V)) × (lower : List (List (LevelNode K ℕ))) × (first : K)
             × (b : List (K × ℕ)) × Under N pool.now.nodes leaves lower ((first, node) ∷ b)
-            × (depth + length lower ≤ top_level) }
-        ensures level { (leaves : List (LevelNode K V)) (lower : List (List (LevelNode K ℕ))) (first : K)
+            × (level ≡ length lower) }
+        ensures led { (leaves : List (LevelNode K V)) (lower : List (List (LevelNode K ℕ))) (first : K)
             (b : List (K × ℕ)) → Under N pool.now.nodes leaves lower ((first, node) ∷ b)
-            → (result ≡ length lower) × Led leaves lower self.old.node self.old.entry self.new.node
+            → level ≡ length lower → Led leaves lower self.old.node self.old.entry self.new.node
             self.new.entry }
         ensures size { self.new.size ≡ self.old.size }
     {
-        if !pool.node(node).is_inner() {
-            self.set_level(0, node, 0);
-            return 0;
+        self.set_level(level, node, 0);
+        if level == 0 {
+            return;
         }
-        let child = pool.node(node).child(0);
-        let below = self.descend_first(child, depth + 1, pool);
-        self.set_level(below + 1, node, 0);
-        below + 1
+        let child = child(pool, node, 0);
+        self.descend_first(child, level - 1, pool);
     }
 
     /// Goes to the next entry and returns it. From the last entry it goes to the end, where it returns `None` from then on.
@@ -271,9 +271,7 @@ impl<K: Copy, V: Copy, const N: usize> Path<K, V, N> {
             → StandsOn pool.now root self.new (at.place - 1) }
     {
         if self.size == 0 {
-            let top = self.descend_last(root, 0, pool);
-            self.size = top + 1;
-            return Some(self.entry_here(pool));
+            return Some(self.last(root, pool));
         }
         if self.prev_entry(pool) {
             Some(self.entry_here(pool))
@@ -282,27 +280,42 @@ impl<K: Copy, V: Copy, const N: usize> Path<K, V, N> {
         }
     }
 
-    // Descends from `node`, the last of its level, to the last entry below it. Returns the node's level; `depth` levels are above it.
-    fn descend_last(&mut self, node: Node, depth: usize, pool: &NodePool<K, V, N>) -> usize
+    // Goes to the last entry of the tree under `root`, and returns it. In a call of its own, so that `prev`, which seldom makes it, keeps
+    // no registers for it.
+    #[inline(never)]
+    fn last(&mut self, root: Node, pool: &NodePool<K, V, N>) -> (K, V)
+        requires union { IsUnion N pool.now }
+        requires root { IsTrue (is_root pool.now.nodes root) }
+        ensures value { slice_get (list_under pool.now root) (length (list_under pool.now root) - 1)
+            ≡ Some result }
+        ensures stands { StandsOn pool.now root self.new (length (list_under pool.now root) - 1) }
+    {
+        let height = pool.levels(root);
+        self.size = height;
+        self.descend_last(root, height - 1, pool);
+        self.entry_here(pool)
+    }
+
+    // Descends from `node`, the last of its level, to the last entry below it.
+    fn descend_last(&mut self, node: Node, level: usize, pool: &NodePool<K, V, N>)
         requires capacity { IsLeafCapacity N }
+        requires height { level ≤ top_level }
         requires under { (leaves : List (LevelNode K V)) × (lower : List (List (LevelNode K ℕ)))
             × (before : List (K × ℕ)) × (first : K) × Under N pool.now.nodes leaves lower
-            (before ++ (first, node) ∷ []) × (depth + length lower ≤ top_level) }
-        ensures level { (leaves : List (LevelNode K V)) (lower : List (List (LevelNode K ℕ)))
+            (before ++ (first, node) ∷ []) × (level ≡ length lower) }
+        ensures led { (leaves : List (LevelNode K V)) (lower : List (List (LevelNode K ℕ)))
             (before : List (K × ℕ)) (first : K) → Under N pool.now.nodes leaves lower
-            (before ++ (first, node) ∷ []) → (result ≡ length lower) × LedLast leaves lower (length before)
+            (before ++ (first, node) ∷ []) → level ≡ length lower → LedLast leaves lower (length before)
             self.old.node self.old.entry self.new.node self.new.entry }
         ensures size { self.new.size ≡ self.old.size }
     {
         let last = last_index(pool, node);
-        if !pool.node(node).is_inner() {
-            self.set_level(0, node, last);
-            return 0;
+        self.set_level(level, node, last);
+        if level == 0 {
+            return;
         }
-        let child = pool.node(node).child(last);
-        let below = self.descend_last(child, depth + 1, pool);
-        self.set_level(below + 1, node, last);
-        below + 1
+        let child = child(pool, node, last);
+        self.descend_last(child, level - 1, pool);
     }
 
     // Goes to the previous entry. At the first it returns false, and changes nothing.

@@ -1,41 +1,30 @@
-use Rattle.std.proofs.Common.{rules, [], sym, ◌∙◌, arith}
-use Rattle.std.proofs.lemmas.Bool.{false≢true}
+use Rattle.std.proofs.Common.{rules, [], arith}
 use Rattle.bforest_core.proofs.walks.Descent.{some_leaf}
-use Rattle.bforest_core.proofs.walks.Leading.{ends_here, back_asks, back_below, back_level, leads_here}
-use Rattle.bforest_core.proofs.walks.TopNode.{node_held, node_within}
+use Rattle.bforest_core.proofs.walks.Leading.{last_asks, last_ends, last_goes, last_led}
+use Rattle.bforest_core.proofs.walks.TopNode.{node_held}
 use Rattle.bforest_core.proofs.path.Path.+descend_last.Goals as goal
 
 pub last_index-last-requires : goal.last_index-last-requires
-last_index-last-requires g t c = (search rules, node_held _ (some_leaf _ c.requires.capacity) _ _ _ c.requires.under.2 c.requires.under.3 c.args.node [] c.requires.under.4)
+last_index-last-requires g t c =
+    let w = c.requires.under in
+    (search rules, node_held _ (some_leaf _ c.requires.capacity) _ w.0 w.1 w.2 w.3 _ [] w.4)
 
-pub node-requires : goal.node-requires
-node-requires g t c = (search rules, (search rules, node_within _ (some_leaf _ c.requires.capacity) _ _ _ c.requires.under.2 c.requires.under.3 c.args.node [] c.requires.under.4))
-
-pub returns-then-not-is_inner-clause-level : goal.returns-then-not-is_inner-clause-level
-returns-then-not-is_inner-clause-level g t c = λ leaves lower a first u.
-    ends_here g.row.N (some_leaf _ c.requires.capacity) c.args.pool.now.nodes leaves lower a first c.args.node u c.node.result.now c.node.ensures.value (λ i. false≢true (sym c.if-not-is_inner.true ∙ c.is_inner.ensures.inner.1 i)) c.last_index-last.result c.last_index-last.ensures.last c.args.self.now.node c.args.self.now.entry c.set_level.new.self.node c.set_level.new.self.entry c.set_level.ensures.here.0 c.set_level.ensures.here.1 c.set_level.ensures.node c.set_level.ensures.entry
-
-pub node-requires-2 : goal.node-requires-2
-node-requires-2 g t c = (search rules, (search rules, node_within _ (some_leaf _ c.requires.capacity) _ _ _ c.requires.under.2 c.requires.under.3 c.args.node [] c.requires.under.4))
+pub returns-then-level-eq0-clause-led : goal.returns-then-level-eq0-clause-led
+returns-then-level-eq0-clause-led g t c = λ leaves lower a first u level_is.
+    let set = c.set_level.ensures in
+    last_ends _ (some_leaf _ c.requires.capacity) _ leaves lower a first _ u level_is _ c.last_index-last.ensures.last c.if-level-eq0.true _ _ _ _ set.here.0 set.here.1 set.node set.entry
 
 pub child-child-requires : goal.child-child-requires
-child-child-requires g t c = (search rules, back_asks _ (some_leaf _ c.requires.capacity) _ _ _ c.requires.under.2 c.requires.under.3 c.args.node c.requires.under.4 c.node.result.now c.node-2.result.now c.node.ensures.value (c.is_inner.ensures.inner.0 c.if-not-is_inner.false) c.node-2.ensures.value c.last_index-last.result c.last_index-last.ensures.last)
-
-pub descend_last-below-requires : goal.descend_last-below-requires
-descend_last-below-requires g t c κs within =
+child-child-requires g t c =
     let w = c.requires.under in
-    let d = back_below _ (some_leaf _ c.requires.capacity) _ _ _ c.requires.under.2 c.requires.under.3 c.args.node c.requires.under.4 c.node.result.now c.node-2.result.now c.node.ensures.value (c.is_inner.ensures.inner.0 c.if-not-is_inner.false) c.node-2.ensures.value c.last_index-last.result c.last_index-last.ensures.last _ c.child-child.ensures.child in
-    (omega (arith, c.decreases, w.5, d.4), (within.0, (within.1, ((λ a m. search rules), (search rules, (search rules, (c.requires.capacity, (w.0, d.0, d.1, d.2, d.3, omega (arith, w.5, d.4)))))))))
+    (search rules, last_asks _ (some_leaf _ c.requires.capacity) _ w.0 w.1 w.2 w.3 _ w.4 w.5 _ c.last_index-last.ensures.last c.if-level-eq0.false)
 
-pub overflow_add-below : goal.overflow_add-below
-overflow_add-below g t c = omega (arith, back_level _ (some_leaf _ c.requires.capacity) _ _ _ c.requires.under.2 c.requires.under.3 c.args.node c.requires.under.4 c.node.result.now c.node-2.result.now c.node.ensures.value (c.is_inner.ensures.inner.0 c.if-not-is_inner.false) c.node-2.ensures.value c.last_index-last.result c.last_index-last.ensures.last _ c.child-child.ensures.child c.descend_last-below.ensures.level, c.requires.under.5)
+pub descend_last-requires : goal.descend_last-requires
+descend_last-requires g t c κs within =
+    let w = c.requires.under in
+    (omega (arith, c.decreases, c.if-level-eq0.false), (within.0, (within.1, ((λ a m. search rules), (search rules, (search rules, (c.requires.capacity, (omega (arith, c.requires.height), last_goes _ (some_leaf _ c.requires.capacity) _ w.0 w.1 w.2 w.3 _ w.4 w.5 _ c.last_index-last.ensures.last c.if-level-eq0.false c.child-child.result c.child-child.ensures))))))))
 
-pub set_level-requires-2 : goal.set_level-requires-2
-set_level-requires-2 g t c = (search rules, omega (arith, back_level _ (some_leaf _ c.requires.capacity) _ _ _ c.requires.under.2 c.requires.under.3 c.args.node c.requires.under.4 c.node.result.now c.node-2.result.now c.node.ensures.value (c.is_inner.ensures.inner.0 c.if-not-is_inner.false) c.node-2.ensures.value c.last_index-last.result c.last_index-last.ensures.last _ c.child-child.ensures.child c.descend_last-below.ensures.level, c.requires.under.5))
-
-pub overflow_add-result : goal.overflow_add-result
-overflow_add-result g t c = omega (arith, back_level _ (some_leaf _ c.requires.capacity) _ _ _ c.requires.under.2 c.requires.under.3 c.args.node c.requires.under.4 c.node.result.now c.node-2.result.now c.node.ensures.value (c.is_inner.ensures.inner.0 c.if-not-is_inner.false) c.node-2.ensures.value c.last_index-last.result c.last_index-last.ensures.last _ c.child-child.ensures.child c.descend_last-below.ensures.level, c.requires.under.5)
-
-pub returns-clause-level : goal.returns-clause-level
-returns-clause-level g t c = λ leaves lower a first u.
-    leads_here _ (some_leaf _ c.requires.capacity) _ _ _ a first c.args.node u c.node.result.now c.node-2.result.now c.node.ensures.value (c.is_inner.ensures.inner.0 c.if-not-is_inner.false) c.node-2.ensures.value c.last_index-last.result c.last_index-last.ensures.last _ c.child-child.ensures.child c.descend_last-below.ensures.level c.set_level-2.new.self.node c.set_level-2.new.self.entry c.set_level-2.ensures.here.0 c.set_level-2.ensures.here.1 c.set_level-2.ensures.node c.set_level-2.ensures.entry
+pub returns-clause-led : goal.returns-clause-led
+returns-clause-led g t c = λ leaves lower a first u level_is.
+    let set = c.set_level.ensures in
+    last_led _ (some_leaf _ c.requires.capacity) _ leaves lower a first _ u level_is _ c.last_index-last.ensures.last c.if-level-eq0.false c.child-child.result c.child-child.ensures _ _ _ _ _ _ set.here.0 set.here.1 set.node set.entry c.descend_last.ensures.led

@@ -1,23 +1,16 @@
-use Rattle.std.proofs.Common.{rules, ◌≡◌, ◌≢◌, ℕ, ◌+◌, ◌-◌, ◌≤◌, ◌<◌, [], Some, None, slice_get, List, sym, ap, subst, ◌∙◌, arith}
+use Rattle.std.proofs.Common.{rules, ◌≡◌, ◌≢◌, ℕ, ◌-◌, ◌≤◌, ◌<◌, Some, None, slice_get, List, length, sym, ap, subst, ◌∙◌, arith}
 use Rattle.bforest_core.proofs.Words.{Path, Tree, IsFit, StandsAt, StandsOn, index_of, leaf_content, leaf_of, list_under, IsIn, Stands, entry_before, Table, IsUnion, tree_of}
-use Rattle.bforest_core.proofs.union.Unions.{is-rooted}
-use Rattle.bforest_core.proofs.walks.Leading.{LeadsLast, last_stands}
-use Rattle.bforest_core.proofs.walks.Standing.{on-asks, said, under-root}
+use Rattle.bforest_core.proofs.walks.Standing.{on-asks, on-within, said}
 use Rattle.bforest_core.proofs.walks.Backward.{before_is, at_end}
 use Rattle.bforest_core.proofs.walks.Nearby.{here-leaf, here-entry, some-on}
 use Rattle.bforest_core.proofs.path.Path.prev.Goals as goal
 
 module _ {K V : Type 0} {n : ℕ} {table : Table K V} (union : IsUnion n table) {root : ℕ} (old new : Path K V n) {place : ℕ} (at : StandsAt table root old place) where
-  -- a path at the end moves to the last entry
-  led_back : {level : ℕ} → old.size ≡ 0 → LeadsLast n table.nodes old.node old.entry new.node new.entry root level → (level ≤ 16) × (0 < place) × StandsOn table root (record new { size = level + 1 }) (place - 1)
-  led_back {level} none leads =
-      let tree = tree_of table.nodes root in
-      let w = is-rooted n table root union at.root_is in
-      let u = under-root n table root union at.root_is in
-      let r = leads tree.leaves tree.above [] u.first u.under in
-      let end = at_end old.node old.entry tree place old.size none at.at in
-      let s = last_stands tree old.node old.entry new.node new.entry (level + 1) r.1 (omega (arith, r.0)) in
-      (omega (arith, r.0, w.low), omega (arith, end, w.some), record { root_is = at.root_is; stands = subst (λ (z : ℕ). Stands new.node new.entry (level + 1) tree (z - 1)) (sym end) s })
+  -- from the end the previous entry is the last
+  end_back : old.size ≡ 0 → (e : K × V) → slice_get (list_under table root) (length (list_under table root) - 1) ≡ Some e → StandsOn table root new (length (list_under table root) - 1) → (Some e ≡ entry_before (list_under table root) place) × StandsOn table root new (place - 1)
+  end_back none e read_is on =
+      let end = at_end old.node old.entry (tree_of table.nodes root) place old.size none at.at in
+      (sym read_is ∙ ap (λ z. slice_get (list_under table root) (z - 1)) (sym end) ∙ before_is (list_under table root) place (omega (arith, end, on-within table root new _ on)), subst (λ (z : ℕ). StandsOn table root new (z - 1)) (sym end) on)
 
   -- the entry read after the move is the previous one
   read_back : (0 < place) × StandsOn table root new (place - 1) → (e : K × V) → ((entries : List (K × V)) → slice_get table.nodes (leaf_of new) ≡ Some (leaf_content entries) → slice_get entries (index_of new) ≡ Some e) → Some e ≡ entry_before (list_under table root) place
@@ -36,41 +29,25 @@ module _ {K V : Type 0} {n : ℕ} {table : Table K V} (union : IsUnion n table) 
         let first = said union old (some-on table root old place at (omega (arith, some))) says in
         (ap (λ z. entry_before (list_under table root) z) (sym first), subst (λ (z : Path K V n). StandsOn table root z (place - 1)) (sym same) (subst (λ (z : ℕ). StandsOn table root old z) (omega (arith, first)) (some-on table root old place at (omega (arith, some)))))
 
-pub descend_last-top-requires : goal.descend_last-top-requires
-descend_last-top-requires g c =
-    let tree = tree_of c.args.pool.now.nodes c.args.root in
-    let u = under-root g.row.N c.args.pool.now c.args.root c.requires.union c.requires.root in
-    (search rules, (search rules, (c.requires.union.1.capacity, (tree.leaves, tree.above, [], u.first, u.under, omega (arith, u.low)))))
-
-pub overflow_add-self : goal.overflow_add-self
-overflow_add-self g c = omega (arith, (led_back c.requires.union c.args.self.now c.descend_last-top.new.self c.requires.stands.at c.if-self-eq0.true c.descend_last-top.ensures.level).0)
-
-pub entry_here-requires : goal.entry_here-requires
-entry_here-requires g c =
-    let led = led_back c.requires.union c.args.self.now c.descend_last-top.new.self c.requires.stands.at c.if-self-eq0.true c.descend_last-top.ensures.level in
-    (search rules, (search rules, here-leaf _ _ _ _ c.requires.union led.2))
-
 pub returns-then-self-eq0-clause-value : goal.returns-then-self-eq0-clause-value
-returns-then-self-eq0-clause-value g c = λ t.
-    let led = led_back c.requires.union c.args.self.now c.descend_last-top.new.self t.at c.if-self-eq0.true c.descend_last-top.ensures.level in
-    read_back c.requires.union c.args.self.now _ t.at (led.1, led.2) c.entry_here.result c.entry_here.ensures
+returns-then-self-eq0-clause-value g c = λ t. (end_back c.requires.union c.args.self.now c.last.new.self t.at c.if-self-eq0.true c.last.result c.last.ensures.value c.last.ensures.stands).0
 
 pub returns-then-self-eq0-clause-stands : goal.returns-then-self-eq0-clause-stands
-returns-then-self-eq0-clause-stands g c = λ t. (led_back c.requires.union c.args.self.now c.descend_last-top.new.self t.at c.if-self-eq0.true c.descend_last-top.ensures.level).2
+returns-then-self-eq0-clause-stands g c = λ t. (end_back c.requires.union c.args.self.now c.last.new.self t.at c.if-self-eq0.true c.last.result c.last.ensures.value c.last.ensures.stands).1
 
 pub prev_entry-requires : goal.prev_entry-requires
 prev_entry-requires g c =
     (search rules, (search rules, (c.requires.union.1.capacity, on-asks c.requires.union c.args.self.now (some-on c.args.pool.now c.args.root c.args.self.now c.requires.stands.place c.requires.stands.at (omega (arith, c.if-self-eq0.false))))))
 
-pub entry_here-requires-then-prev_entry : goal.entry_here-requires-then-prev_entry
-entry_here-requires-then-prev_entry g c =
+pub entry_here-requires : goal.entry_here-requires
+entry_here-requires g c =
     let back = went_back c.requires.union c.args.self.now c.prev_entry.new.self c.requires.stands.at c.if-self-eq0.false c.prev_entry.ensures.size (c.prev_entry.ensures.moved c.if-prev_entry.true) in
     (search rules, (search rules, here-leaf _ _ _ _ c.requires.union back.1))
 
 pub returns-then-prev_entry-clause-value : goal.returns-then-prev_entry-clause-value
 returns-then-prev_entry-clause-value g c = λ t.
     let back = went_back c.requires.union c.args.self.now c.prev_entry.new.self t.at c.if-self-eq0.false c.prev_entry.ensures.size (c.prev_entry.ensures.moved c.if-prev_entry.true) in
-    read_back c.requires.union c.args.self.now _ t.at back c.entry_here-then-prev_entry.result c.entry_here-then-prev_entry.ensures
+    read_back c.requires.union c.args.self.now _ t.at back c.entry_here.result c.entry_here.ensures
 
 pub returns-then-prev_entry-clause-stands : goal.returns-then-prev_entry-clause-stands
 returns-then-prev_entry-clause-stands g c = λ t. (went_back c.requires.union c.args.self.now c.prev_entry.new.self t.at c.if-self-eq0.false c.prev_entry.ensures.size (c.prev_entry.ensures.moved c.if-prev_entry.true)).1
