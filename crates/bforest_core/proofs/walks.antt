@@ -11,6 +11,7 @@ pub mod Leading
 pub mod Leaves
 pub mod Backward
 pub mod Turns
+pub mod Turning
 pub mod Standing
 pub mod Nearby
 pub mod Codes

@@ -1,5 +1,4 @@
--- Moving a path's node to the next or the previous one of its level: the answers of `next_node` and
--- `prev_node`.
+-- Moving a path's node to the next or the previous one of its level, once the node above it is there.
 use Rattle.std.proofs.Common.{◌≡◌, ◌≢◌, ℕ, suc, ◌+◌, ◌-◌, ◌≤◌, ◌<◌, List, ◌∷◌, length, get_or, slice_get, option_map, Some, Bool, true, false, IsTrue, ◌↔◌, refl, sym, ap, subst, ◌∙◌, arith}
 use Rattle.bforest_core.proofs.Words.{false≢true, Content, entry_count, LevelNode, flat, heads, inner_content, entry_items, SameBelow, StandsAbove, Over, Moved}
 use Rattle.bforest_core.proofs.rows.Zipper.{stands-same}
@@ -28,10 +27,6 @@ module _ {K V : Type 0} where
     -- the node meets what the test for a child requires
     pub has_asks : (up ≤ 16) × ((entries : List (K × ℕ)) × (slice_get slots (get_or path up 0) ≡ Some (inner_content entries)))
     has_asks = (omega (arith, height, here.over.height), (here.entries, here.slot_is))
-
-    -- the rows above meet what the step above requires
-    pub above_asks : (rest : List (List (LevelNode K ℕ))) × (list : List (K × ℕ)) × (at : ℕ) × Over slots path indices (suc up) size rest list at
-    above_asks = (here.rest, heads here.row, length here.before, here.over)
 
     -- the index is less than 8
     pub index_low : get_or indices up 0 < 8

@@ -6,7 +6,7 @@ ghost use Rattle.bforest_core.specs.Descent.{Under, Led, LedLast};
 ghost use Rattle.bforest_nodes.specs.Entries.{place};
 ghost use Rattle.bforest_core.specs.Place.{inner_content, entry_items, leaf_content, IsIn, Stands, entry_before};
 ghost use Rattle.bforest_core.specs.Trees.{IsUnion, is_root};
-ghost use Rattle.bforest_core.specs.Steps.{Over, Moved};
+ghost use Rattle.bforest_core.specs.Steps.{Advances, AreFirst, AreLast, Moved, Over, Retreats, Turned, TurnedBack};
 
 use crate::access::{child, entries, last_index, leaf_entry};
 use crate::path::Path;
@@ -198,14 +198,79 @@ impl<K: Copy, V: Copy, const N: usize> Path<K, V, N> {
             self.go_to_child(level, entry + 1, pool);
             return true;
         }
-        let moved = self.next_node(level + 1, pool);
-        if moved {
-            self.go_to_child(level, 0, pool);
-        }
-        moved
+        self.next_far(level, pool)
     }
 
-    // Whether the path's inner node on `level` has a child at this index.
+    // Moves the path's node on `level`, the last child of its parent, to the next one. Where there is none it returns false, and changes
+    // nothing.
+    #[inline(never)]
+    fn next_far(&mut self, level: usize, pool: &NodePool<K, V, N>) -> bool
+        requires height { self.old.size ≤ most_levels }
+        requires over { (rows : List (List (LevelNode K ℕ))) × (list : List (K × ℕ)) × (place : ℕ)
+            × Over pool.now.nodes self.old.node self.old.entry (suc level) self.old.size rows list place }
+        requires parent { suc level ≢ self.old.size }
+        requires last { AreLast pool.now.nodes self.old.node self.old.entry (suc level) (level + 2) }
+        ensures moved { result ≡ true → Advances pool.now.nodes self.old.node self.old.entry self.new.node
+            self.new.entry level self.old.size }
+        ensures last { result ≡ false → (rows : List (List (LevelNode K ℕ))) (list : List (K × ℕ)) (place : ℕ)
+            → Over pool.now.nodes self.old.node self.old.entry (suc level) self.old.size rows list place
+            → suc place ≡ length list }
+        ensures same { result ≡ false → self.new ≡ self.old }
+        ensures size { self.new.size ≡ self.old.size }
+    {
+        let turn = self.next_turn(level + 2, pool);
+        if turn == self.size {
+            return false;
+        }
+        let index = self.entry[turn] as usize + 1;
+        self.go_to_child(turn - 1, index, pool);
+        self.go_first(turn - 1, level, pool);
+        true
+    }
+
+    // The lowest level from this one on where the path's node has a child behind the path's, or else the number of levels.
+    fn next_turn(&self, level: usize, pool: &NodePool<K, V, N>) -> usize
+        requires height { self.now.size ≤ most_levels }
+        requires over { (rows : List (List (LevelNode K ℕ))) × (list : List (K × ℕ)) × (place : ℕ)
+            × Over pool.now.nodes self.now.node self.now.entry level self.now.size rows list place }
+        ensures within { (level ≤ result) × (result ≤ self.now.size) }
+        ensures last { AreLast pool.now.nodes self.now.node self.now.entry level result }
+        ensures turns { result ≢ self.now.size → (entries : List (K × ℕ))
+            → slice_get pool.now.nodes (get_or self.now.node result 0) ≡ Some (inner_content entries)
+            → get_or self.now.entry result 0 + 1 < length entries }
+    {
+        if level == self.size {
+            return level;
+        }
+        let next = self.entry[level] as usize + 1;
+        if self.has_child(level, next, pool) {
+            return level;
+        }
+        self.next_turn(level + 1, pool)
+    }
+
+    // Descends from the path's node on level `from`, which has just moved to the next of its level, to the first node below it on `level`.
+    fn go_first(&mut self, from: usize, level: usize, pool: &NodePool<K, V, N>)
+        requires within { level ≤ from }
+        requires turned { (path : List ℕ) × (indices : List ℕ) × (size : ℕ)
+            × Turned pool.now.nodes path indices self.old.node self.old.entry level from size
+            × (rows : List (List (LevelNode K ℕ))) × (list : List (K × ℕ)) × (place : ℕ)
+            × Over pool.now.nodes path indices (suc level) size rows list place }
+        ensures moved { (path : List ℕ) (indices : List ℕ) (size : ℕ)
+            → Turned pool.now.nodes path indices self.old.node self.old.entry level from size
+            → Advances pool.now.nodes path indices self.new.node self.new.entry level size }
+        ensures size { self.new.size ≡ self.old.size }
+    {
+        if from == level {
+            return;
+        }
+        self.go_to_child(from - 1, 0, pool);
+        self.go_first(from - 1, level, pool);
+    }
+
+    // Whether the path's inner node on `level` has a child at this index. Inlined, as `go_to_child`: a search for a turn and a way down
+    // make one for each level, and calls of their own take one in twelve of the instructions of insertions in order by a cursor.
+    #[inline(always)]
     fn has_child(&self, level: usize, index: usize, pool: &NodePool<K, V, N>) -> bool
         requires within { level ≤ top_level }
         requires inner { (entries : List (K × ℕ)) × (slice_get pool.now.nodes (get_or self.now.node level 0)
@@ -218,6 +283,7 @@ impl<K: Copy, V: Copy, const N: usize> Path<K, V, N> {
     }
 
     // Goes to another child of the path's node above `level`.
+    #[inline(always)]
     fn go_to_child(&mut self, level: usize, index: usize, pool: &NodePool<K, V, N>)
         requires within { level ≤ 15 }
         requires most { index ≤ 255 }
@@ -361,19 +427,51 @@ impl<K: Copy, V: Copy, const N: usize> Path<K, V, N> {
         ensures same { result ≡ false → self.new ≡ self.old }
         ensures size { self.new.size ≡ self.old.size }
     {
-        if level + 1 == self.size {
+        let turn = self.prev_turn(level + 1);
+        if turn == self.size {
             return false;
         }
-        let entry = self.entry[level + 1] as usize;
-        if entry > 0 {
-            self.go_to_child(level, entry - 1, pool);
-            return true;
+        let index = self.entry[turn] as usize - 1;
+        self.go_to_child(turn - 1, index, pool);
+        self.go_last(turn - 1, level, pool);
+        true
+    }
+
+    // The lowest level from this one on where the path's node has a child before the path's, or else the number of levels.
+    fn prev_turn(&self, level: usize) -> usize
+        requires height { self.now.size ≤ most_levels }
+        requires within { level ≤ self.now.size }
+        ensures within { (level ≤ result) × (result ≤ self.now.size) }
+        ensures first { AreFirst self.now.entry level result }
+        ensures turns { result ≢ self.now.size → 0 < get_or self.now.entry result 0 }
+    {
+        if level == self.size {
+            return level;
         }
-        let moved = self.prev_node(level + 1, pool);
-        if moved {
-            let last = last_index(pool, self.node[level + 1]);
-            self.go_to_child(level, last, pool);
+        if self.entry[level] > 0 {
+            return level;
         }
-        moved
+        self.prev_turn(level + 1)
+    }
+
+    // Descends from the path's node on level `from`, which has just moved to the previous of its level, to the last node below it on
+    // `level`.
+    fn go_last(&mut self, from: usize, level: usize, pool: &NodePool<K, V, N>)
+        requires within { level ≤ from }
+        requires turned { (path : List ℕ) × (indices : List ℕ) × (size : ℕ)
+            × TurnedBack pool.now.nodes path indices self.old.node self.old.entry level from size
+            × (rows : List (List (LevelNode K ℕ))) × (list : List (K × ℕ)) × (place : ℕ)
+            × Over pool.now.nodes path indices (suc level) size rows list place }
+        ensures moved { (path : List ℕ) (indices : List ℕ) (size : ℕ)
+            → TurnedBack pool.now.nodes path indices self.old.node self.old.entry level from size
+            → Retreats pool.now.nodes path indices self.new.node self.new.entry level size }
+        ensures size { self.new.size ≡ self.old.size }
+    {
+        if from == level {
+            return;
+        }
+        let last = last_index(pool, self.node[from]);
+        self.go_to_child(from - 1, last, pool);
+        self.go_last(from - 1, level, pool);
     }
 }
