@@ -169,7 +169,7 @@ CONSTANT = {
 }
 
 # Functions that only tell something, so that a call whose result is dropped is a mistake.
-TELLING = ["is_empty", "contains", "get", "get_or_less", "levels", "increases"]
+TELLING = ["is_empty", "contains", "get", "get_or_less", "get_or_greater", "first", "last", "levels", "increases"]
 MUST_USE = {
     "bforest/map.rt": ["new", "clone", "cursor", "cursor_mut", *(it for it in TELLING if it != "contains")],
     "bforest/set.rt": ["new", "clone", "cursor", *(it for it in TELLING if it != "get")],

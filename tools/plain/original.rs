@@ -1,7 +1,7 @@
 //! The random calls of the package's test on the Rust original, beside the same definitions. The argument is how many.
 //!
 //! Left out is what the original answers otherwise on purpose, or has not: counts, limits, ranges from behind, ranges and look-up from below of
-//! sets; a look-up from below answers the key that was asked where it is present.
+//! sets, look-up from above, calls at the first entry and the last, `get_or_insert`; a look-up from below answers the key that was asked where it is present.
 
 #[path = "bforest/tests/against_std.rs"]
 mod against_std;
@@ -95,6 +95,7 @@ impl<C: Comparator<u32>> Subject for Maps<'_, C> {
                 vec![Answer::Done]
             }
             Call::Reserve(_) => vec![Answer::Done],
+            Call::GetOrGreater(_) | Call::Ends | Call::PopFirst | Call::PopLast | Call::GetOrInsert(_) => vec![Answer::Done],
         }
     }
 
@@ -157,6 +158,7 @@ impl<C: Comparator<u32>> Subject for Sets<'_, C> {
                 vec![Answer::Done]
             }
             Call::GetOrLess(_) | Call::Range(..) | Call::Reserve(_) => vec![Answer::Done],
+            Call::GetOrGreater(_) | Call::Ends | Call::PopFirst | Call::PopLast | Call::GetOrInsert(_) => vec![Answer::Done],
         }
     }
 
@@ -165,13 +167,14 @@ impl<C: Comparator<u32>> Subject for Sets<'_, C> {
     }
 }
 
-/// The definitions, which are asked for no counts, and whose ranges go forwards.
+/// The definitions, which are asked for no counts and for no call that the original lacks, and whose ranges go forwards.
 struct Uncounted<'a, C>(Model<'a, C>);
 
 impl<C: Order> Subject for Uncounted<'_, C> {
     fn call(&mut self, at: usize, call: &Call) -> Vec<Answer> {
         match call {
             Call::Range(low, high, ends) => self.0.call(at, &Call::Range(*low, *high, vec![false; ends.len()])),
+            Call::GetOrGreater(_) | Call::Ends | Call::PopFirst | Call::PopLast | Call::GetOrInsert(_) => vec![Answer::Done],
             call => self.0.call(at, call),
         }
     }

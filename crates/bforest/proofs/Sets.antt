@@ -1,5 +1,5 @@
 -- The answers of a set, from those of a map with the unit as value.
-use Rattle.bforest.specs.Set.{as_removed, the_value}
+use Rattle.bforest.specs.Set.{as_popped, as_removed, the_value}
 use Rattle.bforest_nodes.specs.Entries.{is_present, value_for}
 use Rattle.std.proofs.Math.Nat.{pow-succ'}
 use Rattle.std.proofs.Common.{List, [], ◌∷◌, ◌++◌, ◌∙◌, None, Option, Some, ap, arith, refl, subst, suc, sym, zero, ◌*◌, ◌-◌, ◌<◌, ◌^◌, ◌≡◌, ◌≤◌, ℕ}
@@ -12,6 +12,11 @@ use Rattle.std.specs.declared.cmp.Ordering.{Ordering}
 pub removed-as : (o : Option (Unit {0})) → as_removed (is_some o) ≡ o
 removed-as None = refl
 removed-as (Some v) = refl
+
+-- the key of an entry that was removed is answered, and the entry is that key's
+pub popped-as : {K : Type 0} (o : Option (K × Unit {0})) → as_popped (option_map (λ e. e.0) o) ≡ o
+popped-as None = refl
+popped-as (Some e) = refl
 
 some-map : {A B : Type 0} (f : A → B) (o : Option A) → is_some (option_map f o) ≡ is_some o
 some-map f None = refl

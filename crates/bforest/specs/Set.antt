@@ -24,6 +24,11 @@ abbrev pub as_removed : Bool → Option (Unit {0})
 as_removed true = Some the_value
 as_removed false = None
 
+-- the key that a set's removal answers, as the entry that is removed
+abbrev pub as_popped : {K : Type 0} → Option K → Option (K × Unit {0})
+as_popped None = None
+as_popped (Some k) = Some (k, the_value)
+
 module _ {F K : Type 0} (g : Mut F (K × Unit {0}) Bool) where
   -- a call of f at the key k may answer b, and leave f as f'; the values v and w are ignored
   pub record AnswersKey (f : F) (k : K) (v : Unit {0}) (b : Bool) (w : Unit {0}) (f' : F) : Type 0 where

@@ -1,7 +1,7 @@
 //! Handles of maps.
 ghost use Rattle.bforest_nodes.specs.Entries.{IsIncreasing, value_for};
-ghost use Rattle.bforest.specs.Bounds.{entries_between, entry_at_most};
-ghost use Rattle.bforest.specs.Calls.{Clears, Filters, Inserts, Removes};
+ghost use Rattle.bforest.specs.Bounds.{entries_between, entry_at_least, entry_at_most};
+ghost use Rattle.bforest.specs.Calls.{Clears, Filters, GetsOrInserts, Inserts, Pops, Removes};
 ghost use Rattle.bforest.specs.Cursor.{IsCursor, comparator, forest_loan, forest_now, map_loan, map_now, spot};
 ghost use Rattle.bforest.specs.Forest.{Forest, IsLive, first_level, list_of, sizes_of};
 ghost use Rattle.bforest.specs.Memory.{IsReadable};
@@ -9,7 +9,7 @@ ghost use Rattle.bforest.specs.Retain.{Answers, MayAsk, MayAskEach};
 ghost use Rattle.std.specs.Option.{option_map_or};
 ghost use Rattle.std.specs.declared.cmp.Ordering.{Ordering};
 ghost use Rattle.std.specs.Ordering.{is_lt};
-ghost use Rattle.std.specs.Prelude.{IsTrue, None, [], true, ◌↔◌, length, ◌+◌, ◌-◌, ◌/◌, ◌<◌, ◌^◌, ◌≡◌, ◌≤◌};
+ghost use Rattle.std.specs.Prelude.{IsTrue, None, [], true, ◌↔◌, length, slice_get, ◌+◌, ◌-◌, ◌/◌, ◌<◌, ◌^◌, ◌≡◌, ◌≤◌};
 
 use crate::forest::MapForest;
 use crate::map_cursor::MapCursor;
@@ -117,6 +117,39 @@ impl<K: Copy, V: Copy> Map<K, V> {
         forest.trees.get_or_less(self.root, key, comp)
     }
 
+    /// Returns the first entry whose key is not less than `key`, as it is stored, or `None` where each key is less.
+    ///
+    /// One search, as in [`Map::get`], and at most one step to the next leaf.
+    pub fn get_or_greater<C: Comparator<K>>(
+        &self,
+        key: K,
+        forest: &MapForest<K, V>,
+        comp: &C,
+    ) -> Option<(K, V)>
+        requires live { IsLive forest.now self.now }
+        requires increasing { IsIncreasing (C.order comp.now) (list_of forest.now self.now) }
+        ensures entry { result ≡ entry_at_least (C.order comp.now) (list_of forest.now self.now) key }
+    {
+        forest.trees.get_or_greater(self.root, key, comp)
+    }
+
+    /// Returns the first entry, or `None` where the map is empty. Visits one node of each level. No comparison.
+    pub fn first(&self, forest: &MapForest<K, V>) -> Option<(K, V)>
+        requires live { IsLive forest.now self.now }
+        ensures entry { result ≡ slice_get (list_of forest.now self.now) 0 }
+    {
+        forest.trees.first_entry(self.root)
+    }
+
+    /// Returns the last entry, or `None` where the map is empty. Visits one node of each level. No comparison.
+    pub fn last(&self, forest: &MapForest<K, V>) -> Option<(K, V)>
+        requires live { IsLive forest.now self.now }
+        ensures entry { result
+            ≡ slice_get (list_of forest.now self.now) (length (list_of forest.now self.now) - 1) }
+    {
+        forest.trees.last_entry(self.root)
+    }
+
     /// Inserts a value at a key and returns the value that was there, exactly as [`Map::try_insert`] does.
     ///
     /// # Errors
@@ -160,6 +193,29 @@ impl<K: Copy, V: Copy> Map<K, V> {
         forest.trees.put(&mut self.root, key, value, comp)
     }
 
+    /// Returns the value of the entry whose key compares equal to `key`. Where there is none, inserts `value` at the key and returns it.
+    ///
+    /// One search, as in [`Map::get`]. Where the key is present, nothing changes and no node is needed. An absent key needs the nodes that
+    /// it needs in [`Map::try_insert`].
+    ///
+    /// # Errors
+    ///
+    /// [`OutOfMemory`] exactly where [`Map::try_insert`] refuses the entry. The map and the forest are unchanged then.
+    pub fn get_or_insert<C: Comparator<K>>(
+        &mut self,
+        key: K,
+        value: V,
+        forest: &mut MapForest<K, V>,
+        comp: &C,
+    ) -> Result<V, OutOfMemory>
+        requires live { IsLive forest.old self.old }
+        requires increasing { IsIncreasing (C.order comp.now) (list_of forest.old self.old) }
+        ensures { GetsOrInserts 7 (C.order comp.now) forest.old self.old key value result
+            forest.new self.new }
+    {
+        forest.trees.get_or_insert(&mut self.root, key, value, comp)
+    }
+
     /// Removes the entry whose key compares equal to `key` and returns its value, or returns `None` and changes nothing.
     ///
     /// One search, as in [`Map::get`], and then at most two nodes of each level: a leaf that falls below half full is rebalanced with its
@@ -176,6 +232,29 @@ impl<K: Copy, V: Copy> Map<K, V> {
         ensures { Removes 7 (C.order comp.now) forest.old self.old key result forest.new self.new }
     {
         forest.trees.remove(&mut self.root, key, comp)
+    }
+
+    /// Removes the first entry and returns it, or returns `None` and changes nothing where the map is empty.
+    ///
+    /// No comparison. Visits at most two nodes of each level on the way to the entry, and then rebalances or merges nodes as
+    /// [`Map::remove`] does. No memory is taken. The handle is empty after its last entry was removed.
+    pub fn pop_first(&mut self, forest: &mut MapForest<K, V>) -> Option<(K, V)>
+        requires live { IsLive forest.old self.old }
+        ensures { Pops 7 forest.old self.old 0 result forest.new self.new }
+    {
+        forest.trees.pop_first(&mut self.root)
+    }
+
+    /// Removes the last entry and returns it, or returns `None` and changes nothing where the map is empty.
+    ///
+    /// No comparison. Visits at most two nodes of each level on the way to the entry, and then rebalances or merges nodes as
+    /// [`Map::remove`] does. No memory is taken. The handle is empty after its last entry was removed.
+    pub fn pop_last(&mut self, forest: &mut MapForest<K, V>) -> Option<(K, V)>
+        requires live { IsLive forest.old self.old }
+        ensures { Pops 7 forest.old self.old (length (list_of forest.old self.old) - 1) result
+            forest.new self.new }
+    {
+        forest.trees.pop_last(&mut self.root)
     }
 
     /// Removes all entries. The handle is empty then, and all nodes of the tree are free. Other handles to the tree are not live then.

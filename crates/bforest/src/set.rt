@@ -1,18 +1,19 @@
 //! Handles of sets.
 ghost use Rattle.bforest_nodes.specs.Entries.{IsIncreasing, is_present};
-ghost use Rattle.bforest.specs.Bounds.{entries_between, entry_at_most};
-ghost use Rattle.bforest.specs.Calls.{Clears, Filters, Inserts, Removes};
+ghost use Rattle.bforest.specs.Bounds.{entries_between, entry_at_least, entry_at_most};
+ghost use Rattle.bforest.specs.Calls.{Clears, Filters, Inserts, Pops, Removes};
 ghost use Rattle.bforest.specs.Forest.{Forest, IsLive, first_level, list_of, sizes_of};
 ghost use Rattle.bforest.specs.Memory.{IsSetReadable};
 ghost use Rattle.bforest.specs.Retain.{MayAskEach};
-ghost use Rattle.bforest.specs.Set.{AnswersKey, MayAskKey, as_put, as_removed, elements, the_value};
+ghost use Rattle.bforest.specs.Set.{AnswersKey, MayAskKey, as_popped, as_put, as_removed, elements, the_value};
 ghost use Rattle.bforest.specs.SetCursor.{IsCursor, comparator, forest_loan, forest_now, set_loan, set_now, spot};
 ghost use Rattle.std.specs.Map.{keys_of};
 ghost use Rattle.std.specs.declared.cmp.Ordering.{Ordering};
-ghost use Rattle.std.specs.Prelude.{IsTrue, None, [], length, option_map, ◌*◌, ◌+◌, ◌-◌, ◌/◌, ◌<◌, ◌^◌, ◌≡◌, ◌≤◌, ◌↔◌};
+ghost use Rattle.std.specs.Prelude.{IsTrue, None, [], length, option_map, slice_get, ◌*◌, ◌+◌, ◌-◌, ◌/◌, ◌<◌, ◌^◌, ◌≡◌, ◌≤◌, ◌↔◌};
 
 use crate::asked_key::AskedKey;
 use crate::map::follows;
+use crate::map_cursor::key_of;
 use crate::set_cursor::SetCursor;
 use crate::set_forest::SetForest;
 use crate::set_iter::SetIter;
@@ -119,6 +120,40 @@ impl<K: Copy> Set<K> {
         }
     }
 
+    /// Returns the first key that is not less than `key`, as it is stored, or `None` where each key is less.
+    ///
+    /// One search, as in [`Set::contains`], and at most one step to the next leaf.
+    pub fn get_or_greater<C: Comparator<K>>(
+        &self,
+        key: K,
+        forest: &SetForest<K>,
+        comp: &C,
+    ) -> Option<K>
+        requires live { IsLive forest.now self.now }
+        requires increasing { IsIncreasing (C.order comp.now) (list_of forest.now self.now) }
+        ensures key { result ≡ option_map (λ e. e.0)
+            (entry_at_least (C.order comp.now) (list_of forest.now self.now) key) }
+    {
+        key_of(forest.trees.get_or_greater(self.root, key, comp))
+    }
+
+    /// Returns the first key, or `None` where the set is empty. Visits one node of each level. No comparison.
+    pub fn first(&self, forest: &SetForest<K>) -> Option<K>
+        requires live { IsLive forest.now self.now }
+        ensures key { result ≡ slice_get (elements forest.now self.now) 0 }
+    {
+        key_of(forest.trees.first_entry(self.root))
+    }
+
+    /// Returns the last key, or `None` where the set is empty. Visits one node of each level. No comparison.
+    pub fn last(&self, forest: &SetForest<K>) -> Option<K>
+        requires live { IsLive forest.now self.now }
+        ensures key { result
+            ≡ slice_get (elements forest.now self.now) (length (elements forest.now self.now) - 1) }
+    {
+        key_of(forest.trees.last_entry(self.root))
+    }
+
     /// Inserts a key and returns whether it was absent, exactly as [`Set::try_insert`] does.
     ///
     /// # Errors
@@ -173,6 +208,29 @@ impl<K: Copy> Set<K> {
             forest.new self.new }
     {
         forest.trees.remove(&mut self.root, key, comp).is_some()
+    }
+
+    /// Removes the first key and returns it, or returns `None` and changes nothing where the set is empty.
+    ///
+    /// No comparison. Visits at most two nodes of each level on the way to the key, and then rebalances or merges nodes as
+    /// [`Set::remove`] does. No memory is taken. The handle is empty after its last key was removed.
+    pub fn pop_first(&mut self, forest: &mut SetForest<K>) -> Option<K>
+        requires live { IsLive forest.old self.old }
+        ensures { Pops 15 forest.old self.old 0 (as_popped result) forest.new self.new }
+    {
+        key_of(forest.trees.pop_first(&mut self.root))
+    }
+
+    /// Removes the last key and returns it, or returns `None` and changes nothing where the set is empty.
+    ///
+    /// No comparison. Visits at most two nodes of each level on the way to the key, and then rebalances or merges nodes as
+    /// [`Set::remove`] does. No memory is taken. The handle is empty after its last key was removed.
+    pub fn pop_last(&mut self, forest: &mut SetForest<K>) -> Option<K>
+        requires live { IsLive forest.old self.old }
+        ensures { Pops 15 forest.old self.old (length (list_of forest.old self.old) - 1) (as_popped result)
+            forest.new self.new }
+    {
+        key_of(forest.trees.pop_last(&mut self.root))
     }
 
     /// Removes all keys. The handle is empty then, and all nodes of the tree are free. Other handles to the tree are not live then.

@@ -23,3 +23,6 @@ pub mod Between
 pub mod Meeting
 pub mod KeyOrder
 pub mod Ranging
+pub mod Peeking
+pub mod Popping
+pub mod Ensuring

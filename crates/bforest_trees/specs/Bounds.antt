@@ -1,7 +1,7 @@
 -- The part of a list of entries within bounds of its keys.
 use Rattle.std.specs.List.{filter, last_or}
 use Rattle.std.specs.Ordering.{is_gt, is_le, is_lt}
-use Rattle.std.specs.Prelude.{Bool, List, None, Option, count_by, false, not, true, ◌&&◌, ℕ}
+use Rattle.std.specs.Prelude.{Bool, List, None, Option, count_by, false, not, slice_get, true, ◌&&◌, ℕ}
 use Rattle.std.specs.declared.cmp.Ordering.{Ordering}
 use Rattle.std.specs.declared.ops.Bound.TheVariants.{Excluded, Included, Unbounded}
 use Rattle.std.specs.declared.ops.Bound.{Bound}
@@ -27,6 +27,10 @@ module _ {K X : Type 0} (cmp : K → K → Ordering) where
   -- the last of the entries whose keys are not greater than k
   abbrev pub entry_at_most : List (K × X) → K → Option (K × X)
   entry_at_most es k = last_or None (filter (λ e. not (is_gt (cmp e.0 k))) es)
+
+  -- the first of the entries whose keys are not less than k
+  abbrev pub entry_at_least : List (K × X) → K → Option (K × X)
+  entry_at_least es k = slice_get (filter (λ e. not (is_lt (cmp e.0 k))) es) 0
 
   -- the number of keys before a start bound: the place where a range begins
   abbrev pub start_place : Bound K → List (K × X) → ℕ

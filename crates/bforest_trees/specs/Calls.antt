@@ -4,9 +4,9 @@ use Rattle.bforest_core.specs.Sizes.{shrink}
 use Rattle.bforest_core.specs.declared.pool.OutOfMemory.TheVariants.{Full, Memory}
 use Rattle.bforest_core.specs.declared.pool.OutOfMemory.{OutOfMemory}
 use Rattle.bforest_nodes.specs.Entries.{IsIncreasing, cut, put, value_for}
-use Rattle.bforest_trees.specs.Forest.{Becomes, Forest, Gives, IsTooMany, Keeps, NeedsGrowth, Takes, free_of, list_of, need_of, sizes_of, sizes_with, sizes_without, slots_of}
+use Rattle.bforest_trees.specs.Forest.{Becomes, Forest, Gives, IsLive, IsTooMany, Keeps, NeedsGrowth, Takes, free_of, list_of, need_of, sizes_of, sizes_with, sizes_without, slots_of}
 use Rattle.bforest_trees.specs.Retain.{Retains}
-use Rattle.std.specs.Prelude.{Bool, Err, IfOk, IsOk, IsSome, None, OnErr, OnOk, Option, Result, [], if◌then◌else◌, length, nat_lt, remove, ◌+◌, ◌-◌, ◌<◌, ◌↔◌, ◌≡◌, ◌≤◌, ℕ}
+use Rattle.std.specs.Prelude.{Bool, Err, IfOk, IsOk, IsSome, None, Ok, OnErr, OnOk, Option, Result, [], if◌then◌else◌, length, nat_lt, remove, slice_get, unwrap_or, ◌+◌, ◌-◌, ◌<◌, ◌↔◌, ◌≡◌, ◌≤◌, ℕ}
 use Rattle.std.specs.declared.cmp.Ordering.{Ordering}
 
 module _ {K X : Type 0} where
@@ -23,6 +23,13 @@ module _ {K X : Type 0} where
     pub account : Gives (sizes_of f h) (sizes_of f' h') f f'
     pub end_forest : length (list_of f h) ≤ place → f' ≡ f
     pub end_handle : length (list_of f h) ≤ place → h' ≡ h
+
+  -- the entry at a place of h was removed and is answered, where a leaf has at most `most` entries; at the end
+  -- none is, and nothing changed
+  pub record Pops (most : ℕ) (f : Forest K X) (h : Option ℕ) (place : ℕ) (result : Option (K × X)) (f' : Forest K X) (h' : Option ℕ) : Type 0 where
+    pub entry : result ≡ slice_get (list_of f h) place
+    pub removed : RemovesAt most f h place f' h'
+    pub increasing : (order : K → K → Ordering) → IsIncreasing order (list_of f h) → IsIncreasing order (list_of f' h')
 
   -- f was asked for n free slots: all trees stay, and where fewer were free, exactly n are free in f'
   pub record Reserves (f : Forest K X) (n : ℕ) (result : Result (Unit {0}) OutOfMemory) (f' : Forest K X) : Type 0 where
@@ -51,6 +58,11 @@ module _ {K X : Type 0} where
     pub all_stay : length (list_of f' h') ≡ length (list_of f h) → h' ≡ h
     pub account : Gives (sizes_of f h) (sizes_of f' h') f f'
     pub increasing : (order : K → K → Ordering) → IsIncreasing order (list_of f h) → IsIncreasing order (list_of f' h')
+
+-- the answer of an insertion of an absent key, from that of a call that answers the value
+abbrev pub as_inserted : {X : Type 0} → Result X OutOfMemory → Result (Option X) OutOfMemory
+as_inserted (Ok x) = Ok None
+as_inserted (Err refused) = Err refused
 
 -- `most` is the number of entries that a leaf has at most
 module _ {K X : Type 0} (most : ℕ) (cmp : K → K → Ordering) where
@@ -82,3 +94,14 @@ module _ {K X : Type 0} (most : ℕ) (cmp : K → K → Ordering) where
     pub increasing : IsIncreasing cmp (list_of f' h')
     pub absent_forest : result ≡ None → f' ≡ f
     pub absent_handle : result ≡ None → h' ≡ h
+
+  -- the value of the key k of h is answered: the one that was there, and nothing changed, or x, which was
+  -- inserted; or the insertion was refused, and nothing changed
+  pub record GetsOrInserts (f : Forest K X) (h : Option ℕ) (k : K) (x : X) (result : Result X OutOfMemory) (f' : Forest K X) (h' : Option ℕ) : Type 0 where
+    pub value : IfOk result (λ v. v ≡ unwrap_or (value_for cmp (list_of f h) k) x)
+    pub present : IsSome (value_for cmp (list_of f h) k) → IsOk result
+    pub present_forest : IsSome (value_for cmp (list_of f h) k) → f' ≡ f
+    pub present_handle : IsSome (value_for cmp (list_of f h) k) → h' ≡ h
+    pub absent : value_for cmp (list_of f h) k ≡ None → Inserts f h k x (as_inserted result) f' h'
+    pub live : IsLive f' h'
+    pub increasing : IsIncreasing cmp (list_of f' h')

@@ -118,6 +118,13 @@ pub enum Call {
     Remove(u32),
     Get(u32),
     GetOrLess(u32),
+    GetOrGreater(u32),
+    /// The first entry and the last.
+    Ends,
+    PopFirst,
+    PopLast,
+    /// A set inserts the key.
+    GetOrInsert(Entry),
     /// All entries.
     Iter,
     /// Entries within bounds; of each step whether it is one from behind.
@@ -425,6 +432,23 @@ impl<C: Order> Subject for Model<'_, C> {
                 let below = self.lists[at].entries.range(..=self.order.rank(*key)).next_back();
                 vec![Answer::Entry(below.map(|it| *it.1))]
             }
+            Call::GetOrGreater(key) => {
+                let above = self.lists[at].entries.range(self.order.rank(*key)..).next();
+                vec![Answer::Entry(above.map(|it| *it.1))]
+            }
+            Call::Ends => {
+                let entries = &self.lists[at].entries;
+                [entries.first_key_value(), entries.last_key_value()].map(|it| Answer::Entry(it.map(|it| *it.1))).into()
+            }
+            Call::PopFirst | Call::PopLast => {
+                let ranks = &self.lists[at].ranks;
+                let rank = if matches!(call, Call::PopFirst) { ranks.first() } else { ranks.last() };
+                vec![Answer::Entry(rank.copied().and_then(|it| self.remove(at, it)))]
+            }
+            Call::GetOrInsert(entry) => match self.lists[at].entries.get(&self.order.rank(entry.0)) {
+                Some(stored) => vec![Answer::Put(Ok(Some(stored.1)))],
+                None => vec![Answer::Put(self.insert(at, *entry).map(|_| Some(entry.1)))],
+            },
             Call::Iter => self.lists[at].entries.values().map(|it| Answer::Entry(Some(*it))).collect(),
             Call::Range(low, high, ends) => self.range(at, *low, *high, ends),
             Call::Read(steps) | Call::Edit(steps) => {
@@ -511,6 +535,11 @@ impl<C: Order> Subject for Maps<'_, C> {
             Call::Remove(key) => vec![Answer::Value(map.remove(*key, forest, order))],
             Call::Get(key) => vec![Answer::Value(map.get(*key, forest, order))],
             Call::GetOrLess(key) => vec![Answer::Entry(map.get_or_less(*key, forest, order))],
+            Call::GetOrGreater(key) => vec![Answer::Entry(map.get_or_greater(*key, forest, order))],
+            Call::Ends => vec![Answer::Entry(map.first(forest)), Answer::Entry(map.last(forest))],
+            Call::PopFirst => vec![Answer::Entry(map.pop_first(forest))],
+            Call::PopLast => vec![Answer::Entry(map.pop_last(forest))],
+            Call::GetOrInsert((key, value)) => vec![Answer::Put(map.get_or_insert(*key, *value, forest, order).map(Some))],
             Call::Iter => {
                 assert!(map.increases(forest, order) && map.is_empty() == map.iter(forest).next().is_none());
                 map.iter(forest).map(|it| Answer::Entry(Some(it))).collect()
@@ -595,6 +624,11 @@ impl<C: Order> Subject for Sets<'_, C> {
             Call::Remove(key) => vec![as_value(set.remove(*key, forest, order))],
             Call::Get(key) => vec![as_value(set.contains(*key, forest, order))],
             Call::GetOrLess(key) => vec![as_entry(set.get_or_less(*key, forest, order))],
+            Call::GetOrGreater(key) => vec![as_entry(set.get_or_greater(*key, forest, order))],
+            Call::Ends => vec![as_entry(set.first(forest)), as_entry(set.last(forest))],
+            Call::PopFirst => vec![as_entry(set.pop_first(forest))],
+            Call::PopLast => vec![as_entry(set.pop_last(forest))],
+            Call::GetOrInsert((key, _)) => vec![Answer::Put(set.insert(*key, forest, order).map(|_| Some(0)))],
             Call::Iter => {
                 assert!(set.increases(forest, order) && set.is_empty() == set.iter(forest).next().is_none());
                 set.iter(forest).map(|it| as_entry(Some(it))).collect()
@@ -682,12 +716,19 @@ impl Draw {
         let key = random.below(self.keys);
         let kind = random.below(64);
         if kind < self.losses {
-            return Call::Remove(key);
+            return match random.below(8) {
+                0 => Call::PopFirst,
+                1 => Call::PopLast,
+                _ => Call::Remove(key),
+            };
         }
         match random.below(64) {
-            0..=31 => Call::Insert((key, self.value(random))),
-            32..=37 => Call::Get(key),
-            38..=43 => Call::GetOrLess(key),
+            0..=27 => Call::Insert((key, self.value(random))),
+            28..=31 => Call::GetOrInsert((key, self.value(random))),
+            32..=35 => Call::Get(key),
+            36..=39 => Call::GetOrLess(key),
+            40..=42 => Call::GetOrGreater(key),
+            43 => Call::Ends,
             44..=49 => {
                 let (low, high) = (self.bound(random), self.bound(random));
                 let count = random.below(12);

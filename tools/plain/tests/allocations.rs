@@ -62,7 +62,7 @@ const STEPS: u32 = 200_000;
 fn read_map(call: u32, key: u32, map: &Map<u32, u32>, forest: &MapForest<u32, u32>) {
     match call {
         0 => drop(map.get(key, forest, &())),
-        1 => drop(map.get_or_less(key, forest, &())),
+        1 => drop((map.get_or_less(key, forest, &()), map.get_or_greater(key, forest, &()))),
         2 => assert!(map.iter(forest).count() < 1 << 16),
         3 => assert!(map.range(key.., forest, &()).rev().count() < 1 << 16),
         4 => {
@@ -73,7 +73,7 @@ fn read_map(call: u32, key: u32, map: &Map<u32, u32>, forest: &MapForest<u32, u3
             cursor.goto_end();
             cursor.goto_first();
         }
-        5 => assert!(map.increases(forest, &()) && forest.holds(map)),
+        5 => assert!(map.increases(forest, &()) && forest.holds(map) && map.first(forest) <= map.last(forest)),
         _ => assert!(map.levels(forest) <= 17 && map.is_empty() == (map.levels(forest) == 0)),
     }
 }
@@ -82,7 +82,9 @@ fn read_map(call: u32, key: u32, map: &Map<u32, u32>, forest: &MapForest<u32, u3
 fn change_map(call: u32, key: u32, map: &mut Map<u32, u32>, forest: &mut MapForest<u32, u32>) {
     match call {
         0 => drop(map.insert(key, key, forest, &())),
+        1 if key % 2 == 0 => drop(map.get_or_insert(key, key, forest, &())),
         1 => drop(map.try_insert(key, key, forest, &())),
+        2 if key % 8 == 0 => drop((map.pop_first(forest), map.pop_last(forest))),
         2 => drop(map.remove(key, forest, &())),
         3 => {
             let mut cursor = map.cursor_mut(forest, &());
@@ -108,6 +110,7 @@ fn call_set(call: u32, key: u32, set: &mut Set<u32>, forest: &mut SetForest<u32>
     match call {
         0 if key % 2 == 0 => drop(set.insert(key, forest, &())),
         0 => drop(set.try_insert(key, forest, &())),
+        1 if key % 8 == 0 => drop((set.pop_first(forest), set.pop_last(forest))),
         1 => drop(set.remove(key, forest, &())),
         2 => {
             let mut cursor = set.cursor(forest, &());
@@ -117,7 +120,12 @@ fn call_set(call: u32, key: u32, set: &mut Set<u32>, forest: &mut SetForest<u32>
         }
         3 if key % 16 == 0 => set.clear(forest),
         3 => set.retain(forest, |it| it % 7 != key % 7),
-        4 => assert!(set.contains(key, forest, &()) == (set.get_or_less(key, forest, &()) == Some(key))),
+        4 => {
+            let there = set.contains(key, forest, &());
+            assert!(there == (set.get_or_less(key, forest, &()) == Some(key)));
+            assert!(there == (set.get_or_greater(key, forest, &()) == Some(key)));
+            assert!(set.first(forest) <= set.last(forest));
+        }
         5 => assert!(set.iter(forest).count() == set.range(.., forest, &()).count()),
         _ => assert!(set.increases(forest, &()) && forest.holds(set) && set.levels(forest) <= 17),
     }

@@ -150,9 +150,11 @@ type Search<H, F> = fn(&mut H, u32, &mut F, &Counting);
 type MapSearch = Search<Map<u32, u32>, MapForest<u32, u32>>;
 type SetSearch = Search<Set<u32>, SetForest<u32>>;
 
-const OF_MAPS: [(&str, MapSearch); 8] = [
+const OF_MAPS: [(&str, MapSearch); 10] = [
     ("get", |map, key, forest, comp| _ = map.get(key, forest, comp)),
     ("get_or_less", |map, key, forest, comp| _ = map.get_or_less(key, forest, comp)),
+    ("get_or_greater", |map, key, forest, comp| _ = map.get_or_greater(key, forest, comp)),
+    ("get_or_insert", |map, key, forest, comp| _ = map.get_or_insert(key, 0, forest, comp).unwrap()),
     ("insert", |map, key, forest, comp| _ = map.insert(key, 0, forest, comp).unwrap()),
     ("try_insert", |map, key, forest, comp| _ = map.try_insert(key, 0, forest, comp).unwrap()),
     ("remove", |map, key, forest, comp| _ = map.remove(key, forest, comp)),
@@ -165,9 +167,10 @@ const OF_MAPS: [(&str, MapSearch); 8] = [
     }),
 ];
 
-const OF_SETS: [(&str, SetSearch); 7] = [
+const OF_SETS: [(&str, SetSearch); 8] = [
     ("contains", |set, key, forest, comp| _ = set.contains(key, forest, comp)),
     ("get_or_less", |set, key, forest, comp| _ = set.get_or_less(key, forest, comp)),
+    ("get_or_greater", |set, key, forest, comp| _ = set.get_or_greater(key, forest, comp)),
     ("insert", |set, key, forest, comp| _ = set.insert(key, forest, comp).unwrap()),
     ("try_insert", |set, key, forest, comp| _ = set.try_insert(key, forest, comp).unwrap()),
     ("remove", |set, key, forest, comp| _ = set.remove(key, forest, comp)),

@@ -86,12 +86,18 @@ type NumbersForest = MapForest<u32, u32>;
 type MapCall = Call<Numbers, NumbersForest>;
 type SetCall = Call<Set<u32>, SetForest<u32>>;
 
-const OF_MAPS: [(&str, MapCall); 15] = [
+const OF_MAPS: [(&str, MapCall); 21] = [
     ("get", |map, forest| _ = map.get(1, forest, &())),
     ("get_or_less", |map, forest| _ = map.get_or_less(1, forest, &())),
+    ("get_or_greater", |map, forest| _ = map.get_or_greater(1, forest, &())),
+    ("first", |map, forest| _ = map.first(forest)),
+    ("last", |map, forest| _ = map.last(forest)),
     ("insert", |map, forest| _ = map.insert(1, 2, forest, &())),
     ("try_insert", |map, forest| _ = map.try_insert(1, 2, forest, &())),
+    ("get_or_insert", |map, forest| _ = map.get_or_insert(1, 2, forest, &())),
     ("remove", |map, forest| _ = map.remove(1, forest, &())),
+    ("pop_first", |map, forest| _ = map.pop_first(forest)),
+    ("pop_last", |map, forest| _ = map.pop_last(forest)),
     ("clear", |map, forest| map.clear(forest)),
     ("retain", |map, forest| map.retain(forest, |key, _| key > 1)),
     ("levels", |map, forest| _ = map.levels(forest)),
@@ -104,12 +110,17 @@ const OF_MAPS: [(&str, MapCall); 15] = [
     ("debug", |map, forest| _ = format!("{:?}", map.debug(forest))),
 ];
 
-const OF_SETS: [(&str, SetCall); 13] = [
+const OF_SETS: [(&str, SetCall); 18] = [
     ("contains", |set, forest| _ = set.contains(1, forest, &())),
     ("get_or_less", |set, forest| _ = set.get_or_less(1, forest, &())),
+    ("get_or_greater", |set, forest| _ = set.get_or_greater(1, forest, &())),
+    ("first", |set, forest| _ = set.first(forest)),
+    ("last", |set, forest| _ = set.last(forest)),
     ("insert", |set, forest| _ = set.insert(1, forest, &())),
     ("try_insert", |set, forest| _ = set.try_insert(1, forest, &())),
     ("remove", |set, forest| _ = set.remove(1, forest, &())),
+    ("pop_first", |set, forest| _ = set.pop_first(forest)),
+    ("pop_last", |set, forest| _ = set.pop_last(forest)),
     ("clear", |set, forest| set.clear(forest)),
     ("retain", |set, forest| set.retain(forest, |key| key > 1)),
     ("levels", |set, forest| _ = set.levels(forest)),
@@ -388,7 +399,7 @@ fn call_map(map: &mut Numbers, forest: &mut NumbersForest, random: &Random, orde
     match random.below(10) {
         0..=2 => _ = map.insert(key, other, forest, &order),
         3..=4 => _ = map.remove(key, forest, &order),
-        5 => _ = (map.get(key, forest, &order), map.get_or_less(other, forest, &order)),
+        5 => _ = (map.get(key, forest, &order), map.get_or_less(other, forest, &order), map.get_or_greater(key, forest, &order)),
         6 => _ = map.range(key..other, forest, &order).count(),
         7 => _ = map.range(..=key, forest, &order).rev().count(),
         8 => {
@@ -408,7 +419,7 @@ fn call_set(set: &mut Set<u32>, forest: &mut SetForest<u32>, random: &Random, or
     match random.below(10) {
         0..=2 => _ = set.insert(key, forest, &order),
         3..=4 => _ = set.remove(key, forest, &order),
-        5 => _ = (set.contains(key, forest, &order), set.get_or_less(other, forest, &order)),
+        5 => _ = (set.contains(key, forest, &order), set.get_or_less(other, forest, &order), set.get_or_greater(key, forest, &order)),
         6 => _ = set.range(key..other, forest, &order).count(),
         7 => _ = set.range(..=key, forest, &order).rev().count(),
         8 => {
@@ -434,6 +445,7 @@ fn a_map_read_under_another_order() {
     for key in 0..=101 {
         survived("get", || map.get(key, &forest, &reversed));
         survived("get_or_less", || map.get_or_less(key, &forest, &reversed));
+        survived("get_or_greater", || map.get_or_greater(key, &forest, &reversed));
         survived("range", || map.range(key.., &forest, &reversed).count());
         survived("cursor", || map.cursor(&forest, &reversed).goto(key));
     }
@@ -449,6 +461,7 @@ fn a_set_read_under_another_order() {
     for key in 0..=101 {
         survived("contains", || set.contains(key, &forest, &reversed));
         survived("get_or_less", || set.get_or_less(key, &forest, &reversed));
+        survived("get_or_greater", || set.get_or_greater(key, &forest, &reversed));
         survived("range", || set.range(key.., &forest, &reversed).count());
     }
     survived("cursor", || set.clone().cursor(&mut forest.clone(), &reversed).goto(7));

@@ -116,6 +116,10 @@ with_both_searches!(
     an_empty_map_answers_none,
     a_second_insertion_replaces_the_value,
     get_or_less_finds_the_key_or_the_one_before,
+    get_or_greater_finds_the_key_or_the_one_behind,
+    a_key_behind_its_leaf_has_the_next_leaf_s_first_entry,
+    get_or_insert_keeps_what_is_there,
+    a_map_is_emptied_from_both_ends,
     a_cursor_goes_to_the_next_greater_key_and_back,
     a_new_cursor_stands_at_the_end,
     removing_at_a_cursor_goes_on_to_the_next_entry,
@@ -184,6 +188,46 @@ fn get_or_less_finds_the_key_or_the_one_before<C: Comparator<u32>>(comp: &C) {
     assert_eq!(map.get_or_less(20, &forest, comp), Some((20, 2)));
     assert_eq!(map.get_or_less(5, &forest, comp), None);
     assert_eq!(map.get_or_less(99, &forest, comp), Some((30, 3)));
+}
+
+fn get_or_greater_finds_the_key_or_the_one_behind<C: Comparator<u32>>(comp: &C) {
+    let mut forest = Forest::new();
+    let map = three(&mut forest, comp);
+    assert_eq!(map.get_or_greater(15, &forest, comp), Some((20, 2)));
+    assert_eq!(map.get_or_greater(20, &forest, comp), Some((20, 2)));
+    assert_eq!(map.get_or_greater(0, &forest, comp), Some((10, 1)));
+    assert_eq!(map.get_or_greater(31, &forest, comp), None);
+}
+
+/// Eight keys make two leaves of four: 10 to 40, and 50 to 80.
+fn a_key_behind_its_leaf_has_the_next_leaf_s_first_entry<C: Comparator<u32>>(comp: &C) {
+    let (mut map, mut forest) = (Numbers::new(), Forest::new());
+    for key in 1..=8 {
+        assert_eq!(map.insert(10 * key, key, &mut forest, comp), Ok(None));
+    }
+    assert_eq!(map.levels(&forest), 2);
+    assert_eq!(map.get_or_greater(45, &forest, comp), Some((50, 5)));
+    assert_eq!((map.first(&forest), map.last(&forest)), (Some((10, 1)), Some((80, 8))));
+}
+
+fn get_or_insert_keeps_what_is_there<C: Comparator<u32>>(comp: &C) {
+    let (mut map, mut forest) = (Numbers::new(), Forest::with_node_limit(1));
+    assert_eq!(map.get_or_insert(5, 50, &mut forest, comp), Ok(50));
+    assert_eq!(map.get_or_insert(5, 51, &mut forest, comp), Ok(50));
+    let mut other = Numbers::new();
+    assert_eq!(other.get_or_insert(5, 50, &mut forest, comp), Err(OutOfMemory::Full));
+    assert!(other.is_empty() && map.get(5, &forest, comp) == Some(50));
+}
+
+fn a_map_is_emptied_from_both_ends<C: Comparator<u32>>(comp: &C) {
+    let mut forest = Forest::new();
+    let mut map = three(&mut forest, comp);
+    assert_eq!(map.pop_last(&mut forest), Some((30, 3)));
+    assert_eq!(map.pop_first(&mut forest), Some((10, 1)));
+    assert_eq!(map.pop_first(&mut forest), Some((20, 2)));
+    assert_eq!((map.pop_first(&mut forest), map.pop_last(&mut forest)), (None, None));
+    assert!(map.is_empty() && map.first(&forest).is_none() && map.last(&forest).is_none());
+    assert_eq!(forest.free_slots(), forest.slots());
 }
 
 fn equal_keys_share_an_entry<C: Comparator<u32>>(tens: &C) {

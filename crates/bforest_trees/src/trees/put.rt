@@ -34,7 +34,7 @@ impl<K: Copy, V: Copy, const N: usize> Trees<K, V, N> {
     }
 
     // Inserts the first entry of an empty tree.
-    fn put_first(
+    pub(super) fn put_first(
         &mut self,
         handle: &mut PackedNode,
         key: K,

@@ -1,0 +1,61 @@
+use Rattle.bforest_trees.proofs.Changed.{list-root, live-root}
+use Rattle.bforest_trees.proofs.Ensuring.{found-there, was-inserted, was-refused, was-there}
+use Rattle.bforest_trees.proofs.Entering.{added, at-key, refused}
+use Rattle.bforest_trees.proofs.trees.Trees.get_or_insert_under.Given.{Over}
+use Rattle.bforest_trees.proofs.trees.Trees.get_or_insert_under.Goals as goal
+use Rattle.bforest_core.specs.Paths.{list_under}
+use Rattle.std.proofs.Common.{Err, Some, ap, rules, ◌∙◌, ◌≡◌}
+use Rattle.std.proofs.lemmas.Result.{err_from_is_err_and}
+
+pub find-requires : goal.find-requires
+find-requires g c =
+    let p = c.self.inside.pool in
+    let root = live-root p c.args.root (rw (← c.self.view_is) at c.requires.live) in
+    (search rules, (search rules, (c.self.invariant, (root, (rw (← c.self.view_is, list-root p c.args.root root) at c.requires.increasing)))))
+
+pub returns-in-Some : goal.returns-in-Some
+returns-in-Some g c =
+    let p = c.self.inside.pool in
+    let cmp = g.C.Comparator.order c.args.comp.now in
+    let live = rw (← c.self.view_is) at c.requires.live in
+    let there = found-there g.row.N cmp p (Some c.args.root) c.args.key c.args.value (list_under p c.args.root) c.find.result c.in-Some.stored (list-root p c.args.root (live-root p c.args.root live)) c.find.ensures.value c.in-Some.is in
+    rw (c.requires.root, ← c.self.view_is) (was-there g.row.N cmp p (Some c.args.root) c.args.key c.args.value c.in-Some.stored there live (rw (← c.self.view_is) at c.requires.increasing))
+
+pub insert-requires : goal.insert-requires
+insert-requires g c =
+    let live = rw (← c.self.view_is) at c.requires.live in
+    (search rules, (search rules, (c.self.invariant, at-key g.row.N (g.C.Comparator.order c.args.comp.now) _ _ c.args.key live _ _ c.find.ensures.value c.find.ensures.absent c.in_default.is)))
+
+-- the error is that of the insertion
+err_at : (g : Over) (c : goal.After-from_residual g) → c.from_residual.result ≡ Err c.in_err-root.field-0.0
+err_at g c =
+    let e = err_from_is_err_and c.from_residual.result c.from_residual.ensures.1 in
+    e.1 ∙ ap Err e.2
+
+pub returns-in_err-root : goal.returns-in_err-root
+returns-in_err-root g c =
+    let p = c.self.inside.pool in
+    let cmp = g.C.Comparator.order c.args.comp.now in
+    let live = rw (← c.self.view_is) at c.requires.live in
+    let up = rw (← c.self.view_is) at c.requires.increasing in
+    let e = at-key g.row.N cmp _ _ c.args.key live _ _ c.find.ensures.value c.find.ensures.absent c.in_default.is in
+    rw (err_at g c, c.requires.root, c.in_err-root.ensures.refused_pool, ← c.self.view_is)
+    (was-refused g.row.N cmp p (Some c.args.root) c.args.key c.args.value c.in_err-root.field-0.0 p (Some c.args.root) live
+    (refused g.row.N cmp _ _ c.args.key live _ _ c.find.ensures.value c.find.ensures.absent c.in_default.is c.insert.result (c.insert.ensures.full e) up c.args.value c.in_err-root.field-0.0 c.in_err-root.was (c.insert.ensures.memory e) (c.insert.ensures.enough e)))
+
+pub invariant_of-self-2 : goal.invariant_of-self-2
+invariant_of-self-2 g c =
+    let live = rw (← c.self.view_is) at c.requires.live in
+    (c.in_ok-root.ensures.inserted (at-key g.row.N (g.C.Comparator.order c.args.comp.now) _ _ c.args.key live _ _ c.find.ensures.value c.find.ensures.absent c.in_default.is)).union
+
+pub returns : goal.returns
+returns g c =
+    let p = c.self.inside.pool in
+    let cmp = g.C.Comparator.order c.args.comp.now in
+    let live = rw (← c.self.view_is) at c.requires.live in
+    let up = rw (← c.self.view_is) at c.requires.increasing in
+    let e = at-key g.row.N cmp _ _ c.args.key live _ _ c.find.ensures.value c.find.ensures.absent c.in_default.is in
+    rw (c.some.ensures.node, ← c.self.view_is)
+    (was-inserted g.row.N cmp p (Some c.args.root) c.args.key c.args.value c.insert.new.pool (Some c.in_ok-root.root)
+    (added g.row.N cmp _ _ c.args.key live _ _ c.find.ensures.value c.find.ensures.absent c.in_default.is c.insert.result (c.insert.ensures.full e) (g.met.C.Comparator.total c.args.comp.now) up c.args.value c.in_ok-root.root c.in_ok-root.was c.insert.new.pool
+    (c.in_ok-root.ensures.inserted e) (c.in_ok-root.ensures.account e) (c.in_ok-root.ensures.same_root e)))

@@ -1,0 +1,30 @@
+//! Taking the first entry or the last out of a list.
+ghost use Rattle.bforest_trees.specs.Calls.{Pops};
+ghost use Rattle.bforest_trees.specs.Forest.{IsLive, list_of};
+ghost use Rattle.std.specs.Prelude.{length, ◌-◌};
+
+use crate::trees::Trees;
+use bforest_core::{PackedNode, Path};
+
+impl<K: Copy, V: Copy, const N: usize> Trees<K, V, N> {
+    /// Removes the first entry, and returns it. In an empty list there is none, and nothing changes.
+    pub fn pop_first(&mut self, handle: &mut PackedNode) -> Option<(K, V)>
+        requires live { IsLive self.old handle.old }
+        ensures { Pops N self.old handle.old 0 result self.new handle.new }
+    {
+        let mut path = Path::default();
+        self.first(*handle, &mut path);
+        self.take(handle, &mut path)
+    }
+
+    /// Removes the last entry, and returns it. In an empty list there is none, and nothing changes.
+    pub fn pop_last(&mut self, handle: &mut PackedNode) -> Option<(K, V)>
+        requires live { IsLive self.old handle.old }
+        ensures { Pops N self.old handle.old (length (list_of self.old handle.old) - 1) result
+            self.new handle.new }
+    {
+        let mut end = Path::default();
+        self.prev(*handle, &mut end);
+        self.take(handle, &mut end)
+    }
+}
