@@ -3,8 +3,7 @@
 #![tactic(auto)]
 
 ghost use Rattle.bforest.specs.Bounds.{entries_between};
-ghost use Rattle.bforest.specs.Forest.{IsLive, list_of};
-ghost use Rattle.bforest.specs.Entries.{IsIncreasing, put, value_at_place};
+ghost use Rattle.bforest.specs.Entries.{put};
 ghost use Rattle.order_book_example.specs.Sides.{IsTotalOrder-order_of, order_of};
 ghost use Rattle.std.specs.List.{last_or};
 ghost use Rattle.std.specs.Prelude.{None, OnErr, OnOk, [], drop, remove, slice_get, ◌≡◌};
@@ -89,7 +88,7 @@ impl Levels {
     fn best(&self) -> Option<Level>
         ensures { result ≡ slice_get self.now.0 0 }
     {
-        self.map.iter(&self.forest).next()
+        self.map.first(&self.forest)
     }
 
     /// The first level from one price to another, and the last of the others.
@@ -104,31 +103,13 @@ impl Levels {
         (levels.next(), levels.next_back())
     }
 
-    /// Removes the best level, and returns its amount: then the second is the best, and all others stay.
-    fn take_best(&mut self) -> Option<u32>
-        ensures amount { result ≡ value_at_place self.old.0 0 }
+    /// Removes the best level, and returns it: then the second is the best, and all others stay.
+    fn take_best(&mut self) -> Option<Level>
+        ensures level { result ≡ slice_get self.old.0 0 }
         ensures rest { self.new ≡ (remove self.old.0 0, self.old.1) }
     {
-        remove_first(&mut self.map, &mut self.forest, &self.side)
+        self.map.pop_first(&mut self.forest)
     }
-}
-
-// Removes the first entry of a map by a cursor, which compares nothing, and returns its value.
-fn remove_first<C: Comparator<u32>>(
-    map: &mut Map<u32, u32>,
-    forest: &mut MapForest<u32, u32>,
-    comp: &C,
-) -> Option<u32>
-    requires live { IsLive forest.old map.old }
-    requires increasing { IsIncreasing (C.order comp.now) (list_of forest.old map.old) }
-    ensures value { result ≡ value_at_place (list_of forest.old map.old) 0 }
-    ensures live { IsLive forest.new map.new }
-    ensures increasing { IsIncreasing (C.order comp.now) (list_of forest.new map.new) }
-    ensures rest { list_of forest.new map.new ≡ remove (list_of forest.old map.old) 0 }
-{
-    let mut first = map.cursor_mut(forest, comp);
-    first.goto_first();
-    first.remove()
 }
 
 // Makes two sides with levels, where the best bid is not less than the best ask.
