@@ -14,6 +14,7 @@ pub mod Turns
 pub mod Standing
 pub mod Nearby
 pub mod Codes
+pub mod Ranks
 pub mod CodesDown
 pub mod Cousins
 pub mod Back
