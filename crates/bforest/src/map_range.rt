@@ -19,7 +19,7 @@ use std::ops::Bound;
 pub struct MapRange<'a, K: Copy, V: Copy, C: Comparator<K>> {
     trees: &'a Trees<K, V, 7>,
     root: PackedNode,
-    ends: Ends<K, V, 7>,
+    ends: Ends<'a, K, V>,
     mark: PhantomData<C>,
 }
 
@@ -67,6 +67,7 @@ impl<'a, K: Copy, V: Copy, C: Comparator<K>> Iterator for MapRange<'a, K, V, C> 
 
     ghost remaining = { item_count (λ entries. entries) };
 
+    #[inline(always)]
     fn next(&mut self) -> Option<(K, V)> {
         self.trees.range_next(self.root, &mut self.ends)
     }
@@ -77,6 +78,7 @@ impl<'a, K: Copy, V: Copy, C: Comparator<K>> DoubleEndedIterator for MapRange<'a
 
     ghost next_back_gives = { YieldsLast (λ entries. entries) };
 
+    #[inline(always)]
     fn next_back(&mut self) -> Option<(K, V)> {
         self.trees.range_next_back(self.root, &mut self.ends)
     }

@@ -21,7 +21,7 @@ use std::ops::Bound;
 pub struct SetRange<'a, K: Copy, C: Comparator<K>> {
     trees: &'a Trees<K, SetValue, 15>,
     root: PackedNode,
-    ends: Ends<K, SetValue, 15>,
+    ends: Ends<'a, K, SetValue>,
     mark: PhantomData<C>,
 }
 
@@ -70,6 +70,7 @@ impl<'a, K: Copy, C: Comparator<K>> Iterator for SetRange<'a, K, C> {
 
     ghost remaining = { item_count (λ keys. keys) };
 
+    #[inline(always)]
     fn next(&mut self) -> Option<K> {
         key_of(self.trees.range_next(self.root, &mut self.ends))
     }
@@ -80,6 +81,7 @@ impl<'a, K: Copy, C: Comparator<K>> DoubleEndedIterator for SetRange<'a, K, C> {
 
     ghost next_back_gives = { YieldsLast (λ keys. keys) };
 
+    #[inline(always)]
     fn next_back(&mut self) -> Option<K> {
         key_of(self.trees.range_next_back(self.root, &mut self.ends))
     }

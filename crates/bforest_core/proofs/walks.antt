@@ -15,6 +15,7 @@ pub mod Turning
 pub mod Standing
 pub mod Nearby
 pub mod Codes
+pub mod Ranks
 pub mod CodesDown
 pub mod Cousins
 pub mod Back

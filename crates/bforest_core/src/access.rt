@@ -33,6 +33,7 @@ pub(crate) fn put_child<K: Copy, V: Copy, const N: usize>(
 }
 
 // The index of the child of an inner node in which a search for `key` continues, and the child.
+#[inline(always)]
 pub(crate) fn follow<K: Copy, V: Copy, const N: usize, C: Comparator<K>>(
     pool: &NodePool<K, V, N>,
     node: Node,

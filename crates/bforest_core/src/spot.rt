@@ -40,6 +40,14 @@ impl Spot {
         }
     }
 
+    /// A number for the leaf: of two leaves of a tree, the one in front has the lower number.
+    #[inline(always)]
+    pub fn code(&self) -> u64
+        ensures code { result ≡ self.now.code }
+    {
+        self.code
+    }
+
     /// The first leaf below a root, and its place.
     #[inline(always)]
     pub fn first<K: Copy, V: Copy, const N: usize>(
@@ -506,9 +514,11 @@ fn find_below<K: Copy, V: Copy, const N: usize, C: Comparator<K>>(
         → IsWay numbers spot upper (length on.before)
         → EndsOn (C.order comp.now) pool.now.nodes leaves (on.lower ++ upper) key result.0 result.1 }
 {
-    if !pool.node(node).is_inner() {
-        return (spot, node);
+    let (mut here, mut lower) = (spot, node);
+    while pool.node(lower).is_inner() {
+        let (index, child) = follow(pool, lower, key, comp);
+        here = here.below(lower, index);
+        lower = child;
     }
-    let (index, child) = follow(pool, node, key, comp);
-    find_below(spot.below(node, index), child, key, pool, comp)
+    (here, lower)
 }

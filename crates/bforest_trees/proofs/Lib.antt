@@ -20,8 +20,7 @@ pub mod Stepping
 pub mod Writing
 pub mod Taking
 pub mod Between
-pub mod Meeting
-pub mod KeyOrder
+pub mod Beside
 pub mod Ranging
 pub mod Peeking
 pub mod Popping

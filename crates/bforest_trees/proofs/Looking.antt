@@ -38,7 +38,7 @@ module _ {K V : Type 0} (table : Table K V) {root place number : ℕ} (l : IsLea
   leaves = (tree_of table.nodes root).leaves
 
   -- how many entries are in front of a leaf
-  start-is : start_of table root place ≡ length (flat l.before)
+  pub start-is : start_of table root place ≡ length (flat l.before)
   start-is = ap (λ z. length (flat (take place z))) l.leaves_are ∙ ap (λ z. length (flat z)) (take_at l.before (node number l.entries ∷ l.after) place l.at)
 
   -- the list is cut at the leaf
@@ -84,19 +84,19 @@ module _ {K V : Type 0} {table : Table K V} {handle : Option ℕ} {spot : Spot} 
   from-within = omega (arith, f.start_is, ap length from-list, leaf-within table f.leaf)
 
   -- behind the leaf's entries the next leaf begins
-  from-behind : start + length f.leaf.entries ≡ start_of table f.root (suc f.place)
+  pub from-behind : start + length f.leaf.entries ≡ start_of table f.root (suc f.place)
   from-behind = omega (arith, f.start_is, start-behind table f.leaf)
 
   -- the root is the handle's
   from-root : (root : ℕ) → handle ≡ Some root → f.root ≡ root
   from-root root is = some_same f.root root (sym f.handle_is ∙ is)
 
-  from-spot : (root : ℕ) → handle ≡ Some root → IsSpotAt table root spot f.place
+  pub from-spot : (root : ℕ) → handle ≡ Some root → IsSpotAt table root spot f.place
   from-spot root is = subst (λ z. IsSpotAt table z spot f.place) (from-root root is) f.on
 
 module _ {K V : Type 0} {table : Table K V} {handle : Option ℕ} {look : Look K V} {start : ℕ} (h : Holds table handle look start) where
   -- a look holds as many keys as its leaf has entries
-  held-count : length look.keys.now ≡ length h.from.leaf.entries
+  pub held-count : length look.keys.now ≡ length h.from.leaf.entries
   held-count = ap length h.keys ∙ length-map h.from.leaf.entries (λ e. e.0)
 
   pub held-paired : IsPaired look
@@ -105,7 +105,7 @@ module _ {K V : Type 0} {table : Table K V} {handle : Option ℕ} {look : Look K
   held-some : 1 ≤ length look.keys.now
   held-some = omega (arith, held-count, h.from.leaf.some)
 
-  held-within : start + length look.keys.now ≤ length (list_of table handle)
+  pub held-within : start + length look.keys.now ≤ length (list_of table handle)
   held-within = omega (arith, held-count, from-within h.from)
 
   -- a key and a value that are read are an entry of the list
@@ -124,7 +124,7 @@ module _ {K V : Type 0} {table : Table K V} {handle : Option ℕ} {look : Look K
   on-first none = inl (record { start = start; holds = h; within = omega (arith, none, held-some); place_is = omega (arith, none) })
 
 -- a look that holds no leaf holds no key
-keyless : {K V : Type 0} {look : Look K V} → HasNoLeaf look → length look.keys.now ≡ 0
+pub keyless : {K V : Type 0} {look : Look K V} → HasNoLeaf look → length look.keys.now ≡ 0
 keyless none = ap length none.keys
 
 module _ {K V : Type 0} {table : Table K V} {handle : Option ℕ} {look : Look K V} {place : ℕ} (l : IsLook table handle look place) where

@@ -50,6 +50,7 @@ module _ {K X : Type 0} where
     pub vals : look.vals.now ≡ []
     pub index : look.index ≡ 0
     pub spot : HasNoParent look.spot
+    pub code : look.spot.code ≡ 0
 
   -- a look holds as many values as keys
   abbrev pub IsPaired : Look K X → Type 0

@@ -4,7 +4,7 @@ ghost use Rattle.bforest_core.specs.Trees.{IsUnion};
 ghost use Rattle.bforest_nodes.specs.Entries.{IsIncreasing, place, value_for};
 ghost use Rattle.bforest_trees.specs.Forest.{Forest, IsLive, list_of};
 ghost use Rattle.bforest_trees.specs.Looks.{AtLook, Holds, HoldsPlace, IsBehind, IsLook, IsPaired, LeafFrom, LeafUpTo};
-ghost use Rattle.std.specs.Prelude.{IfSome, None, Option, Some, length, min, slice_get, ◌+◌, ◌-◌, ◌<◌, ◌≡◌, ℕ};
+ghost use Rattle.std.specs.Prelude.{IfSome, IsTrue, None, Option, Some, length, min, slice_get, ◌+◌, ◌-◌, ◌<◌, ◌↔◌, ◌≡◌, ℕ};
 
 use crate::trees::Trees;
 use bforest_core::{Comparator, Node, NodePool, PackedNode, Spot};
@@ -78,6 +78,38 @@ impl<'a, K: Copy, V: Copy> Look<'a, K, V> {
         ensures value { slice_get self.now.vals.now self.now.index ≡ Some result.1 }
     {
         (self.keys[self.index], self.vals[self.index])
+    }
+
+    // Whether another look into the same list is at the same place: at one index of one leaf, or at the end, where it holds no key.
+    #[inline(always)]
+    pub(crate) fn is_same(&self, other: &Look<'a, K, V>) -> bool
+        ensures same { (table : Forest K V) (handle : Option ℕ) (at place : ℕ)
+            → IsLook table handle self.now at → IsLook table handle other.now place
+            → IsTrue result ↔ (at ≡ place) }
+    {
+        self.index == other.index
+            && self.spot.code() == other.spot.code()
+            && self.keys.len() == other.keys.len()
+    }
+
+    // Whether another look into the same list is at a place in front of it.
+    #[inline(always)]
+    pub(crate) fn is_behind(&self, other: &Look<'a, K, V>) -> bool
+        ensures behind { (table : Forest K V) (handle : Option ℕ) (at place : ℕ)
+            → IsLook table handle self.now at → IsLook table handle other.now place
+            → IsTrue result ↔ (place < at) }
+    {
+        if other.keys.is_empty() {
+            return false;
+        }
+        if self.keys.is_empty() {
+            return true;
+        }
+        let (here, there) = (self.spot.code(), other.spot.code());
+        if here == there {
+            return other.index < self.index;
+        }
+        there < here
     }
 
     /// Goes to the first entry and returns it. In an empty list that is the end.

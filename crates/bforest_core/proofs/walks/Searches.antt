@@ -122,6 +122,11 @@ module _ {K V : Type 0} {cmp : K → K → Ordering} (o : IsTotalOrder cmp) {mos
               join = sym (append_assoc step.here.rows (step.here.row ∷ []) upper) ∙ ap (λ z. z ++ upper) (sym step.here.lower_is);
             }
 
+-- whatever lies about a node, a search through it goes on through this node below it, with the way there
+abbrev pub GoesOn : {K V : Type 0} → (K → K → Ordering) → ℕ → List (Content K V) → K → Spot → ℕ → Spot → ℕ → Type 0
+GoesOn {K} {V} cmp most slots key spot number next child =
+    (leaves : List (LevelNode K V)) (upper : List (List (LevelNode K ℕ))) (numbers : List ℕ) (on : SearchThrough cmp most slots leaves key number spot.height) → IsWay numbers spot upper (length on.before) → WayBelow cmp most slots leaves on.lower upper key next child
+
 -- the search at the root
 abbrev pub search-root : {K V : Type 0} {cmp : K → K → Ordering} {most : ℕ} {table : Table K V} {root : ℕ} {key : K} (union : IsUnion most table) (is : IsTrue (is_root table.nodes root)) → IsIncreasing cmp (flat (tree_of table.nodes root).leaves) → (depth : ℕ) → depth ≡ 0 → SearchThrough cmp most table.nodes (tree_of table.nodes root).leaves key root depth
 search-root {cmp = cmp} {most = most} {table = table} {root = root} {key = key} union is increasing depth none =

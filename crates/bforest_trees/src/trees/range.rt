@@ -1,131 +1,74 @@
 //! The entries within bounds, from both ends.
 ghost use Rattle.bforest_trees.specs.Bounds.{end_place, entries_between, start_place};
 ghost use Rattle.bforest_trees.specs.Forest.{Forest, IsLive, list_of};
-ghost use Rattle.bforest_trees.specs.Place.{AtSpot, IsSpot};
-ghost use Rattle.bforest_trees.specs.Range.{IsRange, left_in};
+ghost use Rattle.bforest_trees.specs.Looks.{IsLook};
+ghost use Rattle.bforest_trees.specs.Range.{IsRange, RunsFrom, left_in};
 ghost use Rattle.bforest_nodes.specs.Entries.{IsIncreasing};
 ghost use Rattle.std.specs.Iterator.{YieldsFirst, YieldsLast};
-ghost use Rattle.std.specs.Prelude.{IsTrue, List, Option, [], length, slice_get, ◌≡◌, ◌≤◌, ◌↔◌, ℕ};
+ghost use Rattle.std.specs.Prelude.{IsTrue, Option, [], ◌≡◌, ◌↔◌, ℕ};
 ghost use Rattle.std.specs.declared.ops.Bound.TheVariants.{Included};
 
+use crate::look::Look;
 use crate::trees::Trees;
-use bforest_core::{Comparator, PackedNode, Path};
+use bforest_core::{Comparator, PackedNode};
 use std::ops::Bound;
 
-/// The entries of a range that are left: from the front path up to the back path.
+/// The entries of a range that are left: from where the front looks up to where the back looks.
 #[derive(Drop)]
-pub struct Ends<K, V, const N: usize> {
-    front: Path<K, V, N>,
-    back: Path<K, V, N>,
+pub struct Ends<'a, K: Copy, V: Copy> {
+    front: Look<'a, K, V>,
+    back: Look<'a, K, V>,
 }
 
-impl<K: Copy, V: Copy, const N: usize> Ends<K, V, N> {
-    // Whether no entry is left: both ends stand at one place.
+impl<'a, K: Copy, V: Copy> Ends<'a, K, V> {
+    // Leaves no entry where the front is behind the back.
+    #[inline(always)]
+    fn clear_crossed(&mut self)
+        ensures runs { (f : Forest K V) (h : Option ℕ) (s e : ℕ) → IsLive f h → IsLook f h self.old.front s
+            → IsLook f h self.old.back e → RunsFrom f h self.new s e }
+    {
+        if self.front.is_behind(&self.back) {
+            self.front = Look::end();
+            self.back = Look::end();
+        }
+    }
+
+    // Whether no entry is left: both ends look at one place.
+    #[inline(always)]
     fn is_empty(&self) -> bool
         ensures none { (f : Forest K V) (h : Option ℕ) → IsRange f h self.now
             → IsTrue result ↔ (left_in f h self.now ≡ []) }
     {
-        self.front.leaf_pos() == self.back.leaf_pos()
+        self.front.is_same(&self.back)
     }
 }
 
 impl<K: Copy, V: Copy, const N: usize> Trees<K, V, N> {
-    /// The entries within bounds: two searches, and one comparison of where they ended. There are none where the start is behind the end.
-    pub fn range<C: Comparator<K>>(
-        &self,
+    /// The entries within bounds: two searches. There are none where the start is behind the end.
+    pub fn range<'a, C: Comparator<K>>(
+        &'a self,
         handle: PackedNode,
         bounds: (Bound<K>, Bound<K>),
         comp: &C,
-    ) -> Ends<K, V, N>
+    ) -> Ends<'a, K, V>
         requires live { IsLive self.now handle }
         requires increasing { IsIncreasing (C.order comp.now) (list_of self.now handle) }
         ensures left { left_in self.now handle result
             ≡ entries_between (C.order comp.now) bounds.0 bounds.1 (list_of self.now handle) }
         ensures range { IsRange self.now handle result }
     {
-        let mut front = Path::default();
-        let mut back = Path::default();
-        self.goto_start(handle, &mut front, bounds.0, comp);
-        self.goto_end(handle, &mut back, bounds.1, comp);
-        if is_ordered(front.entry(&self.pool), back.entry(&self.pool), comp) {
-            Ends { front, back }
-        } else {
-            Ends {
-                front: Path::default(),
-                back: Path::default(),
-            }
-        }
-    }
-
-    // Goes to the first entry that is not before a start bound, or to the end.
-    fn goto_start<C: Comparator<K>>(
-        &self,
-        handle: PackedNode,
-        path: &mut Path<K, V, N>,
-        bound: Bound<K>,
-        comp: &C,
-    )
-        requires live { IsLive self.now handle }
-        requires increasing { IsIncreasing (C.order comp.now) (list_of self.now handle) }
-        requires stands { AtSpot self.now handle path.old }
-        ensures spot { IsSpot self.now handle path.new
-            (start_place (C.order comp.now) bound (list_of self.now handle)) }
-    {
-        match bound {
-            Bound::Included(key) => {
-                self.goto(handle, path, key, comp);
-            }
-            Bound::Excluded(key) => self.goto_behind(handle, path, key, comp),
-            Bound::Unbounded => {
-                self.first(handle, path);
-            }
-        }
-    }
-
-    // Goes to the first entry that is past an end bound, or to the end.
-    fn goto_end<C: Comparator<K>>(
-        &self,
-        handle: PackedNode,
-        path: &mut Path<K, V, N>,
-        bound: Bound<K>,
-        comp: &C,
-    )
-        requires live { IsLive self.now handle }
-        requires increasing { IsIncreasing (C.order comp.now) (list_of self.now handle) }
-        requires stands { AtSpot self.now handle path.old }
-        ensures spot { IsSpot self.now handle path.new
-            (end_place (C.order comp.now) bound (list_of self.now handle)) }
-    {
-        match bound {
-            Bound::Included(key) => self.goto_behind(handle, path, key, comp),
-            Bound::Excluded(key) => {
-                self.goto(handle, path, key, comp);
-            }
-            Bound::Unbounded => *path = Path::default(),
-        }
-    }
-
-    // Goes to the first entry whose key is greater than `key`, or to the end.
-    fn goto_behind<C: Comparator<K>>(
-        &self,
-        handle: PackedNode,
-        path: &mut Path<K, V, N>,
-        key: K,
-        comp: &C,
-    )
-        requires live { IsLive self.now handle }
-        requires increasing { IsIncreasing (C.order comp.now) (list_of self.now handle) }
-        requires stands { AtSpot self.now handle path.old }
-        ensures spot { IsSpot self.now handle path.new
-            (end_place (C.order comp.now) (Included key) (list_of self.now handle)) }
-    {
-        if self.goto(handle, path, key, comp).is_some() {
-            self.next(handle, path);
-        }
+        let mut front = Look::end();
+        let mut back = Look::end();
+        front.goto_start(handle, self, bounds.0, comp);
+        back.goto_end(handle, self, bounds.1, comp);
+        let mut ends = Ends { front, back };
+        ends.clear_crossed();
+        ends
     }
 
     /// Removes the first of the entries that are left, and returns it.
-    pub fn range_next(&self, handle: PackedNode, ends: &mut Ends<K, V, N>) -> Option<(K, V)>
+    #[inline(always)]
+    pub fn range_next<'a>(&'a self, handle: PackedNode, ends: &mut Ends<'a, K, V>) -> Option<(K, V)>
         requires range { IsRange self.now handle ends.old }
         ensures steps { YieldsFirst (left_in self.now handle) ends.old result ends.new }
         ensures range { IsRange self.now handle ends.new }
@@ -133,13 +76,18 @@ impl<K: Copy, V: Copy, const N: usize> Trees<K, V, N> {
         if ends.is_empty() {
             return None;
         }
-        let entry = self.entry(handle, &ends.front);
-        self.next(handle, &mut ends.front);
+        let entry = ends.front.entry();
+        ends.front.next(handle, self);
         entry
     }
 
     /// Removes the last of the entries that are left, and returns it.
-    pub fn range_next_back(&self, handle: PackedNode, ends: &mut Ends<K, V, N>) -> Option<(K, V)>
+    #[inline(always)]
+    pub fn range_next_back<'a>(
+        &'a self,
+        handle: PackedNode,
+        ends: &mut Ends<'a, K, V>,
+    ) -> Option<(K, V)>
         requires range { IsRange self.now handle ends.old }
         ensures steps { YieldsLast (left_in self.now handle) ends.old result ends.new }
         ensures range { IsRange self.now handle ends.new }
@@ -147,23 +95,72 @@ impl<K: Copy, V: Copy, const N: usize> Trees<K, V, N> {
         if ends.is_empty() {
             return None;
         }
-        self.prev(handle, &mut ends.back)
+        ends.back.prev(handle, self)
     }
 }
 
-// Whether, by their keys, one entry of a list that increases is not behind another. `None` is the end of the list.
-fn is_ordered<K: Copy, V: Copy, C: Comparator<K>>(
-    front: Option<(K, V)>,
-    back: Option<(K, V)>,
-    comp: &C,
-) -> bool
-    ensures ordered { (es : List (K × V)) (p q : ℕ) → IsIncreasing (C.order comp.now) es
-        → front ≡ slice_get es p → back ≡ slice_get es q → p ≤ length es → q ≤ length es
-        → IsTrue result ↔ (p ≤ q) }
-{
-    match (front, back) {
-        (_, None) => true,
-        (None, Some(_)) => false,
-        (Some(first), Some(last)) => comp.cmp(first.0, last.0).is_le(),
+impl<'a, K: Copy, V: Copy> Look<'a, K, V> {
+    // Goes to the first entry that is not before a start bound, or to the end.
+    fn goto_start<const N: usize, C: Comparator<K>>(
+        &mut self,
+        handle: PackedNode,
+        trees: &'a Trees<K, V, N>,
+        bound: Bound<K>,
+        comp: &C,
+    )
+        requires live { IsLive trees.now handle }
+        requires increasing { IsIncreasing (C.order comp.now) (list_of trees.now handle) }
+        ensures look { IsLook trees.now handle self.new
+            (start_place (C.order comp.now) bound (list_of trees.now handle)) }
+    {
+        match bound {
+            Bound::Included(key) => {
+                self.goto(handle, trees, key, comp);
+            }
+            Bound::Excluded(key) => self.goto_behind(handle, trees, key, comp),
+            Bound::Unbounded => {
+                self.first(handle, trees);
+            }
+        }
+    }
+
+    // Goes to the first entry that is past an end bound, or to the end.
+    fn goto_end<const N: usize, C: Comparator<K>>(
+        &mut self,
+        handle: PackedNode,
+        trees: &'a Trees<K, V, N>,
+        bound: Bound<K>,
+        comp: &C,
+    )
+        requires live { IsLive trees.now handle }
+        requires increasing { IsIncreasing (C.order comp.now) (list_of trees.now handle) }
+        ensures look { IsLook trees.now handle self.new
+            (end_place (C.order comp.now) bound (list_of trees.now handle)) }
+    {
+        match bound {
+            Bound::Included(key) => self.goto_behind(handle, trees, key, comp),
+            Bound::Excluded(key) => {
+                self.goto(handle, trees, key, comp);
+            }
+            Bound::Unbounded => *self = Look::end(),
+        }
+    }
+
+    // Goes to the first entry whose key is greater than `key`, or to the end.
+    fn goto_behind<const N: usize, C: Comparator<K>>(
+        &mut self,
+        handle: PackedNode,
+        trees: &'a Trees<K, V, N>,
+        key: K,
+        comp: &C,
+    )
+        requires live { IsLive trees.now handle }
+        requires increasing { IsIncreasing (C.order comp.now) (list_of trees.now handle) }
+        ensures look { IsLook trees.now handle self.new
+            (end_place (C.order comp.now) (Included key) (list_of trees.now handle)) }
+    {
+        if self.goto(handle, trees, key, comp).is_some() {
+            self.next(handle, trees);
+        }
     }
 }

@@ -1,5 +1,8 @@
 use Rattle.bforest_trees.proofs.Reading.{progress}
 use Rattle.bforest.proofs.map_range.MapRangeIterator.next.Goals as goal
 
+pub returns-clause-steps : goal.returns-clause-steps
+returns-clause-steps g c = rw (← c.self.view_is) c.range_next.ensures.steps
+
 pub returns-clause-goes : goal.returns-clause-goes
-returns-clause-goes g c = progress c.requires c.args.self.now _ c.range_next.result (rw (← c.self.view_is) c.range_next.ensures.steps)
+returns-clause-goes g c = progress c.requires c.args.self.now _ c.range_next.result (returns-clause-steps g c)
