@@ -1,7 +1,9 @@
-//! Callers of lists of calls: consequences of the contracts of `bforest_calls` alone.
+//! Callers of lists of calls: consequences of the contracts of `bforest_calls` alone; and tests of lists of many calls.
 #![tactic(auto)]
 
 mod callers;
+#[cfg(test)]
+mod lists;
 
 pub use callers::beside::{run_beside, run_beside_sets};
 pub use callers::exchanged::{run_either, run_either_sets};

@@ -1,9 +1,11 @@
 //! Insertions by a writing cursor into a map and into a set that grow to three levels, beside another tree of the forest; and insertions
 //! after nodes are reserved. A request for memory may be refused: then nothing changes but the cursor, which stands where `goto` of the
-//! key goes, and the same call succeeds when it is repeated. `tools/refuse_each` runs this with each request for memory refused in turn.
+//! key goes, and the same call succeeds when it is repeated. `tools/refuse_each` runs this with each request for memory refused in turn, and
+//! with all refused once the nodes are there: then come the calls that request none.
 #![tactic(auto)]
 
 mod maps;
+mod quiet;
 mod sets;
 
 use bforest::{MapForest, OutOfMemory, SetForest};
@@ -42,13 +44,16 @@ fn main(rt: HostRuntime) -> io::Result<()> {
     let mut set_ahead = SetForest::new(rt.alloc());
     sets::grow(&mut set_forest, &mut seen);
     sets::grow_ahead(&mut set_ahead, &mut seen);
-    println!(rt;
-        "refused {} right {} slots {} and {} of maps, {} and {} of sets",
-        seen.refused,
-        seen.is_right,
+    let slots = (
         forest.slots(),
         ahead.slots(),
         set_forest.slots(),
-        set_ahead.slots()
+        set_ahead.slots(),
+    );
+    quiet::maps::all(ahead, &mut seen);
+    quiet::sets::all(&mut set_ahead, &mut seen);
+    println!(rt;
+        "refused {} right {} slots {} and {} of maps, {} and {} of sets",
+        seen.refused, seen.is_right, slots.0, slots.1, slots.2, slots.3
     )
 }

@@ -23,7 +23,7 @@ pub(crate) fn grow(forest: &mut MapForest<u32, u32>, seen: &mut Seen) {
     seen.note(forest.free_slots() == 0);
 }
 
-/// Reserves the nodes: then no insertion is refused.
+/// Reserves the nodes: then no insertion is refused. In the end all nodes are free.
 pub(crate) fn grow_ahead(forest: &mut MapForest<u32, u32>, seen: &mut Seen) {
     if let Err(error) = forest.reserve_nodes(NODES) {
         seen.refuse(error, forest.slots() == 0 && forest.free_slots() == 0);
@@ -33,6 +33,9 @@ pub(crate) fn grow_ahead(forest: &mut MapForest<u32, u32>, seen: &mut Seen) {
     for key in 1..=ENTRIES {
         let put = put_once(&mut map, key, forest);
         seen.note(put == Some((Ok(None), Some(key))));
+    }
+    if forest.holds(&map) {
+        map.clear(forest);
     }
 }
 

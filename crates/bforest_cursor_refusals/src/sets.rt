@@ -24,7 +24,7 @@ pub(crate) fn grow(forest: &mut SetForest<u32>, seen: &mut Seen) {
     seen.note(forest.free_slots() == 0);
 }
 
-/// Reserves the nodes: then no insertion is refused.
+/// Reserves the nodes: then no insertion is refused. In the end all nodes are free.
 pub(crate) fn grow_ahead(forest: &mut SetForest<u32>, seen: &mut Seen) {
     if let Err(error) = forest.reserve_nodes(NODES) {
         seen.refuse(error, forest.slots() == 0 && forest.free_slots() == 0);
@@ -34,6 +34,9 @@ pub(crate) fn grow_ahead(forest: &mut SetForest<u32>, seen: &mut Seen) {
     for key in 1..=KEYS {
         let put = put_once(&mut set, key, forest);
         seen.note(put == Some((Ok(true), Some(key))));
+    }
+    if forest.holds(&set) {
+        set.clear(forest);
     }
 }
 
