@@ -8,6 +8,8 @@ mod checked;
 #[cfg(test)]
 mod maps;
 #[cfg(test)]
+mod nearest;
+#[cfg(test)]
 mod orders;
 #[cfg(test)]
 mod refusals;

@@ -1,0 +1,49 @@
+//! The first entry and the last, the first from a key on, and the value of a key that is inserted where it is absent.
+
+use crate::checked::{NumberForest, insert};
+use bforest::{Map, MapForest, Set, SetForest};
+
+#[test]
+fn a_map_is_emptied_from_both_ends(rt: HostRuntime) {
+    let mut forest: NumberForest = MapForest::new(rt.alloc());
+    let mut map = Map::new();
+    for key in 1..=36u32 {
+        assert_eq!(rt;
+            insert(&rt, &mut map, (key, key), &mut forest, &()),
+            Ok(None)
+        );
+    }
+    for turn in 1..=18u32 {
+        assert!(rt; forest.holds(&map));
+        assert_eq!(rt; map.first(&forest), Some((turn, turn)));
+        assert_eq!(rt; map.last(&forest), Some((37 - turn, 37 - turn)));
+        assert_eq!(rt; map.pop_first(&mut forest), Some((turn, turn)));
+        assert_eq!(rt; map.pop_last(&mut forest), Some((37 - turn, 37 - turn)));
+    }
+    assert!(rt; map.is_empty());
+    assert_eq!(rt; forest.free_slots(), forest.slots());
+}
+
+#[test]
+fn a_value_is_inserted_once(rt: HostRuntime) {
+    let mut forest: NumberForest = MapForest::new(rt.alloc());
+    let mut map = Map::new();
+    assert_eq!(rt; map.get_or_insert(5, 50, &mut forest, &()), Ok(50));
+    assert_eq!(rt; map.get_or_insert(5, 51, &mut forest, &()), Ok(50));
+    assert_eq!(rt; map.get_or_greater(5, &forest, &()), Some((5, 50)));
+    assert_eq!(rt; map.get_or_greater(6, &forest, &()), None);
+}
+
+#[test]
+fn a_set_has_a_first_key_and_a_last(rt: HostRuntime) {
+    let mut forest: SetForest<u32> = SetForest::new(rt.alloc());
+    let mut set = Set::new();
+    assert_eq!(rt; set.insert(7, &mut forest, &()), Ok(true));
+    assert_eq!(rt; set.insert(3, &mut forest, &()), Ok(true));
+    assert_eq!(rt; set.first(&forest), Some(3));
+    assert_eq!(rt; set.last(&forest), Some(7));
+    assert_eq!(rt; set.get_or_greater(4, &forest, &()), Some(7));
+    assert_eq!(rt; set.pop_last(&mut forest), Some(7));
+    assert_eq!(rt; set.pop_first(&mut forest), Some(3));
+    assert_eq!(rt; set.pop_first(&mut forest), None);
+}
