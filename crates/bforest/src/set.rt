@@ -282,8 +282,8 @@ impl<K: Copy> Set<K> {
 
     /// Returns a double-ended iterator over the keys within both bounds, in order.
     ///
-    /// Two searches, as in [`Set::contains`], and one comparison; the steps compare nothing. A start behind the end, or two excluded
-    /// bounds that compare equal, give an empty range.
+    /// Two searches, as in [`Set::contains`]; the steps compare nothing. A start behind the end, or two excluded bounds that compare equal,
+    /// give an empty range.
     pub fn range<'a, C: Comparator<K>>(
         &self,
         bounds: (Bound<K>, Bound<K>),
