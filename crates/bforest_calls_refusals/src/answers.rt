@@ -53,7 +53,8 @@ pub(crate) fn check<V: Copy>(
             Ok(())
         }
         Err(error) => {
-            let is_at_list = left.count == LAST || left.count <= BY_CALLS && left.count % LISTED == 0;
+            let is_at_list = left.count == LAST
+                || left.count <= BY_CALLS && left.count % LISTED == 0;
             seen.is_right = seen.is_right && is_at_list && left == left.first();
             Err(error)
         }

@@ -90,7 +90,7 @@ fn main(rt: HostRuntime) -> io::Result<()> {
         is_right: true,
     };
     if on_maps(rt.alloc(), &mut seen).is_err() {
-        seen.ended += 1;
+        seen.ended = seen.ended.saturating_add(1);
     }
     if on_sets(rt.alloc(), &mut seen).is_err() {
         seen.ended = seen.ended.saturating_add(1);
