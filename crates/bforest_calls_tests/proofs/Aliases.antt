@@ -12,7 +12,7 @@ use Rattle.bforest_calls.specs.declared.call.Call.{Call}
 use Rattle.bforest_calls_tests.proofs.Exchange.{at-exchange, exchange-within, swap-aliases, swap-set, within-exchange}
 use Rattle.bforest_calls_tests.proofs.Sparing.{lacking, offered}
 use Rattle.bforest_calls_tests.specs.Exchange.{AreAliases, exchange, exchanged}
-use Rattle.bforest_nodes.specs.Entries.{IsIncreasing, value_for}
+use Rattle.bforest.specs.Entries.{IsIncreasing, value_for}
 use Rattle.std.proofs.Common.{Bool, List, None, Option, [], ap, false, inl, inr, length, map, refl, subst, sym, true, ◌<◌, ◌∙◌, ◌∷◌, ◌≡◌, ℕ}
 use Rattle.std.proofs.lemmas.List.{length-set}
 use Rattle.std.specs.Prelude.{slice_set, swap}

@@ -7,7 +7,7 @@ use Rattle.bforest_calls.specs.State.{Acts, Held, Script, entries}
 use Rattle.bforest_calls.specs.declared.call.Act.TheVariants as act
 use Rattle.bforest_calls.specs.declared.call.Act.{Act}
 use Rattle.bforest_calls.specs.declared.call.Seen.{Seen}
-use Rattle.bforest_core.specs.declared.pool.OutOfMemory.{OutOfMemory}
+use Rattle.bforest.specs.Refusal.{OutOfMemory}
 use Rattle.std.proofs.Common.{Err, List, Ok, Option, Result, [], ap, refl, subst, sym, ◌∷◌, ◌≡◌, ℕ}
 use Rattle.std.specs.declared.cmp.Ordering.{Ordering}
 

@@ -11,7 +11,7 @@ use Rattle.bforest_calls.specs.declared.call.Call.{Call}
 use Rattle.bforest_calls_tests.proofs.Changes.{inserted, scripted}
 use Rattle.bforest_calls_tests.proofs.Resembling.{Resembles, clears-alike, inserts-alike, removes-alike, retains-alike, scripts-alike}
 use Rattle.bforest_calls_tests.specs.Determined.{AreAlike, AreDetermined, GoInStep, HadMemory, IsSameAnswer, RunsThrough}
-use Rattle.bforest_nodes.specs.Entries.{IsIncreasing, value_for}
+use Rattle.bforest.specs.Entries.{IsIncreasing, value_for}
 use Rattle.std.proofs.Common.{Bool, List, None, Option, Some, [], ap, false, get_or, inl, inr, length, refl, subst, sym, true, ◌<◌, ◌∙◌, ◌∷◌, ◌≡◌, ◌≢◌, ◌⊎◌, ℕ}
 use Rattle.std.proofs.lemmas.Bool.Decides.{eqb_tells}
 use Rattle.std.proofs.lemmas.List.Elements.{recursion_from_All}

@@ -12,9 +12,8 @@ use Rattle.bforest_calls.specs.declared.call.Seen.TheVariants as seen
 use Rattle.bforest_calls.specs.declared.call.Seen.{Seen}
 use Rattle.bforest_core.specs.Change.{node_count}
 use Rattle.bforest_core.specs.Sizes.{growth, need, shrink}
-use Rattle.bforest_core.specs.declared.pool.OutOfMemory.TheVariants.{Full, Memory}
-use Rattle.bforest_core.specs.declared.pool.OutOfMemory.{OutOfMemory}
-use Rattle.bforest_nodes.specs.Entries.{cut, is_present, place, put, value_for, with_value}
+use Rattle.bforest.specs.Refusal.{Full, Memory, OutOfMemory}
+use Rattle.bforest.specs.Entries.{cut, is_present, place, put, value_for, with_value}
 use Rattle.std.proofs.Common.{Bool, Err, List, Ok, Option, Result, [], ap, arith, length, map, refl, subst, sym, ◌+◌, ◌-◌, ◌<◌, ◌∙◌, ◌∷◌, ◌≡◌, ◌≢◌, ℕ}
 use Rattle.std.specs.List.{AllByRecursion}
 use Rattle.std.specs.Prelude.{if◌then◌else◌, is_some, nat_lt, remove, slice_get, unwrap_or}

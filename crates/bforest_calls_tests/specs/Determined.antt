@@ -5,7 +5,7 @@ use Rattle.bforest_calls.specs.declared.call.Answer.TheVariants as answer
 use Rattle.bforest_calls.specs.declared.call.Answer.{Answer}
 use Rattle.bforest_calls.specs.declared.call.Call.{Call}
 use Rattle.bforest_calls.specs.declared.call.Seen.TheVariants as seen
-use Rattle.bforest_core.specs.declared.pool.OutOfMemory.TheVariants.{Memory}
+use Rattle.bforest.specs.Refusal.{Memory}
 use Rattle.std.specs.List.{AllZip}
 use Rattle.std.specs.Prelude.{All, Bool, Err, List, [], ◌≡◌, ◌≢◌, ◌∷◌, ℕ}
 

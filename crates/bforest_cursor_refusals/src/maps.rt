@@ -1,6 +1,6 @@
 //! Insertions by a cursor into a map.
 ghost use Rattle.bforest.specs.Forest.{IsLive, list_of};
-ghost use Rattle.bforest_nodes.specs.Entries.{IsIncreasing};
+ghost use Rattle.bforest.specs.Entries.{IsIncreasing};
 
 use crate::Seen;
 use bforest::{Comparator, Map, MapForest, OutOfMemory};

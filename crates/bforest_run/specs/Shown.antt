@@ -3,8 +3,7 @@ use Rattle.bforest_calls.specs.declared.call.Answer.TheVariants as answer
 use Rattle.bforest_calls.specs.declared.call.Answer.{Answer}
 use Rattle.bforest_calls.specs.declared.call.Seen.TheVariants as seen
 use Rattle.bforest_calls.specs.declared.call.Seen.{Seen}
-use Rattle.bforest_core.specs.declared.pool.OutOfMemory.TheVariants.{Full, Memory}
-use Rattle.bforest_core.specs.declared.pool.OutOfMemory.{OutOfMemory}
+use Rattle.bforest.specs.Refusal.{Full, Memory, OutOfMemory}
 use Rattle.std.specs.Fmt.{decimal}
 use Rattle.std.specs.Prelude.{Bool, Err, List, None, Ok, Option, Result, Some, [], codes, false, true, ◌++◌, ◌∷◌, ℕ}
 

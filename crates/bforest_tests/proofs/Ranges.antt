@@ -3,7 +3,7 @@ use Rattle.bforest.specs.Calls.{RemovesAt}
 use Rattle.bforest.specs.Cursor.{Goes, IsCursor, Moves, Writes, entries, forest_now, map_now, spot}
 use Rattle.bforest.specs.Forest.{Becomes, Forest, list_of}
 use Rattle.bforest.specs.declared.map_cursor_mut.MapCursorMut.{MapCursorMut}
-use Rattle.bforest_nodes.specs.Entries.{value_at_place, with_value}
+use Rattle.bforest.specs.Entries.{value_at_place, with_value}
 use Rattle.bforest_tests.proofs.Changing.{Changed, becomes-list, changed-again, goes-next, moved, same-entries, unchanged}
 use Rattle.bforest_tests.specs.Walks.{joined, joined_from}
 use Rattle.std.proofs.Common.{List, None, Option, Some, [], ap, arith, drop, false, length, min, option_map, refl, remove, slice_get, subst, suc, sym, take, true, zero, ◌+◌, ◌++◌, ◌-◌, ◌<◌, ◌≤◌, ◌∙◌, ◌≡◌, ◌∷◌, ℕ}

@@ -1,7 +1,7 @@
 -- What a call on one map or set leaves of all maps or sets.
 use Rattle.bforest.specs.Forest.{Becomes, Forest, IsLive, list_at, list_of}
 use Rattle.bforest_workloads_bench.specs.Kept.{AreOrdered, IsOrdered}
-use Rattle.bforest_nodes.specs.Entries.{IsIncreasing}
+use Rattle.bforest.specs.Entries.{IsIncreasing}
 use Rattle.std.proofs.Common.{Err, List, None, Ok, OnErr, OnOk, Option, Result, Some, [], ap, get_or, inl, inr, length, refl, replicate, rules, slice_set, subst, suc, sym, zero, ◌+◌, ◌++◌, ◌<◌, ◌∙◌, ◌≡◌, ◌≢◌, ◌∷◌, ℕ}
 use Rattle.std.specs.List.Sorted.{IsStrictlySortedBy}
 use Rattle.std.specs.Ordering.{nat_cmp}

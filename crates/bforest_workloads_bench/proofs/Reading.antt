@@ -1,6 +1,6 @@
 -- A reading cursor comes nearer to the last entry, or to the first, with each step that answers an entry.
 use Rattle.bforest.specs.Cursor.{Cursor, at_place}
-use Rattle.bforest_core.specs.Place.{entry_before}
+use Rattle.bforest.specs.Entries.{entry_before}
 use Rattle.std.proofs.Common.{Some, ap, arith, length, min, slice_get, suc, zero, ◌+◌, ◌-◌, ◌<◌, ◌≡◌, ℕ}
 use Rattle.std.proofs.lemmas.Option.{slice_get_within}
 

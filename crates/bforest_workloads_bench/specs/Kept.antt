@@ -1,5 +1,5 @@
 -- What maps and sets of numbers keep from call to call.
-use Rattle.bforest_nodes.specs.Entries.{IsIncreasing}
+use Rattle.bforest.specs.Entries.{IsIncreasing}
 use Rattle.bforest.specs.Forest.{Forest, IsLive, list_of}
 use Rattle.std.specs.Ordering.{nat_cmp}
 use Rattle.std.specs.Prelude.{List, None, Option, Some, get_or, ◌≡◌, ℕ}

@@ -3,7 +3,7 @@ ghost use Rattle.bforest.specs.Cursor.{IsCursor};
 ghost use Rattle.bforest.specs.SetCursor.{IsCursor as IsSetCursor};
 ghost use Rattle.bforest.specs.Forest.{IsLive, list_of};
 ghost use Rattle.bforest.specs.Memory.{IsReadable, IsSetReadable};
-ghost use Rattle.bforest_nodes.specs.Entries.{IsIncreasing};
+ghost use Rattle.bforest.specs.Entries.{IsIncreasing};
 ghost use Rattle.bforest_workloads_bench.specs.Cursors.{MapContinues, SetContinues};
 
 use bforest::{Comparator, Map, MapCursorMut, MapForest, OutOfMemory, Set, SetCursor, SetForest};

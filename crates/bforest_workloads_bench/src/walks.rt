@@ -1,6 +1,6 @@
 //! The entries of a map, read by a cursor.
 ghost use Rattle.bforest.specs.Forest.{IsLive, list_of};
-ghost use Rattle.bforest_nodes.specs.Entries.{IsIncreasing};
+ghost use Rattle.bforest.specs.Entries.{IsIncreasing};
 ghost use Rattle.std.specs.Ordering.{nat_cmp};
 
 use crate::random::added;

@@ -1,6 +1,6 @@
 //! Calls on a map.
 ghost use Rattle.bforest.specs.Forest.{IsLive, list_of};
-ghost use Rattle.bforest_nodes.specs.Entries.{IsIncreasing};
+ghost use Rattle.bforest.specs.Entries.{IsIncreasing};
 
 use super::{LAST, MIDDLE};
 use crate::Seen;

@@ -1,5 +1,5 @@
-use Rattle.bforest_nodes.proofs.Lookups.{value_for-put}
-use Rattle.bforest_nodes.specs.Entries.{value_for}
+use Rattle.bforest.proofs.Entries.{value_for-put}
+use Rattle.bforest.specs.Entries.{value_for}
 use Rattle.bforest.specs.Forest.{list_of}
 use Rattle.bforest_tests.proofs.callers.insert_and_get.Goals as goal
 use Rattle.std.proofs.Common.{ap, ◌∙◌}

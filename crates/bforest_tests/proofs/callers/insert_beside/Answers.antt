@@ -1,5 +1,5 @@
 use Rattle.bforest.proofs.Becoming.{list-beside}
-use Rattle.bforest_nodes.specs.Entries.{put}
+use Rattle.bforest.specs.Entries.{put}
 use Rattle.bforest.specs.Forest.{list_of}
 use Rattle.bforest_tests.proofs.callers.insert_beside.Goals as goal
 

@@ -1,6 +1,6 @@
 use Rattle.bforest.proofs.Becoming.{becomes-both}
 use Rattle.bforest.specs.Forest.{Becomes, list_of}
-use Rattle.bforest_nodes.specs.Entries.{put}
+use Rattle.bforest.specs.Entries.{put}
 use Rattle.bforest_tests.proofs.callers.insert_both.Goals as goal
 use Rattle.std.proofs.Common.{List, subst}
 

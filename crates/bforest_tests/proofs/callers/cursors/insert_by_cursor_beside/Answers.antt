@@ -1,6 +1,6 @@
 use Rattle.bforest.proofs.Becoming.{list-beside}
 use Rattle.bforest.specs.Forest.{list_of}
-use Rattle.bforest_nodes.specs.Entries.{put}
+use Rattle.bforest.specs.Entries.{put}
 use Rattle.bforest_tests.proofs.callers.cursors.insert_by_cursor_beside.Goals as goal
 
 pub returns : goal.returns

@@ -1,4 +1,4 @@
-use Rattle.bforest_nodes.proofs.Searched.{searched}
+use Rattle.bforest.proofs.Entries.{searched}
 use Rattle.bforest_tests.proofs.orders.TensComparatorU32.search.Goals as goal
 use Rattle.std.proofs.Common.{rules, ◌/◌}
 use Rattle.std.proofs.lemmas.Fn.{always_returns_same}

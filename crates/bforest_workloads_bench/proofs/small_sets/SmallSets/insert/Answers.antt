@@ -1,6 +1,6 @@
 use Rattle.bforest_workloads_bench.proofs.Keeping.{ordered-tried}
 use Rattle.bforest_workloads_bench.proofs.small_sets.SmallSets.insert.Goals as goal
-use Rattle.bforest_nodes.specs.Entries.{put}
+use Rattle.bforest.specs.Entries.{put}
 use Rattle.bforest.specs.Forest.{list_of}
 use Rattle.bforest.specs.Set.{as_put, the_value}
 use Rattle.std.specs.Ordering.{nat_cmp}

@@ -1,6 +1,6 @@
 use Rattle.bforest_workloads_bench.proofs.Keeping.{ordered-call}
 use Rattle.bforest_workloads_bench.proofs.small_sets.SmallSets.remove.Goals as goal
-use Rattle.bforest_nodes.specs.Entries.{cut}
+use Rattle.bforest.specs.Entries.{cut}
 use Rattle.bforest.specs.Forest.{list_of}
 use Rattle.std.specs.Ordering.{nat_cmp}
 
