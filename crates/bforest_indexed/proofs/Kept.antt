@@ -1,14 +1,14 @@
 -- What a call on the tree of one index leaves of all trees.
-use Rattle.bforest.specs.Calls.{Clears, Filters, Inserts, Removes}
-use Rattle.bforest.specs.Entries.{IsIncreasing}
-use Rattle.bforest.specs.Forest.{Becomes, Forest, Gives, IsLive, Keeps, list_at, list_of, sizes_of}
+use Rattle.bforest.specs.Calls.{Clears, Filters, GetsOrInserts, Inserts, Pops, Removes, as_inserted}
+use Rattle.bforest.specs.Entries.{IsIncreasing, value_for}
+use Rattle.bforest.specs.Forest.{Becomes, Forest, Gives, IsLive, Keeps, empty, limit_of, list_at, list_of, sizes_of}
 use Rattle.bforest.specs.Refusal.{OutOfMemory}
 use Rattle.bforest.specs.Retain.{Retains}
-use Rattle.bforest_indexed.specs.Indexed.{AreKept, ChangesAt, ClearsAt, FiltersAt, Indexed, InsertsAt, KeepsAll, RemovesAt, Swaps}
+use Rattle.bforest_indexed.specs.Indexed.{AreKept, ChangesAt, ClearsAll, ClearsAt, FiltersAt, GetsOrInsertsAt, Indexed, InsertsAt, KeepsAll, PopsAt, RemovesAt, Swaps}
 use Rattle.bforest_indexed.specs.Indexed.{count, entries, handle, node_sizes, table}
-use Rattle.std.proofs.Common.{Bool, Err, List, None, Ok, Option, Result, Some, [], ap, get_or, inl, inr, length, refl, rules, slice_set, subst, suc, sym, zero, ◌++◌, ◌<◌, ◌∙◌, ◌≡◌, ◌≢◌, ◌∷◌, ℕ}
+use Rattle.std.proofs.Common.{Bool, Err, IsSome, List, None, Ok, Option, Result, Some, [], ap, get_or, inl, inr, length, refl, replicate, rules, slice_set, subst, suc, sym, zero, ℕ, ◌++◌, ◌<◌, ◌∙◌, ◌∷◌, ◌≡◌, ◌≢◌}
 use Rattle.std.proofs.lemmas.Bool.Decides.{eqb_tells}
-use Rattle.std.proofs.lemmas.List.{get_or-set_other, get_or-set_same, get_or_read, length-set, set-get_or}
+use Rattle.std.proofs.lemmas.List.{get_or-set_other, get_or-set_same, get_or_read, length-replicate, length-set, set-get_or}
 use Rattle.std.specs.List.{SwappedAt}
 use Rattle.std.specs.List.Sorted.{IsStrictlySortedBy}
 use Rattle.std.specs.declared.cmp.Ordering.{Ordering}
@@ -18,12 +18,30 @@ nothing-increases : (K X : Type 0) (cmp : K → K → Ordering) → IsIncreasing
 unfolding IsStrictlySortedBy
 nothing-increases K X cmp = search rules
 
+none-some : {A : Type 0} (y : A) → None ≢ Some y
+none-some y = λ e. cc
+
+get_or-nil : (i : ℕ) → get_or {A = Option ℕ} [] i None ≡ None
+get_or-nil zero = refl
+get_or-nil (suc i) = refl
+
+-- empty handles behind the others change no index
+more-none : (hs : List (Option ℕ)) (count : ℕ) (i : ℕ) → get_or (hs ++ replicate count None) i None ≡ get_or hs i None
+more-none [] zero i = refl
+more-none [] (suc count) zero = refl
+more-none [] (suc count) (suc i) = more-none [] count i ∙ get_or-nil i
+more-none (h ∷ hs) count zero = refl
+more-none (h ∷ hs) count (suc i) = more-none hs count i
+
 -- one empty handle more changes no index
 one-more : (hs : List (Option ℕ)) (i : ℕ) → get_or (hs ++ None ∷ []) i None ≡ get_or hs i None
 one-more [] zero = refl
 one-more [] (suc i) = refl
 one-more (h ∷ hs) zero = refl
 one-more (h ∷ hs) (suc i) = one-more hs i
+
+pub added : (hs qs : List (Option ℕ)) (count : ℕ) → qs ≡ hs ++ replicate count None → (i : ℕ) → get_or qs i None ≡ get_or hs i None
+added hs qs count is i = ap (λ (rs : List (Option ℕ)). get_or rs i None) is ∙ more-none hs count i
 
 pub pushed : (hs qs : List (Option ℕ)) (h : Option ℕ) → h ≡ None → qs ≡ hs ++ h ∷ [] → (i : ℕ) → get_or qs i None ≡ get_or hs i None
 pushed hs qs h empty is i = ap (λ (rs : List (Option ℕ)). get_or rs i None) (is ∙ ap (λ (q : Option ℕ). hs ++ q ∷ []) empty) ∙ one-more hs i
@@ -57,8 +75,7 @@ module _ {K X C : Type 0} where
   })
     where
       none : (i : ℕ) → get_or {A = Option ℕ} [] i None ≡ None
-      none zero = refl
-      none (suc i) = refl
+      none = get_or-nil
 
   -- each index has the same handle
   pub kept-same : {cmp : K → K → Ordering} (m : Indexed K X C) (qs : List (Option ℕ)) → ((i : ℕ) → get_or qs i None ≡ handle m i)
@@ -247,6 +264,40 @@ module _ {K X C : Type 0} where
         },
       )
 
+      pub popped-at : {place : ℕ} {r : Option (K × X)} → Pops most (table m) h place r f' h'
+          → AreKept cmp (with_tree m i f' h') × PopsAt most m i place r (with_tree m i f' h')
+      popped-at {place} {r} given = let call = subst (λ (q : Option ℕ). Pops most (table m) q place r f' h') read given in
+          (kept-set a within call.removed.removed (call.increasing cmp (a.increasing i)), record {
+        entry = call.entry;
+        removed = list-here a within call.removed.removed;
+        sizes = ap (sizes_of f') (here a within call.removed.removed) ∙ call.removed.sizes;
+        beside = changes a within call.removed.removed;
+        account = subst (λ q. Gives (node_sizes m i) (sizes_of f' q) (table m) f') (sym (here a within call.removed.removed)) call.removed.account;
+        end = λ past. unchanged m i f' h' (call.removed.end_forest past) (call.removed.end_handle past);
+      })
+
+      module _ {k : K} {x : X} {r : Result X OutOfMemory} where
+        got-here : (v : Option X) → value_for cmp (entries m i) k ≡ v → GetsOrInserts most cmp (table m) (handle m i) k x r f' h'
+            → AreKept cmp (with_tree m i f' h') × GetsOrInsertsAt most cmp m i k x r (with_tree m i f' h')
+        got-here None is call = let put = put-here (as_inserted r) (call.absent is) in (put.0, record {
+          value = call.value;
+          present = call.present;
+          stays = λ some. absurd (subst (λ (q : Option X). IsSome q) is some);
+          absent = λ none. put.1;
+        })
+        got-here (Some y) is call =
+            let some = subst (λ (q : Option X). IsSome q) (sym is) tt in
+            let same = unchanged m i f' h' (call.present_forest some) (call.present_handle some) in (subst (AreKept cmp) (sym same) a, record {
+          value = call.value;
+          present = call.present;
+          stays = λ there. same;
+          absent = λ none. absurd (none-some y (sym none ∙ is));
+        })
+
+        pub got-at : GetsOrInserts most cmp (table m) h k x r f' h'
+            → AreKept cmp (with_tree m i f' h') × GetsOrInsertsAt most cmp m i k x r (with_tree m i f' h')
+        got-at given = got-here (value_for cmp (entries m i) k) refl (subst (λ (q : Option ℕ). GetsOrInserts most cmp (table m) q k x r f' h') read given)
+
   -- the forest changed, and each number keeps its list and its sizes
   pub kept-all : {cmp : K → K → Ordering} (m : Indexed K X C) (f' : Forest K X) → Keeps (table m) f' → AreKept cmp m
       → AreKept cmp (record m { forest = f' }) × KeepsAll m (record m { forest = f' })
@@ -266,6 +317,24 @@ module _ {K X C : Type 0} where
       sizes : (q : Option ℕ) → sizes_of f' q ≡ sizes_of (table m) q
       sizes None = refl
       sizes (Some n) = keeps.sizes n
+
+  -- each handle is empty, and the forest has no tree
+  pub kept-empty : {cmp : K → K → Ordering} (m : Indexed K X C) (f' : Forest K X) (qs : List (Option ℕ)) → f' ≡ empty (limit_of (table m))
+      → qs ≡ replicate (count m) None → AreKept cmp (record m { forest = f'; handles = qs }) × ClearsAll m (record m { forest = f'; handles = qs })
+  kept-empty {cmp} m f' qs forest is = (record {
+    live = λ i. subst (λ (q : Option ℕ). IsLive f' q) (sym (none i)) tt;
+    increasing = λ i. subst (λ (q : Option ℕ). IsIncreasing cmp (list_of f' q)) (sym (none i)) (nothing-increases K X cmp);
+    apart = λ i j n d e. absurd (none-some n (sym (none i) ∙ d));
+  }, record {
+    lists = λ i. ap (list_of f') (none i);
+    sizes = λ i. ap (sizes_of f') (none i);
+    table = forest;
+    same_count = ap length is ∙ length-replicate (count m) None;
+    same_comparator = refl;
+  })
+    where
+      none : (i : ℕ) → get_or qs i None ≡ None
+      none i = ap (λ (hs : List (Option ℕ)). get_or hs i None) is ∙ more-none [] (count m) i ∙ get_or-nil i
 
   -- the handles of i and j changed places
   module _ (m : Indexed K X C) (i j : ℕ) (qs : List (Option ℕ)) (at : SwappedAt m.handles qs i j) where

@@ -1,11 +1,12 @@
 -- What contracts see of maps and of sets that are named by an index: a forest, an order, and a handle for each index. A set's values are
 -- all the unit.
+use Rattle.bforest.specs.Calls.{as_inserted}
 use Rattle.bforest.specs.Entries.{IsIncreasing, cut, put, value_for}
-use Rattle.bforest.specs.Forest.{Forest, Gives, IsLive, IsTooMany, NeedsGrowth, Takes, free_of, limit_of, list_of, need_of, sizes_of, sizes_with, sizes_without}
+use Rattle.bforest.specs.Forest.{Forest, Gives, IsLive, IsTooMany, NeedsGrowth, Takes, empty, free_of, limit_of, list_of, need_of, shrink, sizes_of, sizes_with, sizes_without}
 use Rattle.bforest.specs.Refusal.{Full, Memory, OutOfMemory}
 use Rattle.bforest.specs.Retain.{Retains}
 use Rattle.std.specs.Map.{keys_of}
-use Rattle.std.specs.Prelude.{Bool, Err, IfOk, IsOk, List, None, OnErr, OnOk, Option, Result, Some, [], get_or, length, ◌↔◌, ◌≡◌, ◌≢◌, ◌≤◌, ℕ}
+use Rattle.std.specs.Prelude.{Bool, Err, IfOk, IsOk, IsSome, List, None, OnErr, OnOk, Option, Result, Some, [], get_or, if◌then◌else◌, length, nat_lt, remove, slice_get, unwrap_or, ◌↔◌, ◌≡◌, ◌≢◌, ◌≤◌, ℕ}
 use Rattle.std.specs.declared.cmp.Ordering.{Ordering}
 
 -- Contracts read it by the words below alone.
@@ -75,6 +76,14 @@ module _ {K X C : Type 0} where
     pub same_comparator : comparator m' ≡ comparator m
     pub same_table : table m' ≡ table m
 
+  -- all lists ended
+  pub record ClearsAll (m m' : Indexed K X C) : Type 0 where
+    pub lists : (i : ℕ) → entries m' i ≡ []
+    pub sizes : (i : ℕ) → node_sizes m' i ≡ []
+    pub table : table m' ≡ empty (limit_of (table m))
+    pub same_count : count m' ≡ count m
+    pub same_comparator : comparator m' ≡ comparator m
+
   -- the list of i ended
   pub record ClearsAt (m : Indexed K X C) (i : ℕ) (m' : Indexed K X C) : Type 0 where
     pub cleared : entries m' i ≡ []
@@ -87,6 +96,16 @@ module _ {K X C : Type 0} where
     pub kept : Retains step most f (entries m i) (node_sizes m i) (entries m' i) (node_sizes m' i)
     pub beside : ChangesAt m i m'
     pub account : Gives (node_sizes m i) (node_sizes m' i) (table m) (table m')
+
+  -- the entry at a place of i was removed and is answered, where a leaf has at most `most` entries; at the end
+  -- none is, and nothing changed
+  pub record PopsAt (most : ℕ) (m : Indexed K X C) (i place : ℕ) (result : Option (K × X)) (m' : Indexed K X C) : Type 0 where
+    pub entry : result ≡ slice_get (entries m i) place
+    pub removed : entries m' i ≡ remove (entries m i) place
+    pub sizes : node_sizes m' i ≡ (if nat_lt place (length (entries m i)) then shrink most place (node_sizes m i) else node_sizes m i)
+    pub beside : ChangesAt m i m'
+    pub account : Gives (node_sizes m i) (node_sizes m' i) (table m) (table m')
+    pub end : length (entries m i) ≤ place → m' ≡ m
 
   -- `most` is the number of entries that a leaf has at most
   module _ (most : ℕ) (cmp : K → K → Ordering) where
@@ -111,3 +130,11 @@ module _ {K X C : Type 0} where
       pub sizes : node_sizes m' i ≡ sizes_without most cmp (table m) (handle m i) k
       pub account : Gives (node_sizes m i) (node_sizes m' i) (table m) (table m')
       pub absent : result ≡ None → m' ≡ m
+
+    -- the value of the key k of i is answered: the one that was there, and nothing changed, or x, which was
+    -- inserted; or the insertion was refused, and nothing changed
+    pub record GetsOrInsertsAt (m : Indexed K X C) (i : ℕ) (k : K) (x : X) (result : Result X OutOfMemory) (m' : Indexed K X C) : Type 0 where
+      pub value : IfOk result (λ v. v ≡ unwrap_or (value_for cmp (entries m i) k) x)
+      pub present : IsSome (value_for cmp (entries m i) k) → IsOk result
+      pub stays : IsSome (value_for cmp (entries m i) k) → m' ≡ m
+      pub absent : value_for cmp (entries m i) k ≡ None → InsertsAt m i k x (as_inserted result) m'

@@ -1,13 +1,13 @@
 //! Maps by an index.
-ghost use Rattle.bforest.specs.Bounds.{entries_between, entry_at_most};
+ghost use Rattle.bforest.specs.Bounds.{entries_between, entry_at_least, entry_at_most};
 ghost use Rattle.bforest.specs.Calls.{Reserves};
 ghost use Rattle.bforest.specs.Entries.{value_for};
 ghost use Rattle.bforest.specs.Forest.{empty, free_of, limit_of, slots_of};
 ghost use Rattle.bforest.specs.Memory.{IsReadable};
 ghost use Rattle.bforest.specs.Retain.{Answers, MayAsk, MayAskEach};
-ghost use Rattle.bforest_indexed.specs.Indexed.{ClearsAt, FiltersAt, InsertsAt, KeepsAll, RemovesAt, Swaps};
+ghost use Rattle.bforest_indexed.specs.Indexed.{ClearsAll, ClearsAt, FiltersAt, GetsOrInsertsAt, InsertsAt, KeepsAll, PopsAt, RemovesAt, Swaps};
 ghost use Rattle.bforest_indexed.specs.Indexed.{comparator, count, entries, node_sizes, table};
-ghost use Rattle.std.specs.Prelude.{IfOk, IsTrue, OnErr, OnOk, length, ◌+◌, ◌-◌, ◌<◌, ◌^◌, ◌↔◌, ◌≡◌, ◌≤◌};
+ghost use Rattle.std.specs.Prelude.{IfOk, IsTrue, None, OnErr, OnOk, length, replicate, slice_get, ◌++◌, ◌+◌, ◌-◌, ◌<◌, ◌^◌, ◌↔◌, ◌≡◌, ◌≤◌};
 
 use bforest::{Comparator, Map, MapCursor, MapForest, MapIter, MapRange, OutOfMemory};
 use std::alloc::{AllocError, Global};
@@ -89,6 +89,28 @@ impl<K: Copy, V: Copy, C: Comparator<K>> Maps<K, V, C> {
         Ok(index)
     }
 
+    /// Adds empty maps until there are `len`; where there are as many or more, nothing changes. They take no node.
+    ///
+    /// # Errors
+    ///
+    /// `AllocError` where memory for the handles was refused; nothing has changed then.
+    pub fn grow_to(&mut self, len: usize) -> Result<(), AllocError>
+        ensures count { OnOk result (count self.new ≡ count self.old + (len - count self.old)) }
+        ensures keeps { KeepsAll self.old self.new }
+        ensures table { table self.new ≡ table self.old }
+        ensures refused { OnErr result (self.new ≡ self.old) }
+    {
+        add_empty(&mut self.maps, len)
+    }
+
+    /// Removes all entries of all maps, whose number stays. The table has no slot then. Visits each handle once.
+    pub fn clear_all(&mut self)
+        ensures { ClearsAll self.old self.new }
+    {
+        empty_all(&mut self.maps);
+        self.forest.clear();
+    }
+
     /// Exchanges two maps, which may be one. Constant time.
     pub fn swap(&mut self, i: usize, j: usize)
         requires first { i < count self.old }
@@ -115,6 +137,32 @@ impl<K: Copy, V: Copy, C: Comparator<K>> Maps<K, V, C> {
         self.maps[index].get_or_less(key, &self.forest, &self.order)
     }
 
+    /// Returns the first entry whose key is not less than `key`, or `None` where each key is less. One search.
+    pub fn get_or_greater(&self, index: usize, key: K) -> Option<(K, V)>
+        requires within { index < count self.now }
+        ensures entry { result
+            ≡ entry_at_least (C.order (comparator self.now)) (entries self.now index) key }
+    {
+        self.maps[index].get_or_greater(key, &self.forest, &self.order)
+    }
+
+    /// Returns the first entry of a map, or `None` where it is empty. Visits one node of each level. No comparison.
+    pub fn first(&self, index: usize) -> Option<(K, V)>
+        requires within { index < count self.now }
+        ensures entry { result ≡ slice_get (entries self.now index) 0 }
+    {
+        self.maps[index].first(&self.forest)
+    }
+
+    /// Returns the last entry of a map, or `None` where it is empty. Visits one node of each level. No comparison.
+    pub fn last(&self, index: usize) -> Option<(K, V)>
+        requires within { index < count self.now }
+        ensures entry { result
+            ≡ slice_get (entries self.now index) (length (entries self.now index) - 1) }
+    {
+        self.maps[index].last(&self.forest)
+    }
+
     /// Inserts a value at a key and returns the value that was there, as [`bforest::Map::insert`] does. One search.
     ///
     /// # Errors
@@ -134,6 +182,47 @@ impl<K: Copy, V: Copy, C: Comparator<K>> Maps<K, V, C> {
         ensures { RemovesAt 7 (C.order (comparator self.old)) self.old index key result self.new }
     {
         self.maps[index].remove(key, &mut self.forest, &self.order)
+    }
+
+    /// Inserts a value at a key and returns the value that was there, exactly as [`Maps::insert`] does.
+    ///
+    /// # Errors
+    ///
+    /// Those of [`Maps::insert`].
+    pub fn try_insert(&mut self, index: usize, key: K, value: V) -> Result<Option<V>, OutOfMemory>
+        requires within { index < count self.old }
+        ensures { InsertsAt 7 (C.order (comparator self.old)) self.old index key value result self.new }
+    {
+        self.insert(index, key, value)
+    }
+
+    /// Returns the value of the entry whose key compares equal to `key`. Where there is none, inserts `value` at the key and returns it. One
+    /// search.
+    ///
+    /// # Errors
+    ///
+    /// [`OutOfMemory`] where the key is absent and too few nodes are available; nothing has changed then.
+    pub fn get_or_insert(&mut self, index: usize, key: K, value: V) -> Result<V, OutOfMemory>
+        requires within { index < count self.old }
+        ensures { GetsOrInsertsAt 7 (C.order (comparator self.old)) self.old index key value result self.new }
+    {
+        self.maps[index].get_or_insert(key, value, &mut self.forest, &self.order)
+    }
+
+    /// Removes the first entry of a map and returns it, or returns `None` where the map is empty. No comparison, and no memory is taken.
+    pub fn pop_first(&mut self, index: usize) -> Option<(K, V)>
+        requires within { index < count self.old }
+        ensures { PopsAt 7 self.old index 0 result self.new }
+    {
+        self.maps[index].pop_first(&mut self.forest)
+    }
+
+    /// Removes the last entry of a map and returns it, or returns `None` where the map is empty. No comparison, and no memory is taken.
+    pub fn pop_last(&mut self, index: usize) -> Option<(K, V)>
+        requires within { index < count self.old }
+        ensures { PopsAt 7 self.old index (length (entries self.old index) - 1) result self.new }
+    {
+        self.maps[index].pop_last(&mut self.forest)
     }
 
     /// Removes all entries of a map. Visits each node of its tree once.
@@ -228,5 +317,30 @@ impl<K: Copy, V: Copy, C: Comparator<K>> Maps<K, V, C> {
         ensures count { count self.new ≡ count self.old }
     {
         self.forest.reserve_nodes(n)
+    }
+}
+
+// Adds empty handles until there are `count`, in memory that is taken once.
+fn add_empty<K: Copy, V: Copy>(maps: &mut Vec<Map<K, V>>, count: usize) -> Result<(), AllocError>
+    ensures more { OnOk result (maps.new.items
+        ≡ maps.old.items ++ replicate (count - length maps.old.items) None) }
+    ensures refused { OnErr result (maps.new.items ≡ maps.old.items) }
+{
+    let more = count.saturating_sub(maps.len());
+    maps.reserve(more)?;
+    for _ in 0..more {
+        maps.push_reserved(Map::new());
+    }
+    Ok(())
+}
+
+// Makes each handle empty.
+fn empty_all<K: Copy, V: Copy>(maps: &mut Vec<Map<K, V>>)
+    ensures { maps.new.items ≡ replicate (length maps.old.items) None }
+{
+    let count = maps.len();
+    maps.clear();
+    for _ in 0..count {
+        maps.push_reserved(Map::new());
     }
 }
