@@ -64,6 +64,13 @@ fn rows_of_mixture(kind: Kind, maps: u32, is_counted: bool) -> Vec<Row> {
     rows
 }
 
+// The row of the small maps that are named by an index, to be laid beside that of the handles.
+fn row_of_indexed(maps: u32) -> Row {
+    let (nothing, filled) = (fill(Kind::Indexed, 0), fill(Kind::Indexed, maps));
+    let name = "small maps by an index: all calls";
+    Row { name, size: maps, without: nothing, with: Work { turns: 1, ..filled }, rounds: 1, calls: filled.calls() }
+}
+
 fn rows_of_large(kind: Kind, size: u32, looks: u32) -> Vec<Row> {
     let names = match kind {
         Kind::Random => [
@@ -175,6 +182,7 @@ fn rows(part: u32, is_counted: bool) -> Vec<Row> {
 // The rows of small maps and sets.
 fn rows_of_small(part: u32, is_counted: bool) -> Vec<Row> {
     let mut rows = rows_of_mixture(Kind::Mixture, 100_000 / part, is_counted);
+    rows.push(row_of_indexed(100_000 / part));
     rows.extend(rows_of_edges(100_000 / part));
     rows.extend(rows_of_edges_cursor(100_000 / part));
     rows.extend(rows_of_mixture(Kind::SetMixture, 100_000 / part, is_counted));

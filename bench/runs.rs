@@ -11,6 +11,7 @@ use std::time::{Duration, Instant};
 #[cfg(library)]
 unsafe extern "C" {
     fn bench_mixture(maps: u32, calls: u32, looks: u32, walks: u32, is_cleared: bool) -> u64;
+    fn bench_indexed(maps: u32, calls: u32, is_cleared: bool) -> u64;
     fn bench_large(size: u32, is_mixed: bool, looks: u32, walks: u32, is_emptied: bool) -> u64;
     fn bench_large_cursor(size: u32, is_mixed: bool, walks: u32, turns: u32) -> u64;
     fn bench_edges(blocks: u32, walks: u32, turns: u32) -> u64;
@@ -25,6 +26,8 @@ unsafe extern "C" {
 pub enum Kind {
     /// Many small maps.
     Mixture,
+    /// The maps of `Mixture`, by an index.
+    Indexed,
     /// One map, whose keys are inserted in no order.
     Random,
     /// One map, whose keys are inserted in ascending order.
@@ -48,8 +51,9 @@ pub enum Kind {
 }
 
 /// All kinds.
-pub const KINDS: [Kind; 11] = [
+pub const KINDS: [Kind; 12] = [
     Kind::Mixture,
+    Kind::Indexed,
     Kind::Random,
     Kind::Ascending,
     Kind::RandomCursor,
@@ -437,7 +441,7 @@ fn timed<M>(new: impl FnOnce() -> M, run: impl FnOnce(&mut M) -> u64, is_kept: b
 fn run_on<M: Maps, S: sets::Sets, R: sets::Ranges>(work: Work, is_kept: bool) -> (u64, Duration) {
     let size = work.size;
     match work.kind {
-        Kind::Mixture => timed(|| M::new(size), |maps| mixture(maps, work), is_kept),
+        Kind::Mixture | Kind::Indexed => timed(|| M::new(size), |maps| mixture(maps, work), is_kept),
         Kind::Random => timed(|| M::new(1), |maps| large(maps, work, true), is_kept),
         Kind::Ascending => timed(|| M::new(1), |maps| large(maps, work, false), is_kept),
         Kind::RandomCursor => timed(|| M::new(1), |maps| large_cursor(maps, work, true), is_kept),
@@ -459,6 +463,7 @@ fn run_bforest(work: Work) -> (u64, Duration) {
     let sum = unsafe {
         match work.kind {
             Kind::Mixture => bench_mixture(size, work.calls(), looks, walks, turns > 0),
+            Kind::Indexed => bench_indexed(size, work.calls(), turns > 0),
             Kind::Random => bench_large(size, true, looks, walks, turns > 0),
             Kind::Ascending => bench_large(size, false, looks, walks, turns > 0),
             Kind::RandomCursor => bench_large_cursor(size, true, walks, turns),

@@ -49,6 +49,16 @@ FOREST = [
 # The comments at the front of a crate that speak of its contracts.
 FRONT = r"\A(?://![^\n]*\n)*"
 
+# Handles in a vector that asks for memory by Rust's names.
+INDEXED = [
+    (r"^use std::alloc::\{AllocError, Global\};\n", "use alloc::collections::TryReserveError;\nuse alloc::vec::Vec;\n", 1),
+    (r"\balloc: Global, ", "", 2),
+    (r"with_node_limit\(alloc, ", "with_node_limit(", 2),
+    (r"Vec::new\(alloc\)", "Vec::new()", 1),
+    (r"^use std::ops::Bound;", "use std::ops::RangeBounds;", 1),
+    (r"pub fn range\(&self, index: usize, bounds: \(Bound<K>, Bound<K>\)\)", "pub fn range<R: RangeBounds<K>>(&self, index: usize, bounds: R)", 1),
+]
+
 # A range is named by any bounds, as in the standard library.
 RANGE = [
     (r"^use std::ops::Bound;", "use std::ops::RangeBounds;", 1),
@@ -65,6 +75,21 @@ EDITS = {
     "bforest/set_forest.rt": FOREST,
     "bforest/map.rt": [*RANGE, (r" \(docs/RULES\.md, removal\)", "", 1)],
     "bforest/set.rt": RANGE,
+    "bforest_indexed/lib.rt": [(r"^pub use bforest::\{Comparator, OutOfMemory\};\n", "", 1)],
+    "bforest_indexed/maps.rt": [
+        *INDEXED,
+        (r"^pub struct Maps<K: Copy, V: Copy, C: Comparator<K>>", "pub struct Maps<K: Copy, V: Copy, C: Comparator<K> = ()>", 1),
+        (r"\bAllocError\b", "TryReserveError", 5),
+        (r"(\w+)\.reserve\(more\)\?;", r"\1.try_reserve(more)?;", 1),
+        (r"\.push_reserved\(", ".push(", 2),
+        (r"self\.maps\.push\(Map::new\(\)\)\?;", "self.maps.try_reserve(1)?;\n        self.maps.push(Map::new());", 1),
+    ],
+    "bforest_indexed/sets.rt": [
+        *INDEXED,
+        (r"^pub struct Sets<K: Copy, C: Comparator<K>>", "pub struct Sets<K: Copy, C: Comparator<K> = ()>", 1),
+        (r"\bAllocError\b", "TryReserveError", 2),
+        (r"self\.sets\.push\(Set::new\(\)\)\?;", "self.sets.try_reserve(1)?;\n        self.sets.push(Set::new());", 1),
+    ],
     "bforest_nodes/lib.rt": [
         (r"; contracts see it as two lists \(`specs/Content\.antt`\)\.", ".", 1),
         (r"table, which this crate does not\n//! know\. Users name `bforest_core`, which has all of it\.", "table.", 1),
@@ -148,13 +173,17 @@ CLONED = {
     "bforest/map_iter.rt": ["MapIter"],
     "bforest/map_into_iter.rt": ["MapIntoIter"],
     "bforest/set_iter.rt": ["SetIter"],
+    "bforest_indexed/maps.rt": ["Maps"],
+    "bforest_indexed/sets.rt": ["Sets"],
 }
 
-# Types whose fields `rust.rs` reads: a `Clone` that is derived would ask one of the comparator too.
+# Types whose fields `rust.rs` reads.
 OPENED = {
     "bforest/map_cursor.rt": ["MapCursor"],
     "bforest/map_range.rt": ["MapRange"],
     "bforest/set_range.rt": ["SetRange"],
+    "bforest_indexed/maps.rt": ["Maps"],
+    "bforest_indexed/sets.rt": ["Sets"],
 }
 
 # Functions that can be called where a constant is made.
@@ -170,11 +199,15 @@ CONSTANT = {
 
 # Functions that only tell something, so that a call whose result is dropped is a mistake.
 TELLING = ["is_empty", "contains", "get", "get_or_less", "get_or_greater", "first", "last", "levels", "increases"]
+MANY = ["new", "with_node_limit", "len", "slots", "free_slots", "node_limit"]
+SET_TELLING = ["is_empty", "contains", "get_or_less", "levels"]
 MUST_USE = {
     "bforest/map.rt": ["new", "clone", "cursor", "cursor_mut", *(it for it in TELLING if it != "contains")],
     "bforest/set.rt": ["new", "clone", "cursor", *(it for it in TELLING if it != "get")],
     "bforest/forest.rt": ["new", "with_node_limit", "slots", "free_slots", "node_limit", "holds"],
     "bforest/set_forest.rt": ["new", "with_node_limit", "slots", "free_slots", "node_limit", "holds"],
+    "bforest_indexed/maps.rt": [*MANY, "cursor", *(it for it in TELLING if it not in ("contains", "increases"))],
+    "bforest_indexed/sets.rt": [*MANY, *SET_TELLING],
     "bforest/map_cursor.rt": ["is_empty", "entry", "key", "value"],
     "bforest/map_cursor_mut.rt": ["is_empty", "entry", "key", "value"],
     "bforest/set_cursor.rt": ["is_empty", "elem"],
@@ -189,6 +222,7 @@ PROGRAM = [
     (r"^use std::alloc::(?:AllocError|\{AllocError, Global\});\n", IMPORT),
     (r"^use std::alloc::Global;\n", ""),
     (r"\balloc: Global(?:,\s*|(?=\)))", ""),
+    (r"^use bforest_indexed::", "use bforest::"),
     (r"rt: HostRuntime|rt\.alloc\(\)(?:, )?", ""),
     (r"\balloc, ", ""),
     (r"\.collect\(alloc\)", ".try_collected()"),

@@ -3,8 +3,8 @@
 use crate::bforest_core::{Node, PackedNode};
 use crate::bforest_trees::Trees;
 use crate::{
-    Comparator, Map, MapCursor, MapCursorMut, MapForest, MapIntoIter, MapIter, MapRange, OutOfMemory, Set, SetCursor,
-    SetForest, SetIter, SetRange,
+    Comparator, Map, MapCursor, MapCursorMut, MapForest, MapIntoIter, MapIter, MapRange, Maps, OutOfMemory, Set,
+    SetCursor, SetForest, SetIter, SetRange, Sets,
 };
 use core::cmp::{Ordering, Reverse};
 use core::error::Error;
@@ -34,6 +34,88 @@ impl<K: Copy> Default for SetForest<K> {
     /// Returns an empty forest, as [`SetForest::new`] does.
     fn default() -> Self {
         SetForest::new()
+    }
+}
+
+impl<K: Copy, V: Copy, C: Comparator<K> + Default> Default for Maps<K, V, C> {
+    /// Returns no maps, as [`Maps::new`] does.
+    fn default() -> Self {
+        Maps::new(C::default())
+    }
+}
+
+impl<K: Copy, C: Comparator<K> + Default> Default for Sets<K, C> {
+    /// Returns no sets, as [`Sets::new`] does.
+    fn default() -> Self {
+        Sets::new(C::default())
+    }
+}
+
+impl<K: Copy, V: Copy, C: Comparator<K>> Maps<K, V, C> {
+    /// Returns a cursor that reads and changes a map, as [`Map::cursor_mut`] does. It stands at the end, behind the last entry.
+    ///
+    /// # Panics
+    ///
+    /// Where `index` is not less than `len`; the panic names it.
+    #[must_use]
+    #[track_caller]
+    pub fn cursor_mut(&mut self, index: usize) -> MapCursorMut<'_, K, V, C> {
+        self.maps[index].cursor_mut(&mut self.forest, &self.order)
+    }
+
+    /// Returns a value whose `Debug` shows the entries of a map in order.
+    ///
+    /// # Panics
+    ///
+    /// Where `index` is not less than `len`; the panic names it.
+    #[must_use]
+    #[track_caller]
+    pub fn debug(&self, index: usize) -> impl Debug + use<'_, K, V, C>
+    where
+        K: Debug,
+        V: Debug,
+    {
+        Entries(self.iter(index))
+    }
+}
+
+impl<K: Copy, C: Comparator<K>> Sets<K, C> {
+    /// Returns a cursor that reads and changes a set, as [`Set::cursor`] does. It stands at the end, behind the last key.
+    ///
+    /// # Panics
+    ///
+    /// Where `index` is not less than `len`; the panic names it.
+    #[must_use]
+    #[track_caller]
+    pub fn cursor(&mut self, index: usize) -> SetCursor<'_, K, C> {
+        self.sets[index].cursor(&mut self.forest, &self.order)
+    }
+
+    /// Returns a value whose `Debug` shows the keys of a set in order.
+    ///
+    /// # Panics
+    ///
+    /// Where `index` is not less than `len`; the panic names it.
+    #[must_use]
+    #[track_caller]
+    pub fn debug(&self, index: usize) -> impl Debug + use<'_, K, C>
+    where
+        K: Debug,
+    {
+        Keys(self.iter(index))
+    }
+}
+
+// All maps are shown in the order of their indices.
+impl<K: Copy + Debug, V: Copy + Debug, C: Comparator<K>> Debug for Maps<K, V, C> {
+    fn fmt(&self, f: &mut Formatter<'_>) -> fmt::Result {
+        f.debug_list().entries((0..self.len()).map(|index| self.debug(index))).finish()
+    }
+}
+
+impl<K: Copy + Debug, C: Comparator<K>> Debug for Sets<K, C> {
+    fn fmt(&self, f: &mut Formatter<'_>) -> fmt::Result {
+        f.debug_list().entries((0..self.len()).map(|index| self.debug(index))).finish()
     }
 }
 

@@ -91,19 +91,35 @@ def marked_unused(text):
     return text
 
 
-def guarded(text, source):
-    """The text in which each public function whose contract asks for a live handle tests it in debug builds, and its docs say what it asks."""
+def with_panics(text, source, panics):
+    """The text in which the docs of public functions say when they panic: `panics` tells of a contract what they say, an attribute, and what
+    the body begins with, or answers nothing."""
     for start, name, _, (body, _) in reversed(list(functions(text))):
         contract = re.search(rf"^    pub fn {name}\b.*?^    \{{", source, re.M | re.S)
-        if not contract or not re.search(LIVE, contract[0]) or "    pub fn" not in text[start:body]:
+        told = panics(contract[0]) if contract and "    pub fn" in text[start:body] else None
+        if not told:
             continue
-        asked = IS_LIVE + (IS_ORDERED if re.search(INCREASING, contract[0]) else "")
-        lines = ["", "# Panics", "", *textwrap.wrap(f"{asked}. {PANICS}", 92)]
-        docs = "".join(f"    /// {it}".rstrip() + "\n" for it in lines)
+        said, attribute, first = told
+        docs = "".join(f"    /// {it}".rstrip() + "\n" for it in ["", "# Panics", "", *textwrap.wrap(said, 92)])
         put = text.rindex("    pub fn", start, body)
-        head = f"{docs}    #[cfg_attr(debug_assertions, track_caller)]\n{text[put : body + 1]}\n        {GUARD}"
-        text = text[:put] + head + text[body + 1 :]
+        text = f"{text[:put]}{docs}    #[{attribute}]\n{text[put : body + 1]}{first}{text[body + 1 :]}"
     return text
+
+
+def guard(contract):
+    """Where a handle has to be live: debug builds test it."""
+    if not re.search(LIVE, contract):
+        return None
+    asked = IS_LIVE + (IS_ORDERED if re.search(INCREASING, contract) else "")
+    return f"{asked}. {PANICS}", "cfg_attr(debug_assertions, track_caller)", f"\n        {GUARD}"
+
+
+def bounded(contract):
+    """Where an index has to be there: the panic names it."""
+    indices = re.findall(r"requires \w+ \{ (\w+) < count ", contract)
+    if not indices:
+        return None
+    return f"Where `{'` or `'.join(indices)}` is not less than `len`; the panic names it.", "track_caller", ""
 
 
 def with_attributes(text, name):
@@ -168,7 +184,9 @@ def library_source(source, name, examples):
     """A source of the library as Rust: the text of the file `name`, which begins with its crate."""
     text = marked_unused(without_unused(edited(plain(source), name), UNUSED.get(name, [])))
     if name.startswith("bforest/"):
-        text = guarded(text, source)
+        text = with_panics(text, source, guard)
+    if name.startswith("bforest_indexed/"):
+        text = with_panics(text, source, bounded)
     # the package has no std
     text = re.sub(r"^((?:pub )?use )std::", r"\1core::", with_attributes(text, name), flags=re.M)
     text = with_examples(text, examples)

@@ -3,8 +3,8 @@
 #![tactic(auto)]
 
 use bforest_workloads_bench::{
-    run_edges, run_edges_cursor, run_large, run_large_cursor, run_large_set, run_mixture,
-    run_ranges, run_set_mixture,
+    run_edges, run_edges_cursor, run_indexed, run_large, run_large_cursor, run_large_set,
+    run_mixture, run_ranges, run_set_mixture,
 };
 use std::io;
 
@@ -12,6 +12,7 @@ use std::io;
 #[derive(Clone, Copy)]
 enum Kind {
     Mixture,
+    Indexed,
     Random,
     Ascending,
     RandomCursor,
@@ -29,6 +30,7 @@ impl Kind {
     fn name(self) -> &'static str {
         match self {
             Kind::Mixture => "Mixture",
+            Kind::Indexed => "Indexed",
             Kind::Random => "Random",
             Kind::Ascending => "Ascending",
             Kind::RandomCursor => "RandomCursor",
@@ -87,6 +89,7 @@ fn show(rt: HostRuntime, kind: Kind, size: u32, rounds: Rounds) -> io::Result<()
     let alloc = rt.alloc();
     let sum = match kind {
         Kind::Mixture => run_mixture(alloc, size, size.saturating_mul(30), looks, walks, is_taken),
+        Kind::Indexed => run_indexed(alloc, size, size.saturating_mul(30), is_taken),
         Kind::Random => run_large(alloc, size, true, looks, walks, is_taken),
         Kind::Ascending => run_large(alloc, size, false, looks, walks, is_taken),
         Kind::RandomCursor => run_large_cursor(alloc, size, true, walks, turns),
@@ -142,6 +145,8 @@ fn show_cursors(rt: HostRuntime) -> io::Result<()> {
 fn main(rt: HostRuntime) -> io::Result<()> {
     show_all(rt, Kind::Mixture, 1000)?;
     show(rt, Kind::Mixture, 1000, LOOKED_UP)?;
+    show(rt, Kind::Indexed, 1000, FILLED)?;
+    show(rt, Kind::Indexed, 1000, TAKEN)?;
     show_all(rt, Kind::Random, 10_000)?;
     show(rt, Kind::Random, 10_000, LOOKED_UP)?;
     show_all(rt, Kind::Ascending, 10_000)?;

@@ -284,6 +284,16 @@ impl<K: Copy, V: Copy, C: Comparator<K>> Maps<K, V, C> {
         self.maps[index].cursor(&self.forest, &self.order)
     }
 
+    /// Hands a writing cursor of a map to `edit`, and returns what that answers. The cursor stands at the end at first. What it does to the
+    /// map is what its own calls cost and answer; each other map stays.
+    pub fn edit<E: Edit<K, V, C>>(&mut self, index: usize, edit: E) -> E::Answer
+        requires within { index < count self.old }
+        ensures { EditsAt (E.leaves edit) self.old index result self.new }
+    {
+        let mut cursor = self.maps[index].cursor_mut(&mut self.forest, &self.order);
+        edit.edit(&mut cursor)
+    }
+
     /// Returns how many slots the table has, which is the number of nodes in use and of free ones. Constant time.
     pub fn slots(&self) -> u32
         ensures count { result ≡ slots_of (table self.now) }

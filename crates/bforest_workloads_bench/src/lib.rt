@@ -5,6 +5,7 @@
 
 mod edges;
 mod edits;
+mod indexed;
 mod large;
 mod large_set;
 mod mixture;
@@ -28,6 +29,11 @@ pub fn run_mixture(
     is_cleared: bool,
 ) -> u64 {
     mixture::run(alloc, maps, calls, looks, walks, is_cleared).unwrap_or(0)
+}
+
+/// Makes the calls of `run_mixture` on maps that are named by an index, and, if asked for, clears each map.
+pub fn run_indexed(alloc: Global, maps: u32, calls: u32, is_cleared: bool) -> u64 {
+    indexed::run(alloc, maps, calls, is_cleared).unwrap_or(0)
 }
 
 /// Makes `size` insertions into one map, in ascending order or without one. Then rounds of as many lookups, rounds that read each entry,

@@ -1,9 +1,9 @@
 -- What contracts see of a control flow graph, and its invariant.
-use Rattle.bforest.specs.Forest.{Forest, IsLive, list_of}
+use Rattle.bforest.specs.Entries.{cut, is_present, put, value_for}
 use Rattle.bforest.specs.Set.{the_value}
-use Rattle.bforest.specs.Entries.{IsIncreasing, cut, is_present, put, value_for}
+use Rattle.bforest_indexed.specs.Indexed.{Indexed, count, lists}
 use Rattle.std.specs.Ordering.{nat_cmp}
-use Rattle.std.specs.Prelude.{List, None, Option, Some, [], get_or, length, map, slice_set, suc, zero, ◌≡◌, ℕ}
+use Rattle.std.specs.Prelude.{List, None, Option, Some, [], get_or, length, slice_set, suc, zero, ◌≡◌, ℕ}
 
 -- for each block its successors, and its predecessors with the branches that lead from them
 pub record Graph : Type 0 where
@@ -56,26 +56,11 @@ led_over g block tail (suc n) =
 abbrev pub split_in : Graph → ℕ → ℕ → ℕ → Graph
 split_in g block branch tail = with_edge (led_over g block tail (blocks g)) block branch tail
 
--- the lists of handles
-abbrev pub lists_of : {X : Type 0} → Forest ℕ X → List (Option ℕ) → List (List (ℕ × X))
-lists_of f handles = map (list_of f) handles
-
--- each handle is live, its keys increase, and no two have one number
-pub record AreOrdered {X : Type 0} (f : Forest ℕ X) (handles : List (Option ℕ)) : Type 0 where
-  pub live : (block : ℕ) → IsLive f (get_or handles block None)
-  pub increasing : (block : ℕ) → IsIncreasing nat_cmp (list_of f (get_or handles block None))
-  pub apart : (p q n : ℕ) → get_or handles p None ≡ Some n → get_or handles q None ≡ Some n → p ≡ q
-
--- the graph of two forests and the handles of each block
-abbrev pub graph_of : Forest ℕ (Unit {0}) → List (Option ℕ) → Forest ℕ ℕ → List (Option ℕ) → Graph
-graph_of targets successors sources predecessors = record {
-  successors = lists_of targets successors;
-  predecessors = lists_of sources predecessors;
-}
+-- the graph of the successors and the predecessors of each block
+abbrev pub graph_of : Indexed ℕ (Unit {0}) (Unit {0}) → Indexed ℕ ℕ (Unit {0}) → Graph
+graph_of successors predecessors = record { successors = lists successors; predecessors = lists predecessors }
 
 -- the invariant of a graph
-pub record AreKept (targets : Forest ℕ (Unit {0})) (successors : List (Option ℕ)) (sources : Forest ℕ ℕ) (predecessors : List (Option ℕ)) : Type 0 where
-  pub forward : AreOrdered targets successors
-  pub backward : AreOrdered sources predecessors
-  pub same_blocks : length successors ≡ length predecessors
-  pub mirrored : IsMirrored (graph_of targets successors sources predecessors)
+pub record AreKept (successors : Indexed ℕ (Unit {0}) (Unit {0})) (predecessors : Indexed ℕ ℕ (Unit {0})) : Type 0 where
+  pub same_blocks : count successors ≡ count predecessors
+  pub mirrored : IsMirrored (graph_of successors predecessors)

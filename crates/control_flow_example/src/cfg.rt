@@ -3,17 +3,15 @@ ghost use Rattle.control_flow_example.specs.Graphs.{IsMirrored, blocks, branch_o
 ghost use Rattle.std.specs.Option.{is_some};
 ghost use Rattle.std.specs.Prelude.{IfOk, OnErr, OnOk, [], replicate, ◌<◌, ◌^◌, ◌≡◌};
 
-use bforest::{Map, MapForest, OutOfMemory, Set, SetForest};
+use bforest_indexed::{Maps, OutOfMemory, Sets};
 use std::alloc::{AllocError, Global};
 use std::marker::Model;
 
 /// Blocks that are numbered from 0, and the branches that lead from block to block.
 #[derive(Drop)]
 pub(crate) struct Cfg {
-    targets: SetForest<u32>,
-    successors: Vec<Set<u32>>,
-    sources: MapForest<u32, u32>,
-    predecessors: Vec<Map<u32, u32>>,
+    successors: Sets<u32, ()>,
+    predecessors: Maps<u32, u32, ()>,
 }
 
 impl Model for Cfg {
@@ -21,27 +19,23 @@ impl Model for Cfg {
 
     ghost Value = { Graph };
 
-    ghost view = { λ c. graph_of c.targets c.successors.items c.sources c.predecessors.items };
+    ghost view = { λ c. graph_of c.successors c.predecessors };
 
-    ghost invariant = { λ c. AreKept c.targets c.successors.items c.sources c.predecessors.items };
+    ghost invariant = { λ c. AreKept c.successors c.predecessors };
 }
 
 impl Cfg {
     /// A graph of `count` blocks, none of which leads to another.
-    pub(crate) fn new(alloc: Global, count: u32) -> Result<Cfg, AllocError>
+    pub(crate) fn new(alloc: Global, count: usize) -> Result<Cfg, AllocError>
         ensures successors { IfOk result (λ c. c.successors ≡ replicate count []) }
         ensures predecessors { IfOk result (λ c. c.predecessors ≡ replicate count []) }
     {
-        let mut successors = Vec::new(alloc);
-        let mut predecessors = Vec::new(alloc);
-        for _ in 0..count {
-            successors.push(Set::new())?;
-            predecessors.push(Map::new())?;
-        }
+        let mut successors = Sets::new(alloc, ());
+        let mut predecessors = Maps::new(alloc, ());
+        successors.grow_to(count)?;
+        predecessors.grow_to(count)?;
         Ok(Cfg {
-            targets: SetForest::new(alloc),
             successors,
-            sources: MapForest::new(alloc),
             predecessors,
         })
     }
@@ -58,8 +52,10 @@ impl Cfg {
     pub(crate) fn branch(&self, from: u32, to: u32) -> Option<u32>
         ensures { result ≡ branch_of self.now from to }
     {
-        let predecessors = self.predecessors.get(to as usize)?;
-        predecessors.get(from, &self.sources, &())
+        if to as usize >= self.predecessors.len() {
+            return None;
+        }
+        self.predecessors.get(to as usize, from)
     }
 
     /// Whether a block leads to another, by its successors.
@@ -67,7 +63,7 @@ impl Cfg {
         requires { from < blocks self.now }
         ensures { result ≡ is_some (branch_of self.now from to) }
     {
-        self.successors[from as usize].contains(to, &self.targets, &())
+        self.successors.contains(from as usize, to)
     }
 
     /// Adds an edge, or gives it another branch.
@@ -78,13 +74,11 @@ impl Cfg {
         ensures refused { OnErr result (self.new ≡ self.old) }
         ensures same_blocks { blocks self.new ≡ blocks self.old }
     {
-        let levels = self.successors[from as usize].levels(&self.targets);
-        self.targets.reserve_nodes(levels as u32 + 1)?;
-        self.predecessors[to as usize].insert(from, branch, &mut self.sources, &())?;
+        let levels = self.successors.levels(from as usize);
+        self.successors.reserve_nodes(levels as u32 + 1)?;
+        self.predecessors.insert(to as usize, from, branch)?;
         // The nodes that this insertion needs are free.
-        self.successors[from as usize]
-            .insert(to, &mut self.targets, &())
-            .unwrap();
+        self.successors.insert(from as usize, to).unwrap();
         Ok(())
     }
 
@@ -95,8 +89,8 @@ impl Cfg {
         ensures removed { self.new ≡ without_edge self.old from to }
         ensures same_blocks { blocks self.new ≡ blocks self.old }
     {
-        self.successors[from as usize].remove(to, &mut self.targets, &());
-        self.predecessors[to as usize].remove(from, &mut self.sources, &());
+        self.successors.remove(from as usize, to);
+        self.predecessors.remove(to as usize, from);
     }
 
     /// Moves the branch of an edge to another, new edge; the old edge is removed.

@@ -8,7 +8,7 @@ ghost use Rattle.control_flow_example.specs.Graphs.{blocks};
 ghost use Rattle.std.specs.Prelude.{◌≡◌};
 
 use crate::cfg::Cfg;
-use bforest::OutOfMemory;
+use bforest_indexed::OutOfMemory;
 use std::io;
 
 // Block 0 branches to 1 and 2, which both lead to 3. Then block 2 leads to 1 instead, and 0 is split.

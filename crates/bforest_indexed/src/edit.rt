@@ -1,0 +1,26 @@
+//! Work on one map by a writing cursor.
+ghost use Rattle.bforest.specs.Cursor.{IsCursor, entries};
+ghost use Rattle.bforest.specs.Memory.{IsReadable};
+ghost use Rattle.bforest_indexed.specs.Edits.{Edits};
+ghost use Rattle.std.specs.Prelude.{List, ◌×◌};
+
+use bforest::{Comparator, MapCursorMut};
+
+/// Work on one map by a writing cursor, which [`crate::Maps::edit`] lends for as long as the work takes.
+///
+/// The cursor may be moved, and may insert, write and remove. A closure would not do: it could put another cursor in the place of the one
+/// that it was lent. So the work is a type, whose implementation shows that the cursor which it leaves continues the one that it got.
+pub trait Edit<K: Copy, V: Copy, C: Comparator<K>>: Drop {
+    /// What the work answers.
+    type Answer;
+
+    // Whether the work on this list may give this answer and leave this list.
+    ghost leaves: { Self → List (K × V) → Answer → List (K × V) → Type 0 };
+
+    /// Does the work. The cursor stands at the end, behind the last entry.
+    fn edit(self, cursor: &mut MapCursorMut<K, V, C>) -> Self::Answer
+        requires valid { IsCursor C.order cursor.old }
+        requires ready { IsReadable K.row V.row }
+        ensures edits { Edits 7 C.order cursor.old cursor.new }
+        ensures leaves { leaves self (entries cursor.old) result (entries cursor.new) };
+}

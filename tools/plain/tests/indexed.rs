@@ -1,0 +1,196 @@
+//! Random calls on `Maps` and `Sets` beside a vector of `BTreeMap`s and one of `BTreeSet`s, with refusals, and indices that are not there.
+
+use bforest::{Maps, OutOfMemory, Sets};
+use std::collections::{BTreeMap, BTreeSet};
+use std::panic::{AssertUnwindSafe, catch_unwind};
+
+/// How many keys there are.
+const KEYS: u32 = 60;
+const STEPS: u32 = 300_000;
+
+/// Pseudo-random numbers (xorshift).
+struct Random(u64);
+
+impl Random {
+    fn below(&mut self, bound: u32) -> u32 {
+        self.0 ^= self.0 << 13;
+        self.0 ^= self.0 >> 7;
+        self.0 ^= self.0 << 17;
+        (self.0 >> 33) as u32 % bound
+    }
+}
+
+type Model = Vec<BTreeMap<u32, u32>>;
+
+fn entry(found: Option<(&u32, &u32)>) -> Option<(u32, u32)> {
+    found.map(|(key, value)| (*key, *value))
+}
+
+/// What reads a map.
+fn read(maps: &Maps<u32, u32>, model: &Model, at: usize, key: u32) {
+    let map = &model[at];
+    assert_eq!(maps.get(at, key), map.get(&key).copied());
+    assert_eq!(maps.get_or_less(at, key), entry(map.range(..=key).next_back()));
+    assert_eq!(maps.get_or_greater(at, key), entry(map.range(key..).next()));
+    assert_eq!(maps.first(at), entry(map.first_key_value()));
+    assert_eq!(maps.last(at), entry(map.last_key_value()));
+    assert_eq!(maps.levels(at) == 0, map.is_empty());
+    let range = maps.range(at, key / 2..key);
+    assert!(range.eq(map.range(key / 2..key).map(|(k, v)| (*k, *v))));
+    let mut cursor = maps.cursor(at);
+    assert_eq!(cursor.goto(key), map.get(&key).copied());
+    assert_eq!(cursor.prev(), entry(map.range(..key).next_back()));
+}
+
+/// What changes a map; where an insertion is refused, nothing may have changed.
+fn change(maps: &mut Maps<u32, u32>, model: &mut Model, call: u32, at: usize, key: u32, value: u32) {
+    let map = &mut model[at];
+    match call {
+        0..12 => match maps.insert(at, key, value) {
+            Ok(old) => assert_eq!(old, map.insert(key, value)),
+            Err(refused) => assert!(refused == OutOfMemory::Full && !map.contains_key(&key)),
+        },
+        12..16 => match maps.get_or_insert(at, key, value) {
+            Ok(found) => assert_eq!(found, *map.entry(key).or_insert(value)),
+            Err(refused) => assert!(refused == OutOfMemory::Full && !map.contains_key(&key)),
+        },
+        16..24 => assert_eq!(maps.remove(at, key), map.remove(&key)),
+        24 => assert_eq!(maps.pop_first(at), map.pop_first()),
+        25 => assert_eq!(maps.pop_last(at), map.pop_last()),
+        26 => {
+            maps.retain(at, |k, v| {
+                *v += 1;
+                k % 3 != key % 3
+            });
+            map.retain(|k, v| {
+                *v += 1;
+                k % 3 != key % 3
+            });
+        }
+        27 => {
+            let mut cursor = maps.cursor_mut(at);
+            if cursor.goto(key).is_some() {
+                assert_eq!(cursor.remove(), map.remove(&key));
+            } else if cursor.insert(key, value).is_ok() {
+                map.insert(key, value);
+            }
+        }
+        28 => {
+            maps.clear(at);
+            map.clear();
+        }
+        _ => {
+            let other = key as usize % model.len();
+            maps.swap(at, other);
+            model.swap(at, other);
+        }
+    }
+}
+
+#[test]
+fn maps_answer_as_a_vector_of_maps() {
+    let mut random = Random(0x9e37_79b9_7f4a_7c15);
+    for limit in [0, 3, 20, 200] {
+        let mut maps: Maps<u32, u32> = Maps::with_node_limit((), limit);
+        let mut model: Model = Vec::new();
+        for _ in 0..4 {
+            assert_eq!(maps.push(), Ok(model.len()));
+            model.push(BTreeMap::new());
+        }
+        assert_eq!(maps.grow_to(9), Ok(()));
+        model.resize(9, BTreeMap::new());
+        for step in 0..STEPS / 4 {
+            let (at, key) = (random.below(9) as usize, random.below(KEYS));
+            read(&maps, &model, at, key);
+            change(&mut maps, &mut model, random.below(30), at, key, step);
+            if step % 4096 == 4095 {
+                assert_eq!(format!("{maps:?}"), format!("{model:?}"));
+                let copy = maps.clone();
+                maps.clear_all();
+                model.iter_mut().for_each(BTreeMap::clear);
+                assert_eq!((maps.len(), maps.slots(), maps.free_slots(), maps.node_limit()), (9, 0, 0, limit));
+                assert!(copy.slots() <= limit && (0..9).all(|it| maps.first(it).is_none()));
+            }
+        }
+        for (at, map) in model.iter().enumerate() {
+            assert!(maps.iter(at).eq(map.iter().map(|(k, v)| (*k, *v))));
+        }
+    }
+}
+
+#[test]
+fn sets_answer_as_a_vector_of_sets() {
+    let mut random = Random(0x2545_f491_4f6c_dd1d);
+    for limit in [0, 3, 20, 200] {
+        let mut sets: Sets<u32> = Sets::with_node_limit((), limit);
+        sets.grow_to(8).unwrap();
+        assert_eq!(sets.push(), Ok(8));
+        let mut model = vec![BTreeSet::new(); 9];
+        for step in 0..STEPS / 4 {
+            let (at, key) = (random.below(9) as usize, random.below(KEYS * 2));
+            assert_eq!(sets.contains(at, key), model[at].contains(&key));
+            assert_eq!(sets.get_or_less(at, key), model[at].range(..=key).next_back().copied());
+            assert_eq!(sets.get_or_greater(at, key), model[at].range(key..).next().copied());
+            assert_eq!((sets.first(at), sets.last(at)), (model[at].first().copied(), model[at].last().copied()));
+            assert!(sets.range(at, ..key).rev().eq(model[at].range(..key).rev().copied()));
+            match random.below(24) {
+                0..10 => match sets.insert(at, key) {
+                    Ok(new) => assert_eq!(new, model[at].insert(key)),
+                    Err(refused) => assert!(refused == OutOfMemory::Full && !model[at].contains(&key)),
+                },
+                10..18 => assert_eq!(sets.remove(at, key), model[at].remove(&key)),
+                18 => assert_eq!(sets.pop_first(at), model[at].pop_first()),
+                19 => assert_eq!(sets.pop_last(at), model[at].pop_last()),
+                20 => {
+                    sets.retain(at, |it| it % 5 != key % 5);
+                    model[at].retain(|it| it % 5 != key % 5);
+                }
+                21 => {
+                    sets.clear(at);
+                    model[at].clear();
+                }
+                22 => {
+                    sets.swap(at, key as usize % 9);
+                    model.swap(at, key as usize % 9);
+                }
+                _ => assert_eq!(sets.cursor(at).goto_first(), model[at].first().copied()),
+            }
+            if step % 4096 == 4095 {
+                assert_eq!(format!("{sets:?}"), format!("{model:?}"));
+                sets.clear_all();
+                model.iter_mut().for_each(BTreeSet::clear);
+                assert_eq!((sets.len(), sets.slots(), sets.levels(at)), (9, 0, 0));
+            }
+        }
+        for (at, set) in model.iter().enumerate() {
+            assert!(sets.iter(at).eq(set.iter().copied()));
+        }
+    }
+}
+
+/// The text of the panic of a call.
+fn panic_of<T>(call: impl FnOnce() -> T) -> String {
+    let Err(met) = catch_unwind(AssertUnwindSafe(call)) else {
+        panic!("the call returned");
+    };
+    match met.downcast::<String>() {
+        Ok(text) => *text,
+        Err(other) => (*other.downcast::<&str>().unwrap()).to_string(),
+    }
+}
+
+#[test]
+fn an_index_that_is_not_there_panics_and_is_named() {
+    let mut maps: Maps<u32, u32> = Maps::default();
+    maps.grow_to(3).unwrap();
+    for text in [
+        panic_of(|| maps.get(7, 0)),
+        panic_of(|| maps.insert(7, 0, 0)),
+        panic_of(|| maps.swap(7, 0)),
+        panic_of(|| maps.iter(7).count()),
+        panic_of(|| maps.cursor_mut(7).next()),
+    ] {
+        assert!(text.contains("the len is 3") && text.contains("the index is 7"), "{text}");
+    }
+    assert!(Sets::<u32>::default().is_empty());
+}
