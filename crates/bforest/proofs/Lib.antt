@@ -1,6 +1,11 @@
+pub mod Balances
 pub mod Becoming
 pub mod Cursors
 pub mod Ends
+pub mod Enough
 pub mod Entries
-pub mod Sets
+pub mod Evens
+pub mod Growing
 pub mod SetCursors
+pub mod Sets
+pub mod Shrinking

@@ -7,5 +7,6 @@ pub mod Lending
 pub mod Memory
 pub mod Refusal
 pub mod Retain
+pub mod Room
 pub mod Set
 pub mod SetCursor

@@ -14,6 +14,7 @@ mod map_cursor_mut;
 mod map_into_iter;
 mod map_iter;
 mod map_range;
+mod room;
 mod set;
 mod set_cursor;
 mod set_forest;

@@ -6,6 +6,7 @@ ghost use Rattle.bforest.specs.Cursor.{IsCursor, comparator, forest_loan, forest
 ghost use Rattle.bforest.specs.Forest.{Forest, IsLive, first_level, list_of, sizes_of};
 ghost use Rattle.bforest.specs.Memory.{IsReadable};
 ghost use Rattle.bforest.specs.Retain.{Answers, MayAsk, MayAskEach};
+ghost use Rattle.bforest.specs.Room.{IsEnoughFor, IsMetBy};
 ghost use Rattle.std.specs.Option.{option_map_or};
 ghost use Rattle.std.specs.declared.cmp.Ordering.{Ordering};
 ghost use Rattle.std.specs.Ordering.{is_lt};
@@ -17,6 +18,7 @@ use crate::map_cursor_mut::MapCursorMut;
 use crate::map_into_iter::MapIntoIter;
 use crate::map_iter::MapIter;
 use crate::map_range::MapRange;
+use crate::room::most_nodes;
 use bforest_core::{Comparator, OutOfMemory, PackedNode};
 use bforest_trees::Asked;
 use std::cmp::Ordering;
@@ -296,6 +298,25 @@ impl<K: Copy, V: Copy> Map<K, V> {
             ≤ (length (list_of forest.now self.now) + 3) / 4 }
     {
         forest.trees.levels(self.root)
+    }
+
+    /// Returns the most nodes that a map of `entries` entries or fewer can have, whatever was done to it.
+    ///
+    /// At most 32 steps, one for each level of such a tree. No node is visited, and no memory is taken.
+    ///
+    /// A leaf holds at most 7 entries, and each but the last of its map at least 4; an inner node has at most 8 children, and each but
+    /// the last of its level at least 4. The answer counts the nodes where all of them hold as few as that allows, and a map may have so
+    /// many. So it never decreases as `entries` grows. It is at most twice the number of such leaves, which is `entries / 4` rounded up,
+    /// and so within `usize` for each number of entries.
+    ///
+    /// | Entries | 0 | 10 | 100 | 10,000 | 1,000,000 |
+    /// |---|---|---|---|---|---|
+    /// | Nodes | 0 | 4 | 35 | 3,336 | 333,337 |
+    pub fn nodes_for(entries: usize) -> usize
+        ensures enough { IsEnoughFor 7 entries result }
+        ensures met { IsMetBy 7 entries result }
+    {
+        most_nodes(entries, 7)
     }
 
     /// Returns an iterator over the entries in order. Visits one node of each level, and then each leaf once. No comparison.

@@ -5,6 +5,7 @@ ghost use Rattle.bforest.specs.Calls.{Clears, Filters, Inserts, Pops, Removes};
 ghost use Rattle.bforest.specs.Forest.{Forest, IsLive, first_level, list_of, sizes_of};
 ghost use Rattle.bforest.specs.Memory.{IsSetReadable};
 ghost use Rattle.bforest.specs.Retain.{MayAskEach};
+ghost use Rattle.bforest.specs.Room.{IsEnoughFor, IsMetBy};
 ghost use Rattle.bforest.specs.Set.{AnswersKey, MayAskKey, as_popped, as_put, as_removed, elements, the_value};
 ghost use Rattle.bforest.specs.SetCursor.{IsCursor, comparator, forest_loan, forest_now, set_loan, set_now, spot};
 ghost use Rattle.std.specs.Map.{keys_of};
@@ -14,6 +15,7 @@ ghost use Rattle.std.specs.Prelude.{IsTrue, None, [], length, option_map, slice_
 use crate::asked_key::AskedKey;
 use crate::map::follows;
 use crate::map_cursor::key_of;
+use crate::room::most_nodes;
 use crate::set_cursor::SetCursor;
 use crate::set_forest::SetForest;
 use crate::set_iter::SetIter;
@@ -268,6 +270,25 @@ impl<K: Copy> Set<K> {
             ≤ (length (list_of forest.now self.now) + 7) / 8 }
     {
         forest.trees.levels(self.root)
+    }
+
+    /// Returns the most nodes that a set of `keys` keys or fewer can have, whatever was done to it.
+    ///
+    /// At most 32 steps, one for each level of such a tree. No node is visited, and no memory is taken.
+    ///
+    /// A leaf holds at most 15 keys, and each but the last of its set at least 8; an inner node has at most 8 children, and each but the
+    /// last of its level at least 4. The answer counts the nodes where all of them hold as few as that allows, and a set may have so
+    /// many. So it never decreases as `keys` grows. It is at most twice the number of such leaves, which is `keys / 8` rounded up, and
+    /// so within `usize` for each number of keys.
+    ///
+    /// | Keys | 0 | 10 | 100 | 10,000 | 1,000,000 |
+    /// |---|---|---|---|---|---|
+    /// | Nodes | 0 | 3 | 18 | 1,670 | 166,671 |
+    pub fn nodes_for(keys: usize) -> usize
+        ensures enough { IsEnoughFor 15 keys result }
+        ensures met { IsMetBy 15 keys result }
+    {
+        most_nodes(keys, 15)
     }
 
     /// Returns an iterator over the keys in order. Visits one node of each level, and then each leaf once. No comparison.

@@ -1,10 +1,8 @@
 pub mod Accounts
 pub mod Adding
-pub mod Growing
 pub mod Indexed
 pub mod Kept
 pub mod Runs
-pub mod Shrinking
 pub mod Sights
 pub mod Sums
 pub mod Units

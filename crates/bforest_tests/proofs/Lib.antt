@@ -1,7 +1,8 @@
+pub mod AfterReserving
 pub mod BothEnds
 pub mod Changing
 pub mod Ending
 pub mod Ranges
-pub mod AfterReserving
+pub mod Roomy
 pub mod Stepping
 pub mod Thinned

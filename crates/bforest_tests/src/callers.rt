@@ -8,6 +8,7 @@ use bforest::{Comparator, Map, MapForest, OutOfMemory};
 
 pub mod cursors;
 pub mod loops;
+pub mod room;
 pub mod sets;
 
 /// Inserts a value and looks its key up again: the lookup finds it.

@@ -17,3 +17,5 @@ mod refusals;
 mod reserved;
 #[cfg(test)]
 mod retained;
+#[cfg(test)]
+mod room;

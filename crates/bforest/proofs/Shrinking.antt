@@ -1,7 +1,8 @@
 -- The sizes of a tree's nodes after a removal: those of a tree with one entry less.
-use Rattle.bforest_calls.proofs.Growing.{ge, gt, le, least-half, lt, past-fit, some-after, some-leaf, total, total-cons}
-use Rattle.bforest_core.specs.Sizes.{IsFitAbove, IsFitFor, IsFitLevel, at_front, least_size, loss, loss_above, past, rebalanced, shrink, trimmed}
-use Rattle.std.proofs.Common.{Bool, List, None, Option, Some, [], ap, arith, false, if◌then◌else◌, inl, inr, length, nat_le, nat_lt, option_map, refl, suc, sym, true, zero, ◌%◌, ◌*◌, ◌+◌, ◌++◌, ◌-◌, ◌/◌, ◌<◌, ◌∙◌, ◌∷◌, ◌≡◌, ◌≢◌, ◌≤◌, ℕ}
+use Rattle.bforest.proofs.Growing.{least-half, past-fit, some-after, some-leaf, total, total-cons}
+use Rattle.bforest_core.specs.Sizes.{IsFitAbove, IsFitFor, IsFitLevel, at_front, loss, loss_above, past, rebalanced, shrink, trimmed}
+use Rattle.std.proofs.Common.{Bool, List, None, Option, Some, [], ap, arith, false, if◌then◌else◌, length, nat_le, nat_lt, refl, suc, true, zero, ◌%◌, ◌*◌, ◌+◌, ◌-◌, ◌/◌, ◌<◌, ◌∷◌, ◌≡◌, ◌≤◌, ℕ}
+use Rattle.std.proofs.lemmas.Bool.{leb-false, leb-true, ltb-false, ltb-true}
 
 -- A level became one that has one entry less and fits, from which one node, if any, is gone.
 pub record Loses (half most : ℕ) (level : List ℕ) (gone : Option ℕ) (new : List ℕ) : Type 0 where
@@ -69,16 +70,16 @@ module _ (half most : ℕ) (least : half + half ≤ most + 1) (enough : most ≤
       }
 
       fits : (b : Bool) → nat_le (suc left + next) most ≡ b → 2 * suc left < most → LosesBy half most (suc (suc left) ∷ next ∷ after) (at_front (if b then (true, (suc left + next) ∷ after) else (false, ((suc left + next) - (suc left + next) / 2) ∷ (suc left + next) / 2 ∷ after)))
-      fits true e small = merged (omega (arith, fit.2.0), le (suc left + next) most e, fit.2.2)
+      fits true e small = merged (omega (arith, fit.2.0), leb-true (suc left + next) most e, fit.2.2)
       fits false e small =
-          let more = gt (suc left + next) most e in
+          let more = leb-false (suc left + next) most e in
           shared ((suc left + next) - (suc left + next) / 2) ((suc left + next) / 2) (omega (arith)) (omega (arith, more, least)) (omega (arith, small, fit.2.1)) (omega (arith, more, least)) (omega (arith, small, fit.2.1))
 
       by : (b : Bool) → nat_lt (2 * suc left) most ≡ b → LosesBy half most (suc (suc left) ∷ next ∷ after) (at_front (if b then (if nat_le (suc left + next) most then (true, (suc left + next) ∷ after) else (false, ((suc left + next) - (suc left + next) / 2) ∷ (suc left + next) / 2 ∷ after)) else (false, suc left ∷ next ∷ after)))
-      by true e = fits (nat_le (suc left + next) most) refl (lt (2 * suc left) most e)
+      by true e = fits (nat_le (suc left + next) most) refl (ltb-true (2 * suc left) most e)
       by false e = record {
         sum = omega (arith, total-cons (suc (suc left)) (next ∷ after), total-cons (suc left) (next ∷ after));
-        fit = (omega (arith, ge (2 * suc left) most e, least), omega (arith, fit.1), fit.2);
+        fit = (omega (arith, ltb-false (2 * suc left) most e, least), omega (arith, fit.1), fit.2);
         same = λ e. refl;
         less = λ i e. absurd (cc);
       }
@@ -92,9 +93,9 @@ module _ (half most : ℕ) (least : half + half ≤ most + 1) (enough : most ≤
       here left is before = rw (before, is) (loses-here left after (rw is at fit))
 
       by : (b : Bool) → nat_lt place size ≡ b → (size ≤ place → LosesBy half most after (loss most (place - size) after)) → LosesBy half most (size ∷ after) (if b then at_front (rebalanced most (size - 1) after) else past size (loss most (place - size) after))
-      by true e rest = let less = lt place size e in here (size - 1) (omega (arith, less)) refl
+      by true e rest = let less = ltb-true place size e in here (size - 1) (omega (arith, less)) refl
       by false e rest =
-          let less = ge place size e in
+          let less = ltb-false place size e in
           let is = past-fit half most size after fit (some-after (suc place) size after (omega (arith, less)) within) in
           loses-past half most size after (loss most (place - size) after).0 (loss most (place - size) after).1 one is.0 is.1 (rest less)
 

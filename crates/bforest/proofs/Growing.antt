@@ -1,22 +1,10 @@
 -- The sizes of a tree's nodes after an insertion: those of a tree with one entry more, in as many nodes more as the insertion needs.
+use Rattle.bforest_core.specs.Change.{node_count}
 use Rattle.bforest_core.specs.Sizes.{IsFitAbove, IsFitFor, IsFitLevel, gain_above, growth, inner_gain, leaf_gain, least_size, need, need_above, past}
-use Rattle.std.proofs.Common.{Bool, List, None, Option, Some, [], ap, arith, false, if◌then◌else◌, inl, inr, length, nat_le, nat_lt, option_map, refl, suc, sym, true, zero, ◌*◌, ◌%◌, ◌+◌, ◌++◌, ◌-◌, ◌/◌, ◌<◌, ◌∙◌, ◌∷◌, ◌≡◌, ◌≢◌, ◌≤◌, ℕ}
-use Rattle.std.proofs.lemmas.Bool.Decides.{leb_tells}
+use Rattle.std.proofs.Common.{Bool, List, None, Option, Some, [], ap, arith, false, if◌then◌else◌, length, nat_le, nat_lt, refl, suc, sym, true, ◌%◌, ◌+◌, ◌-◌, ◌/◌, ◌<◌, ◌∷◌, ◌≡◌, ◌≤◌, ℕ}
+use Rattle.std.proofs.lemmas.Bool.{leb-false, ltb-false, ltb-true}
 use Rattle.std.proofs.lemmas.List.Sums.{sum_by-cons}
 use Rattle.std.specs.List.{sum_by}
-
--- what a test of two numbers tells
-pub lt : (a b : ℕ) → nat_lt a b ≡ true → a < b
-lt a b e = elim (leb_tells (suc a) b) [ inl w ↦ w.1 | inr w ↦ absurd (let f : true ≡ false = sym e ∙ w.0 in cc) ]
-
-pub ge : (a b : ℕ) → nat_lt a b ≡ false → b ≤ a
-ge a b e = elim (leb_tells (suc a) b) [ inl w ↦ absurd (let f : true ≡ false = sym w.0 ∙ e in cc) | inr w ↦ omega (arith, w.1) ]
-
-pub le : (a b : ℕ) → nat_le a b ≡ true → a ≤ b
-le a b e = elim (leb_tells a b) [ inl w ↦ w.1 | inr w ↦ absurd (let f : true ≡ false = sym e ∙ w.0 in cc) ]
-
-pub gt : (a b : ℕ) → nat_le a b ≡ false → b < a
-gt a b e = elim (leb_tells a b) [ inl w ↦ absurd (let f : true ≡ false = sym w.0 ∙ e in cc) | inr w ↦ w.1 ]
 
 -- the sum of a level's sizes
 abbrev pub total : List ℕ → ℕ
@@ -111,13 +99,13 @@ leaf-gains half most twice one place (size ∷ after) fit within some = by (nat_
     half-is = omega (arith, twice)
 
     full : (b : Bool) → nat_lt size most ≡ b → GainsBy half most (size ∷ after) (if b then (None, suc size ∷ after) else (Some 0, (most + 1) / 2 ∷ (most + 1) / 2 ∷ after))
-    full true e = gains-here half most size after fit (lt size most e)
-    full false e = rw half-is (gains-two half most size half half after fit (omega (arith, twice, fit.1, ge size most e)) (omega (arith)) (omega (arith, twice, one)) (omega (arith)) (omega (arith, twice, one)) one)
+    full true e = gains-here half most size after fit (ltb-true size most e)
+    full false e = rw half-is (gains-two half most size half half after fit (omega (arith, twice, fit.1, ltb-false size most e)) (omega (arith)) (omega (arith, twice, one)) (omega (arith)) (omega (arith, twice, one)) one)
 
     by : (b : Bool) → nat_le place size ≡ b → (0 < length after → size < place → GainsBy half most after (leaf_gain most (place - size) after)) → GainsBy half most (size ∷ after) (if b then (if nat_lt size most then (None, suc size ∷ after) else (Some 0, (most + 1) / 2 ∷ (most + 1) / 2 ∷ after)) else past size (leaf_gain most (place - size) after))
     by true e rest = full (nat_lt size most) refl
     by false e rest =
-        let less = gt place size e in
+        let less = leb-false place size e in
         let others = some-after place size after less within in
         let is = past-fit half most size after fit others in
         gains-past half most size after (leaf_gain most (place - size) after).0 (leaf_gain most (place - size) after).1 is.0 is.1 (rest others less)
@@ -132,27 +120,24 @@ inner-gains place (size ∷ after) fit within = by (nat_lt place size) refl (λ 
     halves false eight = gains-two 4 8 size 4 5 after fit (omega (arith, eight)) (omega (arith)) (omega (arith)) (omega (arith)) (omega (arith)) (omega (arith))
 
     full : (b : Bool) → nat_lt size 8 ≡ b → GainsBy 4 8 (size ∷ after) (if b then (None, suc size ∷ after) else (Some 0, (if nat_lt place 4 then 5 ∷ 4 ∷ after else 4 ∷ 5 ∷ after)))
-    full true e = gains-here 4 8 size after fit (lt size 8 e)
-    full false e = halves (nat_lt place 4) (omega (arith, fit.1, ge size 8 e))
+    full true e = gains-here 4 8 size after fit (ltb-true size 8 e)
+    full false e = halves (nat_lt place 4) (omega (arith, fit.1, ltb-false size 8 e))
 
     by : (b : Bool) → nat_lt place size ≡ b → (0 < length after → size ≤ place → GainsBy 4 8 after (inner_gain (place - size) after)) → GainsBy 4 8 (size ∷ after) (if b then (if nat_lt size 8 then (None, suc size ∷ after) else (Some 0, (if nat_lt place 4 then 5 ∷ 4 ∷ after else 4 ∷ 5 ∷ after))) else past size (inner_gain (place - size) after))
     by true e rest = full (nat_lt size 8) refl
     by false e rest =
-        let less = ge place size e in
+        let less = ltb-false place size e in
         let others = some-after (suc place) size after (omega (arith, less)) within in
         let is = past-fit 4 8 size after fit others in
         gains-past 4 8 size after (inner_gain (place - size) after).0 (inner_gain (place - size) after).1 is.0 is.1 (rest others less)
 
--- the number of nodes of some levels
-abbrev pub nodes : List (List ℕ) → ℕ
-nodes levels = sum_by (λ (level : List ℕ). length level) levels
-
-pub nodes-cons : (level : List ℕ) (levels : List (List ℕ)) → nodes (level ∷ levels) ≡ length level + nodes levels
+-- the number of nodes of some levels, of which the first is named
+pub nodes-cons : (level : List ℕ) (levels : List (List ℕ)) → node_count (level ∷ levels) ≡ length level + node_count levels
 nodes-cons level levels = sum_by-cons (λ (l : List ℕ). length l) level levels
 
 -- the levels above one of which this node, if any, became two
 pub above-gains : (count new : ℕ) (split : Option ℕ) (levels : List (List ℕ)) → IsFitAbove count levels → (split ≡ None → new ≡ count) → ((i : ℕ) → split ≡ Some i → (new ≡ suc count) × (i < count))
-    → IsFitAbove new (gain_above split levels) × (new + nodes (gain_above split levels) ≡ count + nodes levels + need_above split levels)
+    → IsFitAbove new (gain_above split levels) × (new + node_count (gain_above split levels) ≡ count + node_count levels + need_above split levels)
 above-gains count new None levels fit same more = (rw (same refl) fit, omega (arith, same refl))
 above-gains count new (Some i) [] fit same more =
     let m = more i refl in
@@ -173,7 +158,7 @@ some-leaf count (level ∷ levels) fit = omega (arith, fit.0)
 
 -- an insertion makes sizes that fit one entry more, and as many more nodes as it needs
 pub growth-fits : (n : ℕ) → n % 2 ≡ 1 → (place entries : ℕ) (levels : List (List ℕ)) → IsFitFor n entries levels → place ≤ entries
-    → IsFitFor n (suc entries) (growth n place levels) × (nodes (growth n place levels) ≡ nodes levels + need n place levels)
+    → IsFitFor n (suc entries) (growth n place levels) × (node_count (growth n place levels) ≡ node_count levels + need n place levels)
 growth-fits n odd place entries [] fit within =
     ((omega (arith, fit), (omega (arith), omega (arith, odd), tt), refl), refl)
 growth-fits n odd place entries (leaves ∷ levels) fit within =

@@ -1,0 +1,166 @@
+-- What a call that may change one tree says of its handle: the sizes of the tree's nodes fit the list afterwards as they did before, and
+-- slots, free slots and the tree's nodes balance.
+use Rattle.bforest.proofs.Growing.{growth-fits}
+use Rattle.bforest.proofs.Shrinking.{shrink-fits}
+use Rattle.bforest.specs.Calls.{Clears, Filters, GetsOrInserts, Inserts, Pops, Removes, RemovesAt}
+use Rattle.bforest.specs.Entries.{is_present, place, value_for, with_value}
+use Rattle.bforest.specs.Forest.{Becomes, Forest, Gives, IsFitFor, Takes, free_of, growth, limit_of, list_of, need, need_of, room_of, shrink, sizes_of, slots_of}
+use Rattle.bforest.specs.Refusal.{OutOfMemory}
+use Rattle.bforest.specs.Retain.{AsksEach, kept_by, sizes_by}
+use Rattle.bforest.specs.Room.{node_count}
+use Rattle.bforest_nodes.proofs.Found.{place-present, put-absent, put-present}
+use Rattle.bforest_trees.specs.Calls.{as_inserted}
+use Rattle.std.proofs.Common.{Bool, Err, List, None, Ok, Option, Result, Some, [], ap, arith, false, if◌then◌else◌, inl, inr, length, refl, remove, subst, suc, sym, true, zero, ◌%◌, ◌+◌, ◌-◌, ◌<◌, ◌∙◌, ◌∷◌, ◌≡◌, ◌≤◌, ℕ}
+use Rattle.std.proofs.lemmas.Bool.Decides.{leb_tells}
+use Rattle.std.proofs.lemmas.List.Edits.{length-insert, length-remove}
+use Rattle.std.proofs.lemmas.List.Sums.{count_by-le-length}
+use Rattle.std.specs.Ordering.{is_lt}
+use Rattle.std.specs.declared.cmp.Ordering.{Ordering}
+
+not-less : (a b : ℕ) → ¬ (a < b) → b ≤ a
+not-less a b never = elim (leb_tells b a) [ inl w ↦ w.1 | inr w ↦ absurd (never w.1) ]
+
+module _ {K V : Type 0} where
+  -- the sizes of the tree of a handle fit its list
+  abbrev pub IsFitAt : ℕ → Forest K V → Option ℕ → Type 0
+  IsFitAt most f h = IsFitFor most (length (list_of f h)) (sizes_of f h)
+
+  -- f and its handle h became f' and h', whose sizes fit its list: slots were added and freed as the tree has nodes more or less, and none
+  -- past the limit
+  pub record Balances (most : ℕ) (f : Forest K V) (h : Option ℕ) (f' : Forest K V) (h' : Option ℕ) : Type 0 where
+    pub fit : IsFitAt most f' h'
+    pub nodes : slots_of f' + free_of f + node_count (sizes_of f h) ≡ slots_of f + free_of f' + node_count (sizes_of f' h')
+    pub slots : slots_of f ≤ slots_of f'
+    pub within : slots_of f ≤ limit_of f → slots_of f' ≤ limit_of f'
+
+  pub length-written : (es : List (K × V)) (p : ℕ) (v : V) → length (with_value es p v) ≡ length es
+  length-written [] p v = refl
+  length-written (e ∷ es) zero v = refl
+  length-written (e ∷ es) (suc p) v = ap suc (length-written es p v)
+
+  -- what is left of a list after one removal for each entry answered false
+  sifted : (most : ℕ) → most % 2 ≡ 1 → {F : Type 0} (step : F → K → V → Bool → V → F → Type 0) (q : F) (at : ℕ) (es : List (K × V)) (answers : List (Bool × V)) (sizes : List (List ℕ)) → AsksEach step q es answers → IsFitFor most (at + length es) sizes
+      → IsFitFor most (at + length (kept_by es answers)) (sizes_by most at answers sizes)
+  sifted most odd step q at [] answers sizes asked fit = rw asked fit
+  sifted most odd step q at (e ∷ es) [] sizes asked fit = absurd asked
+  sifted most odd step q at (e ∷ es) ((true, w) ∷ answers) sizes asked fit =
+      subst (λ n. IsFitFor most n (sizes_by most (suc at) answers sizes)) (let is : suc at + length (kept_by es answers) ≡ at + suc (length (kept_by es answers)) = omega arith in is)
+      (sifted most odd step asked.0 (suc at) es answers sizes asked.2 (subst (λ n. IsFitFor most n sizes) (let is : at + suc (length es) ≡ suc at + length es = omega arith in is) fit))
+  sifted most odd step q at (e ∷ es) ((false, w) ∷ answers) sizes asked fit =
+      sifted most odd step asked.0 at es answers (shrink most at sizes) asked.2
+      (subst (λ n. IsFitFor most n (shrink most at sizes)) (let is : (at + suc (length es)) - 1 ≡ at + length es = omega arith in is) (shrink-fits most odd at (at + suc (length es)) sizes fit (omega arith)))
+
+  -- what is left of a whole list
+  sifted-all : (most : ℕ) → most % 2 ≡ 1 → {F : Type 0} (step : F → K → V → Bool → V → F → Type 0) (q : F) (es : List (K × V)) (answers : List (Bool × V)) (sizes : List (List ℕ)) → AsksEach step q es answers → IsFitFor most (length es) sizes
+      → IsFitFor most (length (kept_by es answers)) (sizes_by most 0 answers sizes)
+  sifted-all most odd step q es answers sizes asked fit = subst (λ n. IsFitFor most n (sizes_by most 0 answers sizes)) (none (length (kept_by es answers))) (sifted most odd step q 0 es answers sizes asked (subst (λ n. IsFitFor most n sizes) (sym (none (length es))) fit))
+    where
+      none : (n : ℕ) → 0 + n ≡ n
+      none n = omega arith
+
+  module _ (most : ℕ) (f f' : Forest K V) (h h' : Option ℕ) where
+    -- a list of the same length, in nodes of the same sizes
+    pub sizes-stay : IsFitAt most f h → length (list_of f' h') ≡ length (list_of f h) → sizes_of f' h' ≡ sizes_of f h → IsFitAt most f' h'
+    sizes-stay fit same-length same-sizes = rw (same-length, same-sizes) fit
+
+    pub given-balance : IsFitAt most f' h' → limit_of f' ≡ limit_of f → Gives (sizes_of f h) (sizes_of f' h') f f' → Balances most f h f' h'
+    given-balance fit limit g = record {
+      fit = fit;
+      nodes = omega (arith, g.slots, g.free);
+      slots = omega (arith, g.slots);
+      within = λ w. omega (arith, g.slots, limit, w);
+    }
+
+    taken-balance : (d : ℕ) → IsFitAt most f' h' → limit_of f' ≡ limit_of f → Takes d f f' → d ≤ room_of f → node_count (sizes_of f' h') ≡ node_count (sizes_of f h) + d → Balances most f h f' h'
+    taken-balance d fit limit t room more = record {
+      fit = fit;
+      nodes = omega (arith, t.slots, t.free, more);
+      slots = omega (arith, t.slots);
+      within = λ w. omega (arith, t.slots, limit, room, w);
+    }
+
+    -- nothing changed
+    pub same-balance : IsFitAt most f h → f' ≡ f → h' ≡ h → Balances most f h f' h'
+    same-balance fit same-forest same-handle = rw (same-forest, same-handle) (record { fit = fit; nodes = refl; slots = omega arith; within = λ w. w })
+
+  module _ (most : ℕ) (odd : most % 2 ≡ 1) (f f' : Forest K V) (h h' : Option ℕ) (fit : IsFitAt most f h) where
+    pub clears-balance : Clears f h f' h' → Balances most f h f' h'
+    clears-balance c =
+        let nothing : sizes_of f' h' ≡ [] = ap (λ o. sizes_of f' o) c.handle in
+        let none : length (list_of f' h') ≡ 0 = ap length c.cleared.list in
+        given-balance most f f' h h' (rw (none, nothing) refl) c.cleared.limit (rw nothing c.account)
+
+    pub filters-balance : {F : Type 0} (step : F → K → V → Bool → V → F → Type 0) (q : F) → Filters most step f h q f' h' → Balances most f h f' h'
+    filters-balance step q r =
+        given-balance most f f' h h'
+        (rw (r.kept.sizes_are, r.kept.kept_is) (sifted-all most odd step q (list_of f h) r.kept.answers (sizes_of f h) r.kept.asked fit))
+        r.changed.limit r.account
+
+    removed : (p : ℕ) → p < length (list_of f h) → Becomes f h f' h' (remove (list_of f h) p) → sizes_of f' h' ≡ shrink most p (sizes_of f h) → Gives (sizes_of f h) (sizes_of f' h') f f' → Balances most f h f' h'
+    removed p within b sizes g =
+        let less : length (list_of f' h') ≡ length (list_of f h) - 1 = omega (arith, ap length b.list, length-remove (list_of f h) p within) in
+        given-balance most f f' h h' (rw (less, sizes) (shrink-fits most odd p (length (list_of f h)) (sizes_of f h) fit within)) b.limit g
+
+    pub removes-at-balance : (p : ℕ) → RemovesAt most f h p f' h' → Balances most f h f' h'
+    removes-at-balance p r = elim (leb_tells (suc p) (length (list_of f h))) [
+      | inl w ↦ removed p w.1 r.removed (r.sizes ∙ ap (λ t. if t then shrink most p (sizes_of f h) else sizes_of f h) w.0) r.account
+      | inr w ↦ let past : length (list_of f h) ≤ p = omega (arith, w.1) in same-balance most f f' h h' fit (r.end_forest past) (r.end_handle past)
+    ]
+
+    pub pops-balance : (p : ℕ) (result : Option (K × V)) → Pops most f h p result f' h' → Balances most f h f' h'
+    pops-balance p result r = removes-at-balance p r.removed
+
+    module _ (cmp : K → K → Ordering) (k : K) where
+      at : ℕ
+      at = place cmp (list_of f h) k
+
+      pub removes-balance : (result : Option V) → Removes most cmp f h k result f' h' → Balances most f h f' h'
+      removes-balance result r = by (is_present cmp (list_of f h) k) refl
+        where
+          list-after : Bool → List (K × V)
+          list-after t = if t then remove (list_of f h) (place cmp (list_of f h) k) else list_of f h
+
+          sizes-after : Bool → List (List ℕ)
+          sizes-after t = if t then shrink most (place cmp (list_of f h) k) (sizes_of f h) else sizes_of f h
+
+          by : (t : Bool) → is_present cmp (list_of f h) k ≡ t → Balances most f h f' h'
+          by true e =
+              removed (place cmp (list_of f h) k) (place-present cmp (list_of f h) k e) (subst (λ es. Becomes f h f' h' es) (ap list-after e) r.cut) (r.sizes ∙ ap sizes-after e) r.account
+          by false e =
+              let same : length (list_of f' h') ≡ length (list_of f h) = ap length (r.cut.list ∙ ap list-after e) in
+              given-balance most f f' h h' (sizes-stay most f f' h h' fit same (r.sizes ∙ ap sizes-after e)) r.cut.limit r.account
+
+      pub inserts-balance : (v : V) (result : Result (Option V) OutOfMemory) → Inserts most cmp f h k v result f' h' → Balances most f h f' h'
+      inserts-balance v (Err e) r = same-balance most f f' h h' fit r.refused_forest r.refused_handle
+      inserts-balance v (Ok old) r = by (is_present cmp (list_of f h) k) refl
+        where
+          enough : need_of most cmp f h k ≤ room_of f
+          enough = not-less (room_of f) (need_of most cmp f h k) (λ few. let full = r.full.1 few in cc)
+
+          sizes-after : Bool → List (List ℕ)
+          sizes-after t = if t then sizes_of f h else growth most (place cmp (list_of f h) k) (sizes_of f h)
+
+          needs : Bool → ℕ
+          needs t = if t then 0 else need most (place cmp (list_of f h) k) (sizes_of f h)
+
+          by : (t : Bool) → is_present cmp (list_of f h) k ≡ t → Balances most f h f' h'
+          by true e =
+              let sizes : sizes_of f' h' ≡ sizes_of f h = r.sizes ∙ ap sizes-after e in
+              let none : need_of most cmp f h k ≡ 0 = ap needs e in
+              let same : length (list_of f' h') ≡ length (list_of f h) = ap length (r.put.list ∙ put-present cmp (list_of f h) k v e) ∙ length-written (list_of f h) (place cmp (list_of f h) k) v in
+              taken-balance most f f' h h' (need_of most cmp f h k) (sizes-stay most f f' h h' fit same sizes) r.put.limit r.account enough (omega (arith, ap node_count sizes, none))
+          by false e =
+              let within : place cmp (list_of f h) k ≤ length (list_of f h) = count_by-le-length (λ x. is_lt (cmp x.0 k)) (list_of f h) in
+              let sizes : sizes_of f' h' ≡ growth most (place cmp (list_of f h) k) (sizes_of f h) = r.sizes ∙ ap sizes-after e in
+              let some : need_of most cmp f h k ≡ need most (place cmp (list_of f h) k) (sizes_of f h) = ap needs e in
+              let longer = length-insert (list_of f h) (place cmp (list_of f h) k) (k, v) within in
+              let more : length (list_of f' h') ≡ suc (length (list_of f h)) = omega (arith, longer, ap length (r.put.list ∙ put-absent cmp (list_of f h) k v e)) in
+              let grown = growth-fits most odd (place cmp (list_of f h) k) (length (list_of f h)) (sizes_of f h) fit within in
+              taken-balance most f f' h h' (need_of most cmp f h k) (rw (more, sizes) grown.0) r.put.limit r.account enough (omega (arith, ap node_count sizes, some, grown.1))
+
+      pub gets-or-inserts-balance : (v : V) (result : Result V OutOfMemory) → GetsOrInserts most cmp f h k v result f' h' → Balances most f h f' h'
+      gets-or-inserts-balance v result r = by (value_for cmp (list_of f h) k) refl
+        where
+          by : (o : Option V) → value_for cmp (list_of f h) k ≡ o → Balances most f h f' h'
+          by None e = inserts-balance v (as_inserted result) (r.absent e)
+          by (Some x) e = same-balance most f f' h h' fit (r.present_forest (rw e refl)) (r.present_handle (rw e refl))
