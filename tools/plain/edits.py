@@ -55,6 +55,7 @@ INDEXED = [
     (r"\balloc: Global, ", "", 2),
     (r"with_node_limit\(alloc, ", "with_node_limit(", 2),
     (r"Vec::new\(alloc\)", "Vec::new()", 1),
+    (r"\bAllocError\b", "TryReserveError", 4),
     (r"^use std::ops::Bound;", "use std::ops::RangeBounds;", 1),
     (r"pub fn range\(&self, index: usize, bounds: \(Bound<K>, Bound<K>\)\)", "pub fn range<R: RangeBounds<K>>(&self, index: usize, bounds: R)", 1),
 ]
@@ -76,18 +77,21 @@ EDITS = {
     "bforest/map.rt": [*RANGE, (r" \(docs/RULES\.md, removal\)", "", 1)],
     "bforest/set.rt": RANGE,
     "bforest_indexed/lib.rt": [(r"^pub use bforest::\{Comparator, OutOfMemory\};\n", "", 1)],
+    "bforest_indexed/handles.rt": [
+        (r"^use std::alloc::AllocError;\n", "use alloc::collections::TryReserveError;\nuse alloc::vec::Vec;\n", 1),
+        (r"\bAllocError\b", "TryReserveError", 1),
+        (r"handles\.reserve\(more\)\?;", "handles.try_reserve(more)?;", 1),
+        (r"\.push_reserved\(", ".push(", 2),
+        (r": Drop \+ Default>", ": Default>", 2),
+    ],
     "bforest_indexed/maps.rt": [
         *INDEXED,
         (r"^pub struct Maps<K: Copy, V: Copy, C: Comparator<K>>", "pub struct Maps<K: Copy, V: Copy, C: Comparator<K> = ()>", 1),
-        (r"\bAllocError\b", "TryReserveError", 5),
-        (r"(\w+)\.reserve\(more\)\?;", r"\1.try_reserve(more)?;", 1),
-        (r"\.push_reserved\(", ".push(", 2),
         (r"self\.maps\.push\(Map::new\(\)\)\?;", "self.maps.try_reserve(1)?;\n        self.maps.push(Map::new());", 1),
     ],
     "bforest_indexed/sets.rt": [
         *INDEXED,
         (r"^pub struct Sets<K: Copy, C: Comparator<K>>", "pub struct Sets<K: Copy, C: Comparator<K> = ()>", 1),
-        (r"\bAllocError\b", "TryReserveError", 2),
         (r"self\.sets\.push\(Set::new\(\)\)\?;", "self.sets.try_reserve(1)?;\n        self.sets.push(Set::new());", 1),
     ],
     "bforest_nodes/lib.rt": [

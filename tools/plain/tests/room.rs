@@ -153,16 +153,18 @@ fn a_limit_of_the_most_nodes_is_never_full() {
     assert_eq!(maps.reserve_for(usize::MAX, usize::MAX), Err(OutOfMemory::Full));
 }
 
-/// A map filled from the front and then taken apart from its end has the most nodes that its entries can have.
+/// A map that was filled in order far enough has nodes that are half full, level by level, but for the last ones. Once it is taken apart from
+/// its end, it has the most nodes that its entries can have.
 #[test]
-fn the_most_nodes_are_met_and_never_passed() {
-    for entries in 0..1500 {
+fn the_most_nodes_are_met() {
+    for entries in (0..300).chain((300..2000).step_by(37)) {
+        let more = 3 * entries + 64;
         let mut forest: MapForest<u32, u32> = MapForest::new();
         let mut map = Map::new();
-        for key in 0..2 * entries {
+        for key in 0..entries + more {
             map.insert(key, 0, &mut forest, &()).unwrap();
         }
-        for _ in 0..entries {
+        for _ in 0..more {
             map.pop_last(&mut forest);
         }
         let nodes = forest.slots() - forest.free_slots();
@@ -170,10 +172,10 @@ fn the_most_nodes_are_met_and_never_passed() {
 
         let mut forest: SetForest<u32> = SetForest::new();
         let mut set = Set::new();
-        for key in 0..2 * entries {
+        for key in 0..entries + 2 * more {
             set.insert(key, &mut forest, &()).unwrap();
         }
-        for _ in 0..entries {
+        for _ in 0..2 * more {
             set.pop_last(&mut forest);
         }
         let nodes = forest.slots() - forest.free_slots();
@@ -185,9 +187,9 @@ fn the_most_nodes_are_met_and_never_passed() {
 fn no_map_of_a_million_random_calls_has_more_than_the_most_nodes() {
     let mut random = Random(0x51ed_270b_3c4f_ae21);
     let (mut forest, mut map) = (MapForest::<u32, u32>::new(), Map::new());
-    let (mut entries, mut most) = (0, [0; 130]);
+    let (mut entries, mut most) = (0, [0; 25]);
     for call in 0..CALLS {
-        let key = random.below(128);
+        let key = random.below(24);
         let grows = random.below(100) < if (call / 500) % 2 == 0 { 70 } else { 30 };
         if grows {
             entries += usize::from(map.insert(key, call, &mut forest, &()).unwrap().is_none());
