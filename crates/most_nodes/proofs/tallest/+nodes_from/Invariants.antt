@@ -1,4 +1,0 @@
-use Rattle.most_nodes.proofs.tallest.+nodes_from.Given as goal
-
-abbrev pub decreases-nodes_from : goal.decreases-nodes_from
-decreases-nodes_from l = l.count
