@@ -1,17 +1,21 @@
 -- What a call on the tree of one index leaves of all trees.
-use Rattle.bforest.specs.Calls.{Clears, Filters, GetsOrInserts, Inserts, Pops, Removes, as_inserted}
-use Rattle.bforest.specs.Entries.{IsIncreasing, value_for}
+use Rattle.bforest.specs.Bounds.{entries_between, entry_at_least, entry_at_most}
+use Rattle.bforest.specs.Calls.{Clears, Filters, GetsOrInserts, Inserts, Pops, Removes}
+use Rattle.bforest.specs.Entries.{IsIncreasing, is_present, value_for}
 use Rattle.bforest.specs.Forest.{Becomes, Forest, Gives, IsLive, Keeps, empty, limit_of, list_at, list_of, sizes_of}
 use Rattle.bforest.specs.Refusal.{OutOfMemory}
 use Rattle.bforest.specs.Retain.{Retains}
+use Rattle.bforest_indexed.proofs.Adding.{as-many, none-at, none-handles}
+use Rattle.bforest_indexed.specs.Handles.{Adds}
 use Rattle.bforest_indexed.specs.Indexed.{AreKept, ChangesAt, ClearsAll, ClearsAt, FiltersAt, GetsOrInsertsAt, Indexed, InsertsAt, KeepsAll, PopsAt, RemovesAt, Swaps}
-use Rattle.bforest_indexed.specs.Indexed.{count, entries, handle, node_sizes, table}
-use Rattle.std.proofs.Common.{Bool, Err, IsSome, List, None, Ok, Option, Result, Some, [], ap, get_or, inl, inr, length, refl, replicate, rules, slice_set, subst, suc, sym, zero, ℕ, ◌++◌, ◌<◌, ◌∙◌, ◌∷◌, ◌≡◌, ◌≢◌}
+use Rattle.bforest_indexed.specs.Indexed.{as_inserted, count, entries, handle, node_sizes, table}
+use Rattle.std.proofs.Common.{Bool, Err, IsSome, List, None, Ok, OnErr, Option, Result, Some, [], ap, get_or, inl, inr, length, refl, rules, slice_set, subst, sym, ℕ, ◌-◌, ◌<◌, ◌∙◌, ◌≡◌, ◌≢◌}
 use Rattle.std.proofs.lemmas.Bool.Decides.{eqb_tells}
-use Rattle.std.proofs.lemmas.List.{get_or-set_other, get_or-set_same, get_or_read, length-replicate, length-set, set-get_or}
+use Rattle.std.proofs.lemmas.List.{get_or-set_other, get_or-set_same, get_or_read, length-set, set-get_or}
 use Rattle.std.specs.List.{SwappedAt}
 use Rattle.std.specs.List.Sorted.{IsStrictlySortedBy}
 use Rattle.std.specs.declared.cmp.Ordering.{Ordering}
+use Rattle.std.specs.declared.ops.Bound.{Bound}
 
 -- the empty list increases
 nothing-increases : (K X : Type 0) (cmp : K → K → Ordering) → IsIncreasing {K = K} {X = X} cmp []
@@ -21,30 +25,8 @@ nothing-increases K X cmp = search rules
 none-some : {A : Type 0} (y : A) → None ≢ Some y
 none-some y = λ e. cc
 
-get_or-nil : (i : ℕ) → get_or {A = Option ℕ} [] i None ≡ None
-get_or-nil zero = refl
-get_or-nil (suc i) = refl
-
--- empty handles behind the others change no index
-more-none : (hs : List (Option ℕ)) (count : ℕ) (i : ℕ) → get_or (hs ++ replicate count None) i None ≡ get_or hs i None
-more-none [] zero i = refl
-more-none [] (suc count) zero = refl
-more-none [] (suc count) (suc i) = more-none [] count i ∙ get_or-nil i
-more-none (h ∷ hs) count zero = refl
-more-none (h ∷ hs) count (suc i) = more-none hs count i
-
--- one empty handle more changes no index
-one-more : (hs : List (Option ℕ)) (i : ℕ) → get_or (hs ++ None ∷ []) i None ≡ get_or hs i None
-one-more [] zero = refl
-one-more [] (suc i) = refl
-one-more (h ∷ hs) zero = refl
-one-more (h ∷ hs) (suc i) = one-more hs i
-
-pub added : (hs qs : List (Option ℕ)) (count : ℕ) → qs ≡ hs ++ replicate count None → (i : ℕ) → get_or qs i None ≡ get_or hs i None
-added hs qs count is i = ap (λ (rs : List (Option ℕ)). get_or rs i None) is ∙ more-none hs count i
-
-pub pushed : (hs qs : List (Option ℕ)) (h : Option ℕ) → h ≡ None → qs ≡ hs ++ h ∷ [] → (i : ℕ) → get_or qs i None ≡ get_or hs i None
-pushed hs qs h empty is i = ap (λ (rs : List (Option ℕ)). get_or rs i None) (is ∙ ap (λ (q : Option ℕ). hs ++ q ∷ []) empty) ∙ one-more hs i
+not-some : (A : Type 0) → IsSome {T = A} None → ⊥
+not-some A some = search rules
 
 module _ {K X : Type 0} {f f' : Forest K X} {h h' : Option ℕ} {es : List (K × X)} (b : Becomes f h f' h' es) where
   -- the number of another tree is not the one that a changed tree has now
@@ -65,17 +47,19 @@ live_beside f f' None same live = tt
 live_beside f f' (Some n) same live = subst (λ es. es ≢ []) (sym same) live
 
 module _ {K X C : Type 0} where
-  -- no index has a handle
-  pub kept-none : (cmp : K → K → Ordering) (f : Forest K X) (o : C) (hs : List (Option ℕ)) → hs ≡ []
+  -- no index has a tree, and the forest has none
+  kept-empty : {cmp : K → K → Ordering} (m : Indexed K X C) (n : ℕ) → table m ≡ empty n → ((i : ℕ) → handle m i ≡ None) → AreKept cmp m
+  kept-empty {cmp} m n forest none = record {
+    live = λ i. subst (λ (q : Option ℕ). IsLive (table m) q) (sym (none i)) tt;
+    increasing = λ i. subst (λ (q : Option ℕ). IsIncreasing cmp (list_of (table m) q)) (sym (none i)) (nothing-increases K X cmp);
+    apart = λ i j n d e. absurd (none-some n (sym (none i) ∙ d));
+  }
+
+  -- there is no index
+  pub kept-none : {cmp : K → K → Ordering} (f : Forest K X) (o : C) (hs : List (Option ℕ)) (n : ℕ) → f ≡ empty n → hs ≡ []
       → AreKept cmp (record { forest = f; order = o; handles = hs })
-  kept-none cmp f o hs is = subst (λ (qs : List (Option ℕ)). AreKept cmp (record { forest = f; order = o; handles = qs })) (sym is) (record {
-    live = λ i. subst (λ (q : Option ℕ). IsLive f q) (sym (none i)) tt;
-    increasing = λ i. subst (λ (q : Option ℕ). IsIncreasing cmp (list_of f q)) (sym (none i)) (nothing-increases K X cmp);
-    apart = λ i j n d e. cc;
-  })
-    where
-      none : (i : ℕ) → get_or {A = Option ℕ} [] i None ≡ None
-      none = get_or-nil
+  kept-none f o hs n forest is = kept-empty (record { forest = f; order = o; handles = hs }) n forest
+      (λ i. ap (λ (qs : List (Option ℕ)). get_or qs i None) is ∙ none-at i)
 
   -- each index has the same handle
   pub kept-same : {cmp : K → K → Ordering} (m : Indexed K X C) (qs : List (Option ℕ)) → ((i : ℕ) → get_or qs i None ≡ handle m i)
@@ -92,6 +76,11 @@ module _ {K X C : Type 0} where
     sizes = λ i. ap (sizes_of (table m)) (same i);
     same_comparator = refl;
   }
+
+  -- a call that was refused left each handle
+  pub refused-same : {E : Type 0} (m : Indexed K X C) (qs : List (Option ℕ)) (r : Result (Unit {0}) E) → OnErr r (qs ≡ m.handles) → OnErr r (record m { handles = qs } ≡ m)
+  refused-same m qs (Ok done) same = tt
+  refused-same m qs (Err e) same = λ j. record m { handles = same j }
 
   -- the tree of i is now that of h' in the forest f'
   abbrev pub with_tree : Indexed K X C → ℕ → Forest K X → Option ℕ → Indexed K X C
@@ -180,14 +169,42 @@ module _ {K X C : Type 0} where
     pub of-index : (P : Option ℕ → Type 0) → P h → P (handle m i)
     of-index P p = subst P read p
 
+    pub same-list : list_of (table m) h ≡ entries m i
+    same-list = ap (list_of (table m)) read
+
+    pub same-sizes : sizes_of (table m) h ≡ node_sizes m i
+    same-sizes = ap (sizes_of (table m)) read
+
+    -- what is found in the list that was read
+    pub value-read : (k : K) → value_for cmp (list_of (table m) h) k ≡ value_for cmp (entries m i) k
+    value-read k = ap (λ (es : List (K × X)). value_for cmp es k) same-list
+
+    pub present-read : (k : K) → is_present cmp (list_of (table m) h) k ≡ is_present cmp (entries m i) k
+    present-read k = ap (λ (es : List (K × X)). is_present cmp es k) same-list
+
+    pub at_most-read : (k : K) → entry_at_most cmp (list_of (table m) h) k ≡ entry_at_most cmp (entries m i) k
+    at_most-read k = ap (λ (es : List (K × X)). entry_at_most cmp es k) same-list
+
+    pub at_least-read : (k : K) → entry_at_least cmp (list_of (table m) h) k ≡ entry_at_least cmp (entries m i) k
+    at_least-read k = ap (λ (es : List (K × X)). entry_at_least cmp es k) same-list
+
+    pub between-read : (b d : Bound K) → entries_between cmp b d (list_of (table m) h) ≡ entries_between cmp b d (entries m i)
+    between-read b d = ap (entries_between cmp b d) same-list
+
+    pub on-list : (P : List (K × X) → Type 0) → P (list_of (table m) h) → P (entries m i)
+    on-list P p = subst P same-list p
+
     pub of-read : (P : List (K × X) → Type 0) → P (entries m i) → P (list_of (table m) h)
     of-read P p = subst (λ (q : Option ℕ). P (list_of (table m) q)) (sym read) p
 
     pub live-read : IsLive (table m) h
     live-read = subst (λ (q : Option ℕ). IsLive (table m) q) (sym read) (a.live i)
 
-    pub increasing-read : IsIncreasing cmp (list_of (table m) h)
+    increasing-read : IsIncreasing cmp (list_of (table m) h)
     increasing-read = subst (λ (q : Option ℕ). IsIncreasing cmp (list_of (table m) q)) (sym read) (a.increasing i)
+
+    pub ordered-read : IsLive (table m) h × IsIncreasing cmp (list_of (table m) h)
+    ordered-read = (live-read, increasing-read)
 
     pub cleared-at : {f' : Forest K X} {h' : Option ℕ} → Clears (table m) h f' h' → AreKept cmp (with_tree m i f' h') × ClearsAt m i (with_tree m i f' h')
     cleared-at {f'} {h'} given = let call = subst (λ (q : Option ℕ). Clears (table m) q f' h') read given in (
@@ -266,37 +283,56 @@ module _ {K X C : Type 0} where
 
       pub popped-at : {place : ℕ} {r : Option (K × X)} → Pops most (table m) h place r f' h'
           → AreKept cmp (with_tree m i f' h') × PopsAt most m i place r (with_tree m i f' h')
-      popped-at {place} {r} given = let call = subst (λ (q : Option ℕ). Pops most (table m) q place r f' h') read given in
-          (kept-set a within call.removed.removed (call.increasing cmp (a.increasing i)), record {
-        entry = call.entry;
-        removed = list-here a within call.removed.removed;
-        sizes = ap (sizes_of f') (here a within call.removed.removed) ∙ call.removed.sizes;
-        beside = changes a within call.removed.removed;
-        account = subst (λ q. Gives (node_sizes m i) (sizes_of f' q) (table m) f') (sym (here a within call.removed.removed)) call.removed.account;
-        end = λ past. unchanged m i f' h' (call.removed.end_forest past) (call.removed.end_handle past);
-      })
+      popped-at {place} {r} given = let call = subst (λ (q : Option ℕ). Pops most (table m) q place r f' h') read given in (
+        kept-set a within call.removed.removed (call.increasing cmp (a.increasing i)),
+        record {
+          entry = call.entry;
+          removed = list-here a within call.removed.removed;
+          sizes = ap (sizes_of f') (here a within call.removed.removed) ∙ call.removed.sizes;
+          beside = changes a within call.removed.removed;
+          account = subst (λ q. Gives (node_sizes m i) (sizes_of f' q) (table m) f') (sym (here a within call.removed.removed)) call.removed.account;
+          end = λ past. unchanged m i f' h' (call.removed.end_forest past) (call.removed.end_handle past);
+        },
+      )
 
-      module _ {k : K} {x : X} {r : Result X OutOfMemory} where
-        got-here : (v : Option X) → value_for cmp (entries m i) k ≡ v → GetsOrInserts most cmp (table m) (handle m i) k x r f' h'
-            → AreKept cmp (with_tree m i f' h') × GetsOrInsertsAt most cmp m i k x r (with_tree m i f' h')
-        got-here None is call = let put = put-here (as_inserted r) (call.absent is) in (put.0, record {
-          value = call.value;
-          present = call.present;
-          stays = λ some. absurd (subst (λ (q : Option X). IsSome q) is some);
-          absent = λ none. put.1;
-        })
-        got-here (Some y) is call =
-            let some = subst (λ (q : Option X). IsSome q) (sym is) tt in
-            let same = unchanged m i f' h' (call.present_forest some) (call.present_handle some) in (subst (AreKept cmp) (sym same) a, record {
-          value = call.value;
-          present = call.present;
-          stays = λ there. same;
-          absent = λ none. absurd (none-some y (sym none ∙ is));
-        })
+      pub popped_last-at : {r : Option (K × X)} → Pops most (table m) h (length (list_of (table m) h) - 1) r f' h'
+          → AreKept cmp (with_tree m i f' h') × PopsAt most m i (length (entries m i) - 1) r (with_tree m i f' h')
+      popped_last-at {r} given = popped-at (subst (λ (es : List (K × X)). Pops most (table m) h (length es - 1) r f' h') same-list given)
 
-        pub got-at : GetsOrInserts most cmp (table m) h k x r f' h'
+      module _ {k : K} {x : X} where
+        -- the key is absent, so it was inserted
+        absent-put : (r : Result X OutOfMemory) → Inserts most cmp (table m) (handle m i) k x (as_inserted r) f' h' → value_for cmp (entries m i) k ≡ None
+            → GetsOrInserts most cmp (table m) (handle m i) k x r f' h'
             → AreKept cmp (with_tree m i f' h') × GetsOrInsertsAt most cmp m i k x r (with_tree m i f' h')
-        got-at given = got-here (value_for cmp (entries m i) k) refl (subst (λ (q : Option ℕ). GetsOrInserts most cmp (table m) q k x r f' h') read given)
+        absent-put r put is call = let here = put-here (as_inserted r) put in (
+          here.0,
+          record {
+            value = call.value;
+            present = call.present;
+            stays = λ some. absurd (not-some X (subst (λ (q : Option X). IsSome q) is some));
+            absent = λ none. here.1;
+          },
+        )
+
+        got-here : (v : Option X) (r : Result X OutOfMemory) → value_for cmp (entries m i) k ≡ v → GetsOrInserts most cmp (table m) (handle m i) k x r f' h'
+            → AreKept cmp (with_tree m i f' h') × GetsOrInsertsAt most cmp m i k x r (with_tree m i f' h')
+        got-here None (Ok y) is call = absent-put (Ok y) (call.absent is) is call
+        got-here None (Err e) is call = absent-put (Err e) (call.absent is) is call
+        got-here (Some y) r is call =
+            let some = subst (λ (q : Option X). IsSome q) (sym is) refl in
+            let same = unchanged m i f' h' (call.present_forest some) (call.present_handle some) in (
+              subst (AreKept cmp) (sym same) a,
+              record {
+                value = call.value;
+                present = call.present;
+                stays = λ there. same;
+                absent = λ none. absurd (none-some y (sym none ∙ is));
+              },
+            )
+
+        pub got-at : {r : Result X OutOfMemory} → GetsOrInserts most cmp (table m) h k x r f' h'
+            → AreKept cmp (with_tree m i f' h') × GetsOrInsertsAt most cmp m i k x r (with_tree m i f' h')
+        got-at {r} given = got-here (value_for cmp (entries m i) k) r refl (subst (λ (q : Option ℕ). GetsOrInserts most cmp (table m) q k x r f' h') read given)
 
   -- the forest changed, and each number keeps its list and its sizes
   pub kept-all : {cmp : K → K → Ordering} (m : Indexed K X C) (f' : Forest K X) → Keeps (table m) f' → AreKept cmp m
@@ -318,23 +354,20 @@ module _ {K X C : Type 0} where
       sizes None = refl
       sizes (Some n) = keeps.sizes n
 
-  -- each handle is empty, and the forest has no tree
-  pub kept-empty : {cmp : K → K → Ordering} (m : Indexed K X C) (f' : Forest K X) (qs : List (Option ℕ)) → f' ≡ empty (limit_of (table m))
-      → qs ≡ replicate (count m) None → AreKept cmp (record m { forest = f'; handles = qs }) × ClearsAll m (record m { forest = f'; handles = qs })
-  kept-empty {cmp} m f' qs forest is = (record {
-    live = λ i. subst (λ (q : Option ℕ). IsLive f' q) (sym (none i)) tt;
-    increasing = λ i. subst (λ (q : Option ℕ). IsIncreasing cmp (list_of f' q)) (sym (none i)) (nothing-increases K X cmp);
-    apart = λ i j n d e. absurd (none-some n (sym (none i) ∙ d));
-  }, record {
-    lists = λ i. ap (list_of f') (none i);
-    sizes = λ i. ap (sizes_of f') (none i);
-    table = forest;
-    same_count = ap length is ∙ length-replicate (count m) None;
+  -- each handle is empty now, and the forest has no tree
+  pub kept-cleared : {cmp : K → K → Ordering} (o : C) (f' : Forest K X) (qs : List (Option ℕ)) (n size : ℕ) → f' ≡ empty n → Adds (λ h. h ≡ None) [] size qs
+      → AreKept cmp (record { forest = f'; order = o; handles = qs })
+  kept-cleared o f' qs n size forest adds = kept-empty (record { forest = f'; order = o; handles = qs }) n forest (none-handles qs size adds)
+
+  pub cleared-all : (m : Indexed K X C) (f' : Forest K X) (qs : List (Option ℕ)) → f' ≡ empty (limit_of (table m))
+      → Adds (λ h. h ≡ None) [] (count m) qs → ClearsAll m (record m { forest = f'; handles = qs })
+  cleared-all m f' qs forest adds = record {
+    lists = λ i. ap (list_of f') (none-handles qs (count m) adds i);
+    sizes = λ i. ap (sizes_of f') (none-handles qs (count m) adds i);
+    forest = forest;
+    same_count = as-many qs (count m) adds;
     same_comparator = refl;
-  })
-    where
-      none : (i : ℕ) → get_or qs i None ≡ None
-      none i = ap (λ (hs : List (Option ℕ)). get_or hs i None) is ∙ more-none [] (count m) i ∙ get_or-nil i
+  }
 
   -- the handles of i and j changed places
   module _ (m : Indexed K X C) (i j : ℕ) (qs : List (Option ℕ)) (at : SwappedAt m.handles qs i j) where

@@ -1,13 +1,17 @@
 -- What contracts see of maps and of sets that are named by an index: a forest, an order, and a handle for each index. A set's values are
 -- all the unit.
-use Rattle.bforest.specs.Calls.{as_inserted}
 use Rattle.bforest.specs.Entries.{IsIncreasing, cut, put, value_for}
 use Rattle.bforest.specs.Forest.{Forest, Gives, IsLive, IsTooMany, NeedsGrowth, Takes, empty, free_of, limit_of, list_of, need_of, shrink, sizes_of, sizes_with, sizes_without}
 use Rattle.bforest.specs.Refusal.{Full, Memory, OutOfMemory}
 use Rattle.bforest.specs.Retain.{Retains}
 use Rattle.std.specs.Map.{keys_of}
-use Rattle.std.specs.Prelude.{Bool, Err, IfOk, IsOk, IsSome, List, None, OnErr, OnOk, Option, Result, Some, [], get_or, if◌then◌else◌, length, nat_lt, remove, slice_get, unwrap_or, ◌↔◌, ◌≡◌, ◌≢◌, ◌≤◌, ℕ}
+use Rattle.std.specs.Prelude.{Bool, Err, IfOk, IsOk, IsSome, List, None, Ok, OnErr, OnOk, Option, Result, Some, [], get_or, if◌then◌else◌, length, nat_lt, remove, slice_get, unwrap_or, ◌↔◌, ◌≡◌, ◌≢◌, ◌≤◌, ℕ}
 use Rattle.std.specs.declared.cmp.Ordering.{Ordering}
+
+-- the answer of an insertion of an absent key, from that of a call that answers the value
+abbrev pub as_inserted : {X : Type 0} → Result X OutOfMemory → Result (Option X) OutOfMemory
+as_inserted (Ok x) = Ok None
+as_inserted (Err refused) = Err refused
 
 -- Contracts read it by the words below alone.
 pub record Indexed (K X C : Type 0) : Type 0 where
@@ -80,7 +84,7 @@ module _ {K X C : Type 0} where
   pub record ClearsAll (m m' : Indexed K X C) : Type 0 where
     pub lists : (i : ℕ) → entries m' i ≡ []
     pub sizes : (i : ℕ) → node_sizes m' i ≡ []
-    pub table : table m' ≡ empty (limit_of (table m))
+    pub forest : table m' ≡ empty (limit_of (table m))
     pub same_count : count m' ≡ count m
     pub same_comparator : comparator m' ≡ comparator m
 

@@ -4,6 +4,7 @@
 //! order. A call asks for nothing but an index that is there.
 #![tactic(auto)]
 
+mod handles;
 mod maps;
 mod sets;
 

@@ -2,13 +2,15 @@
 ghost use Rattle.bforest.specs.Bounds.{entries_between, entry_at_least, entry_at_most};
 ghost use Rattle.bforest.specs.Calls.{Reserves};
 ghost use Rattle.bforest.specs.Entries.{value_for};
-ghost use Rattle.bforest.specs.Forest.{empty, free_of, limit_of, slots_of};
+ghost use Rattle.bforest.specs.Forest.{empty, first_level, free_of, limit_of, slots_of};
 ghost use Rattle.bforest.specs.Memory.{IsReadable};
 ghost use Rattle.bforest.specs.Retain.{Answers, MayAsk, MayAskEach};
-ghost use Rattle.bforest_indexed.specs.Indexed.{ClearsAll, ClearsAt, FiltersAt, GetsOrInsertsAt, InsertsAt, KeepsAll, PopsAt, RemovesAt, Swaps};
+ghost use Rattle.bforest_indexed.specs.Indexed.{ClearsAll, ClearsAt, FiltersAt, GetsOrInsertsAt, InsertsAt};
+ghost use Rattle.bforest_indexed.specs.Indexed.{KeepsAll, PopsAt, RemovesAt, Swaps};
 ghost use Rattle.bforest_indexed.specs.Indexed.{comparator, count, entries, node_sizes, table};
-ghost use Rattle.std.specs.Prelude.{IfOk, IsTrue, None, OnErr, OnOk, length, replicate, slice_get, ◌++◌, ◌+◌, ◌-◌, ◌<◌, ◌^◌, ◌↔◌, ◌≡◌, ◌≤◌};
+ghost use Rattle.std.specs.Prelude.{IfOk, IsTrue, OnErr, OnOk, length, slice_get, ◌+◌, ◌-◌, ◌/◌, ◌<◌, ◌^◌, ◌↔◌, ◌≡◌, ◌≤◌};
 
+use crate::handles::{add_empty, empty_all};
 use bforest::{Comparator, Map, MapCursor, MapForest, MapIter, MapRange, OutOfMemory};
 use std::alloc::{AllocError, Global};
 use std::marker::Model;
@@ -16,7 +18,8 @@ use std::ops::Bound;
 
 /// Many ordered maps in one table of nodes, numbered from 0, under one order.
 ///
-/// Each call on a map names it by its index, which has to be less than [`Maps::len`]. An empty map takes 4 bytes and no node.
+/// Each call on a map names it by its index, which has to be less than [`Maps::len`]. In plain Rust an index that is not there panics, and
+/// the panic names it. The map of an index is found in constant time, and an empty map takes 4 bytes and no node.
 #[derive(Drop)]
 pub struct Maps<K: Copy, V: Copy, C: Comparator<K>> {
     forest: MapForest<K, V>,
@@ -89,7 +92,8 @@ impl<K: Copy, V: Copy, C: Comparator<K>> Maps<K, V, C> {
         Ok(index)
     }
 
-    /// Adds empty maps until there are `len`; where there are as many or more, nothing changes. They take no node.
+    /// Adds empty maps until there are `len`; where there are as many or more, nothing changes. They take no node, and the memory for all
+    /// their handles is taken once.
     ///
     /// # Errors
     ///
@@ -103,7 +107,8 @@ impl<K: Copy, V: Copy, C: Comparator<K>> Maps<K, V, C> {
         add_empty(&mut self.maps, len)
     }
 
-    /// Removes all entries of all maps, whose number stays. The table has no slot then. Visits each handle once.
+    /// Removes all entries of all maps, whose number stays. The table has no slot then, and its limit stays; its memory is kept for later
+    /// slots. Visits each handle once and no node.
     pub fn clear_all(&mut self)
         ensures { ClearsAll self.old self.new }
     {
@@ -111,7 +116,7 @@ impl<K: Copy, V: Copy, C: Comparator<K>> Maps<K, V, C> {
         self.forest.clear();
     }
 
-    /// Exchanges two maps, which may be one. Constant time.
+    /// Exchanges two maps, which may be one. Constant time: no entry moves.
     pub fn swap(&mut self, i: usize, j: usize)
         requires first { i < count self.old }
         requires second { j < count self.old }
@@ -163,7 +168,8 @@ impl<K: Copy, V: Copy, C: Comparator<K>> Maps<K, V, C> {
         self.maps[index].last(&self.forest)
     }
 
-    /// Inserts a value at a key and returns the value that was there, as [`bforest::Map::insert`] does. One search.
+    /// Inserts a value at a key and returns the value that was there, as [`bforest::Map::insert`] does: a stored key that compares equal
+    /// stays. One search, and at most one node more than [`Maps::levels`].
     ///
     /// # Errors
     ///
@@ -175,8 +181,8 @@ impl<K: Copy, V: Copy, C: Comparator<K>> Maps<K, V, C> {
         self.maps[index].insert(key, value, &mut self.forest, &self.order)
     }
 
-    /// Removes the entry whose key compares equal to `key` and returns its value, or returns `None` and changes nothing. One search, and no
-    /// memory is taken.
+    /// Removes the entry whose key compares equal to `key` and returns its value, or returns `None` and changes nothing. One search, and
+    /// no memory is taken.
     pub fn remove(&mut self, index: usize, key: K) -> Option<V>
         requires within { index < count self.old }
         ensures { RemovesAt 7 (C.order (comparator self.old)) self.old index key result self.new }
@@ -196,8 +202,8 @@ impl<K: Copy, V: Copy, C: Comparator<K>> Maps<K, V, C> {
         self.insert(index, key, value)
     }
 
-    /// Returns the value of the entry whose key compares equal to `key`. Where there is none, inserts `value` at the key and returns it. One
-    /// search.
+    /// Returns the value of the entry whose key compares equal to `key`. Where there is none, inserts `value` at the key and returns it.
+    /// One search, as [`bforest::Map::get_or_insert`] makes.
     ///
     /// # Errors
     ///
@@ -209,7 +215,8 @@ impl<K: Copy, V: Copy, C: Comparator<K>> Maps<K, V, C> {
         self.maps[index].get_or_insert(key, value, &mut self.forest, &self.order)
     }
 
-    /// Removes the first entry of a map and returns it, or returns `None` where the map is empty. No comparison, and no memory is taken.
+    /// Removes the first entry of a map and returns it, or returns `None` and changes nothing where the map is empty. No comparison, and no
+    /// memory is taken.
     pub fn pop_first(&mut self, index: usize) -> Option<(K, V)>
         requires within { index < count self.old }
         ensures { PopsAt 7 self.old index 0 result self.new }
@@ -217,7 +224,8 @@ impl<K: Copy, V: Copy, C: Comparator<K>> Maps<K, V, C> {
         self.maps[index].pop_first(&mut self.forest)
     }
 
-    /// Removes the last entry of a map and returns it, or returns `None` where the map is empty. No comparison, and no memory is taken.
+    /// Removes the last entry of a map and returns it, or returns `None` and changes nothing where the map is empty. No comparison, and no
+    /// memory is taken.
     pub fn pop_last(&mut self, index: usize) -> Option<(K, V)>
         requires within { index < count self.old }
         ensures { PopsAt 7 self.old index (length (entries self.old index) - 1) result self.new }
@@ -225,7 +233,7 @@ impl<K: Copy, V: Copy, C: Comparator<K>> Maps<K, V, C> {
         self.maps[index].pop_last(&mut self.forest)
     }
 
-    /// Removes all entries of a map. Visits each node of its tree once.
+    /// Removes all entries of a map, whose nodes are free then. Visits each node of its tree once. No comparison, no memory.
     pub fn clear(&mut self, index: usize)
         requires within { index < count self.old }
         ensures { ClearsAt self.old index self.new }
@@ -233,8 +241,8 @@ impl<K: Copy, V: Copy, C: Comparator<K>> Maps<K, V, C> {
         self.maps[index].clear(&mut self.forest);
     }
 
-    /// Keeps the entries for which the predicate returns `true`, with the value as the predicate left it, and removes all others. It is asked
-    /// once for each entry, in order. No comparison, no memory.
+    /// Keeps the entries for which the predicate returns `true`, with the value as the predicate left it, and removes all others. It is
+    /// asked once for each entry, in order. No comparison, no memory.
     pub fn retain<F: FnMut(K, &mut V) -> bool>(&mut self, index: usize, predicate: F)
         requires within { index < count self.old }
         requires callable { MayAskEach (Answers F.FnMut) (MayAsk F.FnMut) predicate (entries self.old index) }
@@ -249,11 +257,13 @@ impl<K: Copy, V: Copy, C: Comparator<K>> Maps<K, V, C> {
         ensures count { result ≡ length (node_sizes self.now index) }
         ensures most { result ≤ 17 }
         ensures depth { 2 ≤ result → 4 ^ (result - 1) < length (entries self.now index) }
+        ensures leaves { length (first_level (node_sizes self.now index))
+            ≤ (length (entries self.now index) + 3) / 4 }
     {
         self.maps[index].levels(&self.forest)
     }
 
-    /// Returns an iterator over the entries of a map, in order. No comparison.
+    /// Returns an iterator over the entries of a map, in order. Visits one node of each level, and then each leaf once. No comparison.
     #[inline(always)]
     pub fn iter(&self, index: usize) -> MapIter<'_, K, V>
         requires within { index < count self.now }
@@ -316,7 +326,8 @@ impl<K: Copy, V: Copy, C: Comparator<K>> Maps<K, V, C> {
         self.forest.node_limit()
     }
 
-    /// Makes sure that `n` slots are free, as [`bforest::MapForest::reserve_nodes`] does.
+    /// Makes sure that `n` slots are free, as [`bforest::MapForest::reserve_nodes`] does: insertions that need no more nodes in all can't
+    /// be refused then. Where so many are free already, nothing changes and no memory is taken.
     ///
     /// # Errors
     ///
@@ -327,30 +338,5 @@ impl<K: Copy, V: Copy, C: Comparator<K>> Maps<K, V, C> {
         ensures count { count self.new ≡ count self.old }
     {
         self.forest.reserve_nodes(n)
-    }
-}
-
-// Adds empty handles until there are `count`, in memory that is taken once.
-fn add_empty<K: Copy, V: Copy>(maps: &mut Vec<Map<K, V>>, count: usize) -> Result<(), AllocError>
-    ensures more { OnOk result (maps.new.items
-        ≡ maps.old.items ++ replicate (count - length maps.old.items) None) }
-    ensures refused { OnErr result (maps.new.items ≡ maps.old.items) }
-{
-    let more = count.saturating_sub(maps.len());
-    maps.reserve(more)?;
-    for _ in 0..more {
-        maps.push_reserved(Map::new());
-    }
-    Ok(())
-}
-
-// Makes each handle empty.
-fn empty_all<K: Copy, V: Copy>(maps: &mut Vec<Map<K, V>>)
-    ensures { maps.new.items ≡ replicate (length maps.old.items) None }
-{
-    let count = maps.len();
-    maps.clear();
-    for _ in 0..count {
-        maps.push_reserved(Map::new());
     }
 }

@@ -1,12 +1,10 @@
-use Rattle.bforest.specs.Entries.{value_for}
-use Rattle.bforest.specs.Forest.{list_of}
-use Rattle.bforest_indexed.proofs.Kept.{increasing-read, live-read, of-index}
+use Rattle.bforest_indexed.proofs.Kept.{ordered-read, value-read}
 use Rattle.bforest_indexed.proofs.Sizes.{first-field}
 use Rattle.bforest_indexed.proofs.maps.Maps.get.Goals as goal
-use Rattle.std.proofs.Common.{rules, ◌≡◌}
+use Rattle.std.proofs.Common.{rules, ◌∙◌}
 
 pub get-requires : goal.get-requires
-get-requires g c = (search (rules, first-field), (live-read c.self.invariant (rw (← c.self.view_is) at c.requires.within) c.index.ensures, increasing-read c.self.invariant (rw (← c.self.view_is) at c.requires.within) c.index.ensures))
+get-requires g c = (search (rules, first-field), ordered-read c.self.invariant (rw (← c.self.view_is) at c.requires.within) c.index.ensures)
 
 pub returns : goal.returns
-returns g c = record { value = rw (← c.self.view_is) (of-index c.self.invariant (rw (← c.self.view_is) at c.requires.within) c.index.ensures (λ q. c.get.result ≡ value_for (g.C.Comparator.order c.self.inside.order) (list_of c.self.inside.forest q) c.args.key) c.get.ensures.value) }
+returns g c = record { value = rw (← c.self.view_is) (c.get.ensures.value ∙ value-read c.self.invariant (rw (← c.self.view_is) at c.requires.within) c.index.ensures _) }

@@ -1,4 +1,5 @@
-use Rattle.bforest_indexed.proofs.Kept.{keeps-same, kept-same, pushed}
+use Rattle.bforest_indexed.proofs.Adding.{pushed}
+use Rattle.bforest_indexed.proofs.Kept.{keeps-same, kept-same}
 use Rattle.bforest_indexed.proofs.sets.Sets.push.Goals as goal
 use Rattle.std.proofs.Common.{List, None, Option, ap, get_or, ℕ}
 
