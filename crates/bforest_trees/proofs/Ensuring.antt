@@ -1,9 +1,9 @@
 -- The value of a key, which was there or was inserted.
 use Rattle.bforest_core.specs.declared.pool.OutOfMemory.{OutOfMemory}
 use Rattle.bforest_nodes.specs.Entries.{IsIncreasing, value_for}
-use Rattle.bforest_trees.specs.Calls.{GetsOrInserts, Inserts, as_inserted}
+use Rattle.bforest_trees.specs.Calls.{GetsOrInserts, Inserts}
 use Rattle.bforest_trees.specs.Forest.{Forest, IsLive, list_of}
-use Rattle.std.proofs.Common.{Err, IsSome, List, None, Ok, Option, Result, Some, ap, refl, sym, ◌∙◌, ◌≡◌, ℕ}
+use Rattle.std.proofs.Common.{Err, IsSome, List, None, Ok, Option, Some, ap, refl, sym, ◌∙◌, ◌≡◌, ℕ}
 use Rattle.std.proofs.lemmas.Bool.{false≢true}
 use Rattle.std.specs.Option.{unwrap_or}
 use Rattle.std.specs.declared.cmp.Ordering.{Ordering}

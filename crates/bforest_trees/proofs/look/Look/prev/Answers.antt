@@ -1,5 +1,4 @@
 use Rattle.bforest_trees.proofs.Looking.{back-look, back-value, back-within, paired}
-use Rattle.bforest_trees.specs.Looks.{AtLook}
 use Rattle.bforest_trees.proofs.look.Look.prev.Goals as goal
 
 pub here-requires-clause-within : goal.here-requires-clause-within
@@ -14,12 +13,5 @@ returns-then-self-gt0-clause-value g c = λ at. back-value at.is c.if-self-gt0.t
 pub returns-then-self-gt0-clause-look : goal.returns-then-self-gt0-clause-look
 returns-then-self-gt0-clause-look g c = λ at. back-look at.is c.if-self-gt0.true (back-within at.is c.if-self-gt0.true)
 
-pub returns-clause-value : goal.returns-clause-value
-returns-clause-value g c = λ at.
-    let here : AtLook c.trees.inside.pool c.args.handle c.args.self.now = rw (← c.trees.view_is) at at in
-    rw (← c.trees.view_is) (c.enter_prev.ensures.value here)
-
-pub returns-clause-look : goal.returns-clause-look
-returns-clause-look g c = λ at.
-    let here : AtLook c.trees.inside.pool c.args.handle c.args.self.now = rw (← c.trees.view_is) at at in
-    rw (← c.trees.view_is) (c.enter_prev.ensures.look here)
+pub returns : goal.returns
+returns g c = rw (← c.trees.view_is) (record { value = c.enter_prev.ensures.value; look = c.enter_prev.ensures.look })

@@ -4,16 +4,14 @@ use Rattle.bforest_trees.specs.Forest.{Forest, list_at}
 use Rattle.bforest_core.proofs.union.Planting.{IsUnion-empty, no-root}
 use Rattle.bforest_core.specs.Table.{Table}
 use Rattle.bforest_core.specs.Trees.{IsUnion}
-use Rattle.std.proofs.Common.{[], subst, sym, ◌≡◌, rules}
+use Rattle.std.proofs.Common.{[], subst, sym, ◌≡◌}
 
 pub invariant_of-self : goal.invariant_of-self
 invariant_of-self g c =
     subst (λ (z : Table g.row.K.Denot g.row.V.Denot). IsUnion g.row.N z) (sym c.clear.ensures.empty) (IsUnion-empty g.row.N c.self.inside.pool.limit c.self.invariant.1.capacity)
 
-pub returns-clause-lists : goal.returns-clause-lists
-returns-clause-lists g c = λ n.
-    subst (λ (z : Forest g.row.K.Denot g.row.V.Denot). list_at z n ≡ []) (sym c.clear.ensures.empty)
-    (list-none (record { nodes = []; chain = []; limit = c.self.inside.pool.limit }) n (no-root g.row.K.Denot g.row.V.Denot n))
-
-pub returns-clause-empty : goal.returns-clause-empty
-returns-clause-empty g c = search rules
+pub returns : goal.returns
+returns g c = record {
+  empty = rw (← c.self.view_is) c.clear.ensures.empty;
+  lists = λ n. subst (λ (z : Forest g.row.K.Denot g.row.V.Denot). list_at z n ≡ []) (sym c.clear.ensures.empty) (list-none (record { nodes = []; chain = []; limit = c.self.inside.pool.limit }) n (no-root g.row.K.Denot g.row.V.Denot n));
+}

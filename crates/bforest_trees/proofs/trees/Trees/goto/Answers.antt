@@ -3,18 +3,22 @@ use Rattle.bforest_trees.proofs.Changed.{seen-as}
 use Rattle.bforest_trees.proofs.Spots.{found-points, spot-empty}
 use Rattle.bforest_trees.proofs.trees.Trees.goto.Goals as goal
 use Rattle.bforest_trees.specs.Forest.{Forest, list_of}
-use Rattle.bforest_trees.specs.Place.{IsSpot}
+use Rattle.bforest_trees.specs.Place.{IsComputed, IsSpot}
 use Rattle.bforest_core.specs.Levels.{flat}
 use Rattle.bforest_core.specs.Trees.{tree_of}
 use Rattle.bforest_nodes.specs.Entries.{IsIncreasing, place, value_for}
 use Rattle.std.proofs.Common.{List, None, Option, Some, ap, rules, subst, sym, ◌∙◌, ◌≡◌, ℕ}
 
-pub returns-in_err-root-clause-spot : goal.returns-in_err-root-clause-spot
-returns-in_err-root-clause-spot g c =
+pub returns-in_err-root : goal.returns-in_err-root
+returns-in_err-root g c =
     let cmp = g.C.Comparator.order c.args.comp.now in
     let f = c.args.self.now in
     let none : c.args.handle ≡ None = sym c.expand.ensures.value ∙ c.in_err-root.was in
-    spot-empty f c.args.path.now c.args.handle c.requires.stands.place (place cmp (list_of f c.args.handle) c.args.key) none (ap (λ (o : Option ℕ). place cmp (list_of f o) c.args.key) none) c.requires.stands.spot
+    record {
+      value = c.from_residual.ensures ∙ sym (ap (λ (o : Option ℕ). value_for cmp (list_of f o) c.args.key) none);
+      spot = spot-empty f c.args.path.now c.args.handle c.requires.stands.place (place cmp (list_of f c.args.handle) c.args.key) none (ap (λ (o : Option ℕ). place cmp (list_of f o) c.args.key) none) c.requires.stands.spot;
+      computed = subst (λ (o : Option ℕ). IsComputed g.row.N f o) (sym none) (λ path at stands. sym stands.1);
+    }
 
 pub find-value-requires : goal.find-value-requires
 find-value-requires g c =

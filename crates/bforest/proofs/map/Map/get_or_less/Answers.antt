@@ -1,0 +1,4 @@
+use Rattle.bforest.proofs.map.Map.get_or_less.Goals as goal
+
+pub returns : goal.returns
+returns g c = record { entry = rw (← c.self.view_is, ← c.forest.view_is) c.get_or_less.ensures.value }
