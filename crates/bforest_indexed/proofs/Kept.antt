@@ -1,0 +1,428 @@
+-- What a call on the tree of one index leaves of all trees.
+use Rattle.bforest.specs.Bounds.{entries_between, entry_at_least, entry_at_most}
+use Rattle.bforest.specs.Calls.{Clears, Filters, GetsOrInserts, Inserts, Pops, Removes}
+use Rattle.bforest.specs.Entries.{IsIncreasing, is_present, value_for}
+use Rattle.bforest.specs.Forest.{Becomes, Forest, Gives, IsLive, Keeps, empty, limit_of, list_at, list_of, sizes_of}
+use Rattle.bforest.specs.Refusal.{OutOfMemory}
+use Rattle.bforest.specs.Retain.{Retains}
+use Rattle.bforest_indexed.proofs.Adding.{as-many, none-at, none-handles}
+use Rattle.bforest_indexed.specs.Handles.{Adds}
+use Rattle.bforest_indexed.specs.Indexed.{AreKept, ChangesAt, ClearsAll, ClearsAt, FiltersAt, GetsOrInsertsAt, Indexed, InsertsAt, KeepsAll, PopsAt, RemovesAt, Swaps}
+use Rattle.bforest_indexed.specs.Indexed.{as_inserted, count, entries, handle, node_sizes, table}
+use Rattle.std.proofs.Common.{Bool, Err, IsSome, List, None, Ok, OnErr, Option, Result, Some, [], ap, get_or, inl, inr, length, refl, rules, slice_set, subst, sym, ℕ, ◌-◌, ◌<◌, ◌∙◌, ◌≡◌, ◌≢◌}
+use Rattle.std.proofs.lemmas.Bool.Decides.{eqb_tells}
+use Rattle.std.proofs.lemmas.List.{get_or-set_other, get_or-set_same, get_or_read, length-set, set-get_or}
+use Rattle.std.specs.List.{SwappedAt}
+use Rattle.std.specs.List.Sorted.{IsStrictlySortedBy}
+use Rattle.std.specs.declared.cmp.Ordering.{Ordering}
+use Rattle.std.specs.declared.ops.Bound.{Bound}
+
+-- the empty list increases
+nothing-increases : (K X : Type 0) (cmp : K → K → Ordering) → IsIncreasing {K = K} {X = X} cmp []
+unfolding IsStrictlySortedBy
+nothing-increases K X cmp = search rules
+
+none-some : {A : Type 0} (y : A) → None ≢ Some y
+none-some y = λ e. cc
+
+not-some : (A : Type 0) → IsSome {T = A} None → ⊥
+not-some A some = search rules
+
+module _ {K X : Type 0} {f f' : Forest K X} {h h' : Option ℕ} {es : List (K × X)} (b : Becomes f h f' h' es) where
+  -- the number of another tree is not the one that a changed tree has now
+  not_new : (n : ℕ) → list_at f n ≢ [] → Some n ≢ h → Some n ≢ h'
+  not_new n live ne = λ e. live (subst (λ (q : Option ℕ). list_of f q ≡ []) (sym e) (b.fresh (λ d. ne (e ∙ d))))
+
+  -- each other handle keeps its list and its sizes
+  list_beside : (q : Option ℕ) → ((n : ℕ) → q ≡ Some n → Some n ≢ h) → IsLive f q → list_of f' q ≡ list_of f q
+  list_beside None ne live = refl
+  list_beside (Some n) ne live = b.others n (ne n refl) (not_new n live (ne n refl))
+
+  sizes_beside : (q : Option ℕ) → ((n : ℕ) → q ≡ Some n → Some n ≢ h) → IsLive f q → sizes_of f' q ≡ sizes_of f q
+  sizes_beside None ne live = refl
+  sizes_beside (Some n) ne live = b.others_sizes n (ne n refl) (not_new n live (ne n refl))
+
+live_beside : {K X : Type 0} (f f' : Forest K X) (q : Option ℕ) → list_of f' q ≡ list_of f q → IsLive f q → IsLive f' q
+live_beside f f' None same live = tt
+live_beside f f' (Some n) same live = subst (λ es. es ≢ []) (sym same) live
+
+module _ {K X C : Type 0} where
+  -- no index has a tree, and the forest has none
+  kept-empty : {cmp : K → K → Ordering} (m : Indexed K X C) (n : ℕ) → table m ≡ empty n → ((i : ℕ) → handle m i ≡ None) → AreKept cmp m
+  kept-empty {cmp} m n forest none = record {
+    live = λ i. subst (λ (q : Option ℕ). IsLive (table m) q) (sym (none i)) tt;
+    increasing = λ i. subst (λ (q : Option ℕ). IsIncreasing cmp (list_of (table m) q)) (sym (none i)) (nothing-increases K X cmp);
+    apart = λ i j n d e. absurd (none-some n (sym (none i) ∙ d));
+  }
+
+  -- there is no index
+  pub kept-none : {cmp : K → K → Ordering} (f : Forest K X) (o : C) (hs : List (Option ℕ)) (n : ℕ) → f ≡ empty n → hs ≡ []
+      → AreKept cmp (record { forest = f; order = o; handles = hs })
+  kept-none f o hs n forest is = kept-empty (record { forest = f; order = o; handles = hs }) n forest
+      (λ i. ap (λ (qs : List (Option ℕ)). get_or qs i None) is ∙ none-at i)
+
+  -- each index has the same handle
+  pub kept-same : {cmp : K → K → Ordering} (m : Indexed K X C) (qs : List (Option ℕ)) → ((i : ℕ) → get_or qs i None ≡ handle m i)
+      → AreKept cmp m → AreKept cmp (record m { handles = qs })
+  kept-same {cmp} m qs same a = record {
+    live = λ i. subst (λ (q : Option ℕ). IsLive (table m) q) (sym (same i)) (a.live i);
+    increasing = λ i. subst (λ (q : Option ℕ). IsIncreasing cmp (list_of (table m) q)) (sym (same i)) (a.increasing i);
+    apart = λ i j n d e. a.apart i j n (sym (same i) ∙ d) (sym (same j) ∙ e);
+  }
+
+  pub keeps-same : (m : Indexed K X C) (qs : List (Option ℕ)) → ((i : ℕ) → get_or qs i None ≡ handle m i) → KeepsAll m (record m { handles = qs })
+  keeps-same m qs same = record {
+    lists = λ i. ap (list_of (table m)) (same i);
+    sizes = λ i. ap (sizes_of (table m)) (same i);
+    same_comparator = refl;
+  }
+
+  -- a call that was refused left each handle
+  pub refused-same : {E : Type 0} (m : Indexed K X C) (qs : List (Option ℕ)) (r : Result (Unit {0}) E) → OnErr r (qs ≡ m.handles) → OnErr r (record m { handles = qs } ≡ m)
+  refused-same m qs (Ok done) same = tt
+  refused-same m qs (Err e) same = λ j. record m { handles = same j }
+
+  -- the tree of i is now that of h' in the forest f'
+  abbrev pub with_tree : Indexed K X C → ℕ → Forest K X → Option ℕ → Indexed K X C
+  with_tree m i f' h' = record m { forest = f'; handles = slice_set m.handles i h' }
+
+  -- a handle that is written back changes nothing
+  unchanged : (m : Indexed K X C) (i : ℕ) (f' : Forest K X) (h' : Option ℕ) → f' ≡ table m → h' ≡ handle m i → with_tree m i f' h' ≡ m
+  unchanged m i f' h' same_forest same_handle =
+      λ j. record m { forest = same_forest j; handles = (ap (slice_set m.handles i) same_handle ∙ set-get_or m.handles i None) j }
+
+  changes-not : (m m' : Indexed K X C) (i : ℕ) → m' ≡ m → ChangesAt m i m'
+  changes-not m m' i e = subst (λ q. ChangesAt m i q) (sym e) (record {
+    others = λ j ne. refl;
+    other_sizes = λ j ne. refl;
+    same_count = refl;
+    same_comparator = refl;
+    same_limit = refl;
+  })
+
+  module _ {cmp : K → K → Ordering} {m : Indexed K X C} {i : ℕ} {f' : Forest K X} {h' : Option ℕ} {es : List (K × X)} (a : AreKept cmp m) (within : i < count m) (b : Becomes (table m) (handle m i) f' h' es) where
+    abbrev new : Indexed K X C
+    new = with_tree m i f' h'
+
+    apart_at : (j n : ℕ) → j ≢ i → handle m j ≡ Some n → Some n ≢ handle m i
+    apart_at j n ne e = λ d. ne (a.apart j i n e (sym d))
+
+    apart_new : (j n : ℕ) → j ≢ i → handle m j ≡ Some n → Some n ≢ h'
+    apart_new j n ne e = not_new b n (subst (λ (q : Option ℕ). IsLive (table m) q) e (a.live j)) (apart_at j n ne e)
+
+    here : handle new i ≡ h'
+    here = get_or-set_same m.handles i h' None within
+
+    there : (j : ℕ) → j ≢ i → handle new j ≡ handle m j
+    there j ne = get_or-set_other m.handles i j h' None ne
+
+    list-here : entries new i ≡ es
+    list-here = ap (list_of f') here ∙ b.list
+
+    list-there : (j : ℕ) → j ≢ i → entries new j ≡ entries m j
+    list-there j ne = ap (list_of f') (there j ne) ∙ list_beside b (handle m j) (λ n e. apart_at j n ne e) (a.live j)
+
+    sizes-there : (j : ℕ) → j ≢ i → node_sizes new j ≡ node_sizes m j
+    sizes-there j ne = ap (sizes_of f') (there j ne) ∙ sizes_beside b (handle m j) (λ n e. apart_at j n ne e) (a.live j)
+
+    at-i : (j : ℕ) → j ≡ i → handle new j ≡ h'
+    at-i j e = ap (handle new) e ∙ here
+
+    kept-set : IsIncreasing cmp (list_of f' h') → AreKept cmp new
+    kept-set increasing = record {
+      live = λ j. elim (eqb_tells j i) [
+        | inl w ↦ subst (λ (q : Option ℕ). IsLive f' q) (sym (at-i j w.1)) b.live
+        | inr w ↦ subst (λ (q : Option ℕ). IsLive f' q) (sym (there j w.1))
+            (live_beside (table m) f' (handle m j) (list_beside b (handle m j) (λ n e. apart_at j n w.1 e) (a.live j)) (a.live j))
+      ];
+      increasing = λ j. elim (eqb_tells j i) [
+        | inl w ↦ subst (λ (q : Option ℕ). IsIncreasing cmp (list_of f' q)) (sym (at-i j w.1)) increasing
+        | inr w ↦ subst (λ (xs : List (K × X)). IsIncreasing cmp xs) (sym (list-there j w.1)) (a.increasing j)
+      ];
+      apart = λ j k n d e. elim (eqb_tells j i) [
+        | inl w ↦ elim (eqb_tells k i) [
+          | inl v ↦ w.1 ∙ sym v.1
+          | inr v ↦ absurd (apart_new k n v.1 (sym (there k v.1) ∙ e) (sym d ∙ at-i j w.1))
+        ]
+        | inr w ↦ elim (eqb_tells k i) [
+          | inl v ↦ absurd (apart_new j n w.1 (sym (there j w.1) ∙ d) (sym e ∙ at-i k v.1))
+          | inr v ↦ a.apart j k n (sym (there j w.1) ∙ d) (sym (there k v.1) ∙ e)
+        ]
+      ];
+    }
+
+    changes : ChangesAt m i new
+    changes = record {
+      others = list-there;
+      other_sizes = sizes-there;
+      same_count = length-set m.handles i h';
+      same_comparator = refl;
+      same_limit = b.limit;
+    }
+
+  module _ {cmp : K → K → Ordering} {m : Indexed K X C} {i : ℕ} {h : Option ℕ} (a : AreKept cmp m) (within : i < count m) (is : h ≡ get_or m.handles i h) where
+    -- the handle that was read is that of the index
+    pub read : h ≡ handle m i
+    read = get_or_read m.handles i h within is None
+
+    -- what is so of the handle that was read is so of the index, and the other way round
+    pub of-index : (P : Option ℕ → Type 0) → P h → P (handle m i)
+    of-index P p = subst P read p
+
+    pub same-list : list_of (table m) h ≡ entries m i
+    same-list = ap (list_of (table m)) read
+
+    pub same-sizes : sizes_of (table m) h ≡ node_sizes m i
+    same-sizes = ap (sizes_of (table m)) read
+
+    -- what is found in the list that was read
+    pub value-read : (k : K) → value_for cmp (list_of (table m) h) k ≡ value_for cmp (entries m i) k
+    value-read k = ap (λ (es : List (K × X)). value_for cmp es k) same-list
+
+    pub present-read : (k : K) → is_present cmp (list_of (table m) h) k ≡ is_present cmp (entries m i) k
+    present-read k = ap (λ (es : List (K × X)). is_present cmp es k) same-list
+
+    pub at_most-read : (k : K) → entry_at_most cmp (list_of (table m) h) k ≡ entry_at_most cmp (entries m i) k
+    at_most-read k = ap (λ (es : List (K × X)). entry_at_most cmp es k) same-list
+
+    pub at_least-read : (k : K) → entry_at_least cmp (list_of (table m) h) k ≡ entry_at_least cmp (entries m i) k
+    at_least-read k = ap (λ (es : List (K × X)). entry_at_least cmp es k) same-list
+
+    pub between-read : (b d : Bound K) → entries_between cmp b d (list_of (table m) h) ≡ entries_between cmp b d (entries m i)
+    between-read b d = ap (entries_between cmp b d) same-list
+
+    pub on-list : (P : List (K × X) → Type 0) → P (list_of (table m) h) → P (entries m i)
+    on-list P p = subst P same-list p
+
+    pub of-read : (P : List (K × X) → Type 0) → P (entries m i) → P (list_of (table m) h)
+    of-read P p = subst (λ (q : Option ℕ). P (list_of (table m) q)) (sym read) p
+
+    pub live-read : IsLive (table m) h
+    live-read = subst (λ (q : Option ℕ). IsLive (table m) q) (sym read) (a.live i)
+
+    increasing-read : IsIncreasing cmp (list_of (table m) h)
+    increasing-read = subst (λ (q : Option ℕ). IsIncreasing cmp (list_of (table m) q)) (sym read) (a.increasing i)
+
+    pub ordered-read : IsLive (table m) h × IsIncreasing cmp (list_of (table m) h)
+    ordered-read = (live-read, increasing-read)
+
+    pub cleared-at : {f' : Forest K X} {h' : Option ℕ} → Clears (table m) h f' h' → AreKept cmp (with_tree m i f' h') × ClearsAt m i (with_tree m i f' h')
+    cleared-at {f'} {h'} given = let call = subst (λ (q : Option ℕ). Clears (table m) q f' h') read given in (
+      kept-set a within call.cleared (subst (λ (xs : List (K × X)). IsIncreasing cmp xs) (sym call.cleared.list) (nothing-increases K X cmp)),
+      record {
+        cleared = list-here a within call.cleared;
+        beside = changes a within call.cleared;
+        sizes = ap (sizes_of f') (here a within call.cleared ∙ call.handle);
+        account = call.account;
+      },
+    )
+
+    module _ {most : ℕ} {f' : Forest K X} {h' : Option ℕ} where
+      module _ {k : K} {x : X} where
+        put-here : (r : Result (Option X) OutOfMemory) → Inserts most cmp (table m) (handle m i) k x r f' h'
+            → AreKept cmp (with_tree m i f' h') × InsertsAt most cmp m i k x r (with_tree m i f' h')
+        put-here (Ok old) call = (
+          kept-set a within call.put call.increasing,
+          record {
+            ok = call.ok;
+            put = list-here a within call.put;
+            beside = changes a within call.put;
+            sizes = ap (sizes_of f') (here a within call.put) ∙ call.sizes;
+            account = call.account;
+            full = call.full;
+            memory = call.memory;
+            succeeds = call.succeeds;
+            absent = tt;
+            refused = tt;
+          },
+        )
+        put-here (Err refused) call = let same = unchanged m i f' h' call.refused_forest call.refused_handle in (
+          subst (AreKept cmp) (sym same) a,
+          record {
+            ok = tt;
+            put = tt;
+            beside = changes-not m (with_tree m i f' h') i same;
+            sizes = tt;
+            account = tt;
+            full = call.full;
+            memory = call.memory;
+            succeeds = call.succeeds;
+            absent = call.absent;
+            refused = same;
+          },
+        )
+
+        pub put-at : {r : Result (Option X) OutOfMemory} → Inserts most cmp (table m) h k x r f' h'
+            → AreKept cmp (with_tree m i f' h') × InsertsAt most cmp m i k x r (with_tree m i f' h')
+        put-at {r} call = put-here r (subst (λ (q : Option ℕ). Inserts most cmp (table m) q k x r f' h') read call)
+
+      pub removed-at : {k : K} {r : Option X} → Removes most cmp (table m) h k r f' h'
+          → AreKept cmp (with_tree m i f' h') × RemovesAt most cmp m i k r (with_tree m i f' h')
+      removed-at {k} {r} given = let call = subst (λ (q : Option ℕ). Removes most cmp (table m) q k r f' h') read given in (
+        kept-set a within call.cut call.increasing,
+        record {
+          value = call.value;
+          cut = list-here a within call.cut;
+          beside = changes a within call.cut;
+          sizes = ap (sizes_of f') (here a within call.cut) ∙ call.sizes;
+          account = subst (λ q. Gives (node_sizes m i) (sizes_of f' q) (table m) f') (sym (here a within call.cut)) call.account;
+          absent = λ none. unchanged m i f' h' (call.absent_forest none) (call.absent_handle none);
+        },
+      )
+
+      pub filtered-at : {F : Type 0} {step : F → K → X → Bool → X → F → Type 0} {q : F} → Filters most step (table m) h q f' h'
+          → AreKept cmp (with_tree m i f' h') × FiltersAt most step q m i (with_tree m i f' h')
+      filtered-at {F} {step} {q} given = let call = subst (λ (o : Option ℕ). Filters most step (table m) o q f' h') read given in (
+        kept-set a within call.changed (call.increasing cmp (a.increasing i)),
+        record {
+          kept = subst (λ o. Retains step most q (entries m i) (node_sizes m i) (list_of f' o) (sizes_of f' o)) (sym (here a within call.changed)) call.kept;
+          beside = changes a within call.changed;
+          account = subst (λ o. Gives (node_sizes m i) (sizes_of f' o) (table m) f') (sym (here a within call.changed)) call.account;
+        },
+      )
+
+      pub popped-at : {place : ℕ} {r : Option (K × X)} → Pops most (table m) h place r f' h'
+          → AreKept cmp (with_tree m i f' h') × PopsAt most m i place r (with_tree m i f' h')
+      popped-at {place} {r} given = let call = subst (λ (q : Option ℕ). Pops most (table m) q place r f' h') read given in (
+        kept-set a within call.removed.removed (call.increasing cmp (a.increasing i)),
+        record {
+          entry = call.entry;
+          removed = list-here a within call.removed.removed;
+          sizes = ap (sizes_of f') (here a within call.removed.removed) ∙ call.removed.sizes;
+          beside = changes a within call.removed.removed;
+          account = subst (λ q. Gives (node_sizes m i) (sizes_of f' q) (table m) f') (sym (here a within call.removed.removed)) call.removed.account;
+          end = λ past. unchanged m i f' h' (call.removed.end_forest past) (call.removed.end_handle past);
+        },
+      )
+
+      pub popped_last-at : {r : Option (K × X)} → Pops most (table m) h (length (list_of (table m) h) - 1) r f' h'
+          → AreKept cmp (with_tree m i f' h') × PopsAt most m i (length (entries m i) - 1) r (with_tree m i f' h')
+      popped_last-at {r} given = popped-at (subst (λ (es : List (K × X)). Pops most (table m) h (length es - 1) r f' h') same-list given)
+
+      module _ {k : K} {x : X} where
+        -- the key is absent, so it was inserted
+        absent-put : (r : Result X OutOfMemory) → Inserts most cmp (table m) (handle m i) k x (as_inserted r) f' h' → value_for cmp (entries m i) k ≡ None
+            → GetsOrInserts most cmp (table m) (handle m i) k x r f' h'
+            → AreKept cmp (with_tree m i f' h') × GetsOrInsertsAt most cmp m i k x r (with_tree m i f' h')
+        absent-put r put is call = let here = put-here (as_inserted r) put in (
+          here.0,
+          record {
+            value = call.value;
+            present = call.present;
+            stays = λ some. absurd (not-some X (subst (λ (q : Option X). IsSome q) is some));
+            absent = λ none. here.1;
+          },
+        )
+
+        got-here : (v : Option X) (r : Result X OutOfMemory) → value_for cmp (entries m i) k ≡ v → GetsOrInserts most cmp (table m) (handle m i) k x r f' h'
+            → AreKept cmp (with_tree m i f' h') × GetsOrInsertsAt most cmp m i k x r (with_tree m i f' h')
+        got-here None (Ok y) is call = absent-put (Ok y) (call.absent is) is call
+        got-here None (Err e) is call = absent-put (Err e) (call.absent is) is call
+        got-here (Some y) r is call =
+            let some = subst (λ (q : Option X). IsSome q) (sym is) refl in
+            let same = unchanged m i f' h' (call.present_forest some) (call.present_handle some) in (
+              subst (AreKept cmp) (sym same) a,
+              record {
+                value = call.value;
+                present = call.present;
+                stays = λ there. same;
+                absent = λ none. absurd (none-some y (sym none ∙ is));
+              },
+            )
+
+        pub got-at : {r : Result X OutOfMemory} → GetsOrInserts most cmp (table m) h k x r f' h'
+            → AreKept cmp (with_tree m i f' h') × GetsOrInsertsAt most cmp m i k x r (with_tree m i f' h')
+        got-at {r} given = got-here (value_for cmp (entries m i) k) r refl (subst (λ (q : Option ℕ). GetsOrInserts most cmp (table m) q k x r f' h') read given)
+
+  -- the forest changed, and each number keeps its list and its sizes
+  pub kept-all : {cmp : K → K → Ordering} (m : Indexed K X C) (f' : Forest K X) → Keeps (table m) f' → AreKept cmp m
+      → AreKept cmp (record m { forest = f' }) × KeepsAll m (record m { forest = f' })
+  kept-all {cmp} m f' keeps a = (
+    record {
+      live = λ i. live_beside (table m) f' (handle m i) (lists (handle m i)) (a.live i);
+      increasing = λ i. subst (λ (xs : List (K × X)). IsIncreasing cmp xs) (sym (lists (handle m i))) (a.increasing i);
+      apart = a.apart;
+    },
+    record { lists = λ i. lists (handle m i); sizes = λ i. sizes (handle m i); same_comparator = refl },
+  )
+    where
+      lists : (q : Option ℕ) → list_of f' q ≡ list_of (table m) q
+      lists None = refl
+      lists (Some n) = keeps.lists n
+
+      sizes : (q : Option ℕ) → sizes_of f' q ≡ sizes_of (table m) q
+      sizes None = refl
+      sizes (Some n) = keeps.sizes n
+
+  -- each handle is empty now, and the forest has no tree
+  pub kept-cleared : {cmp : K → K → Ordering} (o : C) (f' : Forest K X) (qs : List (Option ℕ)) (n size : ℕ) → f' ≡ empty n → Adds (λ h. h ≡ None) [] size qs
+      → AreKept cmp (record { forest = f'; order = o; handles = qs })
+  kept-cleared o f' qs n size forest adds = kept-empty (record { forest = f'; order = o; handles = qs }) n forest (none-handles qs size adds)
+
+  pub cleared-all : (m : Indexed K X C) (f' : Forest K X) (qs : List (Option ℕ)) → f' ≡ empty (limit_of (table m))
+      → Adds (λ h. h ≡ None) [] (count m) qs → ClearsAll m (record m { forest = f'; handles = qs })
+  cleared-all m f' qs forest adds = record {
+    lists = λ i. ap (list_of f') (none-handles qs (count m) adds i);
+    sizes = λ i. ap (sizes_of f') (none-handles qs (count m) adds i);
+    forest = forest;
+    same_count = as-many qs (count m) adds;
+    same_comparator = refl;
+  }
+
+  -- the handles of i and j changed places
+  module _ (m : Indexed K X C) (i j : ℕ) (qs : List (Option ℕ)) (at : SwappedAt m.handles qs i j) where
+    at-first : get_or qs i None ≡ handle m j
+    at-first = at.0 None
+
+    at-second : get_or qs j None ≡ handle m i
+    at-second = at.1 None
+
+    at-other : (q : ℕ) → q ≢ i → q ≢ j → get_or qs q None ≡ handle m q
+    at-other q = λ ne ne'. at.2 q None ne ne'
+
+    by-index : (P : ℕ → Type 0) → P i → P j → ((q : ℕ) → q ≢ i → q ≢ j → P q) → (q : ℕ) → P q
+    by-index P first second other q = elim (eqb_tells q i) [
+      | inl w ↦ subst P (sym w.1) first
+      | inr w ↦ elim (eqb_tells q j) [
+        | inl v ↦ subst P (sym v.1) second
+        | inr v ↦ other q w.1 v.1
+      ]
+    ]
+
+    pub swaps : length qs ≡ count m → Swaps m i j (record m { handles = qs })
+    swaps same = record {
+      first = ap (list_of (table m)) at-first;
+      second = ap (list_of (table m)) at-second;
+      others = λ q ne ne'. ap (list_of (table m)) (at-other q ne ne');
+      first_sizes = ap (sizes_of (table m)) at-first;
+      second_sizes = ap (sizes_of (table m)) at-second;
+      other_sizes = λ q ne ne'. ap (sizes_of (table m)) (at-other q ne ne');
+      same_count = same;
+      same_comparator = refl;
+      same_table = refl;
+    }
+
+    at-each : (P : Option ℕ → Type 0) → ((q : ℕ) → P (handle m q)) → (q : ℕ) → P (get_or qs q None)
+    at-each P all = by-index (λ q. P (get_or qs q None)) (subst P (sym at-first) (all j)) (subst P (sym at-second) (all i))
+        (λ q ne ne'. subst P (sym (at-other q ne ne')) (all q))
+
+    pub kept-swapped : {cmp : K → K → Ordering} → AreKept cmp m → AreKept cmp (record m { handles = qs })
+    kept-swapped {cmp} a = record {
+      live = at-each (IsLive (table m)) a.live;
+      increasing = at-each (λ q. IsIncreasing cmp (list_of (table m) q)) a.increasing;
+      apart = λ p q n d e. by-index (λ r. get_or qs r None ≡ Some n → r ≡ q) (of-i q n e) (of-j q n e) (of-other q n e) p d;
+    }
+      where
+        of-i : (q n : ℕ) → get_or qs q None ≡ Some n → get_or qs i None ≡ Some n → i ≡ q
+        of-i q n e d = by-index (λ r. get_or qs r None ≡ Some n → i ≡ r) (λ x. refl) (λ x. sym (a.apart j i n (sym at-first ∙ d) (sym at-second ∙ x)))
+            (λ r ne ne' x. absurd (ne' (sym (a.apart j r n (sym at-first ∙ d) (sym (at-other r ne ne') ∙ x))))) q e
+
+        of-j : (q n : ℕ) → get_or qs q None ≡ Some n → get_or qs j None ≡ Some n → j ≡ q
+        of-j q n e d = by-index (λ r. get_or qs r None ≡ Some n → j ≡ r) (λ x. sym (a.apart i j n (sym at-second ∙ d) (sym at-first ∙ x))) (λ x. refl)
+            (λ r ne ne' x. absurd (ne (sym (a.apart i r n (sym at-second ∙ d) (sym (at-other r ne ne') ∙ x))))) q e
+
+        of-other : (q n : ℕ) → get_or qs q None ≡ Some n → (p : ℕ) → p ≢ i → p ≢ j → get_or qs p None ≡ Some n → p ≡ q
+        of-other q n e p ne ne' d = by-index (λ r. get_or qs r None ≡ Some n → p ≡ r)
+            (λ x. absurd (ne' (a.apart p j n (sym (at-other p ne ne') ∙ d) (sym at-first ∙ x))))
+            (λ x. absurd (ne (a.apart p i n (sym (at-other p ne ne') ∙ d) (sym at-second ∙ x))))
+            (λ r re re' x. a.apart p r n (sym (at-other p ne ne') ∙ d) (sym (at-other r re re') ∙ x)) q e

@@ -1,0 +1,6 @@
+-- The size of a struct's first field.
+use Rattle.std.proofs.Common.{rules, ◌+◌, ◌<◌, ℕ}
+use prog.Memory.{up}
+
+pub first-field : (a b c d n y z m : ℕ) → up a (up b (up c (d + n) + y) + z) < m → n < m
+first-field a b c d n y z m h = search rules

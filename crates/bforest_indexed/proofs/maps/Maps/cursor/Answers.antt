@@ -1,0 +1,13 @@
+use Rattle.bforest_indexed.proofs.Kept.{ordered-read, same-list}
+use Rattle.bforest_indexed.proofs.Sizes.{first-field}
+use Rattle.bforest_indexed.proofs.maps.Maps.cursor.Goals as goal
+use Rattle.std.proofs.Common.{ap, length, rules, ◌∙◌}
+
+pub cursor-requires : goal.cursor-requires
+cursor-requires g c = (search (rules, first-field), ordered-read c.self.invariant (rw (← c.self.view_is) at c.requires.within) c.index.ensures)
+
+pub returns-clause-entries : goal.returns-clause-entries
+returns-clause-entries g c = rw (← c.self.view_is) (c.cursor.ensures.entries ∙ same-list c.self.invariant (rw (← c.self.view_is) at c.requires.within) c.index.ensures)
+
+pub returns-clause-spot : goal.returns-clause-spot
+returns-clause-spot g c = rw (← c.self.view_is) (c.cursor.ensures.spot ∙ ap length (same-list c.self.invariant (rw (← c.self.view_is) at c.requires.within) c.index.ensures))

@@ -1,0 +1,144 @@
+-- What contracts see of maps and of sets that are named by an index: a forest, an order, and a handle for each index. A set's values are
+-- all the unit.
+use Rattle.bforest.specs.Entries.{IsIncreasing, cut, put, value_for}
+use Rattle.bforest.specs.Forest.{Forest, Gives, IsLive, IsTooMany, NeedsGrowth, Takes, empty, free_of, limit_of, list_of, need_of, shrink, sizes_of, sizes_with, sizes_without}
+use Rattle.bforest.specs.Refusal.{Full, Memory, OutOfMemory}
+use Rattle.bforest.specs.Retain.{Retains}
+use Rattle.std.specs.Map.{keys_of}
+use Rattle.std.specs.Prelude.{Bool, Err, IfOk, IsOk, IsSome, List, None, Ok, OnErr, OnOk, Option, Result, Some, [], get_or, if◌then◌else◌, length, nat_lt, remove, slice_get, unwrap_or, ◌↔◌, ◌≡◌, ◌≢◌, ◌≤◌, ℕ}
+use Rattle.std.specs.declared.cmp.Ordering.{Ordering}
+
+-- the answer of an insertion of an absent key, from that of a call that answers the value
+abbrev pub as_inserted : {X : Type 0} → Result X OutOfMemory → Result (Option X) OutOfMemory
+as_inserted (Ok x) = Ok None
+as_inserted (Err refused) = Err refused
+
+-- Contracts read it by the words below alone.
+pub record Indexed (K X C : Type 0) : Type 0 where
+  pub forest : Forest K X
+  pub order : C
+  pub handles : List (Option ℕ)
+
+module _ {K X C : Type 0} where
+  -- the table of all entries
+  abbrev pub table : Indexed K X C → Forest K X
+  table m = m.forest
+
+  -- the comparator
+  abbrev pub comparator : Indexed K X C → C
+  comparator m = m.order
+
+  -- the number of indices
+  abbrev pub count : Indexed K X C → ℕ
+  count m = length m.handles
+
+  -- the handle of an index, which is empty past the end
+  abbrev pub handle : Indexed K X C → ℕ → Option ℕ
+  handle m i = get_or m.handles i None
+
+  -- the list of an index
+  abbrev pub entries : Indexed K X C → ℕ → List (K × X)
+  entries m i = list_of (table m) (handle m i)
+
+  -- the keys of an index
+  abbrev pub keys : Indexed K X C → ℕ → List K
+  keys m i = keys_of (entries m i)
+
+  -- the sizes of the nodes of its tree
+  abbrev pub node_sizes : Indexed K X C → ℕ → List (List ℕ)
+  node_sizes m i = sizes_of (table m) (handle m i)
+
+  -- each handle is live, each list increases, and no two indices have one tree
+  pub record AreKept (cmp : K → K → Ordering) (m : Indexed K X C) : Type 0 where
+    pub live : (i : ℕ) → IsLive (table m) (handle m i)
+    pub increasing : (i : ℕ) → IsIncreasing cmp (entries m i)
+    pub apart : (i j n : ℕ) → handle m i ≡ Some n → handle m j ≡ Some n → i ≡ j
+
+  -- m became m', and each index keeps its list
+  pub record KeepsAll (m m' : Indexed K X C) : Type 0 where
+    pub lists : (i : ℕ) → entries m' i ≡ entries m i
+    pub sizes : (i : ℕ) → node_sizes m' i ≡ node_sizes m i
+    pub same_comparator : comparator m' ≡ comparator m
+
+  -- m became m', and at most the list of i changed
+  pub record ChangesAt (m : Indexed K X C) (i : ℕ) (m' : Indexed K X C) : Type 0 where
+    pub others : (j : ℕ) → j ≢ i → entries m' j ≡ entries m j
+    pub other_sizes : (j : ℕ) → j ≢ i → node_sizes m' j ≡ node_sizes m j
+    pub same_count : count m' ≡ count m
+    pub same_comparator : comparator m' ≡ comparator m
+    pub same_limit : limit_of (table m') ≡ limit_of (table m)
+
+  -- the lists of i and j changed places
+  pub record Swaps (m : Indexed K X C) (i j : ℕ) (m' : Indexed K X C) : Type 0 where
+    pub first : entries m' i ≡ entries m j
+    pub second : entries m' j ≡ entries m i
+    pub others : (q : ℕ) → q ≢ i → q ≢ j → entries m' q ≡ entries m q
+    pub first_sizes : node_sizes m' i ≡ node_sizes m j
+    pub second_sizes : node_sizes m' j ≡ node_sizes m i
+    pub other_sizes : (q : ℕ) → q ≢ i → q ≢ j → node_sizes m' q ≡ node_sizes m q
+    pub same_count : count m' ≡ count m
+    pub same_comparator : comparator m' ≡ comparator m
+    pub same_table : table m' ≡ table m
+
+  -- all lists ended
+  pub record ClearsAll (m m' : Indexed K X C) : Type 0 where
+    pub lists : (i : ℕ) → entries m' i ≡ []
+    pub sizes : (i : ℕ) → node_sizes m' i ≡ []
+    pub forest : table m' ≡ empty (limit_of (table m))
+    pub same_count : count m' ≡ count m
+    pub same_comparator : comparator m' ≡ comparator m
+
+  -- the list of i ended
+  pub record ClearsAt (m : Indexed K X C) (i : ℕ) (m' : Indexed K X C) : Type 0 where
+    pub cleared : entries m' i ≡ []
+    pub sizes : node_sizes m' i ≡ []
+    pub beside : ChangesAt m i m'
+    pub account : Gives (node_sizes m i) [] (table m) (table m')
+
+  -- a predicate f was asked of each entry of i; the entries answered true stay, with the values that the calls left
+  pub record FiltersAt {F : Type 0} (most : ℕ) (step : F → K → X → Bool → X → F → Type 0) (f : F) (m : Indexed K X C) (i : ℕ) (m' : Indexed K X C) : Type 0 where
+    pub kept : Retains step most f (entries m i) (node_sizes m i) (entries m' i) (node_sizes m' i)
+    pub beside : ChangesAt m i m'
+    pub account : Gives (node_sizes m i) (node_sizes m' i) (table m) (table m')
+
+  -- the entry at a place of i was removed and is answered, where a leaf has at most `most` entries; at the end
+  -- none is, and nothing changed
+  pub record PopsAt (most : ℕ) (m : Indexed K X C) (i place : ℕ) (result : Option (K × X)) (m' : Indexed K X C) : Type 0 where
+    pub entry : result ≡ slice_get (entries m i) place
+    pub removed : entries m' i ≡ remove (entries m i) place
+    pub sizes : node_sizes m' i ≡ (if nat_lt place (length (entries m i)) then shrink most place (node_sizes m i) else node_sizes m i)
+    pub beside : ChangesAt m i m'
+    pub account : Gives (node_sizes m i) (node_sizes m' i) (table m) (table m')
+    pub end : length (entries m i) ≤ place → m' ≡ m
+
+  -- `most` is the number of entries that a leaf has at most
+  module _ (most : ℕ) (cmp : K → K → Ordering) where
+    -- x was inserted at the key k of i, or replaced the value there, which is answered; or the call was refused, and nothing changed
+    pub record InsertsAt (m : Indexed K X C) (i : ℕ) (k : K) (x : X) (result : Result (Option X) OutOfMemory) (m' : Indexed K X C) : Type 0 where
+      pub ok : IfOk result (λ old. old ≡ value_for cmp (entries m i) k)
+      pub put : OnOk result (entries m' i ≡ put cmp (entries m i) k x)
+      pub beside : ChangesAt m i m'
+      pub sizes : OnOk result (node_sizes m' i ≡ sizes_with most cmp (table m) (handle m i) k)
+      pub account : OnOk result (Takes (need_of most cmp (table m) (handle m i) k) (table m) (table m'))
+      pub full : (result ≡ Err Full) ↔ IsTooMany (need_of most cmp (table m) (handle m i) k) (table m)
+      pub memory : result ≡ Err Memory → NeedsGrowth (need_of most cmp (table m) (handle m i) k) (table m)
+      pub succeeds : need_of most cmp (table m) (handle m i) k ≤ free_of (table m) → IsOk result
+      pub absent : OnErr result (value_for cmp (entries m i) k ≡ None)
+      pub refused : OnErr result (m' ≡ m)
+
+    -- the key k was removed from i, and its value is answered
+    pub record RemovesAt (m : Indexed K X C) (i : ℕ) (k : K) (result : Option X) (m' : Indexed K X C) : Type 0 where
+      pub value : result ≡ value_for cmp (entries m i) k
+      pub cut : entries m' i ≡ cut cmp (entries m i) k
+      pub beside : ChangesAt m i m'
+      pub sizes : node_sizes m' i ≡ sizes_without most cmp (table m) (handle m i) k
+      pub account : Gives (node_sizes m i) (node_sizes m' i) (table m) (table m')
+      pub absent : result ≡ None → m' ≡ m
+
+    -- the value of the key k of i is answered: the one that was there, and nothing changed, or x, which was
+    -- inserted; or the insertion was refused, and nothing changed
+    pub record GetsOrInsertsAt (m : Indexed K X C) (i : ℕ) (k : K) (x : X) (result : Result X OutOfMemory) (m' : Indexed K X C) : Type 0 where
+      pub value : IfOk result (λ v. v ≡ unwrap_or (value_for cmp (entries m i) k) x)
+      pub present : IsSome (value_for cmp (entries m i) k) → IsOk result
+      pub stays : IsSome (value_for cmp (entries m i) k) → m' ≡ m
+      pub absent : value_for cmp (entries m i) k ≡ None → InsertsAt m i k x (as_inserted result) m'

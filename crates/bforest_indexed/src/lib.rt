@@ -1,0 +1,13 @@
+//! Many maps or sets in one forest under one order, each named by an index.
+//!
+//! [`Maps`] and [`Sets`] hold the forest, the order and all handles, so no handle is copied, and each tree is only ever used under the one
+//! order. A call asks for nothing but an index that is there.
+#![tactic(auto)]
+
+mod handles;
+mod maps;
+mod sets;
+
+pub use bforest::{Comparator, OutOfMemory};
+pub use maps::Maps;
+pub use sets::Sets;

@@ -1,0 +1,332 @@
+//! Maps by an index.
+ghost use Rattle.bforest.specs.Bounds.{entries_between, entry_at_least, entry_at_most};
+ghost use Rattle.bforest.specs.Calls.{Reserves};
+ghost use Rattle.bforest.specs.Entries.{value_for};
+ghost use Rattle.bforest.specs.Forest.{empty, first_level, free_of, limit_of, slots_of};
+ghost use Rattle.bforest.specs.Memory.{IsReadable};
+ghost use Rattle.bforest.specs.Retain.{Answers, MayAsk, MayAskEach};
+ghost use Rattle.bforest_indexed.specs.Indexed.{ClearsAll, ClearsAt, FiltersAt, GetsOrInsertsAt, InsertsAt};
+ghost use Rattle.bforest_indexed.specs.Indexed.{KeepsAll, PopsAt, RemovesAt, Swaps};
+ghost use Rattle.bforest_indexed.specs.Indexed.{comparator, count, entries, node_sizes, table};
+ghost use Rattle.std.specs.Prelude.{IfOk, IsTrue, OnErr, OnOk, length, slice_get, ◌+◌, ◌-◌, ◌/◌, ◌<◌, ◌^◌, ◌↔◌, ◌≡◌, ◌≤◌};
+
+use crate::handles::{add_empty, empty_all};
+use bforest::{Comparator, Map, MapCursor, MapForest, MapIter, MapRange, OutOfMemory};
+use std::alloc::{AllocError, Global};
+use std::marker::Model;
+use std::ops::Bound;
+
+/// Many ordered maps in one table of nodes, numbered from 0, under one order.
+///
+/// Each call on a map names it by its index, which has to be less than [`Maps::len`]. In plain Rust an index that is not there panics, and
+/// the panic names it. The map of an index is found in constant time, and an empty map takes 4 bytes and no node.
+#[derive(Drop)]
+pub struct Maps<K: Copy, V: Copy, C: Comparator<K>> {
+    forest: MapForest<K, V>,
+    order: C,
+    maps: Vec<Map<K, V>>,
+}
+
+impl<K: Copy, V: Copy, C: Comparator<K>> Model for Maps<K, V, C> {
+    ghost use Rattle.bforest_indexed.specs.Indexed.{AreKept, Indexed};
+
+    ghost Value = { Indexed K V C };
+
+    ghost view = { λ m. record { forest = m.forest; order = m.order; handles = m.maps.items } };
+
+    ghost invariant = { λ m. AreKept (C.order m.order)
+        (record { forest = m.forest; order = m.order; handles = m.maps.items }) };
+}
+
+impl<K: Copy, V: Copy, C: Comparator<K>> Maps<K, V, C> {
+    /// Returns no maps, whose table has at most 4294967295 slots. No memory is taken.
+    pub fn new(alloc: Global, order: C) -> Self
+        ensures none { count result ≡ 0 }
+        ensures table { table result ≡ empty u32.MAX }
+        ensures comparator { comparator result ≡ order }
+    {
+        Maps::with_node_limit(alloc, order, u32::MAX)
+    }
+
+    /// Returns no maps, whose table has at most `limit` slots. No memory is taken.
+    pub fn with_node_limit(alloc: Global, order: C, limit: u32) -> Self
+        ensures none { count result ≡ 0 }
+        ensures table { table result ≡ empty limit }
+        ensures comparator { comparator result ≡ order }
+    {
+        Maps {
+            forest: MapForest::with_node_limit(alloc, limit),
+            order,
+            maps: Vec::new(alloc),
+        }
+    }
+
+    /// Returns how many maps there are, empty ones included. Constant time.
+    pub fn len(&self) -> usize
+        ensures count { result ≡ count self.now }
+    {
+        self.maps.len()
+    }
+
+    /// Returns whether there is no map, not even an empty one. Constant time.
+    pub fn is_empty(&self) -> bool
+        ensures none { IsTrue result ↔ (count self.now ≡ 0) }
+    {
+        self.maps.is_empty()
+    }
+
+    /// Adds an empty map and returns its index, which is the number of maps before. It takes no node.
+    ///
+    /// # Errors
+    ///
+    /// `AllocError` where memory for the handle was refused; nothing has changed then.
+    pub fn push(&mut self) -> Result<usize, AllocError>
+        ensures index { IfOk result (λ i. i ≡ count self.old) }
+        ensures count { OnOk result (count self.new ≡ count self.old + 1) }
+        ensures keeps { KeepsAll self.old self.new }
+        ensures table { table self.new ≡ table self.old }
+        ensures refused { OnErr result (self.new ≡ self.old) }
+    {
+        let index = self.maps.len();
+        self.maps.push(Map::new())?;
+        Ok(index)
+    }
+
+    /// Adds empty maps until there are `len`; where there are as many or more, nothing changes. They take no node, and the memory for all
+    /// their handles is taken once.
+    ///
+    /// # Errors
+    ///
+    /// `AllocError` where memory for the handles was refused; nothing has changed then.
+    pub fn grow_to(&mut self, len: usize) -> Result<(), AllocError>
+        ensures count { OnOk result (count self.new ≡ count self.old + (len - count self.old)) }
+        ensures keeps { KeepsAll self.old self.new }
+        ensures table { table self.new ≡ table self.old }
+        ensures refused { OnErr result (self.new ≡ self.old) }
+    {
+        add_empty(&mut self.maps, len)
+    }
+
+    /// Removes all entries of all maps, whose number stays. The table has no slot then, and its limit stays; its memory is kept for later
+    /// slots. Visits each handle once and no node.
+    pub fn clear_all(&mut self)
+        ensures { ClearsAll self.old self.new }
+    {
+        empty_all(&mut self.maps);
+        self.forest.clear();
+    }
+
+    /// Exchanges two maps, which may be one. Constant time: no entry moves.
+    pub fn swap(&mut self, i: usize, j: usize)
+        requires first { i < count self.old }
+        requires second { j < count self.old }
+        ensures { Swaps self.old i j self.new }
+    {
+        self.maps.swap(i, j);
+    }
+
+    /// Returns the value of the entry whose key compares equal to `key`, or `None`. One search, as [`bforest::Map::get`] makes.
+    pub fn get(&self, index: usize, key: K) -> Option<V>
+        requires within { index < count self.now }
+        ensures value { result ≡ value_for (C.order (comparator self.now)) (entries self.now index) key }
+    {
+        self.maps[index].get(key, &self.forest, &self.order)
+    }
+
+    /// Returns the last entry whose key is not greater than `key`, or `None` where each key is greater. One search.
+    pub fn get_or_less(&self, index: usize, key: K) -> Option<(K, V)>
+        requires within { index < count self.now }
+        ensures entry { result
+            ≡ entry_at_most (C.order (comparator self.now)) (entries self.now index) key }
+    {
+        self.maps[index].get_or_less(key, &self.forest, &self.order)
+    }
+
+    /// Returns the first entry whose key is not less than `key`, or `None` where each key is less. One search.
+    pub fn get_or_greater(&self, index: usize, key: K) -> Option<(K, V)>
+        requires within { index < count self.now }
+        ensures entry { result
+            ≡ entry_at_least (C.order (comparator self.now)) (entries self.now index) key }
+    {
+        self.maps[index].get_or_greater(key, &self.forest, &self.order)
+    }
+
+    /// Returns the first entry of a map, or `None` where it is empty. Visits one node of each level. No comparison.
+    pub fn first(&self, index: usize) -> Option<(K, V)>
+        requires within { index < count self.now }
+        ensures entry { result ≡ slice_get (entries self.now index) 0 }
+    {
+        self.maps[index].first(&self.forest)
+    }
+
+    /// Returns the last entry of a map, or `None` where it is empty. Visits one node of each level. No comparison.
+    pub fn last(&self, index: usize) -> Option<(K, V)>
+        requires within { index < count self.now }
+        ensures entry { result
+            ≡ slice_get (entries self.now index) (length (entries self.now index) - 1) }
+    {
+        self.maps[index].last(&self.forest)
+    }
+
+    /// Inserts a value at a key and returns the value that was there, as [`bforest::Map::insert`] does: a stored key that compares equal
+    /// stays. One search, and at most one node more than [`Maps::levels`].
+    ///
+    /// # Errors
+    ///
+    /// [`OutOfMemory`] where the key is absent and too few nodes are available; nothing has changed then.
+    pub fn insert(&mut self, index: usize, key: K, value: V) -> Result<Option<V>, OutOfMemory>
+        requires within { index < count self.old }
+        ensures { InsertsAt 7 (C.order (comparator self.old)) self.old index key value result self.new }
+    {
+        self.maps[index].insert(key, value, &mut self.forest, &self.order)
+    }
+
+    /// Removes the entry whose key compares equal to `key` and returns its value, or returns `None` and changes nothing. One search, and
+    /// no memory is taken.
+    pub fn remove(&mut self, index: usize, key: K) -> Option<V>
+        requires within { index < count self.old }
+        ensures { RemovesAt 7 (C.order (comparator self.old)) self.old index key result self.new }
+    {
+        self.maps[index].remove(key, &mut self.forest, &self.order)
+    }
+
+    /// Inserts a value at a key and returns the value that was there, exactly as [`Maps::insert`] does.
+    ///
+    /// # Errors
+    ///
+    /// Those of [`Maps::insert`].
+    pub fn try_insert(&mut self, index: usize, key: K, value: V) -> Result<Option<V>, OutOfMemory>
+        requires within { index < count self.old }
+        ensures { InsertsAt 7 (C.order (comparator self.old)) self.old index key value result self.new }
+    {
+        self.insert(index, key, value)
+    }
+
+    /// Returns the value of the entry whose key compares equal to `key`. Where there is none, inserts `value` at the key and returns it.
+    /// One search, as [`bforest::Map::get_or_insert`] makes.
+    ///
+    /// # Errors
+    ///
+    /// [`OutOfMemory`] where the key is absent and too few nodes are available; nothing has changed then.
+    pub fn get_or_insert(&mut self, index: usize, key: K, value: V) -> Result<V, OutOfMemory>
+        requires within { index < count self.old }
+        ensures { GetsOrInsertsAt 7 (C.order (comparator self.old)) self.old index key value result self.new }
+    {
+        self.maps[index].get_or_insert(key, value, &mut self.forest, &self.order)
+    }
+
+    /// Removes the first entry of a map and returns it, or returns `None` and changes nothing where the map is empty. No comparison, and no
+    /// memory is taken.
+    pub fn pop_first(&mut self, index: usize) -> Option<(K, V)>
+        requires within { index < count self.old }
+        ensures { PopsAt 7 self.old index 0 result self.new }
+    {
+        self.maps[index].pop_first(&mut self.forest)
+    }
+
+    /// Removes the last entry of a map and returns it, or returns `None` and changes nothing where the map is empty. No comparison, and no
+    /// memory is taken.
+    pub fn pop_last(&mut self, index: usize) -> Option<(K, V)>
+        requires within { index < count self.old }
+        ensures { PopsAt 7 self.old index (length (entries self.old index) - 1) result self.new }
+    {
+        self.maps[index].pop_last(&mut self.forest)
+    }
+
+    /// Removes all entries of a map, whose nodes are free then. Visits each node of its tree once. No comparison, no memory.
+    pub fn clear(&mut self, index: usize)
+        requires within { index < count self.old }
+        ensures { ClearsAt self.old index self.new }
+    {
+        self.maps[index].clear(&mut self.forest);
+    }
+
+    /// Keeps the entries for which the predicate returns `true`, with the value as the predicate left it, and removes all others. It is
+    /// asked once for each entry, in order. No comparison, no memory.
+    pub fn retain<F: FnMut(K, &mut V) -> bool>(&mut self, index: usize, predicate: F)
+        requires within { index < count self.old }
+        requires callable { MayAskEach (Answers F.FnMut) (MayAsk F.FnMut) predicate (entries self.old index) }
+        ensures { FiltersAt 7 (Answers F.FnMut) predicate self.old index self.new }
+    {
+        self.maps[index].retain(&mut self.forest, predicate);
+    }
+
+    /// Returns how many levels of nodes a map's tree has: 0 where it is empty, and never more than 17. Visits one node of each level.
+    pub fn levels(&self, index: usize) -> usize
+        requires within { index < count self.now }
+        ensures count { result ≡ length (node_sizes self.now index) }
+        ensures most { result ≤ 17 }
+        ensures depth { 2 ≤ result → 4 ^ (result - 1) < length (entries self.now index) }
+        ensures leaves { length (first_level (node_sizes self.now index))
+            ≤ (length (entries self.now index) + 3) / 4 }
+    {
+        self.maps[index].levels(&self.forest)
+    }
+
+    /// Returns an iterator over the entries of a map, in order. Visits one node of each level, and then each leaf once. No comparison.
+    #[inline(always)]
+    pub fn iter(&self, index: usize) -> MapIter<'_, K, V>
+        requires within { index < count self.now }
+        ensures entries { result ≡ entries self.now index }
+        ensures ready { IsReadable K.row V.row }
+    {
+        self.maps[index].iter(&self.forest)
+    }
+
+    /// Returns a double-ended iterator over the entries of a map within both bounds, in order. Two searches; the steps compare nothing.
+    pub fn range(&self, index: usize, bounds: (Bound<K>, Bound<K>)) -> MapRange<'_, K, V, C>
+        requires within { index < count self.now }
+        ensures entries { result ≡ entries_between (C.order (comparator self.now)) bounds.0 bounds.1
+            (entries self.now index) }
+        ensures ready { IsReadable K.row V.row }
+    {
+        self.maps[index].range(bounds, &self.forest, &self.order)
+    }
+
+    /// Returns a cursor that reads a map. It stands at the end, behind the last entry. Constant time.
+    pub fn cursor(&self, index: usize) -> MapCursor<'_, K, V, C>
+        requires within { index < count self.now }
+        ensures entries { result.entries ≡ entries self.now index }
+        ensures spot { result.spot ≡ length (entries self.now index) }
+        ensures comparator { result.comparator ≡ comparator self.now }
+        ensures ready { IsReadable K.row V.row }
+    {
+        self.maps[index].cursor(&self.forest, &self.order)
+    }
+
+    /// Returns how many slots the table has, which is the number of nodes in use and of free ones. Constant time.
+    pub fn slots(&self) -> u32
+        ensures count { result ≡ slots_of (table self.now) }
+        ensures within { slots_of (table self.now) ≤ limit_of (table self.now) }
+    {
+        self.forest.slots()
+    }
+
+    /// Returns how many slots are free. Constant time.
+    pub fn free_slots(&self) -> u32
+        ensures count { result ≡ free_of (table self.now) }
+    {
+        self.forest.free_slots()
+    }
+
+    /// Returns how many slots the table may have. Constant time.
+    pub fn node_limit(&self) -> u32
+        ensures limit { result ≡ limit_of (table self.now) }
+    {
+        self.forest.node_limit()
+    }
+
+    /// Makes sure that `n` slots are free, as [`bforest::MapForest::reserve_nodes`] does: insertions that need no more nodes in all can't
+    /// be refused then. Where so many are free already, nothing changes and no memory is taken.
+    ///
+    /// # Errors
+    ///
+    /// [`OutOfMemory`] where so many slots can't be had; nothing has changed then.
+    pub fn reserve_nodes(&mut self, n: u32) -> Result<(), OutOfMemory>
+        ensures reserves { Reserves (table self.old) n result (table self.new) }
+        ensures keeps { KeepsAll self.old self.new }
+        ensures count { count self.new ≡ count self.old }
+    {
+        self.forest.reserve_nodes(n)
+    }
+}

@@ -1,0 +1,311 @@
+//! Sets by an index.
+ghost use Rattle.bforest.specs.Bounds.{entries_between, entry_at_least, entry_at_most};
+ghost use Rattle.bforest.specs.Calls.{Reserves};
+ghost use Rattle.bforest.specs.Entries.{is_present};
+ghost use Rattle.bforest.specs.Forest.{empty, first_level, free_of, limit_of, slots_of};
+ghost use Rattle.bforest.specs.Memory.{IsSetReadable};
+ghost use Rattle.bforest.specs.Retain.{MayAskEach};
+ghost use Rattle.bforest.specs.Set.{AnswersKey, MayAskKey, as_popped, as_put, as_removed, the_value};
+ghost use Rattle.bforest_indexed.specs.Indexed.{ClearsAll, ClearsAt, FiltersAt, InsertsAt, KeepsAll, PopsAt, RemovesAt, Swaps};
+ghost use Rattle.bforest_indexed.specs.Indexed.{comparator, count, entries, keys, node_sizes, table};
+ghost use Rattle.std.specs.Map.{keys_of};
+ghost use Rattle.std.specs.Prelude.{IfOk, IsTrue, OnErr, OnOk, length, option_map, slice_get, ◌*◌, ◌+◌, ◌-◌, ◌/◌, ◌<◌, ◌^◌, ◌↔◌, ◌≡◌, ◌≤◌};
+
+use crate::handles::{add_empty, empty_all};
+use bforest::{Comparator, OutOfMemory, Set, SetForest, SetIter, SetRange};
+use std::alloc::{AllocError, Global};
+use std::marker::Model;
+use std::ops::Bound;
+
+/// Many ordered sets in one table of nodes, numbered from 0, under one order.
+///
+/// Each call on a set names it by its index, which has to be less than [`Sets::len`]. In plain Rust an index that is not there panics, and
+/// the panic names it. The set of an index is found in constant time, and an empty set takes 4 bytes and no node.
+#[derive(Drop)]
+pub struct Sets<K: Copy, C: Comparator<K>> {
+    forest: SetForest<K>,
+    order: C,
+    sets: Vec<Set<K>>,
+}
+
+impl<K: Copy, C: Comparator<K>> Model for Sets<K, C> {
+    ghost use Rattle.bforest_indexed.specs.Indexed.{AreKept, Indexed};
+
+    ghost Value = { Indexed K (Unit {0}) C };
+
+    ghost view = { λ m. record { forest = m.forest; order = m.order; handles = m.sets.items } };
+
+    ghost invariant = { λ m. AreKept (C.order m.order)
+        (record { forest = m.forest; order = m.order; handles = m.sets.items }) };
+}
+
+impl<K: Copy, C: Comparator<K>> Sets<K, C> {
+    /// Returns no sets, whose table has at most 4294967295 slots. No memory is taken.
+    pub fn new(alloc: Global, order: C) -> Self
+        ensures none { count result ≡ 0 }
+        ensures table { table result ≡ empty u32.MAX }
+        ensures comparator { comparator result ≡ order }
+    {
+        Sets::with_node_limit(alloc, order, u32::MAX)
+    }
+
+    /// Returns no sets, whose table has at most `limit` slots. No memory is taken.
+    pub fn with_node_limit(alloc: Global, order: C, limit: u32) -> Self
+        ensures none { count result ≡ 0 }
+        ensures table { table result ≡ empty limit }
+        ensures comparator { comparator result ≡ order }
+    {
+        Sets {
+            forest: SetForest::with_node_limit(alloc, limit),
+            order,
+            sets: Vec::new(alloc),
+        }
+    }
+
+    /// Returns how many sets there are, empty ones included. Constant time.
+    pub fn len(&self) -> usize
+        ensures count { result ≡ count self.now }
+    {
+        self.sets.len()
+    }
+
+    /// Returns whether there is no set, not even an empty one. Constant time.
+    pub fn is_empty(&self) -> bool
+        ensures none { IsTrue result ↔ (count self.now ≡ 0) }
+    {
+        self.sets.is_empty()
+    }
+
+    /// Adds an empty set and returns its index, which is the number of sets before. It takes no node.
+    ///
+    /// # Errors
+    ///
+    /// `AllocError` where memory for the handle was refused; nothing has changed then.
+    pub fn push(&mut self) -> Result<usize, AllocError>
+        ensures index { IfOk result (λ i. i ≡ count self.old) }
+        ensures count { OnOk result (count self.new ≡ count self.old + 1) }
+        ensures keeps { KeepsAll self.old self.new }
+        ensures table { table self.new ≡ table self.old }
+        ensures refused { OnErr result (self.new ≡ self.old) }
+    {
+        let index = self.sets.len();
+        self.sets.push(Set::new())?;
+        Ok(index)
+    }
+
+    /// Adds empty sets until there are `len`; where there are as many or more, nothing changes. They take no node, and the memory for all
+    /// their handles is taken once.
+    ///
+    /// # Errors
+    ///
+    /// `AllocError` where memory for the handles was refused; nothing has changed then.
+    pub fn grow_to(&mut self, len: usize) -> Result<(), AllocError>
+        ensures count { OnOk result (count self.new ≡ count self.old + (len - count self.old)) }
+        ensures keeps { KeepsAll self.old self.new }
+        ensures table { table self.new ≡ table self.old }
+        ensures refused { OnErr result (self.new ≡ self.old) }
+    {
+        add_empty(&mut self.sets, len)
+    }
+
+    /// Removes all keys of all sets, whose number stays. The table has no slot then, and its limit stays; its memory is kept for later
+    /// slots. Visits each handle once and no node.
+    pub fn clear_all(&mut self)
+        ensures { ClearsAll self.old self.new }
+    {
+        empty_all(&mut self.sets);
+        self.forest.clear();
+    }
+
+    /// Exchanges two sets, which may be one. Constant time: no key moves.
+    pub fn swap(&mut self, i: usize, j: usize)
+        requires first { i < count self.old }
+        requires second { j < count self.old }
+        ensures { Swaps self.old i j self.new }
+    {
+        self.sets.swap(i, j);
+    }
+
+    /// Returns whether a set has a key that compares equal to `key`. One search, as [`bforest::Set::contains`] makes.
+    pub fn contains(&self, index: usize, key: K) -> bool
+        requires within { index < count self.now }
+        ensures present { result ≡ is_present (C.order (comparator self.now)) (entries self.now index) key }
+    {
+        self.sets[index].contains(key, &self.forest, &self.order)
+    }
+
+    /// Returns the last key that is not greater than `key`, as it is stored, or `None` where each key is greater. One search.
+    pub fn get_or_less(&self, index: usize, key: K) -> Option<K>
+        requires within { index < count self.now }
+        ensures key { result ≡ option_map (λ e. e.0)
+            (entry_at_most (C.order (comparator self.now)) (entries self.now index) key) }
+    {
+        self.sets[index].get_or_less(key, &self.forest, &self.order)
+    }
+
+    /// Returns the first key that is not less than `key`, as it is stored, or `None` where each key is less. One search.
+    pub fn get_or_greater(&self, index: usize, key: K) -> Option<K>
+        requires within { index < count self.now }
+        ensures key { result ≡ option_map (λ e. e.0)
+            (entry_at_least (C.order (comparator self.now)) (entries self.now index) key) }
+    {
+        self.sets[index].get_or_greater(key, &self.forest, &self.order)
+    }
+
+    /// Returns the first key of a set, or `None` where it is empty. Visits one node of each level. No comparison.
+    pub fn first(&self, index: usize) -> Option<K>
+        requires within { index < count self.now }
+        ensures key { result ≡ slice_get (keys self.now index) 0 }
+    {
+        self.sets[index].first(&self.forest)
+    }
+
+    /// Returns the last key of a set, or `None` where it is empty. Visits one node of each level. No comparison.
+    pub fn last(&self, index: usize) -> Option<K>
+        requires within { index < count self.now }
+        ensures key { result ≡ slice_get (keys self.now index) (length (keys self.now index) - 1) }
+    {
+        self.sets[index].last(&self.forest)
+    }
+
+    /// Inserts a key and returns whether it was absent, as [`bforest::Set::insert`] does: a stored key that compares equal stays. One
+    /// search, and at most one node more than [`Sets::levels`].
+    ///
+    /// # Errors
+    ///
+    /// [`OutOfMemory`] where the key is absent and too few nodes are available; nothing has changed then.
+    pub fn insert(&mut self, index: usize, key: K) -> Result<bool, OutOfMemory>
+        requires within { index < count self.old }
+        ensures { InsertsAt 15 (C.order (comparator self.old)) self.old index key the_value (as_put result)
+            self.new }
+    {
+        self.sets[index].insert(key, &mut self.forest, &self.order)
+    }
+
+    /// Inserts a key and returns whether it was absent, exactly as [`Sets::insert`] does.
+    ///
+    /// # Errors
+    ///
+    /// Those of [`Sets::insert`].
+    pub fn try_insert(&mut self, index: usize, key: K) -> Result<bool, OutOfMemory>
+        requires within { index < count self.old }
+        ensures { InsertsAt 15 (C.order (comparator self.old)) self.old index key the_value (as_put result)
+            self.new }
+    {
+        self.insert(index, key)
+    }
+
+    /// Removes the key that compares equal to `key` and returns whether there was one; where there was none, nothing changes. One search,
+    /// and no memory is taken.
+    pub fn remove(&mut self, index: usize, key: K) -> bool
+        requires within { index < count self.old }
+        ensures { RemovesAt 15 (C.order (comparator self.old)) self.old index key (as_removed result) self.new }
+    {
+        self.sets[index].remove(key, &mut self.forest, &self.order)
+    }
+
+    /// Removes the first key of a set and returns it, or returns `None` and changes nothing where the set is empty. No comparison, and no
+    /// memory is taken.
+    pub fn pop_first(&mut self, index: usize) -> Option<K>
+        requires within { index < count self.old }
+        ensures { PopsAt 15 self.old index 0 (as_popped result) self.new }
+    {
+        self.sets[index].pop_first(&mut self.forest)
+    }
+
+    /// Removes the last key of a set and returns it, or returns `None` and changes nothing where the set is empty. No comparison, and no
+    /// memory is taken.
+    pub fn pop_last(&mut self, index: usize) -> Option<K>
+        requires within { index < count self.old }
+        ensures { PopsAt 15 self.old index (length (entries self.old index) - 1) (as_popped result) self.new }
+    {
+        self.sets[index].pop_last(&mut self.forest)
+    }
+
+    /// Removes all keys of a set, whose nodes are free then. Visits each node of its tree once. No comparison, no memory.
+    pub fn clear(&mut self, index: usize)
+        requires within { index < count self.old }
+        ensures { ClearsAt self.old index self.new }
+    {
+        self.sets[index].clear(&mut self.forest);
+    }
+
+    /// Keeps the keys for which the predicate returns `true`, and removes all others. It is asked once for each key, in order. No
+    /// comparison, no memory.
+    pub fn retain<F: FnMut(K) -> bool>(&mut self, index: usize, predicate: F)
+        requires within { index < count self.old }
+        requires callable { MayAskEach (AnswersKey F.FnMut) (MayAskKey F.FnMut) predicate
+            (entries self.old index) }
+        ensures { FiltersAt 15 (AnswersKey F.FnMut) predicate self.old index self.new }
+    {
+        self.sets[index].retain(&mut self.forest, predicate);
+    }
+
+    /// Returns how many levels of nodes a set's tree has: 0 where it is empty, and never more than 17. Visits one node of each level.
+    pub fn levels(&self, index: usize) -> usize
+        requires within { index < count self.now }
+        ensures count { result ≡ length (node_sizes self.now index) }
+        ensures most { result ≤ 17 }
+        ensures depth { 2 ≤ result → 2 * 4 ^ (result - 1) < length (entries self.now index) }
+        ensures leaves { length (first_level (node_sizes self.now index))
+            ≤ (length (entries self.now index) + 7) / 8 }
+    {
+        self.sets[index].levels(&self.forest)
+    }
+
+    /// Returns an iterator over the keys of a set, in order. Visits one node of each level, and then each leaf once. No comparison.
+    #[inline(always)]
+    pub fn iter(&self, index: usize) -> SetIter<'_, K>
+        requires within { index < count self.now }
+        ensures keys { result ≡ keys self.now index }
+        ensures ready { IsSetReadable K.row }
+    {
+        self.sets[index].iter(&self.forest)
+    }
+
+    /// Returns a double-ended iterator over the keys of a set within both bounds, in order. Two searches; the steps compare nothing.
+    pub fn range(&self, index: usize, bounds: (Bound<K>, Bound<K>)) -> SetRange<'_, K, C>
+        requires within { index < count self.now }
+        ensures keys { result ≡ keys_of (entries_between (C.order (comparator self.now)) bounds.0 bounds.1
+            (entries self.now index)) }
+        ensures ready { IsSetReadable K.row }
+    {
+        self.sets[index].range(bounds, &self.forest, &self.order)
+    }
+
+    /// Returns how many slots the table has, which is the number of nodes in use and of free ones. Constant time.
+    pub fn slots(&self) -> u32
+        ensures count { result ≡ slots_of (table self.now) }
+        ensures within { slots_of (table self.now) ≤ limit_of (table self.now) }
+    {
+        self.forest.slots()
+    }
+
+    /// Returns how many slots are free. Constant time.
+    pub fn free_slots(&self) -> u32
+        ensures count { result ≡ free_of (table self.now) }
+    {
+        self.forest.free_slots()
+    }
+
+    /// Returns how many slots the table may have. Constant time.
+    pub fn node_limit(&self) -> u32
+        ensures limit { result ≡ limit_of (table self.now) }
+    {
+        self.forest.node_limit()
+    }
+
+    /// Makes sure that `n` slots are free, as [`bforest::SetForest::reserve_nodes`] does: insertions that need no more nodes in all can't
+    /// be refused then. Where so many are free already, nothing changes and no memory is taken.
+    ///
+    /// # Errors
+    ///
+    /// [`OutOfMemory`] where so many slots can't be had; nothing has changed then.
+    pub fn reserve_nodes(&mut self, n: u32) -> Result<(), OutOfMemory>
+        ensures reserves { Reserves (table self.old) n result (table self.new) }
+        ensures keeps { KeepsAll self.old self.new }
+        ensures count { count self.new ≡ count self.old }
+    {
+        self.forest.reserve_nodes(n)
+    }
+}
