@@ -1,7 +1,7 @@
 -- Each step of a script, and each call of a list, leaves a forest that adds up where it began with one.
 use Rattle.bforest_calls.proofs.Accounts.{clears-add, filters-add, inserts-add, none-adds, removes-add, removes-at-add, still, writes-add}
-use Rattle.bforest_calls.specs.Machine.{Lacks, Offered, Orders, State, Step, held_at, list_in, number_at, order_at}
-use Rattle.bforest_calls.specs.State.{Acts, Edits, Held, KeepsIf, Script, StillAddsUp}
+use Rattle.bforest_calls.specs.Machine.{Lacks, Orders, State, Step, held_at, number_at, order_at}
+use Rattle.bforest_calls.specs.State.{Acts, Held, KeepsIf, Script, StillAddsUp}
 use Rattle.bforest_calls.specs.declared.call.Act.TheVariants as act
 use Rattle.bforest_calls.specs.declared.call.Act.{Act}
 use Rattle.bforest_calls.specs.declared.call.Answer.TheVariants as answer
