@@ -6,7 +6,8 @@ use Rattle.bforest.specs.Cursor.{Goes, IsCursor, Moves, Writes, comparator, entr
 use Rattle.bforest.specs.Entries.{with_value}
 use Rattle.bforest.specs.Forest.{Becomes, Forest, IsFitFor, IsLive, free_of, limit_of, list_of, sizes_of, slots_of}
 use Rattle.bforest.specs.Refusal.{OutOfMemory}
-use Rattle.bforest.specs.Room.{Balances, node_count}
+use Rattle.bforest.proofs.Balances.{Balances}
+use Rattle.bforest.specs.Room.{node_count}
 use Rattle.bforest.specs.declared.map_cursor_mut.MapCursorMut.{MapCursorMut}
 use Rattle.bforest_indexed.specs.Edits.{Edits}
 use Rattle.std.proofs.Common.{Err, List, Ok, Option, Result, ap, arith, length, refl, subst, sym, ◌%◌, ◌+◌, ◌∙◌, ◌≡◌, ◌≤◌, ℕ}
@@ -51,8 +52,10 @@ module _ {K X C : Type 0} {most : ℕ} {order : C → K → K → Ordering} {c :
     forest_loan = refl;
     comparator = refl;
     valid = valid;
-    becomes = becomes-none (forest_now c) (map_now c) valid.live;
-    balances = λ fit. same-balance most (forest_now c) (forest_now c) (map_now c) (map_now c) fit refl refl;
+    leaves = record {
+      becomes = becomes-none (forest_now c) (map_now c) valid.live;
+      balances = λ fit. same-balance most (forest_now c) (forest_now c) (map_now c) (map_now c) fit refl refl;
+    };
   }
 
   module _ {d e : MapCursorMut K X C} (before : Edits most order c d) where
@@ -64,8 +67,10 @@ module _ {K X C : Type 0} {most : ℕ} {order : C → K → K → Ordering} {c :
       forest_loan = step.forest_loan ∙ before.forest_loan;
       comparator = step.comparator ∙ before.comparator;
       valid = step.valid;
-      becomes = becomes-both (forest_now c) (forest_now d) (forest_now e) (map_now c) (map_now d) (map_now e) (entries d) (entries e) before.becomes becomes;
-      balances = λ fit. balances-both (before.balances fit) (balances (before.balances fit).fit);
+      leaves = record {
+        becomes = becomes-both (forest_now c) (forest_now d) (forest_now e) (map_now c) (map_now d) (map_now e) (entries d) (entries e) before.leaves.becomes becomes;
+        balances = λ fit. balances-both (before.leaves.balances fit) (balances (before.leaves.balances fit).fit);
+      };
     }
 
     -- the cursor moved

@@ -226,6 +226,7 @@ module _ {K X C : Type 0} where
           record {
             ok = call.ok;
             put = list-here a within call.put;
+            increasing = a.increasing i;
             beside = changes a within call.put;
             sizes = ap (sizes_of f') (here a within call.put) ∙ call.sizes;
             account = call.account;
@@ -241,6 +242,7 @@ module _ {K X C : Type 0} where
           record {
             ok = tt;
             put = tt;
+            increasing = a.increasing i;
             beside = changes-not m (with_tree m i f' h') i same;
             sizes = tt;
             account = tt;
@@ -263,6 +265,7 @@ module _ {K X C : Type 0} where
         record {
           value = call.value;
           cut = list-here a within call.cut;
+          increasing = a.increasing i;
           beside = changes a within call.cut;
           sizes = ap (sizes_of f') (here a within call.cut) ∙ call.sizes;
           account = subst (λ q. Gives (node_sizes m i) (sizes_of f' q) (table m) f') (sym (here a within call.cut)) call.account;

@@ -5,7 +5,7 @@ use Rattle.bforest.specs.Forest.{Forest, Gives, IsLive, IsTooMany, NeedsGrowth, 
 use Rattle.bforest.specs.Refusal.{Full, Memory, OutOfMemory}
 use Rattle.bforest.specs.Retain.{Retains}
 use Rattle.std.specs.Map.{keys_of}
-use Rattle.std.specs.Prelude.{Bool, Err, IfOk, IsOk, IsSome, List, None, Ok, OnErr, OnOk, Option, Result, Some, [], get_or, if◌then◌else◌, length, nat_lt, remove, slice_get, unwrap_or, ◌↔◌, ◌≡◌, ◌≢◌, ◌≤◌, ℕ}
+use Rattle.std.specs.Prelude.{Bool, Err, IfOk, IsOk, IsSome, List, None, Ok, OnErr, OnOk, Option, Result, Some, [], get_or, if◌then◌else◌, length, map, nat_lt, remove, slice_get, unwrap_or, ◌↔◌, ◌≡◌, ◌≢◌, ◌≤◌, ℕ}
 use Rattle.std.specs.declared.cmp.Ordering.{Ordering}
 
 -- the answer of an insertion of an absent key, from that of a call that answers the value
@@ -39,6 +39,10 @@ module _ {K X C : Type 0} where
   -- the list of an index
   abbrev pub entries : Indexed K X C → ℕ → List (K × X)
   entries m i = list_of (table m) (handle m i)
+
+  -- the lists of all indices
+  abbrev pub lists : Indexed K X C → List (List (K × X))
+  lists m = map (list_of (table m)) m.handles
 
   -- the keys of an index
   abbrev pub keys : Indexed K X C → ℕ → List K
@@ -111,12 +115,13 @@ module _ {K X C : Type 0} where
     pub account : Gives (node_sizes m i) (node_sizes m' i) (table m) (table m')
     pub end : length (entries m i) ≤ place → m' ≡ m
 
-  -- `most` is the number of entries that a leaf has at most
+  -- `most` is the number of entries that a leaf has at most; `increasing` says that the list of i did before
   module _ (most : ℕ) (cmp : K → K → Ordering) where
     -- x was inserted at the key k of i, or replaced the value there, which is answered; or the call was refused, and nothing changed
     pub record InsertsAt (m : Indexed K X C) (i : ℕ) (k : K) (x : X) (result : Result (Option X) OutOfMemory) (m' : Indexed K X C) : Type 0 where
       pub ok : IfOk result (λ old. old ≡ value_for cmp (entries m i) k)
       pub put : OnOk result (entries m' i ≡ put cmp (entries m i) k x)
+      pub increasing : IsIncreasing cmp (entries m i)
       pub beside : ChangesAt m i m'
       pub sizes : OnOk result (node_sizes m' i ≡ sizes_with most cmp (table m) (handle m i) k)
       pub account : OnOk result (Takes (need_of most cmp (table m) (handle m i) k) (table m) (table m'))
@@ -130,6 +135,7 @@ module _ {K X C : Type 0} where
     pub record RemovesAt (m : Indexed K X C) (i : ℕ) (k : K) (result : Option X) (m' : Indexed K X C) : Type 0 where
       pub value : result ≡ value_for cmp (entries m i) k
       pub cut : entries m' i ≡ cut cmp (entries m i) k
+      pub increasing : IsIncreasing cmp (entries m i)
       pub beside : ChangesAt m i m'
       pub sizes : node_sizes m' i ≡ sizes_without most cmp (table m) (handle m i) k
       pub account : Gives (node_sizes m i) (node_sizes m' i) (table m) (table m')

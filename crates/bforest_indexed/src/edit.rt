@@ -1,10 +1,12 @@
 //! Work on one map by a writing cursor.
 ghost use Rattle.bforest.specs.Cursor.{IsCursor, entries};
+ghost use Rattle.bforest.specs.Entries.{IsIncreasing};
+ghost use Rattle.bforest.specs.Forest.{IsLive, list_of};
 ghost use Rattle.bforest.specs.Memory.{IsReadable};
-ghost use Rattle.bforest_indexed.specs.Edits.{Edits};
-ghost use Rattle.std.specs.Prelude.{List, ◌×◌};
+ghost use Rattle.bforest_indexed.specs.Edits.{Edits, Leaves};
+ghost use Rattle.std.specs.Prelude.{List};
 
-use bforest::{Comparator, MapCursorMut};
+use bforest::{Comparator, Map, MapCursorMut, MapForest};
 
 /// Work on one map by a writing cursor, which [`crate::Maps::edit`] lends for as long as the work takes.
 ///
@@ -15,7 +17,7 @@ pub trait Edit<K: Copy, V: Copy, C: Comparator<K>>: Drop {
     type Answer;
 
     // Whether the work on this list may give this answer and leave this list.
-    ghost leaves: { Self → List (K × V) → Answer → List (K × V) → Type 0 };
+    ghost leaves: { Self → List (K × V) → Self.Answer → List (K × V) → Type 0 };
 
     /// Does the work. The cursor stands at the end, behind the last entry.
     fn edit(self, cursor: &mut MapCursorMut<K, V, C>) -> Self::Answer
@@ -23,4 +25,21 @@ pub trait Edit<K: Copy, V: Copy, C: Comparator<K>>: Drop {
         requires ready { IsReadable K.row V.row }
         ensures edits { Edits 7 C.order cursor.old cursor.new }
         ensures leaves { leaves self (entries cursor.old) result (entries cursor.new) };
+}
+
+/// Lends a writing cursor of a map to some work, and returns what that answers.
+pub(crate) fn lend<K: Copy, V: Copy, C: Comparator<K>, E: Edit<K, V, C>>(
+    map: &mut Map<K, V>,
+    forest: &mut MapForest<K, V>,
+    order: &C,
+    edit: E,
+) -> E::Answer
+    requires live { IsLive forest.old map.old }
+    requires increasing { IsIncreasing (C.order order.now) (list_of forest.old map.old) }
+    ensures answer { E.leaves edit (list_of forest.old map.old) result (list_of forest.new map.new) }
+    ensures leaves { Leaves 7 forest.old map.old forest.new map.new }
+    ensures increasing { IsIncreasing (C.order order.now) (list_of forest.new map.new) }
+{
+    let mut cursor = map.cursor_mut(forest, order);
+    edit.edit(&mut cursor)
 }

@@ -4,10 +4,12 @@
 //! order. A call asks for nothing but an index that is there.
 #![tactic(auto)]
 
+mod edit;
 mod handles;
 mod maps;
 mod sets;
 
 pub use bforest::{Comparator, OutOfMemory};
+pub use edit::Edit;
 pub use maps::Maps;
 pub use sets::Sets;

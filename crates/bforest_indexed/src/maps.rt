@@ -5,11 +5,13 @@ ghost use Rattle.bforest.specs.Entries.{value_for};
 ghost use Rattle.bforest.specs.Forest.{empty, first_level, free_of, limit_of, slots_of};
 ghost use Rattle.bforest.specs.Memory.{IsReadable};
 ghost use Rattle.bforest.specs.Retain.{Answers, MayAsk, MayAskEach};
+ghost use Rattle.bforest_indexed.specs.Edits.{EditsAt};
 ghost use Rattle.bforest_indexed.specs.Indexed.{ClearsAll, ClearsAt, FiltersAt, GetsOrInsertsAt, InsertsAt};
 ghost use Rattle.bforest_indexed.specs.Indexed.{KeepsAll, PopsAt, RemovesAt, Swaps};
 ghost use Rattle.bforest_indexed.specs.Indexed.{comparator, count, entries, node_sizes, table};
 ghost use Rattle.std.specs.Prelude.{IfOk, IsTrue, OnErr, OnOk, length, slice_get, ◌+◌, ◌-◌, ◌/◌, ◌<◌, ◌^◌, ◌↔◌, ◌≡◌, ◌≤◌};
 
+use crate::edit::{Edit, lend};
 use crate::handles::{add_empty, empty_all};
 use bforest::{Comparator, Map, MapCursor, MapForest, MapIter, MapRange, OutOfMemory};
 use std::alloc::{AllocError, Global};
@@ -300,8 +302,7 @@ impl<K: Copy, V: Copy, C: Comparator<K>> Maps<K, V, C> {
         requires within { index < count self.old }
         ensures { EditsAt (E.leaves edit) self.old index result self.new }
     {
-        let mut cursor = self.maps[index].cursor_mut(&mut self.forest, &self.order);
-        edit.edit(&mut cursor)
+        lend(&mut self.maps[index], &mut self.forest, &self.order, edit)
     }
 
     /// Returns how many slots the table has, which is the number of nodes in use and of free ones. Constant time.
