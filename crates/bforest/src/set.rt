@@ -116,10 +116,7 @@ impl<K: Copy> Set<K> {
         ensures key { result ≡ option_map (λ e. e.0)
             (entry_at_most (C.order comp.now) (list_of forest.now self.now) key) }
     {
-        match forest.trees.get_or_less(self.root, key, comp) {
-            Some(entry) => Some(entry.0),
-            None => None,
-        }
+        key_of(forest.trees.get_or_less(self.root, key, comp))
     }
 
     /// Returns the first key that is not less than `key`, as it is stored, or `None` where each key is less.
