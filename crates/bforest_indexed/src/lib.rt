@@ -6,6 +6,7 @@
 
 mod handles;
 mod maps;
+mod room;
 mod sets;
 
 pub use bforest::{Comparator, OutOfMemory};
