@@ -5,7 +5,7 @@ use Rattle.bforest.specs.Calls.{Clears, Filters, GetsOrInserts, Inserts, Pops, R
 use Rattle.bforest.specs.Entries.{IsIncreasing, is_present, value_for}
 use Rattle.bforest.specs.Forest.{Becomes, Forest, Gives, IsFitFor, IsLive, empty, free_of, limit_of, list_at, list_of, sizes_of, slots_of}
 use Rattle.bforest.specs.Refusal.{Full, OutOfMemory}
-use Rattle.bforest.specs.Retain.{Retains}
+use Rattle.bforest.specs.Retain.{MayAskEach, Retains}
 use Rattle.bforest.specs.Room.{node_count}
 use Rattle.bforest_indexed.proofs.Adding.{as-many, none-at, none-handles}
 use Rattle.bforest_indexed.proofs.Rooms.{has-room, may-have, sum-agree, sum-few, sum-same, sum-set}
@@ -215,7 +215,7 @@ module _ {K X C : Type 0} where
     pub read : h ≡ handle m i
     read = get_or_read m.handles i h within is None
 
-    -- what is so of the handle that was read is so of the index, and the other way round
+    -- what is so of the handle that was read is so of the index
     pub of-index : (P : Option ℕ → Type 0) → P h → P (handle m i)
     of-index P p = subst P read p
 
@@ -244,8 +244,10 @@ module _ {K X C : Type 0} where
     pub on-list : (P : List (K × X) → Type 0) → P (list_of (table m) h) → P (entries m i)
     on-list P p = subst P same-list p
 
-    pub of-read : (P : List (K × X) → Type 0) → P (entries m i) → P (list_of (table m) h)
-    of-read P p = subst (λ (q : Option ℕ). P (list_of (table m) q)) (sym read) p
+    -- what is asked of the list of the index is so of the list that was read
+    pub asked-read : {F : Type 0} {step : F → K → X → Bool → X → F → Type 0} {may : F → K → X → Type 0} {f : F} → MayAskEach step may f (entries m i)
+        → MayAskEach step may f (list_of (table m) h)
+    asked-read {step = step} {may = may} {f = f} p = subst (λ (es : List (K × X)). MayAskEach step may f es) (sym same-list) p
 
     pub live-read : IsLive (table m) h
     live-read = subst (λ (q : Option ℕ). IsLive (table m) q) (sym read) (a.live i)
