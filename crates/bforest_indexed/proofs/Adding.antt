@@ -1,6 +1,6 @@
 -- A list to which values that pass a test are added, one after another, and what that leaves of handles.
 use Rattle.bforest_indexed.specs.Handles.{Adds}
-use Rattle.std.proofs.Common.{Err, List, None, Ok, OnErr, OnOk, Option, Result, [], ap, get_or, length, refl, suc, sym, zero, ℕ, ◌++◌, ◌+◌, ◌∙◌, ◌∷◌, ◌≡◌}
+use Rattle.std.proofs.Common.{Err, List, None, Ok, OnErr, OnOk, Option, Result, [], ap, get_or, length, refl, rules, subst, suc, sym, zero, ℕ, ◌++◌, ◌+◌, ◌∙◌, ◌∷◌, ◌≡◌, ◌≤◌}
 use Rattle.std.proofs.lemmas.List.{append-nil, append_assoc, length-append}
 use Rattle.std.specs.List.{AllByRecursion}
 
@@ -19,6 +19,10 @@ module _ {H : Type 0} {passes : H → Type 0} (xs : List H) where
     count = length-append a.added (x ∷ []) ∙ ap (λ (i : ℕ). i + 1) a.count;
     items = is ∙ ap (λ (qs : List H). qs ++ x ∷ []) a.items ∙ append_assoc xs a.added (x ∷ []);
   }
+
+  -- all were added
+  pub adds-all : (ys : List H) (i more n : ℕ) → Adds passes xs i ys → more ≤ i → i ≤ more → more ≡ n → Adds passes xs n ys
+  adds-all ys i more n a all most is = subst (λ (k : ℕ). Adds passes xs k ys) (search rules) a
 
 -- no handle is there
 pub none-at : (i : ℕ) → get_or {A = Option ℕ} [] i None ≡ None

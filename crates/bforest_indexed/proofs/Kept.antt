@@ -1,16 +1,22 @@
 -- What a call on the tree of one index leaves of all trees.
+use Rattle.bforest.proofs.Balances.{Balances, clears-balance, filters-balance, inserts-balance, pops-balance, removes-balance}
 use Rattle.bforest.specs.Bounds.{entries_between, entry_at_least, entry_at_most}
-use Rattle.bforest.specs.Calls.{Clears, Filters, GetsOrInserts, Inserts, Pops, Removes}
+use Rattle.bforest.specs.Calls.{Clears, Filters, GetsOrInserts, Inserts, Pops, Removes, Reserves}
 use Rattle.bforest.specs.Entries.{IsIncreasing, is_present, value_for}
-use Rattle.bforest.specs.Forest.{Becomes, Forest, Gives, IsLive, Keeps, empty, limit_of, list_at, list_of, sizes_of}
-use Rattle.bforest.specs.Refusal.{OutOfMemory}
-use Rattle.bforest.specs.Retain.{Retains}
+use Rattle.bforest.specs.Forest.{Becomes, Forest, Gives, IsFitFor, IsLive, empty, free_of, limit_of, list_at, list_of, sizes_of, slots_of}
+use Rattle.bforest.specs.Refusal.{Full, OutOfMemory}
+use Rattle.bforest.specs.Retain.{MayAskEach, Retains}
+use Rattle.bforest.specs.Room.{node_count}
 use Rattle.bforest_indexed.proofs.Adding.{as-many, none-at, none-handles}
+use Rattle.bforest_indexed.proofs.Rooms.{has-room, may-have, sum-agree, sum-few, sum-same, sum-set}
 use Rattle.bforest_indexed.specs.Handles.{Adds}
+use Rattle.bforest_indexed.specs.Edits.{EditsAt, Leaves}
 use Rattle.bforest_indexed.specs.Indexed.{AreKept, ChangesAt, ClearsAll, ClearsAt, FiltersAt, GetsOrInsertsAt, Indexed, InsertsAt, KeepsAll, PopsAt, RemovesAt, Swaps}
-use Rattle.bforest_indexed.specs.Indexed.{as_inserted, count, entries, handle, node_sizes, table}
-use Rattle.std.proofs.Common.{Bool, Err, IsSome, List, None, Ok, OnErr, Option, Result, Some, [], ap, get_or, inl, inr, length, refl, rules, slice_set, subst, sym, ℕ, ◌-◌, ◌<◌, ◌∙◌, ◌≡◌, ◌≢◌}
-use Rattle.std.proofs.lemmas.Bool.Decides.{eqb_tells}
+use Rattle.bforest_indexed.specs.Indexed.{as_inserted, count, entries, handle, node_sizes, nodes_in_use, table}
+use Rattle.std.proofs.Common.{Bool, Err, IsOk, IsSome, List, None, Ok, OnErr, Option, Result, Some, [], ap, arith, get_or, inl, inr, length, refl, rules, slice_set, subst, swap, sym, ℕ, ◌%◌, ◌+◌, ◌-◌, ◌<◌, ◌∙◌, ◌≡◌, ◌≢◌, ◌≤◌}
+use Rattle.std.proofs.lemmas.Bool.{false≢true}
+use Rattle.std.proofs.lemmas.Bool.Decides.{eqb_tells, leb_tells}
+use Rattle.std.proofs.lemmas.List.Sorted.{IsPermutation-swap, sum_by-IsPermutation}
 use Rattle.std.proofs.lemmas.List.{get_or-set_other, get_or-set_same, get_or_read, length-set, set-get_or}
 use Rattle.std.specs.List.{SwappedAt}
 use Rattle.std.specs.List.Sorted.{IsStrictlySortedBy}
@@ -24,6 +30,19 @@ nothing-increases K X cmp = search rules
 
 none-some : {A : Type 0} (y : A) → None ≢ Some y
 none-some y = λ e. cc
+
+ok-err : {A E : Type 0} (x : A) (y : E) → Ok x ≢ Err y
+ok-err x y = λ e. cc
+
+inserted-ok : {A : Type 0} (r : Result A OutOfMemory) → IsOk (as_inserted r) → IsOk r
+inserted-ok (Ok x) ok = refl
+inserted-ok (Err e) ok = ok
+
+ok-full : {A : Type 0} (r : Result A OutOfMemory) → IsOk r → r ≢ Err Full
+ok-full r ok full = absurd (false≢true (subst (λ q. IsOk q) full ok))
+
+not-both : {a b : ℕ} → a < b → b ≤ a → ⊥
+not-both less more = absurd (omega (arith, less, more))
 
 not-some : (A : Type 0) → IsSome {T = A} None → ⊥
 not-some A some = search rules
@@ -42,32 +61,51 @@ module _ {K X : Type 0} {f f' : Forest K X} {h h' : Option ℕ} {es : List (K ×
   sizes_beside None ne live = refl
   sizes_beside (Some n) ne live = b.others_sizes n (ne n refl) (not_new n live (ne n refl))
 
+-- the slots that were added are free
+still-accounted : {K X : Type 0} (f f' : Forest K X) (n : ℕ) (r : Result (Unit {0}) OutOfMemory) (nodes : ℕ) → Reserves f n r f' → slots_of f ≡ free_of f + nodes
+    → slots_of f' ≡ free_of f' + nodes
+still-accounted f f' n (Err e) nodes given account = rw given.refused account
+still-accounted f f' n (Ok done) nodes given account = elim (leb_tells n (free_of f)) [
+  | inl w ↦ rw (given.same w.1) account
+  | inr w ↦ omega (arith, given.slots, given.grown w.1, w.1, account)
+]
+
 live_beside : {K X : Type 0} (f f' : Forest K X) (q : Option ℕ) → list_of f' q ≡ list_of f q → IsLive f q → IsLive f' q
 live_beside f f' None same live = tt
 live_beside f f' (Some n) same live = subst (λ es. es ≢ []) (sym same) live
 
+-- the number of nodes of a handle's tree
+abbrev nodes_of : {K X : Type 0} → Forest K X → Option ℕ → ℕ
+nodes_of f h = node_count (sizes_of f h)
+
 module _ {K X C : Type 0} where
   -- no index has a tree, and the forest has none
-  kept-empty : {cmp : K → K → Ordering} (m : Indexed K X C) (n : ℕ) → table m ≡ empty n → ((i : ℕ) → handle m i ≡ None) → AreKept cmp m
-  kept-empty {cmp} m n forest none = record {
+  kept-empty : {most : ℕ} {cmp : K → K → Ordering} → most % 2 ≡ 1 → (m : Indexed K X C) (n : ℕ) → table m ≡ empty n → ((i : ℕ) → handle m i ≡ None) → AreKept most cmp m
+  kept-empty {most} {cmp} odd m n forest none = record {
+    odd = odd;
     live = λ i. subst (λ (q : Option ℕ). IsLive (table m) q) (sym (none i)) tt;
     increasing = λ i. subst (λ (q : Option ℕ). IsIncreasing cmp (list_of (table m) q)) (sym (none i)) (nothing-increases K X cmp);
     apart = λ i j n d e. absurd (none-some n (sym (none i) ∙ d));
+    fit = λ i. subst (λ (q : Option ℕ). IsFitFor most (length (list_of (table m) q)) (sizes_of (table m) q)) (sym (none i)) refl;
+    account = omega (arith, ap slots_of forest, ap free_of forest, sum-few (nodes_of (table m)) None 0 m.handles (λ i. omega (arith, ap (nodes_of (table m)) (none i))));
   }
 
   -- there is no index
-  pub kept-none : {cmp : K → K → Ordering} (f : Forest K X) (o : C) (hs : List (Option ℕ)) (n : ℕ) → f ≡ empty n → hs ≡ []
-      → AreKept cmp (record { forest = f; order = o; handles = hs })
-  kept-none f o hs n forest is = kept-empty (record { forest = f; order = o; handles = hs }) n forest
+  pub kept-none : {most : ℕ} {cmp : K → K → Ordering} → most % 2 ≡ 1 → (f : Forest K X) (o : C) (hs : List (Option ℕ)) (n : ℕ) → f ≡ empty n → hs ≡ []
+      → AreKept most cmp (record { forest = f; order = o; handles = hs })
+  kept-none odd f o hs n forest is = kept-empty odd (record { forest = f; order = o; handles = hs }) n forest
       (λ i. ap (λ (qs : List (Option ℕ)). get_or qs i None) is ∙ none-at i)
 
   -- each index has the same handle
-  pub kept-same : {cmp : K → K → Ordering} (m : Indexed K X C) (qs : List (Option ℕ)) → ((i : ℕ) → get_or qs i None ≡ handle m i)
-      → AreKept cmp m → AreKept cmp (record m { handles = qs })
-  kept-same {cmp} m qs same a = record {
+  pub kept-same : {most : ℕ} {cmp : K → K → Ordering} (m : Indexed K X C) (qs : List (Option ℕ)) → ((i : ℕ) → get_or qs i None ≡ handle m i)
+      → AreKept most cmp m → AreKept most cmp (record m { handles = qs })
+  kept-same {most} {cmp} m qs same a = record {
+    odd = a.odd;
     live = λ i. subst (λ (q : Option ℕ). IsLive (table m) q) (sym (same i)) (a.live i);
     increasing = λ i. subst (λ (q : Option ℕ). IsIncreasing cmp (list_of (table m) q)) (sym (same i)) (a.increasing i);
     apart = λ i j n d e. a.apart i j n (sym (same i) ∙ d) (sym (same j) ∙ e);
+    fit = λ i. subst (λ (q : Option ℕ). IsFitFor most (length (list_of (table m) q)) (sizes_of (table m) q)) (sym (same i)) (a.fit i);
+    account = omega (arith, a.account, sum-agree (nodes_of (table m)) None refl m.handles qs same);
   }
 
   pub keeps-same : (m : Indexed K X C) (qs : List (Option ℕ)) → ((i : ℕ) → get_or qs i None ≡ handle m i) → KeepsAll m (record m { handles = qs })
@@ -100,7 +138,7 @@ module _ {K X C : Type 0} where
     same_limit = refl;
   })
 
-  module _ {cmp : K → K → Ordering} {m : Indexed K X C} {i : ℕ} {f' : Forest K X} {h' : Option ℕ} {es : List (K × X)} (a : AreKept cmp m) (within : i < count m) (b : Becomes (table m) (handle m i) f' h' es) where
+  module _ {most : ℕ} {cmp : K → K → Ordering} {m : Indexed K X C} {i : ℕ} {f' : Forest K X} {h' : Option ℕ} {es : List (K × X)} (a : AreKept most cmp m) (within : i < count m) (b : Becomes (table m) (handle m i) f' h' es) where
     abbrev new : Indexed K X C
     new = with_tree m i f' h'
 
@@ -128,8 +166,9 @@ module _ {K X C : Type 0} where
     at-i : (j : ℕ) → j ≡ i → handle new j ≡ h'
     at-i j e = ap (handle new) e ∙ here
 
-    kept-set : IsIncreasing cmp (list_of f' h') → AreKept cmp new
-    kept-set increasing = record {
+    kept-set : IsIncreasing cmp (list_of f' h') → Balances most (table m) (handle m i) f' h' → AreKept most cmp new
+    kept-set increasing made = record {
+      odd = a.odd;
       live = λ j. elim (eqb_tells j i) [
         | inl w ↦ subst (λ (q : Option ℕ). IsLive f' q) (sym (at-i j w.1)) b.live
         | inr w ↦ subst (λ (q : Option ℕ). IsLive f' q) (sym (there j w.1))
@@ -149,6 +188,18 @@ module _ {K X C : Type 0} where
           | inr v ↦ a.apart j k n (sym (there j w.1) ∙ d) (sym (there k v.1) ∙ e)
         ]
       ];
+      fit = λ j. elim (eqb_tells j i) [
+        | inl w ↦ subst (λ (q : Option ℕ). IsFitFor most (length (list_of f' q)) (sizes_of f' q)) (sym (at-i j w.1)) made.fit
+        | inr w ↦ subst (λ (xs : List (K × X)). IsFitFor most (length xs) (node_sizes new j)) (sym (list-there j w.1))
+            (subst (λ s. IsFitFor most (length (entries m j)) s) (sym (sizes-there j w.1)) (a.fit j))
+      ];
+      account = omega (
+        arith,
+        a.account,
+        made.nodes,
+        sum-set (nodes_of (table m)) (nodes_of f') None m.handles i h' within
+            (λ j ne. ap node_count (sizes_beside b (handle m j) (λ n e. apart_at j n ne e) (a.live j))),
+      );
     }
 
     changes : ChangesAt m i new
@@ -160,12 +211,12 @@ module _ {K X C : Type 0} where
       same_limit = b.limit;
     }
 
-  module _ {cmp : K → K → Ordering} {m : Indexed K X C} {i : ℕ} {h : Option ℕ} (a : AreKept cmp m) (within : i < count m) (is : h ≡ get_or m.handles i h) where
+  module _ {most : ℕ} {cmp : K → K → Ordering} {m : Indexed K X C} {i : ℕ} {h : Option ℕ} (a : AreKept most cmp m) (within : i < count m) (is : h ≡ get_or m.handles i h) where
     -- the handle that was read is that of the index
     pub read : h ≡ handle m i
     read = get_or_read m.handles i h within is None
 
-    -- what is so of the handle that was read is so of the index, and the other way round
+    -- what is so of the handle that was read is so of the index
     pub of-index : (P : Option ℕ → Type 0) → P h → P (handle m i)
     of-index P p = subst P read p
 
@@ -194,8 +245,10 @@ module _ {K X C : Type 0} where
     pub on-list : (P : List (K × X) → Type 0) → P (list_of (table m) h) → P (entries m i)
     on-list P p = subst P same-list p
 
-    pub of-read : (P : List (K × X) → Type 0) → P (entries m i) → P (list_of (table m) h)
-    of-read P p = subst (λ (q : Option ℕ). P (list_of (table m) q)) (sym read) p
+    -- what is asked of the list of the index is so of the list that was read
+    pub asked-read : {F : Type 0} {step : F → K → X → Bool → X → F → Type 0} {may : F → K → X → Type 0} {f : F} → MayAskEach step may f (entries m i)
+        → MayAskEach step may f (list_of (table m) h)
+    asked-read {step = step} {may = may} {f = f} p = subst (λ (es : List (K × X)). MayAskEach step may f es) (sym same-list) p
 
     pub live-read : IsLive (table m) h
     live-read = subst (λ (q : Option ℕ). IsLive (table m) q) (sym read) (a.live i)
@@ -206,9 +259,10 @@ module _ {K X C : Type 0} where
     pub ordered-read : IsLive (table m) h × IsIncreasing cmp (list_of (table m) h)
     ordered-read = (live-read, increasing-read)
 
-    pub cleared-at : {f' : Forest K X} {h' : Option ℕ} → Clears (table m) h f' h' → AreKept cmp (with_tree m i f' h') × ClearsAt m i (with_tree m i f' h')
+    pub cleared-at : {f' : Forest K X} {h' : Option ℕ} → Clears (table m) h f' h' → AreKept most cmp (with_tree m i f' h') × ClearsAt m i (with_tree m i f' h')
     cleared-at {f'} {h'} given = let call = subst (λ (q : Option ℕ). Clears (table m) q f' h') read given in (
-      kept-set a within call.cleared (subst (λ (xs : List (K × X)). IsIncreasing cmp xs) (sym call.cleared.list) (nothing-increases K X cmp)),
+      kept-set a within call.cleared (subst (λ (xs : List (K × X)). IsIncreasing cmp xs) (sym call.cleared.list) (nothing-increases K X cmp))
+          (clears-balance most a.odd (table m) f' (handle m i) h' (a.fit i) call),
       record {
         cleared = list-here a within call.cleared;
         beside = changes a within call.cleared;
@@ -217,12 +271,12 @@ module _ {K X C : Type 0} where
       },
     )
 
-    module _ {most : ℕ} {f' : Forest K X} {h' : Option ℕ} where
+    module _ {f' : Forest K X} {h' : Option ℕ} where
       module _ {k : K} {x : X} where
         put-here : (r : Result (Option X) OutOfMemory) → Inserts most cmp (table m) (handle m i) k x r f' h'
-            → AreKept cmp (with_tree m i f' h') × InsertsAt most cmp m i k x r (with_tree m i f' h')
+            → AreKept most cmp (with_tree m i f' h') × InsertsAt most cmp m i k x r (with_tree m i f' h')
         put-here (Ok old) call = (
-          kept-set a within call.put call.increasing,
+          kept-set a within call.put call.increasing (inserts-balance most a.odd (table m) f' (handle m i) h' (a.fit i) cmp k x (Ok old) call),
           record {
             ok = call.ok;
             put = list-here a within call.put;
@@ -235,10 +289,12 @@ module _ {K X C : Type 0} where
             succeeds = call.succeeds;
             absent = tt;
             refused = tt;
+            room = λ lists most_entries stays room. refl;
+            never_full = λ lists most_entries stays room is. absurd (ok-err old Full is);
           },
         )
         put-here (Err refused) call = let same = unchanged m i f' h' call.refused_forest call.refused_handle in (
-          subst (AreKept cmp) (sym same) a,
+          subst (AreKept most cmp) (sym same) a,
           record {
             ok = tt;
             put = tt;
@@ -251,17 +307,19 @@ module _ {K X C : Type 0} where
             succeeds = call.succeeds;
             absent = call.absent;
             refused = same;
+            room = λ lists most_entries stays room. call.succeeds (has-room a i within k lists most_entries stays room);
+            never_full = λ lists most_entries stays room is. not-both (call.full.0 is) (may-have a i within k lists most_entries stays room);
           },
         )
 
         pub put-at : {r : Result (Option X) OutOfMemory} → Inserts most cmp (table m) h k x r f' h'
-            → AreKept cmp (with_tree m i f' h') × InsertsAt most cmp m i k x r (with_tree m i f' h')
+            → AreKept most cmp (with_tree m i f' h') × InsertsAt most cmp m i k x r (with_tree m i f' h')
         put-at {r} call = put-here r (subst (λ (q : Option ℕ). Inserts most cmp (table m) q k x r f' h') read call)
 
       pub removed-at : {k : K} {r : Option X} → Removes most cmp (table m) h k r f' h'
-          → AreKept cmp (with_tree m i f' h') × RemovesAt most cmp m i k r (with_tree m i f' h')
+          → AreKept most cmp (with_tree m i f' h') × RemovesAt most cmp m i k r (with_tree m i f' h')
       removed-at {k} {r} given = let call = subst (λ (q : Option ℕ). Removes most cmp (table m) q k r f' h') read given in (
-        kept-set a within call.cut call.increasing,
+        kept-set a within call.cut call.increasing (removes-balance most a.odd (table m) f' (handle m i) h' (a.fit i) cmp k r call),
         record {
           value = call.value;
           cut = list-here a within call.cut;
@@ -274,9 +332,9 @@ module _ {K X C : Type 0} where
       )
 
       pub filtered-at : {F : Type 0} {step : F → K → X → Bool → X → F → Type 0} {q : F} → Filters most step (table m) h q f' h'
-          → AreKept cmp (with_tree m i f' h') × FiltersAt most step q m i (with_tree m i f' h')
+          → AreKept most cmp (with_tree m i f' h') × FiltersAt most step q m i (with_tree m i f' h')
       filtered-at {F} {step} {q} given = let call = subst (λ (o : Option ℕ). Filters most step (table m) o q f' h') read given in (
-        kept-set a within call.changed (call.increasing cmp (a.increasing i)),
+        kept-set a within call.changed (call.increasing cmp (a.increasing i)) (filters-balance most a.odd (table m) f' (handle m i) h' (a.fit i) step q call),
         record {
           kept = subst (λ o. Retains step most q (entries m i) (node_sizes m i) (list_of f' o) (sizes_of f' o)) (sym (here a within call.changed)) call.kept;
           beside = changes a within call.changed;
@@ -285,9 +343,9 @@ module _ {K X C : Type 0} where
       )
 
       pub popped-at : {place : ℕ} {r : Option (K × X)} → Pops most (table m) h place r f' h'
-          → AreKept cmp (with_tree m i f' h') × PopsAt most m i place r (with_tree m i f' h')
+          → AreKept most cmp (with_tree m i f' h') × PopsAt most m i place r (with_tree m i f' h')
       popped-at {place} {r} given = let call = subst (λ (q : Option ℕ). Pops most (table m) q place r f' h') read given in (
-        kept-set a within call.removed.removed (call.increasing cmp (a.increasing i)),
+        kept-set a within call.removed.removed (call.increasing cmp (a.increasing i)) (pops-balance most a.odd (table m) f' (handle m i) h' (a.fit i) place r call),
         record {
           entry = call.entry;
           removed = list-here a within call.removed.removed;
@@ -299,14 +357,28 @@ module _ {K X C : Type 0} where
       )
 
       pub popped_last-at : {r : Option (K × X)} → Pops most (table m) h (length (list_of (table m) h) - 1) r f' h'
-          → AreKept cmp (with_tree m i f' h') × PopsAt most m i (length (entries m i) - 1) r (with_tree m i f' h')
+          → AreKept most cmp (with_tree m i f' h') × PopsAt most m i (length (entries m i) - 1) r (with_tree m i f' h')
       popped_last-at {r} given = popped-at (subst (λ (es : List (K × X)). Pops most (table m) h (length es - 1) r f' h') same-list given)
+
+      pub edited-at : {R : Type 0} {leaves : List (K × X) → R → List (K × X) → Type 0} {r : R} → Leaves most (table m) h f' h' → IsIncreasing cmp (list_of f' h')
+          → leaves (list_of (table m) h) r (list_of f' h') → AreKept most cmp (with_tree m i f' h') × EditsAt leaves m i r (with_tree m i f' h')
+      edited-at {R} {leaves} {r} given up told =
+          let call = subst (λ (q : Option ℕ). Leaves most (table m) q f' h') read given in
+          let made = call.balances (a.fit i) in (
+        kept-set a within call.becomes up made,
+        record {
+          left = subst (λ (es : List (K × X)). leaves es r (entries (with_tree m i f' h') i)) same-list
+              (subst (λ (es : List (K × X)). leaves (list_of (table m) h) r es) (sym (list-here a within call.becomes)) told);
+          beside = changes a within call.becomes;
+          slots = made.slots;
+        },
+      )
 
       module _ {k : K} {x : X} where
         -- the key is absent, so it was inserted
         absent-put : (r : Result X OutOfMemory) → Inserts most cmp (table m) (handle m i) k x (as_inserted r) f' h' → value_for cmp (entries m i) k ≡ None
             → GetsOrInserts most cmp (table m) (handle m i) k x r f' h'
-            → AreKept cmp (with_tree m i f' h') × GetsOrInsertsAt most cmp m i k x r (with_tree m i f' h')
+            → AreKept most cmp (with_tree m i f' h') × GetsOrInsertsAt most cmp m i k x r (with_tree m i f' h')
         absent-put r put is call = let here = put-here (as_inserted r) put in (
           here.0,
           record {
@@ -314,53 +386,67 @@ module _ {K X C : Type 0} where
             present = call.present;
             stays = λ some. absurd (not-some X (subst (λ (q : Option X). IsSome q) is some));
             absent = λ none. here.1;
+            room = λ lists most_entries stays room. inserted-ok r (here.1.room lists most_entries stays room);
+            never_full = λ lists most_entries stays room full. here.1.never_full lists most_entries stays room (ap as_inserted full);
           },
         )
 
         got-here : (v : Option X) (r : Result X OutOfMemory) → value_for cmp (entries m i) k ≡ v → GetsOrInserts most cmp (table m) (handle m i) k x r f' h'
-            → AreKept cmp (with_tree m i f' h') × GetsOrInsertsAt most cmp m i k x r (with_tree m i f' h')
+            → AreKept most cmp (with_tree m i f' h') × GetsOrInsertsAt most cmp m i k x r (with_tree m i f' h')
         got-here None (Ok y) is call = absent-put (Ok y) (call.absent is) is call
         got-here None (Err e) is call = absent-put (Err e) (call.absent is) is call
         got-here (Some y) r is call =
             let some = subst (λ (q : Option X). IsSome q) (sym is) refl in
             let same = unchanged m i f' h' (call.present_forest some) (call.present_handle some) in (
-              subst (AreKept cmp) (sym same) a,
+              subst (AreKept most cmp) (sym same) a,
               record {
                 value = call.value;
                 present = call.present;
                 stays = λ there. same;
                 absent = λ none. absurd (none-some y (sym none ∙ is));
+                room = λ lists most_entries stays room. call.present some;
+                never_full = λ lists most_entries stays room full. ok-full r (call.present some) full;
               },
             )
 
         pub got-at : {r : Result X OutOfMemory} → GetsOrInserts most cmp (table m) h k x r f' h'
-            → AreKept cmp (with_tree m i f' h') × GetsOrInsertsAt most cmp m i k x r (with_tree m i f' h')
+            → AreKept most cmp (with_tree m i f' h') × GetsOrInsertsAt most cmp m i k x r (with_tree m i f' h')
         got-at {r} given = got-here (value_for cmp (entries m i) k) r refl (subst (λ (q : Option ℕ). GetsOrInserts most cmp (table m) q k x r f' h') read given)
 
-  -- the forest changed, and each number keeps its list and its sizes
-  pub kept-all : {cmp : K → K → Ordering} (m : Indexed K X C) (f' : Forest K X) → Keeps (table m) f' → AreKept cmp m
-      → AreKept cmp (record m { forest = f' }) × KeepsAll m (record m { forest = f' })
-  kept-all {cmp} m f' keeps a = (
-    record {
+  -- slots were asked for: the forest changed, and each number keeps its list and its sizes
+  module _ {most : ℕ} {cmp : K → K → Ordering} (m : Indexed K X C) (f' : Forest K X) {n : ℕ} {r : Result (Unit {0}) OutOfMemory} (given : Reserves (table m) n r f') (a : AreKept most cmp m) where
+    lists : (q : Option ℕ) → list_of f' q ≡ list_of (table m) q
+    lists None = refl
+    lists (Some n) = given.keeps.lists n
+
+    sizes : (q : Option ℕ) → sizes_of f' q ≡ sizes_of (table m) q
+    sizes None = refl
+    sizes (Some n) = given.keeps.sizes n
+
+    pub same-nodes : nodes_in_use (record m { forest = f' }) ≡ nodes_in_use m
+    same-nodes = sum-same (nodes_of (table m)) (nodes_of f') None m.handles (λ i. ap node_count (sizes (handle m i)))
+
+    kept-all-of : slots_of f' ≡ free_of f' + nodes_in_use m → AreKept most cmp (record m { forest = f' })
+    kept-all-of account = record {
+      odd = a.odd;
       live = λ i. live_beside (table m) f' (handle m i) (lists (handle m i)) (a.live i);
       increasing = λ i. subst (λ (xs : List (K × X)). IsIncreasing cmp xs) (sym (lists (handle m i))) (a.increasing i);
       apart = a.apart;
-    },
-    record { lists = λ i. lists (handle m i); sizes = λ i. sizes (handle m i); same_comparator = refl },
-  )
-    where
-      lists : (q : Option ℕ) → list_of f' q ≡ list_of (table m) q
-      lists None = refl
-      lists (Some n) = keeps.lists n
+      fit = λ i. subst (λ (xs : List (K × X)). IsFitFor most (length xs) (sizes_of f' (handle m i))) (sym (lists (handle m i)))
+          (subst (λ s. IsFitFor most (length (entries m i)) s) (sym (sizes (handle m i))) (a.fit i));
+      account = account ∙ ap (λ s. free_of f' + s) (sym same-nodes);
+    }
 
-      sizes : (q : Option ℕ) → sizes_of f' q ≡ sizes_of (table m) q
-      sizes None = refl
-      sizes (Some n) = keeps.sizes n
+    pub kept-all : AreKept most cmp (record m { forest = f' }) × KeepsAll m (record m { forest = f' })
+    kept-all = (
+      kept-all-of (still-accounted (table m) f' n r (nodes_in_use m) given a.account),
+      record { lists = λ i. lists (handle m i); sizes = λ i. sizes (handle m i); same_comparator = refl },
+    )
 
   -- each handle is empty now, and the forest has no tree
-  pub kept-cleared : {cmp : K → K → Ordering} (o : C) (f' : Forest K X) (qs : List (Option ℕ)) (n size : ℕ) → f' ≡ empty n → Adds (λ h. h ≡ None) [] size qs
-      → AreKept cmp (record { forest = f'; order = o; handles = qs })
-  kept-cleared o f' qs n size forest adds = kept-empty (record { forest = f'; order = o; handles = qs }) n forest (none-handles qs size adds)
+  pub kept-cleared : {most : ℕ} {cmp : K → K → Ordering} → most % 2 ≡ 1 → (o : C) (f' : Forest K X) (qs : List (Option ℕ)) (n size : ℕ) → f' ≡ empty n → Adds (λ h. h ≡ None) [] size qs
+      → AreKept most cmp (record { forest = f'; order = o; handles = qs })
+  kept-cleared odd o f' qs n size forest adds = kept-empty odd (record { forest = f'; order = o; handles = qs }) n forest (none-handles qs size adds)
 
   pub cleared-all : (m : Indexed K X C) (f' : Forest K X) (qs : List (Option ℕ)) → f' ≡ empty (limit_of (table m))
       → Adds (λ h. h ≡ None) [] (count m) qs → ClearsAll m (record m { forest = f'; handles = qs })
@@ -409,11 +495,14 @@ module _ {K X C : Type 0} where
     at-each P all = by-index (λ q. P (get_or qs q None)) (subst P (sym at-first) (all j)) (subst P (sym at-second) (all i))
         (λ q ne ne'. subst P (sym (at-other q ne ne')) (all q))
 
-    pub kept-swapped : {cmp : K → K → Ordering} → AreKept cmp m → AreKept cmp (record m { handles = qs })
-    kept-swapped {cmp} a = record {
+    pub kept-swapped : {most : ℕ} {cmp : K → K → Ordering} → i < count m → j < count m → qs ≡ swap m.handles i j → AreKept most cmp m → AreKept most cmp (record m { handles = qs })
+    kept-swapped {most} {cmp} first second swapped a = record {
+      odd = a.odd;
       live = at-each (IsLive (table m)) a.live;
       increasing = at-each (λ q. IsIncreasing cmp (list_of (table m) q)) a.increasing;
       apart = λ p q n d e. by-index (λ r. get_or qs r None ≡ Some n → r ≡ q) (of-i q n e) (of-j q n e) (of-other q n e) p d;
+      fit = at-each (λ q. IsFitFor most (length (list_of (table m) q)) (sizes_of (table m) q)) a.fit;
+      account = omega (arith, a.account, sum_by-IsPermutation (nodes_of (table m)) m.handles qs (IsPermutation-swap m.handles qs i j first second swapped));
     }
       where
         of-i : (q n : ℕ) → get_or qs q None ≡ Some n → get_or qs i None ≡ Some n → i ≡ q

@@ -1,17 +1,28 @@
 -- What contracts see of maps and of sets that are named by an index: a forest, an order, and a handle for each index. A set's values are
 -- all the unit.
-use Rattle.bforest.specs.Entries.{IsIncreasing, cut, put, value_for}
-use Rattle.bforest.specs.Forest.{Forest, Gives, IsLive, IsTooMany, NeedsGrowth, Takes, empty, free_of, limit_of, list_of, need_of, shrink, sizes_of, sizes_with, sizes_without}
+use Rattle.bforest.specs.Entries.{IsIncreasing, cut, is_present, put, value_for}
+use Rattle.bforest.specs.Forest.{Forest, Gives, IsFitFor, IsLive, IsTooMany, NeedsGrowth, Takes, empty, free_of, limit_of, list_of, need_of, shrink, sizes_of, sizes_with, sizes_without, slots_of}
 use Rattle.bforest.specs.Refusal.{Full, Memory, OutOfMemory}
 use Rattle.bforest.specs.Retain.{Retains}
+use Rattle.bforest.specs.Room.{IsEnoughFor, node_count}
+use Rattle.std.specs.List.{sum_by}
 use Rattle.std.specs.Map.{keys_of}
-use Rattle.std.specs.Prelude.{Bool, Err, IfOk, IsOk, IsSome, List, None, Ok, OnErr, OnOk, Option, Result, Some, [], get_or, if◌then◌else◌, length, map, nat_lt, remove, slice_get, unwrap_or, ◌↔◌, ◌≡◌, ◌≢◌, ◌≤◌, ℕ}
+use Rattle.std.specs.Prelude.{Bool, Err, IfOk, IsOk, IsSome, List, None, Ok, OnErr, OnOk, Option, Result, Some, [], false, get_or, if◌then◌else◌, length, map, max, nat_lt, remove, slice_get, unwrap_or, ◌%◌, ◌*◌, ◌+◌, ◌<◌, ◌↔◌, ◌≡◌, ◌≢◌, ◌≤◌, ℕ}
 use Rattle.std.specs.declared.cmp.Ordering.{Ordering}
 
 -- the answer of an insertion of an absent key, from that of a call that answers the value
 abbrev pub as_inserted : {X : Type 0} → Result X OutOfMemory → Result (Option X) OutOfMemory
 as_inserted (Ok x) = Ok None
 as_inserted (Err refused) = Err refused
+
+-- the table has a slot for each node that `lists` lists of at most `most_entries` entries can have, used ones included; a leaf has at most
+-- `most` entries
+abbrev pub HasRoom : {K X : Type 0} → ℕ → ℕ → ℕ → Forest K X → Type 0
+HasRoom most lists most_entries f = (nodes : ℕ) × IsEnoughFor most most_entries nodes × (lists * nodes ≤ slots_of f)
+
+-- the limit allows the table so many slots
+abbrev pub MayHave : {K X : Type 0} → ℕ → ℕ → ℕ → Forest K X → Type 0
+MayHave most lists most_entries f = (nodes : ℕ) × IsEnoughFor most most_entries nodes × (lists * nodes ≤ limit_of f)
 
 -- Contracts read it by the words below alone.
 pub record Indexed (K X C : Type 0) : Type 0 where
@@ -52,11 +63,19 @@ module _ {K X C : Type 0} where
   abbrev pub node_sizes : Indexed K X C → ℕ → List (List ℕ)
   node_sizes m i = sizes_of (table m) (handle m i)
 
-  -- each handle is live, each list increases, and no two indices have one tree
-  pub record AreKept (cmp : K → K → Ordering) (m : Indexed K X C) : Type 0 where
+  -- the number of nodes of the trees of all indices
+  abbrev pub nodes_in_use : Indexed K X C → ℕ
+  nodes_in_use m = sum_by (λ h. node_count (sizes_of (table m) h)) m.handles
+
+  -- each handle is live, each list increases, in nodes of fit sizes, and no two indices have one tree; the table has no tree but theirs.
+  -- `most` is the number of entries that a leaf has at most
+  pub record AreKept (most : ℕ) (cmp : K → K → Ordering) (m : Indexed K X C) : Type 0 where
+    pub odd : most % 2 ≡ 1
     pub live : (i : ℕ) → IsLive (table m) (handle m i)
     pub increasing : (i : ℕ) → IsIncreasing cmp (entries m i)
     pub apart : (i j n : ℕ) → handle m i ≡ Some n → handle m j ≡ Some n → i ≡ j
+    pub fit : (i : ℕ) → IsFitFor most (length (entries m i)) (node_sizes m i)
+    pub account : slots_of (table m) ≡ free_of (table m) + nodes_in_use m
 
   -- m became m', and each index keeps its list
   pub record KeepsAll (m m' : Indexed K X C) : Type 0 where
@@ -115,6 +134,28 @@ module _ {K X C : Type 0} where
     pub account : Gives (node_sizes m i) (node_sizes m' i) (table m) (table m')
     pub end : length (entries m i) ≤ place → m' ≡ m
 
+  -- there are at most `lists` lists, of at most `most_entries` entries each, and that of i has fewer where k is absent
+  pub record StaysWithin (cmp : K → K → Ordering) (lists most_entries : ℕ) (m : Indexed K X C) (i : ℕ) (k : K) : Type 0 where
+    pub few : count m ≤ lists
+    pub each : (j : ℕ) → length (entries m j) ≤ most_entries
+    pub here : is_present cmp (entries m i) k ≡ false → length (entries m i) < most_entries
+
+  -- room was asked for, for `lists` lists of at most `most_entries` entries each, where a leaf has at most `most`: all lists stay, and as few
+  -- slots are added as make the room; or the call was refused, and nothing changed
+  pub record ReservesFor (most lists most_entries : ℕ) (m : Indexed K X C) (result : Result (Unit {0}) OutOfMemory) (m' : Indexed K X C) : Type 0 where
+    pub keeps : KeepsAll m m'
+    pub same_count : count m' ≡ count m
+    pub same_limit : limit_of (table m') ≡ limit_of (table m)
+    pub room : OnOk result (HasRoom most lists most_entries (table m'))
+    pub no_fewer : slots_of (table m) ≤ slots_of (table m')
+    pub added_free : slots_of (table m') + free_of (table m) ≡ slots_of (table m) + free_of (table m')
+    pub no_more : OnOk result ((nodes : ℕ) → IsEnoughFor most most_entries nodes → slots_of (table m') ≤ max (slots_of (table m)) (lists * nodes))
+    pub enough : HasRoom most lists most_entries (table m) → lists ≤ count m → IsOk result
+    pub same : HasRoom most lists most_entries (table m) → m' ≡ m
+    pub refused : OnErr result (m' ≡ m)
+    pub full : (result ≡ Err Full) ↔ ¬ (MayHave most lists most_entries (table m))
+    pub memory : result ≡ Err Memory → HasRoom most lists most_entries (table m) → count m < lists
+
   -- `most` is the number of entries that a leaf has at most; `increasing` says that the list of i did before
   module _ (most : ℕ) (cmp : K → K → Ordering) where
     -- x was inserted at the key k of i, or replaced the value there, which is answered; or the call was refused, and nothing changed
@@ -130,6 +171,8 @@ module _ {K X C : Type 0} where
       pub succeeds : need_of most cmp (table m) (handle m i) k ≤ free_of (table m) → IsOk result
       pub absent : OnErr result (value_for cmp (entries m i) k ≡ None)
       pub refused : OnErr result (m' ≡ m)
+      pub room : (lists most_entries : ℕ) → StaysWithin cmp lists most_entries m i k → HasRoom most lists most_entries (table m) → IsOk result
+      pub never_full : (lists most_entries : ℕ) → StaysWithin cmp lists most_entries m i k → MayHave most lists most_entries (table m) → result ≢ Err Full
 
     -- the key k was removed from i, and its value is answered
     pub record RemovesAt (m : Indexed K X C) (i : ℕ) (k : K) (result : Option X) (m' : Indexed K X C) : Type 0 where
@@ -148,3 +191,5 @@ module _ {K X C : Type 0} where
       pub present : IsSome (value_for cmp (entries m i) k) → IsOk result
       pub stays : IsSome (value_for cmp (entries m i) k) → m' ≡ m
       pub absent : value_for cmp (entries m i) k ≡ None → InsertsAt m i k x (as_inserted result) m'
+      pub room : (lists most_entries : ℕ) → StaysWithin cmp lists most_entries m i k → HasRoom most lists most_entries (table m) → IsOk result
+      pub never_full : (lists most_entries : ℕ) → StaysWithin cmp lists most_entries m i k → MayHave most lists most_entries (table m) → result ≢ Err Full

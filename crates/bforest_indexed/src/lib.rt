@@ -7,6 +7,7 @@
 mod edit;
 mod handles;
 mod maps;
+mod room;
 mod sets;
 
 pub use bforest::{Comparator, OutOfMemory};

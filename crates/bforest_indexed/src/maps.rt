@@ -2,17 +2,19 @@
 ghost use Rattle.bforest.specs.Bounds.{entries_between, entry_at_least, entry_at_most};
 ghost use Rattle.bforest.specs.Calls.{Reserves};
 ghost use Rattle.bforest.specs.Entries.{value_for};
-ghost use Rattle.bforest.specs.Forest.{empty, first_level, free_of, limit_of, slots_of};
+ghost use Rattle.bforest.specs.Forest.{IsFitFor, empty, first_level, free_of, limit_of, slots_of};
 ghost use Rattle.bforest.specs.Memory.{IsReadable};
 ghost use Rattle.bforest.specs.Retain.{Answers, MayAsk, MayAskEach};
 ghost use Rattle.bforest_indexed.specs.Edits.{EditsAt};
+ghost use Rattle.bforest_indexed.specs.Indexed.{ReservesFor};
 ghost use Rattle.bforest_indexed.specs.Indexed.{ClearsAll, ClearsAt, FiltersAt, GetsOrInsertsAt, InsertsAt};
 ghost use Rattle.bforest_indexed.specs.Indexed.{KeepsAll, PopsAt, RemovesAt, Swaps};
-ghost use Rattle.bforest_indexed.specs.Indexed.{comparator, count, entries, node_sizes, table};
-ghost use Rattle.std.specs.Prelude.{IfOk, IsTrue, OnErr, OnOk, length, slice_get, ◌+◌, ◌-◌, ◌/◌, ◌<◌, ◌^◌, ◌↔◌, ◌≡◌, ◌≤◌};
+ghost use Rattle.bforest_indexed.specs.Indexed.{comparator, count, entries, node_sizes, nodes_in_use, table};
+ghost use Rattle.std.specs.Prelude.{IfOk, IsTrue, OnErr, OnOk, length, slice_get, ◌+◌, ◌-◌, ◌/◌, ◌<◌, ◌^◌, ◌↔◌, ◌≡◌, ◌≤◌, ℕ};
 
 use crate::edit::{Edit, lend};
 use crate::handles::{add_empty, empty_all};
+use crate::room::{reserve_handles, slots_for};
 use bforest::{Comparator, Map, MapCursor, MapForest, MapIter, MapRange, OutOfMemory};
 use std::alloc::{AllocError, Global};
 use std::marker::Model;
@@ -36,7 +38,7 @@ impl<K: Copy, V: Copy, C: Comparator<K>> Model for Maps<K, V, C> {
 
     ghost view = { λ m. record { forest = m.forest; order = m.order; handles = m.maps.items } };
 
-    ghost invariant = { λ m. AreKept (C.order m.order)
+    ghost invariant = { λ m. AreKept 7 (C.order m.order)
         (record { forest = m.forest; order = m.order; handles = m.maps.items }) };
 }
 
@@ -175,7 +177,8 @@ impl<K: Copy, V: Copy, C: Comparator<K>> Maps<K, V, C> {
     ///
     /// # Errors
     ///
-    /// [`OutOfMemory`] where the key is absent and too few nodes are available; nothing has changed then.
+    /// [`OutOfMemory`] where the key is absent and too few nodes are available; nothing has changed then. It does not come where there is
+    /// room for the maps as they are then, by [`Maps::reserve_for`].
     pub fn insert(&mut self, index: usize, key: K, value: V) -> Result<Option<V>, OutOfMemory>
         requires within { index < count self.old }
         ensures { InsertsAt 7 (C.order (comparator self.old)) self.old index key value result self.new }
@@ -209,7 +212,7 @@ impl<K: Copy, V: Copy, C: Comparator<K>> Maps<K, V, C> {
     ///
     /// # Errors
     ///
-    /// [`OutOfMemory`] where the key is absent and too few nodes are available; nothing has changed then.
+    /// Those of [`Maps::insert`], where the key is absent; nothing has changed then.
     pub fn get_or_insert(&mut self, index: usize, key: K, value: V) -> Result<V, OutOfMemory>
         requires within { index < count self.old }
         ensures { GetsOrInsertsAt 7 (C.order (comparator self.old)) self.old index key value result self.new }
@@ -309,6 +312,8 @@ impl<K: Copy, V: Copy, C: Comparator<K>> Maps<K, V, C> {
     pub fn slots(&self) -> u32
         ensures count { result ≡ slots_of (table self.now) }
         ensures within { slots_of (table self.now) ≤ limit_of (table self.now) }
+        ensures account { slots_of (table self.now) ≡ free_of (table self.now) + nodes_in_use self.now }
+        ensures fit { (i : ℕ) → IsFitFor 7 (length (entries self.now i)) (node_sizes self.now i) }
     {
         self.forest.slots()
     }
@@ -339,5 +344,34 @@ impl<K: Copy, V: Copy, C: Comparator<K>> Maps<K, V, C> {
         ensures count { count self.new ≡ count self.old }
     {
         self.forest.reserve_nodes(n)
+    }
+
+    /// Makes room for `maps` maps of at most `entries` entries each, so that no insertion is refused as long as there are no more
+    /// maps and none has more entries.
+    ///
+    /// The table gets as many slots as such maps can have nodes, which is [`bforest::Map::nodes_for`] each, those in use included; and
+    /// memory for the handles of so many maps is taken. Where there is room already, no slot is added. [`Maps::clear_all`] gives the
+    /// room back.
+    ///
+    /// # Errors
+    ///
+    /// [`OutOfMemory::Full`] where the limit does not allow so many slots, which is tested first, and [`OutOfMemory::Memory`] where memory
+    /// was refused; no map and no slot has changed then.
+    pub fn reserve_for(&mut self, maps: usize, entries: usize) -> Result<(), OutOfMemory>
+        ensures { ReservesFor 7 maps entries self.old result self.new }
+    {
+        let used = self.used_slots();
+        let most = Map::<K, V>::nodes_for(entries);
+        let slots = slots_for(maps, most, self.node_limit())?;
+        reserve_handles(&mut self.maps, maps)?;
+        self.forest.reserve_nodes(slots.saturating_sub(used))
+    }
+
+    // Returns how many slots are in use.
+    fn used_slots(&self) -> u32
+        ensures count { result ≡ nodes_in_use self.now }
+        ensures within { slots_of (table self.now) ≤ limit_of (table self.now) }
+    {
+        self.slots() - self.free_slots()
     }
 }

@@ -2,16 +2,18 @@
 ghost use Rattle.bforest.specs.Bounds.{entries_between, entry_at_least, entry_at_most};
 ghost use Rattle.bforest.specs.Calls.{Reserves};
 ghost use Rattle.bforest.specs.Entries.{is_present};
-ghost use Rattle.bforest.specs.Forest.{empty, first_level, free_of, limit_of, slots_of};
+ghost use Rattle.bforest.specs.Forest.{IsFitFor, empty, first_level, free_of, limit_of, slots_of};
 ghost use Rattle.bforest.specs.Memory.{IsSetReadable};
 ghost use Rattle.bforest.specs.Retain.{MayAskEach};
 ghost use Rattle.bforest.specs.Set.{AnswersKey, MayAskKey, as_popped, as_put, as_removed, the_value};
+ghost use Rattle.bforest_indexed.specs.Indexed.{ReservesFor};
 ghost use Rattle.bforest_indexed.specs.Indexed.{ClearsAll, ClearsAt, FiltersAt, InsertsAt, KeepsAll, PopsAt, RemovesAt, Swaps};
-ghost use Rattle.bforest_indexed.specs.Indexed.{comparator, count, entries, keys, node_sizes, table};
+ghost use Rattle.bforest_indexed.specs.Indexed.{comparator, count, entries, keys, node_sizes, nodes_in_use, table};
 ghost use Rattle.std.specs.Map.{keys_of};
-ghost use Rattle.std.specs.Prelude.{IfOk, IsTrue, OnErr, OnOk, length, option_map, slice_get, ◌*◌, ◌+◌, ◌-◌, ◌/◌, ◌<◌, ◌^◌, ◌↔◌, ◌≡◌, ◌≤◌};
+ghost use Rattle.std.specs.Prelude.{IfOk, IsTrue, OnErr, OnOk, length, option_map, slice_get, ◌*◌, ◌+◌, ◌-◌, ◌/◌, ◌<◌, ◌^◌, ◌↔◌, ◌≡◌, ◌≤◌, ℕ};
 
 use crate::handles::{add_empty, empty_all};
+use crate::room::{reserve_handles, slots_for};
 use bforest::{Comparator, OutOfMemory, Set, SetForest, SetIter, SetRange};
 use std::alloc::{AllocError, Global};
 use std::marker::Model;
@@ -35,7 +37,7 @@ impl<K: Copy, C: Comparator<K>> Model for Sets<K, C> {
 
     ghost view = { λ m. record { forest = m.forest; order = m.order; handles = m.sets.items } };
 
-    ghost invariant = { λ m. AreKept (C.order m.order)
+    ghost invariant = { λ m. AreKept 15 (C.order m.order)
         (record { forest = m.forest; order = m.order; handles = m.sets.items }) };
 }
 
@@ -173,7 +175,8 @@ impl<K: Copy, C: Comparator<K>> Sets<K, C> {
     ///
     /// # Errors
     ///
-    /// [`OutOfMemory`] where the key is absent and too few nodes are available; nothing has changed then.
+    /// [`OutOfMemory`] where the key is absent and too few nodes are available; nothing has changed then. It does not come where there is
+    /// room for the sets as they are then, by [`Sets::reserve_for`].
     pub fn insert(&mut self, index: usize, key: K) -> Result<bool, OutOfMemory>
         requires within { index < count self.old }
         ensures { InsertsAt 15 (C.order (comparator self.old)) self.old index key the_value (as_put result)
@@ -277,6 +280,8 @@ impl<K: Copy, C: Comparator<K>> Sets<K, C> {
     pub fn slots(&self) -> u32
         ensures count { result ≡ slots_of (table self.now) }
         ensures within { slots_of (table self.now) ≤ limit_of (table self.now) }
+        ensures account { slots_of (table self.now) ≡ free_of (table self.now) + nodes_in_use self.now }
+        ensures fit { (i : ℕ) → IsFitFor 15 (length (entries self.now i)) (node_sizes self.now i) }
     {
         self.forest.slots()
     }
@@ -307,5 +312,34 @@ impl<K: Copy, C: Comparator<K>> Sets<K, C> {
         ensures count { count self.new ≡ count self.old }
     {
         self.forest.reserve_nodes(n)
+    }
+
+    /// Makes room for `sets` sets of at most `keys` keys each, so that no insertion is refused as long as there are no more
+    /// sets and none has more keys.
+    ///
+    /// The table gets as many slots as such sets can have nodes, which is [`bforest::Set::nodes_for`] each, those in use included; and
+    /// memory for the handles of so many sets is taken. Where there is room already, no slot is added. [`Sets::clear_all`] gives the
+    /// room back.
+    ///
+    /// # Errors
+    ///
+    /// [`OutOfMemory::Full`] where the limit does not allow so many slots, which is tested first, and [`OutOfMemory::Memory`] where memory
+    /// was refused; no set and no slot has changed then.
+    pub fn reserve_for(&mut self, sets: usize, keys: usize) -> Result<(), OutOfMemory>
+        ensures { ReservesFor 15 sets keys self.old result self.new }
+    {
+        let used = self.used_slots();
+        let most = Set::<K>::nodes_for(keys);
+        let slots = slots_for(sets, most, self.node_limit())?;
+        reserve_handles(&mut self.sets, sets)?;
+        self.forest.reserve_nodes(slots.saturating_sub(used))
+    }
+
+    // Returns how many slots are in use.
+    fn used_slots(&self) -> u32
+        ensures count { result ≡ nodes_in_use self.now }
+        ensures within { slots_of (table self.now) ≤ limit_of (table self.now) }
+    {
+        self.slots() - self.free_slots()
     }
 }

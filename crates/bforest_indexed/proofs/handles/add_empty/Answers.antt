@@ -1,4 +1,4 @@
-use Rattle.bforest_indexed.proofs.Adding.{adds-none, adds-one}
+use Rattle.bforest_indexed.proofs.Adding.{adds-all, adds-none, adds-one}
 use Rattle.bforest_indexed.proofs.handles.add_empty.Goals as goal
 use Rattle.std.proofs.Common.{rules}
 
@@ -7,3 +7,6 @@ loop-init g c = (adds-none _ _ c.reserve.ensures.items, search rules, search rul
 
 pub loop-preserved : goal.loop-preserved
 loop-preserved g c = (adds-one _ _ _ _ _ c.loop.invariant.0 c.default.ensures c.push_reserved.ensures.items, search rules, search rules)
+
+pub returns-clause-more : goal.returns-clause-more
+returns-clause-more g c = adds-all _ _ _ c.saturating_sub-more.result _ c.loop.invariant.0 c.loop-test.false c.loop.auto.counter-end (search rules)

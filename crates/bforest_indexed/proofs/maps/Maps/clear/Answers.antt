@@ -1,10 +1,9 @@
 use Rattle.bforest_indexed.proofs.Kept.{cleared-at, live-read}
 use Rattle.bforest_indexed.proofs.Sizes.{first-field}
 use Rattle.bforest_indexed.proofs.maps.Maps.clear.Goals as goal
-use Rattle.std.proofs.Common.{rules}
 
 pub clear-requires : goal.clear-requires
-clear-requires g c = (search (rules, first-field), live-read c.self.invariant (rw (← c.self.view_is) at c.requires.within) c.index_mut.ensures.value)
+clear-requires g c = (search first-field, live-read c.self.invariant (rw (← c.self.view_is) at c.requires.within) c.index_mut.ensures.value)
 
 pub invariant_of-self : goal.invariant_of-self
 invariant_of-self g c = (cleared-at c.self.invariant (rw (← c.self.view_is) at c.requires.within) c.index_mut.ensures.value c.clear.ensures).0

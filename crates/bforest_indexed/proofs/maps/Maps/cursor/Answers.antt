@@ -1,10 +1,10 @@
 use Rattle.bforest_indexed.proofs.Kept.{ordered-read, same-list}
 use Rattle.bforest_indexed.proofs.Sizes.{first-field}
 use Rattle.bforest_indexed.proofs.maps.Maps.cursor.Goals as goal
-use Rattle.std.proofs.Common.{ap, length, rules, ◌∙◌}
+use Rattle.std.proofs.Common.{ap, length, ◌∙◌}
 
 pub cursor-requires : goal.cursor-requires
-cursor-requires g c = (search (rules, first-field), ordered-read c.self.invariant (rw (← c.self.view_is) at c.requires.within) c.index.ensures)
+cursor-requires g c = (search first-field, ordered-read c.self.invariant (rw (← c.self.view_is) at c.requires.within) c.index.ensures)
 
 pub returns-clause-entries : goal.returns-clause-entries
 returns-clause-entries g c = rw (← c.self.view_is) (c.cursor.ensures.entries ∙ same-list c.self.invariant (rw (← c.self.view_is) at c.requires.within) c.index.ensures)

@@ -1,10 +1,10 @@
 use Rattle.bforest_indexed.proofs.Kept.{ordered-read, value-read}
 use Rattle.bforest_indexed.proofs.Sizes.{first-field}
 use Rattle.bforest_indexed.proofs.maps.Maps.get.Goals as goal
-use Rattle.std.proofs.Common.{rules, ◌∙◌}
+use Rattle.std.proofs.Common.{◌∙◌}
 
 pub get-requires : goal.get-requires
-get-requires g c = (search (rules, first-field), ordered-read c.self.invariant (rw (← c.self.view_is) at c.requires.within) c.index.ensures)
+get-requires g c = (search first-field, ordered-read c.self.invariant (rw (← c.self.view_is) at c.requires.within) c.index.ensures)
 
 pub returns : goal.returns
 returns g c = record { value = rw (← c.self.view_is) (c.get.ensures.value ∙ value-read c.self.invariant (rw (← c.self.view_is) at c.requires.within) c.index.ensures _) }

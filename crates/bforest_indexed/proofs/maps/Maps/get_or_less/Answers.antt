@@ -1,10 +1,10 @@
 use Rattle.bforest_indexed.proofs.Kept.{at_most-read, ordered-read}
 use Rattle.bforest_indexed.proofs.Sizes.{first-field}
 use Rattle.bforest_indexed.proofs.maps.Maps.get_or_less.Goals as goal
-use Rattle.std.proofs.Common.{rules, ◌∙◌}
+use Rattle.std.proofs.Common.{◌∙◌}
 
 pub get_or_less-requires : goal.get_or_less-requires
-get_or_less-requires g c = (search (rules, first-field), ordered-read c.self.invariant (rw (← c.self.view_is) at c.requires.within) c.index.ensures)
+get_or_less-requires g c = (search first-field, ordered-read c.self.invariant (rw (← c.self.view_is) at c.requires.within) c.index.ensures)
 
 pub returns : goal.returns
 returns g c = record { entry = rw (← c.self.view_is) (c.get_or_less.ensures.entry ∙ at_most-read c.self.invariant (rw (← c.self.view_is) at c.requires.within) c.index.ensures _) }

@@ -1,10 +1,9 @@
 use Rattle.bforest_indexed.proofs.Kept.{ordered-read, removed-at}
 use Rattle.bforest_indexed.proofs.Sizes.{first-field}
 use Rattle.bforest_indexed.proofs.maps.Maps.remove.Goals as goal
-use Rattle.std.proofs.Common.{rules}
 
 pub remove-requires : goal.remove-requires
-remove-requires g c = (search (rules, first-field), ordered-read c.self.invariant (rw (← c.self.view_is) at c.requires.within) c.index_mut.ensures.value)
+remove-requires g c = (search first-field, ordered-read c.self.invariant (rw (← c.self.view_is) at c.requires.within) c.index_mut.ensures.value)
 
 pub invariant_of-self : goal.invariant_of-self
 invariant_of-self g c = (removed-at c.self.invariant (rw (← c.self.view_is) at c.requires.within) c.index_mut.ensures.value c.remove.ensures).0

@@ -2,10 +2,10 @@ use Rattle.bforest.specs.Forest.{first_level, list_of, sizes_of}
 use Rattle.bforest_indexed.proofs.Kept.{live-read, of-index, on-list, same-sizes}
 use Rattle.bforest_indexed.proofs.Sizes.{first-field}
 use Rattle.bforest_indexed.proofs.sets.Sets.levels.Goals as goal
-use Rattle.std.proofs.Common.{ap, length, rules, ◌*◌, ◌+◌, ◌-◌, ◌/◌, ◌<◌, ◌^◌, ◌∙◌, ◌≤◌}
+use Rattle.std.proofs.Common.{ap, length, ◌*◌, ◌+◌, ◌-◌, ◌/◌, ◌<◌, ◌^◌, ◌∙◌, ◌≤◌}
 
 pub levels-requires : goal.levels-requires
-levels-requires g c = (search (rules, first-field), live-read c.self.invariant (rw (← c.self.view_is) at c.requires.within) c.index.ensures)
+levels-requires g c = (search first-field, live-read c.self.invariant (rw (← c.self.view_is) at c.requires.within) c.index.ensures)
 
 pub returns-clause-count : goal.returns-clause-count
 returns-clause-count g c = rw (← c.self.view_is) (c.levels.ensures.count ∙ ap length (same-sizes c.self.invariant (rw (← c.self.view_is) at c.requires.within) c.index.ensures))

@@ -1,11 +1,11 @@
 use Rattle.bforest_indexed.proofs.Kept.{between-read, ordered-read}
 use Rattle.bforest_indexed.proofs.Sizes.{first-field}
 use Rattle.bforest_indexed.proofs.sets.Sets.range.Goals as goal
-use Rattle.std.proofs.Common.{ap, rules, ◌∙◌}
+use Rattle.std.proofs.Common.{ap, ◌∙◌}
 use Rattle.std.specs.Map.{keys_of}
 
 pub range-requires : goal.range-requires
-range-requires g c = (search (rules, first-field), ordered-read c.self.invariant (rw (← c.self.view_is) at c.requires.within) c.index.ensures)
+range-requires g c = (search first-field, ordered-read c.self.invariant (rw (← c.self.view_is) at c.requires.within) c.index.ensures)
 
 pub returns : goal.returns
 returns g c = record { keys = rw (← c.self.view_is) (c.range.ensures.keys ∙ ap keys_of (between-read c.self.invariant (rw (← c.self.view_is) at c.requires.within) c.index.ensures _ _)); ready = c.range.ensures.ready }
