@@ -7,7 +7,7 @@ use Rattle.bforest.specs.Entries.{is_present, place, value_for, with_value}
 use Rattle.bforest.specs.Forest.{Becomes, Forest, Gives, IsFitFor, Takes, free_of, growth, limit_of, list_of, need, need_of, room_of, shrink, sizes_of, slots_of}
 use Rattle.bforest.specs.Refusal.{OutOfMemory}
 use Rattle.bforest.specs.Retain.{AsksEach, kept_by, sizes_by}
-use Rattle.bforest.specs.Room.{node_count}
+use Rattle.bforest.specs.Room.{Balances, IsFitAt, node_count}
 use Rattle.bforest_nodes.proofs.Found.{place-present, put-absent, put-present}
 use Rattle.bforest_trees.specs.Calls.{as_inserted}
 use Rattle.std.proofs.Common.{Bool, Err, List, None, Ok, Option, Result, Some, [], ap, arith, false, if◌then◌else◌, inl, inr, length, refl, remove, subst, suc, sym, true, zero, ◌%◌, ◌+◌, ◌-◌, ◌<◌, ◌∙◌, ◌∷◌, ◌≡◌, ◌≤◌, ℕ}
@@ -21,18 +21,6 @@ not-less : (a b : ℕ) → ¬ (a < b) → b ≤ a
 not-less a b never = elim (leb_tells b a) [ inl w ↦ w.1 | inr w ↦ absurd (never w.1) ]
 
 module _ {K V : Type 0} where
-  -- the sizes of the tree of a handle fit its list
-  abbrev pub IsFitAt : ℕ → Forest K V → Option ℕ → Type 0
-  IsFitAt most f h = IsFitFor most (length (list_of f h)) (sizes_of f h)
-
-  -- f and its handle h became f' and h', whose sizes fit its list: slots were added and freed as the tree has nodes more or less, and none
-  -- past the limit
-  pub record Balances (most : ℕ) (f : Forest K V) (h : Option ℕ) (f' : Forest K V) (h' : Option ℕ) : Type 0 where
-    pub fit : IsFitAt most f' h'
-    pub nodes : slots_of f' + free_of f + node_count (sizes_of f h) ≡ slots_of f + free_of f' + node_count (sizes_of f' h')
-    pub slots : slots_of f ≤ slots_of f'
-    pub within : slots_of f ≤ limit_of f → slots_of f' ≤ limit_of f'
-
   pub length-written : (es : List (K × V)) (p : ℕ) (v : V) → length (with_value es p v) ≡ length es
   length-written [] p v = refl
   length-written (e ∷ es) zero v = refl

@@ -1,5 +1,5 @@
 -- A call on a forest that adds up leaves one that does.
-use Rattle.bforest.proofs.Balances.{Balances, clears-balance, filters-balance, inserts-balance, length-written, removes-at-balance, removes-balance, sizes-stay}
+use Rattle.bforest.proofs.Balances.{clears-balance, filters-balance, inserts-balance, length-written, removes-at-balance, removes-balance, sizes-stay}
 use Rattle.bforest.specs.Calls.{Clears, Filters, Inserts, Removes, RemovesAt}
 use Rattle.bforest.specs.Forest.{Becomes, Forest, IsFitFor, empty, list_of, nodes_at, sizes_of, slots_of}
 use Rattle.bforest_calls.proofs.Sums.{upto, upto-more, upto-one, upto-two}

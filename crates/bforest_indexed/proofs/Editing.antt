@@ -6,8 +6,7 @@ use Rattle.bforest.specs.Cursor.{Goes, IsCursor, Moves, Writes, comparator, entr
 use Rattle.bforest.specs.Entries.{with_value}
 use Rattle.bforest.specs.Forest.{Becomes, Forest, IsFitFor, IsLive, free_of, limit_of, list_of, sizes_of, slots_of}
 use Rattle.bforest.specs.Refusal.{OutOfMemory}
-use Rattle.bforest.proofs.Balances.{Balances}
-use Rattle.bforest.specs.Room.{node_count}
+use Rattle.bforest.specs.Room.{Balances, node_count}
 use Rattle.bforest.specs.declared.map_cursor_mut.MapCursorMut.{MapCursorMut}
 use Rattle.bforest_indexed.specs.Edits.{Edits}
 use Rattle.std.proofs.Common.{Err, List, Ok, Option, Result, ap, arith, length, refl, subst, sym, ◌%◌, ◌+◌, ◌∙◌, ◌≡◌, ◌≤◌, ℕ}
@@ -98,7 +97,7 @@ module _ {K X C : Type 0} {most : ℕ} {order : C → K → K → Ordering} {c :
     pub edits-writes : {w : X} → Writes order d e w → Edits most order c e
     edits-writes {w} step =
         let b : Becomes (forest_now d) (map_now d) (forest_now e) (map_now e) (with_value (entries d) (spot d) w) =
-            subst (λ q. Becomes (forest_now d) (map_now d) (forest_now e) q (with_value (entries d) (spot d) w)) (sym step.map) step.becomes in
+        subst (λ q. Becomes (forest_now d) (map_now d) (forest_now e) q (with_value (entries d) (spot d) w)) (sym step.map) step.becomes in
         let sizes : sizes_of (forest_now e) (map_now e) ≡ sizes_of (forest_now d) (map_now d) = ap (sizes_of (forest_now e)) step.map ∙ step.sizes in
         let same : length (entries e) ≡ length (entries d) = ap length b.list ∙ length-written (entries d) (spot d) w in
         edits-step step.goes (becomes-now b) (λ fit. record {

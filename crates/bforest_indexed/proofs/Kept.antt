@@ -1,12 +1,12 @@
 -- What a call on the tree of one index leaves of all trees.
-use Rattle.bforest.proofs.Balances.{Balances, clears-balance, filters-balance, inserts-balance, pops-balance, removes-balance}
+use Rattle.bforest.proofs.Balances.{clears-balance, filters-balance, inserts-balance, pops-balance, removes-balance}
 use Rattle.bforest.specs.Bounds.{entries_between, entry_at_least, entry_at_most}
 use Rattle.bforest.specs.Calls.{Clears, Filters, GetsOrInserts, Inserts, Pops, Removes, Reserves}
 use Rattle.bforest.specs.Entries.{IsIncreasing, is_present, value_for}
 use Rattle.bforest.specs.Forest.{Becomes, Forest, Gives, IsFitFor, IsLive, empty, free_of, limit_of, list_at, list_of, sizes_of, slots_of}
 use Rattle.bforest.specs.Refusal.{Full, OutOfMemory}
 use Rattle.bforest.specs.Retain.{MayAskEach, Retains}
-use Rattle.bforest.specs.Room.{node_count}
+use Rattle.bforest.specs.Room.{Balances, node_count}
 use Rattle.bforest_indexed.proofs.Adding.{as-many, none-at, none-handles}
 use Rattle.bforest_indexed.proofs.Rooms.{has-room, may-have, sum-agree, sum-few, sum-same, sum-set}
 use Rattle.bforest_indexed.specs.Handles.{Adds}
@@ -360,19 +360,19 @@ module _ {K X C : Type 0} where
           → AreKept most cmp (with_tree m i f' h') × PopsAt most m i (length (entries m i) - 1) r (with_tree m i f' h')
       popped_last-at {r} given = popped-at (subst (λ (es : List (K × X)). Pops most (table m) h (length es - 1) r f' h') same-list given)
 
-      pub edited-at : {R : Type 0} {leaves : List (K × X) → R → List (K × X) → Type 0} {r : R} → Leaves most (table m) h f' h' → IsIncreasing cmp (list_of f' h')
+      pub edited-at : {R : Type 0} (leaves : List (K × X) → R → List (K × X) → Type 0) {r : R} → Leaves most (table m) h f' h' → IsIncreasing cmp (list_of f' h')
           → leaves (list_of (table m) h) r (list_of f' h') → AreKept most cmp (with_tree m i f' h') × EditsAt leaves m i r (with_tree m i f' h')
-      edited-at {R} {leaves} {r} given up told =
+      edited-at {R} leaves {r} given up told =
           let call = subst (λ (q : Option ℕ). Leaves most (table m) q f' h') read given in
           let made = call.balances (a.fit i) in (
-        kept-set a within call.becomes up made,
-        record {
-          left = subst (λ (es : List (K × X)). leaves es r (entries (with_tree m i f' h') i)) same-list
-              (subst (λ (es : List (K × X)). leaves (list_of (table m) h) r es) (sym (list-here a within call.becomes)) told);
-          beside = changes a within call.becomes;
-          slots = made.slots;
-        },
-      )
+            kept-set a within call.becomes up made,
+            record {
+              left = subst (λ (es : List (K × X)). leaves es r (entries (with_tree m i f' h') i)) same-list
+                  (subst (λ (es : List (K × X)). leaves (list_of (table m) h) r es) (sym (list-here a within call.becomes)) told);
+              beside = changes a within call.becomes;
+              slots = made.slots;
+            },
+          )
 
       module _ {k : K} {x : X} where
         -- the key is absent, so it was inserted

@@ -1,9 +1,8 @@
 -- The nodes of all indices' trees, where one of them changed, and where each is small.
-use Rattle.bforest.proofs.Balances.{IsFitAt}
 use Rattle.bforest.proofs.Growing.{growth-fits}
 use Rattle.bforest.specs.Entries.{is_present, place}
 use Rattle.bforest.specs.Forest.{Forest, free_of, growth, limit_of, list_of, need, need_of, room_of, sizes_of, slots_of}
-use Rattle.bforest.specs.Room.{IsEnoughFor, node_count}
+use Rattle.bforest.specs.Room.{IsFitAt, IsEnoughFor, node_count}
 use Rattle.bforest_indexed.specs.Indexed.{AreKept, HasRoom, Indexed, MayHave, StaysWithin, count, entries, handle, node_sizes, nodes_in_use, table}
 use Rattle.std.proofs.Common.{Bool, List, None, Option, [], ap, arith, false, get_or, if◌then◌else◌, length, refl, set, suc, sym, true, zero, ◌%◌, ◌*◌, ◌+◌, ◌<◌, ◌∙◌, ◌∷◌, ◌≡◌, ◌≢◌, ◌≤◌, ℕ}
 use Rattle.std.proofs.lemmas.List.Sums.{count_by-le-length, sum_by-cons}

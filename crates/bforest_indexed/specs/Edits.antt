@@ -1,7 +1,7 @@
 -- What work by a writing cursor leaves.
 use Rattle.bforest.specs.Cursor.{IsCursor, comparator, forest_loan, forest_now, map_loan, map_now}
 use Rattle.bforest.specs.Forest.{Becomes, Forest, IsFitFor, list_of, sizes_of, slots_of}
-use Rattle.bforest.proofs.Balances.{Balances}
+use Rattle.bforest.specs.Room.{Balances}
 use Rattle.bforest.specs.declared.map_cursor_mut.MapCursorMut.{MapCursorMut}
 use Rattle.bforest_indexed.specs.Indexed.{ChangesAt, Indexed, entries, table}
 use Rattle.std.specs.Prelude.{List, Option, length, ◌≡◌, ◌≤◌, ℕ}
