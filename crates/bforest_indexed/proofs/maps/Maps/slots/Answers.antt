@@ -1,0 +1,4 @@
+use Rattle.bforest_indexed.proofs.maps.Maps.slots.Goals as goal
+
+pub returns-clause-count : goal.returns-clause-count
+returns-clause-count g c = rw (← c.self.view_is) c.slots.ensures.count
