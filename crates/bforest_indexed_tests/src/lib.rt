@@ -1,0 +1,6 @@
+//! Tests of `bforest_indexed`: callers that are proved, and room that is taken ahead at a tight limit.
+#![tactic(auto)]
+
+pub mod callers;
+#[cfg(test)]
+mod room;
