@@ -1,5 +1,6 @@
-//! Tests of `bforest_indexed`: callers that are proved from its contracts alone. `bforest_indexed_refusals` makes a million calls within the
-//! room that was taken ahead.
+//! Tests of `bforest_indexed`: callers that are proved, and room that is taken ahead at a tight limit.
 #![tactic(auto)]
 
 pub mod callers;
+#[cfg(test)]
+mod room;
