@@ -3,12 +3,11 @@ use Rattle.bforest.specs.Entries.{cut, is_present, place, put}
 use Rattle.bforest.specs.Forest.{free_of, inner_gain, leaf_gain, need, need_above, need_of}
 use Rattle.bforest.specs.Refusal.{OutOfMemory}
 use Rattle.bforest.specs.Set.{as_put, the_value}
-use Rattle.bforest_indexed.proofs.Lists.{length-lists, lists-at, lists-changed, lists-empty, lists-kept}
+use Rattle.bforest_indexed.proofs.Lists.{length-lists, lists-at, lists-changed, lists-empty, lists-kept, past-end}
 use Rattle.bforest_indexed.specs.Indexed.{ChangesAt, Indexed, InsertsAt, KeepsAll, RemovesAt, count, entries, handle, lists, node_sizes, table}
 use Rattle.control_flow_example.proofs.Keeping.{mirrored-set, present-cut, present-cut_other, present-put, present-put_other, present-value}
 use Rattle.control_flow_example.specs.Graphs.{AreKept, Graph, IsMirrored, blocks, branch_of, graph_of, list_in, with_edge, without_edge}
-use Rattle.std.proofs.Common.{Bool, Err, IsOk, List, None, Ok, OnErr, OnOk, Option, Result, Some, [], ap, arith, false, if◌then◌else◌, length, refl, replicate, slice_set, subst, suc, sym, true, zero, ◌+◌, ◌<◌, ◌∙◌, ◌≡◌, ◌≢◌, ◌≤◌, ℕ}
-use Rattle.std.proofs.lemmas.List.{length-set}
+use Rattle.std.proofs.Common.{Bool, Err, IsOk, List, None, Ok, OnErr, OnOk, Option, Result, Some, [], ap, arith, false, if◌then◌else◌, length, refl, replicate, slice_set, subst, sym, true, ◌+◌, ◌-◌, ◌<◌, ◌∙◌, ◌∷◌, ◌≡◌, ◌≢◌, ◌≤◌, ℕ}
 use Rattle.std.specs.Option.{is_some}
 use Rattle.std.specs.Ordering.{nat_cmp}
 
@@ -32,8 +31,15 @@ enough most s i k levels is free = go (is_present nat_cmp (entries s i) k)
     go true = omega arith
     go false = let n = need-most most (place nat_cmp (entries s i) k) (node_sizes s i) in omega (arith, n, free, is)
 
+pub enough-after : {ss s1 : Indexed ℕ (Unit {0}) (Unit {0})} (i k : ℕ) {levels : ℕ} → KeepsAll ss s1 → levels ≡ length (node_sizes ss i) → levels + 1 ≤ free_of (table s1)
+    → need_of 15 nat_cmp (table s1) (handle s1 i) k ≤ free_of (table s1)
+enough-after {ss} {s1} i k {levels} kept is free = enough 15 s1 i k levels (is ∙ ap length (sym (kept.sizes i))) free
+
+pub kept-self : {K X C : Type 0} (m : Indexed K X C) → KeepsAll m m
+kept-self m = record { lists = λ i. refl; sizes = λ i. refl; same_comparator = refl }
+
 -- a set's insertion succeeds where that of its entry does
-put_done : (r : Result Bool OutOfMemory) → IsOk (as_put r) → IsOk r
+pub put_done : (r : Result Bool OutOfMemory) → IsOk (as_put r) → IsOk r
 put_done (Ok true) h = h
 put_done (Ok false) h = h
 put_done (Err refused) h = h
@@ -47,6 +53,14 @@ Successors = Indexed ℕ (Unit {0}) (Unit {0})
 
 abbrev Predecessors : Type 0
 Predecessors = Indexed ℕ ℕ (Unit {0})
+
+-- more nodes alone, as where an edge is refused
+module _ {ss s1 : Successors} {ps : Predecessors} (a : AreKept ss ps) (kept : KeepsAll ss s1) (same : count s1 ≡ count ss) where
+  pub refused-graph : graph_of s1 ps ≡ graph_of ss ps
+  refused-graph = λ j. record { successors = lists-kept kept same j; predecessors = lists ps }
+
+  pub refused-kept : AreKept s1 ps
+  refused-kept = record { same_blocks = same ∙ a.same_blocks; mirrored = subst IsMirrored (sym refused-graph) a.mirrored }
 
 -- an edge of a graph whose successors may have been given more nodes
 module _ {ss s1 : Successors} {ps : Predecessors} {from to : ℕ} (a : AreKept ss ps) (kept : KeepsAll ss s1) (same : count s1 ≡ count ss) (low : from < count ps) (high : to < count ps) where
@@ -106,9 +120,33 @@ module _ {ss s1 : Successors} {ps : Predecessors} {from to : ℕ} (a : AreKept s
         (λ q ne. present-cut_other (entries s1 from) to b.increasing q ne ∙ ap (λ l. is_present nat_cmp l q) forward-list)
         (λ p ne. present-cut_other (entries ps to) from d.increasing p ne ∙ ap (λ l. is_present nat_cmp l p) backward-list)
 
-  -- more nodes alone, as where an edge is refused
-  pub refused-graph : graph_of s1 ps ≡ graph_of ss ps
-  refused-graph = λ j. record { successors = lists-kept kept same j; predecessors = lists ps }
+-- the blocks of a graph are the indices of both
+pub in-blocks : (ss : Successors) (ps : Predecessors) {g : Graph} → graph_of ss ps ≡ g → (n : ℕ) → n < blocks g → n < count ps
+in-blocks ss ps {g} view n low = subst (λ k. n < k) (ap blocks (sym view) ∙ length-lists ps) low
 
-  pub refused-kept : AreKept s1 ps
-  refused-kept = record { same_blocks = same ∙ a.same_blocks; mirrored = subst IsMirrored (sym refused-graph) a.mirrored }
+-- a block leads to another exactly where its successors have it
+pub led : {ss : Successors} {ps : Predecessors} {g : Graph} → AreKept ss ps → graph_of ss ps ≡ g → (from to : ℕ) → is_present nat_cmp (entries ss from) to ≡ is_some (branch_of g from to)
+led {ss} {ps} {g} a view from to =
+    ap (λ l. is_present nat_cmp l to) (sym (lists-at ss from)) ∙ a.mirrored from to ∙ present-value (list_in (lists ps) to) from ∙ ap (λ (g : Graph). is_some (branch_of g from to)) view
+
+-- maps or sets that were made and grown are empty
+module _ {K X C : Type 0} {m m' : Indexed K X C} (none : count m ≡ 0) (kept : KeepsAll m m') where
+  grown-entries : (i : ℕ) → entries m' i ≡ []
+  grown-entries i = kept.lists i ∙ past-end m i none
+
+  pub grown-lists : (n : ℕ) → count m' ≡ count m + (n - count m) → lists m' ≡ replicate n []
+  grown-lists n grown = lists-empty m' grown-entries ∙ ap (λ k. replicate k []) (grown ∙ omega (arith, none))
+
+pub kept-new : {ss s' : Successors} {ps p' : Predecessors} (n : ℕ) → count ss ≡ 0 → KeepsAll ss s' → count s' ≡ count ss + (n - count ss)
+    → count ps ≡ 0 → KeepsAll ps p' → count p' ≡ count ps + (n - count ps) → AreKept s' p'
+kept-new {ss} {s'} {ps} {p'} n none kept grown none' kept' grown' = record {
+  same_blocks = omega (arith, none, none', grown, grown');
+  mirrored = λ p q. ap (λ l. is_present nat_cmp l q) (lists-at s' p ∙ grown-entries none kept p) ∙ sym (ap (λ l. is_present nat_cmp l p) (lists-at p' q ∙ grown-entries none' kept' q));
+}
+
+pub on_err_told : {A E P : Type 0} (r : Result A E) → P → OnErr r P
+on_err_told (Ok x) p = tt
+on_err_told (Err x) p = p
+
+pub is_ok : {A E : Type 0} {r : Result A E} {x : A} → r ≡ Ok x → IsOk r
+is_ok {A} {E} {r} {x} is = subst (λ (s : Result A E). IsOk s) (sym is) refl

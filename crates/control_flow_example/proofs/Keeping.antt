@@ -3,7 +3,7 @@ use Rattle.bforest.proofs.Entries.{value_for-put, value_for-put_other}
 use Rattle.bforest.specs.Entries.{IsIncreasing, cut, entry_for, is_present, put, value_for}
 use Rattle.bforest.proofs.Entries.{value_for-cut, value_for-cut_other}
 use Rattle.control_flow_example.specs.Graphs.{list_in}
-use Rattle.std.proofs.Common.{Bool, List, None, Option, Some, [], ap, arith, cond, false, get_or, inl, inr, length, refl, slice_set, subst, suc, sym, true, zero, ◌<◌, ◌==◌, ◌∙◌, ◌≡◌, ◌≢◌, ◌∷◌, ℕ}
+use Rattle.std.proofs.Common.{Bool, List, None, Option, Some, [], ap, cond, false, get_or, inl, inr, length, refl, slice_set, sym, true, ◌<◌, ◌==◌, ◌∙◌, ◌≡◌, ◌≢◌, ℕ}
 use Rattle.std.proofs.lemmas.Bool.Decides.{eqb_tells}
 use Rattle.std.proofs.lemmas.Bool.{cases_order, lt-ltb}
 use Rattle.std.proofs.lemmas.Cmp.{nat_cmp_total}
