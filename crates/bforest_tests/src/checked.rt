@@ -61,3 +61,12 @@ pub(crate) fn entries(
     assert!(rt; forest.holds(map));
     map.iter(forest).collect(alloc)
 }
+
+/// A map of the keys 1 to `most`, each with itself as value, inserted in ascending order.
+pub(crate) fn ascending(rt: &impl Abort, most: u32, forest: &mut NumberForest) -> Numbers {
+    let mut map = Map::new();
+    for key in 1..=most {
+        assert_eq!(rt; insert(rt, &mut map, (key, key), forest, &()), Ok(None));
+    }
+    map
+}

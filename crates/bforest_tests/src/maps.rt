@@ -1,6 +1,6 @@
 //! Maps in the order of their keys' type.
 
-use crate::checked::{NumberForest, Numbers, get, insert};
+use crate::checked::{NumberForest, Numbers, ascending, get, insert};
 use bforest::{Map, MapForest};
 use std::default::Default;
 
@@ -36,13 +36,7 @@ fn an_iterator_ends_once(rt: HostRuntime) {
 #[test]
 fn an_iterator_that_owns_its_forest_ends_for_good(rt: HostRuntime) {
     let mut forest: NumberForest = MapForest::new(rt.alloc());
-    let mut map = Map::new();
-    for key in 1..=36u32 {
-        assert_eq!(rt;
-            insert(&rt, &mut map, (key, key), &mut forest, &()),
-            Ok(None)
-        );
-    }
+    let map = ascending(&rt, 36, &mut forest);
     assert!(rt; forest.holds(&map));
     let mut entries = map.into_iter(forest);
     for key in 1..=36u32 {

@@ -1,24 +1,24 @@
 //! The first entry and the last, the first from a key on, and the value of a key that is inserted where it is absent.
 
-use crate::checked::{NumberForest, insert};
+use crate::checked::{NumberForest, Numbers, ascending};
 use bforest::{Map, MapForest, Set, SetForest};
+use std::process::Abort;
+
+/// Reads the first entry and the last, and removes both.
+fn take_ends(rt: &impl Abort, map: &mut Numbers, first: u32, last: u32, forest: &mut NumberForest) {
+    assert!(rt; forest.holds(map));
+    assert_eq!(rt; map.first(forest), Some((first, first)));
+    assert_eq!(rt; map.last(forest), Some((last, last)));
+    assert_eq!(rt; map.pop_first(forest), Some((first, first)));
+    assert_eq!(rt; map.pop_last(forest), Some((last, last)));
+}
 
 #[test]
 fn a_map_is_emptied_from_both_ends(rt: HostRuntime) {
     let mut forest: NumberForest = MapForest::new(rt.alloc());
-    let mut map = Map::new();
-    for key in 1..=36u32 {
-        assert_eq!(rt;
-            insert(&rt, &mut map, (key, key), &mut forest, &()),
-            Ok(None)
-        );
-    }
+    let mut map = ascending(&rt, 36, &mut forest);
     for turn in 1..=18u32 {
-        assert!(rt; forest.holds(&map));
-        assert_eq!(rt; map.first(&forest), Some((turn, turn)));
-        assert_eq!(rt; map.last(&forest), Some((37 - turn, 37 - turn)));
-        assert_eq!(rt; map.pop_first(&mut forest), Some((turn, turn)));
-        assert_eq!(rt; map.pop_last(&mut forest), Some((37 - turn, 37 - turn)));
+        take_ends(&rt, &mut map, turn, 37 - turn, &mut forest);
     }
     assert!(rt; map.is_empty());
     assert_eq!(rt; forest.free_slots(), forest.slots());

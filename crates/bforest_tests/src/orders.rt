@@ -45,9 +45,17 @@ fn searches(rt: HostRuntime) {
     assert_eq!(rt; ().search(9, &[2, 9]), Ok(1));
     assert_eq!(rt; ().search(5, &[2, 9]), Err(1));
     assert_eq!(rt; ().search(5, &[]), Err(0));
+}
+
+#[test]
+fn searches_in_custom_orders(rt: HostRuntime) {
     assert_eq!(rt; Reversed.search(5, &[9, 2]), Err(1));
     assert_eq!(rt; Tens.search(17, &[3, 12]), Ok(1));
     assert_eq!(rt; Tens.search(27, &[3, 12]), Err(2));
+}
+
+#[test]
+fn upper_bounds(rt: HostRuntime) {
     assert_eq!(rt; ().upper_bound(9, &[2, 9]), 2);
     assert_eq!(rt; ().upper_bound(5, &[2, 9]), 1);
     assert_eq!(rt; Reversed.upper_bound(5, &[9, 2]), 1);

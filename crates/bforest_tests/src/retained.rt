@@ -1,18 +1,8 @@
 //! Maps of which a predicate keeps some entries.
 
-use crate::checked::{NumberForest, Numbers, entries, insert};
-use bforest::{Map, MapForest};
-use std::process::Abort;
+use crate::checked::{NumberForest, ascending, entries};
+use bforest::MapForest;
 use std::test::Fail;
-
-/// A map of the keys 1 to `most`, each with itself as value, inserted in ascending order.
-fn ascending(rt: &impl Abort, most: u32, forest: &mut NumberForest) -> Numbers {
-    let mut map = Map::new();
-    for key in 1..=most {
-        assert_eq!(rt; insert(rt, &mut map, (key, key), forest, &()), Ok(None));
-    }
-    map
-}
 
 // The value of each key becomes the number of its call: each entry is asked once, in order.
 #[test]
