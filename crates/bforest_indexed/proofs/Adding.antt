@@ -1,6 +1,6 @@
 -- A list to which values that pass a test are added, one after another, and what that leaves of handles.
 use Rattle.bforest_indexed.specs.Handles.{Adds}
-use Rattle.std.proofs.Common.{Err, List, None, Ok, OnErr, OnOk, Option, Result, [], ap, get_or, length, refl, rules, subst, suc, sym, zero, ℕ, ◌++◌, ◌+◌, ◌∙◌, ◌∷◌, ◌≡◌, ◌≤◌}
+use Rattle.std.proofs.Common.{Bool, Err, IsTrue, List, None, Ok, OnErr, OnOk, Option, Result, [], ap, get_or, length, refl, rules, subst, suc, sym, zero, ℕ, ◌++◌, ◌+◌, ◌∙◌, ◌∷◌, ◌≡◌, ◌≤◌, ◌↔◌, ◌==◌}
 use Rattle.std.proofs.lemmas.List.{append-nil, append_assoc, length-append}
 use Rattle.std.specs.List.{AllByRecursion}
 
@@ -64,3 +64,7 @@ module _ {E : Type 0} (hs qs : List (Option ℕ)) (n : ℕ) where
 -- one empty handle more changes no index
 pub pushed : (hs qs : List (Option ℕ)) (h : Option ℕ) → h ≡ None → qs ≡ hs ++ h ∷ [] → (i : ℕ) → get_or qs i None ≡ get_or hs i None
 pushed hs qs h empty is = same-handles hs qs 1 (adds-one hs 0 hs qs h (adds-none hs hs refl) empty is)
+
+-- a test whether a list is empty
+pub tells-none : {X : Type 0} (b : Bool) (n : ℕ) (xs : List X) → n ≡ length xs → b ≡ (n == 0) → IsTrue b ↔ (length xs ≡ 0)
+tells-none b n xs size is = search rules

@@ -1,7 +1,7 @@
 use Rattle.bforest_indexed.proofs.Adding.{pushed}
 use Rattle.bforest_indexed.proofs.Kept.{keeps-same, kept-same}
 use Rattle.bforest_indexed.proofs.sets.Sets.push.Goals as goal
-use Rattle.std.proofs.Common.{List, None, Option, ap, get_or, ℕ}
+use Rattle.std.proofs.Common.{List, None, Option, ap, get_or, ℕ, ◌∙◌}
 
 pub invariant_of-self-2 : goal.invariant_of-self-2
 invariant_of-self-2 g c = kept-same _ _ (pushed _ _ _ c.new.ensures.empty c.in_ok-push.ensures.items) c.self.invariant
@@ -11,3 +11,6 @@ returns-clause-keeps g c = rw (← c.self.view_is) (keeps-same _ _ (pushed _ _ _
 
 pub returns-in_err-push-clause-keeps : goal.returns-in_err-push-clause-keeps
 returns-in_err-push-clause-keeps g c = rw (← c.self.view_is) (keeps-same _ _ (λ i. ap (λ (qs : List (Option ℕ)). get_or qs i None) c.in_err-push.ensures.items))
+
+pub returns-clause-index : goal.returns-clause-index
+returns-clause-index g c = rw (← c.self.view_is) (c.len-index.ensures ∙ c.self.inside.sets.ok.0)

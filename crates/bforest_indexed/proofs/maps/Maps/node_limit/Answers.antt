@@ -1,0 +1,4 @@
+use Rattle.bforest_indexed.proofs.maps.Maps.node_limit.Goals as goal
+
+pub returns : goal.returns
+returns g c = record { limit = rw (← c.self.view_is) c.node_limit.ensures.limit }

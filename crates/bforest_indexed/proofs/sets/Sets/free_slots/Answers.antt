@@ -1,0 +1,4 @@
+use Rattle.bforest_indexed.proofs.sets.Sets.free_slots.Goals as goal
+
+pub returns : goal.returns
+returns g c = record { count = rw (← c.self.view_is) c.free_slots.ensures.count }
