@@ -202,7 +202,8 @@ impl<K: Copy, C: Comparator<K>> Sets<K, C> {
     /// and no memory is taken.
     pub fn remove(&mut self, index: usize, key: K) -> bool
         requires within { index < count self.old }
-        ensures { RemovesAt 15 (C.order (comparator self.old)) self.old index key (as_removed result) self.new }
+        ensures { RemovesAt 15 (C.order (comparator self.old)) self.old index key (as_removed result)
+            self.new }
     {
         self.sets[index].remove(key, &mut self.forest, &self.order)
     }
