@@ -144,3 +144,7 @@ module _ {K X C : Type 0} {most : ℕ} {cmp : K → K → Ordering} {m : Indexed
 pub kept-reserved : {K X C : Type 0} {most : ℕ} {cmp : K → K → Ordering} (m : Indexed K X C) (f' : Forest K X) (hs : List (Option ℕ)) {n : ℕ} {r : Result (Unit {0}) OutOfMemory}
     → Reserves (table m) n r f' → hs ≡ m.handles → AreKept most cmp m → AreKept most cmp (record m { forest = f'; handles = hs })
 kept-reserved m f' hs given same a = kept-same (record m { forest = f' }) hs (λ i. ap (λ (qs : List (Option ℕ)). get_or qs i None) same) ((kept-all m f' given a).0)
+
+-- the handles stay
+pub kept-handles : {K X C : Type 0} {most : ℕ} {cmp : K → K → Ordering} (m : Indexed K X C) (hs : List (Option ℕ)) → hs ≡ m.handles → AreKept most cmp m → AreKept most cmp (record m { handles = hs })
+kept-handles m hs same a = kept-same m hs (λ i. ap (λ (qs : List (Option ℕ)). get_or qs i None) same) a

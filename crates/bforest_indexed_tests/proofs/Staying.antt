@@ -1,7 +1,6 @@
 -- What stays within some numbers does so after a call that keeps all lists.
-use Rattle.bforest_indexed.specs.Indexed.{Indexed, KeepsAll, StaysWithin, count, entries}
-use Rattle.bforest.specs.Entries.{is_present}
-use Rattle.std.proofs.Common.{List, ap, arith, false, length, subst, sym, ◌∙◌, ◌<◌, ◌≡◌, ◌≤◌, ℕ}
+use Rattle.bforest_indexed.specs.Indexed.{Indexed, KeepsAll, StaysWithin, count}
+use Rattle.std.proofs.Common.{arith, ◌≡◌, ℕ}
 use Rattle.std.specs.declared.cmp.Ordering.{Ordering}
 
 pub still-within : {K X C : Type 0} (order : C → K → K → Ordering) (m m' : Indexed K X C) (lists most_entries i : ℕ) (k : K) → KeepsAll m m' → count m' ≡ count m
