@@ -16,7 +16,7 @@ pub extern "C" fn bench_mixture(
     bforest_workloads_bench::run_mixture(alloc, maps, calls, looks, walks, is_cleared)
 }
 
-/// The same calls on maps that are named by an index: `bforest_workloads_bench::run_indexed`.
+/// Calls of all kinds on many small maps that are named by an index: `bforest_workloads_bench::run_indexed`.
 #[unsafe(no_mangle)]
 pub extern "C" fn bench_indexed(alloc: Global, maps: u32, calls: u32, is_cleared: bool) -> u64 {
     bforest_workloads_bench::run_indexed(alloc, maps, calls, is_cleared)
