@@ -84,6 +84,12 @@ EDITS = {
         (r"\.push_reserved\(", ".push(", 2),
         (r": Drop \+ Default>", ": Default>", 2),
     ],
+    "bforest_indexed/edit.rt": [(r"\[`crate::(Maps::edit)`\]", r"`\1`", 1)],
+    "bforest_indexed/room.rt": [
+        (r"^use bforest::OutOfMemory;\n", "use alloc::vec::Vec;\nuse bforest::OutOfMemory;\n", 1),
+        (r"handles\.reserve\(more\)", "handles.try_reserve(more)", 1),
+        (r"<H: Drop>", "<H>", 1),
+    ],
     "bforest_indexed/maps.rt": [
         *INDEXED,
         (r"^pub struct Maps<K: Copy, V: Copy, C: Comparator<K>>", "pub struct Maps<K: Copy, V: Copy, C: Comparator<K> = ()>", 1),
