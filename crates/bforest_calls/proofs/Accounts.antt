@@ -2,6 +2,7 @@
 use Rattle.bforest.proofs.Balances.{clears-balance, filters-balance, inserts-balance, length-written, removes-at-balance, removes-balance, sizes-stay}
 use Rattle.bforest.specs.Calls.{Clears, Filters, Inserts, Removes, RemovesAt}
 use Rattle.bforest.specs.Forest.{Becomes, Forest, IsFitFor, empty, list_of, nodes_at, sizes_of, slots_of}
+use Rattle.bforest.specs.Room.{Balances}
 use Rattle.bforest_calls.proofs.Sums.{upto, upto-more, upto-one, upto-two}
 use Rattle.bforest_calls.specs.State.{AddsUp, WritesAt}
 use Rattle.bforest_core.proofs.union.Forests.{used_within}
