@@ -123,6 +123,10 @@ module _ {K V : Type 0} {table : Table K V} {handle : Option ℕ} {look : Look K
   pub on-first : look.index ≡ 0 → IsLook table handle look start
   on-first none = inl (record { start = start; holds = h; within = omega (arith, none, held-some); place_is = omega (arith, none) })
 
+  -- the first entry of its leaf is there
+  pub first-within : look.index ≡ 0 → look.index < length look.keys.now
+  first-within none = omega (arith, none, held-some)
+
 -- a look that holds no leaf holds no key
 pub keyless : {K V : Type 0} {look : Look K V} → HasNoLeaf look → length look.keys.now ≡ 0
 keyless none = ap length none.keys
@@ -180,15 +184,6 @@ module _ {K V : Type 0} {table : Table K V} {handle : Option ℕ} {look : Look K
       | inr end ↦ absurd (omega (arith, more, keyless end.none))
     ]
 
-    pub step-value : (entry : K × V) → slice_get look.keys.now (look.index + 1) ≡ Some entry.0 → slice_get look.vals.now (look.index + 1) ≡ Some entry.1 → Some entry ≡ slice_get (list_of table handle) (place + 1)
-    step-value entry key value = elim l [
-      | inl on ↦ (
-          let is : on.start + (look.index + 1) ≡ place + 1 = omega (arith, on.place_is) in
-          held-read on.holds (look.index + 1) entry key value ∙ ap (slice_get (list_of table handle)) is
-          )
-      | inr end ↦ absurd (omega (arith, more, keyless end.none))
-    ]
-
   -- from the last entry of its leaf, the next place is behind the leaf
   pub past-leaf : length look.keys.now ≤ look.index + 1 → IsBehind table handle look (min (place + 1) (length (list_of table handle)))
   past-leaf last = elim l [
@@ -207,14 +202,19 @@ module _ {K V : Type 0} {table : Table K V} {handle : Option ℕ} {look : Look K
     pub back-within : look.index - 1 < length look.keys.now
     back-within = elim l [ inl on ↦ omega (arith, on.within) | inr end ↦ absurd (omega (arith, more, end.none.index)) ]
 
-    pub back-value : (entry : K × V) → slice_get look.keys.now (look.index - 1) ≡ Some entry.0 → slice_get look.vals.now (look.index - 1) ≡ Some entry.1 → Some entry ≡ entry_before (list_of table handle) place
-    back-value entry key value = elim l [
-      | inl on ↦ (
-          let is : place ≡ suc (on.start + (look.index - 1)) = omega (arith, on.place_is, more) in
-          held-read on.holds (look.index - 1) entry key value ∙ sym (ap (entry_before (list_of table handle)) is)
-          )
-      | inr end ↦ absurd (omega (arith, more, end.none.index))
-    ]
+    pub back-behind : 0 < place
+    back-behind = elim l [ inl on ↦ omega (arith, on.place_is, more) | inr end ↦ absurd (omega (arith, more, end.none.index)) ]
+
+-- the entry where a look stands is the one before the next place
+pub before-there : {K V : Type 0} {table : Table K V} {handle : Option ℕ} {look : Look K V} {place : ℕ} → IsLook table handle look (place - 1) → 0 < place
+    → (entry : K × V) → slice_get look.keys.now look.index ≡ Some entry.0 → slice_get look.vals.now look.index ≡ Some entry.1 → Some entry ≡ entry_before (list_of table handle) place
+before-there {table = table} {handle = handle} {place = place} l some entry key value =
+    let is : suc (place - 1) ≡ place = omega (arith, some) in
+    entry-there l entry key value ∙ ap (entry_before (list_of table handle)) is
+
+-- no entry is before the first
+pub before-first : {X : Type 0} (xs : List X) {place : ℕ} → place ≡ 0 → None ≡ entry_before xs place
+before-first xs first = sym (ap (entry_before xs) first)
 
 -- with no tree, each place is the end
 module _ {K V : Type 0} {table : Table K V} {handle : Option ℕ} {look : Look K V} (none : handle ≡ None) where
@@ -233,6 +233,10 @@ read-min xs p = elim (cases_lt p (length xs)) [
   | inl low ↦ (let is : min p (length xs) ≡ p = omega (arith, low) in ap (slice_get xs) is)
   | inr past ↦ slice_get_past xs (min p (length xs)) (omega (arith, past)) ∙ sym (slice_get_past xs p past)
 ]
+
+-- no entry is at a place past the end
+pub past-next : {X : Type 0} (xs : List X) (p : ℕ) → length xs ≤ p → None ≡ slice_get xs p
+past-next xs p past = sym (slice_get_past xs p past)
 
 -- whether there is no key
 pub none-tested : {X : Type 0} (xs : List X) (b : Bool) → b ≡ (length xs == 0) → b ≡ true → length xs ≡ 0
@@ -340,8 +344,8 @@ module _ {K V : Type 0} {table : Table K V} {handle : Option ℕ} {spot : Spot} 
   pub last-look : IsLook table handle (record look { index = length look.keys.now - 1 }) (place - 1)
   last-look = on-entry h (length look.keys.now - 1) (place - 1) (omega (arith, held-some h)) (omega (arith, up-to-is))
 
-  pub last-value : (entry : K × V) → slice_get look.keys.now (length look.keys.now - 1) ≡ Some entry.0 → slice_get look.vals.now (length look.keys.now - 1) ≡ Some entry.1 → Some entry ≡ entry_before (list_of table handle) place
-  last-value entry key value = held-read h (length look.keys.now - 1) entry key value ∙ sym (ap (entry_before (list_of table handle)) up-to-is)
+  pub last-behind : 0 < place
+  last-behind = omega (arith, up-to-is)
 
 -- a place that is the first is also the one before
 pub stays : {K V : Type 0} {table : Table K V} {handle : Option ℕ} {look : Look K V} (at : AtLook table handle look) → at.place ≡ 0 → IsLook table handle look (at.place - 1)

@@ -4,7 +4,7 @@ ghost use Rattle.bforest_core.specs.Trees.{IsUnion};
 ghost use Rattle.bforest_nodes.specs.Entries.{IsIncreasing, place, value_for};
 ghost use Rattle.bforest_trees.specs.Forest.{Forest, IsLive, list_of};
 ghost use Rattle.bforest_trees.specs.Looks.{AtLook, Holds, HoldsPlace, IsBehind, IsLook, IsPaired, LeafFrom, LeafUpTo};
-ghost use Rattle.std.specs.Prelude.{IfSome, IsTrue, None, Option, Some, length, min, slice_get, ◌+◌, ◌-◌, ◌<◌, ◌↔◌, ◌≡◌, ℕ};
+ghost use Rattle.std.specs.Prelude.{IfSome, IsTrue, None, Option, Some, false, length, min, slice_get, true, ◌+◌, ◌-◌, ◌<◌, ◌≤◌, ◌↔◌, ◌≡◌, ℕ};
 
 use crate::trees::Trees;
 use bforest_core::{Comparator, Node, NodePool, PackedNode, Spot};
@@ -156,24 +156,54 @@ impl<'a, K: Copy, V: Copy> Look<'a, K, V> {
         ensures look { (at : AtLook trees.now handle self.old)
             → IsLook trees.now handle self.new (min (at.place + 1) (length (list_of trees.now handle))) }
     {
-        if self.index + 1 < self.keys.len() {
-            self.index += 1;
-            return Some(self.here());
+        if self.step_on(handle, &trees.pool) {
+            Some(self.here())
+        } else {
+            None
         }
-        self.enter_next(handle, &trees.pool);
-        self.entry()
     }
 
-    // Goes to the first entry of the next leaf, or to the end.
+    // Goes to the next entry, or from the last entry to the end. Returns whether there is a next one.
     #[inline(always)]
-    fn enter_next<const N: usize>(&mut self, handle: PackedNode, pool: &'a NodePool<K, V, N>)
+    fn step_on<const N: usize>(&mut self, handle: PackedNode, pool: &'a NodePool<K, V, N>) -> bool
+        requires union { IsUnion N pool.now }
+        requires stands { AtLook pool.now handle self.old }
+        ensures look { (at : AtLook pool.now handle self.old)
+            → IsLook pool.now handle self.new (min (at.place + 1) (length (list_of pool.now handle))) }
+        ensures some { result ≡ true → self.new.index < length self.new.keys.now }
+        ensures none { result ≡ false → (at : AtLook pool.now handle self.old)
+            → length (list_of pool.now handle) ≤ at.place + 1 }
+    {
+        if self.index + 1 < self.keys.len() {
+            self.index += 1;
+            return true;
+        }
+        self.enter_next(handle, pool)
+    }
+
+    // Goes to the first entry of the next leaf, or to the end. Returns whether there is a next leaf.
+    #[inline(always)]
+    fn enter_next<const N: usize>(
+        &mut self,
+        handle: PackedNode,
+        pool: &'a NodePool<K, V, N>,
+    ) -> bool
         requires union { IsUnion N pool.now }
         requires behind { (at : ℕ) × IsBehind pool.now handle self.old at }
         ensures look { (at : ℕ) → IsBehind pool.now handle self.old at → IsLook pool.now handle self.new at }
+        ensures some { result ≡ true → self.new.index < length self.new.keys.now }
+        ensures none { result ≡ false → (at : ℕ) → IsBehind pool.now handle self.old at
+            → at ≡ length (list_of pool.now handle) }
     {
         match self.next_leaf(handle, pool) {
-            Some((spot, leaf)) => *self = Look::enter(spot, leaf, pool),
-            None => *self = Look::end(),
+            Some((spot, leaf)) => {
+                *self = Look::enter(spot, leaf, pool);
+                true
+            }
+            None => {
+                *self = Look::end();
+                false
+            }
         }
     }
 
@@ -209,34 +239,56 @@ impl<'a, K: Copy, V: Copy> Look<'a, K, V> {
         ensures look { (at : AtLook trees.now handle self.old)
             → IsLook trees.now handle self.new (at.place - 1) }
     {
-        if self.index > 0 {
-            self.index -= 1;
-            return Some(self.here());
+        if self.step_back(handle, &trees.pool) {
+            Some(self.here())
+        } else {
+            None
         }
-        self.enter_prev(handle, &trees.pool)
     }
 
-    // Goes from the first entry of a leaf to the last of the leaf before, or from the end to the last of all, and returns it. At the first
-    // entry of all it stays.
+    // Goes to the previous entry, and from the end to the last. At the first entry it stays. Returns whether there is a previous one.
+    #[inline(always)]
+    fn step_back<const N: usize>(&mut self, handle: PackedNode, pool: &'a NodePool<K, V, N>) -> bool
+        requires union { IsUnion N pool.now }
+        requires live { IsLive pool.now handle }
+        requires stands { AtLook pool.now handle self.old }
+        ensures look { (at : AtLook pool.now handle self.old)
+            → IsLook pool.now handle self.new (at.place - 1) }
+        ensures some { result ≡ true → self.new.index < length self.new.keys.now }
+        ensures behind { result ≡ true → (at : AtLook pool.now handle self.old) → 0 < at.place }
+        ensures none { result ≡ false → (at : AtLook pool.now handle self.old) → at.place ≡ 0 }
+    {
+        if self.index > 0 {
+            self.index -= 1;
+            return true;
+        }
+        self.enter_prev(handle, pool)
+    }
+
+    // Goes from the first entry of a leaf to the last of the leaf before, or from the end to the last of all. At the first entry of all it
+    // stays. Returns whether there is a leaf before.
     #[inline(always)]
     fn enter_prev<const N: usize>(
         &mut self,
         handle: PackedNode,
         pool: &'a NodePool<K, V, N>,
-    ) -> Option<(K, V)>
+    ) -> bool
         requires union { IsUnion N pool.now }
         requires live { IsLive pool.now handle }
         requires stands { AtLook pool.now handle self.old }
         requires first { self.old.index ≡ 0 }
-        ensures value { (at : AtLook pool.now handle self.old)
-            → result ≡ entry_before (list_of pool.now handle) at.place }
         ensures look { (at : AtLook pool.now handle self.old)
             → IsLook pool.now handle self.new (at.place - 1) }
+        ensures some { result ≡ true → self.new.index < length self.new.keys.now }
+        ensures behind { result ≡ true → (at : AtLook pool.now handle self.old) → 0 < at.place }
+        ensures none { result ≡ false → (at : AtLook pool.now handle self.old) → at.place ≡ 0 }
     {
-        let (spot, leaf) = self.leaf_before(handle, pool)?;
+        let Some((spot, leaf)) = self.leaf_before(handle, pool) else {
+            return false;
+        };
         *self = Look::enter(spot, leaf, pool);
         self.index = self.keys.len() - 1;
-        Some(self.here())
+        true
     }
 
     // The leaf before and its place, if there is one; from the end it is the last leaf.

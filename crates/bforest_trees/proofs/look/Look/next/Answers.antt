@@ -1,39 +1,33 @@
-use Rattle.std.proofs.Common.{length, min, rules, ◌+◌, ◌∙◌}
-use Rattle.bforest_trees.proofs.Looking.{past-leaf, paired, read-min, step-look, step-value}
+use Rattle.std.proofs.Common.{rules, ◌+◌, ◌∙◌}
+use Rattle.bforest_trees.proofs.Looking.{entry-there, paired, past-next, read-min}
 use Rattle.bforest_trees.specs.Forest.{list_of}
 use Rattle.bforest_trees.specs.Looks.{AtLook}
 use Rattle.bforest_trees.proofs.look.Look.next.Goals as goal
 
-pub here-requires-clause-paired : goal.here-requires-clause-paired
-here-requires-clause-paired g c = paired c.requires.stands.is
+pub step_on-requires : goal.step_on-requires
+step_on-requires g c = (search rules, (c.trees.invariant, rw (← c.trees.view_is) at c.requires.stands))
 
 pub here-requires-clause-within : goal.here-requires-clause-within
-here-requires-clause-within g c = c.if-self.true
+here-requires-clause-within g c = c.step_on.ensures.some c.if-step_on.true
 
-pub returns-then-self-clause-value : goal.returns-then-self-clause-value
-returns-then-self-clause-value g c = λ at. step-value at.is c.if-self.true c.here.result c.here.ensures.key c.here.ensures.value
-
-pub returns-then-self-clause-look : goal.returns-then-self-clause-look
-returns-then-self-clause-look g c = λ at. step-look at.is c.if-self.true
-
-pub enter_next-requires : goal.enter_next-requires
-enter_next-requires g c =
+pub here-requires-clause-paired : goal.here-requires-clause-paired
+here-requires-clause-paired g c =
     let at : AtLook c.trees.inside.pool c.args.handle c.args.self.now = rw (← c.trees.view_is) at c.requires.stands in
-    (search rules, (c.trees.invariant, (min (at.place + 1) (length (list_of c.trees.inside.pool c.args.handle)), past-leaf at.is c.if-self.false)))
+    paired (c.step_on.ensures.look at)
 
-pub entry-requires : goal.entry-requires
-entry-requires g c =
-    let at : AtLook c.trees.inside.pool c.args.handle c.args.self.now = rw (← c.trees.view_is) at c.requires.stands in
-    record { paired = paired (c.enter_next.ensures.look (min (at.place + 1) (length (list_of c.trees.inside.pool c.args.handle))) (past-leaf at.is c.if-self.false)) }
-
-pub returns-clause-value : goal.returns-clause-value
-returns-clause-value g c = λ at.
+pub returns-then-step_on-clause-value : goal.returns-then-step_on-clause-value
+returns-then-step_on-clause-value g c = λ at.
     let here : AtLook c.trees.inside.pool c.args.handle c.args.self.now = rw (← c.trees.view_is) at at in
     let list = list_of c.trees.inside.pool c.args.handle in
-    rw (← c.trees.view_is) (c.entry.ensures.value c.trees.inside.pool c.args.handle (min (here.place + 1) (length list)) (c.enter_next.ensures.look (min (here.place + 1) (length list)) (past-leaf here.is c.if-self.false)) ∙ read-min list (here.place + 1))
+    rw (← c.trees.view_is) (entry-there (c.step_on.ensures.look here) c.here.result c.here.ensures.key c.here.ensures.value ∙ read-min list (here.place + 1))
 
-pub returns-clause-look : goal.returns-clause-look
-returns-clause-look g c = λ at.
+pub returns-else-step_on-clause-value : goal.returns-else-step_on-clause-value
+returns-else-step_on-clause-value g c = λ at.
     let here : AtLook c.trees.inside.pool c.args.handle c.args.self.now = rw (← c.trees.view_is) at at in
-    let list = list_of c.trees.inside.pool c.args.handle in
-    rw (← c.trees.view_is) (c.enter_next.ensures.look (min (here.place + 1) (length list)) (past-leaf here.is c.if-self.false))
+    rw (← c.trees.view_is) (past-next (list_of c.trees.inside.pool c.args.handle) (here.place + 1) (c.step_on.ensures.none c.if-step_on.false here))
+
+pub returns-then-step_on-clause-look : goal.returns-then-step_on-clause-look
+returns-then-step_on-clause-look g c = rw (← c.trees.view_is) c.step_on.ensures.look
+
+pub returns-else-step_on-clause-look : goal.returns-else-step_on-clause-look
+returns-else-step_on-clause-look g c = rw (← c.trees.view_is) c.step_on.ensures.look
