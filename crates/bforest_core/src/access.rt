@@ -106,6 +106,7 @@ pub(crate) fn put_entry<K: Copy, V: Copy, const N: usize>(
 }
 
 // Puts a value in at a key of a leaf, and returns the value that it replaces, or the key's place if the key is absent and the leaf is full.
+#[inline(always)]
 pub(crate) fn put<K: Copy, V: Copy, const N: usize, C: Comparator<K>>(
     pool: &mut NodePool<K, V, N>,
     node: Node,
@@ -128,6 +129,7 @@ pub(crate) fn put<K: Copy, V: Copy, const N: usize, C: Comparator<K>>(
 }
 
 // Removes a key from a leaf, and returns its place and its value, or `None` if it is absent.
+#[inline(always)]
 pub(crate) fn take<K: Copy, V: Copy, const N: usize, C: Comparator<K>>(
     pool: &mut NodePool<K, V, N>,
     node: Node,

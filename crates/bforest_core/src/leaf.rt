@@ -15,6 +15,7 @@ impl<K: Copy, V: Copy, const N: usize> NodePool<K, V, N> {
     /// # Errors
     ///
     /// The key's place in the leaf if the key is absent and the leaf is full. The pool is then as before.
+    #[inline(always)]
     pub fn put_in_leaf<C: Comparator<K>>(
         &mut self,
         leaf: Node,
@@ -37,6 +38,7 @@ impl<K: Copy, V: Copy, const N: usize> NodePool<K, V, N> {
     /// Removes a key from the leaf in which a search for it ends, and returns its place there and its value, or `None` if it is absent.
     /// Nothing else changes: the leaf may be left with too few entries, or with none, and the rows above may keep its old first key. A call
     /// of `Path::heal` restores the tree, or of `heal_alone` where the leaf is the whole tree.
+    #[inline(always)]
     pub fn take_from_leaf<C: Comparator<K>>(
         &mut self,
         leaf: Node,

@@ -10,6 +10,7 @@ ghost use Rattle.bforest_core.specs.Trees.{IsUnion, is_root, tree_of};
 
 use crate::access::{follow, leaf_entry, look_up};
 use crate::pool::NodePool;
+use crate::spot::Spot;
 use bforest_nodes::{Comparator, Node};
 
 impl<K: Copy, V: Copy, const N: usize> NodePool<K, V, N> {
@@ -48,29 +49,8 @@ impl<K: Copy, V: Copy, const N: usize> NodePool<K, V, N> {
         ensures entry { result
             ≡ entry_up_to (C.order comp.now) (flat (tree_of self.now.nodes root).leaves) key }
     {
-        self.entry_below(key, root, 0, comp)
-    }
-
-    // The last entry up to a key, the search for which goes through `node`; `depth` levels are above it.
-    fn entry_below<C: Comparator<K>>(
-        &self,
-        key: K,
-        node: Node,
-        depth: usize,
-        comp: &C,
-    ) -> Option<(K, V)>
-        requires capacity { IsLeafCapacity N }
-        requires through { (leaves : List (LevelNode K V))
-            × SearchThrough (C.order comp.now) N self.now.nodes leaves key node depth }
-        ensures { (leaves : List (LevelNode K V))
-            → SearchThrough (C.order comp.now) N self.now.nodes leaves key node depth → result
-            ≡ entry_up_to (C.order comp.now) (flat leaves) key }
-    {
-        if !self.node(node).is_inner() {
-            return self.entry_in_leaf(key, node, comp);
-        }
-        let (_, child) = follow(self, node, key, comp);
-        self.entry_below(key, child, depth + 1, comp)
+        let (_, leaf) = Spot::find(key, root, self, comp);
+        self.entry_in_leaf(key, leaf, comp)
     }
 
     // The last entry of a leaf whose key is not greater than `key`.

@@ -1,4 +1,4 @@
--- The last entry up to a key, read in the leaf in which a search for the key ends: the answers of `entry_in_leaf` and `entry_below`.
+-- The last entry up to a key, read in the leaf in which a search for the key ends: the answers of `entry_in_leaf` and `entry_at_most`.
 use Rattle.std.proofs.Common.{◌≡◌, ◌≢◌, ℕ, zero, suc, ◌+◌, ◌-◌, ◌<◌, List, ◌∷◌, ◌++◌, Bool, length, slice_get, if◌then◌else◌, Option, Some, None, true, false, refl, sym, ap, ◌∙◌, arith}
 use Rattle.bforest_core.proofs.Words.{IsTotalOrder, LevelNode, Narrows, entry_before, entry_for, entry_up_to, flat, is_present, is_some, node, option_map, place, value_for}
 use Rattle.std.specs.declared.cmp.Ordering.{Ordering}

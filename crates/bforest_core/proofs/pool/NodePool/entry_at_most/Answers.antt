@@ -1,10 +1,16 @@
-use Rattle.std.proofs.Common.{rules, refl}
-use Rattle.bforest_core.specs.Trees.{tree_of}
-use Rattle.bforest_core.proofs.walks.Searches.{search-root}
+use Rattle.std.proofs.Common.{rules, ◌∙◌}
+use Rattle.bforest_core.proofs.walks.AtMost.{up-to-narrowed}
 use Rattle.bforest_core.proofs.pool.NodePool.entry_at_most.Goals as goal
 
-pub entry_below-requires : goal.entry_below-requires
-entry_below-requires g c = (search rules, (c.requires.union.1.capacity, ((tree_of c.args.self.now.nodes c.args.root).leaves, search-root c.requires.union c.requires.root c.requires.increasing 0 refl)))
+pub find-leaf-requires : goal.find-leaf-requires
+find-leaf-requires g c = (search rules, (c.requires.union, (c.requires.root, c.requires.increasing)))
+
+pub entry_in_leaf-requires : goal.entry_in_leaf-requires
+entry_in_leaf-requires g c =
+    let s = c.find-leaf.ensures.leaf in
+    (search rules, (c.requires.union.1.capacity, (s.leaf.entries, s.leaf.slot_is, s.tells.increasing)))
 
 pub returns : goal.returns
-returns g c = record { entry = c.entry_below.ensures (tree_of c.args.self.now.nodes c.args.root).leaves (search-root c.requires.union c.requires.root c.requires.increasing 0 refl) }
+returns g c =
+    let s = c.find-leaf.ensures.leaf in
+    record { entry = c.entry_in_leaf.ensures s.leaf.entries s.leaf.slot_is ∙ up-to-narrowed (g.met.C.Comparator.total c.args.comp.now) _ s.leaf.after s.leaf.leaves_are s.tells }
