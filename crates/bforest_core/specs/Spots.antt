@@ -1,5 +1,5 @@
 -- The place of a leaf in its tree as a number, with an octal digit for each level of inner nodes.
-use Rattle.std.specs.Prelude.{◌≡◌, ℕ, ◌+◌, ◌<◌, ◌/◌, ◌%◌, IsTrue, List, [], ◌∷◌, ◌++◌, drop, length, get_or, slice_get, take, Some, ◌≤◌}
+use Rattle.std.specs.Prelude.{◌≡◌, ℕ, suc, ◌+◌, ◌-◌, ◌<◌, ◌/◌, ◌%◌, IfSome, IsTrue, List, [], ◌∷◌, ◌++◌, drop, length, get_or, slice_get, take, Option, Some, None, ◌≤◌}
 use Rattle.bforest_nodes.specs.Content.{Content}
 use Rattle.bforest_core.specs.Descent.{Under}
 use Rattle.bforest_core.specs.Levels.{LevelNode, flat, node, Stacked}
@@ -100,6 +100,21 @@ module _ {K : Type 0} where
     pub parent_is : 0 < spot.height → get_or numbers 0 0 ≡ spot.parent
     pub grand_is : 1 < spot.height → get_or (drop 1 numbers) 0 0 ≡ spot.grand
     pub height_is : spot.height ≡ length rows
+
+module _ {K V : Type 0} (slots : List (Content K V)) (root code depth : ℕ) where
+  -- the way of a code ends at this node, whose spot this is
+  abbrev pub Leads : Spot → ℕ → Type 0
+  Leads here number = OnWay slots root code depth (λ numbers rows list place. IsWay numbers here rows place × NumberAt list place number)
+
+  -- the node behind the one at which the way of a code ends, with its spot, or nothing where that one is the last of its level
+  pub record IsNextOf (found : Option (Spot × ℕ)) : Type 0 where
+    pub some : IfSome found (λ next. OnWay slots root code depth (λ numbers rows list place. (others : List ℕ) × IsWay others next.0 rows (suc place) × NumberAt list (suc place) next.1))
+    pub none : found ≡ None → OnWay slots root code depth (λ numbers rows list place. suc place ≡ length list)
+
+  -- the node before the one at which the way of a code ends, with its spot, or nothing where that one is the first of its level
+  pub record IsPrevOf (found : Option (Spot × ℕ)) : Type 0 where
+    pub some : IfSome found (λ next. OnWay slots root code depth (λ numbers rows list place. (0 < place) × (others : List ℕ) × IsWay others next.0 rows (place - 1) × NumberAt list (place - 1) next.1))
+    pub none : found ≡ None → OnWay slots root code depth (λ numbers rows list place. place ≡ 0)
 
 module _ {K : Type 0} where
   -- no node of a level is before a node, or none is after it

@@ -7,7 +7,7 @@ ghost use Rattle.bforest_core.specs.Trees.{IsUnion, is_root, tree_of};
 ghost use Rattle.bforest_nodes.specs.Content.{IsLeafCapacity};
 ghost use Rattle.bforest_nodes.specs.Entries.{IsIncreasing};
 ghost use Rattle.bforest_core.specs.Descent.{SearchThrough};
-ghost use Rattle.bforest_core.specs.Spots.{CodedOver, HasNext, HasNoParent, HasPrev, HasUnder, HasWay, IsFirst, IsLast, IsLeafAt, IsSpotAt, IsWay, NumberAt, OnUnder, OnWay, SpotOn, leaf_count, leaf_place};
+ghost use Rattle.bforest_core.specs.Spots.{HasNext, HasNoParent, HasPrev, HasUnder, HasWay, IsFirst, IsLast, IsLeafAt, IsNextOf, IsPrevOf, IsSpotAt, IsWay, Leads, NumberAt, OnUnder, OnWay, SpotOn, leaf_count, leaf_place};
 
 use crate::access::{child, entries, follow, last_index};
 use crate::pool::NodePool;
@@ -302,7 +302,8 @@ impl Spot {
     }
 }
 
-// The node behind the one at which the way of a code ends, and its spot, if there is one.
+// The node behind the one at which the way of a code ends, and its spot, if there is one. The way is followed from the root down, and
+// with it, level by level, the way to the node behind.
 fn next_far<K: Copy, V: Copy, const N: usize>(
     code: u64,
     height: u32,
@@ -316,13 +317,47 @@ fn next_far<K: Copy, V: Copy, const N: usize>(
     ensures none { result ≡ None → OnWay pool.now.nodes root code height (λ numbers rows list place.
         suc place ≡ length list) }
 {
-    match next_on(code, height, root, pool) {
-        Some(found) => Some((spot_of(found.0, height, root, pool), found.1)),
-        None => None,
+    let (mut here, mut node) = (Spot::root(root), root);
+    let mut next = None;
+    let mut left = height;
+    while left > 0 {
+        left -= 1;
+        let index = ((code >> (3 * left)) % 8) as usize;
+        next = next_below(next, &here, node, index, pool);
+        here = here.below(node, index);
+        node = child(pool, node, index);
     }
+    next
 }
 
-// The node before the one at which the way of a code ends, and its spot, if there is one.
+// One level further down: the node behind the child of `node` at an index, where `here` is the spot of `node`, and `above` the node
+// behind it, if there is one.
+#[inline(always)]
+fn next_below<K: Copy, V: Copy, const N: usize>(
+    above: Option<(Spot, Node)>,
+    here: &Spot,
+    node: Node,
+    index: usize,
+    pool: &NodePool<K, V, N>,
+) -> Option<(Spot, Node)>
+    requires low { here.now.height < 16 }
+    requires index { index < 8 }
+    requires above { (root : ℕ) × HasWay pool.now.nodes root (here.now.code * 8 + index) (suc here.now.height)
+        × Leads pool.now.nodes root here.now.code here.now.height here.now node
+        × IsNextOf pool.now.nodes root here.now.code here.now.height above }
+    ensures next { (root : ℕ) → Leads pool.now.nodes root here.now.code here.now.height here.now node
+        → IsNextOf pool.now.nodes root here.now.code here.now.height above
+        → IsNextOf pool.now.nodes root (here.now.code * 8 + index) (suc here.now.height) result }
+{
+    if index + 1 < entries(pool, node) {
+        return Some((here.below(node, index + 1), child(pool, node, index + 1)));
+    }
+    let (spot, next) = above?;
+    Some((spot.below(next, 0), child(pool, next, 0)))
+}
+
+// The node before the one at which the way of a code ends, and its spot, if there is one. The way is followed from the root down, and
+// with it, level by level, the way to the node before.
 fn prev_far<K: Copy, V: Copy, const N: usize>(
     code: u64,
     height: u32,
@@ -337,90 +372,44 @@ fn prev_far<K: Copy, V: Copy, const N: usize>(
     ensures none { result ≡ None → OnWay pool.now.nodes root code height (λ numbers rows list place.
         place ≡ 0) }
 {
-    match prev_on(code, height, root, pool) {
-        Some(before) => Some((spot_of(before.0, height, root, pool), before.1)),
-        None => None,
+    let (mut here, mut node) = (Spot::root(root), root);
+    let mut before = None;
+    let mut left = height;
+    while left > 0 {
+        left -= 1;
+        let index = ((code >> (3 * left)) % 8) as usize;
+        before = prev_below(before, &here, node, index, pool);
+        here = here.below(node, index);
+        node = child(pool, node, index);
     }
+    before
 }
 
-// The node at the end of the way of a code, `depth` levels down from the root.
-fn node_of<K: Copy, V: Copy, const N: usize>(
-    code: u64,
-    depth: u32,
-    root: Node,
+// One level further down: the node before the child of `node` at an index, where `here` is the spot of `node`, and `above` the node
+// before it, if there is one.
+#[inline(always)]
+fn prev_below<K: Copy, V: Copy, const N: usize>(
+    above: Option<(Spot, Node)>,
+    here: &Spot,
+    node: Node,
+    index: usize,
     pool: &NodePool<K, V, N>,
-) -> Node
-    requires over { HasWay pool.now.nodes root code depth }
-    ensures number { OnWay pool.now.nodes root code depth (λ numbers rows list place.
-        NumberAt list place result) }
+) -> Option<(Spot, Node)>
+    requires low { here.now.height < 16 }
+    requires index { index < 8 }
+    requires above { (root : ℕ) × HasWay pool.now.nodes root (here.now.code * 8 + index) (suc here.now.height)
+        × Leads pool.now.nodes root here.now.code here.now.height here.now node
+        × IsPrevOf pool.now.nodes root here.now.code here.now.height above }
+    ensures before { (root : ℕ) → Leads pool.now.nodes root here.now.code here.now.height here.now node
+        → IsPrevOf pool.now.nodes root here.now.code here.now.height above
+        → IsPrevOf pool.now.nodes root (here.now.code * 8 + index) (suc here.now.height) result }
 {
-    if depth == 0 {
-        return root;
-    }
-    let parent = node_of(code / 8, depth - 1, root, pool);
-    child(pool, parent, (code % 8) as usize)
-}
-
-// The next node of the level at which the way of a code ends, and the code of its way, if there is one.
-fn next_on<K: Copy, V: Copy, const N: usize>(
-    code: u64,
-    depth: u32,
-    root: Node,
-    pool: &NodePool<K, V, N>,
-) -> Option<(u64, Node)>
-    requires low { depth ≤ 16 }
-    requires over { HasWay pool.now.nodes root code depth }
-    ensures some { IfSome result (λ found. OnWay pool.now.nodes root code depth (λ numbers rows list place.
-        (others : List ℕ) × CodedOver pool.now.nodes root found.0 depth others rows list (suc place)
-        × NumberAt list (suc place) found.1)) }
-    ensures none { result ≡ None → OnWay pool.now.nodes root code depth (λ numbers rows list place.
-        suc place ≡ length list) }
-{
-    if depth == 0 {
-        return None;
-    }
-    let parent = node_of(code / 8, depth - 1, root, pool);
-    let index = (code % 8) as usize + 1;
-    if index < entries(pool, parent) {
-        return Some((code + 1, child(pool, parent, index)));
-    }
-    match next_on(code / 8, depth - 1, root, pool) {
-        Some(above) => Some((above.0 * 8, child(pool, above.1, 0))),
-        None => None,
-    }
-}
-
-// The node before, on the level at which the way of a code ends, and the code of its way, if there is one.
-fn prev_on<K: Copy, V: Copy, const N: usize>(
-    code: u64,
-    depth: u32,
-    root: Node,
-    pool: &NodePool<K, V, N>,
-) -> Option<(u64, Node)>
-    requires low { depth ≤ 16 }
-    requires over { HasWay pool.now.nodes root code depth }
-    ensures some { IfSome result (λ found. OnWay pool.now.nodes root code depth (λ numbers rows list place.
-        (0 < place) × (others : List ℕ)
-        × CodedOver pool.now.nodes root found.0 depth others rows list (place - 1)
-        × NumberAt list (place - 1) found.1)) }
-    ensures none { result ≡ None → OnWay pool.now.nodes root code depth (λ numbers rows list place.
-        place ≡ 0) }
-{
-    if depth == 0 {
-        return None;
-    }
-    let index = (code % 8) as usize;
     if index > 0 {
-        let parent = node_of(code / 8, depth - 1, root, pool);
-        return Some((code - 1, child(pool, parent, index - 1)));
+        return Some((here.below(node, index - 1), child(pool, node, index - 1)));
     }
-    match prev_on(code / 8, depth - 1, root, pool) {
-        Some(above) => {
-            let last = last_index(pool, above.1);
-            Some((above.0 * 8 + last as u64, child(pool, above.1, last)))
-        }
-        None => None,
-    }
+    let (spot, before) = above?;
+    let last = last_index(pool, before);
+    Some((spot.below(before, last), child(pool, before, last)))
 }
 
 // From a node at this place, the first of its level, down to the first leaf below it.
@@ -457,43 +446,6 @@ fn last_below<K: Copy, V: Copy, const N: usize>(
     }
     let last = last_index(pool, node);
     last_below(spot.below(node, last), child(pool, node, last), pool)
-}
-
-// The spot of the node at the end of the way of a code.
-fn spot_of<K: Copy, V: Copy, const N: usize>(
-    code: u64,
-    height: u32,
-    root: Node,
-    pool: &NodePool<K, V, N>,
-) -> Spot
-    requires over { HasWay pool.now.nodes root code height }
-    ensures way { OnWay pool.now.nodes root code height (λ numbers rows list place.
-        IsWay numbers result rows place) }
-{
-    if height == 0 {
-        return Spot {
-            code,
-            parent: root,
-            grand: root,
-            height,
-        };
-    }
-    let parent = node_of(code / 8, height - 1, root, pool);
-    if height == 1 {
-        return Spot {
-            code,
-            parent,
-            grand: root,
-            height,
-        };
-    }
-    let grand = node_of(code / 8 / 8, height - 1 - 1, root, pool);
-    Spot {
-        code,
-        parent,
-        grand,
-        height,
-    }
 }
 
 // From a node at this place down to the leaf in which a search for `key` ends, which goes through the node.

@@ -1,4 +1,4 @@
--- The way back to the leaf before: each answer of `prev_on`, `prev_sibling` and `prev_cousin` is one of these.
+-- The way back to the leaf before: each answer of `prev_sibling` and `prev_cousin` is one of these.
 use Rattle.std.proofs.Common.{◌≡◌, ◌≢◌, ℕ, suc, ◌+◌, ◌-◌, ◌*◌, ◌/◌, ◌%◌, ◌≤◌, ◌<◌, List, [], ◌∷◌, drop, length, slice_get, IfSome, Option, Some, inl, inr, refl, sym, ◌∙◌, arith}
 use Rattle.bforest_core.proofs.Words.{cases_lt, eqb_tells, Content, Inner, IsUnion, LevelNode, Table, entry_count, flat, heads, inner_content, tree_of}
 use Rattle.bforest_core.specs.Spots.{CodedOver, HasPrev, IsLeafAt, IsSpotAt, IsWay, NumberAt}
@@ -70,6 +70,9 @@ module _ {K V : Type 0} {slots : List (Content K V)} {root code depth : ℕ} {nu
 
           to-last : place - 1 ≡ length (flat node-before.before) + last
           to-last = omega (arith, meets)
+
+          pub last-low : last < 8
+          last-low = omega (arith, last-is, node-before.room)
 
           pub last-child-asks : (keys : List K) × (children : List ℕ) × (slice_get slots node ≡ Some (Inner keys children)) × (last < length children)
           last-child-asks = child-asks p some node-before last within

@@ -1,4 +1,4 @@
--- The way of a code down rows of inner nodes, and the way to the next node: each answer of `node_of` and `next_on` is one of these.
+-- The way of a code down rows of inner nodes, and the way to the next node: each step of a spot stands on these.
 use Rattle.std.proofs.Common.{IsTrue, ◌≡◌, ◌≢◌, ℕ, zero, suc, ◌+◌, ◌-◌, ◌*◌, ◌/◌, ◌%◌, ◌≤◌, ◌<◌, List, [], ◌∷◌, ◌++◌, length, take, drop, get_or, slice_get, option_map, Some, refl, sym, ap, subst, ◌∙◌, arith, append_assoc, length-append}
 use Rattle.bforest_core.proofs.Words.{nil_from_length, take_at, slice_get_within, Content, Inner, IsFree, entry_count, LevelNode, node, flat, heads, FitRow, RowIn, inner_content, entry_items, entry_keys}
 use Rattle.bforest_core.specs.Spots.{Coded, CodedOver, HasNext, IsLeafAt, IsSpotAt, IsWay, NumberAt, leaf_count}
@@ -152,13 +152,6 @@ module _ {K V : Type 0} {slots : List (Content K V)} {root code depth : ℕ} {nu
   NextAbove above number =
       (others : List ℕ) × CodedOver slots root above (depth - 1) others here.rest (heads here.row) (suc here.top) × NumberAt (heads here.row) (suc here.top) number
 
-  pub next-above : (above number : ℕ) → ((numbers : List ℕ) (rows : List (List (LevelNode K ℕ))) (list : List (K × ℕ)) (place : ℕ) → CodedOver slots root (code / 8) (depth - 1) numbers rows list place → (others : List ℕ) × CodedOver slots root above (depth - 1) others rows list (suc place) × NumberAt list (suc place) number) → NextAbove above number
-  next-above above number found = found (drop 1 numbers) here.rest (heads here.row) here.top here.over
-
-  -- what is said of the last node of its level above
-  pub above-last : ((numbers : List ℕ) (rows : List (List (LevelNode K ℕ))) (list : List (K × ℕ)) (place : ℕ) → CodedOver slots root (code / 8) (depth - 1) numbers rows list place → suc place ≡ length list) → suc here.top ≡ length (heads here.row)
-  above-last says = says (drop 1 numbers) here.rest (heads here.row) here.top here.over
-
   -- what a child of a node is, as it was read
   pub child-is : {number top : ℕ} (w : NodeIn inner_content slots 8 here.row number top) (index child to : ℕ) → index < length w.entries → to ≡ length (flat w.before) + index →
       ((keys : List K) (children : List ℕ) → slice_get slots number ≡ Some (Inner keys children) → slice_get children index ≡ Some child) → NumberAt list to child
@@ -206,6 +199,9 @@ module _ {K V : Type 0} {slots : List (Content K V)} {root code depth : ℕ} {nu
       count-is : count ≡ length here.at.entries
       count-is = counts (inner_content here.at.entries) node-here.slot_is ∙ item_count here.at.entries
 
+      pub count-low : count ≤ 8
+      count-low = omega (arith, count-is, here.at.room)
+
       -- the next child of the same node
       pub next-asks : code % 8 + 1 < count → (keys : List K) × (children : List ℕ) × (slice_get slots parent ≡ Some (Inner keys children)) × (code % 8 + 1 < length children)
       next-asks low = child-asks node-here (code % 8 + 1) (omega (arith, low, count-is))
@@ -243,9 +239,6 @@ module _ {K V : Type 0} {slots : List (Content K V)} {root code depth : ℕ} {nu
 
         pub first-child : (child : ℕ) → ((keys : List K) (children : List ℕ) → slice_get slots node ≡ Some (Inner keys children) → slice_get children 0 ≡ Some child) → NumberAt list (suc place) child
         first-child child reads = child-is next-node 0 child (suc place) next-node.some start reads
-
-        pub first-on : (child : ℕ) → ((keys : List K) (children : List ℕ) → slice_get slots node ≡ Some (Inner keys children) → slice_get children 0 ≡ Some child) → (others : List ℕ) × CodedOver slots root (above * 8) depth others rows list (suc place) × NumberAt list (suc place) child
-        first-on child reads = (node ∷ on.0, first-code, first-child child reads)
 
 -- the lowest node is the first of the numbers
 pub kept-same : {K V : Type 0} (slots : List (Content K V)) (root code depth : ℕ) (numbers : List ℕ) (rows : List (List (LevelNode K ℕ))) (list : List (K × ℕ)) (place : ℕ) (p : CodedOver slots root code depth numbers rows list place) (some : depth ≢ 0) (parent : ℕ) → get_or numbers 0 0 ≡ parent → parent ≡ (lowest slots root code depth numbers rows list place p some).number
@@ -322,16 +315,6 @@ module _ {K V : Type 0} {slots : List (Content K V)} {root code depth : ℕ} {nu
   -- a spot of this code
   pub way-of : (spot : Spot) → spot.code ≡ code → spot.height ≡ depth → (0 < depth → get_or numbers 0 0 ≡ spot.parent) → (1 < depth → get_or (drop 1 numbers) 0 0 ≡ spot.grand) → IsWay numbers spot rows place
   way-of spot code_is height parent grand = record { coded = subst (λ z. Coded numbers rows z place) (sym code_is) p.coded; parent_is = λ low. parent (omega (arith, low, height)); grand_is = λ low. grand (omega (arith, low, height)); height_is = height ∙ p.depth_is }
-
-module _ {K V : Type 0} {slots : List (Content K V)} {root code depth : ℕ} {numbers : List ℕ} {rows : List (List (LevelNode K ℕ))} {list : List (K × ℕ)} {place : ℕ} (p : CodedOver slots root code depth numbers rows list place) (some : depth ≢ 0) (two : depth ≢ 1) where
-  more : depth - 1 ≢ 0
-  more = λ none. two (omega (arith, none, some))
-
-  pub grand-asks : (numbers : List ℕ) × (rows : List (List (LevelNode K ℕ))) × (list : List (K × ℕ)) × (place : ℕ) × CodedOver slots root (code / 8 / 8) (depth - 1 - 1) numbers rows list place
-  grand-asks = above-asks (here p some).over more
-
-  pub second-kept : (grand : ℕ) → ((numbers : List ℕ) (rows : List (List (LevelNode K ℕ))) (list : List (K × ℕ)) (place : ℕ) → CodedOver slots root (code / 8 / 8) (depth - 1 - 1) numbers rows list place → NumberAt list place grand) → get_or (drop 1 numbers) 0 0 ≡ grand
-  second-kept grand says = first-kept (here p some).over more grand says
 
 module _ {K V : Type 0} {n : ℕ} {table : Table K V} (union : IsUnion n table) {root : ℕ} {spot : Spot} {place : ℕ} (s : IsSpotAt table root spot place) where
   pub spot-height : spot.height ≤ 16

@@ -1,25 +1,53 @@
-use Rattle.std.proofs.Common.{rules, refl, suc}
+use Rattle.std.proofs.Common.{rules, arith}
+use Rattle.bforest_core.specs.Spots.{IsNextOf}
+use Rattle.bforest_core.proofs.walks.OnLevel.{begun, code-low-here, ended, index-asked, is-below, moved, root-last, turn-high, turn-way, turned}
 use Rattle.bforest_core.proofs.spot.next_far.Goals as goal
 
-pub next_on-requires : goal.next_on-requires
-next_on-requires g c = (search rules, (c.requires.low, c.requires.over))
+pub loop-left-init : goal.loop-left-init
+loop-left-init g c =
+    let r = c.root-here in
+    (begun c.requires.over r.result r.ensures.code r.ensures.height, root-last r.result r.ensures.height)
 
-pub spot_of-requires : goal.spot_of-requires
-spot_of-requires g c =
-    let o = c.requires.over in
-    let r = c.in-Some.ensures.some o.0 o.1 o.2 o.3 o.4 in
-    (search rules, (r.0, o.1, o.2, suc o.3, r.1))
+pub overflow_mul-index : goal.overflow_mul-index
+overflow_mul-index g c = omega (arith, c.loop-left.invariant.0.low, c.requires.low)
 
-pub returns-in-Some-clause-some : goal.returns-in-Some-clause-some
-returns-in-Some-clause-some g c = λ numbers rows list place p.
-    let r = c.in-Some.ensures.some numbers rows list place p in
-    (r.0, c.spot_of.ensures.way r.0 rows list (suc place) r.1, r.2)
+pub overflow_shr-index : goal.overflow_shr-index
+overflow_shr-index g c = omega (arith, c.loop-left.invariant.0.low, c.requires.low)
 
-pub returns-in-None-clause-none : goal.returns-in-None-clause-none
-returns-in-None-clause-none g c = λ none numbers rows list place p. c.in-None.ensures.none refl numbers rows list place p
+pub next_below-next-requires : goal.next_below-next-requires
+next_below-next-requires g c =
+    let i = c.loop-left.invariant in
+    let low = turn-high i.0 c.loop-left-test.true c.requires.low in
+    (search rules, (low, (omega arith, (c.args.root, turn-way i.0 c.loop-left-test.true c.requires.over, i.0.leads, i.1))))
 
-pub returns-in-Some-clause-none : goal.returns-in-Some-clause-none
-returns-in-Some-clause-none g c = λ bad. absurd (let no = bad in cc)
+pub below-here-requires-clause-code : goal.below-here-requires-clause-code
+below-here-requires-clause-code g c =
+    let f = c.loop-left.invariant.0 in
+    code-low-here (omega arith) f.leads (turn-way f c.loop-left-test.true c.requires.over) (turn-high f c.loop-left-test.true c.requires.low)
 
-pub returns-in-None-clause-some : goal.returns-in-None-clause-some
-returns-in-None-clause-some g c = tt
+pub below-here-requires-clause-height : goal.below-here-requires-clause-height
+below-here-requires-clause-height g c = turn-high c.loop-left.invariant.0 c.loop-left-test.true c.requires.low
+
+pub child-node-requires : goal.child-node-requires
+child-node-requires g c =
+    let f = c.loop-left.invariant.0 in
+    (search rules, index-asked (omega arith) f.leads (turn-way f c.loop-left-test.true c.requires.over))
+
+pub loop-left-preserved : goal.loop-left-preserved
+loop-left-preserved g c =
+    let i = c.loop-left.invariant in
+    let b = is-below c.below-here.ensures.code c.below-here.ensures.parent c.below-here.ensures.grand c.below-here.ensures.height in
+    let said = c.next_below-next.ensures.next c.args.root i.0.leads i.1 in (
+      turned i.0 c.loop-left-test.true b c.child-node.ensures,
+      moved (λ code depth. IsNextOf c.args.pool.now.nodes c.args.root code depth c.next_below-next.result) b said,
+    )
+
+pub returns-clause-some : goal.returns-clause-some
+returns-clause-some g c =
+    let i = c.loop-left.invariant in
+    (ended i.0 (λ code depth. IsNextOf c.args.pool.now.nodes c.args.root code depth c.loop-left.next) c.loop-left-test.false i.1).some
+
+pub returns-clause-none : goal.returns-clause-none
+returns-clause-none g c =
+    let i = c.loop-left.invariant in
+    (ended i.0 (λ code depth. IsNextOf c.args.pool.now.nodes c.args.root code depth c.loop-left.next) c.loop-left-test.false i.1).none
