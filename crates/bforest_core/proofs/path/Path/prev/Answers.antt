@@ -1,4 +1,4 @@
-use Rattle.std.proofs.Common.{rules, ◌≡◌, ◌≢◌, ℕ, ◌-◌, ◌≤◌, ◌<◌, Some, None, slice_get, List, length, sym, ap, subst, ◌∙◌, arith}
+use Rattle.std.proofs.Common.{rules, ◌≡◌, ◌≢◌, ℕ, ◌-◌, ◌<◌, Some, None, slice_get, List, length, sym, ap, subst, ◌∙◌, arith}
 use Rattle.bforest_core.proofs.Words.{Path, Tree, IsFit, StandsAt, StandsOn, index_of, leaf_content, leaf_of, list_under, IsIn, Stands, entry_before, Table, IsUnion, tree_of}
 use Rattle.bforest_core.proofs.walks.Standing.{on-asks, on-within, said}
 use Rattle.bforest_core.proofs.walks.Backward.{before_is, at_end}
