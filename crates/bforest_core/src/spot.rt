@@ -59,11 +59,10 @@ impl Spot {
         ensures spot { IsSpotAt pool.now root result.0 0 }
         ensures leaf { IsLeafAt pool.now root 0 result.1 }
     {
-        let spot = Spot::root(root);
         if !pool.node(root).is_inner() {
-            return (spot, root);
+            return (Spot::root(root), root);
         }
-        first_below(spot, root, pool)
+        first_below(Spot::root(root), root, pool)
     }
 
     /// The last leaf below a root, and its place.
@@ -77,11 +76,11 @@ impl Spot {
         ensures spot { IsSpotAt pool.now root result.0 (leaf_count pool.now root - 1) }
         ensures leaf { IsLeafAt pool.now root (leaf_count pool.now root - 1) result.1 }
     {
-        let start = Spot::root(root);
-        if !pool.node(root).is_inner() {
-            return (start, root);
+        if pool.node(root).is_inner() {
+            last_below(Spot::root(root), root, pool)
+        } else {
+            (Spot::root(root), root)
         }
-        last_below(start, root, pool)
     }
 
     /// The next leaf, and its place, if there is one. A spot without a parent has none.

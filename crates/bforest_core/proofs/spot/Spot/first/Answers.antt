@@ -10,13 +10,13 @@ node-requires g c =
 
 pub returns-then-not-is_inner : goal.returns-then-not-is_inner
 returns-then-not-is_inner g c =
-    let r = first-of c.requires.union c.requires.root c.root-spot.ensures.code c.root-spot.ensures.height (first-here c.requires.union.1.capacity c.node.ensures.value (λ i. false≢true (sym c.if-not-is_inner.true ∙ c.is_inner.ensures.inner.1 i)) c.root-spot.result) in
+    let r = first-of c.requires.union c.requires.root c.root.ensures.code c.root.ensures.height (first-here c.requires.union.1.capacity c.node.ensures.value (λ i. false≢true (sym c.if-not-is_inner.true ∙ c.is_inner.ensures.inner.1 i)) c.root.result) in
     record { spot = r.0; leaf = r.1 }
 
 pub first_below-requires : goal.first_below-requires
-first_below-requires g c = (search rules, (c.requires.union.1.capacity, root-under c.requires.union c.requires.root c.root-spot.ensures.code c.root-spot.ensures.height refl))
+first_below-requires g c = (search rules, (c.requires.union.1.capacity, root-under c.requires.union c.requires.root c.root-2.ensures.code c.root-2.ensures.height refl))
 
 pub returns : goal.returns
 returns g c =
-    let r = first-of c.requires.union c.requires.root c.root-spot.ensures.code c.root-spot.ensures.height c.first_below.ensures.first in
+    let r = first-of c.requires.union c.requires.root c.root-2.ensures.code c.root-2.ensures.height c.first_below.ensures.first in
     record { spot = r.0; leaf = r.1 }

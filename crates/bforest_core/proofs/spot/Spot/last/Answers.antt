@@ -8,15 +8,15 @@ node-requires g c =
     let held = root-held c.requires.union c.args.root c.requires.root in
     (search rules, (search rules, slice_get_within c.args.pool.now.nodes c.args.root held.0 held.1))
 
-pub returns-then-not-is_inner : goal.returns-then-not-is_inner
-returns-then-not-is_inner g c =
-    let r = last-of c.requires.union c.requires.root c.root-start.ensures.code c.root-start.ensures.height (last-here c.requires.union.1.capacity c.node.ensures.value (λ i. false≢true (sym c.if-not-is_inner.true ∙ c.is_inner.ensures.inner.1 i)) c.root-start.result) in
+pub returns-else-is_inner : goal.returns-else-is_inner
+returns-else-is_inner g c =
+    let r = last-of c.requires.union c.requires.root c.root-else-is_inner.ensures.code c.root-else-is_inner.ensures.height (last-here c.requires.union.1.capacity c.node.ensures.value (λ i. false≢true (sym c.if-is_inner.false ∙ c.is_inner.ensures.inner.1 i)) c.root-else-is_inner.result) in
     record { spot = r.0; leaf = r.1 }
 
 pub last_below-requires : goal.last_below-requires
-last_below-requires g c = (search rules, (c.requires.union.1.capacity, root-under c.requires.union c.requires.root c.root-start.ensures.code c.root-start.ensures.height refl))
+last_below-requires g c = (search rules, (c.requires.union.1.capacity, root-under c.requires.union c.requires.root c.root.ensures.code c.root.ensures.height refl))
 
-pub returns : goal.returns
-returns g c =
-    let r = last-of c.requires.union c.requires.root c.root-start.ensures.code c.root-start.ensures.height c.last_below.ensures.last in
+pub returns-then-is_inner : goal.returns-then-is_inner
+returns-then-is_inner g c =
+    let r = last-of c.requires.union c.requires.root c.root.ensures.code c.root.ensures.height c.last_below.ensures.last in
     record { spot = r.0; leaf = r.1 }
