@@ -4,8 +4,8 @@ use Rattle.bforest_trees.specs.Forest.{Becomes, Forest, free_of, slots_of}
 use Rattle.bforest_core.proofs.table.Chains.{length-down_from, length-fresh_nodes}
 use Rattle.bforest_core.specs.Change.{Changes}
 use Rattle.bforest_core.specs.Table.{down_from, free_count, fresh_nodes, front_of, reserved, slot_count, with_slots}
-use Rattle.bforest_core.specs.Trees.{IsUnion, is_root}
-use Rattle.std.proofs.Common.{Err, IfOk, IsOk, IsTrue, List, None, Ok, OnErr, OnOk, Result, Some, ap, append-nil, arith, length-append, subst, sym, ◌+◌, ◌-◌, ◌∙◌, ◌≡◌, ◌≤◌, ℕ}
+use Rattle.bforest_core.specs.Trees.{is_root}
+use Rattle.std.proofs.Common.{Err, IfOk, IsOk, IsTrue, List, None, Ok, OnErr, OnOk, Result, Some, ap, append-nil, arith, length-append, ◌+◌, ◌-◌, ◌∙◌, ◌≡◌, ◌≤◌, ℕ}
 
 -- a fact that is stated for `Ok` holds of an answer that is `Ok`
 pub ok-then : {A E P : Type 0} (r : Result A E) → IsOk r → OnOk r P → P
@@ -18,11 +18,6 @@ not-ok (Ok a) x e is = absurd (cc)
 not-ok (Err y) x e is = absurd (cc)
 
 module _ {K X : Type 0} where
-  -- the table is a union of trees after `Ok` and after `Err`
-  pub union_after : {A E : Type 0} (most : ℕ) (f f' : Forest K X) (r : Result A E) (P : A → Type 0) → ((a : A) → P a → IsUnion most f') → IsUnion most f → IfOk r P → OnErr r (f' ≡ f) → IsUnion most f'
-  union_after most f f' (Ok a) P h u ok err = h a ok
-  union_after most f f' (Err x) P h u ok err = subst (λ (z : Forest K X). IsUnion most z) (sym err) u
-
   -- a tree that was planted becomes the list of its number
   pub planted : {E : Type 0} (most : ℕ) (f f' : Forest K X) (r : Result ℕ E) (es : List (K × X)) (ss : List (List ℕ)) → IfOk r (λ n. Changes most f f' n n es ss) → IfOk r (λ n. ¬ IsTrue (is_root f.nodes n)) → IfOk r (λ n. Becomes f None f' (Some n) es)
   planted most f f' (Ok n) es ss h new = becomes-new most f f' n es ss new h

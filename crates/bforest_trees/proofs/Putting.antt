@@ -8,7 +8,7 @@ use Rattle.bforest_core.specs.Levels.{flat, sizes_of}
 use Rattle.bforest_core.specs.Sizes.{growth, need}
 use Rattle.bforest_core.specs.Table.{slot_count}
 use Rattle.bforest_core.specs.Trees.{is_root, tree_of}
-use Rattle.std.proofs.Common.{Bool, IsSome, IsTrue, List, None, Option, Some, ap, arith, false, if◌then◌else◌, insert, length, not, refl, subst, sym, true, ◌∙◌, ◌≡◌, ◌↔◌, ℕ}
+use Rattle.std.proofs.Common.{IsTrue, List, None, Option, Some, ap, arith, false, if◌then◌else◌, insert, length, refl, subst, sym, true, ◌∙◌, ◌≡◌, ◌↔◌, ℕ}
 use Rattle.std.specs.Option.{is_some, option_map}
 use Rattle.std.specs.declared.cmp.Ordering.{Ordering}
 
@@ -44,18 +44,6 @@ module _ {K X : Type 0} (cmp : K → K → Ordering) (es : List (K × X)) (k : K
       go : (o : Option (K × X)) → is_some (option_map (λ e. e.1) o) ≡ false → is_some o ≡ false
       go None h = refl
       go (Some e) h = absurd (cc)
-
--- a negation moves from one side of an equation to the other
-pub swap-not : (a b : Bool) → not a ≡ b → a ≡ not b
-swap-not true true e = absurd (cc)
-swap-not true false e = refl
-swap-not false true e = refl
-swap-not false false e = absurd (cc)
-
--- an option that is not `None` is `Some`
-pub some-told : {A : Type 0} (o : Option A) → not (is_some o) ≡ false → IsSome o
-some-told None e = absurd (cc)
-some-told (Some x) e = refl
 
 -- the sizes stay where the key is present
 pub sizes-kept : {K X : Type 0} (most : ℕ) (cmp : K → K → Ordering) (f : Forest K X) (h : Option ℕ) (k : K) → is_present cmp (list_of f h) k ≡ true → sizes_with most cmp f h k ≡ forest_sizes f h

@@ -40,17 +40,6 @@ module _ {K : Type 0} where
   stands_more path indices level (r ∷ rows) row place q high s e at =
       (s.0, stands_more path indices (suc level) rows row (length s.0.before) q high s.1 (omega (arith, e)) at)
 
-  -- two paths that agree on these levels stand at the same place
-  pub stands_same : (ms js ms' js' : List ℕ) (level : ℕ) (rows : List (List (LevelNode K ℕ))) (place top : ℕ) → ((i : ℕ) → i < level + length rows → get_or ms' i 0 ≡ get_or ms i 0) → ((i : ℕ) → i < level + length rows → get_or js' i 0 ≡ get_or js i 0) → StandsTo ms js level rows place top → StandsTo ms' js' level rows place top
-  stands_same ms js ms' js' level [] place top f g s = s
-  stands_same ms js ms' js' level (row ∷ rows) place top f g s =
-      let fm = f level (omega arith) in
-      let gj = g level (omega arith) in
-      let at = s.0 in (
-        record { before = at.before; entries = at.entries; after = at.after; row_is = rw fm at.row_is; within = rw gj at.within; place_is = rw gj at.place_is },
-        stands_same ms js ms' js' (suc level) rows (length at.before) top (λ i low. f i (omega (arith, low))) (λ i low. g i (omega (arith, low))) s.1,
-      )
-
 -- the node of a row whose head is between these heads
 pub record Seen {K X : Type 0} (half most : ℕ) (row : List (LevelNode K X)) (a : List (K × ℕ)) (first : K) (number : ℕ) (b : List (K × ℕ)) : Type 0 where
   pub before : List (LevelNode K X)

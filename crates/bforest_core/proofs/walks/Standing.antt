@@ -99,10 +99,6 @@ module _ {K X : Type 0} where
       ]
 
 module _ {K V : Type 0} {n : ℕ} (table : Table K V) (root : ℕ) (path : Path K V n) (place : ℕ) where
-  -- a path that stands on an entry has a node
-  pub on-some : StandsOn table root path place → path.size ≢ 0
-  on-some on none = omega (arith, none, on.stands.size_is)
-
   -- the place of a path that stands on an entry is less than the length
   pub on-within : StandsOn table root path place → place < length (list_under table root)
   on-within on =

@@ -88,11 +88,6 @@ module _ {K V : Type 0} (slots : List (Content K V)) (path indices : List ℕ) w
             moved = λ rows list place p. next_moves {up = turn} p (omega (arith, within)) other height true has path1 indices1 refl child nodes entry entries;
           }
 
-  -- back: two runs of levels, one above the other
-  pub both-first : (low between high : ℕ) → AreFirst indices low between → AreFirst indices between high → AreFirst indices low high
-  both-first low between high below above i from to =
-      elim (cases_lt i between) [ inl less ↦ below i from less | inr more ↦ above i more to ]
-
   -- where each child up to the root is the first, the node is the first of its level
   pub all-first : (steps : ℕ) {level size : ℕ} {rows : List (List (LevelNode K ℕ))} {list : List (K × ℕ)} {place : ℕ} → Over slots path indices (suc level) size rows list place → size ≡ suc level + steps → size ≤ 17 → AreFirst indices (suc level) size → place ≡ 0
   all-first zero p is height first = (only p (omega (arith, is))).0
