@@ -422,10 +422,12 @@ fn first_below<K: Copy, V: Copy, const N: usize>(
     ensures first { OnUnder N pool.now.nodes IsFirst spot node (λ leaves rows. (others : List ℕ)
         × IsWay others result.0 rows 0 × NumberAt (heads leaves) 0 result.1) }
 {
-    if !pool.node(node).is_inner() {
-        return (spot, node);
+    let (mut here, mut first) = (spot, node);
+    while pool.node(first).is_inner() {
+        here = here.below(first, 0);
+        first = child(pool, first, 0);
     }
-    first_below(spot.below(node, 0), child(pool, node, 0), pool)
+    (here, first)
 }
 
 // From a node at this place, the last of its level, down to the last leaf below it.
@@ -440,11 +442,13 @@ fn last_below<K: Copy, V: Copy, const N: usize>(
         × IsWay others result.0 rows (length leaves - 1)
         × NumberAt (heads leaves) (length leaves - 1) result.1) }
 {
-    if !pool.node(node).is_inner() {
-        return (spot, node);
+    let (mut here, mut last) = (spot, node);
+    while pool.node(last).is_inner() {
+        let index = last_index(pool, last);
+        here = here.below(last, index);
+        last = child(pool, last, index);
     }
-    let last = last_index(pool, node);
-    last_below(spot.below(node, last), child(pool, node, last), pool)
+    (here, last)
 }
 
 // From a node at this place down to the leaf in which a search for `key` ends, which goes through the node.

@@ -161,6 +161,12 @@ module _ {K V : Type 0} {most : ℕ} {slots : List (Content K V)} (capacity : Is
           let d = went leaves lower upper numbers a first b side u w in
           subst (Said leaves) (rows-join capacity leaves lower a first number b u read inner upper) (says leaves s.rows (s.row ∷ upper) (number ∷ numbers) d.front d.key d.back (kept leaves lower upper numbers a first b side u w) d.under d.way)
 
+-- from a node on one side of its level the way down has come to a node further down, and it ends where the way from there ends
+pub record GoesDown {K V : Type 0} (most : ℕ) (slots : List (Content K V)) (Side : List (K × ℕ) → List (K × ℕ) → Type 0) (Said : Spot → ℕ → List (LevelNode K V) → List (List (LevelNode K ℕ)) → Type 0)
+    (start : Spot) (node : ℕ) (here : Spot) (lower : ℕ) : Type 0 where
+  pub under : HasUnder most slots Side here lower
+  pub ends : (end : Spot) (leaf : ℕ) → OnUnder most slots Side here lower (Said end leaf) → OnUnder most slots Side start node (Said end leaf)
+
 -- the way from the root down, at its beginning
 pub way-root : {K : Type 0} (spot : Spot) → spot.code ≡ 0 → spot.height ≡ 0 → IsWay {K = K} [] spot [] 0
 way-root spot code height = record { coded = (code, refl); parent_is = λ low. absurd (omega (arith, low, height)); grand_is = λ low. absurd (omega (arith, low, height)); height_is = height }
