@@ -303,6 +303,7 @@ impl Spot {
 
 // The node behind the one at which the way of a code ends, and its spot, if there is one. The way is followed from the root down, and
 // with it, level by level, the way to the node behind.
+#[inline(never)]
 fn next_far<K: Copy, V: Copy, const N: usize>(
     code: u64,
     height: u32,
@@ -357,6 +358,7 @@ fn next_below<K: Copy, V: Copy, const N: usize>(
 
 // The node before the one at which the way of a code ends, and its spot, if there is one. The way is followed from the root down, and
 // with it, level by level, the way to the node before.
+#[inline(never)]
 fn prev_far<K: Copy, V: Copy, const N: usize>(
     code: u64,
     height: u32,
