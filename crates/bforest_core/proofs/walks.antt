@@ -7,6 +7,7 @@ pub mod Descent
 pub mod Whole
 pub mod Steps
 pub mod Entered
+pub mod Forking
 pub mod Leading
 pub mod Leaves
 pub mod Backward

@@ -8,7 +8,7 @@ use Rattle.bforest_core.specs.Change.{Changes, EntryTaken, PlacedUnder, StandsUn
 use Rattle.bforest_core.specs.Levels.{LevelNode, flat, most_levels, node, sizes_of}
 use Rattle.bforest_core.specs.Place.{entry_before, leaf_content}
 use Rattle.bforest_core.specs.Sizes.{growth, need}
-use Rattle.bforest_core.specs.Spots.{IsLeafAt, IsWay}
+use Rattle.bforest_core.specs.Spots.{IsLeafAt, IsSpotAt, IsWay, leaf_place}
 use Rattle.bforest_core.specs.Table.{Table, slot_count}
 use Rattle.bforest_core.specs.Trees.{is_root, tree_of}
 use Rattle.bforest_core.specs.declared.spot.Spot.{Spot}
@@ -76,6 +76,13 @@ module _ {K V : Type 0} (cmp : K → K → Ordering) where
   pub record SearchEndsAt (table : Table K V) (root : ℕ) (key : K) (at number : ℕ) : Type 0 where
     pub leaf : IsLeafAt table root at number
     pub tells : Narrows (tree_of table.nodes root).leaves key leaf.before leaf.entries
+
+  -- searches for two keys in the tree under a root end in these leaves, and these are their spots
+  pub record EndsBothAt (table : Table K V) (root : ℕ) (from to : K) (front : Spot) (first : ℕ) (back : Spot) (last : ℕ) : Type 0 where
+    pub front_at : IsSpotAt table root front (leaf_place table root front)
+    pub first_ends : SearchEndsAt table root from (leaf_place table root front) first
+    pub back_at : IsSpotAt table root back (leaf_place table root back)
+    pub last_ends : SearchEndsAt table root to (leaf_place table root back) last
 
   -- a search for the key among these leaves, which lie in the slots, ends in the leaf with this number, and the spot is that of the leaf
   -- below these rows

@@ -1,7 +1,7 @@
 //! Reading and writing one node of a pool, by its number.
 ghost use Rattle.std.specs.Prelude.{◌≡◌, ℕ, ◌-◌, ◌<◌, ◌≤◌, ◌↔◌, IsTrue, IfSome, List, length, slice_get, Some, Err, if◌then◌else◌};
 ghost use Rattle.std.specs.List.Sorted.{IsStrictlySortedBy};
-ghost use Rattle.bforest_nodes.specs.Content.{Content, Inner, IsLeafCapacity, IsFree, with_child, Leaf, with_entry, with_key, without_child, without_entry, removed_answer, entry_count, put_answer, take_answer, with_put, with_taken};
+ghost use Rattle.bforest_nodes.specs.Content.{Content, Inner, IsInner, IsLeafCapacity, IsFree, with_child, Leaf, with_entry, with_key, without_child, without_entry, removed_answer, entry_count, put_answer, take_answer, with_put, with_taken};
 ghost use Rattle.bforest_nodes.specs.Search.{search_of};
 ghost use Rattle.bforest_core.specs.Descent.{child_index};
 ghost use Rattle.bforest_nodes.specs.Entries.{IsIncreasing, place, value_for};
@@ -161,6 +161,20 @@ pub(crate) fn entries<K: Copy, V: Copy, const N: usize>(
     ensures most { result ≤ 255 }
 {
     pool.node(node).entries()
+}
+
+// The number of children of an inner node.
+pub(crate) fn child_count<K: Copy, V: Copy, const N: usize>(
+    pool: &NodePool<K, V, N>,
+    node: Node,
+) -> usize
+    requires { (content : Content K V) × (slice_get pool.now.nodes node ≡ Some content) × IsInner content }
+    ensures value { (content : Content K V) → slice_get pool.now.nodes node ≡ Some content → result
+        ≡ entry_count content }
+    ensures most { result ≤ 8 }
+{
+    let (_, children) = pool.node(node).unwrap_inner();
+    children.len()
 }
 
 // A separator of an inner node.

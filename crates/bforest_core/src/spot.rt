@@ -1,15 +1,17 @@
 //! The place of a leaf in its tree, in one word.
 ghost use Rattle.std.specs.Prelude.{◌≡◌, ℕ, suc, ◌+◌, ◌-◌, ◌*◌, ◌<◌, ◌≤◌, ◌/◌, ◌%◌, ◌++◌, ◌∷◌, IfSome, IsTrue, List, length, slice_get, Some, None, true, false};
-ghost use Rattle.bforest_core.specs.Leaves.{EndsOn, SearchEndsAt};
+ghost use Rattle.std.specs.List.Sorted.{IsStrictlySortedBy};
+ghost use Rattle.std.specs.Ordering.{is_gt};
+ghost use Rattle.bforest_core.specs.Leaves.{EndsBothAt, EndsOn, SearchEndsAt};
 ghost use Rattle.bforest_core.specs.Levels.{LevelNode, heads};
 ghost use Rattle.bforest_core.specs.Paths.{list_under};
 ghost use Rattle.bforest_core.specs.Trees.{IsUnion, is_root, tree_of};
-ghost use Rattle.bforest_nodes.specs.Content.{IsLeafCapacity};
+ghost use Rattle.bforest_nodes.specs.Content.{Inner, IsLeafCapacity};
 ghost use Rattle.bforest_nodes.specs.Entries.{IsIncreasing};
-ghost use Rattle.bforest_core.specs.Descent.{SearchThrough};
+ghost use Rattle.bforest_core.specs.Descent.{SearchThrough, child_index};
 ghost use Rattle.bforest_core.specs.Spots.{HasNext, HasNoParent, HasPrev, HasUnder, HasWay, IsFirst, IsLast, IsLeafAt, IsNextOf, IsPrevOf, IsSpotAt, IsWay, Leads, NumberAt, OnUnder, OnWay, SpotOn, leaf_count, leaf_place};
 
-use crate::access::{child, entries, follow, last_index};
+use crate::access::{child, child_count, follow, last_index, separator};
 use crate::pool::NodePool;
 use bforest_nodes::{Comparator, Node};
 
@@ -137,7 +139,7 @@ impl Spot {
         if self.height == 0 {
             return false;
         }
-        (self.code % 8) as usize + 1 < entries(pool, self.parent)
+        (self.code % 8) as usize + 1 < child_count(pool, self.parent)
     }
 
     // The next leaf, which has the same parent, and its place.
@@ -181,7 +183,7 @@ impl Spot {
             → suc place ≡ leaf_count pool.now root }
     {
         let index = (self.code / 8 % 8) as usize + 1;
-        if index < entries(pool, self.grand) {
+        if index < child_count(pool, self.grand) {
             let parent = child(pool, self.grand, index);
             let leaf = child(pool, parent, 0);
             let spot = Spot {
@@ -192,7 +194,8 @@ impl Spot {
             };
             return Some((spot, leaf));
         }
-        next_far(self.code, self.height, root, pool)
+        let (spot, leaf) = next_far(self.code, self.height, root, pool)?;
+        Some((spot, leaf))
     }
 
     /// The leaf before, and its place, if there is one. A spot without a parent has none.
@@ -279,7 +282,8 @@ impl Spot {
             };
             return Some((spot, leaf));
         }
-        prev_far(self.code, self.height, root, pool)
+        let (spot, leaf) = prev_far(self.code, self.height, root, pool)?;
+        Some((spot, leaf))
     }
 
     /// The leaf in which a search for `key` ends in the tree under `root`, and its place.
@@ -297,8 +301,65 @@ impl Spot {
         ensures leaf { SearchEndsAt (C.order comp.now) pool.now root key
             (leaf_place pool.now root result.0) result.1 }
     {
-        find_below(Spot::root(root), root, key, pool, comp)
+        find_below(&Spot::root(root), root, key, pool, comp)
     }
+
+    /// The leaves in which searches for two keys end, and their places, or `None` where the first key is greater. The searches go down
+    /// together as far as they go the same way.
+    #[inline(always)]
+    pub fn find_both<K: Copy, V: Copy, const N: usize, C: Comparator<K>>(
+        from: K,
+        to: K,
+        root: Node,
+        pool: &NodePool<K, V, N>,
+        comp: &C,
+    ) -> Option<((Spot, Node), (Spot, Node))>
+        requires union { IsUnion N pool.now }
+        requires root { IsTrue (is_root pool.now.nodes root) }
+        requires increasing { IsIncreasing (C.order comp.now) (list_under pool.now root) }
+        ensures some { IfSome result (λ ends. EndsBothAt (C.order comp.now) pool.now root from to ends.0.0
+            ends.0.1 ends.1.0 ends.1.1) }
+        ensures none { result ≡ None → is_gt (C.order comp.now from to) ≡ true }
+    {
+        let (mut here, mut node) = (Spot::root(root), root);
+        while pool.node(node).is_inner() {
+            let (index, child) = follow(pool, node, from, comp);
+            let next = here.below(node, index);
+            if !goes_along(pool, node, index, to, comp) {
+                let first = find_below(&next, child, from, pool, comp);
+                return Some((first, find_below(&here, node, to, pool, comp)));
+            }
+            here = next;
+            node = child;
+        }
+        if comp.cmp(from, to).is_gt() {
+            return None;
+        }
+        Some(((here, node), (here, node)))
+    }
+}
+
+// Whether a search for `key` goes to the child at `index`, where a search for a key that is not greater does.
+#[inline(always)]
+fn goes_along<K: Copy, V: Copy, const N: usize, C: Comparator<K>>(
+    pool: &NodePool<K, V, N>,
+    node: Node,
+    index: usize,
+    key: K,
+    comp: &C,
+) -> bool
+    requires inner { (keys : List K) × (children : List ℕ)
+        × (slice_get pool.now.nodes node ≡ Some (Inner keys children)) × IsStrictlySortedBy (C.order comp.now)
+        keys × (length children ≡ suc (length keys)) × (index ≤ length keys) }
+    ensures along { result ≡ true → (from : K) (keys : List K) (children : List ℕ)
+        → slice_get pool.now.nodes node ≡ Some (Inner keys children)
+        → index ≡ child_index (C.order comp.now) keys from → is_gt (C.order comp.now from key) ≡ false
+        → index ≡ child_index (C.order comp.now) keys key }
+    ensures ordered { result ≡ false → (from : K) (keys : List K) (children : List ℕ)
+        → slice_get pool.now.nodes node ≡ Some (Inner keys children)
+        → index ≡ child_index (C.order comp.now) keys from → is_gt (C.order comp.now from key) ≡ false }
+{
+    index == last_index(pool, node) || comp.cmp(key, separator(pool, node, index)).is_lt()
 }
 
 // The node behind the one at which the way of a code ends, and its spot, if there is one. The way is followed from the root down, and
@@ -349,7 +410,7 @@ fn next_below<K: Copy, V: Copy, const N: usize>(
         → IsNextOf pool.now.nodes root here.now.code here.now.height above
         → IsNextOf pool.now.nodes root (here.now.code * 8 + index) (suc here.now.height) result }
 {
-    if index + 1 < entries(pool, node) {
+    if index + 1 < child_count(pool, node) {
         return Some((here.below(node, index + 1), child(pool, node, index + 1)));
     }
     let (spot, next) = above?;
@@ -455,7 +516,7 @@ fn last_below<K: Copy, V: Copy, const N: usize>(
 
 // From a node at this place down to the leaf in which a search for `key` ends, which goes through the node.
 fn find_below<K: Copy, V: Copy, const N: usize, C: Comparator<K>>(
-    spot: Spot,
+    spot: &Spot,
     node: Node,
     key: K,
     pool: &NodePool<K, V, N>,
@@ -464,14 +525,14 @@ fn find_below<K: Copy, V: Copy, const N: usize, C: Comparator<K>>(
     requires capacity { IsLeafCapacity N }
     requires under { (leaves : List (LevelNode K V)) × (upper : List (List (LevelNode K ℕ)))
         × (numbers : List ℕ)
-        × (on : SearchThrough (C.order comp.now) N pool.now.nodes leaves key node spot.height)
-        × IsWay numbers spot upper (length on.before) }
+        × (on : SearchThrough (C.order comp.now) N pool.now.nodes leaves key node spot.now.height)
+        × IsWay numbers spot.now upper (length on.before) }
     ensures found { (leaves : List (LevelNode K V)) (upper : List (List (LevelNode K ℕ))) (numbers : List ℕ)
-        (on : SearchThrough (C.order comp.now) N pool.now.nodes leaves key node spot.height)
-        → IsWay numbers spot upper (length on.before)
+        (on : SearchThrough (C.order comp.now) N pool.now.nodes leaves key node spot.now.height)
+        → IsWay numbers spot.now upper (length on.before)
         → EndsOn (C.order comp.now) pool.now.nodes leaves (on.lower ++ upper) key result.0 result.1 }
 {
-    let (mut here, mut lower) = (spot, node);
+    let (mut here, mut lower) = (*spot, node);
     while pool.node(lower).is_inner() {
         let (index, child) = follow(pool, lower, key, comp);
         here = here.below(lower, index);

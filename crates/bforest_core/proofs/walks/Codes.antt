@@ -1,6 +1,6 @@
 -- The way of a code down rows of inner nodes, and the way to the next node: each step of a spot stands on these.
 use Rattle.std.proofs.Common.{IsTrue, ◌≡◌, ◌≢◌, ℕ, zero, suc, ◌+◌, ◌-◌, ◌*◌, ◌/◌, ◌%◌, ◌≤◌, ◌<◌, List, [], ◌∷◌, ◌++◌, length, take, drop, get_or, slice_get, option_map, Some, refl, sym, ap, subst, ◌∙◌, arith, append_assoc, length-append}
-use Rattle.bforest_core.proofs.Words.{nil_from_length, take_at, slice_get_within, Content, Inner, IsFree, entry_count, LevelNode, node, flat, heads, FitRow, RowIn, inner_content, entry_items, entry_keys}
+use Rattle.bforest_core.proofs.Words.{nil_from_length, take_at, slice_get_within, Content, Inner, IsInner, entry_count, LevelNode, node, flat, heads, FitRow, RowIn, inner_content, entry_items, entry_keys}
 use Rattle.bforest_core.specs.Spots.{Coded, CodedOver, HasNext, IsLeafAt, IsSpotAt, IsWay, NumberAt, leaf_count}
 use Rattle.bforest_core.specs.declared.spot.Spot.{Spot}
 use Rattle.bforest_core.proofs.union.Unions.{is-rooted}
@@ -192,8 +192,8 @@ module _ {K V : Type 0} {slots : List (Content K V)} {root code depth : ℕ} {nu
     code-child child reads = child-is node-here (code % 8) child place here.within here.place_is reads
 
     -- what the number of children asks, and says
-    pub count-asks : (content : Content K V) × (slice_get slots parent ≡ Some content) × (IsFree content → ⊥)
-    count-asks = (inner_content here.at.entries, node-here.slot_is, λ free. free)
+    pub count-asks : (content : Content K V) × (slice_get slots parent ≡ Some content) × IsInner content
+    count-asks = (inner_content here.at.entries, node-here.slot_is, tt)
 
     module _ (count : ℕ) (counts : (content : Content K V) → slice_get slots parent ≡ Some content → count ≡ entry_count content) where
       count-is : count ≡ length here.at.entries
@@ -272,7 +272,7 @@ module _ {K V : Type 0} {n : ℕ} {table : Table K V} (union : IsUnion n table) 
     abbrev pub its : spot.parent ≡ (here spot-over other).number
     its = kept-same table.nodes root spot.code spot.height s.numbers (tree_of table.nodes root).above (heads (tree_of table.nodes root).leaves) place spot-over other spot.parent (s.parent_is some)
 
-    pub spot-count : (content : Content K V) × (slice_get table.nodes spot.parent ≡ Some content) × (IsFree content → ⊥)
+    pub spot-count : (content : Content K V) × (slice_get table.nodes spot.parent ≡ Some content) × IsInner content
     spot-count = count-asks spot-over other spot.parent its
 
     module _ (count : ℕ) (counts : (content : Content K V) → slice_get table.nodes spot.parent ≡ Some content → count ≡ entry_count content) where

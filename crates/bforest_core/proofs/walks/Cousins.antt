@@ -1,6 +1,6 @@
 -- The step of a spot to a leaf with another parent, and the place of a spot's leaf.
 use Rattle.std.proofs.Common.{◌≡◌, ◌≢◌, ℕ, suc, ◌+◌, ◌-◌, ◌*◌, ◌/◌, ◌%◌, ◌≤◌, ◌<◌, List, [], ◌∷◌, drop, length, slice_get, take, IfSome, Option, Some, inl, inr, refl, sym, ap, subst, ◌∙◌, arith}
-use Rattle.bforest_core.proofs.Words.{cases_lt, eqb_tells, take_at, Content, Inner, IsFree, IsUnion, LevelNode, Table, entry_count, flat, heads, inner_content, tree_of}
+use Rattle.bforest_core.proofs.Words.{cases_lt, eqb_tells, take_at, Content, Inner, IsInner, IsUnion, LevelNode, Table, entry_count, flat, heads, inner_content, tree_of}
 use Rattle.bforest_core.specs.Spots.{Coded, CodedOver, HasNext, IsLeafAt, IsSpotAt, IsWay, NumberAt, leaf_count, leaf_place, place_by}
 use Rattle.bforest_core.specs.declared.spot.Spot.{Spot}
 use Rattle.bforest_core.proofs.table.Stored.{some_same, item_count}
@@ -36,7 +36,7 @@ module _ {K V : Type 0} {n : ℕ} {table : Table K V} (union : IsUnion n table) 
     grand-is = kept-same table.nodes root (spot.code / 8) (spot.height - 1) (drop 1 s.numbers) _ _ _ up more spot.grand (s.grand_is (omega (arith, deep)))
 
     -- what the number of the grandparent's children asks
-    pub grand-count : (content : Content K V) × (slice_get table.nodes spot.grand ≡ Some content) × (IsFree content → ⊥)
+    pub grand-count : (content : Content K V) × (slice_get table.nodes spot.grand ≡ Some content) × IsInner content
     grand-count = count-asks up more spot.grand grand-is
 
   module _ (last : HasNext table spot → ⊥) where

@@ -3,7 +3,7 @@
 use Rattle.std.proofs.Common.{◌≡◌, ◌≢◌, ℕ, zero, suc, ◌+◌, ◌-◌, ◌*◌, ◌/◌, ◌%◌, ◌^◌, ◌≤◌, ◌<◌, refl, sym, ap, subst, ◌∙◌, arith}
 use Rattle.std.proofs.Common.{List, [], ◌∷◌, drop, length, slice_get, Some, None, Option}
 use Rattle.std.proofs.lemmas.Nat.{shr-shr}
-use Rattle.bforest_core.proofs.Words.{Content, Inner, IsFree, LevelNode, entry_count, heads}
+use Rattle.bforest_core.proofs.Words.{Content, Inner, IsInner, LevelNode, entry_count, heads}
 use Rattle.bforest_core.specs.Spots.{Coded, CodedOver, HasWay, IsNextOf, IsPrevOf, IsWay, Leads, NumberAt, OnWay}
 use Rattle.bforest_core.specs.declared.spot.Spot.{Spot}
 use Rattle.bforest_core.proofs.walks.Back.{PrevAbove, last-asks, last-child, last-child-asks, last-code, last-low, none-prev}
@@ -145,7 +145,7 @@ module _ {K V : Type 0} {slots : List (Content K V)} {root : ℕ} {spot : Spot} 
       let read = subst (λ z. ChildRead slots node z child) (sym index-is) reads in
       (way-of p next b.code b.height parent grand, code-child p some node (same p) child read)
 
-  pub count-asked : There → (content : Content K V) × (slice_get slots node ≡ Some content) × (IsFree content → ⊥)
+  pub count-asked : There → (content : Content K V) × (slice_get slots node ≡ Some content) × IsInner content
   count-asked o = count-asks o.4 some node (same o.4)
 
   module _ {count : ℕ} (counts : (content : Content K V) → slice_get slots node ≡ Some content → count ≡ entry_count content) where

@@ -1,12 +1,16 @@
 -- The way down to the leaf in which a search ends: each answer of `value_below`, `entry_below` and, as a spot, `find_below` is one of these.
 use Rattle.std.proofs.Common.{◌≡◌, ℕ, suc, ◌+◌, ◌*◌, ◌/◌, ◌%◌, ◌≤◌, ◌<◌, List, [], ◌∷◌, ◌++◌, IsTrue, length, slice_get, Some, refl, sym, ap, subst, ◌∙◌, arith, append_assoc}
 use Rattle.bforest_core.proofs.Words.{Content, EndsOn, FitRow, Inner, IsInner, IsIncreasing, IsTotalOrder, IsStrictlySortedBy, IsUnion, LevelNode, Narrows, SearchEndsAt, SearchThrough, StackedTo, Table, Under, child_index, flat, half_of, heads, is_root, leaf_content, node, place, tree_of}
+use Rattle.bforest_core.specs.Place.{entry_items, entry_keys}
 use Rattle.bforest_core.specs.Spots.{Coded, IsSpotAt, IsWay, leaf_place}
 use Rattle.bforest_core.specs.declared.spot.Spot.{Spot}
+use Rattle.std.proofs.lemmas.List.{length-map}
 use Rattle.std.specs.declared.cmp.Ordering.{Ordering}
 use Rattle.bforest_core.proofs.rows.LevelRows.{FitRow-split}
+use Rattle.bforest_core.proofs.table.Stored.{item_count}
+use Rattle.bforest_core.proofs.walks.Rising.{increasing_rest}
 use Rattle.bforest_core.proofs.walks.Codes.{code-low}
-use Rattle.bforest_core.proofs.walks.CodesDown.{way-spot}
+use Rattle.bforest_core.proofs.walks.CodesDown.{way-root, way-spot}
 use Rattle.bforest_core.proofs.walks.Cousins.{place-is}
 use Rattle.bforest_core.proofs.walks.Descent.{Below, InnerStep, LeafStep, below, follow_asks, inner_step, leaf_found, leaf_step, leaf_value, placed}
 use Rattle.bforest_core.proofs.walks.Downward.{stacked_last}
@@ -95,6 +99,13 @@ module _ {K V : Type 0} {cmp : K → K → Ordering} (o : IsTotalOrder cmp) {mos
         pub digit-low : index < 8
         digit-low = omega (arith, to.within, row-low t.under step.here)
 
+        -- what asking asks whether another search goes to that child too
+        pub along-asks : (keys : List K) × (children : List ℕ) × (slice_get slots number ≡ Some (Inner keys children)) × IsStrictlySortedBy cmp keys × (length children ≡ suc (length keys)) × (index ≤ length keys)
+        along-asks =
+            let es = step.here.at.es in
+            let count = length-map es (λ w. w.0) in
+            (entry_keys es, entry_items (step.here.at.e ∷ es), step.here.slot_is, increasing_rest cmp o step.here.at.e es step.increasing, omega (arith, item_count (step.here.at.e ∷ es), count), omega (arith, to.within, count))
+
         module _ (upper : List (List (LevelNode K ℕ))) (numbers : List ℕ) (spot : Spot) (height_is : depth ≡ spot.height) (w : IsWay numbers spot upper (length t.before)) where
           -- a digit more fits
           pub code-low-here : spot.code < 35184372088832
@@ -132,6 +143,24 @@ abbrev pub search-root : {K V : Type 0} {cmp : K → K → Ordering} {most : ℕ
 search-root {cmp = cmp} {most = most} {table = table} {root = root} {key = key} union is increasing depth none =
     let u = under-root most table root union is in
     record { lower = (tree_of table.nodes root).above; before = []; first = u.first; after = []; under = u.under; increasing = increasing; through = all_through cmp u.first key; low = omega (arith, u.low, none) }
+
+-- a search from the root on has come to this node, and its spot
+abbrev pub CameTo : {K V : Type 0} → (K → K → Ordering) → ℕ → Table K V → ℕ → K → Spot → ℕ → Type 0
+CameTo {K} {V} cmp most table root key spot number = WayBelow cmp most table.nodes (tree_of table.nodes root).leaves (tree_of table.nodes root).above [] key spot number
+
+module _ {K V : Type 0} {cmp : K → K → Ordering} {most : ℕ} (table : Table K V) (root : ℕ) (key : K) where
+  -- at the root
+  pub came-first : (union : IsUnion most table) (is : IsTrue (is_root table.nodes root)) → IsIncreasing cmp (flat (tree_of table.nodes root).leaves) → (spot : Spot) → spot.code ≡ 0 → spot.height ≡ 0 → CameTo cmp most table root key spot root
+  came-first union is increasing spot code height = record { above = []; numbers = []; on = search-root union is increasing spot.height height; way = way-root spot code height; join = refl }
+
+  module _ {spot : Spot} {number : ℕ} (w : CameTo cmp most table root key spot number) where
+    -- further down
+    pub came-on : {next : Spot} {child : ℕ} → WayBelow cmp most table.nodes (tree_of table.nodes root).leaves w.on.lower w.above key next child → CameTo cmp most table root key next child
+    came-on d = record { above = d.above; numbers = d.numbers; on = d.on; way = d.way; join = d.join ∙ w.join }
+
+    -- where it ends from there
+    pub came-end : {end : Spot} {leaf : ℕ} → EndsOn cmp table.nodes (tree_of table.nodes root).leaves (w.on.lower ++ w.above) key end leaf → EndsOn cmp table.nodes (tree_of table.nodes root).leaves ((tree_of table.nodes root).above ++ []) key end leaf
+    came-end {end} {leaf} e = subst (λ rows. EndsOn cmp table.nodes (tree_of table.nodes root).leaves rows key end leaf) w.join e
 
 -- from the root down: the leaf in which a search ends, and its spot
 module _ {K V : Type 0} {cmp : K → K → Ordering} {table : Table K V} {root : ℕ} (is : IsTrue (is_root table.nodes root)) {key : K} {spot : Spot} {number : ℕ} (e : EndsOn cmp table.nodes (tree_of table.nodes root).leaves ((tree_of table.nodes root).above ++ []) key spot number) where

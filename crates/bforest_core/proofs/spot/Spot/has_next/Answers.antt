@@ -3,14 +3,14 @@ use Rattle.bforest_core.proofs.Words.{cases_lt, false≢true, lt-ltb, ltb-true}
 use Rattle.bforest_core.proofs.walks.Codes.{spot-count, spot-has, spot-last}
 use Rattle.bforest_core.proofs.spot.Spot.has_next.Goals as goal
 
-pub entries-requires : goal.entries-requires
-entries-requires g c = (search rules, spot-count c.requires.union (c.requires.spot c.if-self-eq0.false).is (omega (arith, c.if-self-eq0.false)))
+pub child_count-requires : goal.child_count-requires
+child_count-requires g c = (search rules, spot-count c.requires.union (c.requires.spot c.if-self-eq0.false).is (omega (arith, c.if-self-eq0.false)))
 
 pub returns-clause-next : goal.returns-clause-next
-returns-clause-next g c = λ yes. spot-has c.requires.union (c.requires.spot c.if-self-eq0.false).is (omega (arith, c.if-self-eq0.false)) c.entries.result c.entries.ensures.value (ltb-true (c.args.self.now.code % 8 + 1) c.entries.result yes)
+returns-clause-next g c = λ yes. spot-has c.requires.union (c.requires.spot c.if-self-eq0.false).is (omega (arith, c.if-self-eq0.false)) c.child_count.result c.child_count.ensures.value (ltb-true (c.args.self.now.code % 8 + 1) c.child_count.result yes)
 
 pub returns-clause-none : goal.returns-clause-none
-returns-clause-none g c = λ no. elim (cases_lt (c.args.self.now.code % 8 + 1) c.entries.result) [
-  | inl low ↦ absurd (false≢true (sym no ∙ lt-ltb (c.args.self.now.code % 8 + 1) c.entries.result low))
-  | inr past ↦ spot-last c.requires.union (c.requires.spot c.if-self-eq0.false).is (omega (arith, c.if-self-eq0.false)) c.entries.result c.entries.ensures.value past
+returns-clause-none g c = λ no. elim (cases_lt (c.args.self.now.code % 8 + 1) c.child_count.result) [
+  | inl low ↦ absurd (false≢true (sym no ∙ lt-ltb (c.args.self.now.code % 8 + 1) c.child_count.result low))
+  | inr past ↦ spot-last c.requires.union (c.requires.spot c.if-self-eq0.false).is (omega (arith, c.if-self-eq0.false)) c.child_count.result c.child_count.ensures.value past
 ]

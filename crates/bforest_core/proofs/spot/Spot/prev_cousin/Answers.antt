@@ -1,4 +1,4 @@
-use Rattle.std.proofs.Common.{rules, refl, arith, ◌<◌}
+use Rattle.std.proofs.Common.{Some, rules, refl, arith, ◌<◌}
 use Rattle.bforest_core.proofs.Words.{tree_of, heads}
 use Rattle.bforest_core.proofs.walks.Back.{cousin-before, cousin-before-asks, cousin-last-asks, far-before, parent-before-asks}
 use Rattle.bforest_core.proofs.walks.Codes.{spot-height, spot-low, spot-over}
@@ -9,11 +9,11 @@ prev_far-requires g c =
     let s = c.requires.spot.1 in
     (search rules, (spot-height c.requires.union s, (s.numbers, (tree_of c.args.pool.now.nodes c.args.root).above, heads (tree_of c.args.pool.now.nodes c.args.root).leaves, c.requires.spot.0, spot-over c.requires.union s)))
 
-pub returns-clause-some : goal.returns-clause-some
-returns-clause-some g c = far-before c.requires.union c.args.root c.args.self.now c.prev_far.result c.prev_far.ensures.some
+pub returns-in_err-spot-clause-none : goal.returns-in_err-spot-clause-none
+returns-in_err-spot-clause-none g c = λ none place s. c.prev_far.ensures.none c.in_err-spot.was s.numbers (tree_of c.args.pool.now.nodes c.args.root).above (heads (tree_of c.args.pool.now.nodes c.args.root).leaves) place (spot-over c.requires.union s)
 
-pub returns-clause-none : goal.returns-clause-none
-returns-clause-none g c = λ none place s. c.prev_far.ensures.none none s.numbers (tree_of c.args.pool.now.nodes c.args.root).above (heads (tree_of c.args.pool.now.nodes c.args.root).leaves) place (spot-over c.requires.union s)
+pub returns-clause-some : goal.returns-clause-some
+returns-clause-some g c = far-before c.requires.union c.args.root c.args.self.now (Some (c.in_ok-spot.spot, c.in_ok-spot.leaf)) (rw c.in_ok-spot.was at c.prev_far.ensures.some)
 
 pub child-parent-requires : goal.child-parent-requires
 child-parent-requires g c = (search rules, parent-before-asks c.requires.union c.requires.spot.1 c.requires.first c.requires.deep c.if-index-gt0.true)

@@ -1,0 +1,12 @@
+use Rattle.std.proofs.Common.{◌-◌, ◌≡◌, false}
+use Rattle.std.specs.Ordering.{is_gt}
+use Rattle.bforest_core.proofs.walks.Searches.{CameTo}
+use Rattle.bforest_core.proofs.spot.Spot.find_both.Given as goal
+
+abbrev pub invariant-loop-index : goal.invariant-loop-index
+invariant-loop-index g l =
+    CameTo (g.C.Comparator.order l.comp) g.row.N l.pool l.fn.root l.from l.here l.node
+    × (is_gt (g.C.Comparator.order l.comp l.from l.to) ≡ false → CameTo (g.C.Comparator.order l.comp) g.row.N l.pool l.fn.root l.to l.here l.node)
+
+abbrev pub decreases-loop-index : goal.decreases-loop-index
+decreases-loop-index g l = 17 - l.here.height
