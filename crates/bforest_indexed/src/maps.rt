@@ -278,7 +278,8 @@ impl<K: Copy, V: Copy, C: Comparator<K>> Maps<K, V, C> {
         self.maps[index].iter(&self.forest)
     }
 
-    /// Returns a double-ended iterator over the entries of a map within both bounds, in order. Two searches; the steps compare nothing.
+    /// Returns a double-ended iterator over the entries of a map within both bounds, in order. At most two searches and one comparison; the
+    /// steps compare nothing.
     pub fn range(&self, index: usize, bounds: (Bound<K>, Bound<K>)) -> MapRange<'_, K, V, C>
         requires within { index < count self.now }
         ensures entries { result ≡ entries_between (C.order (comparator self.now)) bounds.0 bounds.1

@@ -267,7 +267,8 @@ impl<K: Copy, C: Comparator<K>> Sets<K, C> {
         self.sets[index].iter(&self.forest)
     }
 
-    /// Returns a double-ended iterator over the keys of a set within both bounds, in order. Two searches; the steps compare nothing.
+    /// Returns a double-ended iterator over the keys of a set within both bounds, in order. At most two searches and one comparison; the
+    /// steps compare nothing.
     pub fn range(&self, index: usize, bounds: (Bound<K>, Bound<K>)) -> SetRange<'_, K, C>
         requires within { index < count self.now }
         ensures keys { result ≡ keys_of (entries_between (C.order (comparator self.now)) bounds.0 bounds.1

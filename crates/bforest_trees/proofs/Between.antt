@@ -8,6 +8,7 @@ use Rattle.bforest_trees.specs.Bounds.{end_place, entries_between, entry_at_most
 use Rattle.bforest_core.specs.Leaves.{entry_up_to}
 use Rattle.bforest_core.specs.Place.{entry_before}
 use Rattle.std.proofs.Common.{Bool, Err, List, None, Ok, Option, Some, [], ap, arith, cond, count_by, drop, false, filter, if◌then◌else◌, length, min, not, refl, slice_get, slice_range, suc, sym, take, true, zero, ◌&&◌, ◌+◌, ◌-◌, ◌<◌, ◌∙◌, ◌∷◌, ◌≡◌, ◌≤◌, ℕ}
+use Rattle.std.proofs.lemmas.Cmp.{alike_right}
 use Rattle.std.proofs.lemmas.List.Elements.{filter_agree}
 use Rattle.std.proofs.lemmas.List.Sums.{count_by-le-length, sum_by-cons}
 use Rattle.std.specs.Cmp.{IsTotalOrder}
@@ -49,6 +50,10 @@ module _ {A : Type 0} where
     where
       rest : List A
       rest = filter (λ y. s y && not (t y)) es
+
+  filter-no : (t : A → Bool) → ((e : A) → t e ≡ false) → (es : List A) → filter t es ≡ []
+  filter-no t never [] = refl
+  filter-no t never (e ∷ es) = ap (λ b. cond b (e ∷ filter t es) (filter t es)) (never e) ∙ filter-no t never es
 
   -- the elements where s holds and t does not are a slice
   slice-filter : (s t : A → Bool) (es : List A) → Rises s es → Rises t es → filter (λ y. s y && not (t y)) es ≡ slice_range es (count_by (λ y. not (s y)) es) (count_by (λ y. not (t y)) es)
@@ -223,3 +228,36 @@ module _ {K : Type 0} (cmp : K → K → Ordering) (o : IsTotalOrder cmp) where
           go : (b : Bool) → is_present cmp es a ≡ b → entry_up_to cmp es a ≡ entry_at_most cmp es a
           go true here = (λ j. if here j then slice_get es (place cmp es a) else entry_before es (place cmp es a)) ∙ sym (at-most-before ∙ ap (entry_before es) (up-to-present here))
           go false gone = (λ j. if gone j then slice_get es (place cmp es a) else entry_before es (place cmp es a)) ∙ sym (at-most-before ∙ ap (entry_before es) (up-to-absent gone))
+
+module _ {K : Type 0} (cmp : K → K → Ordering) (o : IsTotalOrder cmp) (from to : K) (crossed : is_gt (cmp from to) ≡ true) where
+  -- where the end is in front of the start, each key from the start on is behind the end
+  past-end : (k : K) → is_le (cmp from k) ≡ true → cmp to k ≡ Less
+  past-end k inside = go (cmp from k) refl
+    where
+      greater : (r : Ordering) → is_gt r ≡ true → r ≡ Greater
+      greater Less e = absurd (cc)
+      greater Equal e = absurd (cc)
+      greater Greater e = refl
+
+      less : cmp to from ≡ Less
+      less = o.antisymm to from ∙ ap ordering_reverse (greater (cmp from to) crossed)
+
+      go : (r : Ordering) → cmp from k ≡ r → cmp to k ≡ Less
+      go Less f = o.trans to from k less f
+      go Equal f = sym (alike_right o from k to f) ∙ less
+      go Greater f = absurd (let bad : false ≡ true = sym (ap is_le f) ∙ inside in cc)
+
+  -- no key passes the test of the start and is not past the end
+  none-past : {X : Type 0} (t : Ordering → Bool) → t Less ≡ true → (e : K × X) → (is_le (cmp from e.0) && not (t (cmp to e.0))) ≡ false
+  none-past t less e = go (is_le (cmp from e.0)) refl
+    where
+      go : (b : Bool) → is_le (cmp from e.0) ≡ b → (is_le (cmp from e.0) && not (t (cmp to e.0))) ≡ false
+      go true inside = ap (λ c. is_le (cmp from e.0) && not c) (ap t (past-end e.0 inside) ∙ less) ∙ and_false (is_le (cmp from e.0))
+      go false outside = ap (λ b. b && not (t (cmp to e.0))) outside
+
+  -- between bounds that are the wrong way round there is no entry
+  pub none-through : {X : Type 0} (es : List (K × X)) → entries_between cmp (Included from) (Included to) es ≡ []
+  none-through es = filter-no (λ e. is_from_start cmp (Included from) e.0 && not (is_past_end cmp (Included to) e.0)) (none-past is_lt refl) es
+
+  pub none-between : {X : Type 0} (es : List (K × X)) → entries_between cmp (Included from) (Excluded to) es ≡ []
+  none-between es = filter-no (λ e. is_from_start cmp (Included from) e.0 && not (is_past_end cmp (Excluded to) e.0)) (none-past is_le refl) es

@@ -50,12 +50,17 @@ module _ {K X : Type 0} (f : Forest K X) (h : Option ℕ) where
         left = λ j. slice_range (list_of f h) (from j) (to j);
       }
 
-  -- two looks at the end are a range of the entries from one place up to another in front of it: none
-  pub range-ended : IsLive f h → (ends : Ends K X) (s e : ℕ) → IsLook f h ends.front (length (list_of f h)) → IsLook f h ends.back (length (list_of f h)) → e < s → RunsFrom f h ends s e
-  range-ended live ends s e front back low =
-      let last = length (list_of f h) in
-      let made = range-made live ends last last front back (omega arith) in
-      record { range = made.range; left = made.left ∙ range-none (list_of f h) last last (omega arith) ∙ sym (range-none (list_of f h) s e (omega (arith, low))) }
+  module _ (live : IsLive f h) (ends : Ends K X) (front : IsLook f h ends.front (length (list_of f h))) (back : IsLook f h ends.back (length (list_of f h))) where
+    abbrev pub made : RunsFrom f h ends (length (list_of f h)) (length (list_of f h))
+    made = range-made live ends (length (list_of f h)) (length (list_of f h)) front back (omega arith)
+
+    -- between two looks at the end nothing is left
+    pub none-left : left_in f h ends ≡ []
+    none-left = made.left ∙ range-none (list_of f h) (length (list_of f h)) (length (list_of f h)) (omega arith)
+
+    -- two looks at the end are a range of the entries from one place up to another in front of it: none
+    pub range-ended : (s e : ℕ) → e < s → RunsFrom f h ends s e
+    range-ended s e low = record { range = made.range; left = none-left ∙ sym (range-none (list_of f h) s e (omega (arith, low))) }
 
   module _ (ends : Ends K X) (r : IsRange f h ends) where
     abbrev from : ℕ

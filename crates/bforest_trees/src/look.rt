@@ -1,5 +1,7 @@
 //! A place in a tree, to read at.
+ghost use Rattle.bforest_core.specs.Leaves.{SearchEndsAt};
 ghost use Rattle.bforest_core.specs.Place.{entry_before};
+ghost use Rattle.bforest_core.specs.Spots.{IsSpotAt, leaf_place};
 ghost use Rattle.bforest_core.specs.Trees.{IsUnion};
 ghost use Rattle.bforest_nodes.specs.Entries.{IsIncreasing, place, value_for};
 ghost use Rattle.bforest_trees.specs.Forest.{Forest, IsLive, list_of};
@@ -165,7 +167,11 @@ impl<'a, K: Copy, V: Copy> Look<'a, K, V> {
 
     // Goes to the next entry, or from the last entry to the end. Returns whether there is a next one.
     #[inline(always)]
-    fn step_on<const N: usize>(&mut self, handle: PackedNode, pool: &'a NodePool<K, V, N>) -> bool
+    pub(crate) fn step_on<const N: usize>(
+        &mut self,
+        handle: PackedNode,
+        pool: &'a NodePool<K, V, N>,
+    ) -> bool
         requires union { IsUnion N pool.now }
         requires stands { AtLook pool.now handle self.old }
         ensures look { (at : AtLook pool.now handle self.old)
@@ -353,7 +359,30 @@ impl<'a, K: Copy, V: Copy> Look<'a, K, V> {
         ensures look { IsLook pool.now (Some root) self.new
             (place (C.order comp.now) (list_of pool.now (Some root)) key) }
     {
-        let (index, value) = self.enter_at(root, pool, key, comp);
+        let (spot, leaf) = Spot::find(key, root, pool, comp);
+        self.settle(root, spot, leaf, pool, key, comp)
+    }
+
+    // Goes to the place of a key in the list under a root, from the leaf in which a search for the key ends, and returns its value.
+    #[inline(always)]
+    pub(crate) fn settle<const N: usize, C: Comparator<K>>(
+        &mut self,
+        root: Node,
+        spot: Spot,
+        leaf: Node,
+        pool: &'a NodePool<K, V, N>,
+        key: K,
+        comp: &C,
+    ) -> Option<V>
+        requires union { IsUnion N pool.now }
+        requires spot { IsSpotAt pool.now root spot (leaf_place pool.now root spot) }
+        requires leaf { SearchEndsAt (C.order comp.now) pool.now root key (leaf_place pool.now root spot)
+            leaf }
+        ensures value { result ≡ value_for (C.order comp.now) (list_of pool.now (Some root)) key }
+        ensures look { IsLook pool.now (Some root) self.new
+            (place (C.order comp.now) (list_of pool.now (Some root)) key) }
+    {
+        let (index, value) = self.enter_at(root, spot, leaf, pool, key, comp);
         if index < self.keys.len() {
             self.index = index;
         } else {
@@ -367,18 +396,20 @@ impl<'a, K: Copy, V: Copy> Look<'a, K, V> {
     fn enter_at<const N: usize, C: Comparator<K>>(
         &mut self,
         root: Node,
+        spot: Spot,
+        leaf: Node,
         pool: &'a NodePool<K, V, N>,
         key: K,
         comp: &C,
     ) -> (usize, Option<V>)
         requires union { IsUnion N pool.now }
-        requires live { IsLive pool.now (Some root) }
-        requires increasing { IsIncreasing (C.order comp.now) (list_of pool.now (Some root)) }
+        requires spot { IsSpotAt pool.now root spot (leaf_place pool.now root spot) }
+        requires leaf { SearchEndsAt (C.order comp.now) pool.now root key (leaf_place pool.now root spot)
+            leaf }
         ensures value { result.1 ≡ value_for (C.order comp.now) (list_of pool.now (Some root)) key }
         ensures index { HoldsPlace pool.now (Some root) self.new result.0
             (place (C.order comp.now) (list_of pool.now (Some root)) key) }
     {
-        let (spot, leaf) = Spot::find(key, root, pool, comp);
         *self = Look::enter(spot, leaf, pool);
         pool.node(leaf).look_up(key, comp)
     }

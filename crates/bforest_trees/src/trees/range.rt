@@ -3,14 +3,18 @@ ghost use Rattle.bforest_trees.specs.Bounds.{end_place, entries_between, start_p
 ghost use Rattle.bforest_trees.specs.Forest.{Forest, IsLive, list_of};
 ghost use Rattle.bforest_trees.specs.Looks.{IsLook};
 ghost use Rattle.bforest_trees.specs.Range.{IsRange, RunsFrom, left_in};
-ghost use Rattle.bforest_nodes.specs.Entries.{IsIncreasing};
+ghost use Rattle.bforest_core.specs.Leaves.{SearchEndsAt};
+ghost use Rattle.bforest_core.specs.Spots.{IsSpotAt, leaf_place};
+ghost use Rattle.bforest_core.specs.Trees.{IsUnion};
+ghost use Rattle.bforest_nodes.specs.Entries.{IsIncreasing, place};
 ghost use Rattle.std.specs.Iterator.{YieldsFirst, YieldsLast};
-ghost use Rattle.std.specs.Prelude.{IsTrue, Option, [], ◌≡◌, ◌↔◌, ℕ};
+ghost use Rattle.std.specs.Ordering.{is_gt};
+ghost use Rattle.std.specs.Prelude.{IfSome, IsTrue, None, Option, Some, [], true, ◌≡◌, ◌↔◌, ℕ};
 ghost use Rattle.std.specs.declared.ops.Bound.TheVariants.{Included};
 
 use crate::look::Look;
 use crate::trees::Trees;
-use bforest_core::{Comparator, PackedNode};
+use bforest_core::{Comparator, Node, NodePool, PackedNode, Spot};
 use std::ops::Bound;
 
 /// The entries of a range that are left: from where the front looks up to where the back looks.
@@ -21,6 +25,55 @@ pub struct Ends<'a, K: Copy, V: Copy> {
 }
 
 impl<'a, K: Copy, V: Copy> Ends<'a, K, V> {
+    // Looks at the places of two keys in the list under a root. There are no such ends where the first key is greater.
+    #[inline(always)]
+    fn between<const N: usize, C: Comparator<K>>(
+        root: Node,
+        from: K,
+        to: K,
+        pool: &'a NodePool<K, V, N>,
+        comp: &C,
+    ) -> Option<Ends<'a, K, V>>
+        requires union { IsUnion N pool.now }
+        requires live { IsLive pool.now (Some root) }
+        requires increasing { IsIncreasing (C.order comp.now) (list_of pool.now (Some root)) }
+        ensures some { IfSome result (λ ends. IsLook pool.now (Some root) ends.front
+            (place (C.order comp.now) (list_of pool.now (Some root)) from) × IsLook pool.now (Some root) ends.back
+            (place (C.order comp.now) (list_of pool.now (Some root)) to)) }
+        ensures none { result ≡ None → is_gt (C.order comp.now from to) ≡ true }
+    {
+        let ((spot, leaf), (other, last)) = Spot::find_both(from, to, root, pool, comp)?;
+        let (mut front, mut back) = (Look::end(), Look::end());
+        front.settle(root, spot, leaf, pool, from, comp);
+        back.settle(root, other, last, pool, to, comp);
+        Some(Ends { front, back })
+    }
+
+    // Looks at the place of a key in the list under a root, and past the entries whose keys are not greater than another. There are no such
+    // ends where the first key is greater.
+    #[inline(always)]
+    fn through<const N: usize, C: Comparator<K>>(
+        root: Node,
+        from: K,
+        to: K,
+        pool: &'a NodePool<K, V, N>,
+        comp: &C,
+    ) -> Option<Ends<'a, K, V>>
+        requires union { IsUnion N pool.now }
+        requires live { IsLive pool.now (Some root) }
+        requires increasing { IsIncreasing (C.order comp.now) (list_of pool.now (Some root)) }
+        ensures some { IfSome result (λ ends. IsLook pool.now (Some root) ends.front
+            (place (C.order comp.now) (list_of pool.now (Some root)) from) × IsLook pool.now (Some root) ends.back
+            (end_place (C.order comp.now) (Included to) (list_of pool.now (Some root)))) }
+        ensures none { result ≡ None → is_gt (C.order comp.now from to) ≡ true }
+    {
+        let ((spot, leaf), (other, last)) = Spot::find_both(from, to, root, pool, comp)?;
+        let (mut front, mut back) = (Look::end(), Look::end());
+        front.settle(root, spot, leaf, pool, from, comp);
+        back.settle_past(root, other, last, pool, to, comp);
+        Some(Ends { front, back })
+    }
+
     // Leaves no entry where the front is behind the back.
     #[inline(always)]
     fn clear_crossed(&mut self)
@@ -44,7 +97,7 @@ impl<'a, K: Copy, V: Copy> Ends<'a, K, V> {
 }
 
 impl<K: Copy, V: Copy, const N: usize> Trees<K, V, N> {
-    /// The entries within bounds: two searches. There are none where the start is behind the end.
+    /// The entries within bounds: at most two searches, and one comparison. There are none where the start is behind the end.
     pub fn range<'a, C: Comparator<K>>(
         &'a self,
         handle: PackedNode,
@@ -57,13 +110,47 @@ impl<K: Copy, V: Copy, const N: usize> Trees<K, V, N> {
             ≡ entries_between (C.order comp.now) bounds.0 bounds.1 (list_of self.now handle) }
         ensures range { IsRange self.now handle result }
     {
+        match self.ends_at(handle, bounds, comp) {
+            Some(mut ends) => {
+                ends.clear_crossed();
+                ends
+            }
+            None => Ends {
+                front: Look::end(),
+                back: Look::end(),
+            },
+        }
+    }
+
+    // Looks at the place where each bound lies, or answers `None` where the start is behind the end. The searches for an included start and
+    // for an end go down together.
+    #[inline(always)]
+    fn ends_at<'a, C: Comparator<K>>(
+        &'a self,
+        handle: PackedNode,
+        bounds: (Bound<K>, Bound<K>),
+        comp: &C,
+    ) -> Option<Ends<'a, K, V>>
+        requires live { IsLive self.now handle }
+        requires increasing { IsIncreasing (C.order comp.now) (list_of self.now handle) }
+        ensures some { IfSome result (λ ends. IsLook self.now handle ends.front
+            (start_place (C.order comp.now) bounds.0 (list_of self.now handle)) × IsLook self.now handle ends.back
+            (end_place (C.order comp.now) bounds.1 (list_of self.now handle))) }
+        ensures none { result ≡ None
+            → entries_between (C.order comp.now) bounds.0 bounds.1 (list_of self.now handle) ≡ [] }
+    {
+        if let (Some(root), Bound::Included(from)) = (handle.expand(), bounds.0) {
+            match bounds.1 {
+                Bound::Included(to) => return Ends::through(root, from, to, &self.pool, comp),
+                Bound::Excluded(to) => return Ends::between(root, from, to, &self.pool, comp),
+                Bound::Unbounded => {}
+            }
+        }
         let mut front = Look::end();
         let mut back = Look::end();
         front.goto_start(handle, self, bounds.0, comp);
         back.goto_end(handle, self, bounds.1, comp);
-        let mut ends = Ends { front, back };
-        ends.clear_crossed();
-        ends
+        Some(Ends { front, back })
     }
 
     /// Removes the first of the entries that are left, and returns it.
@@ -143,6 +230,29 @@ impl<'a, K: Copy, V: Copy> Look<'a, K, V> {
                 self.goto(handle, trees, key, comp);
             }
             Bound::Unbounded => *self = Look::end(),
+        }
+    }
+
+    // Goes to the first entry whose key is greater than `key`, or to the end, from the leaf in which a search for `key` ends.
+    fn settle_past<const N: usize, C: Comparator<K>>(
+        &mut self,
+        root: Node,
+        spot: Spot,
+        leaf: Node,
+        pool: &'a NodePool<K, V, N>,
+        key: K,
+        comp: &C,
+    )
+        requires union { IsUnion N pool.now }
+        requires spot { IsSpotAt pool.now root spot (leaf_place pool.now root spot) }
+        requires leaf { SearchEndsAt (C.order comp.now) pool.now root key (leaf_place pool.now root spot)
+            leaf }
+        requires increasing { IsIncreasing (C.order comp.now) (list_of pool.now (Some root)) }
+        ensures look { IsLook pool.now (Some root) self.new
+            (end_place (C.order comp.now) (Included key) (list_of pool.now (Some root))) }
+    {
+        if self.settle(root, spot, leaf, pool, key, comp).is_some() {
+            self.step_on(PackedNode::some(root), pool);
         }
     }
 

@@ -1,20 +1,12 @@
-use Rattle.std.proofs.Common.{Option, rules, subst, sym, ℕ}
-use Rattle.bforest_nodes.specs.Entries.{place}
-use Rattle.bforest_trees.proofs.Looking.{place-behind, place-look}
-use Rattle.bforest_trees.specs.Forest.{list_at}
-use Rattle.bforest_trees.specs.Looks.{IsBehind, IsLook}
+use Rattle.std.proofs.Common.{rules, subst}
+use Rattle.bforest_nodes.specs.Entries.{IsIncreasing}
+use Rattle.bforest_trees.proofs.Changed.{list-root, live-root}
 use Rattle.bforest_trees.proofs.look.Look.goto_under.Goals as goal
 
-pub enter_next-requires : goal.enter_next-requires
-enter_next-requires g c =
-    let at = place (g.C.Comparator.order c.args.comp.now) (list_at c.args.pool.now c.args.root) c.args.key in
-    (search rules, (c.requires.union, (at, subst (λ (h : Option ℕ). IsBehind c.args.pool.now h c.enter_at-index.new.self at) (sym c.some.ensures.node) (place-behind {place = at} c.enter_at-index.ensures.index c.if-index-self.false))))
+pub find-spot-requires : goal.find-spot-requires
+find-spot-requires g c =
+    let root = live-root c.args.pool.now c.args.root c.requires.live in
+    (search rules, (c.requires.union, (root, subst (IsIncreasing (g.C.Comparator.order c.args.comp.now)) (list-root c.args.pool.now c.args.root root) c.requires.increasing)))
 
-pub returns-then-index-self-clause-look : goal.returns-then-index-self-clause-look
-returns-then-index-self-clause-look g c = place-look c.enter_at-index.ensures.index c.if-index-self.true
-
-pub returns-else-index-self-clause-look : goal.returns-else-index-self-clause-look
-returns-else-index-self-clause-look g c =
-    let at = place (g.C.Comparator.order c.args.comp.now) (list_at c.args.pool.now c.args.root) c.args.key in
-    let behind = place-behind {place = at} c.enter_at-index.ensures.index c.if-index-self.false in
-    subst (λ (h : Option ℕ). IsLook c.args.pool.now h c.enter_next.new.self at) c.some.ensures.node (c.enter_next.ensures.look at (subst (λ (h : Option ℕ). IsBehind c.args.pool.now h c.enter_at-index.new.self at) (sym c.some.ensures.node) behind))
+pub settle-requires : goal.settle-requires
+settle-requires g c = (search rules, (c.requires.union, (c.find-spot.ensures.spot, c.find-spot.ensures.leaf)))
