@@ -168,10 +168,7 @@ impl<K: Copy, V: Copy, const N: usize> NodeData<K, V, N> {
     {
         match &self.state {
             State::Branch(size, keys, tree) => {
-                (
-                    keys.capped_front(*size as usize),
-                    tree.front(*size as usize + 1),
-                )
+                (keys.front(*size as usize), tree.front(*size as usize + 1))
             }
             _ => unreachable!(),
         }
@@ -185,10 +182,7 @@ impl<K: Copy, V: Copy, const N: usize> NodeData<K, V, N> {
     {
         match &self.state {
             State::Entries(Entries { size, keys, vals }) => {
-                (
-                    keys.capped_front(*size as usize),
-                    vals.front(*size as usize),
-                )
+                (keys.front(*size as usize), vals.front(*size as usize))
             }
             _ => unreachable!(),
         }

@@ -29,15 +29,6 @@ impl<T: Copy, const N: usize> Row<T, N> {
         &self.items[..len]
     }
 
-    /// The first `len` elements, as `front` gives them. The compiler is given the bound `N` too, and then unrolls a loop over a few.
-    pub(crate) fn capped_front(&self, len: usize) -> &[T]
-        requires { len ≤ N }
-        ensures value { result.now ≡ take len self.now.items }
-        ensures len { length result.now ≡ len }
-    {
-        &self.items[..len.min(N)]
-    }
-
     /// The element at an index of the first `len`.
     #[tactic(auto, using(crate::proofs::Rows::at_front))]
     pub(crate) fn at(&self, len: usize, index: usize) -> T
