@@ -96,3 +96,35 @@ pub extern "C" fn bench_ranges(
 ) -> u64 {
     bforest_workloads_bench::run_ranges(alloc, size, looks, spans, is_split)
 }
+
+/// Small maps of the toolchain's standard library: `bforest_workloads_bench::run_std_mixture`.
+#[unsafe(no_mangle)]
+pub extern "C" fn bench_std_mixture(
+    alloc: Global,
+    maps: u32,
+    calls: u32,
+    looks: u32,
+    walks: u32,
+    is_cleared: bool,
+) -> u64 {
+    bforest_workloads_bench::run_std_mixture(alloc, maps, calls, looks, walks, is_cleared)
+}
+
+/// Predecessors in maps of the toolchain's standard library: `bforest_workloads_bench::run_std_edges`.
+#[unsafe(no_mangle)]
+pub extern "C" fn bench_std_edges(alloc: Global, blocks: u32, walks: u32, turns: u32) -> u64 {
+    bforest_workloads_bench::run_std_edges(alloc, blocks, walks, turns)
+}
+
+/// Small sets of the toolchain's standard library: `bforest_workloads_bench::run_std_set_mixture`.
+#[unsafe(no_mangle)]
+pub extern "C" fn bench_std_set_mixture(
+    alloc: Global,
+    sets: u32,
+    calls: u32,
+    looks: u32,
+    walks: u32,
+    is_cleared: bool,
+) -> u64 {
+    bforest_workloads_bench::run_std_set_mixture(alloc, sets, calls, looks, walks, is_cleared)
+}

@@ -1,16 +1,22 @@
 //! The predecessors of the blocks of a control flow graph: a map for each block, from the number of an edge to the block where it begins.
 
+use crate::mixture::{Collections, walk_all};
 use crate::random::{Random, added};
 use crate::smalls::Smalls;
 use std::alloc::Global;
 
 /// Makes a whole run, as described at `run_edges`.
-pub(crate) fn run(alloc: Global, blocks: u32, walks: u32, turns: u32) -> Option<u64> {
-    let mut smalls = Smalls::new(alloc, blocks).ok()?;
+pub(crate) fn run<S: Collections + Drop>(
+    smalls: Option<S>,
+    blocks: u32,
+    walks: u32,
+    turns: u32,
+) -> Option<u64> {
+    let mut smalls = smalls?;
     add_all(&mut smalls, blocks)?;
     let mut sum = 0u64;
     for _ in 0..walks {
-        sum = sum.wrapping_add(smalls.walk_all(blocks));
+        sum = sum.wrapping_add(walk_all(&smalls, blocks));
     }
     for turn in 0..turns {
         sum = sum.wrapping_add(lead_all(&mut smalls, blocks, turn)?);
@@ -30,7 +36,7 @@ pub(crate) fn run_by_cursor(alloc: Global, blocks: u32, walks: u32) -> Option<u6
 }
 
 // Adds the edges out of each block.
-fn add_all(smalls: &mut Smalls, blocks: u32) -> Option<()> {
+fn add_all<S: Collections>(smalls: &mut S, blocks: u32) -> Option<()> {
     let mut random = edges();
     for block in 0..blocks {
         add(smalls, blocks, block, &mut random)?;
@@ -39,16 +45,16 @@ fn add_all(smalls: &mut Smalls, blocks: u32) -> Option<()> {
 }
 
 // Adds the edges out of a block.
-fn add(smalls: &mut Smalls, blocks: u32, block: u32, random: &mut Random) -> Option<()> {
+fn add<S: Collections>(smalls: &mut S, blocks: u32, block: u32, random: &mut Random) -> Option<()> {
     for count in 0..=random.below(4) {
         let target = random.below(blocks);
-        smalls.insert(target, edge(block, count), block).ok()?;
+        smalls.put(target, edge(block, count), block)?;
     }
     Some(())
 }
 
 // Redirects each edge from the block `turn` behind its first target to the block behind that.
-fn lead_all(smalls: &mut Smalls, blocks: u32, turn: u32) -> Option<u64> {
+fn lead_all<S: Collections>(smalls: &mut S, blocks: u32, turn: u32) -> Option<u64> {
     let mut random = edges();
     let mut sum = 0u64;
     for block in 0..blocks {
@@ -58,8 +64,8 @@ fn lead_all(smalls: &mut Smalls, blocks: u32, turn: u32) -> Option<u64> {
 }
 
 // Redirects the edges of a block, and adds the removed values to a checksum.
-fn lead(
-    smalls: &mut Smalls,
+fn lead<S: Collections>(
+    smalls: &mut S,
     blocks: u32,
     block: u32,
     turn: u32,
@@ -69,9 +75,9 @@ fn lead(
     let mut sum = sum;
     for count in 0..=random.below(4) {
         let first = random.below(blocks);
-        let found = smalls.remove(behind(first, turn, blocks), edge(block, count));
+        let found = smalls.take(behind(first, turn, blocks), edge(block, count));
         let target = behind(first, turn.wrapping_add(1), blocks);
-        smalls.insert(target, edge(block, count), block).ok()?;
+        smalls.put(target, edge(block, count), block)?;
         sum = added(sum, found.unwrap_or(7));
     }
     Some(sum)

@@ -1,54 +1,67 @@
-//! Calls of all kinds on many small maps that are named by an index.
-ghost use Rattle.bforest_indexed.specs.Indexed.{count};
+//! Many small maps that are named by an index.
 ghost use Rattle.std.specs.Prelude.{◌<◌, ◌≡◌};
 
-use crate::random::{Random, added};
+use crate::mixture::Collections;
+use crate::random::added;
 use bforest_indexed::Maps;
 use std::alloc::Global;
 
-/// Makes a whole run, as described at `run_indexed`.
-pub(crate) fn run(alloc: Global, maps: u32, calls: u32, is_cleared: bool) -> Option<u64> {
-    let mut indexed = Maps::new(alloc, ());
-    indexed.grow_to(maps as usize).ok()?;
-    let sum = mix(&mut indexed, maps, calls)?;
-    if is_cleared {
-        empty(&mut indexed);
-    }
-    Some(sum)
+/// Maps of a forest, each named by an index. A call behind the last one finds nothing.
+#[derive(Drop)]
+pub(crate) struct Indexed {
+    maps: Maps<u32, u32, ()>,
 }
 
-// Makes `calls` calls that change maps, or look up.
-fn mix(indexed: &mut Maps<u32, u32, ()>, maps: u32, calls: u32) -> Option<u64> {
-    let mut random = Random::new(88172645463325252);
-    let mut sum = 0u64;
-    for _ in 0..calls {
-        let index = random.below(maps) as usize;
-        let key = random.below(20);
-        let choice = random.below(4);
-        if index < indexed.len() {
-            sum = added(sum, call(indexed, index, key, choice)?);
+impl Indexed {
+    /// A list of `count` empty maps. `None` where memory was refused.
+    pub(crate) fn new(alloc: Global, count: u32) -> Option<Indexed> {
+        let mut maps = Maps::new(alloc, ());
+        maps.grow_to(count as usize).ok()?;
+        Some(Indexed { maps })
+    }
+}
+
+impl Collections for Indexed {
+    #[inline(always)]
+    fn put(&mut self, index: u32, key: u32, value: u32) -> Option<Option<u32>> {
+        if (index as usize) < self.maps.len() {
+            self.maps.insert(index as usize, key, value).ok()
+        } else {
+            Some(None)
         }
     }
-    Some(sum)
-}
 
-// Makes a call on a map, and returns the value that it finds, or 7. `None` where an insertion was refused.
-fn call(indexed: &mut Maps<u32, u32, ()>, index: usize, key: u32, choice: u32) -> Option<u32>
-    requires { index < count indexed.old }
-{
-    let found = if choice < 2 {
-        indexed.insert(index, key, choice).ok()?
-    } else if choice == 2 {
-        indexed.get(index, key)
-    } else {
-        indexed.remove(index, key)
-    };
-    Some(found.unwrap_or(7))
-}
+    #[inline(always)]
+    fn look(&self, index: u32, key: u32) -> Option<u32> {
+        if (index as usize) < self.maps.len() {
+            self.maps.get(index as usize, key)
+        } else {
+            None
+        }
+    }
 
-// Clears each map.
-fn empty(indexed: &mut Maps<u32, u32, ()>) {
-    for index in 0..indexed.len() {
-        indexed.clear(index);
+    #[inline(always)]
+    fn take(&mut self, index: u32, key: u32) -> Option<u32> {
+        if (index as usize) < self.maps.len() {
+            self.maps.remove(index as usize, key)
+        } else {
+            None
+        }
+    }
+
+    fn walk(&self, index: u32, sum: u64) -> u64 {
+        let mut sum = sum;
+        if (index as usize) < self.maps.len() {
+            for (key, value) in self.maps.iter(index as usize) {
+                sum = added(sum, key ^ value);
+            }
+        }
+        sum
+    }
+
+    fn clear(&mut self, index: u32) {
+        if (index as usize) < self.maps.len() {
+            self.maps.clear(index as usize);
+        }
     }
 }

@@ -11,11 +11,17 @@ mod large_set;
 mod mixture;
 mod random;
 mod ranges;
-mod set_mixture;
 mod small_sets;
 mod smalls;
+mod std_maps;
+mod std_sets;
 mod walks;
 
+use crate::indexed::Indexed;
+use crate::small_sets::SmallSets;
+use crate::smalls::Smalls;
+use crate::std_maps::StdMaps;
+use crate::std_sets::StdSets;
 use std::alloc::Global;
 
 /// Makes `calls` calls without an order on `maps` small maps, all empty at first: half insert, a quarter looks up and a quarter removes, on
@@ -28,12 +34,27 @@ pub fn run_mixture(
     walks: u32,
     is_cleared: bool,
 ) -> u64 {
-    mixture::run(alloc, maps, calls, looks, walks, is_cleared).unwrap_or(0)
+    let smalls = Smalls::new(alloc, maps).ok();
+    mixture::run(smalls, maps, calls, looks, walks, is_cleared).unwrap_or(0)
 }
 
 /// Makes the calls of `run_mixture` on maps that are named by an index, and, if asked for, clears each map.
 pub fn run_indexed(alloc: Global, maps: u32, calls: u32, is_cleared: bool) -> u64 {
-    indexed::run(alloc, maps, calls, is_cleared).unwrap_or(0)
+    let indexed = Indexed::new(alloc, maps);
+    mixture::run(indexed, maps, calls, 0, 0, is_cleared).unwrap_or(0)
+}
+
+/// Makes the run of `run_mixture` on maps of the toolchain's standard library.
+pub fn run_std_mixture(
+    alloc: Global,
+    maps: u32,
+    calls: u32,
+    looks: u32,
+    walks: u32,
+    is_cleared: bool,
+) -> u64 {
+    let smalls = StdMaps::new(alloc, maps).ok();
+    mixture::run(smalls, maps, calls, looks, walks, is_cleared).unwrap_or(0)
 }
 
 /// Makes `size` insertions into one map, in ascending order or without one. Then rounds of as many lookups, rounds that read each entry,
@@ -58,7 +79,12 @@ pub fn run_large_cursor(alloc: Global, size: u32, is_mixed: bool, walks: u32, tu
 /// Adds one to four edges out of each of `blocks` blocks of a control flow graph, to a map of predecessors for each block. Then rounds that
 /// read each map, and rounds that redirect each edge to the block behind its target, by a removal and an insertion.
 pub fn run_edges(alloc: Global, blocks: u32, walks: u32, turns: u32) -> u64 {
-    edges::run(alloc, blocks, walks, turns).unwrap_or(0)
+    edges::run(Smalls::new(alloc, blocks).ok(), blocks, walks, turns).unwrap_or(0)
+}
+
+/// Makes the run of `run_edges` on maps of the toolchain's standard library.
+pub fn run_std_edges(alloc: Global, blocks: u32, walks: u32, turns: u32) -> u64 {
+    edges::run(StdMaps::new(alloc, blocks).ok(), blocks, walks, turns).unwrap_or(0)
 }
 
 /// Fills the maps of `run_edges`. Then rounds that read each map by a cursor, from the first entry on.
@@ -76,7 +102,21 @@ pub fn run_set_mixture(
     walks: u32,
     is_cleared: bool,
 ) -> u64 {
-    set_mixture::run(alloc, sets, calls, looks, walks, is_cleared).unwrap_or(0)
+    let smalls = SmallSets::new(alloc, sets).ok();
+    mixture::run(smalls, sets, calls, looks, walks, is_cleared).unwrap_or(0)
+}
+
+/// Makes the run of `run_set_mixture` on sets of the toolchain's standard library.
+pub fn run_std_set_mixture(
+    alloc: Global,
+    sets: u32,
+    calls: u32,
+    looks: u32,
+    walks: u32,
+    is_cleared: bool,
+) -> u64 {
+    let smalls = StdSets::new(alloc, sets).ok();
+    mixture::run(smalls, sets, calls, looks, walks, is_cleared).unwrap_or(0)
 }
 
 /// Makes `size` insertions into one set, in ascending order or without one. Then rounds of as many tests, rounds that read each key, and

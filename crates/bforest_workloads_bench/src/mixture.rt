@@ -1,46 +1,65 @@
-//! Calls of all kinds on many small maps.
+//! Calls of all kinds on many small maps or sets.
 
 use crate::random::{Random, added};
-use crate::smalls::Smalls;
-use std::alloc::Global;
 
-/// Makes a whole run, as described at `run_mixture`.
-pub(crate) fn run(
-    alloc: Global,
-    maps: u32,
+/// Many small maps or sets, each named by an index. An answer is a number, or `None` for an absent value; of a set it says whether the key
+/// was there, or is new.
+pub(crate) trait Collections {
+    /// Inserts a value into a map, or a key into a set. `None` where memory was refused.
+    fn put(&mut self, index: u32, key: u32, value: u32) -> Option<Option<u32>>;
+
+    /// Looks a key up.
+    fn look(&self, index: u32, key: u32) -> Option<u32>;
+
+    /// Removes a key.
+    fn take(&mut self, index: u32, key: u32) -> Option<u32>;
+
+    /// Adds each entry of a map to a checksum.
+    fn walk(&self, index: u32, sum: u64) -> u64;
+
+    /// Clears a map.
+    fn clear(&mut self, index: u32);
+}
+
+/// Makes a whole run on `count` maps, as described at `run_mixture`. `None` where there are no maps, since memory was refused.
+pub(crate) fn run<S: Collections + Drop>(
+    smalls: Option<S>,
+    count: u32,
     calls: u32,
     looks: u32,
     walks: u32,
     is_cleared: bool,
 ) -> Option<u64> {
-    let mut smalls = Smalls::new(alloc, maps).ok()?;
-    let mut sum = mix(&mut smalls, maps, calls)?;
+    let mut smalls = smalls?;
+    let mut sum = mix(&mut smalls, count, calls)?;
     for _ in 0..looks {
-        sum = sum.wrapping_add(look(&smalls, maps, calls));
+        sum = sum.wrapping_add(look(&smalls, count, calls));
     }
     for _ in 0..walks {
-        sum = sum.wrapping_add(smalls.walk_all(maps));
+        sum = sum.wrapping_add(walk_all(&smalls, count));
     }
     if is_cleared {
-        smalls.clear_all(maps);
+        for index in 0..count {
+            smalls.clear(index);
+        }
     }
     Some(sum)
 }
 
 // Makes `calls` calls that change maps, or look up.
-fn mix(smalls: &mut Smalls, maps: u32, calls: u32) -> Option<u64> {
+fn mix<S: Collections>(smalls: &mut S, count: u32, calls: u32) -> Option<u64> {
     let mut random = Random::new(88172645463325252);
     let mut sum = 0u64;
     for _ in 0..calls {
-        let index = random.below(maps);
+        let index = random.below(count);
         let key = random.below(20);
         let choice = random.below(4);
         let found = if choice < 2 {
-            smalls.insert(index, key, choice).ok()?
+            smalls.put(index, key, choice)?
         } else if choice == 2 {
-            smalls.get(index, key)
+            smalls.look(index, key)
         } else {
-            smalls.remove(index, key)
+            smalls.take(index, key)
         };
         sum = added(sum, found.unwrap_or(7));
     }
@@ -48,13 +67,22 @@ fn mix(smalls: &mut Smalls, maps: u32, calls: u32) -> Option<u64> {
 }
 
 // Makes `calls` lookups.
-fn look(smalls: &Smalls, maps: u32, calls: u32) -> u64 {
+fn look<S: Collections>(smalls: &S, count: u32, calls: u32) -> u64 {
     let mut random = Random::new(12345);
     let mut sum = 0u64;
     for _ in 0..calls {
-        let index = random.below(maps);
+        let index = random.below(count);
         let key = random.below(20);
-        sum = added(sum, smalls.get(index, key).unwrap_or(7));
+        sum = added(sum, smalls.look(index, key).unwrap_or(7));
+    }
+    sum
+}
+
+/// A checksum of each entry of the first `count` maps.
+pub(crate) fn walk_all<S: Collections>(smalls: &S, count: u32) -> u64 {
+    let mut sum = 0u64;
+    for index in 0..count {
+        sum = smalls.walk(index, sum);
     }
     sum
 }

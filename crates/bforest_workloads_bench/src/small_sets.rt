@@ -1,6 +1,7 @@
 //! Many small sets.
 ghost use Rattle.std.specs.Prelude.{IfOk, None, replicate, ◌≡◌};
 
+use crate::mixture::Collections;
 use crate::random::added;
 use bforest::{OutOfMemory, Set, SetForest};
 use std::alloc::{AllocError, Global};
@@ -57,15 +58,25 @@ impl SmallSets {
             None => false,
         }
     }
+}
 
-    // Clears a set.
-    fn clear(&mut self, index: u32) {
-        if let Some(set) = self.sets.get_mut(index as usize) {
-            set.clear(&mut self.forest);
-        }
+impl Collections for SmallSets {
+    #[inline(always)]
+    fn put(&mut self, index: u32, key: u32, _value: u32) -> Option<Option<u32>> {
+        let is_new = self.insert(index, key).ok()?;
+        Some(Some(is_new as u32))
     }
 
-    // Adds each key of a set to a checksum.
+    #[inline(always)]
+    fn look(&self, index: u32, key: u32) -> Option<u32> {
+        Some(self.contains(index, key) as u32)
+    }
+
+    #[inline(always)]
+    fn take(&mut self, index: u32, key: u32) -> Option<u32> {
+        Some(self.remove(index, key) as u32)
+    }
+
     fn walk(&self, index: u32, sum: u64) -> u64 {
         let mut sum = sum;
         if let Some(set) = self.sets.get(index as usize) {
@@ -76,19 +87,9 @@ impl SmallSets {
         sum
     }
 
-    /// A checksum of each key of the first `count` sets.
-    pub(crate) fn walk_all(&self, count: u32) -> u64 {
-        let mut sum = 0u64;
-        for index in 0..count {
-            sum = self.walk(index, sum);
-        }
-        sum
-    }
-
-    /// Clears the first `count` sets.
-    pub(crate) fn clear_all(&mut self, count: u32) {
-        for index in 0..count {
-            self.clear(index);
+    fn clear(&mut self, index: u32) {
+        if let Some(set) = self.sets.get_mut(index as usize) {
+            set.clear(&mut self.forest);
         }
     }
 }

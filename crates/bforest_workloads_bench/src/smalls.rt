@@ -1,6 +1,7 @@
 //! Many small maps.
 ghost use Rattle.std.specs.Prelude.{IfOk, None, replicate, ◌≡◌};
 
+use crate::mixture::Collections;
 use crate::random::added;
 use crate::walks::read_on;
 use bforest::{Map, MapForest, OutOfMemory};
@@ -61,33 +62,6 @@ impl Smalls {
         map.remove(key, &mut self.forest, &())
     }
 
-    // Clears a map.
-    fn clear(&mut self, index: u32) {
-        if let Some(map) = self.maps.get_mut(index as usize) {
-            map.clear(&mut self.forest);
-        }
-    }
-
-    // Adds each entry of a map to a checksum.
-    fn walk(&self, index: u32, sum: u64) -> u64 {
-        let mut sum = sum;
-        if let Some(map) = self.maps.get(index as usize) {
-            for (key, value) in map.iter(&self.forest) {
-                sum = added(sum, key ^ value);
-            }
-        }
-        sum
-    }
-
-    /// A checksum of each entry of the first `count` maps.
-    pub(crate) fn walk_all(&self, count: u32) -> u64 {
-        let mut sum = 0u64;
-        for index in 0..count {
-            sum = self.walk(index, sum);
-        }
-        sum
-    }
-
     // Adds each entry of a map to a checksum, by a cursor.
     fn read(&self, index: u32, sum: u64) -> u64 {
         match self.maps.get(index as usize) {
@@ -104,11 +78,37 @@ impl Smalls {
         }
         sum
     }
+}
 
-    /// Clears the first `count` maps.
-    pub(crate) fn clear_all(&mut self, count: u32) {
-        for index in 0..count {
-            self.clear(index);
+impl Collections for Smalls {
+    #[inline(always)]
+    fn put(&mut self, index: u32, key: u32, value: u32) -> Option<Option<u32>> {
+        self.insert(index, key, value).ok()
+    }
+
+    #[inline(always)]
+    fn look(&self, index: u32, key: u32) -> Option<u32> {
+        self.get(index, key)
+    }
+
+    #[inline(always)]
+    fn take(&mut self, index: u32, key: u32) -> Option<u32> {
+        self.remove(index, key)
+    }
+
+    fn walk(&self, index: u32, sum: u64) -> u64 {
+        let mut sum = sum;
+        if let Some(map) = self.maps.get(index as usize) {
+            for (key, value) in map.iter(&self.forest) {
+                sum = added(sum, key ^ value);
+            }
+        }
+        sum
+    }
+
+    fn clear(&mut self, index: u32) {
+        if let Some(map) = self.maps.get_mut(index as usize) {
+            map.clear(&mut self.forest);
         }
     }
 }

@@ -1,5 +1,5 @@
 use Rattle.bforest_workloads_bench.proofs.Keeping.{ordered-cleared}
-use Rattle.bforest_workloads_bench.proofs.small_sets.SmallSets.clear.Goals as goal
+use Rattle.bforest_workloads_bench.proofs.small_sets.SmallSetsCollections.clear.Goals as goal
 
 pub invariant_of-self : goal.invariant_of-self
 invariant_of-self c =
