@@ -28,7 +28,9 @@ use Rattle.std.specs.declared.cmp.Ordering.{Ordering}
 
 module _ {K X C : Type 0} (order : C → K → K → Ordering) (c c' : MapCursorMut K X C) (p : ℕ) where
   -- c' stands at p of a list that increases
-  pub goes-on : map_loan c' ≡ map_loan c → forest_loan c' ≡ forest_loan c → comparator c' ≡ comparator c → IsLive (forest_now c') (map_now c') → IsIncreasing (order (comparator c)) (entries c') → IsSpot (forest_now c') (map_now c') c'.path p → IsComputed 7 (forest_now c') (map_now c') → Goes order c c' p
+  pub goes-on : map_loan c' ≡ map_loan c → forest_loan c' ≡ forest_loan c → comparator c' ≡ comparator c
+      → IsLive (forest_now c') (map_now c') → IsIncreasing (order (comparator c)) (entries c')
+      → IsSpot (forest_now c') (map_now c') c'.path p → IsComputed 7 (forest_now c') (map_now c') → Goes order c c' p
   goes-on same same' comp live up at computed =
       let here = computed c'.path p at in
       record {

@@ -102,7 +102,11 @@ leaf-gains half most twice one place (size ∷ after) fit within some = by (nat_
     full true e = gains-here half most size after fit (ltb-true size most e)
     full false e = rw half-is (gains-two half most size half half after fit (omega (arith, twice, fit.1, ltb-false size most e)) (omega (arith)) (omega (arith, twice, one)) (omega (arith)) (omega (arith, twice, one)) one)
 
-    by : (b : Bool) → nat_le place size ≡ b → (0 < length after → size < place → GainsBy half most after (leaf_gain most (place - size) after)) → GainsBy half most (size ∷ after) (if b then (if nat_lt size most then (None, suc size ∷ after) else (Some 0, (most + 1) / 2 ∷ (most + 1) / 2 ∷ after)) else past size (leaf_gain most (place - size) after))
+    by : (b : Bool) → nat_le place size ≡ b
+        → (0 < length after → size < place → GainsBy half most after (leaf_gain most (place - size) after))
+        → GainsBy half most (size ∷ after)
+        (if b then (if nat_lt size most then (None, suc size ∷ after) else (Some 0, (most + 1) / 2 ∷ (most + 1) / 2 ∷ after)) else past size
+        (leaf_gain most (place - size) after))
     by true e rest = full (nat_lt size most) refl
     by false e rest =
         let less = leb-false place size e in
@@ -123,7 +127,10 @@ inner-gains place (size ∷ after) fit within = by (nat_lt place size) refl (λ 
     full true e = gains-here 4 8 size after fit (ltb-true size 8 e)
     full false e = halves (nat_lt place 4) (omega (arith, fit.1, ltb-false size 8 e))
 
-    by : (b : Bool) → nat_lt place size ≡ b → (0 < length after → size ≤ place → GainsBy 4 8 after (inner_gain (place - size) after)) → GainsBy 4 8 (size ∷ after) (if b then (if nat_lt size 8 then (None, suc size ∷ after) else (Some 0, (if nat_lt place 4 then 5 ∷ 4 ∷ after else 4 ∷ 5 ∷ after))) else past size (inner_gain (place - size) after))
+    by : (b : Bool) → nat_lt place size ≡ b → (0 < length after → size ≤ place → GainsBy 4 8 after (inner_gain (place - size) after))
+        → GainsBy 4 8 (size ∷ after)
+        (if b then (if nat_lt size 8 then (None, suc size ∷ after) else (Some 0, (if nat_lt place 4 then 5 ∷ 4 ∷ after else 4 ∷ 5 ∷ after)))
+        else past size (inner_gain (place - size) after))
     by true e rest = full (nat_lt size 8) refl
     by false e rest =
         let less = ltb-false place size e in

@@ -11,7 +11,9 @@ use Rattle.std.specs.declared.cmp.Ordering.{Ordering}
 
 module _ {K C : Type 0} (order : C → K → K → Ordering) (c c' : SetCursor K C) (p : ℕ) where
   -- c' stands at p of keys that increase
-  pub goes-on : set_loan c' ≡ set_loan c → forest_loan c' ≡ forest_loan c → comparator c' ≡ comparator c → IsLive (forest_now c') (set_now c') → IsIncreasing (order (comparator c)) (list_of (forest_now c') (set_now c')) → IsSpot (forest_now c') (set_now c') c'.path p → IsComputed 15 (forest_now c') (set_now c') → Goes order c c' p
+  pub goes-on : set_loan c' ≡ set_loan c → forest_loan c' ≡ forest_loan c → comparator c' ≡ comparator c
+      → IsLive (forest_now c') (set_now c') → IsIncreasing (order (comparator c)) (list_of (forest_now c') (set_now c'))
+      → IsSpot (forest_now c') (set_now c') c'.path p → IsComputed 15 (forest_now c') (set_now c') → Goes order c c' p
   goes-on same same' comp live up at computed =
       let here = computed c'.path p at in
       record {

@@ -75,7 +75,10 @@ module _ (half most : ℕ) (least : half + half ≤ most + 1) (enough : most ≤
           let more = leb-false (suc left + next) most e in
           shared ((suc left + next) - (suc left + next) / 2) ((suc left + next) / 2) (omega (arith)) (omega (arith, more, least)) (omega (arith, small, fit.2.1)) (omega (arith, more, least)) (omega (arith, small, fit.2.1))
 
-      by : (b : Bool) → nat_lt (2 * suc left) most ≡ b → LosesBy half most (suc (suc left) ∷ next ∷ after) (at_front (if b then (if nat_le (suc left + next) most then (true, (suc left + next) ∷ after) else (false, ((suc left + next) - (suc left + next) / 2) ∷ (suc left + next) / 2 ∷ after)) else (false, suc left ∷ next ∷ after)))
+      by : (b : Bool) → nat_lt (2 * suc left) most ≡ b
+          → LosesBy half most (suc (suc left) ∷ next ∷ after)
+          (at_front (if b then (if nat_le (suc left + next) most then (true, (suc left + next) ∷ after)
+          else (false, ((suc left + next) - (suc left + next) / 2) ∷ (suc left + next) / 2 ∷ after)) else (false, suc left ∷ next ∷ after)))
       by true e = fits (nat_le (suc left + next) most) refl (ltb-true (2 * suc left) most e)
       by false e = record {
         sum = omega (arith, total-cons (suc (suc left)) (next ∷ after), total-cons (suc left) (next ∷ after));

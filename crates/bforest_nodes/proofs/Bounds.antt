@@ -57,7 +57,10 @@ module _ {K : Type 0} (cmp : K → K → Ordering) where
     up_to-at at most low here = sym (count_up_to-from_parts (take len row) k at (omega (arith, most, size))
         (λ j d lt. ap (λ z. is_gt (cmp z k)) (in_row j d (omega (arith, lt, most))) ∙ low j d lt)
         (λ j d le lt. elim (cases_lt at j) [
-          | inl more ↦ (let e = greater cmp k o (get_or (take len row) at d) (get_or (take len row) j d) (Less-from_sorted cmp (take len row) at j d sorted more lt) (ap (λ z. is_lt (cmp z k)) (in_row at d (omega (arith, le, lt, size))) ∙ not_less (get_or row at d) k (here d (omega (arith, le, lt, size)))) in ap is_gt e)
+          | inl more ↦ (let e = greater cmp k o (get_or (take len row) at d) (get_or (take len row) j d)
+              (Less-from_sorted cmp (take len row) at j d sorted more lt)
+              (ap (λ z. is_lt (cmp z k)) (in_row at d (omega (arith, le, lt, size)))
+              ∙ not_less (get_or row at d) k (here d (omega (arith, le, lt, size)))) in ap is_gt e)
           | inr less ↦ (let e : at ≡ j = omega (arith, less, le) in ap (λ z. is_gt (cmp (get_or (take len row) z d) k)) (sym e) ∙ ap (λ z. is_gt (cmp z k)) (in_row at d (omega (arith, le, lt, size))) ∙ here d (omega (arith, le, lt, size)))
         ]))
 

@@ -63,7 +63,9 @@ module _ {K X : Type 0} (cmp : K → K → Ordering) (o : IsTotalOrder cmp) wher
   above-insert k (e ∷ es) (suc p) x h l = (h.0, above-insert k es p x h.1 l)
 
   -- inserting an absent key's entry at its place, by how the first key compares with it
-  insert_first : (e : K × X) (es : List (K × X)) (k : K) (v : X) → IsIncreasing cmp (e ∷ es) → value_for cmp (e ∷ es) k ≡ None → (value_for cmp es k ≡ None → IsIncreasing cmp (insert es (place cmp es k) (k, v))) → (r : Ordering) → cmp e.0 k ≡ r → IsIncreasing cmp (insert (e ∷ es) (place cmp (e ∷ es) k) (k, v))
+  insert_first : (e : K × X) (es : List (K × X)) (k : K) (v : X) → IsIncreasing cmp (e ∷ es) → value_for cmp (e ∷ es) k ≡ None
+      → (value_for cmp es k ≡ None → IsIncreasing cmp (insert es (place cmp es k) (k, v))) → (r : Ordering) → cmp e.0 k ≡ r
+      → IsIncreasing cmp (insert (e ∷ es) (place cmp (e ∷ es) k) (k, v))
   unfolding IsStrictlySortedBy
   insert_first e es k v h absent rest r t = go r t
     where

@@ -124,7 +124,9 @@ module _ {K V : Type 0} {n : ℕ} where
       omega (arith, length-take e.size e.keys.items)
 
   -- the shape of an inner node whose keys and children were read
-  pub branch_shape : (s : State K V n) (size : ℕ) (keys : Row K 7) (tree : Row Node 8) (whole : Content K V) (ks : List K) (cs : List ℕ) → content_of s ≡ whole → s ≡ Branch size keys tree → Fits s → ks ≡ take size keys.items → length ks ≡ size → cs ≡ take (size + 1) tree.items → length cs ≡ size + 1 → HasShape n whole
+  pub branch_shape : (s : State K V n) (size : ℕ) (keys : Row K 7) (tree : Row Node 8) (whole : Content K V) (ks : List K) (cs : List ℕ)
+      → content_of s ≡ whole → s ≡ Branch size keys tree → Fits s → ks ≡ take size keys.items → length ks ≡ size
+      → cs ≡ take (size + 1) tree.items → length cs ≡ size + 1 → HasShape n whole
   branch_shape s size keys tree whole ks cs view is fits keys_are count tree_is children =
       let most : size ≤ 7 = rw is at fits in
       rw (← view, is, ← keys_are, ← tree_is, count, children) (refl, omega (arith, most))

@@ -164,7 +164,9 @@ module _ {K X : Type 0} where
       (taken most f f' t.0 at.place t.2.root_is (on-within f t.0 path at.place t.2) o (removed e) (account e) (same e) (last e) (λ z. ended z e) (λ z. none z e))
 
   -- after a removal at a path of a handle, the path stands at the same place
-  pub spot-at : (most : ℕ) (f f' : Forest K X) (h : Option ℕ) (path path' : Path K X most) (o : Option ℕ) (at : OnSpot f h path) → ((e : OnEntry f path) → IfSome o (λ r'. StandsAt f' r' path' e.place)) → ((e : OnEntry f path) → (o ≡ None) ↔ (length (list_under f e.root) ≡ 1)) → (o ≡ None → IsAtEnd path') → IsSpot f' o path' at.place
+  pub spot-at : (most : ℕ) (f f' : Forest K X) (h : Option ℕ) (path path' : Path K X most) (o : Option ℕ) (at : OnSpot f h path)
+      → ((e : OnEntry f path) → IfSome o (λ r'. StandsAt f' r' path' e.place))
+      → ((e : OnEntry f path) → (o ≡ None) ↔ (length (list_under f e.root) ≡ 1)) → (o ≡ None → IsAtEnd path') → IsSpot f' o path' at.place
   spot-at most f f' h path path' o at stands last end =
       let t = spot-on f path h at.place at.spot at.within in
       let e : OnEntry f path = record { root = t.0; place = at.place; on = t.2 } in

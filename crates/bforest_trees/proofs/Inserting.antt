@@ -36,7 +36,9 @@ module _ {K X : Type 0} (most : ℕ) (cmp : K → K → Ordering) (f : Forest K 
     }
 
   -- an insertion at any handle that is refused
-  pub inserts-err : (h : Option ℕ) (refused : OutOfMemory) → IsIncreasing cmp (list_of f h) → value_for cmp (list_of f h) k ≡ None → (refused ≡ Full) ↔ IsTooMany (need_of most cmp f h k) f → (refused ≡ Memory → NeedsGrowth (need_of most cmp f h k) f) → ¬ (need_of most cmp f h k ≤ free_of f) → Inserts most cmp f h k x (Err refused) f h
+  pub inserts-err : (h : Option ℕ) (refused : OutOfMemory) → IsIncreasing cmp (list_of f h) → value_for cmp (list_of f h) k ≡ None
+      → (refused ≡ Full) ↔ IsTooMany (need_of most cmp f h k) f → (refused ≡ Memory → NeedsGrowth (need_of most cmp f h k) f)
+      → ¬ (need_of most cmp f h k ≤ free_of f) → Inserts most cmp f h k x (Err refused) f h
   inserts-err h refused up gone full memory scarce = record {
     ok = tt;
     put = tt;

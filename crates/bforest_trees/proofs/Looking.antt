@@ -265,7 +265,10 @@ module _ {K V : Type 0} (table : Table K V) {handle : Option ℕ} (look : Look K
     pub next-some : IfSome o (λ found. (p : ℕ) → IsSpotAt table root look.spot p → IsSpotAt table root found.0 (suc p) × IsLeafAt table root (suc p) found.1) → IfSome o (λ found. (at : ℕ) → IsBehind table handle look at → LeafFrom table handle found.0 found.1 at)
     next-some says = go o alone says
       where
-        go : (o : Option (Spot × ℕ)) → (HasNoParent look.spot → o ≡ None) → IfSome o (λ found. (p : ℕ) → IsSpotAt table root look.spot p → IsSpotAt table root found.0 (suc p) × IsLeafAt table root (suc p) found.1) → IfSome o (λ found. (at : ℕ) → IsBehind table handle look at → LeafFrom table handle found.0 found.1 at)
+        go : (o : Option (Spot × ℕ)) → (HasNoParent look.spot → o ≡ None)
+            → IfSome o (λ found. (p : ℕ) → IsSpotAt table root look.spot p → IsSpotAt table root found.0 (suc p)
+            × IsLeafAt table root (suc p) found.1)
+            → IfSome o (λ found. (at : ℕ) → IsBehind table handle look at → LeafFrom table handle found.0 found.1 at)
         go None alone says = tt
         go (Some found) alone says = λ at b. elim b [
           | inl past ↦ (
@@ -292,7 +295,10 @@ module _ {K V : Type 0} (table : Table K V) {handle : Option ℕ} (look : Look K
     pub prev-some : look.index ≡ 0 → IfSome o (λ found. (p : ℕ) → IsSpotAt table root look.spot p → (0 < p) × IsSpotAt table root found.0 (p - 1) × IsLeafAt table root (p - 1) found.1) → IfSome o (λ found. (at : AtLook table handle look) → LeafUpTo table handle found.0 found.1 at.place)
     prev-some first says = go o alone says
       where
-        go : (o : Option (Spot × ℕ)) → (HasNoParent look.spot → o ≡ None) → IfSome o (λ found. (p : ℕ) → IsSpotAt table root look.spot p → (0 < p) × IsSpotAt table root found.0 (p - 1) × IsLeafAt table root (p - 1) found.1) → IfSome o (λ found. (at : AtLook table handle look) → LeafUpTo table handle found.0 found.1 at.place)
+        go : (o : Option (Spot × ℕ)) → (HasNoParent look.spot → o ≡ None)
+            → IfSome o (λ found. (p : ℕ) → IsSpotAt table root look.spot p → (0 < p) × IsSpotAt table root found.0 (p - 1)
+            × IsLeafAt table root (p - 1) found.1)
+            → IfSome o (λ found. (at : AtLook table handle look) → LeafUpTo table handle found.0 found.1 at.place)
         go None alone says = tt
         go (Some found) alone says = λ at. elim at.is [
           | inl on ↦ (
@@ -371,7 +377,9 @@ module _ {K V : Type 0} {table : Table K V} {handle : Option ℕ} {spot : Spot} 
     vals-read = sym (ap vals_of is) ∙ sym (ap vals_of (read_same table.nodes number content (leaf_content f.leaf.entries) found f.leaf.slot_is))
 
 -- a look that holds the leaf of a spot
-pub holds-leaf : {K V : Type 0} {table : Table K V} {handle : Option ℕ} {number start : ℕ} {content : Content K V} {look : Look K V} → LeafFrom table handle look.spot number start → slice_get table.nodes number ≡ Some content → content ≡ Leaf look.keys.now look.vals.now → Holds table handle look start
+pub holds-leaf : {K V : Type 0} {table : Table K V} {handle : Option ℕ} {number start : ℕ} {content : Content K V} {look : Look K V}
+    → LeafFrom table handle look.spot number start → slice_get table.nodes number ≡ Some content
+    → content ≡ Leaf look.keys.now look.vals.now → Holds table handle look start
 holds-leaf {number = number} f found is = record { number = number; from = f; keys = keys-read f found is; vals = vals-read f found is }
 
 -- the first leaf begins the list
@@ -430,6 +438,9 @@ module _ {K V : Type 0} {table : Table K V} {handle : Option ℕ} {look : Look K
   place-behind past = inl (record { start = h.start; holds = h.holds; place_is = omega (arith, h.place_is, h.within, past) })
 
 -- a place that is told of a root and of a bound, of the handle that has the root and of an equal bound
-pub at-bound : {K V : Type 0} {table : Table K V} {handle : Option ℕ} {root : ℕ} {look : Look K V} (place : Bound K → List (K × V) → ℕ) {bound other : Bound K} → handle ≡ Some root → bound ≡ other → IsLook table (Some root) look (place other (list_of table (Some root))) → IsLook table handle look (place bound (list_of table handle))
+pub at-bound : {K V : Type 0} {table : Table K V} {handle : Option ℕ} {root : ℕ} {look : Look K V}
+    (place : Bound K → List (K × V) → ℕ) {bound other : Bound K} → handle ≡ Some root → bound ≡ other
+    → IsLook table (Some root) look (place other (list_of table (Some root)))
+    → IsLook table handle look (place bound (list_of table handle))
 at-bound {K} {V} {table} {handle} {root} {look} place {bound} {other} is same l =
     subst (λ (b : Bound K). IsLook table handle look (place b (list_of table handle))) (sym same) (subst (λ (h : Option ℕ). IsLook table h look (place other (list_of table h))) (sym is) l)

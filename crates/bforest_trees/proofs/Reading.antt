@@ -82,7 +82,10 @@ module _ {K V : Type 0} {n : ℕ} (table : Table K V) (path path' : Path K V n) 
         let value : o ≡ Some e.0 = s.value (record { root = at.root; place = at.place; at = on-at table at.root path at.place at.on }) ∙ e.1 in
         record {
           on = record { union = r.union; stands = λ some. record { root = at.root; place = suc at.place; on = record { root_is = next.root_is; stands = at_entry path'.node path'.entry (tree_of table.nodes at.root) (suc at.place) path'.size some next.at } } };
-          yields = subst (λ (z : Option (K × V)). YieldsFirst (λ (entries : List (K × V)). entries) (entries_from table path) z (entries_from table path')) (sym value) (standing table at.root path at.place r.union at.on ∙ drop-read list at.place e.0 e.1 ∙ ap (λ z. e.0 ∷ z) (sym (left-at table at.root path' (suc at.place) r.union next)));
+          yields = subst (λ (z : Option (K × V)). YieldsFirst (λ (entries : List (K × V)). entries) (entries_from table path) z
+              (entries_from table path')) (sym value)
+              (standing table at.root path at.place r.union at.on ∙ drop-read list at.place e.0 e.1
+              ∙ ap (λ z. e.0 ∷ z) (sym (left-at table at.root path' (suc at.place) r.union next)));
         }
         )
   ]
@@ -92,7 +95,9 @@ pub held-leaf : {K V : Type 0} (slots : List (Content K V)) (number : ℕ) (cont
 held-leaf slots number content entries found leaf = subst IsLeaf (read_same slots number content (leaf_content entries) found leaf) tt
 
 -- a node that is read by a leaf's number has the leaf's keys and values
-held : {K V : Type 0} (slots : List (Content K V)) (number : ℕ) (content : Content K V) (entries : List (K × V)) (keys : List K) (vals : List V) → slice_get slots number ≡ Some content → slice_get slots number ≡ Some (leaf_content entries) → content ≡ Leaf keys vals → (keys ≡ entry_keys entries) × (vals ≡ entry_items entries)
+held : {K V : Type 0} (slots : List (Content K V)) (number : ℕ) (content : Content K V) (entries : List (K × V)) (keys : List K)
+    (vals : List V) → slice_get slots number ≡ Some content → slice_get slots number ≡ Some (leaf_content entries)
+    → content ≡ Leaf keys vals → (keys ≡ entry_keys entries) × (vals ≡ entry_items entries)
 held slots number content entries keys vals found leaf is =
     let same = read_same slots number content (leaf_content entries) found leaf in (
       sym (ap keys_of is) ∙ sym (ap keys_of same),
@@ -202,7 +207,9 @@ module _ {K V : Type 0} (table : Table K V) where
     leafless reader union keys vals index none = record { union = union; entries = []; within = omega (arith, index); leaf = λ some. absurd (omega (arith, some)); none = λ e. none; keys = keys; vals = vals }
 
     -- a reader that holds the leaf which a spot opens
-    pub entered : (left : List (K × V)) (root : ℕ) (at : Spot) (leaf : ℕ) (content : Content K V) (new : Reader K V n) → Opens n table left root at leaf → slice_get table.nodes leaf ≡ Some content → content ≡ Leaf new.keys.now new.vals.now → new.index ≡ 0 → new.root ≡ root → new.spot ≡ at → Entered table left new
+    pub entered : (left : List (K × V)) (root : ℕ) (at : Spot) (leaf : ℕ) (content : Content K V) (new : Reader K V n)
+        → Opens n table left root at leaf → slice_get table.nodes leaf ≡ Some content → content ≡ Leaf new.keys.now new.vals.now
+        → new.index ≡ 0 → new.root ≡ root → new.spot ≡ at → Entered table left new
     entered left root at leaf content new o found leaf_is index root_is spot_is =
         let es = o.leaf.entries in
         let h = held table.nodes leaf content es new.keys.now new.vals.now found o.leaf.slot_is leaf_is in

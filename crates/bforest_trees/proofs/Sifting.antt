@@ -57,7 +57,10 @@ shrink-fewer n p [] = omega arith
 shrink-fewer n p (leaves ∷ levels) = omega (arith, trimmed_fewer ((loss n p leaves).1 ∷ loss_above (loss n p leaves).0 levels), loss_fewer (loss n p leaves).0 levels)
 
 -- a step that removed an entry answered false
-pub sifted-out : {F K X : Type 0} (most : ℕ) (step : F → K → X → Bool → X → F → Type 0) (old new : Table K X) (root : ℕ) (path' : Path K X most) (f f' : F) (list : List (K × X)) (sizes : List (List ℕ)) (place : ℕ) (k : K) (v w : X) → step f k v false w f' → (o : Option ℕ) → IfSome o (λ root'. Changes most old new root root' (remove list place) (shrink most place sizes)) → GivesNodes sizes (shrink most place sizes) old new →
+pub sifted-out : {F K X : Type 0} (most : ℕ) (step : F → K → X → Bool → X → F → Type 0) (old new : Table K X) (root : ℕ)
+    (path' : Path K X most) (f f' : F) (list : List (K × X)) (sizes : List (List ℕ)) (place : ℕ) (k : K) (v w : X) → step f k v false w f'
+    → (o : Option ℕ) → IfSome o (λ root'. Changes most old new root root' (remove list place) (shrink most place sizes))
+    → GivesNodes sizes (shrink most place sizes) old new →
     IfSome o (λ root'. StandsAt new root' path' place) → IfSome o (λ root'. (root' ≡ root) ↔ (length (shrink most place sizes) ≡ length sizes)) → (o ≢ Some root → 0 < count root new.chain) → IfSome o (λ root'. Stepped most step old new root root' path' f f' list sizes place k v)
 sifted-out most step old new root path' f f' list sizes place k v w t None ch gv at level freed = tt
 sifted-out most step old new root path' f f' list sizes place k v w t (Some root') ch gv at level freed = record {
@@ -131,7 +134,11 @@ module _ {F K X : Type 0} (most : ℕ) (step : F → K → X → Bool → X → 
       sifting-stands = at-on now root path s.place s.at (slice_get_within (list_under now root) s.place (k, v) (sym here))
 
       -- the sifting of the rest after one answer is the sifting of the whole list
-      asked_on : (stays : Bool) (w : X) (f' : F) → step f k v stays w f' → (xs' : List (K × X)) (sizes' : List (List ℕ)) (place' : ℕ) → place' ≡ (if stays then suc s.place else s.place) → sizes' ≡ (if stays then sizes_under now root else shrink most s.place (sizes_under now root)) → drop place' xs' ≡ drop (suc s.place) (list_under now root) → ((ks : List (K × X)) → take place' xs' ++ ks ≡ take s.place (list_under now root) ++ (if stays then (k, w) ∷ ks else ks)) →
+      asked_on : (stays : Bool) (w : X) (f' : F) → step f k v stays w f' → (xs' : List (K × X)) (sizes' : List (List ℕ)) (place' : ℕ)
+          → place' ≡ (if stays then suc s.place else s.place)
+          → sizes' ≡ (if stays then sizes_under now root else shrink most s.place (sizes_under now root))
+          → drop place' xs' ≡ drop (suc s.place) (list_under now root)
+          → ((ks : List (K × X)) → take place' xs' ++ ks ≡ take s.place (list_under now root) ++ (if stays then (k, w) ∷ ks else ks)) →
           (ks : List (K × X)) (us : List (List ℕ)) → Sifts step most f' place' (drop place' xs') sizes' ks us → Sifts step most f₀ 0 (list_under old first) (sizes_under old first) (take place' xs' ++ ks) us
       asked_on stays w f' t xs' sizes' place' place_is sizes_are same front ks us r =
           let on : Sifts step most f' (if stays then suc s.place else s.place) (drop (suc s.place) (list_under now root)) (if stays then sizes_under now root else shrink most s.place (sizes_under now root)) ks us =
@@ -148,9 +155,15 @@ module _ {F K X : Type 0} (most : ℕ) (step : F → K → X → Bool → X → 
 
       -- the next state of the loop, whatever the predicate answers
       module _ (new : Table K X) (root' : ℕ) (f' : F) (path' : Path K X most) where
-        next_at : (stays : Bool) (w : X) → step f k v stays w f' → (place' : ℕ) (es : List (K × X)) (us : List (List ℕ)) → place' ≡ (if stays then suc s.place else s.place) → us ≡ (if stays then sizes_under now root else shrink most s.place (sizes_under now root)) → length us ≤ length (sizes_under now root) →
+        next_at : (stays : Bool) (w : X) → step f k v stays w f' → (place' : ℕ) (es : List (K × X)) (us : List (List ℕ))
+            → place' ≡ (if stays then suc s.place else s.place)
+            → us ≡ (if stays then sizes_under now root else shrink most s.place (sizes_under now root))
+            → length us ≤ length (sizes_under now root) →
             drop place' es ≡ drop (suc s.place) (list_under now root) → ((ks : List (K × X)) → take place' es ++ ks ≡ take s.place (list_under now root) ++ (if stays then (k, w) ∷ ks else ks)) →
-            Changes most now new root root' es us → GivesNodes (sizes_under now root) us now new → StandsAt new root' path' place' → (root' ≡ root) ↔ (length us ≡ length (sizes_under now root)) → (root' ≢ root → 0 < count root new.chain) → length es - place' < length (list_under now root) - s.place → (n : Sifting new root' f' path') × (length (list_under new root') - n.place < length (list_under now root) - s.place)
+            Changes most now new root root' es us → GivesNodes (sizes_under now root) us now new → StandsAt new root' path' place'
+            → (root' ≡ root) ↔ (length us ≡ length (sizes_under now root)) → (root' ≢ root → 0 < count root new.chain)
+            → length es - place' < length (list_under now root) - s.place → (n : Sifting new root' f' path')
+            × (length (list_under new root') - n.place < length (list_under now root) - s.place)
         next_at stays w t place' es us place_is us_is few same front ch gv at level freed less =
             let list_is = ch.list_is in
             let sizes_are = ch.sizes_are in
@@ -198,9 +211,20 @@ module _ {F K X : Type 0} (most : ℕ) (step : F → K → X → Bool → X → 
             low = slice_get_within (list_under now root) s.place (k, v) (sym here)
 
             go : (stays : Bool) (w : X) → step f k v stays w f' → Changes most now new root root' (if stays then with_value (list_under now root) s.place w else remove (list_under now root) s.place) (if stays then sizes_under now root else shrink most s.place (sizes_under now root)) →
-                GivesNodes (sizes_under now root) (if stays then sizes_under now root else shrink most s.place (sizes_under now root)) now new → StandsAt new root' path' (if stays then suc s.place else s.place) → (root' ≡ root) ↔ (length (if stays then sizes_under now root else shrink most s.place (sizes_under now root)) ≡ length (sizes_under now root)) → (root' ≢ root → 0 < count root new.chain) → (n : Sifting new root' f' path') × (length (list_under new root') - n.place < length (list_under now root) - s.place)
-            go true w st ch gv at level freed = next_at true w st (suc s.place) (with_value (list_under now root) s.place w) (sizes_under now root) refl refl (omega arith) (drop_written (list_under now root) s.place w) (λ ks. take_written (list_under now root) s.place w (k, v) here ks) ch gv at level freed (omega (arith, low, length_written (list_under now root) s.place w))
-            go false w st ch gv at level freed = next_at false w st s.place (remove (list_under now root) s.place) (shrink most s.place (sizes_under now root)) refl refl (shrink-fewer most s.place (sizes_under now root)) (drop_remove (list_under now root) s.place low) (λ ks. take_remove (list_under now root) s.place low ks) ch gv at level freed (omega (arith, low, length_remove (list_under now root) s.place low))
+                GivesNodes (sizes_under now root) (if stays then sizes_under now root else shrink most s.place (sizes_under now root)) now
+                new → StandsAt new root' path' (if stays then suc s.place else s.place)
+                → (root' ≡ root) ↔ (length (if stays then sizes_under now root else shrink most s.place (sizes_under now root)) ≡ length
+                (sizes_under now root)) → (root' ≢ root → 0 < count root new.chain) → (n : Sifting new root' f' path')
+                × (length (list_under new root') - n.place < length (list_under now root) - s.place)
+            go true w st ch gv at level freed = next_at true w st (suc s.place) (with_value (list_under now root) s.place w)
+                (sizes_under now root) refl refl (omega arith) (drop_written (list_under now root) s.place w)
+                (λ ks. take_written (list_under now root) s.place w (k, v) here ks) ch gv at level freed
+                (omega (arith, low, length_written (list_under now root) s.place w))
+            go false w st ch gv at level freed = next_at false w st s.place (remove (list_under now root) s.place)
+                (shrink most s.place (sizes_under now root)) refl refl (shrink-fewer most s.place (sizes_under now root))
+                (drop_remove (list_under now root) s.place low)
+                (λ ks. take_remove (list_under now root) s.place low ks) ch gv at level freed
+                (omega (arith, low, length_remove (list_under now root) s.place low))
 
         -- a step that removes the only entry ends the loop with no entry kept
         pub sifting-none : SteppedLast most step now new root f f' (list_under now root) (sizes_under now root) s.place k v → RetainedNone most step old new first f₀

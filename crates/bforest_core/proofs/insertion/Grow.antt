@@ -29,7 +29,9 @@ module _ {K X : Type 0} where
   pub heads-halved : (before after : List (LevelNode K X)) (m n : ℕ) (x : K × X) (xs : List (K × X)) (y : K × X) (ys : List (K × X)) (key : K) → key ≡ y.0 → heads (before ++ node m (x ∷ xs) ∷ node n (y ∷ ys) ∷ after) ≡ heads before ++ (x.0, m) ∷ (key, n) ∷ heads after
   heads-halved before after m n x xs y ys key is = rw (heads-append before (node m (x ∷ xs) ∷ node n (y ∷ ys) ∷ after), is) refl
 
-  pub FitRow-halved : (half most : ℕ) (before after : List (LevelNode K X)) (m n : ℕ) (es xs ys : List (K × X)) → 1 ≤ half → FitRow half most (before ++ node m es ∷ after) → half ≤ length xs → length xs ≤ most → half ≤ length ys → length ys ≤ most → FitRow half most (before ++ node m xs ∷ node n ys ∷ after)
+  pub FitRow-halved : (half most : ℕ) (before after : List (LevelNode K X)) (m n : ℕ) (es xs ys : List (K × X)) → 1 ≤ half
+      → FitRow half most (before ++ node m es ∷ after) → half ≤ length xs → length xs ≤ most → half ≤ length ys → length ys ≤ most
+      → FitRow half most (before ++ node m xs ∷ node n ys ∷ after)
   FitRow-halved half most before after m n es xs ys one f hx mx hy my =
       let s = FitRow-split half most before (node m es) after f in
       FitRow-join half most before (node m xs) (node n ys ∷ after) s.0 (hx, mx, (omega (arith, hy, least-le half one after), my, s.1.2))

@@ -147,7 +147,9 @@ module _ {K V X : Type 0} (content : List (K × X) → Content K V) where
     }
 
   -- two nodes whose sizes are those of halves are halves
-  halves : (t u : Table K V) (n right : ℕ) (middle : K) (grown lefts rights : List (K × X)) (left_count right_count : ℕ) → grown ≡ lefts ++ rights → length lefts ≡ left_count → length rights ≡ right_count → 1 ≤ left_count → head_of right rights ≡ (middle, right) ∷ [] → Two t u n right lefts rights → Halves t u n right middle grown left_count right_count
+  halves : (t u : Table K V) (n right : ℕ) (middle : K) (grown lefts rights : List (K × X)) (left_count right_count : ℕ)
+      → grown ≡ lefts ++ rights → length lefts ≡ left_count → length rights ≡ right_count → 1 ≤ left_count
+      → head_of right rights ≡ (middle, right) ∷ [] → Two t u n right lefts rights → Halves t u n right middle grown left_count right_count
   halves t u n right middle grown [] rights left_count right_count is left_is right_is some head w = absurd (omega (arith, left_is, some))
   halves t u n right middle grown (z ∷ xs) [] left_count right_count is left_is right_is some head w = absurd cc
   halves t u n right middle grown (z ∷ xs) (y ∷ ys) left_count right_count is left_is right_is some head w =

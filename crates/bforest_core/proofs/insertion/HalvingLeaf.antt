@@ -72,11 +72,16 @@ module _ {K V : Type 0} where
           early_asks =
               asks_put Leaf s _ _ num_is _ _ low_cut.two.here (get_or js 0 0) (left_used leaf_content t s s (get_or ms 0 0) right low_cut.zs (low_cut.y ∷ low_cut.ys) low_cut.two d.none_chain) (omega (arith, keys_count low_cut.zs, low_cut.count_is, low_is))
 
-          pub early_halves : (u : Table K V) (key : K) (value : V) (put : Bool) → HasRoom Leaf (λ keys vals. length keys) cap s (get_or ms 0 r) put → Written Leaf (λ z. with_entry z (get_or js 0 0) key value) s u (get_or ms 0 r) put → LeafHalved cap t u ms ms js size tree place (key, value) parts.crit_key right false
+          pub early_halves : (u : Table K V) (key : K) (value : V) (put : Bool)
+              → HasRoom Leaf (λ keys vals. length keys) cap s (get_or ms 0 r) put
+              → Written Leaf (λ z. with_entry z (get_or js 0 0) key value) s u (get_or ms 0 r) put
+              → LeafHalved cap t u ms ms js size tree place (key, value) parts.crit_key right false
           early_halves u key value put has puts =
               let written = put_in Leaf s _ _ num_is _ _ low_cut.two.here u (λ keys vals. length keys) cap (λ z. with_entry z (get_or js 0 0) key value) put has puts (omega (arith, keys_count low_cut.zs, low_cut.count_is, low_is, full_is, capacity.least, capacity.odd)) in
               let h = into_left leaf_content t s u (get_or ms 0 0) right parts.lhs_entries (d.l ++ d.r) (d.l ++ (key, value) ∷ d.r) parts.crit_key low_cut (λ v. with_entry v (get_or js 0 0) key value) (half_of cap) (half_of cap)
-              d.l (d.l ++ (key, value) ∷ []) d.r refl (sym (append_assoc d.l ((key, value) ∷ []) d.r)) (omega (arith, length-append d.l ((key, value) ∷ []))) (omega (arith, d.index_is, low, low_is)) (omega (arith, low_is, capacity.least, capacity.odd)) (omega (arith, low_is, full_is, capacity.least, capacity.odd))
+              d.l (d.l ++ (key, value) ∷ []) d.r refl (sym (append_assoc d.l ((key, value) ∷ []) d.r))
+              (omega (arith, length-append d.l ((key, value) ∷ []))) (omega (arith, d.index_is, low, low_is))
+              (omega (arith, low_is, capacity.least, capacity.odd)) (omega (arith, low_is, full_is, capacity.least, capacity.odd))
               (λ mid. with_entry_is V d.l mid key value (get_or js 0 0) d.index_is ∙ ap leaf_content (sym (append_assoc d.l ((key, value) ∷ []) mid))) written in
               leaf_parted cap t u ms js ms js size tree place (key, value) parts.crit_key right false capacity p d full_is h (λ i other. refl) (λ i other. refl) seen
               (in_left d.before d.after (get_or ms 0 0) right (h.z ∷ h.xs) (h.y ∷ h.ys) (get_or js 0 0) place seen (omega (arith, low, h.left_is, capacity.least, capacity.odd)) (omega (arith, d.place_is, d.index_is)))
@@ -95,12 +100,27 @@ module _ {K V : Type 0} where
           late_asks =
               asks_put Leaf s right right refl _ _ high_cut.two.there (get_or js 0 0 - parts.lhs_entries) used (omega (arith, keys_count (high_cut.y ∷ high_cut.ys), ap length high_cut.es_is, length-append high_cut.zs (high_cut.y ∷ high_cut.ys), high_cut.count_is, d.index_is, length-append d.l d.r))
 
-          pub late_halves : (u : Table K V) (key first : K) (value : V) (put : Bool) → HasRoom Leaf (λ keys vals. length keys) cap s right put → Written Leaf (λ z. with_entry z (get_or js 0 0 - parts.lhs_entries) key value) s u right put → (get_or js 0 0 - parts.lhs_entries ≡ 0 → first ≡ key) → (0 < get_or js 0 0 - parts.lhs_entries → first ≡ parts.crit_key) →
+          pub late_halves : (u : Table K V) (key first : K) (value : V) (put : Bool)
+              → HasRoom Leaf (λ keys vals. length keys) cap s right put
+              → Written Leaf (λ z. with_entry z (get_or js 0 0 - parts.lhs_entries) key value) s u right put
+              → (get_or js 0 0 - parts.lhs_entries ≡ 0 → first ≡ key) → (0 < get_or js 0 0 - parts.lhs_entries → first ≡ parts.crit_key) →
               1 ≤ length js → LeafHalved cap t u ms (set ms 0 right) (set js 0 (get_or js 0 0 - parts.lhs_entries)) size tree place (key, value) first right true
           late_halves u key first value put has puts zero more some =
               let rights = high_cut.y ∷ high_cut.ys in
               let behind = get_or js 0 0 - parts.lhs_entries in
-              let written = put_in Leaf s right right refl _ _ high_cut.two.there u (λ keys vals. length keys) cap (λ z. with_entry z behind key value) put has puts (omega (arith, keys_count rights, ap length high_cut.es_is, length-append high_cut.zs rights, high_cut.count_is, high_is, full_is, capacity.least, capacity.odd)) in
+              let written = put_in Leaf s right right refl _ _ high_cut.two.there u (λ keys vals. length keys) cap
+              (λ z. with_entry z behind key value) put has puts
+              (omega (
+                arith,
+                keys_count rights,
+                ap length high_cut.es_is,
+                length-append high_cut.zs rights,
+                high_cut.count_is,
+                high_is,
+                full_is,
+                capacity.least,
+                capacity.odd,
+              )) in
               let h = into_right leaf_content t s u (get_or ms 0 0) right parts.lhs_entries (d.l ++ d.r) (d.l ++ (key, value) ∷ d.r) parts.crit_key high_cut (λ v. with_entry v behind key value) (half_of cap) (half_of cap)
               first d.l d.r ((key, value) ∷ d.r) refl refl refl (omega (arith, d.index_is, late_within)) (omega (arith, high_is, capacity.least, capacity.odd)) high_is (omega (arith, high_is, full_is, capacity.least, capacity.odd))
               (λ mid is. (let mid_is : length mid ≡ behind = is ∙ ap (λ z. z - parts.lhs_entries) d.index_is in (

@@ -16,7 +16,10 @@ use Rattle.bforest_core.proofs.insertion.HalvingLeaf.{FullAt}
 
 module _ {K V : Type 0} where
   -- the split level, except for where the path stands
-  pub parted : (t u : Table K V) (ms js ms' js' : List ℕ) (up size : ℕ) (rows : List (List (LevelNode K ℕ))) (a : List (K × ℕ)) (x y : K × ℕ) (b : List (K × ℕ)) (middle : K) (right p : ℕ) (moved : Bool) (big small : ℕ) → (4 ≤ big) × (big ≤ 8) × (4 ≤ small) × (small ≤ 8) → ((after : List ℕ) → (if nat_lt (get_or js up 0) 4 then 5 ∷ 4 ∷ after else 4 ∷ 5 ∷ after) ≡ big ∷ small ∷ after) → (d : Spot t ms js up size rows a x b) → length (d.q.l ++ x ∷ d.q.r) ≡ 8 →
+  pub parted : (t u : Table K V) (ms js ms' js' : List ℕ) (up size : ℕ) (rows : List (List (LevelNode K ℕ))) (a : List (K × ℕ))
+      (x y : K × ℕ) (b : List (K × ℕ)) (middle : K) (right p : ℕ) (moved : Bool) (big small : ℕ) → (4 ≤ big) × (big ≤ 8) × (4 ≤ small)
+      × (small ≤ 8) → ((after : List ℕ) → (if nat_lt (get_or js up 0) 4 then 5 ∷ 4 ∷ after else 4 ∷ 5 ∷ after) ≡ big ∷ small ∷ after)
+      → (d : Spot t ms js up size rows a x b) → length (d.q.l ++ x ∷ d.q.r) ≡ 8 →
       (h : Halves inner_content t u (get_or ms up 0) right middle (d.q.l ++ x ∷ y ∷ d.q.r) big small) →
       ((i : ℕ) → i ≢ up → get_or ms' i 0 ≡ get_or ms i 0) → ((i : ℕ) → i ≢ up → get_or js' i 0 ≡ get_or js i 0) →
       length (heads d.q.before) ≡ length d.q.before → InHalf d.q.before (get_or ms up 0) right (h.z ∷ h.xs) (h.y ∷ h.ys) d.q.after (get_or ms' up 0) (get_or js' up 0) p moved →
@@ -124,18 +127,26 @@ module _ {K V : Type 0} where
         early_asks early =
             asks_put Inner s _ _ num_is _ _ cut.two.here (get_or js up 0) (left_used inner_content t s s (get_or ms up 0) right cut.zs (cut.y ∷ cut.ys) cut.two d.f.none_chain) (omega (arith, key_count cut.zs, cut.count_is, early, four))
 
-        pub early_halves : (u : Table K V) (key : K) (child : ℕ) (moved put : Bool) (index : ℕ) → get_or js up 0 < 4 → HasRoom Inner (λ keys children. length children) 8 s (get_or ms up r) put → Written Inner (λ z. with_child z (get_or js up 0) key child) s u (get_or ms up r) put → index ≡ (if moved then suc (get_or js up 0) else get_or js up 0) → up < length js →
+        pub early_halves : (u : Table K V) (key : K) (child : ℕ) (moved put : Bool) (index : ℕ) → get_or js up 0 < 4
+            → HasRoom Inner (λ keys children. length children) 8 s (get_or ms up r) put
+            → Written Inner (λ z. with_child z (get_or js up 0) key child) s u (get_or ms up r) put
+            → index ≡ (if moved then suc (get_or js up 0) else get_or js up 0) → up < length js →
             Halved t u ms js ms (set js up index) up size rows (a ++ x ∷ (key, child) ∷ b) (length a) (if moved then suc (length a) else length a) parts.crit_key right false
         early_halves u key child moved put index early has puts index_is low_js =
             let written = put_in Inner s _ _ num_is _ _ cut.two.here u (λ keys children. length children) 8 (λ z. with_child z (get_or js up 0) key child) put has puts (omega (arith, item_count cut.zs, cut.count_is, four)) in
             let new : K × ℕ = (key, child) in
             let h = into_left inner_content t s u (get_or ms up 0) right parts.lhs_entries (d.q.l ++ x ∷ d.q.r) (d.q.l ++ x ∷ new ∷ d.q.r) parts.crit_key cut (λ v. with_child v (get_or js up 0) key child) 5 4
-            (d.q.l ++ x ∷ []) (d.q.l ++ x ∷ new ∷ []) d.q.r (sym (append_assoc d.q.l (x ∷ []) d.q.r)) (sym (append_assoc d.q.l (x ∷ new ∷ []) d.q.r)) (omega (arith, length-append d.q.l (x ∷ []), length-append d.q.l (x ∷ new ∷ []))) (omega (arith, length-append d.q.l (x ∷ []), d.q.entry_is, early, four)) (omega (arith, four)) (omega (arith, four, eight))
+            (d.q.l ++ x ∷ []) (d.q.l ++ x ∷ new ∷ []) d.q.r (sym (append_assoc d.q.l (x ∷ []) d.q.r))
+            (sym (append_assoc d.q.l (x ∷ new ∷ []) d.q.r))
+            (omega (arith, length-append d.q.l (x ∷ []), length-append d.q.l (x ∷ new ∷ [])))
+            (omega (arith, length-append d.q.l (x ∷ []), d.q.entry_is, early, four)) (omega (arith, four)) (omega (arith, four, eight))
             (λ mid. ap (λ z. with_child (inner_content z) (get_or js up 0) key child) (append_assoc d.q.l (x ∷ []) mid) ∙ with_child_is V d.q.l x mid key child (get_or js up 0) d.q.entry_is ∙ ap inner_content (sym (append_assoc d.q.l (x ∷ new ∷ []) mid))) written in
             let j_is = get_or-set_same js up index 0 low_js ∙ index_is ∙ step_is moved (get_or js up 0) in
             parted t u ms js ms (set js up index) up size rows a x new b parts.crit_key right (if moved then suc (length a) else length a) false 5 4 (omega arith, omega arith, omega arith, omega arith) (λ after. (let a = below_lt (get_or js up 0) 4 early in rw a refl)) d eight h
             (λ i other. refl) (λ i other. get_or-set_other js up i index 0 other) seen
-            (in_left d.q.before d.q.after (get_or ms up 0) right (h.z ∷ h.xs) (h.y ∷ h.ys) (get_or (set js up index) up 0) (if moved then suc (length a) else length a) seen (omega (arith, j_is, step_most moved, h.left_is, early)) (step_is moved (length a) ∙ omega (arith, j_is, ap length d.q.a_is, length-append (flat d.q.before) d.q.l, d.q.entry_is)))
+            (in_left d.q.before d.q.after (get_or ms up 0) right (h.z ∷ h.xs) (h.y ∷ h.ys) (get_or (set js up index) up 0)
+            (if moved then suc (length a) else length a) seen (omega (arith, j_is, step_most moved, h.left_is, early))
+            (step_is moved (length a) ∙ omega (arith, j_is, ap length d.q.a_is, length-append (flat d.q.before) d.q.l, d.q.entry_is)))
 
         right_is : length (cut.y ∷ cut.ys) ≡ 4
         right_is = omega (arith, eight, ap length cut.es_is, length-append cut.zs (cut.y ∷ cut.ys), cut.count_is, four)
@@ -144,7 +155,10 @@ module _ {K V : Type 0} where
         late_asks =
             asks_put Inner s right right refl _ _ cut.two.there (get_or js up 0 - 4) used (omega (arith, key_count (cut.y ∷ cut.ys), index_small, right_is))
 
-        pub late_halves : (u : Table K V) (key : K) (child : ℕ) (moved put : Bool) (index : ℕ) → 4 ≤ get_or js up 0 → HasRoom Inner (λ keys children. length children) 8 s right put → Written Inner (λ z. with_child z (get_or js up 0 - 4) key child) s u right put → index ≡ (if moved then suc (get_or js up 0 - 4) else get_or js up 0 - 4) → up < length js →
+        pub late_halves : (u : Table K V) (key : K) (child : ℕ) (moved put : Bool) (index : ℕ) → 4 ≤ get_or js up 0
+            → HasRoom Inner (λ keys children. length children) 8 s right put
+            → Written Inner (λ z. with_child z (get_or js up 0 - 4) key child) s u right put
+            → index ≡ (if moved then suc (get_or js up 0 - 4) else get_or js up 0 - 4) → up < length js →
             Halved t u ms js (set ms up right) (set js up index) up size rows (a ++ x ∷ (key, child) ∷ b) (length a) (if moved then suc (length a) else length a) parts.crit_key right true
         late_halves u key child moved put index late has puts index_is low_js =
             let written = put_in Inner s right right refl _ _ cut.two.there u (λ keys children. length children) 8 (λ z. with_child z (get_or js up 0 - 4) key child) put has puts (omega (arith, item_count (cut.y ∷ cut.ys), right_is)) in
@@ -155,6 +169,12 @@ module _ {K V : Type 0} where
               λ rest. head-grown right mid x ((key, child) ∷ d.q.r) d.q.r ∙ ap (λ v. head_of right v) (sym rest) ∙ ap (λ v. (v, right) ∷ []) (sym cut.key_is),
             )) written in
             let j_is = get_or-set_same js up index 0 low_js ∙ index_is ∙ step_is moved (get_or js up 0 - 4) in
-            parted t u ms js (set ms up right) (set js up index) up size rows a x (key, child) b parts.crit_key right (if moved then suc (length a) else length a) true 4 5 (omega arith, omega arith, omega arith, omega arith) (λ after. (let a = above_lt (get_or js up 0) 4 late in rw a refl)) d eight h
+            parted t u ms js (set ms up right) (set js up index) up size rows a x (key, child) b parts.crit_key right
+            (if moved then suc (length a) else length a) true 4 5 (omega arith, omega arith, omega arith, omega arith)
+            (λ after. (let a = above_lt (get_or js up 0) 4 late in rw a refl)) d eight h
             (λ i other. get_or-set_other ms up i right 0 other) (λ i other. get_or-set_other js up i index 0 other) seen
-            (in_right d.q.before d.q.after (get_or ms up 0) right (h.z ∷ h.xs) (h.y ∷ h.ys) (get_or (set ms up right) up 0) (get_or (set js up index) up 0) (if moved then suc (length a) else length a) seen (get_or-set_same ms up right 0 low) (omega (arith, j_is, step_most moved, h.right_is, index_small)) (step_is moved (length a) ∙ omega (arith, j_is, ap length d.q.a_is, length-append (flat d.q.before) d.q.l, d.q.entry_is, h.left_is, late)))
+            (in_right d.q.before d.q.after (get_or ms up 0) right (h.z ∷ h.xs) (h.y ∷ h.ys) (get_or (set ms up right) up 0)
+            (get_or (set js up index) up 0) (if moved then suc (length a) else length a) seen (get_or-set_same ms up right 0 low)
+            (omega (arith, j_is, step_most moved, h.right_is, index_small))
+            (step_is moved (length a) ∙ omega
+            (arith, j_is, ap length d.q.a_is, length-append (flat d.q.before) d.q.l, d.q.entry_is, h.left_is, late)))

@@ -18,7 +18,9 @@ module _ {K V : Type 0} where
       rw (d.leaves_are, d.place_is, sizes-append d.before (node (get_or ms 0 0) (d.l ++ d.r) ∷ d.after)) (leaf_full most d.before (length (d.l ++ d.r)) (length d.l) (sizes d.after) (omega (arith, length-append d.l d.r)) d.first full)
 
   -- the split leaf, except for where the path stands
-  pub leaf_parted : (most : ℕ) (t u : Table K V) (ms js ms' js' : List ℕ) (size : ℕ) (tree : Tree K V) (place : ℕ) (entry : K × V) (middle : K) (right : ℕ) (moved : Bool) → IsLeafCapacity most → Placed most t ms js size tree place → (d : LeafSpot most t ms js tree place) → length (d.l ++ d.r) ≡ most →
+  pub leaf_parted : (most : ℕ) (t u : Table K V) (ms js ms' js' : List ℕ) (size : ℕ) (tree : Tree K V) (place : ℕ) (entry : K × V)
+      (middle : K) (right : ℕ) (moved : Bool) → IsLeafCapacity most → Placed most t ms js size tree place
+      → (d : LeafSpot most t ms js tree place) → length (d.l ++ d.r) ≡ most →
       (h : Halves leaf_content t u (get_or ms 0 0) right middle (d.l ++ entry ∷ d.r) (half_of most) (half_of most)) →
       ((i : ℕ) → i ≢ 0 → get_or ms' i 0 ≡ get_or ms i 0) → ((i : ℕ) → i ≢ 0 → get_or js' i 0 ≡ get_or js i 0) →
       length (heads d.before) ≡ length d.before → InHalf d.before (get_or ms 0 0) right (h.z ∷ h.xs) (h.y ∷ h.ys) d.after (get_or ms' 0 0) (get_or js' 0 0) place moved →
@@ -80,7 +82,9 @@ module _ {K V : Type 0} where
       ap (λ z. change z.0 (map sizes tree.above)) h.gain_is ∙ ap (λ z. change (Some (length (heads h.before))) z) (sym h.sizes_above)
 
   -- the tree after the right half was inserted into the levels above
-  pub inserted : (most : ℕ) (t u v : Table K V) (ms js ms' js' ms'' js'' : List ℕ) (size size' : ℕ) (tree : Tree K V) (place : ℕ) (entry : K × V) (key : K) (right : ℕ) (moved : Bool) (taken : List ℕ) (size1 left : ℕ) → size1 ≡ size → left ≡ get_or ms 0 0 → Placed most t ms js size tree place → (h : LeafHalved most t u ms ms' js' size tree place entry key right moved) →
+  pub inserted : (most : ℕ) (t u v : Table K V) (ms js ms' js' ms'' js'' : List ℕ) (size size' : ℕ) (tree : Tree K V) (place : ℕ)
+      (entry : K × V) (key : K) (right : ℕ) (moved : Bool) (taken : List ℕ) (size1 left : ℕ) → size1 ≡ size → left ≡ get_or ms 0 0
+      → Placed most t ms js size tree place → (h : LeafHalved most t u ms ms' js' size tree place entry key right moved) →
       suc (length taken) ≡ need_above (Some (length (heads h.before))) (map sizes h.rows) →
       Grown u v ms' js' ms'' js'' 1 size1 size' h.rows (heads h.before ++ (h.first.0, left) ∷ (key, right) ∷ heads h.after) (if moved then suc (length (heads h.before)) else length (heads h.before)) (gain_above (Some (length (heads h.before))) (map sizes h.rows)) taken →
       Inserted most t v ms'' js'' size' tree place entry

@@ -1,6 +1,8 @@
 -- Putting a value in at a key of the leaf in which a search for the key ends: the answers of `put_in_leaf`.
 use Rattle.std.proofs.Common.{◌≡◌, ◌<◌, ◌++◌, ◌∷◌, ◌↔◌, ℕ, Bool, IsTrue, Option, Some, None, Result, Ok, Err, List, insert, length, map, get_or, set, slice_get, nat_lt, if◌then◌else◌, true, false, refl, sym, ap, ◌∙◌, subst, length-set}
-use Rattle.bforest_core.proofs.Words.{EndsIn, PutsInLeaf, Content, Leaf, Table, IsFullAt, IsUnion, IsUsed, Placed, PlacedUnder, StandsUnder, Changes, sizes, sizes_of, flat, tree_of, entry_count, entry_keys, entry_for, is_present, leaf_content, place, value_for, search_of, slot_count, with_entry, with_node}
+use Rattle.bforest_core.proofs.Words.{EndsIn, PutsInLeaf, Content, Leaf, Table, IsFullAt, IsUnion, IsUsed, Placed, PlacedUnder, StandsUnder}
+use Rattle.bforest_core.proofs.Words.{Changes, sizes, sizes_of, flat, tree_of, entry_count, entry_keys, entry_for, is_present, leaf_content}
+use Rattle.bforest_core.proofs.Words.{place, value_for, search_of, slot_count, with_entry, with_node}
 use Rattle.bforest_core.proofs.Words.{with_value_at, growth, gain_above, need_above, is_some, option_map, get_or-set_same, lt-ltb, ltb-true}
 use Rattle.bforest_nodes.specs.Content.{put_answer, with_put, with_value as content_with}
 use Rattle.bforest_nodes.specs.Entries.{with_value}
@@ -164,7 +166,11 @@ module _ {K V : Type 0} (cmp : K → K → Ordering) (most : ℕ) (table : Table
     puts-in-leaf = by_presence (is_present cmp es key) refl
 
     full_by : (b : Bool) → is_present cmp es key ≡ b → (r : Bool) → nat_lt (entry_count (leaf_content es)) most ≡ r → (index : ℕ) → answer ≡ Err index → IsFullAt most table.nodes leaf
-    full_by true here r is index err = absurd (let bad : Ok (value_for cmp es key) ≡ Err index = sym (answer_is ∙ ap (λ z. put_answer most (leaf_content es) z) (search_of-keys_of cmp es key ∙ ap (λ b. if b then Ok (place cmp es key) else Err (place cmp es key)) here) ∙ ap Ok (items-read es (place cmp es key) ∙ sym (value_for-present cmp es key here))) ∙ err in cc)
+    full_by true here r is index err =
+        absurd (let bad : Ok (value_for cmp es key) ≡ Err index =
+        sym (answer_is ∙ ap (λ z. put_answer most (leaf_content es) z)
+        (search_of-keys_of cmp es key ∙ ap (λ b. if b then Ok (place cmp es key) else Err (place cmp es key)) here)
+        ∙ ap Ok (items-read es (place cmp es key) ∙ sym (value_for-present cmp es key here))) ∙ err in cc)
     full_by false none true fits index err = absurd (let bad : Ok None ≡ Err index = sym (said none ∙ ap (λ b. if b then Ok None else Err (place cmp es key)) fits) ∙ err in cc)
     full_by false none false past index err =
         subst (λ (n : ℕ). IsFullAt most table.nodes n) e.leaf_is (put_full most table path js size (tree_of table.nodes root) at (is_placed none) 0 e.wide new key value (nat_lt (entry_count (leaf_content es)) most) (has none) (wrote none) past).0

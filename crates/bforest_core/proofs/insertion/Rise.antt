@@ -19,7 +19,9 @@ step_most true = omega arith
 step_most false = omega arith
 
 module _ {K V : Type 0} where
-  pub settle_room : (t u : Table K V) (ms js js' : List ℕ) (up size : ℕ) (rows : List (List (LevelNode K ℕ))) (a : List (K × ℕ)) (x y : K × ℕ) (b : List (K × ℕ)) (moved : Bool) → (d : Spot t ms js up size rows a x b) → length (d.q.l ++ x ∷ d.q.r) < 8 → Puts t u (get_or ms up 0) (inner_content (d.q.l ++ x ∷ y ∷ d.q.r)) →
+  pub settle_room : (t u : Table K V) (ms js js' : List ℕ) (up size : ℕ) (rows : List (List (LevelNode K ℕ))) (a : List (K × ℕ))
+      (x y : K × ℕ) (b : List (K × ℕ)) (moved : Bool) → (d : Spot t ms js up size rows a x b) → length (d.q.l ++ x ∷ d.q.r) < 8
+      → Puts t u (get_or ms up 0) (inner_content (d.q.l ++ x ∷ y ∷ d.q.r)) →
       get_or js' up 0 ≡ (if moved then suc (get_or js up 0) else get_or js up 0) → ((i : ℕ) → i ≢ up → get_or js' i 0 ≡ get_or js i 0) →
       (1 ≡ need_above (Some (length a)) (map sizes rows)) × Grown t u ms js ms js' up size size rows (a ++ x ∷ y ∷ b) (if moved then suc (length a) else length a) (gain_above (Some (length a)) (map sizes rows)) []
   settle_room t u ms js js' up size rows a x y b moved d room w j_is far =
@@ -45,7 +47,10 @@ module _ {K V : Type 0} where
               row-put inner_content t.nodes u.nodes q.before n old es q.after d.f.inside w.same w.here d.f.none,
               rows-same t.nodes u.nodes q.rest (λ m some. w.same m (ne_from_count m n (flat_map numbers q.rest) some d.f.none_rest)) ab.inside.1,
             );
-            stands = stands_here ms js' up (q.before ++ node n es ∷ q.after) q.before n (step moved + length q.l) es q.after q.rest _ d.f.solid refl refl at_is (omega (arith, length-append q.l (x ∷ y ∷ q.r), step_most moved)) (step_is moved (length (flat q.before ++ q.l)) ∙ omega (arith, length-append (flat q.before) q.l))
+            stands = stands_here ms js' up (q.before ++ node n es ∷ q.after) q.before n
+                (step moved + length q.l) es q.after q.rest _ d.f.solid refl refl at_is
+                (omega (arith, length-append q.l (x ∷ y ∷ q.r), step_most moved))
+                (step_is moved (length (flat q.before ++ q.l)) ∙ omega (arith, length-append (flat q.before) q.l))
                 (stands-same ms js ms js' (suc up) q.rest (length (heads q.before)) (λ i high. refl) (λ i high. far i (λ (e : i ≡ up). omega (arith, e, high))) q.stands);
             height = ab.height;
             apart = λ m. omega (arith, ab.apart m, c m, c2 m, ap (λ z. count m z) w.chain_is);
@@ -79,7 +84,9 @@ module _ {K V : Type 0} where
   )
 
   -- the rows from a level up, after the right half was inserted into the levels above
-  pub rise : (t u v : Table K V) (ms js ms' js' ms'' js'' : List ℕ) (up size size' : ℕ) (rows : List (List (LevelNode K ℕ))) (hs list : List (K × ℕ)) (q was p : ℕ) (key : K) (right : ℕ) (moved : Bool) (taken : List ℕ) → Above t ms js up size rows hs q → (h : Halved t u ms js ms' js' up size rows list was p key right moved) →
+  pub rise : (t u v : Table K V) (ms js ms' js' ms'' js'' : List ℕ) (up size size' : ℕ) (rows : List (List (LevelNode K ℕ)))
+      (hs list : List (K × ℕ)) (q was p : ℕ) (key : K) (right : ℕ) (moved : Bool) (taken : List ℕ) → Above t ms js up size rows hs q
+      → (h : Halved t u ms js ms' js' up size rows list was p key right moved) →
       Grown u v ms' js' ms'' js'' (suc up) size size' h.rest (heads h.before ++ (h.first.0, get_or ms up 0) ∷ (key, right) ∷ heads h.after) (if moved then suc (length (heads h.before)) else length (heads h.before)) (gain_above (Some (length (heads h.before))) (map sizes h.rest)) taken →
       Grown t v ms js ms'' js'' up size size' rows list p (gain_above (Some was) (map sizes rows)) (right ∷ taken)
   rise t u v ms js ms' js' ms'' js'' up size size' rows hs list q was p key right moved taken ab h g =
@@ -126,7 +133,9 @@ module _ {K V : Type 0} where
       }
 
   -- splitting the root adds a new root
-  pub settle_root : (t u : Table K V) (ms js ms' js' : List ℕ) (size size' left root : ℕ) (rows : List (List (LevelNode K ℕ))) (a : List (K × ℕ)) (first : K) (b : List (K × ℕ)) (key : K) (child : ℕ) (moved : Bool) → Above t ms js size size rows (a ++ (first, left) ∷ b) (length a) → Takes t u root (Inner (key ∷ []) (left ∷ child ∷ [])) →
+  pub settle_root : (t u : Table K V) (ms js ms' js' : List ℕ) (size size' left root : ℕ) (rows : List (List (LevelNode K ℕ)))
+      (a : List (K × ℕ)) (first : K) (b : List (K × ℕ)) (key : K) (child : ℕ) (moved : Bool)
+      → Above t ms js size size rows (a ++ (first, left) ∷ b) (length a) → Takes t u root (Inner (key ∷ []) (left ∷ child ∷ [])) →
       size' ≡ suc size → get_or ms' size 0 ≡ root → get_or js' size 0 ≡ (if moved then 1 else 0) → ((i : ℕ) → i ≢ size → get_or ms' i 0 ≡ get_or ms i 0) → ((i : ℕ) → i ≢ size → get_or js' i 0 ≡ get_or js i 0) →
       (taken : List ℕ) × (suc (length taken) ≡ need_above (Some (length a)) (map sizes rows)) × Grown t u ms js ms' js' size size size' rows (a ++ (first, left) ∷ (key, child) ∷ b) (if moved then suc (length a) else length a) (gain_above (Some (length a)) (map sizes rows)) taken
   settle_root t u ms js ms' js' size size' left root (row ∷ rows) a first b key child moved ab w size_is m_is j_is far_m far_j = absurd (omega (arith, ab.height))

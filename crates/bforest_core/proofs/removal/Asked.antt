@@ -99,7 +99,9 @@ module _ {K V : Type 0} where
     pub low_key_asks : (i : ℕ) → i < get_or indices up 0 → KeyAt t (get_or path up r) i
     pub key_asks : (m i : ℕ) → Counts t (get_or path up r) m → i + 1 < m → KeyAt t (get_or path up r) i
 
-  pub seen : (t : Table K V) (path indices : List ℕ) (up size : ℕ) (rows : List (List (LevelNode K ℕ))) (a : List (K × ℕ)) (x : K × ℕ) (b : List (K × ℕ)) → Above t path indices up size rows (a ++ x ∷ b) (length a) → up < size → (r : ℕ) → length path ≡ 17 → size ≤ 17 → Seen t path indices up size rows a x b r
+  pub seen : (t : Table K V) (path indices : List ℕ) (up size : ℕ) (rows : List (List (LevelNode K ℕ))) (a : List (K × ℕ)) (x : K × ℕ)
+      (b : List (K × ℕ)) → Above t path indices up size rows (a ++ x ∷ b) (length a) → up < size → (r : ℕ) → length path ≡ 17 → size ≤ 17
+      → Seen t path indices up size rows a x b r
   seen t path indices up size rows a x b p low r wide height =
       let d = spot t path indices up size rows a x b p low in
       let es : List (K × ℕ) = d.q.l ++ x ∷ d.q.r in

@@ -126,7 +126,9 @@ module _ {K V X : Type 0} (content : List (K × X) → Content K V) where
               let whole : (e ∷ es) ++ f ∷ fs ≡ (h.first ∷ h.others) ++ c.x ∷ c.r = c.es_is ∙ ap (λ z. z ++ c.x ∷ c.r) h.es_is in
               let left : suc (length h.others) ≡ both - both / 2 = ap length (sym h.es_is) ∙ c.place_is in
               let cuts : IsCut (content ((h.first ∷ h.others) ++ c.x ∷ c.r)) (both - both / 2) b.new_left w.0 b.new_right =
-              subst (λ (z : ℕ). IsCut (content ((h.first ∷ h.others) ++ c.x ∷ c.r)) (left_share z) b.new_left w.0 b.new_right) total (subst (λ (z : Content K V). IsCut z (left_share (entry_count (content (e ∷ es)) + entry_count (content (f ∷ fs)))) b.new_left w.0 b.new_right) (s.joins e es f fs ∙ ap content whole) w.2) in
+              subst (λ (z : ℕ). IsCut (content ((h.first ∷ h.others) ++ c.x ∷ c.r)) (left_share z) b.new_left w.0 b.new_right) total
+              (subst (λ (z : Content K V). IsCut z (left_share (entry_count (content (e ∷ es)) + entry_count (content (f ∷ fs))))
+              b.new_left w.0 b.new_right) (s.joins e es f fs ∙ ap content whole) w.2) in
               let p = s.cuts h.first h.others c.x c.r (both - both / 2) b.new_left b.new_right w.0 left cuts in
               record {
                 more = more;

@@ -119,7 +119,9 @@ module _ {K V : Type 0} (most : ℕ) (t : Table K V) (path indices : List ℕ) (
             let c2 = λ (m : ℕ). count-append m (numbers tree.leaves) (flat_map numbers tree.above) in
             record {
               flat_is = sym (ap (λ z. remove (flat z) place) leaves_are ∙ ap (λ z. remove (flat row) z) first ∙ remove_flat front n [] f.x [] [] ∙ flat-append front (node n [] ∷ []) ∙ append-nil (flat front));
-              sizes_are = ap (λ z. sizes front ∷ z) r.sizes_are ∙ ap (λ z. sizes front ∷ loss_above (Some z) (map sizes tree.above)) len ∙ ap (λ z. z ∷ loss_above (Some (length front)) (map sizes tree.above)) (sym (append-nil (sizes front))) ∙ sym (ap (λ z. z.1 ∷ loss_above z.0 (map sizes tree.above)) lost);
+              sizes_are = ap (λ z. sizes front ∷ z) r.sizes_are ∙ ap (λ z. sizes front ∷ loss_above (Some z) (map sizes tree.above)) len
+                  ∙ ap (λ z. z ∷ loss_above (Some (length front)) (map sizes tree.above)) (sym (append-nil (sizes front)))
+                  ∙ sym (ap (λ z. z.1 ∷ loss_above z.0 (map sizes tree.above)) lost);
               half = f.half;
               leaves_fit = fit_solid (half_of most) most f.half front f.solid;
               leaves_in = row-same leaf_content v.nodes u.nodes front (λ m some. r.frees.others m (omega (arith, some, apart m, c1 m))) in_v;
@@ -141,7 +143,10 @@ module _ {K V : Type 0} (most : ℕ) (t : Table K V) (path indices : List ℕ) (
           collapse_asks = (dropped.1.rows', heads f.before, up)
 
           -- the tree after roots with a single child were discarded: the path is at the end
-          pub drop_removed : (u2 : Table K V) (path' indices' : List ℕ) (size2 root' : ℕ) → ((rows : List (List (LevelNode K ℕ))) (list : List (K × ℕ)) → UpTo u size rows list root → (gone : List ℕ) × Trimmed u u2 size size2 rows list root root' gone) → Removed most t u2 path (λ z. IsPathAt path' indices' 0 z place) tree place root'
+          pub drop_removed : (u2 : Table K V) (path' indices' : List ℕ) (size2 root' : ℕ)
+              → ((rows : List (List (LevelNode K ℕ))) (list : List (K × ℕ)) → UpTo u size rows list root → (gone : List ℕ)
+              × Trimmed u u2 size size2 rows list root root' gone)
+              → Removed most t u2 path (λ z. IsPathAt path' indices' 0 z place) tree place root'
           drop_removed u2 path' indices' size2 root' trims =
               let g = trims dropped.1.rows' (heads f.before) up in
               trimmed_removed most t u u2 path indices size tree place root f.before dropped.1.rows' (suc dropped.0) size size2 root' g.0 (λ z. IsPathAt path' indices' 0 z place) s untrimmed root_is g.1 refl place_is

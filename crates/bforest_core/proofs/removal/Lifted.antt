@@ -53,7 +53,9 @@ module _ {K V : Type 0} where
   above_same t u path indices up size rows list p same apart a = record { stacked = a.stacked; inside = rows-same t.nodes u.nodes rows same a.inside; stands = a.stands; height = a.height; apart = apart }
 
   -- the rows above, cut at a node of the level
-  pub headed : {X : Type 0} (t : Table K V) (path indices : List ℕ) (up size : ℕ) (before : List (LevelNode K X)) (n : ℕ) (es : List (K × X)) (after : List (LevelNode K X)) (rest : List (List (LevelNode K ℕ))) (h : HeadIs n es) → Above t path indices up size rest (heads (before ++ node n es ∷ after)) (length (heads before)) →
+  pub headed : {X : Type 0} (t : Table K V) (path indices : List ℕ) (up size : ℕ) (before : List (LevelNode K X)) (n : ℕ)
+      (es : List (K × X)) (after : List (LevelNode K X)) (rest : List (List (LevelNode K ℕ))) (h : HeadIs n es)
+      → Above t path indices up size rest (heads (before ++ node n es ∷ after)) (length (heads before)) →
       Above t path indices up size rest (heads before ++ (h.first.0, n) ∷ heads after) (length (heads before))
   headed t path indices up size before n es after rest h p =
       subst (λ (z : List (K × ℕ)). Above t path indices up size rest z (length (heads before))) (heads-append before (node n es ∷ after) ∙ ap (λ z. heads before ++ (head_of n z ++ heads after)) h.es_is) p
@@ -130,7 +132,10 @@ module _ {K V : Type 0} where
             height = omega (arith, r.above.height);
             apart = λ m. omega (arith, d.whole.apart m, r.numbers_are m, c m, c2 m, c3 m, c4 m);
           };
-          sizes_are = ap (λ z. z ∷ map sizes r.rows') (sizes-append q.before (node n es ∷ after) ∙ ap (λ z. sizes q.before ++ z ∷ sizes after) len ∙ ap (λ z. sizes q.before ++ length old ∷ z) sizes_same ∙ sym (sizes-append q.before (node n old ∷ q.after))) ∙ ap (λ z. sizes (q.before ++ node n old ∷ q.after) ∷ z) r.sizes_are
+          sizes_are = ap (λ z. z ∷ map sizes r.rows')
+              (sizes-append q.before (node n es ∷ after) ∙ ap (λ z. sizes q.before ++ z ∷ sizes after) len
+              ∙ ap (λ z. sizes q.before ++ length old ∷ z) sizes_same ∙ sym (sizes-append q.before (node n old ∷ q.after)))
+              ∙ ap (λ z. sizes (q.before ++ node n old ∷ q.after) ∷ z) r.sizes_are
               ∙ ap (λ z. map sizes z) (sym q.rows_are);
           numbers_are = λ m. omega (arith, c m, c2 m, c3 m, r.numbers_are m, ap (λ z. count m (flat_map numbers z)) q.rows_are);
           frees = rw q.rows_are frees;
@@ -164,6 +169,8 @@ module _ {K V : Type 0} where
         let len : length es ≡ length old = omega (arith, ap length es_is, length-append p (y ∷ s), length-append p ((key, y.1) ∷ s)) in
         let head : head_of n old ≡ head_of n es = ap (λ z. head_of n z) es_is ∙ head-kept n p (y ∷ s) ((key, y.1) ∷ s) (omega (arith, p_is)) in
         let above = above_written t u n (inner_content es) path indices (suc up) size q.rest (heads (q.before ++ node n old ∷ q.after)) (length (heads q.before)) w d.f.none_rest rows_above in
-        lifted u u es q.after (heads (q.before ++ node n old ∷ q.after)) rest len refl refl flat_is (heads-put q.before n old es q.after head) (omega (arith, d.f.fit.0, len), omega (arith, d.f.fit.1, len), d.f.fit.2) (row-put inner_content t.nodes u.nodes q.before n old es q.after d.f.inside w.same w.here d.f.none)
+        lifted u u es q.after (heads (q.before ++ node n old ∷ q.after)) rest len refl refl flat_is
+        (heads-put q.before n old es q.after head) (omega (arith, d.f.fit.0, len), omega (arith, d.f.fit.1, len), d.f.fit.2)
+        (row-put inner_content t.nodes u.nodes q.before n old es q.after d.f.inside w.same w.here d.f.none)
         (frees-puts t u n (inner_content es) (numbers (q.before ++ node n old ∷ q.after) ++ flat_map numbers q.rest) (let c = counts n q.before n old q.after q.rest t.chain in omega (arith, c, count-same n (numbers q.after))) w)
         (rebuilt_same u path indices (suc up) size q.rest (heads (q.before ++ node n old ∷ q.after)) (length (heads q.before)) above)

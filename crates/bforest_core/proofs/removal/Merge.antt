@@ -56,7 +56,10 @@ pub record Settled {K V X : Type 0} (content : List (K × X) → Content K V) (h
 
 module _ {K V X : Type 0} (content : List (K × X) → Content K V) (half most : ℕ) (t : Table K V) (path indices : List ℕ) (up size : ℕ) (before : List (LevelNode K X)) (n : ℕ) (es : List (K × X)) (after : List (LevelNode K X)) (rest : List (List (LevelNode K ℕ))) where
   -- a level whose node stays is rebalanced
-  pub healed_settled : (v : Table K V) (path' indices' : List ℕ) (h : Healed content half most t v path indices path' indices' up size before n es after rest) → Settled content half most t v path' indices' up size before n es after rest h.before' (h.before' ++ node h.number' h.entries' ∷ h.after') h.rest' []
+  pub healed_settled : (v : Table K V) (path' indices' : List ℕ)
+      (h : Healed content half most t v path indices path' indices' up size before n es after rest)
+      → Settled content half most t v path' indices' up size before n es after rest h.before'
+      (h.before' ++ node h.number' h.entries' ∷ h.after') h.rest' []
   healed_settled v path' indices' h =
       let s = rebalanced most (length es) (sizes after) in
       record {
@@ -76,7 +79,9 @@ module _ {K V X : Type 0} (content : List (K × X) → Content K V) (half most :
 
     -- a level is rebalanced once the rows above lost the entry of a merged node
     pub joined_settled : (v : Table K V) (path' indices' freed : List ℕ) (r : Rebuilt w v path1 indices1 path' indices' (suc up) size rest (heads before ++ (j.first.0, j.right) ∷ heads j.after') (length (heads before)) (loss_above (Some (length (heads before))) (map sizes rest)) freed) →
-        Distinct ((numbers (before ++ node n es ∷ after) ++ flat_map numbers rest) ++ t.chain) → length (heads before) ≡ length before → Settled content half most t v path' indices' up size before n es after rest before (before ++ node j.right (es ++ j.right_entries) ∷ j.after') r.rows' (freed ++ n ∷ [])
+        Distinct ((numbers (before ++ node n es ∷ after) ++ flat_map numbers rest) ++ t.chain) → length (heads before) ≡ length before
+        → Settled content half most t v path' indices' up size before n es after rest before
+        (before ++ node j.right (es ++ j.right_entries) ∷ j.after') r.rows' (freed ++ n ∷ [])
     joined_settled v path' indices' freed r apart full =
         let both : List (K × X) = es ++ j.right_entries in
         let row : List (LevelNode K X) = before ++ node j.right both ∷ j.after' in
@@ -98,8 +103,13 @@ module _ {K V X : Type 0} (content : List (K × X) → Content K V) (half most :
 
 module _ {K V : Type 0} (t u v : Table K V) (path indices path' indices' : List ℕ) (up size : ℕ) (rows : List (List (LevelNode K ℕ))) (hs : List (K × ℕ)) (p : ℕ) (l : Loosened t u path indices up size rows hs p) where
   -- the rebalanced level and the rows above it
-  merged : (front : List (LevelNode K ℕ)) (m : ℕ) (es : List (K × ℕ)) (back : List (LevelNode K ℕ)) (rest : List (List (LevelNode K ℕ))) (freed : List ℕ) → Settled inner_content 4 8 u v path' indices' up size l.before (get_or path up 0) l.entries l.after l.rest front (front ++ node m es ∷ back) rest freed →
-      get_or path' up 0 ≡ m → get_or indices' up 0 < length es → length (flat front) + get_or indices' up 0 ≡ length (flat l.before) + get_or indices up 0 → SameBelow up path path' → SameBelow up indices indices' → top_of path' size ≡ top_of path size → Rebuilt t v path indices path' indices' up size rows hs p (loss_above (Some p) (map sizes rows)) freed
+  merged : (front : List (LevelNode K ℕ)) (m : ℕ) (es : List (K × ℕ)) (back : List (LevelNode K ℕ)) (rest : List (List (LevelNode K ℕ)))
+      (freed : List ℕ) → Settled inner_content 4 8 u v path' indices' up size l.before (get_or path up 0) l.entries l.after l.rest front
+      (front ++ node m es ∷ back) rest freed →
+      get_or path' up 0 ≡ m → get_or indices' up 0 < length es
+      → length (flat front) + get_or indices' up 0 ≡ length (flat l.before) + get_or indices up 0 → SameBelow up path path'
+      → SameBelow up indices indices' → top_of path' size ≡ top_of path size
+      → Rebuilt t v path indices path' indices' up size rows hs p (loss_above (Some p) (map sizes rows)) freed
   merged front m es back rest freed k m_is within place below below_too top =
       let row : List (LevelNode K ℕ) = front ++ node m es ∷ back in
       let own : List ℕ = numbers (l.before ++ node (get_or path up 0) l.entries ∷ l.after) ++ flat_map numbers l.rest in

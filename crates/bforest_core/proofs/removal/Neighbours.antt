@@ -20,7 +20,10 @@ second_key (z ∷ l) x y r = second (λ w. w.0) l x y r
 
 module _ {K V : Type 0} where
   -- the rows one level up, cut at the path's node
-  pub up_above : (t : Table K V) (path indices : List ℕ) (up size : ℕ) (rows : List (List (LevelNode K ℕ))) (a : List (K × ℕ)) (x : K × ℕ) (b : List (K × ℕ)) → (d : Spot t path indices up size rows a x b) → (k : K) × Above t path indices (suc up) size d.q.rest (heads d.q.before ++ (k, get_or path up 0) ∷ heads d.q.after) (length (heads d.q.before))
+  pub up_above : (t : Table K V) (path indices : List ℕ) (up size : ℕ) (rows : List (List (LevelNode K ℕ))) (a : List (K × ℕ)) (x : K × ℕ)
+      (b : List (K × ℕ)) → (d : Spot t path indices up size rows a x b) → (k : K)
+      × Above t path indices (suc up) size d.q.rest (heads d.q.before ++ (k, get_or path up 0) ∷ heads d.q.after)
+      (length (heads d.q.before))
   up_above t path indices up size rows a x b d =
       let h = head-is (get_or path up 0) (d.q.l ++ x ∷ d.q.r) (omega (arith, d.count_is)) in
       (h.first.0, headed t path indices (suc up) size d.q.before (get_or path up 0) (d.q.l ++ x ∷ d.q.r) d.q.after d.q.rest h (rows_above t path indices up size rows a x b d))

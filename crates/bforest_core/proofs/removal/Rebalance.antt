@@ -41,7 +41,10 @@ module _ {K V X : Type 0} (content : List (K × X) → Content K V) (half most :
   module _ (es : List (K × X)) (after : List (LevelNode K X)) (rest : List (List (LevelNode K ℕ))) (p : OnLevel content half most t path indices up size before n es after rest) (why : (half ≤ length es) ⊎ (after ≡ [])) where
     -- the level is unchanged, and the path leads to a node of the row
     settle_same : (path' indices' : List ℕ) (front : List (LevelNode K X)) (m : ℕ) (fs : List (K × X)) (back : List (LevelNode K X)) → front ++ node m fs ∷ back ≡ before ++ node n es ∷ after → Above t path' indices' (suc up) size rest (heads (front ++ node m fs ∷ back)) (length (heads front)) →
-        get_or path' up 0 ≡ m → get_or indices' up 0 < length fs → length (flat front) + get_or indices' up 0 ≡ length (flat before) + get_or indices up 0 → SameBelow up path path' → SameBelow up indices indices' → top_of path' size ≡ top_of path size → Healed content half most t t path indices path' indices' up size before n es after rest
+        get_or path' up 0 ≡ m → get_or indices' up 0 < length fs
+        → length (flat front) + get_or indices' up 0 ≡ length (flat before) + get_or indices up 0 → SameBelow up path path'
+        → SameBelow up indices indices' → top_of path' size ≡ top_of path size
+        → Healed content half most t t path indices path' indices' up size before n es after rest
     settle_same path' indices' front m fs back same above m_is within place_is below below_too top_is =
         let outcome : rebalanced most (length es) (sizes after) ≡ (false, length es ∷ sizes after) = judged half most es after hm.lo p.some why in
         record {
@@ -81,7 +84,9 @@ module _ {K V X : Type 0} (content : List (K × X) → Content K V) (half most :
     above_both = subst (λ (z : List (K × ℕ)). Above t path indices (suc up) size rest z (length (heads before))) (heads-append before (node n (e ∷ es) ∷ node q (f ∷ fs) ∷ after)) p.above
 
     -- the path moves from past the node to the next node
-    pub settle_move : (path' indices' : List ℕ) → half ≤ length (e ∷ es) → get_or indices up 0 ≡ length (e ∷ es) → Above t path' indices' (suc up) size rest (heads before ++ (e.0, n) ∷ (f.0, q) ∷ heads after) (suc (length (heads before))) × (get_or path' up 0 ≡ q) → get_or indices' up 0 ≡ 0 → SameBelow up path path' →
+    pub settle_move : (path' indices' : List ℕ) → half ≤ length (e ∷ es) → get_or indices up 0 ≡ length (e ∷ es)
+        → Above t path' indices' (suc up) size rest (heads before ++ (e.0, n) ∷ (f.0, q) ∷ heads after) (suc (length (heads before)))
+        × (get_or path' up 0 ≡ q) → get_or indices' up 0 ≡ 0 → SameBelow up path path' →
         SameBelow up indices indices' → top_of path' size ≡ top_of path size → Healed content half most t t path indices path' indices' up size before n (e ∷ es) (node q (f ∷ fs) ∷ after) rest
     settle_move path' indices' healthy e_is above z_is below below_too top_is =
         let front : List (LevelNode K X) = before ++ node n (e ∷ es) ∷ [] in
@@ -131,7 +136,10 @@ module _ {K V X : Type 0} (content : List (K × X) → Content K V) (half most :
           let c = λ (m : ℕ). counts m before n (e ∷ es) (node q (f ∷ fs) ∷ after) rest t.chain in
           let c2 = λ (m : ℕ). count-row m before n (s.x ∷ s.xs) (node q (s.y ∷ s.ys) ∷ after) in
           let in_u : RowIn content u.nodes row2 = row-put_two content t.nodes u.nodes before n q (e ∷ es) (f ∷ fs) (s.x ∷ s.xs) (s.y ∷ s.ys) after p.inside s.two.same s.two.here s.two.there apart.1 apart.2 in
-          let flats : flat row2 ≡ flat row = flat-append before (node n (s.x ∷ s.xs) ∷ node q (s.y ∷ s.ys) ∷ after) ∙ ap (λ z. flat before ++ z) (sym (append_assoc (s.x ∷ s.xs) (s.y ∷ s.ys) (flat after)) ∙ ap (λ z. z ++ flat after) (sym s.whole) ∙ append_assoc (e ∷ es) (f ∷ fs) (flat after)) ∙ sym (flat-append before (node n (e ∷ es) ∷ node q (f ∷ fs) ∷ after)) in
+          let flats : flat row2 ≡ flat row = flat-append before (node n (s.x ∷ s.xs) ∷ node q (s.y ∷ s.ys) ∷ after)
+          ∙ ap (λ z. flat before ++ z)
+          (sym (append_assoc (s.x ∷ s.xs) (s.y ∷ s.ys) (flat after)) ∙ ap (λ z. z ++ flat after) (sym s.whole)
+          ∙ append_assoc (e ∷ es) (f ∷ fs) (flat after)) ∙ sym (flat-append before (node n (e ∷ es) ∷ node q (f ∷ fs) ∷ after)) in
           let hs : heads before ++ (e.0, n) ∷ (key, q) ∷ heads after ≡ heads row2 =
           ap (λ z. heads before ++ (z, n) ∷ (key, q) ∷ heads after) (ap (λ z. z.0) x_is) ∙ ap (λ z. heads before ++ (s.x.0, n) ∷ (z, q) ∷ heads after) s.key_is ∙ sym (heads-append before (node n (s.x ∷ s.xs) ∷ node q (s.y ∷ s.ys) ∷ after)) in
           record {

@@ -78,7 +78,9 @@ module _ {K V X : Type 0} (content : List (K × X) → Content K V) (half most c
     past_asks = (rest, heads before, (named.first.0, n), (behind.2.f.0, behind.1), heads behind.2.rest, above_past)
 
     -- entering the next node leaves the level rebalanced
-    pub past_heals : (path' indices' : List ℕ) → half ≤ m → Enters t path indices path' indices' up size → get_or indices' up 0 ≡ 0 → SameBelow up path path' → SameBelow up indices indices' → top_of path' size ≡ top_of path size → Healed content half most t t path indices path' indices' up size before n es after rest
+    pub past_heals : (path' indices' : List ℕ) → half ≤ m → Enters t path indices path' indices' up size → get_or indices' up 0 ≡ 0
+        → SameBelow up path path' → SameBelow up indices indices' → top_of path' size ≡ top_of path size
+        → Healed content half most t t path indices path' indices' up size before n es after rest
     past_heals path' indices' healthy moved first below below_too top_is =
         let d = behind.2 in
         let len : m ≡ length (named.first ∷ named.others) = count_read m value ∙ ap length named.es_is in

@@ -130,7 +130,9 @@ module _ {K V : Type 0} (most : ℕ) (old mid : Table K V) (path indices : List 
 
   -- the tree after the leaf and the rows above it were rebalanced
   settled : (new : Table K V) (path' indices' : List ℕ) (front : List (LevelNode K V)) (m : ℕ) (es : List (K × V)) (back : List (LevelNode K V)) (rest : List (List (LevelNode K ℕ))) (freed : List ℕ) →
-      Settled leaf_content (half_of most) most mid new path' indices' 0 size l.before (get_or path 0 0) l.entries l.after l.rest front (front ++ node m es ∷ back) rest freed → get_or path' 0 0 ≡ m → 1 ≤ length es → top_of path' size ≡ top_of path size → Untrimmed most old new tree place (front ++ node m es ∷ back) rest freed
+      Settled leaf_content (half_of most) most mid new path' indices' 0 size l.before (get_or path 0 0) l.entries l.after l.rest front
+      (front ++ node m es ∷ back) rest freed → get_or path' 0 0 ≡ m → 1 ≤ length es → top_of path' size ≡ top_of path size
+      → Untrimmed most old new tree place (front ++ node m es ∷ back) rest freed
   settled new path' indices' front m es back rest freed k m_is some top =
       let row : List (LevelNode K V) = front ++ node m es ∷ back in
       let lost =
@@ -206,7 +208,14 @@ module _ {K V : Type 0} (most : ℕ) (old mid : Table K V) (path indices : List 
         let entry_is : get_or indices' 0 0 ≡ get_or indices 0 0 = r.entries_below 0 (omega arith) ∙ j.entry_is in
         let fits : FitRow (half_of most) most (node j.right j.right_entries ∷ j.after') = subst (λ (z : List (LevelNode K V)). FitRow (half_of most) most z) j.after_is l.fits in
         let st : StandsAbove path' indices' 1 (t.rows' ++ t.discarded) (length (heads l.before)) = subst (λ (z : List (List (LevelNode K ℕ))). StandsAbove path' indices' 1 z (length (heads l.before))) t.rows_are r.above.stands in
-        let low : length (heads l.before) < length (heads row2) = omega (arith, full, ap length (heads-append l.before (node j.right both ∷ j.after')), length-append (heads l.before) (head_of j.right both ++ heads j.after'), ap (λ z. length (head_of j.right (z ++ j.right_entries) ++ heads j.after')) j.entries_are) in
+        let low : length (heads l.before) < length (heads row2) =
+        omega (
+          arith,
+          full,
+          ap length (heads-append l.before (node j.right both ∷ j.after')),
+          length-append (heads l.before) (head_of j.right both ++ heads j.after'),
+          ap (λ z. length (head_of j.right (z ++ j.right_entries) ++ heads j.after')) j.entries_are,
+        ) in
         let below = stands-below path' indices' 1 (heads row2) t.rows' t.discarded (length (heads l.before)) low t.stacked st in
         let more : 0 < length j.right_entries = omega (arith, fits.0, least-pos (half_of most) half j.after') in
         record {
@@ -219,7 +228,17 @@ module _ {K V : Type 0} (most : ℕ) (old mid : Table K V) (path indices : List 
     -- a row of as many leaves as the tree has as many heads
     as_many : (row : List (LevelNode K V)) → FitRow (half_of most) most row → length row ≡ length l.before + suc (length l.after) → length (heads row) ≡ length (heads tree.leaves)
     as_many row fit len =
-        omega (arith, fit_full (half_of most) most half row fit, fit_full (half_of most) most half tree.leaves s.fit.leaves_fit, length-sizes tree.leaves, ap length l.sizes_were, length-append (sizes l.before) (suc (length l.entries) ∷ sizes l.after), length-sizes l.before, length-sizes l.after, len)
+        omega (
+          arith,
+          fit_full (half_of most) most half row fit,
+          fit_full (half_of most) most half tree.leaves s.fit.leaves_fit,
+          length-sizes tree.leaves,
+          ap length l.sizes_were,
+          length-append (sizes l.before) (suc (length l.entries) ∷ sizes l.after),
+          length-sizes l.before,
+          length-sizes l.after,
+          len,
+        )
 
     -- the removal is complete where the leaf is still half full or the last
     pub kept_removed : (Now : Tree K V → Type 0) → (half_of most ≤ length l.entries) ⊎ (l.after ≡ []) → Now (record { leaves = l.before ++ node (get_or path 0 0) l.entries ∷ l.after; above = l.rest }) → Removed most old mid path Now tree place root
@@ -232,13 +251,24 @@ module _ {K V : Type 0} (most : ℕ) (old mid : Table K V) (path indices : List 
     pub past_removed : l.after ≡ [] → get_or indices 0 0 ≡ length l.entries → Removed most old mid path (λ z. IsPathAt path indices 0 z place) tree place root
     past_removed none last =
         let n = get_or path 0 0 in
-        let end : place ≡ length (flat (l.before ++ node n l.entries ∷ l.after)) = omega (arith, l.place_is, last, ap length (flat-append l.before (node n l.entries ∷ l.after)), length-append (flat l.before) (l.entries ++ flat l.after), length-append l.entries (flat l.after), ap (λ z. length (flat z)) none) in
+        let end : place ≡ length (flat (l.before ++ node n l.entries ∷ l.after)) =
+        omega (
+          arith,
+          l.place_is,
+          last,
+          ap length (flat-append l.before (node n l.entries ∷ l.after)),
+          length-append (flat l.before) (l.entries ++ flat l.after),
+          length-append l.entries (flat l.after),
+          ap (λ z. length (flat z)) none,
+        ) in
         kept_removed (λ z. IsPathAt path indices 0 z place) (inr none) end
 
     -- the path is at an entry, and the leaf was rebalanced
     module _ (low : get_or indices 0 0 < length (l.entries ++ flat l.after)) where
       -- the removal is complete where the leaf stays
-      pub healed_removed : (new : Table K V) (path' indices' : List ℕ) (size1 : ℕ) → ((before : List (LevelNode K V)) (n : ℕ) (es : List (K × V)) (after : List (LevelNode K V)) (rest : List (List (LevelNode K ℕ))) → OnLevel leaf_content (half_of most) most mid path indices 0 size before n es after rest →
+      pub healed_removed : (new : Table K V) (path' indices' : List ℕ) (size1 : ℕ)
+          → ((before : List (LevelNode K V)) (n : ℕ) (es : List (K × V)) (after : List (LevelNode K V)) (rest : List (List (LevelNode K ℕ)))
+          → OnLevel leaf_content (half_of most) most mid path indices 0 size before n es after rest →
           Healed leaf_content (half_of most) most mid new path indices path' indices' 0 size before n es after rest) →
           size1 ≡ size → Removed most old new path (λ z. IsPathAt path' indices' size1 z place) tree place root
       healed_removed new path' indices' size1 heals size_is =
@@ -253,7 +283,9 @@ module _ {K V : Type 0} (most : ℕ) (old mid : Table K V) (path indices : List 
 
       -- the leaf was merged into its neighbour
       module _ (mid2 : Table K V) (path1 indices1 : List ℕ) (size1 : ℕ) (size_is : size1 ≡ size)
-          (joins : (before : List (LevelNode K V)) (n : ℕ) (es : List (K × V)) (after : List (LevelNode K V)) (rest : List (List (LevelNode K ℕ))) → OnLevel leaf_content (half_of most) most mid path indices 0 size before n es after rest → Joined leaf_content (half_of most) most mid mid2 path indices path1 indices1 0 size before n es after rest) where
+          (joins : (before : List (LevelNode K V)) (n : ℕ) (es : List (K × V)) (after : List (LevelNode K V))
+          (rest : List (List (LevelNode K ℕ))) → OnLevel leaf_content (half_of most) most mid path indices 0 size before n es after rest
+          → Joined leaf_content (half_of most) most mid mid2 path indices path1 indices1 0 size before n es after rest) where
         abbrev j : Joined leaf_content (half_of most) most mid mid2 path indices path1 indices1 0 size l.before (get_or path 0 0) l.entries l.after l.rest
         j = joins l.before (get_or path 0 0) l.entries l.after l.rest (on_leaf most old mid path indices size tree place l low)
 
@@ -281,7 +313,9 @@ module _ {K V : Type 0} (most : ℕ) (old mid : Table K V) (path indices : List 
           collapse_asks = (rest.1.rows', heads (l.before ++ node j.right (l.entries ++ j.right_entries) ∷ j.after'), up)
 
           -- the removal is complete after roots with a single child were discarded
-          pub joined_removed : (new2 : Table K V) (path2 indices2 : List ℕ) (size3 root' : ℕ) → ((rows : List (List (LevelNode K ℕ))) (list : List (K × ℕ)) → UpTo new size2 rows list root → (gone : List ℕ) × Trimmed new new2 size2 size3 rows list root root' gone) → path2 ≡ path' → indices2 ≡ indices' →
+          pub joined_removed : (new2 : Table K V) (path2 indices2 : List ℕ) (size3 root' : ℕ)
+              → ((rows : List (List (LevelNode K ℕ))) (list : List (K × ℕ)) → UpTo new size2 rows list root → (gone : List ℕ)
+              × Trimmed new new2 size2 size3 rows list root root' gone) → path2 ≡ path' → indices2 ≡ indices' →
               Removed most old new2 path (λ z. IsPathAt path2 indices2 size3 z place) tree place root'
           joined_removed new2 path2 indices2 size3 root' trims path_is indices_is =
               let t = trims rest.1.rows' _ up in

@@ -44,7 +44,9 @@ last_heads before o = ap (λ z. heads z) o.is ∙ heads-append o.init (node o.nu
 
 module _ {K V : Type 0} where
   -- the rows above a level, after its last node was freed
-  pub above_freed : {X : Type 0} (t v : Table K V) (path indices : List ℕ) (up size n : ℕ) (before : List (LevelNode K X)) (x : K × X) (rest : List (List (LevelNode K ℕ))) (o : LastOf before) → Distinct ((numbers (before ++ node n (x ∷ []) ∷ []) ++ flat_map numbers rest) ++ t.chain) → v ≡ with_freed t n →
+  pub above_freed : {X : Type 0} (t v : Table K V) (path indices : List ℕ) (up size n : ℕ) (before : List (LevelNode K X)) (x : K × X)
+      (rest : List (List (LevelNode K ℕ))) (o : LastOf before)
+      → Distinct ((numbers (before ++ node n (x ∷ []) ∷ []) ++ flat_map numbers rest) ++ t.chain) → v ≡ with_freed t n →
       Above t path indices up size rest (heads (before ++ node n (x ∷ []) ∷ [])) (length (heads before)) → Above v path indices up size rest (heads o.init ++ (o.w.0, o.number) ∷ (x.0, n) ∷ []) (suc (length (heads o.init)))
   above_freed t v path indices up size n before x rest o apart is p =
       let c = λ (m : ℕ). counts m before n (x ∷ []) [] rest t.chain in
@@ -128,13 +130,18 @@ module _ {K V : Type 0} where
           let p = rows_above t path indices up size rows a x [] d in
           above_freed t v path indices (suc up) size (get_or path up 0) d.q.before x d.q.rest front (rw l_none at apart) v_is (rw (l_none, e.0, e.1) at p)
 
-      drop_empty : (u : Table K V) (freed : List ℕ) → Dropped v u path size d.q.rest (heads front.init ++ (front.w.0, front.number) ∷ []) (loss_above (Some (suc (length (heads front.init)))) (map sizes d.q.rest)) freed → Dropped t u path size rows a (loss_above (Some (length a)) (map sizes rows)) (freed ++ get_or path up 0 ∷ [])
+      drop_empty : (u : Table K V) (freed : List ℕ)
+          → Dropped v u path size d.q.rest (heads front.init ++ (front.w.0, front.number) ∷ [])
+          (loss_above (Some (suc (length (heads front.init)))) (map sizes d.q.rest)) freed
+          → Dropped t u path size rows a (loss_above (Some (length a)) (map sizes rows)) (freed ++ get_or path up 0 ∷ [])
       drop_empty u freed r =
           let q = d.q in
           let n = get_or path up 0 in
           let hs = last_heads q.before front in
           let len : length q.before ≡ suc (length (heads front.init)) = omega (arith, Solid-full 4 8 (omega arith) q.before d.f.solid, ap length hs, length-append (heads front.init) ((front.w.0, front.number) ∷ [])) in
-          let in_v : RowIn inner_content v.nodes q.before = row-same inner_content t.nodes v.nodes q.before (λ m some. freed_other t v n v_is m (ne_from_count m n (numbers q.before) some (omega (arith, known.none)))) (row-split inner_content t.nodes q.before (node n (q.l ++ x ∷ []) ∷ []) known.inside).0 in
+          let in_v : RowIn inner_content v.nodes q.before = row-same inner_content t.nodes v.nodes q.before
+          (λ m some. freed_other t v n v_is m (ne_from_count m n (numbers q.before) some (omega (arith, known.none))))
+          (row-split inner_content t.nodes q.before (node n (q.l ++ x ∷ []) ∷ []) known.inside).0 in
           let c = λ (m : ℕ). counts m q.before n (q.l ++ x ∷ []) [] q.rest t.chain in
           record {
             rows' = q.before ∷ r.rows';

@@ -49,7 +49,11 @@ module _ {K V : Type 0} where
           };
           list_is = flat_at t path indices up size rows a (k, m) ((k2, n) ∷ b) d es ((k, n) ∷ b) after flat_is;
           place_is = place_at t path indices up size rows a (k, m) ((k2, n) ∷ b) d;
-          sizes_were = ap (λ z. map sizes z) q.rows_are ∙ ap (λ z. z ∷ map sizes q.rest) (sizes-append q.before (node num old ∷ q.after) ∙ ap (λ z. sizes q.before ++ z ∷ sizes q.after) len ∙ ap (λ z. sizes q.before ++ suc (length es) ∷ z) (sym sizes_same)) ∙ ap (λ z. (sizes q.before ++ suc (length es) ∷ sizes after) ∷ z) (sym r.sizes_are);
+          sizes_were = ap (λ z. map sizes z) q.rows_are
+              ∙ ap (λ z. z ∷ map sizes q.rest)
+              (sizes-append q.before (node num old ∷ q.after) ∙ ap (λ z. sizes q.before ++ z ∷ sizes q.after) len
+              ∙ ap (λ z. sizes q.before ++ suc (length es) ∷ z) (sym sizes_same))
+              ∙ ap (λ z. (sizes q.before ++ suc (length es) ∷ sizes after) ∷ z) (sym r.sizes_are);
           numbers_are = λ i. omega (arith, c i, c2 i, c3 i, r.numbers_are i, ap (λ z. count i (flat_map numbers z)) q.rows_are);
           frees = rw q.rows_are (frees-after t v u own own [] (λ i none. none) (frees-wider t v (flat_map numbers q.rest) own [] (λ i none. omega (arith, none, c i)) r.frees) (frees-puts v u num (inner_content es) own (omega (arith, c num, count-same num (numbers q.after))) w));
         }
@@ -86,7 +90,9 @@ module _ {K V : Type 0} where
       moved_key key is = some_same key k (sym is ∙ ap (λ w. slice_get (drop 1 (entry_keys w)) (get_or indices up 0 - 1)) old_is ∙ last_key ℕ o.z o.zs (k, m) (get_or indices up 0) index_is)
 
       -- removing the entry where the next one is in the next parent, whose key was written first
-      take_over : (v u : Table K V) → Rebuilt t v path indices path indices (suc up) size d.q.rest (heads d.q.before ++ (o.z.0, get_or path up 0) ∷ (k, o.q) ∷ heads o.rest) (length (heads d.q.before)) (map sizes d.q.rest) [] → slice_get v.nodes (get_or path up 0) ≡ Some (inner_content (d.q.l ++ (k, m) ∷ d.q.r)) →
+      take_over : (v u : Table K V) → Rebuilt t v path indices path indices (suc up) size d.q.rest
+          (heads d.q.before ++ (o.z.0, get_or path up 0) ∷ (k, o.q) ∷ heads o.rest) (length (heads d.q.before)) (map sizes d.q.rest) []
+          → slice_get v.nodes (get_or path up 0) ≡ Some (inner_content (d.q.l ++ (k, m) ∷ d.q.r)) →
           u ≡ with_node v (get_or path up 0) (without_child (inner_content (d.q.l ++ (k, m) ∷ d.q.r)) (get_or indices up 0)) → Loosened t u path indices up size rows (a ++ (k, n) ∷ b) (length a)
       take_over v u r slot u_is =
           let q = d.q in

@@ -54,12 +54,18 @@ module _ {K V : Type 0} where
 
   module _ (t u : Table K V) (path indices : List ℕ) (up size : ℕ) (rows : List (List (LevelNode K ℕ))) (a : List (K × ℕ)) (k : K) (n : ℕ) (b : List (K × ℕ)) (key : K) (d : Spot t path indices up size rows a (k, n) b) where
     -- updating the key where it is a separator in the path's parent
-    pub rekey_parent : 0 < get_or indices up 0 → u ≡ with_node t (get_or path up 0) (Inner (set (drop 1 (entry_keys (d.q.l ++ (k, n) ∷ d.q.r))) (get_or indices up 0 - 1) key) (entry_items (d.q.l ++ (k, n) ∷ d.q.r))) → Rebuilt t u path indices path indices up size rows (a ++ (key, n) ∷ b) (length a) (map sizes rows) []
+    pub rekey_parent : 0 < get_or indices up 0
+        → u ≡ with_node t (get_or path up 0)
+        (Inner (set (drop 1 (entry_keys (d.q.l ++ (k, n) ∷ d.q.r))) (get_or indices up 0 - 1) key) (entry_items (d.q.l ++ (k, n) ∷ d.q.r)))
+        → Rebuilt t u path indices path indices up size rows (a ++ (key, n) ∷ b) (length a) (map sizes rows) []
     rekey_parent some u_is =
         renamed t path indices up size rows a (k, n) b d u d.q.l (k, n) d.q.r (get_or indices up 0 - 1) key ((key, n) ∷ b) refl (omega (arith, d.q.entry_is, some)) u_is (append_assoc d.q.l ((key, n) ∷ d.q.r) (flat d.q.after) ∙ ap (λ z. d.q.l ++ (key, n) ∷ z) (sym d.q.b_is))
 
     -- updating the key where it is the parent's first, in the rows above
-    pub rekey_first : get_or indices up 0 ≤ 0 → Rebuilt t u path indices path indices (suc up) size d.q.rest (heads d.q.before ++ (key, get_or path up 0) ∷ heads d.q.after) (length (heads d.q.before)) (map sizes d.q.rest) [] → Rebuilt t u path indices path indices up size rows (a ++ (key, n) ∷ b) (length a) (map sizes rows) []
+    pub rekey_first : get_or indices up 0 ≤ 0
+        → Rebuilt t u path indices path indices (suc up) size d.q.rest (heads d.q.before ++ (key, get_or path up 0) ∷ heads d.q.after)
+        (length (heads d.q.before)) (map sizes d.q.rest) []
+        → Rebuilt t u path indices path indices up size rows (a ++ (key, n) ∷ b) (length a) (map sizes rows) []
     rekey_first none r =
         let q = d.q in
         let num = get_or path up 0 in
@@ -70,7 +76,10 @@ module _ {K V : Type 0} where
 
   module _ (t u : Table K V) (path indices : List ℕ) (up size : ℕ) (rows : List (List (LevelNode K ℕ))) (a : List (K × ℕ)) (x : K × ℕ) (k : K) (n : ℕ) (b : List (K × ℕ)) (key : K) (d : Spot t path indices up size rows a x ((k, n) ∷ b)) where
     -- updating the neighbour's key where both have the same parent
-    rekey_same : get_or indices up 0 + 1 < length (d.q.l ++ x ∷ d.q.r) → u ≡ with_node t (get_or path up 0) (Inner (set (drop 1 (entry_keys (d.q.l ++ x ∷ d.q.r))) (get_or indices up 0) key) (entry_items (d.q.l ++ x ∷ d.q.r))) → Rebuilt t u path indices path indices up size rows (a ++ x ∷ (key, n) ∷ b) (length a) (map sizes rows) []
+    rekey_same : get_or indices up 0 + 1 < length (d.q.l ++ x ∷ d.q.r)
+        → u ≡ with_node t (get_or path up 0)
+        (Inner (set (drop 1 (entry_keys (d.q.l ++ x ∷ d.q.r))) (get_or indices up 0) key) (entry_items (d.q.l ++ x ∷ d.q.r)))
+        → Rebuilt t u path indices path indices up size rows (a ++ x ∷ (key, n) ∷ b) (length a) (map sizes rows) []
     rekey_same more u_is =
         let q = d.q in
         let w = next_in q.l x q.r (get_or indices up 0) (k, n) b (flat q.after) q.b_is q.entry_is more in
@@ -78,7 +87,10 @@ module _ {K V : Type 0} where
         renamed t path indices up size rows a x ((k, n) ∷ b) d u (q.l ++ x ∷ []) (k, n) w.0 (get_or indices up 0) key (x ∷ (key, n) ∷ b) es_is (omega (arith, length-append q.l (x ∷ []), q.entry_is)) u_is (simp append_assoc (ap (λ z. q.l ++ x ∷ (key, n) ∷ z) (sym w.2)))
 
     -- updating the neighbour's key where it is the next parent's, whose key was updated above
-    rekey_over : (o : Across d.q.l d.q.r d.q.after (k, n) b) → Rebuilt t u path indices path indices (suc up) size d.q.rest (heads d.q.before ++ (o.z.0, get_or path up 0) ∷ (key, o.q) ∷ heads o.rest) (length (heads d.q.before)) (map sizes d.q.rest) [] → Rebuilt t u path indices path indices up size rows (a ++ x ∷ (key, n) ∷ b) (length a) (map sizes rows) []
+    rekey_over : (o : Across d.q.l d.q.r d.q.after (k, n) b)
+        → Rebuilt t u path indices path indices (suc up) size d.q.rest
+        (heads d.q.before ++ (o.z.0, get_or path up 0) ∷ (key, o.q) ∷ heads o.rest) (length (heads d.q.before)) (map sizes d.q.rest) []
+        → Rebuilt t u path indices path indices up size rows (a ++ x ∷ (key, n) ∷ b) (length a) (map sizes rows) []
     rekey_over o r =
         let q = d.q in
         let num = get_or path up 0 in
@@ -88,7 +100,9 @@ module _ {K V : Type 0} where
         lifted_above t path indices up size rows a x ((k, n) ∷ b) d u (q.l ++ x ∷ q.r) after (heads q.before ++ (o.z.0, num) ∷ (key, o.q) ∷ heads o.rest) (x ∷ (key, n) ∷ b) refl (ap (λ z. sizes z) (sym o.after_is)) (ap (λ z. numbers z) (sym o.after_is)) flats (sym list)
         (rw o.after_is at d.f.fit) (across_in t path indices up size rows a x (k, n) b d o key) r
 
-  module _ (t : Table K V) (path indices : List ℕ) (up size : ℕ) (rows : List (List (LevelNode K ℕ))) (a : List (K × ℕ)) (x : K × ℕ) (k : K) (n : ℕ) (b : List (K × ℕ)) (p : Above t path indices up size rows (a ++ x ∷ (k, n) ∷ b) (length a)) (r : ℕ) (wide : length path ≡ 17) (height : size ≤ 17) where
+  module _ (t : Table K V) (path indices : List ℕ) (up size : ℕ) (rows : List (List (LevelNode K ℕ))) (a : List (K × ℕ)) (x : K × ℕ) (k : K)
+      (n : ℕ) (b : List (K × ℕ)) (p : Above t path indices up size rows (a ++ x ∷ (k, n) ∷ b) (length a)) (r : ℕ) (wide : length path ≡ 17)
+      (height : size ≤ 17) where
     low : up < size
     low = above_two t path indices up size rows a x (k, n) b (length a) p
 

@@ -1,7 +1,9 @@
 -- Removing the entry where a path stands from its leaf, which has others: the answers of `remove`,
 -- `take_entry` and `renew_first`.
 use Rattle.std.proofs.Common.{◌≡◌, ℕ, suc, ◌+◌, ◌≤◌, ◌<◌, Some, Option, List, [], ◌∷◌, ◌++◌, map, length, get_or, slice_get, refl, sym, ap, ◌∙◌, subst, append_assoc, length-append, arith, ◌≢◌}
-use Rattle.bforest_core.proofs.Words.{map-append, flat_map, remove, length-map, Content, Leaf, without_entry, Table, LevelNode, node, flat, heads, sizes, numbers, FitRow, Solid, Stacked, Tree, half_of, RowIn, leaf_content, entry_keys, count, Distinct, numbers_of, Above, Rebuilt, StandsIn, HasOthers, IsSingle, LeafLoss}
+use Rattle.bforest_core.proofs.Words.{map-append, flat_map, remove, length-map, Content, Leaf, without_entry, Table, LevelNode, node, flat}
+use Rattle.bforest_core.proofs.Words.{heads, sizes, numbers, FitRow, Solid, Stacked, Tree, half_of, RowIn, leaf_content, entry_keys, count}
+use Rattle.bforest_core.proofs.Words.{Distinct, numbers_of, Above, Rebuilt, StandsIn, HasOthers, IsSingle, LeafLoss}
 use Rattle.bforest_core.proofs.Words.{nil_from_length, entry_count, IsUsed, with_node, head_of, entry_items}
 use Rattle.bforest_core.proofs.rows.LevelRows.{flat-append, sizes-append, FitRow-split, Solid-full, least-pos, heads-append}
 use Rattle.bforest_core.proofs.table.Tables.{count-append, counts, count-same, row-split, row-put, row-same, Puts, is_used, puts}

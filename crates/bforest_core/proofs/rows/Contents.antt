@@ -29,7 +29,9 @@ module _ {K : Type 0} (V : Type 0) where
       let less : suc n - 1 ≡ n = omega arith in
       let key_is : key ≡ x.0 = some_same key x.0 (sym k ∙ rw (less, keys_are) (slice_get_at (entry_keys l) x.0 (y.0 ∷ entry_keys r) n kl)) in
       let written : set (entry_keys (l ++ x ∷ y ∷ r)) (suc n) key ≡ entry_keys l ++ x.0 ∷ x.0 ∷ entry_keys r =
-      ap (λ w. set w (suc n) key) (keys_are ∙ sym (append_assoc (entry_keys l) (x.0 ∷ []) (y.0 ∷ entry_keys r))) ∙ set_at (entry_keys l ++ x.0 ∷ []) y.0 (entry_keys r) key (suc n) kl2 ∙ append_assoc (entry_keys l) (x.0 ∷ []) (key ∷ entry_keys r) ∙ ap (λ w. entry_keys l ++ x.0 ∷ w ∷ entry_keys r) key_is in
+      ap (λ w. set w (suc n) key) (keys_are ∙ sym (append_assoc (entry_keys l) (x.0 ∷ []) (y.0 ∷ entry_keys r)))
+      ∙ set_at (entry_keys l ++ x.0 ∷ []) y.0 (entry_keys r) key (suc n) kl2
+      ∙ append_assoc (entry_keys l) (x.0 ∷ []) (key ∷ entry_keys r) ∙ ap (λ w. entry_keys l ++ x.0 ∷ w ∷ entry_keys r) key_is in
       let two : 2 ≤ length (entry_items ((z ∷ l) ++ x ∷ y ∷ r)) = omega (arith, length-map ((z ∷ l) ++ x ∷ y ∷ r) (λ (w : K × ℕ). w.1), length-append l (x ∷ y ∷ r)) in
       without_some (set (entry_keys (l ++ x ∷ y ∷ r)) (suc n) key) (entry_items ((z ∷ l) ++ x ∷ y ∷ r)) (suc n) two
       ∙ rw (written, less, map-append (λ (w : K × ℕ). w.1) l (x ∷ y ∷ r), remove_at (entry_keys l) x.0 (x.0 ∷ entry_keys r) n kl, remove_at (entry_items l) x.1 (y.1 ∷ entry_items r) n il, map-append (λ (w : K × ℕ). w.0) l ((x.0, y.1) ∷ r), map-append (λ (w : K × ℕ). w.1) l ((x.0, y.1) ∷ r)) refl

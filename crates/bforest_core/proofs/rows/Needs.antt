@@ -25,7 +25,9 @@ module _ {K V : Type 0} where
       rw (f.rows_are, f.row_is, f.place_is, sizes-append f.before (node (get_or ms up 0) f.entries ∷ f.after), gain_room f.before (length f.entries) (get_or js up 0) (sizes f.after) f.within room) refl
 
   -- the need of a full leaf
-  pub leaf_need_full : (most : ℕ) (t : Table K V) (ms js : List ℕ) (tree : Tree K V) (place : ℕ) → (d : LeafSpot most t ms js tree place) → length (d.l ++ d.r) ≡ most → need_above (leaf_gain most place (sizes tree.leaves)).0 (map sizes tree.above) ≡ need_above (Some (length d.before)) (map sizes tree.above)
+  pub leaf_need_full : (most : ℕ) (t : Table K V) (ms js : List ℕ) (tree : Tree K V) (place : ℕ) → (d : LeafSpot most t ms js tree place)
+      → length (d.l ++ d.r) ≡ most → need_above (leaf_gain most place (sizes tree.leaves)).0 (map sizes tree.above) ≡ need_above
+      (Some (length d.before)) (map sizes tree.above)
   leaf_need_full most t ms js tree place d full = ap (λ z. need_above z.0 (map sizes tree.above)) (full_gain most t ms js tree place d full)
 
   -- a level above the leaves, and the test whether the path's node there is full
@@ -43,7 +45,21 @@ module _ {K V : Type 0} where
     -- the rows above the level
     pub level_above : (rows : List (List (LevelNode K ℕ))) × (list : List (K × ℕ)) × (at : ℕ) × Above t ms js (up + 1) size rows list at
     level_above =
-        let above : Above t ms js (suc up) size level.rest (heads level.row) (length level.before) = record { stacked = level.over.stacked; inside = level.over.inside; stands = level.over.stands; height = level.over.height; apart = λ m. omega (arith, ab.apart m, ap (λ z. count m (flat_map numbers z ++ t.chain)) level.rows_are, count-append m (numbers level.row ++ flat_map numbers level.rest) t.chain, count-append m (numbers level.row) (flat_map numbers level.rest), count-append m (flat_map numbers level.rest) t.chain) } in
+        let above : Above t ms js (suc up) size level.rest (heads level.row) (length level.before) =
+        record {
+          stacked = level.over.stacked;
+          inside = level.over.inside;
+          stands = level.over.stands;
+          height = level.over.height;
+          apart = λ m. omega (
+            arith,
+            ab.apart m,
+            ap (λ z. count m (flat_map numbers z ++ t.chain)) level.rows_are,
+            count-append m (numbers level.row ++ flat_map numbers level.rest) t.chain,
+            count-append m (numbers level.row) (flat_map numbers level.rest),
+            count-append m (flat_map numbers level.rest) t.chain,
+          );
+        } in
         (level.rest, heads level.row, length level.before, rw (add-one up) above)
 
     module _ (content : Content K V) (read : slice_get t.nodes (get_or ms up r) ≡ Some content) where
@@ -72,8 +88,24 @@ module _ {K V : Type 0} where
     -- the rows above the leaf
     pub leaf_above : (rows : List (List (LevelNode K ℕ))) × (list : List (K × ℕ)) × (at : ℕ) × Above t ms js 1 size rows list at
     leaf_above =
-        let row : List (LevelNode K V) = leaf.before ++ node (get_or ms 0 0) (leaf.l ++ leaf.r) ∷ leaf.after in
-        (tree.above, heads row, length leaf.before, record { stacked = leaf.fit.stacked; inside = p.inside.rows_in; stands = leaf.stands; height = omega (arith, p.at.points.size_is); apart = λ m. omega (arith, leaf.apart m, count-append m (numbers row ++ flat_map numbers tree.above) t.chain, count-append m (numbers row) (flat_map numbers tree.above), count-append m (flat_map numbers tree.above) t.chain) })
+        let row : List (LevelNode K V) = leaf.before ++ node (get_or ms 0 0) (leaf.l ++ leaf.r) ∷ leaf.after in (
+          tree.above,
+          heads row,
+          length leaf.before,
+          record {
+            stacked = leaf.fit.stacked;
+            inside = p.inside.rows_in;
+            stands = leaf.stands;
+            height = omega (arith, p.at.points.size_is);
+            apart = λ m. omega (
+              arith,
+              leaf.apart m,
+              count-append m (numbers row ++ flat_map numbers tree.above) t.chain,
+              count-append m (numbers row) (flat_map numbers tree.above),
+              count-append m (flat_map numbers tree.above) t.chain,
+            );
+          },
+        )
 
     module _ (wide : 0 < length ms) (r : ℕ) where
       leaf_slot : slice_get t.nodes (get_or ms 0 r) ≡ Some (leaf_content (leaf.l ++ leaf.r))

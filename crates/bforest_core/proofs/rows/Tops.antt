@@ -48,7 +48,9 @@ module _ {K V : Type 0} where
       top_tree tree.leaves tree.above ms js size (length at.before) at.before at.entries at.after at.leaves_are (omega (arith, f.1.0, least-pos (half_of most) (omega (arith, one)) at.after)) fit.stacked at.above at.size_is
 
   -- two paths through the same rows have the same top
-  pub top-same : (t : Table K V) (path indices path' indices' : List ℕ) (level size : ℕ) (rows : List (List (LevelNode K ℕ))) (list : List (K × ℕ)) (place place' : ℕ) → Above t path indices level size rows list place → Above t path' indices' level size rows list place' → level < size → top_of path' size ≡ top_of path size
+  pub top-same : (t : Table K V) (path indices path' indices' : List ℕ) (level size : ℕ) (rows : List (List (LevelNode K ℕ)))
+      (list : List (K × ℕ)) (place place' : ℕ) → Above t path indices level size rows list place
+      → Above t path' indices' level size rows list place' → level < size → top_of path' size ≡ top_of path size
   top-same t path indices path' indices' level size [] list place place' p q low = absurd (omega (arith, p.height, low))
   top-same t path indices path' indices' level size (row ∷ rows) list place place' p q low =
       let high : level + length rows ≡ size - 1 = omega (arith, p.height) in

@@ -95,7 +95,9 @@ module _ {K V : Type 0} where
   above_two t ms js up size [] a x y b p h = absurd (omega (arith, h.stacked, length-append a (x ∷ y ∷ b)))
   above_two t ms js up size (row ∷ rest) a x y b p h = omega (arith, h.height)
 
-  cut_above : (t : Table K V) (ms js : List ℕ) (up size : ℕ) (rows : List (List (LevelNode K ℕ))) (a : List (K × ℕ)) (x : K × ℕ) (b : List (K × ℕ)) → Above t ms js up size rows (a ++ x ∷ b) (length a) → (q : Parent ms js up rows a x b) → Cut_above t ms js up size q.before (get_or ms up 0) q.l x q.r q.after q.rest
+  cut_above : (t : Table K V) (ms js : List ℕ) (up size : ℕ) (rows : List (List (LevelNode K ℕ))) (a : List (K × ℕ)) (x : K × ℕ)
+      (b : List (K × ℕ)) → Above t ms js up size rows (a ++ x ∷ b) (length a) → (q : Parent ms js up rows a x b)
+      → Cut_above t ms js up size q.before (get_or ms up 0) q.l x q.r q.after q.rest
   cut_above t ms js up size rows a x b p q = rw (q.rows_are, q.a_is, q.b_is) at p
 
   -- what holds of the rows cut at the path's node

@@ -44,7 +44,10 @@ module _ {K V : Type 0} where
       omega (arith, most, pool.counted)
 
   -- a used slot is freed and put in front of the chain
-  pub IsPool-freed : (n : ℕ) (nodes : List (Content K V)) (first : Option ℕ) (free limit at : ℕ) → at < length nodes → list_any (nat_eq at) (chain_from nodes free first) ≡ false → IsPool n nodes first free limit → IsPool n (set nodes at (Free first)) (Some at) (free + 1) limit × (chain_from (set nodes at (Free first)) (free + 1) (Some at) ≡ at ∷ chain_from nodes free first)
+  pub IsPool-freed : (n : ℕ) (nodes : List (Content K V)) (first : Option ℕ) (free limit at : ℕ) → at < length nodes
+      → list_any (nat_eq at) (chain_from nodes free first) ≡ false → IsPool n nodes first free limit
+      → IsPool n (set nodes at (Free first)) (Some at) (free + 1) limit
+      × (chain_from (set nodes at (Free first)) (free + 1) (Some at) ≡ at ∷ chain_from nodes free first)
   IsPool-freed n nodes first free limit at within off pool =
       IsPool-made n (set nodes at (Free first)) (at ∷ chain_from nodes free first) (Some at) (free + 1) limit pool.capacity (IsChain-freed nodes (chain_from nodes free first) first at within off pool.linked)
       (omega (arith, pool.counted)) (IsDistinct-front at _ off pool.distinct) (omega (arith, length-set nodes at (Free first), pool.slots_within)) pool.limit_within
@@ -55,7 +58,11 @@ module _ {K V : Type 0} where
       omega (arith, free_within n _ _ _ _ (IsPool-freed n nodes first free limit at within off pool).0, length-set nodes at (Free first))
 
   -- new slots in front of the chain
-  pub IsPool-grown : (n : ℕ) (nodes : List (Content K V)) (first : Option ℕ) (free limit count total : ℕ) → total ≡ count + free → length nodes + count ≤ limit → IsPool n nodes first free limit → IsPool n (nodes ++ fresh_nodes (length nodes) count first) (front_of_new (length nodes) count first) total limit × (chain_from (nodes ++ fresh_nodes (length nodes) count first) total (front_of_new (length nodes) count first) ≡ down_from (length nodes) count ++ chain_from nodes free first)
+  pub IsPool-grown : (n : ℕ) (nodes : List (Content K V)) (first : Option ℕ) (free limit count total : ℕ) → total ≡ count + free
+      → length nodes + count ≤ limit → IsPool n nodes first free limit
+      → IsPool n (nodes ++ fresh_nodes (length nodes) count first) (front_of_new (length nodes) count first) total limit
+      × (chain_from (nodes ++ fresh_nodes (length nodes) count first) total (front_of_new (length nodes) count first) ≡ down_from
+      (length nodes) count ++ chain_from nodes free first)
   IsPool-grown n nodes first free limit count total total_is within pool =
       IsPool-made n (nodes ++ fresh_nodes (length nodes) count first) (down_from (length nodes) count ++ chain_from nodes free first) (front_of_new (length nodes) count first) total limit pool.capacity (IsChain-fresh nodes (chain_from nodes free first) first count pool.linked)
       (omega (arith, total_is, length-append (down_from (length nodes) count) (chain_from nodes free first), length-down_from (length nodes) count, pool.counted))

@@ -53,7 +53,9 @@ module _ {K V : Type 0} where
     pub others : (m : ℕ) → count m gone + count m old.chain ≡ 0 → slice_get new.nodes m ≡ slice_get old.nodes m
 
   -- the numbers are traded where the chain loses its first ones, or gains others in front
-  pub traded : (old new : Table K V) (gone come taken freed rest : List ℕ) → Every (λ (number : ℕ). IsFree (slot old.nodes number)) old.chain → Distinct (gone ++ old.chain) → old.chain ≡ taken ++ rest → new.chain ≡ freed ++ rest → Every (λ (number : ℕ). IsFree (slot new.nodes number)) freed → length new.nodes ≡ length old.nodes →
+  pub traded : (old new : Table K V) (gone come taken freed rest : List ℕ)
+      → Every (λ (number : ℕ). IsFree (slot old.nodes number)) old.chain → Distinct (gone ++ old.chain) → old.chain ≡ taken ++ rest
+      → new.chain ≡ freed ++ rest → Every (λ (number : ℕ). IsFree (slot new.nodes number)) freed → length new.nodes ≡ length old.nodes →
       ((m : ℕ) → count m come + count m freed ≡ count m gone + count m taken) → ((m : ℕ) → count m gone + count m taken ≡ 0 → slice_get new.nodes m ≡ slice_get old.nodes m) → Traded old new gone come
   traded old new gone come taken freed rest free apart old_is new_is freed_are slots nums others =
       let c = λ (m : ℕ). ap (λ z. count m z) old_is ∙ count-append m taken rest in
@@ -74,7 +76,9 @@ module _ {K V : Type 0} where
     pub low : length tree.above ≤ 16
 
   -- replacing trees of a forest by others that are in the new table
-  pub exchange-trees : (most : ℕ) (old new : Table K V) (before gone come after : List (Tree K V)) → IsForest most old (before ++ (gone ++ after)) → Every (IsPlanted most new.nodes) come → Traded old new (flat_map numbers_of gone) (flat_map numbers_of come) → IsForest most new (before ++ (come ++ after))
+  pub exchange-trees : (most : ℕ) (old new : Table K V) (before gone come after : List (Tree K V))
+      → IsForest most old (before ++ (gone ++ after)) → Every (IsPlanted most new.nodes) come
+      → Traded old new (flat_map numbers_of gone) (flat_map numbers_of come) → IsForest most new (before ++ (come ++ after))
   exchange-trees most old new before gone come after f p t =
       let one : (m : ℕ) → count m (flat_map numbers_of before) + (count m (flat_map numbers_of gone) + count m (flat_map numbers_of after)) + count m old.chain ≤ 1 =
       λ m. omega (arith, f.account m, at-most-one m (length old.nodes), count_parts m before gone after old.chain) in
@@ -82,8 +86,14 @@ module _ {K V : Type 0} where
       record {
         capacity = f.capacity;
         fit = every_put (IsFit most) before come after (every_outer (IsFit most) before gone after f.fit) (every-map (IsPlanted most new.nodes) (IsFit most) (λ tree q. q.fit) come p);
-        inside = every_put (IsIn new.nodes) before come after (trees-same old.nodes new.nodes before (λ m here. t.others m (omega (arith, here, one m))) ins.0, trees-same old.nodes new.nodes after (λ m here. t.others m (omega (arith, here, one m))) ins.1) (every-map (IsPlanted most new.nodes) (IsIn new.nodes) (λ tree q. q.inside) come p);
-        some = every_put (λ (tree : Tree K V). 1 ≤ length (flat tree.leaves)) before come after (every_outer (λ (tree : Tree K V). 1 ≤ length (flat tree.leaves)) before gone after f.some) (every-map (IsPlanted most new.nodes) (λ (tree : Tree K V). 1 ≤ length (flat tree.leaves)) (λ tree q. q.some) come p);
+        inside = every_put (IsIn new.nodes) before come after (
+          trees-same old.nodes new.nodes before (λ m here. t.others m (omega (arith, here, one m))) ins.0,
+          trees-same old.nodes new.nodes after (λ m here. t.others m (omega (arith, here, one m))) ins.1,
+        )
+            (every-map (IsPlanted most new.nodes) (IsIn new.nodes) (λ tree q. q.inside) come p);
+        some = every_put (λ (tree : Tree K V). 1 ≤ length (flat tree.leaves)) before come after
+            (every_outer (λ (tree : Tree K V). 1 ≤ length (flat tree.leaves)) before gone after f.some)
+            (every-map (IsPlanted most new.nodes) (λ (tree : Tree K V). 1 ≤ length (flat tree.leaves)) (λ tree q. q.some) come p);
         low = every_put (λ (tree : Tree K V). length tree.above ≤ 16) before come after (every_outer (λ (tree : Tree K V). length tree.above ≤ 16) before gone after f.low) (every-map (IsPlanted most new.nodes) (λ (tree : Tree K V). length tree.above ≤ 16) (λ tree q. q.low) come p);
         free = t.free;
         account = λ m. omega (arith, count_parts m before come after new.chain, count_parts m before gone after old.chain, t.nums m) ∙ f.account m ∙ ap (λ z. once_below m z) (sym t.slots_are);
@@ -101,7 +111,12 @@ module _ {K V : Type 0} where
   outer_tree most before after other there =
       elim (cases_lt 0 (count other (map root_of before))) [
         | inl here ↦ (let r = tree-with before other here in (r.1, λ table some f. (tree-back most table (before ++ (some ++ after)) r.0 r.1 (r.2 ++ (some ++ after)) other f (ap (λ z. z ++ (some ++ after)) r.3 ∙ append_assoc r.0 (r.1 ∷ r.2) (some ++ after)) r.4).0))
-        | inr none ↦ (let r = tree-with after other (omega (arith, there, none)) in (r.1, λ table some f. (tree-back most table (before ++ (some ++ after)) ((before ++ some) ++ r.0) r.1 r.2 other f (ap (λ z. before ++ (some ++ z)) r.3 ∙ sym (append_assoc before some (r.0 ++ r.1 ∷ r.2)) ∙ sym (append_assoc (before ++ some) r.0 (r.1 ∷ r.2))) r.4).0))
+        | inr none ↦ (let r = tree-with after other (omega (arith, there, none)) in (
+          r.1,
+          λ table some f. (tree-back most table (before ++ (some ++ after)) ((before ++ some) ++ r.0) r.1 r.2 other f
+              (ap (λ z. before ++ (some ++ z)) r.3 ∙ sym (append_assoc before some (r.0 ++ r.1 ∷ r.2))
+              ∙ sym (append_assoc (before ++ some) r.0 (r.1 ∷ r.2))) r.4).0,
+        ))
       ]
 
   -- every number that is no root of the replaced trees is a root as before, and keeps its tree

@@ -57,7 +57,10 @@ module _ {K V : Type 0} where
   pub exchanged-freed : (most : ℕ) (old new : Table K V) (root : ℕ) (tree' : Tree K V) (freed : List ℕ) → IsUnion most old → IsTrue (is_root old.nodes root) → IsPlanted most new.nodes tree' → Frees old new (numbers_of (tree_of old.nodes root)) freed →
       ((m : ℕ) → count m (numbers_of tree') + count m freed ≡ count m (numbers_of (tree_of old.nodes root))) → Exchanged most old new root tree'
   exchanged-freed most old new root tree' freed union is p frees nums =
-      exchanged_by most old new root tree' union is p (traded old new (numbers_of (tree_of old.nodes root)) (numbers_of tree') [] freed old.chain union.1.free (rooted most old root union is).apart refl frees.chain_is frees.freed_are frees.slots_are (λ m. omega (arith, nums m)) (λ m none. frees.others m (omega (arith, none))))
+      exchanged_by most old new root tree' union is p
+      (traded old new (numbers_of (tree_of old.nodes root)) (numbers_of tree') [] freed old.chain union.1.free
+      (rooted most old root union is).apart refl frees.chain_is frees.freed_are frees.slots_are (λ m. omega (arith, nums m))
+      (λ m none. frees.others m (omega (arith, none))))
 
   -- a replaced tree as a change of the table
   pub exchanged-changes : {most : ℕ} {old new : Table K V} {root root' : ℕ} {tree' : Tree K V} → Exchanged most old new root tree' → root_of tree' ≡ root' → new.limit ≡ old.limit → Changes most old new root root' (flat tree'.leaves) (sizes_of tree')

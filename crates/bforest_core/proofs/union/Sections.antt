@@ -71,7 +71,16 @@ module _ {K V : Type 0} where
         right_in = (ins.1, r.right_in);
         left_height = ap suc r.left_height;
         right_height = ap suc r.right_height;
-        counted = λ m. omega (arith, r.counted m, ap (λ z. count m (numbers z)) c.row_is, ap (λ z. count m z) (numbers-append c.left c.right), count-append m (numbers c.left) (numbers c.right), count-append m (numbers row) (flat_map numbers rows), count-append m (numbers c.left) (flat_map numbers r.left), count-append m (numbers c.right) (flat_map numbers r.right));
+        counted = λ m. omega (
+          arith,
+          r.counted m,
+          ap (λ z. count m (numbers z)) c.row_is,
+          ap (λ z. count m z) (numbers-append c.left c.right),
+          count-append m (numbers c.left) (numbers c.right),
+          count-append m (numbers row) (flat_map numbers rows),
+          count-append m (numbers c.left) (flat_map numbers r.left),
+          count-append m (numbers c.right) (flat_map numbers r.right),
+        );
       }
 
 module _ {K V : Type 0} (most : ℕ) (slots : List (Content K V)) where
@@ -102,5 +111,14 @@ module _ {K V : Type 0} (most : ℕ) (slots : List (Content K V)) where
         right = record { leaves_fit = fits.1; leaves_in = ins.1; stacked = subst (λ z. StackedTo z r.right b) (sym c.right_is) r.right_stacked; rows_in = r.right_in };
         left_height = r.left_height;
         right_height = r.right_height;
-        counted = λ m. omega (arith, r.counted m, ap (λ z. count m (numbers z)) c.row_is, ap (λ z. count m z) (numbers-append c.left c.right), count-append m (numbers c.left) (numbers c.right), count-append m (numbers leaves) (flat_map numbers lower), count-append m (numbers c.left) (flat_map numbers r.left), count-append m (numbers c.right) (flat_map numbers r.right));
+        counted = λ m. omega (
+          arith,
+          r.counted m,
+          ap (λ z. count m (numbers z)) c.row_is,
+          ap (λ z. count m z) (numbers-append c.left c.right),
+          count-append m (numbers c.left) (numbers c.right),
+          count-append m (numbers leaves) (flat_map numbers lower),
+          count-append m (numbers c.left) (flat_map numbers r.left),
+          count-append m (numbers c.right) (flat_map numbers r.right),
+        );
       }

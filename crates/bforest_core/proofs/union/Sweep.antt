@@ -26,7 +26,9 @@ rows_none list (row ∷ rows) s =
 
 module _ {K V : Type 0} where
   -- the rows under some nodes are in any slots that agree on their numbers
-  under-same : (most : ℕ) (old new : List (Content K V)) (leaves : List (LevelNode K V)) (lower : List (List (LevelNode K ℕ))) (top : List (K × ℕ)) → ((m : ℕ) → 0 < count m (numbers_under leaves lower) → slice_get new m ≡ slice_get old m) → Under most old leaves lower top → Under most new leaves lower top
+  under-same : (most : ℕ) (old new : List (Content K V)) (leaves : List (LevelNode K V)) (lower : List (List (LevelNode K ℕ)))
+      (top : List (K × ℕ)) → ((m : ℕ) → 0 < count m (numbers_under leaves lower) → slice_get new m ≡ slice_get old m)
+      → Under most old leaves lower top → Under most new leaves lower top
   under-same most old new leaves lower top same u =
       let i = tree-same old new (record { leaves = leaves; above = lower }) same (record { leaves_in = u.leaves_in; rows_in = u.rows_in }) in
       record { leaves_fit = u.leaves_fit; leaves_in = i.leaves_in; stacked = u.stacked; rows_in = i.rows_in }
@@ -45,7 +47,10 @@ module _ {K V : Type 0} where
       let here = slot_same old new number (same number (omega (arith, count-append number (number ∷ []) (flat_map (numbers_down old levels) kids), count-same number []))) in
       ap (λ z. number ∷ flat_map (numbers_down new levels) (reverse (children_of z))) here ∙ ap (λ z. number ∷ z) (all (down-same old new levels) kids (λ m some. same m (omega (arith, some, count-append m (number ∷ []) (flat_map (numbers_down old levels) kids)))))
     where
-      all : ((kid : ℕ) → ((m : ℕ) → 0 < count m (numbers_down old levels kid) → slice_get new m ≡ slice_get old m) → numbers_down new levels kid ≡ numbers_down old levels kid) → (kids : List ℕ) → ((m : ℕ) → 0 < count m (flat_map (numbers_down old levels) kids) → slice_get new m ≡ slice_get old m) → flat_map (numbers_down new levels) kids ≡ flat_map (numbers_down old levels) kids
+      all : ((kid : ℕ) → ((m : ℕ) → 0 < count m (numbers_down old levels kid) → slice_get new m ≡ slice_get old m)
+          → numbers_down new levels kid ≡ numbers_down old levels kid) → (kids : List ℕ)
+          → ((m : ℕ) → 0 < count m (flat_map (numbers_down old levels) kids) → slice_get new m ≡ slice_get old m)
+          → flat_map (numbers_down new levels) kids ≡ flat_map (numbers_down old levels) kids
       all again [] same = refl
       all again (kid ∷ kids) same =
           ap (λ z. z ++ flat_map (numbers_down new levels) kids) (again kid (λ m some. same m (omega (arith, some, count-append m (numbers_down old levels kid) (flat_map (numbers_down old levels) kids)))))
@@ -91,7 +96,9 @@ module _ {K V : Type 0} where
         }
 
     -- the next child is freed with everything below it
-    pub sweep-next : (now new : Table K V) (index : ℕ) (x : K × ℕ) → Distinct (numbers_under leaves rows ++ old.chain) → (t : Turn now index x) → GivesAll now new (numbers_under t.cut.leaves_left t.cut.lower_left) (numbers_down now.nodes (length t.cut.lower_left) x.1) → Swept most old new leaves rows top (suc index)
+    pub sweep-next : (now new : Table K V) (index : ℕ) (x : K × ℕ) → Distinct (numbers_under leaves rows ++ old.chain)
+        → (t : Turn now index x) → GivesAll now new (numbers_under t.cut.leaves_left t.cut.lower_left)
+        (numbers_down now.nodes (length t.cut.lower_left) x.1) → Swept most old new leaves rows top (suc index)
     sweep-next now new index x apart t g =
         let own = numbers_under t.cut.leaves_left t.cut.lower_left in
         let n = λ (m : ℕ). count-append m t.swept.own own in
@@ -102,13 +109,25 @@ module _ {K V : Type 0} where
           given = numbers_down now.nodes (length t.cut.lower_left) x.1 ++ t.swept.given;
           under = t.cut.right;
           height = t.cut.right_height ∙ t.swept.height;
-          frees = frees-then old now new (t.swept.own ++ own) own t.swept.given (numbers_down now.nodes (length t.cut.lower_left) x.1) (λ m z. omega (arith, z, n m)) (λ m some. omega (arith, apart m, some, t.swept.counted m, count-append m (numbers_under leaves rows) old.chain, t.swept.split m, t.cut.counted m))
+          frees = frees-then old now new (t.swept.own ++ own) own t.swept.given (numbers_down now.nodes (length t.cut.lower_left) x.1)
+              (λ m z. omega (arith, z, n m))
+              (λ m some. omega (
+                arith,
+                apart m,
+                some,
+                t.swept.counted m,
+                count-append m (numbers_under leaves rows) old.chain,
+                t.swept.split m,
+                t.cut.counted m,
+              ))
               (frees-wider old now t.swept.own (t.swept.own ++ own) t.swept.given (λ m z. omega (arith, z, n m)) t.swept.frees) g.frees;
           order =
               ap (λ z. z ++ t.swept.given) (sym (down-same now.nodes old.nodes (length t.cut.lower_left) x.1 (λ m some. sym (t.swept.frees.others m (omega (arith, some, g.counted m, apart m, count-append m (numbers_under leaves rows) old.chain, t.swept.split m, t.cut.counted m))))))
               ∙ ap (λ z. numbers_down old.nodes z x.1 ++ t.swept.given) (t.cut.left_height ∙ t.swept.height)
               ∙ ap (λ z. numbers_down old.nodes (length rows) x.1 ++ z) t.swept.order
-              ∙ sym (ap (λ z. flat_map (numbers_down old.nodes (length rows)) (reverse z)) (last_taken (entry_items top) index x.1 (items-read top index ∙ ap (λ z. option_map (λ (e : K × ℕ). e.1) z) t.found)) ∙ ap (flat_map (numbers_down old.nodes (length rows))) (reverse-append (take index (entry_items top)) (x.1 ∷ [])));
+              ∙ sym (ap (λ z. flat_map (numbers_down old.nodes (length rows)) (reverse z))
+              (last_taken (entry_items top) index x.1 (items-read top index ∙ ap (λ z. option_map (λ (e : K × ℕ). e.1) z) t.found))
+              ∙ ap (flat_map (numbers_down old.nodes (length rows))) (reverse-append (take index (entry_items top)) (x.1 ∷ [])));
           counted = λ m. omega (arith, count-append m (numbers_down now.nodes (length t.cut.lower_left) x.1) t.swept.given, n m, g.counted m, t.swept.counted m);
           split = λ m. omega (arith, n m, t.swept.split m, t.cut.counted m);
         }
@@ -184,7 +203,16 @@ module _ {K V : Type 0} where
           slot_is = s.slot_is;
           children_are = refl;
           under = subst (λ z. Under most slots leaves s.rows z) (ap flat row ∙ append-nil es) s.under;
-          counted = λ m. omega (arith, count-append m (numbers leaves) (flat_map numbers lower), count-append m (numbers leaves) (flat_map numbers s.rows), ap (λ z. count m (flat_map numbers z)) s.lower_is, ap (λ z. count m z) (flat_map-append numbers s.rows (s.row ∷ [])), count-append m (flat_map numbers s.rows) (numbers s.row ++ []), ap (λ z. count m z) (append-nil (numbers s.row)), ap (λ z. count m (numbers z)) row);
+          counted = λ m. omega (
+            arith,
+            count-append m (numbers leaves) (flat_map numbers lower),
+            count-append m (numbers leaves) (flat_map numbers s.rows),
+            ap (λ z. count m (flat_map numbers z)) s.lower_is,
+            ap (λ z. count m z) (flat_map-append numbers s.rows (s.row ∷ [])),
+            count-append m (flat_map numbers s.rows) (numbers s.row ++ []),
+            ap (λ z. count m z) (append-nil (numbers s.row)),
+            ap (λ z. count m (numbers z)) row,
+          );
           height = λ some. sym s.count_is;
           down = ap (λ z. numbers_down slots z number) s.count_is ∙ ap (λ z. number ∷ flat_map (numbers_down slots (length s.rows)) (reverse (children_of z))) (slot-is slots number (inner_content es) s.slot_is);
         }
@@ -201,7 +229,9 @@ module _ {K V : Type 0} where
     pub slot_is : slice_get now.nodes number ≡ Some opened.content
     pub off_chain : count number now.chain ≡ 0
 
-  pub sweeping : (most : ℕ) (old now : Table K V) (leaves : List (LevelNode K V)) (lower : List (List (LevelNode K ℕ))) (number index : ℕ) → Distinct (numbers_under leaves lower ++ old.chain) → (o : Opened most old.nodes leaves lower number) → Swept most old now o.low o.rows o.top index → Sweeping most old now leaves lower number index
+  pub sweeping : (most : ℕ) (old now : Table K V) (leaves : List (LevelNode K V)) (lower : List (List (LevelNode K ℕ))) (number index : ℕ)
+      → Distinct (numbers_under leaves lower ++ old.chain) → (o : Opened most old.nodes leaves lower number)
+      → Swept most old now o.low o.rows o.top index → Sweeping most old now leaves lower number index
   sweeping most old now leaves lower number index apart o s =
       let one : count number (number ∷ []) ≡ 1 = count-same number [] in
       let a = apart number in
@@ -223,12 +253,19 @@ module _ {K V : Type 0} where
       let apart : (m : ℕ) → 0 < count m below → count m (number ∷ []) ≡ 0 =
       λ m some. elim (cases_lt 0 (count m (number ∷ []))) [ inl here ↦ absurd (omega (arith, some, all.counted m, only_here m number own here s.alone)) | inr past ↦ omega (arith, past) ] in
       subst (λ (z : List ℕ). GivesAll old (with_freed now number) (numbers_under leaves lower) z) (sym s.opened.down) (record {
-        frees = frees-then old now (with_freed now number) (numbers_under leaves lower) (number ∷ []) below (number ∷ []) (λ m zero. omega (arith, zero, s.opened.counted m)) apart (frees-wider old now own (numbers_under leaves lower) below (λ m zero. omega (arith, zero, s.opened.counted m)) all.frees) (frees-one now (with_freed now number) number s.opened.content (number ∷ []) s.slot_is refl (omega (arith, count-same number [])));
+        frees = frees-then old now (with_freed now number) (numbers_under leaves lower) (number ∷ []) below (number ∷ [])
+            (λ m zero. omega (arith, zero, s.opened.counted m)) apart
+            (frees-wider old now own (numbers_under leaves lower) below (λ m zero. omega (arith, zero, s.opened.counted m)) all.frees)
+            (frees-one now (with_freed now number) number s.opened.content (number ∷ []) s.slot_is refl
+            (omega (arith, count-same number [])));
         counted = λ m. omega (arith, s.opened.counted m, all.counted m, count-append m (number ∷ []) below);
       })
 
   -- a leaf has nothing below it and is freed alone
-  pub gives-leaf : (most : ℕ) (one : 1 ≤ half_of most) (old : Table K V) (leaves : List (LevelNode K V)) (lower : List (List (LevelNode K ℕ))) (number : ℕ) → Distinct (numbers_under leaves lower ++ old.chain) → (o : Opened most old.nodes leaves lower number) → (IsInner o.content → ⊥) → GivesAll old (with_freed old number) (numbers_under leaves lower) (numbers_down old.nodes (length lower) number)
+  pub gives-leaf : (most : ℕ) (one : 1 ≤ half_of most) (old : Table K V) (leaves : List (LevelNode K V))
+      (lower : List (List (LevelNode K ℕ))) (number : ℕ) → Distinct (numbers_under leaves lower ++ old.chain)
+      → (o : Opened most old.nodes leaves lower number) → (IsInner o.content → ⊥)
+      → GivesAll old (with_freed old number) (numbers_under leaves lower) (numbers_down old.nodes (length lower) number)
   unfolding sweeping
   gives-leaf most one old leaves lower number apart o other =
       let first = sweep-first most one old o.low o.rows o.top o.under in
@@ -237,7 +274,10 @@ module _ {K V : Type 0} where
       gives-down most old old leaves lower number 0 s all
 
   -- the child at the index, and everything below it
-  pub child_turn : (most : ℕ) (one : 1 ≤ half_of most) (old now : Table K V) (leaves : List (LevelNode K V)) (lower : List (List (LevelNode K ℕ))) (number index child : ℕ) → (s : Sweeping most old now leaves lower number index) → slice_get (children_of s.opened.content) index ≡ Some child → (x : K × ℕ) × (x.1 ≡ child) × (index < length s.opened.top) × Turn most one old s.opened.low s.opened.rows s.opened.top now index x
+  pub child_turn : (most : ℕ) (one : 1 ≤ half_of most) (old now : Table K V) (leaves : List (LevelNode K V))
+      (lower : List (List (LevelNode K ℕ))) (number index child : ℕ) → (s : Sweeping most old now leaves lower number index)
+      → slice_get (children_of s.opened.content) index ≡ Some child → (x : K × ℕ) × (x.1 ≡ child) × (index < length s.opened.top)
+      × Turn most one old s.opened.low s.opened.rows s.opened.top now index x
   child_turn most one old now leaves lower number index child s found =
       let i = item_at s.opened.top index child (ap (λ z. slice_get z index) (sym s.opened.children_are) ∙ found) in
       (i.0, i.2, slice_get_within s.opened.top index i.0 i.1, sweep-turn most one old s.opened.low s.opened.rows s.opened.top now index i.0 s.apart s.swept i.1)

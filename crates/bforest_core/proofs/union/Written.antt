@@ -76,14 +76,19 @@ module _ {K V : Type 0} (most : ℕ) (table : Table K V) (root place : ℕ) (pat
       ∙ ap (λ z. option_map (λ (e : K × V). e.1) z) (x.1 ∙ sym (ap (λ z. slice_get (flat (tree_of table.nodes root).leaves) z) at.place_is ∙ entry_at (tree_of table.nodes root).leaves at.before (get_or path 0 0) at.entries at.after (get_or indices 0 0) x.0 at.row_is x.1))
 
   -- writing the value writes it at the place of the tree's list
-  pub value-written : (v : V) → Changes most table (with_value_at table (get_or path 0 0) (get_or indices 0 0) v) root root (with_value (flat (tree_of table.nodes root).leaves) place v) (sizes_of (tree_of table.nodes root)) × StandsUnder (with_value_at table (get_or path 0 0) (get_or indices 0 0) v).nodes root path indices size place
+  pub value-written : (v : V) → Changes most table (with_value_at table (get_or path 0 0) (get_or indices 0 0) v) root root
+      (with_value (flat (tree_of table.nodes root).leaves) place v) (sizes_of (tree_of table.nodes root))
+      × StandsUnder (with_value_at table (get_or path 0 0) (get_or indices 0 0) v).nodes root path indices size place
   value-written v =
       let n = get_or path 0 0 in
       let i = get_or indices 0 0 in
       let tree = tree_of table.nodes root in
       let new = with_value_at table n i v in
       let w = puts table new n (leaf_content (with_value at.entries i v)) (leaf_content at.entries) leaf_at
-      (ap (λ z. with_node table n z) (ap (λ z. content_with z i v) (slot-is table.nodes n (leaf_content at.entries) leaf_at) ∙ ap (λ z. Leaf z (set (entry_items at.entries) i v)) (sym (keys-written at.entries i v)) ∙ ap (λ z. Leaf (entry_keys (with_value at.entries i v)) z) (sym (items-written at.entries i v)))) in
+      (ap (λ z. with_node table n z)
+      (ap (λ z. content_with z i v) (slot-is table.nodes n (leaf_content at.entries) leaf_at)
+      ∙ ap (λ z. Leaf z (set (entry_items at.entries) i v)) (sym (keys-written at.entries i v))
+      ∙ ap (λ z. Leaf (entry_keys (with_value at.entries i v)) z) (sym (items-written at.entries i v)))) in
       let row' : List (LevelNode K V) = at.before ++ node n (with_value at.entries i v) ∷ at.after in
       let tree' : Tree K V = record { leaves = row'; above = tree.above } in
       let hs : heads row' ≡ heads tree.leaves = heads-append at.before _ ∙ ap (λ z. heads at.before ++ (z ++ heads at.after)) (head-written n at.entries i v) ∙ sym (ap heads at.row_is ∙ heads-append at.before (node n at.entries ∷ at.after)) in

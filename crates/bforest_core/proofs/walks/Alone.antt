@@ -21,7 +21,9 @@ ends-alone cmp o most table root key union is leaf inc =
     let lower = (tree_of table.nodes root).above in
     let one = some_leaf most union.1.capacity in
     elim (node_under most one table.nodes leaves lower [] u.first root [] u.under) [
-      | inl s ↦ (let step = leaf_step cmp o most one table.nodes leaves lower [] u.first root [] key inc (all_through cmp u.first key) s in ends-in cmp table root is (reached cmp o most one table.nodes leaves lower [] u.first root [] key step (lone 0) (lone 0) (lone root) (lone 0) (omega arith) (omega arith) refl refl) (sym (ap (λ z. suc (length z)) s.lower_is)) refl refl)
+      | inl s ↦ (let step = leaf_step cmp o most one table.nodes leaves lower [] u.first root [] key inc (all_through cmp u.first key) s in
+          ends-in cmp table root is (reached cmp o most one table.nodes leaves lower [] u.first root [] key step (lone 0) (lone 0)
+          (lone root) (lone 0) (omega arith) (omega arith) refl refl) (sym (ap (λ z. suc (length z)) s.lower_is)) refl refl)
       | inr s ↦ absurd (subst IsLeaf (slot-is table.nodes root _ s.slot_is) leaf)
     ]
 

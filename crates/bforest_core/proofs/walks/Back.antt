@@ -89,7 +89,11 @@ module _ {K V : Type 0} {n : ℕ} {table : Table K V} (union : IsUnion n table) 
     sibling-asks = prev-asks (spot-over union s) (other union s h.0) h.1 spot.parent (its union s h.0)
 
     -- the leaf before, which has the same parent
-    pub sibling-before : {next : Spot} {child : ℕ} → next.code ≡ spot.code - 1 → next.parent ≡ spot.parent → next.grand ≡ spot.grand → next.height ≡ spot.height → ((keys : List K) (children : List ℕ) → slice_get table.nodes spot.parent ≡ Some (Inner keys children) → slice_get children (spot.code % 8 - 1) ≡ Some child) → (0 < place) × IsSpotAt table root next (place - 1) × IsLeafAt table root (place - 1) child
+    pub sibling-before : {next : Spot} {child : ℕ} → next.code ≡ spot.code - 1 → next.parent ≡ spot.parent → next.grand ≡ spot.grand
+        → next.height ≡ spot.height
+        → ((keys : List K) (children : List ℕ) → slice_get table.nodes spot.parent ≡ Some (Inner keys children)
+        → slice_get children (spot.code % 8 - 1) ≡ Some child) → (0 < place) × IsSpotAt table root next (place - 1)
+        × IsLeafAt table root (place - 1) child
     sibling-before {next} {child} code parent grand height reads =
         let q = prev-code (spot-over union s) (other union s h.0) h.1 spot.parent (its union s h.0) in
         (q.0, far-spot union s next _ (way-of q.1 next code height (λ low. sym parent) (λ low. s.grand_is low ∙ sym grand)), leaf-at union root s.root_is (prev-child (spot-over union s) (other union s h.0) h.1 spot.parent (its union s h.0) child reads))
@@ -128,13 +132,20 @@ module _ {K V : Type 0} {n : ℕ} {table : Table K V} (union : IsUnion n table) 
           cousin-before-asks = last-child-asks (spot-over union s) (other union s some) (digit-nought some) on says
 
           -- the leaf before is the last child of the parent before
-          pub cousin-before : {next : Spot} {leaf : ℕ} → next.code ≡ (spot.code / 8 - 1) * 8 + last → next.parent ≡ parent → next.grand ≡ spot.grand → next.height ≡ spot.height → ((keys : List K) (children : List ℕ) → slice_get table.nodes parent ≡ Some (Inner keys children) → slice_get children last ≡ Some leaf) → (0 < place) × IsSpotAt table root next (place - 1) × IsLeafAt table root (place - 1) leaf
+          pub cousin-before : {next : Spot} {leaf : ℕ} → next.code ≡ (spot.code / 8 - 1) * 8 + last → next.parent ≡ parent
+              → next.grand ≡ spot.grand → next.height ≡ spot.height
+              → ((keys : List K) (children : List ℕ) → slice_get table.nodes parent ≡ Some (Inner keys children)
+              → slice_get children last ≡ Some leaf) → (0 < place) × IsSpotAt table root next (place - 1)
+              × IsLeafAt table root (place - 1) leaf
           cousin-before {next} {leaf} code parent_is grand height found =
               let q = last-code (spot-over union s) (other union s some) (digit-nought some) on says in
               (q.0, far-spot union s next _ (way-of q.1 next code height (λ low. sym parent_is) (λ low. sym grand)), leaf-at union root s.root_is (last-child (spot-over union s) (other union s some) (digit-nought some) on says leaf found))
 
 -- what is said of the node before, to which a way from the root leads, of a spot
-pub far-before : {K V : Type 0} {n : ℕ} {table : Table K V} (union : IsUnion n table) (root : ℕ) (spot : Spot) (found : Option (Spot × ℕ)) → IfSome found (λ f. (numbers : List ℕ) (rows : List (List (LevelNode K ℕ))) (list : List (K × ℕ)) (place : ℕ) → CodedOver table.nodes root spot.code spot.height numbers rows list place → (0 < place) × (others : List ℕ) × IsWay others f.0 rows (place - 1) × NumberAt list (place - 1) f.1) →
+pub far-before : {K V : Type 0} {n : ℕ} {table : Table K V} (union : IsUnion n table) (root : ℕ) (spot : Spot) (found : Option (Spot × ℕ))
+    → IfSome found (λ f. (numbers : List ℕ) (rows : List (List (LevelNode K ℕ))) (list : List (K × ℕ)) (place : ℕ)
+    → CodedOver table.nodes root spot.code spot.height numbers rows list place → (0 < place) × (others : List ℕ)
+    × IsWay others f.0 rows (place - 1) × NumberAt list (place - 1) f.1) →
     IfSome found (λ f. (place : ℕ) → IsSpotAt table root spot place → (0 < place) × IsSpotAt table root f.0 (place - 1) × IsLeafAt table root (place - 1) f.1)
 far-before {K} {table = table} union root spot found says = if_some _ _ found (λ f far place s.
     let r = far s.numbers (tree_of table.nodes root).above (heads (tree_of table.nodes root).leaves) place (spot-over union s) in

@@ -62,7 +62,9 @@ module _ {K V X : Type 0} (content : List (K × X) → Content K V) (slots : Lis
     seam {number1} b next =
         let k = length b.before in
         let x = node number a.entries in
-        let two : b.before ≡ a.before ++ x ∷ [] = sym (take_at b.before (node number1 b.entries ∷ b.after) k refl) ∙ ap (λ z. take k z) (sym b.row_is ∙ a.row_is ∙ sym (append_assoc a.before (x ∷ []) a.after)) ∙ take_at (a.before ++ x ∷ []) a.after k (omega (arith, a.at, b.at, next, length-append a.before (x ∷ []))) in
+        let two : b.before ≡ a.before ++ x ∷ [] = sym (take_at b.before (node number1 b.entries ∷ b.after) k refl)
+        ∙ ap (λ z. take k z) (sym b.row_is ∙ a.row_is ∙ sym (append_assoc a.before (x ∷ []) a.after))
+        ∙ take_at (a.before ++ x ∷ []) a.after k (omega (arith, a.at, b.at, next, length-append a.before (x ∷ []))) in
         omega (arith, ap (λ z. length (flat z)) two, ap length (flat-append a.before (x ∷ [])), length-append (flat a.before) (a.entries ++ []), length-append a.entries [])
 
     -- the entries of the last node of a row end the row's entries
@@ -165,13 +167,26 @@ module _ {K V : Type 0} {slots : List (Content K V)} {root code depth : ℕ} {nu
   child-asks w index low = (drop 1 (entry_keys w.entries), entry_items w.entries, w.slot_is, omega (arith, low, item_count w.entries))
 
   -- the way to a child of a node of the level above, by the way to that node
-  pub child-code : {number top above : ℕ} {others : List ℕ} (w : NodeIn inner_content slots 8 here.row number top) → CodedOver slots root above (depth - 1) others here.rest (heads here.row) top → (digit code1 to : ℕ) → digit < length w.entries → code1 ≡ above * 8 + digit → to ≡ length (flat w.before) + digit → CodedOver slots root code1 depth (number ∷ others) rows list to
+  pub child-code : {number top above : ℕ} {others : List ℕ} (w : NodeIn inner_content slots 8 here.row number top)
+      → CodedOver slots root above (depth - 1) others here.rest (heads here.row) top → (digit code1 to : ℕ) → digit < length w.entries
+      → code1 ≡ above * 8 + digit → to ≡ length (flat w.before) + digit → CodedOver slots root code1 depth (number ∷ others) rows list to
   child-code {number} {above = above} {others = others} w q digit code1 to low code_is to_is =
       let d = digit-put above digit code1 (omega (arith, low, w.room)) code_is in
       record {
         stacked = p.stacked;
         inside = p.inside;
-        coded = subst (λ z. Coded (number ∷ others) z code1 to) (sym here.rows_are) (record { before = w.before; entries = w.entries; after = w.after; row_is = w.row_is; within = omega (arith, d.0, low); place_is = omega (arith, d.0, to_is) }, subst (λ z. Coded others here.rest z (length w.before)) (sym d.1) (subst (λ z. Coded others here.rest above z) (sym w.at) q.coded));
+        coded = subst (λ z. Coded (number ∷ others) z code1 to) (sym here.rows_are) (
+          record {
+            before = w.before;
+            entries = w.entries;
+            after = w.after;
+            row_is = w.row_is;
+            within = omega (arith, d.0, low);
+            place_is = omega (arith, d.0, to_is);
+          },
+          subst (λ z. Coded others here.rest z (length w.before)) (sym d.1)
+              (subst (λ z. Coded others here.rest above z) (sym w.at) q.coded),
+        );
         root_is = p.root_is;
         depth_is = p.depth_is;
       }
@@ -182,7 +197,17 @@ module _ {K V : Type 0} {slots : List (Content K V)} {root code depth : ℕ} {nu
 
   module _ (parent : ℕ) (same : parent ≡ here.number) where
     abbrev pub node-here : NodeIn inner_content slots 8 here.row parent here.top
-    node-here = record { before = here.at.before; entries = here.at.entries; after = here.at.after; row_is = here.at.row_is ∙ ap (λ z. here.at.before ++ node z here.at.entries ∷ here.at.after) (sym same); at = here.at.at; slot_is = ap (slice_get slots) same ∙ here.at.slot_is; some = here.at.some; room = here.at.room }
+    node-here = record {
+      before = here.at.before;
+      entries = here.at.entries;
+      after = here.at.after;
+      row_is = here.at.row_is
+          ∙ ap (λ z. here.at.before ++ node z here.at.entries ∷ here.at.after) (sym same);
+      at = here.at.at;
+      slot_is = ap (slice_get slots) same ∙ here.at.slot_is;
+      some = here.at.some;
+      room = here.at.room;
+    }
 
     -- the child to which the code goes
     pub code-asks : (keys : List K) × (children : List ℕ) × (slice_get slots parent ≡ Some (Inner keys children)) × (code % 8 < length children)
@@ -241,7 +266,9 @@ module _ {K V : Type 0} {slots : List (Content K V)} {root code depth : ℕ} {nu
         first-child child reads = child-is next-node 0 child (suc place) next-node.some start reads
 
 -- the lowest node is the first of the numbers
-pub kept-same : {K V : Type 0} (slots : List (Content K V)) (root code depth : ℕ) (numbers : List ℕ) (rows : List (List (LevelNode K ℕ))) (list : List (K × ℕ)) (place : ℕ) (p : CodedOver slots root code depth numbers rows list place) (some : depth ≢ 0) (parent : ℕ) → get_or numbers 0 0 ≡ parent → parent ≡ (lowest slots root code depth numbers rows list place p some).number
+pub kept-same : {K V : Type 0} (slots : List (Content K V)) (root code depth : ℕ) (numbers : List ℕ) (rows : List (List (LevelNode K ℕ)))
+    (list : List (K × ℕ)) (place : ℕ) (p : CodedOver slots root code depth numbers rows list place) (some : depth ≢ 0) (parent : ℕ)
+    → get_or numbers 0 0 ≡ parent → parent ≡ (lowest slots root code depth numbers rows list place p some).number
 unfolding lowest
 kept-same slots root code depth numbers [] list place p some parent is = absurd (some p.depth_is)
 kept-same slots root code depth numbers (row ∷ rest) list place p some parent is = sym is

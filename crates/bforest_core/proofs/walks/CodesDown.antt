@@ -15,11 +15,16 @@ use Rattle.bforest_core.proofs.walks.Steps.{no_heads}
 use Rattle.bforest_core.proofs.walks.TopNode.{InnerUnder, LeafUnder, inner_under, leaf_under, node_held, none_flat}
 
 -- the node at a place of the lowest level
-number-here : {K V : Type 0} (most : ℕ) (slots : List (Content K V)) (leaves : List (LevelNode K V)) (lower : List (List (LevelNode K ℕ))) (a : List (K × ℕ)) (first : K) (number : ℕ) (b : List (K × ℕ)) → Under most slots leaves lower (a ++ (first, number) ∷ b) → lower ≡ [] → NumberAt (heads leaves) (length a) number
+number-here : {K V : Type 0} (most : ℕ) (slots : List (Content K V)) (leaves : List (LevelNode K V)) (lower : List (List (LevelNode K ℕ)))
+    (a : List (K × ℕ)) (first : K) (number : ℕ) (b : List (K × ℕ)) → Under most slots leaves lower (a ++ (first, number) ∷ b) → lower ≡ []
+    → NumberAt (heads leaves) (length a) number
 number-here most slots leaves [] a first number b u none = (first, ap (λ z. slice_get z (length a)) u.stacked ∙ slice_get_at a (first, number) b (length a) refl)
 number-here most slots leaves (row ∷ lower) a first number b u none = absurd (omega (arith, ap length none))
 
-module _ {K V : Type 0} {most : ℕ} {slots : List (Content K V)} (capacity : IsLeafCapacity most) (leaves : List (LevelNode K V)) (lower : List (List (LevelNode K ℕ))) (a : List (K × ℕ)) (first : K) (number : ℕ) (b : List (K × ℕ)) (u : Under most slots leaves lower (a ++ (first, number) ∷ b)) {content : Content K V} (read : slice_get slots number ≡ Some content) where
+module _ {K V : Type 0} {most : ℕ} {slots : List (Content K V)} (capacity : IsLeafCapacity most) (leaves : List (LevelNode K V))
+    (lower : List (List (LevelNode K ℕ))) (a : List (K × ℕ)) (first : K) (number : ℕ) (b : List (K × ℕ))
+    (u : Under most slots leaves lower (a ++ (first, number) ∷ b)) {content : Content K V}
+    (read : slice_get slots number ≡ Some content) where
   -- at a leaf the way has ended
   module _ (other : IsInner content → ⊥) where
     ended : LeafUnder most slots leaves lower a first number b
@@ -65,12 +70,28 @@ module _ {K V : Type 0} {most : ℕ} {slots : List (Content K V)} (capacity : Is
       pub front_is : length front ≡ length (flat below.at.before) + index
       pub sum_is : length front + suc (length back) ≡ length (flat below.row)
 
-    module _ {index child : ℕ} (low : index ≤ length below.at.es) (reads : (keys : List K) (children : List ℕ) → slice_get slots number ≡ Some (Inner keys children) → slice_get children index ≡ Some child) {spot next : Spot} (code : next.code ≡ spot.code * 8 + index) (parent : next.parent ≡ number) (grand : next.grand ≡ spot.parent) (height : next.height ≡ suc spot.height) {upper : List (List (LevelNode K ℕ))} {numbers : List ℕ} (w : IsWay numbers spot upper (length a)) where
+    module _ {index child : ℕ} (low : index ≤ length below.at.es)
+        (reads : (keys : List K) (children : List ℕ) → slice_get slots number ≡ Some (Inner keys children)
+        → slice_get children index ≡ Some child) {spot next : Spot} (code : next.code ≡ spot.code * 8 + index)
+        (parent : next.parent ≡ number) (grand : next.grand ≡ spot.parent)
+        (height : next.height ≡ suc spot.height) {upper : List (List (LevelNode K ℕ))} {numbers : List ℕ}
+        (w : IsWay numbers spot upper (length a)) where
       way-down : (place : ℕ) → place ≡ length (flat below.at.before) + index → IsWay (number ∷ numbers) next (below.row ∷ upper) place
       way-down place place_is =
           let d = digit-put spot.code index next.code (omega (arith, low, room)) code in
           record {
-            coded = (record { before = below.at.before; entries = below.at.e ∷ below.at.es; after = below.at.after; row_is = below.at.row_is; within = omega (arith, d.0, low); place_is = omega (arith, d.0, place_is) }, subst (λ z. Coded numbers upper z (length below.at.before)) (sym d.1) (subst (λ z. Coded numbers upper spot.code z) (sym below.at.before_is) w.coded));
+            coded = (
+              record {
+                before = below.at.before;
+                entries = below.at.e ∷ below.at.es;
+                after = below.at.after;
+                row_is = below.at.row_is;
+                within = omega (arith, d.0, low);
+                place_is = omega (arith, d.0, place_is);
+              },
+              subst (λ z. Coded numbers upper z (length below.at.before)) (sym d.1)
+                  (subst (λ z. Coded numbers upper spot.code z) (sym below.at.before_is) w.coded),
+            );
             parent_is = λ some. sym parent;
             grand_is = λ some. w.parent_is (omega (arith, some, height)) ∙ sym grand;
             height_is = height ∙ ap suc w.height_is;
@@ -90,7 +111,9 @@ module _ {K V : Type 0} (most : ℕ) (slots : List (Content K V)) (Side : List (
   -- the way down one side of a tree goes on from a node to its child at this index
   pub record Turns : Type 0 where
     pub within : (leaves : List (LevelNode K V)) (lower : List (List (LevelNode K ℕ))) (a : List (K × ℕ)) (first : K) (b : List (K × ℕ)) (s : InnerUnder most slots leaves lower a first number b) → Side a b → index ≤ length s.at.es
-    pub keeps : (leaves : List (LevelNode K V)) (lower : List (List (LevelNode K ℕ))) (a : List (K × ℕ)) (first : K) (b : List (K × ℕ)) (s : InnerUnder most slots leaves lower a first number b) → Side a b → (front back : List (K × ℕ)) → length front ≡ length (flat s.at.before) + index → length front + suc (length back) ≡ length (flat s.row) → Side front back
+    pub keeps : (leaves : List (LevelNode K V)) (lower : List (List (LevelNode K ℕ))) (a : List (K × ℕ)) (first : K) (b : List (K × ℕ))
+        (s : InnerUnder most slots leaves lower a first number b) → Side a b → (front back : List (K × ℕ))
+        → length front ≡ length (flat s.at.before) + index → length front + suc (length back) ≡ length (flat s.row) → Side front back
 
 module _ {K V : Type 0} {most : ℕ} {slots : List (Content K V)} where
   pub first-turns : {number : ℕ} → Turns most slots IsFirst number 0
@@ -137,7 +160,9 @@ module _ {K V : Type 0} {most : ℕ} {slots : List (Content K V)} (capacity : Is
           let r = way-low capacity asked.0 asked.1 asked.4 asked.5 number asked.6 asked.8 read inner asked.9 asked.10 in
           (r.0, r.1, omega (arith, low-here, room capacity asked.0 asked.1 asked.4 asked.5 number asked.6 asked.8 read inner))
 
-    module _ {child : ℕ} (reads : (keys : List K) (children : List ℕ) → slice_get slots number ≡ Some (Inner keys children) → slice_get children index ≡ Some child) {spot next : Spot} (code : next.code ≡ spot.code * 8 + index) (parent : next.parent ≡ number) (grand : next.grand ≡ spot.parent) (height : next.height ≡ suc spot.height) where
+    module _ {child : ℕ} (reads : (keys : List K) (children : List ℕ) → slice_get slots number ≡ Some (Inner keys children)
+        → slice_get children index ≡ Some child) {spot next : Spot} (code : next.code ≡ spot.code * 8 + index)
+        (parent : next.parent ≡ number) (grand : next.grand ≡ spot.parent) (height : next.height ≡ suc spot.height) where
       module _ (leaves : List (LevelNode K V)) (lower upper : List (List (LevelNode K ℕ))) (numbers : List ℕ) (a : List (K × ℕ)) (first : K) (b : List (K × ℕ)) (side : Side a b) (u : Under most slots leaves lower (a ++ (first, number) ∷ b)) (w : IsWay numbers spot upper (length a)) where
         abbrev here : InnerUnder most slots leaves lower a first number b
         here = below capacity leaves lower a first number b u read inner

@@ -113,7 +113,10 @@ module _ {K V : Type 0} (cmp : K → K → Ordering) (o : IsTotalOrder cmp) (mos
     follow_asks = (entry_keys s.here.at.es, entry_items (s.here.at.e ∷ s.here.at.es), s.here.slot_is, increasing_rest cmp o s.here.at.e s.here.at.es s.increasing)
 
     -- following a child gives the search one level down
-    pub below : (index child : ℕ) → ((keys : List K) (children : List ℕ) → slice_get slots number ≡ Some (Inner keys children) → index ≡ child_index cmp keys key) → ((keys : List K) (children : List ℕ) → slice_get slots number ≡ Some (Inner keys children) → slice_get children index ≡ Some child) → Below s index child
+    pub below : (index child : ℕ)
+        → ((keys : List K) (children : List ℕ) → slice_get slots number ≡ Some (Inner keys children) → index ≡ child_index cmp keys key)
+        → ((keys : List K) (children : List ℕ) → slice_get slots number ≡ Some (Inner keys children)
+        → slice_get children index ≡ Some child) → Below s index child
     below index child says reads =
         let index_is = says (entry_keys s.here.at.es) (entry_items (s.here.at.e ∷ s.here.at.es)) s.here.slot_is in
         let child_at = reads (entry_keys s.here.at.es) (entry_items (s.here.at.e ∷ s.here.at.es)) s.here.slot_is in
@@ -183,7 +186,9 @@ module _ {K V : Type 0} (cmp : K → K → Ordering) (o : IsTotalOrder cmp) (mos
         }
 
     -- the end of the descent
-    pub landed : (path indices path' indices' : List ℕ) (answer : Option V) → 0 < length path → 0 < length indices → path' ≡ set path 0 number → indices' ≡ set indices 0 (place cmp entries key) → answer ≡ value_for cmp entries key → (answer ≡ value_for cmp (flat leaves) key) × Descended cmp leaves lower key (length a) path indices path' indices'
+    pub landed : (path indices path' indices' : List ℕ) (answer : Option V) → 0 < length path → 0 < length indices
+        → path' ≡ set path 0 number → indices' ≡ set indices 0 (place cmp entries key) → answer ≡ value_for cmp entries key
+        → (answer ≡ value_for cmp (flat leaves) key) × Descended cmp leaves lower key (length a) path indices path' indices'
     landed path indices path' indices' answer wide wide' nodes indices_are answer_is = (
       answer_is ∙ sym leaf_value,
       subst (λ (z : List (List (LevelNode K ℕ))). Descended cmp leaves z key (length a) path indices path' indices') (sym s.here.lower_is) (record {

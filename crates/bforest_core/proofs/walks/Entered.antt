@@ -38,7 +38,9 @@ module _ {K V : Type 0} {most : ℕ} (one : 1 ≤ half_of most) {slots : List (C
   in_leaf path indices before entries after row_is above = within leaf_content slots most (half_of most) one tree.leaves fit.leaves_fit inside.leaves_in path indices 0 tree.above (length before) before entries after row_is refl above
 
   -- a path with the same nodes, and the same indices but in the leaf, points into the same leaf
-  abbrev pub points_in : {path indices : List ℕ} {leaf : ℕ} (w : InLeaf path indices leaf) (size : ℕ) → size ≡ suc (length tree.above) → (path' indices' : List ℕ) (place : ℕ) → path' ≡ path → SameBut 0 indices indices' → get_or indices' 0 0 ≤ length w.entries → place ≡ length (flat w.before) + get_or indices' 0 0 → PointsAt path' indices' size tree place
+  abbrev pub points_in : {path indices : List ℕ} {leaf : ℕ} (w : InLeaf path indices leaf) (size : ℕ) → size ≡ suc (length tree.above)
+      → (path' indices' : List ℕ) (place : ℕ) → path' ≡ path → SameBut 0 indices indices' → get_or indices' 0 0 ≤ length w.entries
+      → place ≡ length (flat w.before) + get_or indices' 0 0 → PointsAt path' indices' size tree place
   points_in {path} {indices} {leaf} w size size_is path' indices' place path_is same low place_is = record {
     before = w.before;
     entries = w.entries;
@@ -50,7 +52,9 @@ module _ {K V : Type 0} {most : ℕ} (one : 1 ≤ half_of most) {slots : List (C
     size_is = size_is;
   }
 
-  stands_in : {path indices : List ℕ} {leaf : ℕ} (w : InLeaf path indices leaf) (size : ℕ) → size ≡ suc (length tree.above) → (path' indices' : List ℕ) (place : ℕ) → path' ≡ path → SameBut 0 indices indices' → get_or indices' 0 0 < length w.entries → place ≡ length (flat w.before) + get_or indices' 0 0 → Stands path' indices' size tree place
+  stands_in : {path indices : List ℕ} {leaf : ℕ} (w : InLeaf path indices leaf) (size : ℕ) → size ≡ suc (length tree.above)
+      → (path' indices' : List ℕ) (place : ℕ) → path' ≡ path → SameBut 0 indices indices' → get_or indices' 0 0 < length w.entries
+      → place ≡ length (flat w.before) + get_or indices' 0 0 → Stands path' indices' size tree place
   stands_in w size size_is path' indices' place path_is same low place_is = stands-pointed (points_in w size size_is path' indices' place path_is same (omega (arith, low)) place_is) low
 
   -- a path that moved to the front of the next leaf stands on the next entry
@@ -95,7 +99,10 @@ module _ {K V : Type 0} {most : ℕ} (one : 1 ≤ half_of most) {slots : List (C
       leaf_ends = omega (arith, s.leaf.place_is, s.leaf.within, read_none s.leaf.entries (get_or indices 0 0 + 1) (none s.leaf.entries leaf_here.slot_is))
 
       -- the next entry is the first of the next leaf
-      pub next_over : (path1 indices1 path' indices' : List ℕ) → ((rows : List (List (LevelNode K ℕ))) (list : List (K × ℕ)) (at : ℕ) → Over slots path indices 1 size rows list at → Moved path indices path1 indices1 0 rows list (suc at)) → path' ≡ path1 → get_or indices' 0 0 ≡ 0 → SameBut 0 indices1 indices' → Stands path' indices' size tree (suc place)
+      pub next_over : (path1 indices1 path' indices' : List ℕ)
+          → ((rows : List (List (LevelNode K ℕ))) (list : List (K × ℕ)) (at : ℕ)
+          → Over slots path indices 1 size rows list at → Moved path indices path1 indices1 0 rows list (suc at)) → path' ≡ path1
+          → get_or indices' 0 0 ≡ 0 → SameBut 0 indices1 indices' → Stands path' indices' size tree (suc place)
       next_over path1 indices1 path' indices' moved path_is here above =
           subst (λ (z : ℕ). Stands path' indices' size tree z) (sym leaf_ends) (first_behind leaf_here size s.size_is path1 indices1 path' indices' (moved tree.above (heads tree.leaves) (length s.leaf.before) over_leaves) path_is here above)
 
@@ -121,7 +128,10 @@ module _ {K V : Type 0} {most : ℕ} (one : 1 ≤ half_of most) {slots : List (C
       back_asks = last_asks leaf_content slots most back_leaf key_total r wide
 
       -- the previous entry is the last of the previous leaf
-      pub back_over : (path' indices' : List ℕ) (last : ℕ) → ((x : Content K V) → slice_get slots (get_or path1 0 r) ≡ Some x → last ≡ entry_count x - 1) → path' ≡ path1 → get_or indices 0 0 ≤ 0 → get_or indices' 0 0 ≡ last → SameBut 0 indices1 indices' → (0 < place) × Stands path' indices' size tree (place - 1)
+      pub back_over : (path' indices' : List ℕ) (last : ℕ)
+          → ((x : Content K V) → slice_get slots (get_or path1 0 r) ≡ Some x → last ≡ entry_count x - 1) → path' ≡ path1
+          → get_or indices 0 0 ≤ 0 → get_or indices' 0 0 ≡ last → SameBut 0 indices1 indices' → (0 < place)
+          × Stands path' indices' size tree (place - 1)
       back_over path' indices' last says path_is none here above =
           let last_at = last_is leaf_content slots most back_leaf key_total r wide last says in
           let seam_is = seam leaf_content slots most back_leaf leaf_here (omega (arith, went.0)) in

@@ -30,7 +30,9 @@ last_place half most one row a first number at =
 
 module _ {K V : Type 0} (most : ℕ) (slots : List (Content K V)) (leaves : List (LevelNode K V)) (lower : List (List (LevelNode K ℕ))) (a : List (K × ℕ)) (first : K) (number : ℕ) (b : List (K × ℕ)) (path indices : List ℕ) where
   -- the path leads to an entry of a leaf
-  leaf_led : (s : LeafUnder most slots leaves lower a first number b) (path' indices' : List ℕ) (index place : ℕ) → index ≤ length s.at.es → place ≡ length (flat s.at.before) + index → get_or path' 0 0 ≡ number → get_or indices' 0 0 ≡ index → SameBut 0 path path' → SameBut 0 indices indices' → LedTo leaves lower place (length a) path indices path' indices'
+  leaf_led : (s : LeafUnder most slots leaves lower a first number b) (path' indices' : List ℕ) (index place : ℕ) → index ≤ length s.at.es
+      → place ≡ length (flat s.at.before) + index → get_or path' 0 0 ≡ number → get_or indices' 0 0 ≡ index → SameBut 0 path path'
+      → SameBut 0 indices indices' → LedTo leaves lower place (length a) path indices path' indices'
   leaf_led s path' indices' index place within place_is m_is j_is nodes entries =
       subst (λ (z : List (List (LevelNode K ℕ))). LedTo leaves z place (length a) path indices path' indices') (sym s.lower_is) (record {
         leaf = seen_at s.at (get_or path' 0 0) (get_or indices' 0 0) index place m_is j_is within place_is;
@@ -40,7 +42,9 @@ module _ {K V : Type 0} (most : ℕ) (slots : List (Content K V)) (leaves : List
       })
 
   -- the path, once it was written at an inner node, leads on from a child
-  inner_led : (s : InnerUnder most slots leaves lower a first number b) (path1 indices1 path2 indices2 : List ℕ) (high index place top : ℕ) → high ≡ suc (length s.rows) → index ≤ length s.at.es → top ≡ length (flat s.at.before) + index → LedTo leaves s.rows place top path1 indices1 path2 indices2 → get_or path1 high 0 ≡ number → get_or indices1 high 0 ≡ index →
+  inner_led : (s : InnerUnder most slots leaves lower a first number b) (path1 indices1 path2 indices2 : List ℕ) (high index place top : ℕ)
+      → high ≡ suc (length s.rows) → index ≤ length s.at.es → top ≡ length (flat s.at.before) + index
+      → LedTo leaves s.rows place top path1 indices1 path2 indices2 → get_or path1 high 0 ≡ number → get_or indices1 high 0 ≡ index →
       SameBut high path path1 → SameBut high indices indices1 → LedTo leaves lower place (length a) path indices path2 indices2
   inner_led s path1 indices1 path2 indices2 high index place top high_is within top_is d m_is j_is nodes entries =
       let node_is = d.nodes_above high (omega (arith, high_is)) ∙ m_is in
@@ -63,7 +67,9 @@ module _ {K V : Type 0} (most : ℕ) (slots : List (Content K V)) (leaves : List
   child_asks index within = (subst IsInner (sym content_is) tt, subst (λ (z : Content K V). index < entry_count z) (sym content_is) (omega (arith, within, item_count (s.at.e ∷ s.at.es))))
 
   -- the leaves and rows under a child
-  pub child_under : (index child : ℕ) → slice_get (children_of content2) index ≡ Some child → (front : List (K × ℕ)) × (key : K) × (back : List (K × ℕ)) × Under most slots leaves s.rows (front ++ (key, child) ∷ back) × (length front ≡ length (flat s.at.before) + index) × (length front + suc (length back) ≡ length (flat s.row))
+  pub child_under : (index child : ℕ) → slice_get (children_of content2) index ≡ Some child → (front : List (K × ℕ)) × (key : K)
+      × (back : List (K × ℕ)) × Under most slots leaves s.rows (front ++ (key, child) ∷ back)
+      × (length front ≡ length (flat s.at.before) + index) × (length front + suc (length back) ≡ length (flat s.row))
   child_under index child found =
       let c = child_cut (s.at.e ∷ s.at.es) index child (ap (λ z. slice_get (children_of z) index) (sym content_is) ∙ found) in
       let front = flat s.at.before ++ c.0 in
@@ -114,7 +120,9 @@ module _ {K V : Type 0} (most : ℕ) (one : 1 ≤ half_of most) (slots : List (C
           record { rows = front_node.rows; first = c.1; rest = c.2; under = subst (λ (z : List (K × ℕ)). Under most slots leaves front_node.rows (z ++ (c.1, child) ∷ c.2)) none c.3; count_is = front_node.count_is }
 
 -- a node on a level that is known, whose index in the path was written
-module _ {K V : Type 0} (most : ℕ) (one : 1 ≤ half_of most) (slots : List (Content K V)) (leaves : List (LevelNode K V)) (lower : List (List (LevelNode K ℕ))) (a : List (K × ℕ)) (first : K) (number : ℕ) (b : List (K × ℕ)) (u : Under most slots leaves lower (a ++ (first, number) ∷ b)) {level : ℕ} (level_is : level ≡ length lower) where
+module _ {K V : Type 0} (most : ℕ) (one : 1 ≤ half_of most) (slots : List (Content K V)) (leaves : List (LevelNode K V))
+    (lower : List (List (LevelNode K ℕ))) (a : List (K × ℕ)) (first : K) (number : ℕ) (b : List (K × ℕ))
+    (u : Under most slots leaves lower (a ++ (first, number) ∷ b)) {level : ℕ} (level_is : level ≡ length lower) where
   abbrev at_leaf : level ≡ 0 → LeafUnder most slots leaves lower a first number b
   at_leaf none = leaf_at most one slots leaves lower a first number b u (omega (arith, level_is, none))
 
@@ -125,12 +133,19 @@ module _ {K V : Type 0} (most : ℕ) (one : 1 ≤ half_of most) (slots : List (C
     -- the node is a leaf
     ended : (none : level ≡ 0) (place : ℕ) → index ≤ length (at_leaf none).at.es → place ≡ length (flat (at_leaf none).at.before) + index → LedTo leaves lower place (length a) path indices path1 indices1
     ended none place within place_is =
-        leaf_led most slots leaves lower a first number b path indices (at_leaf none) path1 indices1 index place within place_is (ap (λ z. get_or path1 z 0) (sym none) ∙ node_here) (ap (λ z. get_or indices1 z 0) (sym none) ∙ entry_here) (λ i ne. set_but path path1 level number path_is i (λ e. ne (e ∙ none))) (λ i ne. set_but indices indices1 level index indices_are i (λ e. ne (e ∙ none)))
+        leaf_led most slots leaves lower a first number b path indices (at_leaf none) path1 indices1 index place within place_is
+        (ap (λ z. get_or path1 z 0) (sym none) ∙ node_here) (ap (λ z. get_or indices1 z 0) (sym none) ∙ entry_here)
+        (λ i ne. set_but path path1 level number path_is i (λ e. ne (e ∙ none)))
+        (λ i ne. set_but indices indices1 level index indices_are i (λ e. ne (e ∙ none)))
 
     -- the path leads on from a child of the node
-    led_on : (some : level ≢ 0) (path2 indices2 : List ℕ) (place top : ℕ) → index ≤ length (at_inner some).at.es → top ≡ length (flat (at_inner some).at.before) + index → LedTo leaves (at_inner some).rows place top path1 indices1 path2 indices2 → LedTo leaves lower place (length a) path indices path2 indices2
+    led_on : (some : level ≢ 0) (path2 indices2 : List ℕ) (place top : ℕ) → index ≤ length (at_inner some).at.es
+        → top ≡ length (flat (at_inner some).at.before) + index → LedTo leaves (at_inner some).rows place top path1 indices1 path2 indices2
+        → LedTo leaves lower place (length a) path indices path2 indices2
     led_on some path2 indices2 place top within top_is d =
-        inner_led most slots leaves lower a first number b path indices (at_inner some) path1 indices1 path2 indices2 level index place top (level_is ∙ (at_inner some).count_is) within top_is d node_here entry_here (set_but path path1 level number path_is) (set_but indices indices1 level index indices_are)
+        inner_led most slots leaves lower a first number b path indices (at_inner some) path1 indices1 path2 indices2 level index place top
+        (level_is ∙ (at_inner some).count_is) within top_is d node_here entry_here (set_but path path1 level number path_is)
+        (set_but indices indices1 level index indices_are)
 
   module _ (some : level ≢ 0) (index : ℕ) (within : index ≤ length (at_inner some).at.es) where
     -- the node meets what reading the child requires
@@ -138,11 +153,17 @@ module _ {K V : Type 0} (most : ℕ) (one : 1 ≤ half_of most) (slots : List (C
     inner_asks = let es = (at_inner some).at.e ∷ (at_inner some).at.es in (drop 1 (entry_keys es), entry_items es, (at_inner some).slot_is, omega (arith, within, item_count es))
 
     -- the leaves and rows under the child
-    inner_below : (child : ℕ) → ((keys : List K) (children : List ℕ) → slice_get slots number ≡ Some (Inner keys children) → slice_get children index ≡ Some child) → (front : List (K × ℕ)) × (key : K) × (back : List (K × ℕ)) × Under most slots leaves (at_inner some).rows (front ++ (key, child) ∷ back) × (length front ≡ length (flat (at_inner some).at.before) + index) × (length front + suc (length back) ≡ length (flat (at_inner some).row))
+    inner_below : (child : ℕ) → ((keys : List K) (children : List ℕ) → slice_get slots number ≡ Some (Inner keys children)
+        → slice_get children index ≡ Some child) → (front : List (K × ℕ)) × (key : K) × (back : List (K × ℕ))
+        × Under most slots leaves (at_inner some).rows (front ++ (key, child) ∷ back)
+        × (length front ≡ length (flat (at_inner some).at.before) + index)
+        × (length front + suc (length back) ≡ length (flat (at_inner some).row))
     inner_below child says = let es = (at_inner some).at.e ∷ (at_inner some).at.es in child_under most slots leaves lower a first number b (at_inner some) (inner_content es) (at_inner some).slot_is index child (says (drop 1 (entry_keys es)) (entry_items es) (at_inner some).slot_is)
 
 -- the descent to the first entry
-module _ {K V : Type 0} (most : ℕ) (one : 1 ≤ half_of most) (slots : List (Content K V)) (leaves : List (LevelNode K V)) (lower : List (List (LevelNode K ℕ))) (first : K) (number : ℕ) (b : List (K × ℕ)) (u : Under most slots leaves lower ((first, number) ∷ b)) {level : ℕ} (level_is : level ≡ length lower) where
+module _ {K V : Type 0} (most : ℕ) (one : 1 ≤ half_of most) (slots : List (Content K V)) (leaves : List (LevelNode K V))
+    (lower : List (List (LevelNode K ℕ))) (first : K) (number : ℕ) (b : List (K × ℕ))
+    (u : Under most slots leaves lower ((first, number) ∷ b)) {level : ℕ} (level_is : level ≡ length lower) where
   -- at the leaf
   pub first_ends : level ≡ 0 → (path indices path1 indices1 : List ℕ) → get_or path1 level 0 ≡ number → get_or indices1 level 0 ≡ 0 → path1 ≡ set path level number → indices1 ≡ set indices level 0 → Led leaves lower path indices path1 indices1
   first_ends none path indices path1 indices1 node_here entry_here path_is indices_are =
@@ -163,17 +184,24 @@ module _ {K V : Type 0} (most : ℕ) (one : 1 ≤ half_of most) (slots : List (C
           let none = nil_from_length c.0 (omega (arith, c.4, none_flat s.at.before s.at.before_is)) in
           (leaves, s.rows, c.1, c.2, subst (λ (z : List (K × ℕ)). Under most slots leaves s.rows (z ++ (c.1, child) ∷ c.2)) none c.3, omega (arith, level_is, s.count_is))
 
-      pub first_led : (path indices path1 indices1 path2 indices2 : List ℕ) → get_or path1 level 0 ≡ number → get_or indices1 level 0 ≡ 0 → path1 ≡ set path level number → indices1 ≡ set indices level 0 → LeadsFirst most slots path1 indices1 path2 indices2 child (level - 1) → Led leaves lower path indices path2 indices2
+      pub first_led : (path indices path1 indices1 path2 indices2 : List ℕ) → get_or path1 level 0 ≡ number → get_or indices1 level 0 ≡ 0
+          → path1 ≡ set path level number → indices1 ≡ set indices level 0
+          → LeadsFirst most slots path1 indices1 path2 indices2 child (level - 1) → Led leaves lower path indices path2 indices2
       unfolding first_goes
       first_led path indices path1 indices1 path2 indices2 node_here entry_here path_is indices_are leads =
           let s = at_inner most one slots leaves lower [] first number b u level_is some in
           let g = first_goes in
           let d = leads g.0 g.1 g.2 g.3 g.4 g.5 in
-          let l = led_on most one slots leaves lower [] first number b u level_is path indices path1 indices1 0 node_here entry_here path_is indices_are some path2 indices2 0 0 (omega arith) (omega (arith, none_flat s.at.before s.at.before_is)) (record { leaf = d.leaf; stands = d.stands; nodes_above = d.nodes_above; entries_above = d.entries_above }) in
+          let l = led_on most one slots leaves lower [] first number b u level_is path indices path1 indices1 0 node_here entry_here path_is
+          indices_are some path2 indices2 0 0 (omega arith) (omega (arith, none_flat s.at.before s.at.before_is))
+          (record { leaf = d.leaf; stands = d.stands; nodes_above = d.nodes_above; entries_above = d.entries_above }) in
           record { leaf = l.leaf; stands = l.stands; nodes_above = l.nodes_above; entries_above = l.entries_above }
 
 -- the descent to the last entry
-module _ {K V : Type 0} (most : ℕ) (one : 1 ≤ half_of most) (slots : List (Content K V)) (leaves : List (LevelNode K V)) (lower : List (List (LevelNode K ℕ))) (a : List (K × ℕ)) (first : K) (number : ℕ) (u : Under most slots leaves lower (a ++ (first, number) ∷ [])) {level : ℕ} (level_is : level ≡ length lower) (last : ℕ) (last_is : (x : Content K V) → slice_get slots number ≡ Some x → last ≡ entry_count x - 1) where
+module _ {K V : Type 0} (most : ℕ) (one : 1 ≤ half_of most) (slots : List (Content K V)) (leaves : List (LevelNode K V))
+    (lower : List (List (LevelNode K ℕ))) (a : List (K × ℕ)) (first : K) (number : ℕ)
+    (u : Under most slots leaves lower (a ++ (first, number) ∷ [])) {level : ℕ} (level_is : level ≡ length lower) (last : ℕ)
+    (last_is : (x : Content K V) → slice_get slots number ≡ Some x → last ≡ entry_count x - 1) where
   -- at the leaf
   pub last_ends : level ≡ 0 → (path indices path1 indices1 : List ℕ) → get_or path1 level 0 ≡ number → get_or indices1 level 0 ≡ last → path1 ≡ set path level number → indices1 ≡ set indices level last → LedLast leaves lower (length a) path indices path1 indices1
   last_ends none path indices path1 indices1 node_here entry_here path_is indices_are =
@@ -203,10 +231,15 @@ module _ {K V : Type 0} (most : ℕ) (one : 1 ≤ half_of most) (slots : List (C
       pub last_goes : (leaves : List (LevelNode K V)) × (lower : List (List (LevelNode K ℕ))) × (before : List (K × ℕ)) × (first : K) × Under most slots leaves lower (before ++ (first, child) ∷ []) × (level - 1 ≡ length lower)
       last_goes = (leaves, back_node.rows, below.0, below.1, below.2, omega (arith, level_is, back_node.count_is))
 
-      pub last_led : (path indices path1 indices1 path2 indices2 : List ℕ) → get_or path1 level 0 ≡ number → get_or indices1 level 0 ≡ last → path1 ≡ set path level number → indices1 ≡ set indices level last → LeadsLast most slots path1 indices1 path2 indices2 child (level - 1) → LedLast leaves lower (length a) path indices path2 indices2
+      pub last_led : (path indices path1 indices1 path2 indices2 : List ℕ) → get_or path1 level 0 ≡ number → get_or indices1 level 0 ≡ last
+          → path1 ≡ set path level number → indices1 ≡ set indices level last
+          → LeadsLast most slots path1 indices1 path2 indices2 child (level - 1)
+          → LedLast leaves lower (length a) path indices path2 indices2
       last_led path indices path1 indices1 path2 indices2 node_here entry_here path_is indices_are leads =
           let d = leads leaves back_node.rows below.0 below.1 below.2 (omega (arith, level_is, back_node.count_is)) in
-          let l = led_on most one slots leaves lower a first number [] u level_is path indices path1 indices1 last node_here entry_here path_is indices_are some path2 indices2 (length (flat leaves) - 1) (length below.0) (omega (arith, index)) below.3 (record { leaf = d.leaf; stands = d.stands; nodes_above = d.nodes_above; entries_above = d.entries_above }) in
+          let l = led_on most one slots leaves lower a first number [] u level_is path indices path1 indices1 last node_here entry_here
+          path_is indices_are some path2 indices2 (length (flat leaves) - 1) (length below.0) (omega (arith, index)) below.3
+          (record { leaf = d.leaf; stands = d.stands; nodes_above = d.nodes_above; entries_above = d.entries_above }) in
           record { leaf = l.leaf; stands = l.stands; nodes_above = l.nodes_above; entries_above = l.entries_above }
 
 -- a path that descended from the root stands at the last entry

@@ -137,7 +137,9 @@ module _ {K V : Type 0} {n : ℕ} (cmp : K → K → Ordering) (o : IsTotalOrder
       IsUpTo cmp (drop p (list_under table root)) key → cmp key e.0 ≡ Greater → Ended table root path' cmp key None
   before-greater zero value on e is path' union same index_is above size_is up t = let bad : Some e ≡ None = sym is ∙ value in absurd (cc)
   before-greater (suc p) value on e is path' union same index_is above size_is up t =
-      ended table root path' cmp key (suc p) None (finds_behind cmp o key (list_under table root) p e (sym value ∙ is) increasing t up) (λ some. never some refl) (λ none. placed-behind table root path union path' p (subst (λ (z : ℕ). StandsOn table root path z) (omega arith) on) same index_is above size_is)
+      ended table root path' cmp key (suc p) None (finds_behind cmp o key (list_under table root) p e (sym value ∙ is) increasing t up)
+      (λ some. never some refl) (λ none. placed-behind table root path union path' p
+      (subst (λ (z : ℕ). StandsOn table root path z) (omega arith) on) same index_is above size_is)
 
 -- a path at a place
 module _ {K V : Type 0} {n : ℕ} (table : Table K V) (root : ℕ) (path : Path K V n) (p : ℕ) (at : StandsAt table root path p) where

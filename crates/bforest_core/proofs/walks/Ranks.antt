@@ -6,7 +6,9 @@ use Rattle.bforest_core.specs.declared.spot.Spot.{Spot}
 
 module _ {K X : Type 0} where
   -- the entries of a node end in front of those of a later one
-  pub in-front : (before : List (LevelNode K X)) (a : ℕ) (es : List (K × X)) (after before2 : List (LevelNode K X)) (b : ℕ) (fs : List (K × X)) (after2 : List (LevelNode K X)) → before ++ node a es ∷ after ≡ before2 ++ node b fs ∷ after2 → length before < length before2 → length (flat before) + length es ≤ length (flat before2)
+  pub in-front : (before : List (LevelNode K X)) (a : ℕ) (es : List (K × X)) (after before2 : List (LevelNode K X)) (b : ℕ)
+      (fs : List (K × X)) (after2 : List (LevelNode K X)) → before ++ node a es ∷ after ≡ before2 ++ node b fs ∷ after2
+      → length before < length before2 → length (flat before) + length es ≤ length (flat before2)
   in-front before a es after [] b fs after2 e low = absurd (omega (arith, low))
   in-front [] a es after (node m xs ∷ before2) b fs after2 e low =
       let same : es ≡ xs = cc in omega (arith, ap length same, length-append xs (flat before2))

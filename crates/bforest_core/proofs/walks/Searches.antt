@@ -19,7 +19,9 @@ use Rattle.bforest_core.proofs.walks.TopNode.{InnerUnder, inner_under, leaf_unde
 use Rattle.bforest_core.proofs.walks.Whole.{all_through}
 
 -- a node of a row over eight children at most
-row-low : {K V : Type 0} {most : ℕ} {slots : List (Content K V)} {leaves : List (LevelNode K V)} {lower : List (List (LevelNode K ℕ))} {a : List (K × ℕ)} {first : K} {number : ℕ} {b : List (K × ℕ)} → Under most slots leaves lower (a ++ (first, number) ∷ b) → (s : InnerUnder most slots leaves lower a first number b) → length s.at.es < 8
+row-low : {K V : Type 0} {most : ℕ} {slots : List (Content K V)} {leaves : List (LevelNode K V)} {lower : List (List (LevelNode K ℕ))}
+    {a : List (K × ℕ)} {first : K} {number : ℕ} {b : List (K × ℕ)} → Under most slots leaves lower (a ++ (first, number) ∷ b)
+    → (s : InnerUnder most slots leaves lower a first number b) → length s.at.es < 8
 row-low {leaves = leaves} {a = a} {first = first} {number = number} {b = b} u s =
     let fit = (stacked_last (heads leaves) s.rows s.row (a ++ (first, number) ∷ b) (subst (λ z. StackedTo (heads leaves) z (a ++ (first, number) ∷ b)) s.lower_is u.stacked)).1 in
     omega (arith, (FitRow-split 4 8 s.at.before (node number (s.at.e ∷ s.at.es)) s.at.after (subst (FitRow 4 8) s.at.row_is fit)).1.1)
@@ -87,7 +89,11 @@ module _ {K V : Type 0} {cmp : K → K → Ordering} (o : IsTotalOrder cmp) {mos
       pub deeper-low : depth < 16
       deeper-low = omega (arith, t.low, step.here.count_is)
 
-      module _ (index child : ℕ) (says : (keys : List K) (children : List ℕ) → slice_get slots number ≡ Some (Inner keys children) → index ≡ child_index cmp keys key) (reads : (keys : List K) (children : List ℕ) → slice_get slots number ≡ Some (Inner keys children) → slice_get children index ≡ Some child) where
+      module _ (index child : ℕ)
+          (says : (keys : List K) (children : List ℕ) → slice_get slots number ≡ Some (Inner keys children)
+          → index ≡ child_index cmp keys key)
+          (reads : (keys : List K) (children : List ℕ) → slice_get slots number ≡ Some (Inner keys children)
+          → slice_get children index ≡ Some child) where
         pub to : Below cmp o most one slots leaves t.lower t.before t.first number t.after key step index child
         to = below cmp o most one slots leaves t.lower t.before t.first number t.after key step index child says reads
 
@@ -117,7 +123,18 @@ module _ {K V : Type 0} {cmp : K → K → Ordering} (o : IsTotalOrder cmp) {mos
                 let at = step.here.at in
                 let d = digits spot.code index next.code code digit-low in
                 record {
-                  coded = (record { before = at.before; entries = at.e ∷ at.es; after = at.after; row_is = at.row_is; within = omega (arith, d.0, to.within); place_is = to.place_is ∙ ap (λ z. length (flat at.before) + z) (sym d.0) }, subst (λ z. Coded numbers upper z (length at.before)) (sym d.1) (subst (λ z. Coded numbers upper spot.code z) (sym at.before_is) w.coded));
+                  coded = (
+                    record {
+                      before = at.before;
+                      entries = at.e ∷ at.es;
+                      after = at.after;
+                      row_is = at.row_is;
+                      within = omega (arith, d.0, to.within);
+                      place_is = to.place_is ∙ ap (λ z. length (flat at.before) + z) (sym d.0);
+                    },
+                    subst (λ z. Coded numbers upper z (length at.before)) (sym d.1)
+                        (subst (λ z. Coded numbers upper spot.code z) (sym at.before_is) w.coded),
+                  );
                   parent_is = λ low. sym parent;
                   grand_is = λ low. w.parent_is (omega (arith, low, height)) ∙ sym grand;
                   height_is = height ∙ ap suc w.height_is;
@@ -139,7 +156,9 @@ GoesOn {K} {V} cmp most slots key spot number next child =
     (leaves : List (LevelNode K V)) (upper : List (List (LevelNode K ℕ))) (numbers : List ℕ) (on : SearchThrough cmp most slots leaves key number spot.height) → IsWay numbers spot upper (length on.before) → WayBelow cmp most slots leaves on.lower upper key next child
 
 -- the search at the root
-abbrev pub search-root : {K V : Type 0} {cmp : K → K → Ordering} {most : ℕ} {table : Table K V} {root : ℕ} {key : K} (union : IsUnion most table) (is : IsTrue (is_root table.nodes root)) → IsIncreasing cmp (flat (tree_of table.nodes root).leaves) → (depth : ℕ) → depth ≡ 0 → SearchThrough cmp most table.nodes (tree_of table.nodes root).leaves key root depth
+abbrev pub search-root : {K V : Type 0} {cmp : K → K → Ordering} {most : ℕ} {table : Table K V} {root : ℕ} {key : K}
+    (union : IsUnion most table) (is : IsTrue (is_root table.nodes root)) → IsIncreasing cmp (flat (tree_of table.nodes root).leaves)
+    → (depth : ℕ) → depth ≡ 0 → SearchThrough cmp most table.nodes (tree_of table.nodes root).leaves key root depth
 search-root {cmp = cmp} {most = most} {table = table} {root = root} {key = key} union is increasing depth none =
     let u = under-root most table root union is in
     record { lower = (tree_of table.nodes root).above; before = []; first = u.first; after = []; under = u.under; increasing = increasing; through = all_through cmp u.first key; low = omega (arith, u.low, none) }

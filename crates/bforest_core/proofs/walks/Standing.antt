@@ -194,7 +194,15 @@ module _ {K V : Type 0} {n : ℕ} (most : ℕ) (table : Table K V) (root : ℕ) 
       let at = to.points in
       let r = rooted most table root union to.root_is in
       let m = leaf_of path in
-      let none : count m (numbers at.before) ≡ 0 = omega (arith, r.apart m, count-append m (numbers_of tree) table.chain, count-append m (numbers tree.leaves) (flat_map numbers tree.above), ap (λ z. count m (numbers z)) at.leaves_are, count-row m at.before m at.entries at.after, count-same m (numbers at.after)) in
+      let none : count m (numbers at.before) ≡ 0 = omega (
+        arith,
+        r.apart m,
+        count-append m (numbers_of tree) table.chain,
+        count-append m (numbers tree.leaves) (flat_map numbers tree.above),
+        ap (λ z. count m (numbers z)) at.leaves_are,
+        count-row m at.before m at.entries at.after,
+        count-same m (numbers at.after),
+      ) in
       let some : (path.size == 0) ≡ false = elim (eqb_tells path.size 0) [ inl w ↦ absurd (omega (arith, w.1, at.size_is)) | inr w ↦ w.0 ] in
       (λ j. if some j then length (list_under table root) else place_in tree.leaves m (index_of path))
       ∙ ap (λ z. place_in z m (index_of path)) at.leaves_are

@@ -53,7 +53,9 @@ module _ {K V X : Type 0} (content : List (K × X) → Content K V) (slots : Lis
 
   module _ (half : ℕ) (one : 1 ≤ half) (row : List (LevelNode K X)) (fit : FitRow half most row) (inside : RowIn content slots row) where
     -- a path is in its node at this place of the row
-    abbrev pub within : (path indices : List ℕ) (up : ℕ) (rest : List (List (LevelNode K ℕ))) (place : ℕ) (before : List (LevelNode K X)) (entries : List (K × X)) (after : List (LevelNode K X)) → row ≡ before ++ node (get_or path up 0) entries ∷ after → length before ≡ place → StandsAbove path indices (suc up) rest place → Within path indices up row rest place
+    abbrev pub within : (path indices : List ℕ) (up : ℕ) (rest : List (List (LevelNode K ℕ))) (place : ℕ) (before : List (LevelNode K X))
+        (entries : List (K × X)) (after : List (LevelNode K X)) → row ≡ before ++ node (get_or path up 0) entries ∷ after
+        → length before ≡ place → StandsAbove path indices (suc up) rest place → Within path indices up row rest place
     within path indices up rest place before entries after row_is at stands =
         let f = (FitRow-split half most before (node (get_or path up 0) entries) after (subst (FitRow half most) row_is fit)).1 in
         let i = (row-split content slots before (node (get_or path up 0) entries ∷ after) (subst (RowIn content slots) row_is inside)).1.0 in
@@ -73,7 +75,9 @@ module _ {K V X : Type 0} (content : List (K × X) → Content K V) (slots : Lis
     seam {path1 = path1} b is =
         let k = length b.before in
         let x = node (get_or path up 0) a.entries in
-        let two : b.before ≡ a.before ++ x ∷ [] = sym (take_at b.before (node (get_or path1 up 0) b.entries ∷ b.after) k refl) ∙ ap (λ z. take k z) (sym b.row_is ∙ a.row_is ∙ sym (append_assoc a.before (x ∷ []) a.after)) ∙ take_at (a.before ++ x ∷ []) a.after k (omega (arith, is, a.at, b.at, length-append a.before (x ∷ []))) in
+        let two : b.before ≡ a.before ++ x ∷ [] = sym (take_at b.before (node (get_or path1 up 0) b.entries ∷ b.after) k refl)
+        ∙ ap (λ z. take k z) (sym b.row_is ∙ a.row_is ∙ sym (append_assoc a.before (x ∷ []) a.after))
+        ∙ take_at (a.before ++ x ∷ []) a.after k (omega (arith, is, a.at, b.at, length-append a.before (x ∷ []))) in
         omega (arith, ap (λ z. length (flat z)) two, ap length (flat-append a.before (x ∷ [])), length-append (flat a.before) (a.entries ++ []), length-append a.entries [])
 
     -- the last node's entries end the row

@@ -23,7 +23,9 @@ flat_parted before n es l x r after is =
     flat-append before (node n es ∷ after) ∙ ap (λ z. flat before ++ (z ++ flat after)) is ∙ ap (λ z. flat before ++ z) (append_assoc l (x ∷ r) (flat after)) ∙ sym (append_assoc (flat before) l (x ∷ (r ++ flat after)))
 
 -- a path's place at the node
-abbrev pub seen_at : {K X : Type 0} {half most : ℕ} {row : List (LevelNode K X)} {a : List (K × ℕ)} {first : K} {number : ℕ} {b : List (K × ℕ)} (at : Seen half most row a first number b) (n j index place : ℕ) → n ≡ number → j ≡ index → index ≤ length at.es → place ≡ length (flat at.before) + index → IsAt row n j place
+abbrev pub seen_at : {K X : Type 0} {half most : ℕ} {row : List (LevelNode K X)} {a : List (K × ℕ)} {first : K} {number : ℕ}
+    {b : List (K × ℕ)} (at : Seen half most row a first number b) (n j index place : ℕ) → n ≡ number → j ≡ index → index ≤ length at.es
+    → place ≡ length (flat at.before) + index → IsAt row n j place
 seen_at {row = row} {number = number} at n j index place n_is j_is within place_is = at_node row at.before number (at.e ∷ at.es) at.after n j index place at.row_is n_is j_is (omega (arith, within)) place_is
 
 pub record LeafUnder {K V : Type 0} (most : ℕ) (slots : List (Content K V)) (leaves : List (LevelNode K V)) (lower : List (List (LevelNode K ℕ))) (a : List (K × ℕ)) (first : K) (number : ℕ) (b : List (K × ℕ)) : Type 0 where
@@ -40,7 +42,9 @@ pub record InnerUnder {K V : Type 0} (most : ℕ) (slots : List (Content K V)) (
   pub under : Under most slots leaves rows (flat row)
   pub slot_is : slice_get slots number ≡ Some (inner_content (at.e ∷ at.es))
 
-seen_slot : {K V X : Type 0} (content : List (K × X) → Content K V) (slots : List (Content K V)) {half most : ℕ} {row : List (LevelNode K X)} {a : List (K × ℕ)} {first : K} {number : ℕ} {b : List (K × ℕ)} (at : Seen half most row a first number b) → RowIn content slots row → slice_get slots number ≡ Some (content (at.e ∷ at.es))
+seen_slot : {K V X : Type 0} (content : List (K × X) → Content K V)
+    (slots : List (Content K V)) {half most : ℕ} {row : List (LevelNode K X)} {a : List (K × ℕ)} {first : K} {number : ℕ} {b : List (K × ℕ)}
+    (at : Seen half most row a first number b) → RowIn content slots row → slice_get slots number ≡ Some (content (at.e ∷ at.es))
 seen_slot {K} {V} {X} content slots {number = number} at i = (row-split content slots at.before (node number (at.e ∷ at.es) ∷ at.after) (subst (λ (z : List (LevelNode K X)). RowIn content slots z) at.row_is i)).1.0
 
 module _ {K V : Type 0} (most : ℕ) (one : 1 ≤ half_of most) (slots : List (Content K V)) (leaves : List (LevelNode K V)) where

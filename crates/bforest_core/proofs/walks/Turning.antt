@@ -9,7 +9,9 @@ use Rattle.bforest_core.proofs.walks.TopNode.{SameBut}
 
 module _ {K V : Type 0} (slots : List (Content K V)) (path indices : List ℕ) where
   -- the rows from a higher level on
-  pub over-up : (steps : ℕ) {level size : ℕ} {rows : List (List (LevelNode K ℕ))} {list : List (K × ℕ)} {place : ℕ} (to : ℕ) → Over slots path indices level size rows list place → to ≡ level + steps → to ≤ size → (rows : List (List (LevelNode K ℕ))) × (list : List (K × ℕ)) × (place : ℕ) × Over slots path indices to size rows list place
+  pub over-up : (steps : ℕ) {level size : ℕ} {rows : List (List (LevelNode K ℕ))} {list : List (K × ℕ)} {place : ℕ} (to : ℕ)
+      → Over slots path indices level size rows list place → to ≡ level + steps → to ≤ size → (rows : List (List (LevelNode K ℕ)))
+      × (list : List (K × ℕ)) × (place : ℕ) × Over slots path indices to size rows list place
   over-up zero {size = size} {rows = rows} {list = list} {place = place} to p is low =
       (rows, list, place, subst (λ (z : ℕ). Over slots path indices z size rows list place) (omega (arith, is)) p)
   over-up (suc steps) {level = level} {size = size} to p is low =
@@ -17,28 +19,39 @@ module _ {K V : Type 0} (slots : List (Content K V)) (path indices : List ℕ) w
       over-up steps to s.over (omega (arith, is)) low
 
   -- the node on a level meets what the test for a child requires
-  pub turn-asks : {level size : ℕ} {rows : List (List (LevelNode K ℕ))} {list : List (K × ℕ)} {place : ℕ} → Over slots path indices level size rows list place → level ≢ size → size ≤ 17 → (level ≤ 16) × ((entries : List (K × ℕ)) × (slice_get slots (get_or path level 0) ≡ Some (inner_content entries)))
+  pub turn-asks : {level size : ℕ} {rows : List (List (LevelNode K ℕ))} {list : List (K × ℕ)} {place : ℕ}
+      → Over slots path indices level size rows list place → level ≢ size → size ≤ 17 → (level ≤ 16)
+      × ((entries : List (K × ℕ)) × (slice_get slots (get_or path level 0) ≡ Some (inner_content entries)))
   turn-asks {level} {size} p other height =
       let s = spot slots path indices level size _ _ _ p other in
       (omega (arith, height, s.over.height), (s.entries, s.slot_is))
 
   -- the rows above the node meet what a search for the turn from there requires
-  pub turn-above : {level size : ℕ} {rows : List (List (LevelNode K ℕ))} {list : List (K × ℕ)} {place : ℕ} (to : ℕ) → Over slots path indices level size rows list place → level ≢ size → to ≡ suc level → (rows : List (List (LevelNode K ℕ))) × (list : List (K × ℕ)) × (place : ℕ) × Over slots path indices to size rows list place
+  pub turn-above : {level size : ℕ} {rows : List (List (LevelNode K ℕ))} {list : List (K × ℕ)} {place : ℕ} (to : ℕ)
+      → Over slots path indices level size rows list place → level ≢ size → to ≡ suc level → (rows : List (List (LevelNode K ℕ)))
+      × (list : List (K × ℕ)) × (place : ℕ) × Over slots path indices to size rows list place
   turn-above {level} {size} to p other is =
       let s = spot slots path indices level size _ _ _ p other in
       (s.rest, heads s.row, length s.before, subst (λ (z : ℕ). Over slots path indices z size s.rest (heads s.row) (length s.before)) (sym is) s.over)
 
   -- on one level the path's child is the last, where the test for a further one failed
-  pub here-last : {low high : ℕ} (level : ℕ) → low ≡ level → high ≡ suc level → (has : Bool) → ((entries : List (K × ℕ)) → slice_get slots (get_or path level 0) ≡ Some (inner_content entries) → IsTrue has ↔ (get_or indices level 0 + 1 < length entries)) → has ≡ false → AreLast slots path indices low high
+  pub here-last : {low high : ℕ} (level : ℕ) → low ≡ level → high ≡ suc level → (has : Bool)
+      → ((entries : List (K × ℕ)) → slice_get slots (get_or path level 0) ≡ Some (inner_content entries)
+      → IsTrue has ↔ (get_or indices level 0 + 1 < length entries)) → has ≡ false → AreLast slots path indices low high
   here-last level low_is high_is has test is i low high =
-      subst (λ (z : ℕ). (entries : List (K × ℕ)) → slice_get slots (get_or path z 0) ≡ Some (inner_content entries) → length entries ≤ get_or indices z 0 + 1) (omega (arith, low, high, low_is, high_is)) (λ entries slot. not_less (get_or indices level 0 + 1) (length entries) (λ more. false≢true (sym is ∙ (test entries slot).1 more)))
+      subst (λ (z : ℕ). (entries : List (K × ℕ)) → slice_get slots (get_or path z 0) ≡ Some (inner_content entries)
+      → length entries ≤ get_or indices z 0 + 1) (omega (arith, low, high, low_is, high_is))
+      (λ entries slot. not_less (get_or indices level 0 + 1) (length entries)
+      (λ more. false≢true (sym is ∙ (test entries slot).1 more)))
 
   -- two runs of levels, one above the other
   pub both-last : (low between high : ℕ) → AreLast slots path indices low between → AreLast slots path indices between high → AreLast slots path indices low high
   both-last low between high below above i from to =
       elim (cases_lt i between) [ inl less ↦ below i from less | inr more ↦ above i more to ]
 
-  none-more : (up : ℕ) → ((entries : List (K × ℕ)) → slice_get slots (get_or path up 0) ≡ Some (inner_content entries) → length entries ≤ get_or indices up 0 + 1) → (entries : List (K × ℕ)) → slice_get slots (get_or path up 0) ≡ Some (inner_content entries) → IsTrue false ↔ (get_or indices up 0 + 1 < length entries)
+  none-more : (up : ℕ) → ((entries : List (K × ℕ)) → slice_get slots (get_or path up 0) ≡ Some (inner_content entries)
+      → length entries ≤ get_or indices up 0 + 1) → (entries : List (K × ℕ))
+      → slice_get slots (get_or path up 0) ≡ Some (inner_content entries) → IsTrue false ↔ (get_or indices up 0 + 1 < length entries)
   none-more up last entries slot = ((λ yes. absurd (false≢true yes)), λ more. absurd (omega (arith, more, last entries slot)))
 
   -- where each child up to the root is the last, the node is the last of its level
@@ -79,7 +92,9 @@ module _ {K V : Type 0} (slots : List (Content K V)) (path indices : List ℕ) w
           let o = over-up (turn - suc level - 1 + 1) (suc (turn - 1)) p (omega (arith, within)) (omega (arith, within)) in
           next_asks {up = turn} o.3 (omega (arith, within)) other height true has refl
 
-      pub turned : (path1 indices1 : List ℕ) → Reads slots path path1 (turn - 1) (get_or indices turn 0 + 1) → SameBut (turn - 1) path path1 → get_or indices1 (suc (turn - 1)) 0 ≡ get_or indices turn 0 + 1 → SameBut (suc (turn - 1)) indices indices1 → Turned slots path indices path1 indices1 level (turn - 1) size
+      pub turned : (path1 indices1 : List ℕ) → Reads slots path path1 (turn - 1) (get_or indices turn 0 + 1) → SameBut (turn - 1) path path1
+          → get_or indices1 (suc (turn - 1)) 0 ≡ get_or indices turn 0 + 1 → SameBut (suc (turn - 1)) indices indices1
+          → Turned slots path indices path1 indices1 level (turn - 1) size
       turned path1 indices1 child nodes entry entries =
           record {
             height = height;
@@ -130,7 +145,9 @@ module _ {K V : Type 0} (slots : List (Content K V)) (path indices : List ℕ) w
           let o = over-up (turn - suc level) (suc (turn - 1)) p (omega (arith, within)) (omega (arith, within)) in
           before_asks {up = turn} o.3 (omega (arith, within)) other height turns
 
-      pub turned-back : (path1 indices1 : List ℕ) → Reads slots path path1 (turn - 1) (get_or indices turn 0 - 1) → SameBut (turn - 1) path path1 → get_or indices1 (suc (turn - 1)) 0 ≡ get_or indices turn 0 - 1 → SameBut (suc (turn - 1)) indices indices1 → TurnedBack slots path indices path1 indices1 level (turn - 1) size
+      pub turned-back : (path1 indices1 : List ℕ) → Reads slots path path1 (turn - 1) (get_or indices turn 0 - 1)
+          → SameBut (turn - 1) path path1 → get_or indices1 (suc (turn - 1)) 0 ≡ get_or indices turn 0 - 1
+          → SameBut (suc (turn - 1)) indices indices1 → TurnedBack slots path indices path1 indices1 level (turn - 1) size
       turned-back path1 indices1 child nodes entry entries =
           record {
             height = height;

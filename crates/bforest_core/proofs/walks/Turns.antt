@@ -60,7 +60,9 @@ module _ {K V : Type 0} where
     pub before_asks : 0 < get_or indices up 0 → ChildAt slots path level (get_or indices up 0 - 1)
     before_asks some = child_asks stay (get_or indices up 0 - 1) (omega (arith, index_low)) (omega (arith, here.within))
 
-    pub before_moves : (path' indices' : List ℕ) → 0 < get_or indices up 0 → Reads slots path path' level (get_or indices up 0 - 1) → SameBut level path path' → get_or indices' (suc level) 0 ≡ get_or indices up 0 - 1 → SameBut (suc level) indices indices' → (0 < place) × Moved path indices path' indices' level rows list (place - 1)
+    pub before_moves : (path' indices' : List ℕ) → 0 < get_or indices up 0 → Reads slots path path' level (get_or indices up 0 - 1)
+        → SameBut level path path' → get_or indices' (suc level) 0 ≡ get_or indices up 0 - 1 → SameBut (suc level) indices indices'
+        → (0 < place) × Moved path indices path' indices' level rows list (place - 1)
     before_moves path' indices' some child nodes entry entries =
         (omega (arith, some, here.place_is), child_moves stay (λ i low. refl) (λ i low. refl) path' indices' (get_or indices up 0 - 1) (place - 1) (omega (arith, here.within)) (omega (arith, some, here.place_is)) child nodes entry entries)
 
@@ -87,7 +89,9 @@ module _ {K V : Type 0} where
         pub last_child_asks : last ≤ 255 → ChildAt slots path1 level last
         last_child_asks most = child_asks back_node last most (omega (arith, last_child))
 
-        pub last_child_moves : (path' indices' : List ℕ) → get_or indices up 0 ≤ 0 → Reads slots path1 path' level last → SameBut level path1 path' → get_or indices' (suc level) 0 ≡ last → SameBut (suc level) indices1 indices' → (0 < place) × Moved path indices path' indices' level rows list (place - 1)
+        pub last_child_moves : (path' indices' : List ℕ) → get_or indices up 0 ≤ 0 → Reads slots path1 path' level last
+            → SameBut level path1 path' → get_or indices' (suc level) 0 ≡ last → SameBut (suc level) indices1 indices' → (0 < place)
+            × Moved path indices path' indices' level rows list (place - 1)
         last_child_moves path' indices' none child nodes entry entries =
             let seam_is = seam inner_content slots 8 back_node stay (omega (arith, back.0)) in
             (omega (arith, here.place_is, seam_is, last_child), child_moves back_node back.1.nodes_below back.1.entries_below path' indices' last (place - 1) (omega (arith, last_child)) (omega (arith, here.place_is, none, seam_is, last_child)) child nodes entry entries)
@@ -97,7 +101,9 @@ module _ {K V : Type 0} where
       pub next_asks : has ≡ true → ChildAt slots path level (get_or indices up 0 + 1)
       next_asks is = child_asks stay (get_or indices up 0 + 1) (omega (arith, index_low)) ((test here.entries here.slot_is).0 is)
 
-      pub next_moves : (path' indices' : List ℕ) → has ≡ true → Reads slots path path' level (get_or indices up 0 + 1) → SameBut level path path' → get_or indices' (suc level) 0 ≡ get_or indices up 0 + 1 → SameBut (suc level) indices indices' → Moved path indices path' indices' level rows list (suc place)
+      pub next_moves : (path' indices' : List ℕ) → has ≡ true → Reads slots path path' level (get_or indices up 0 + 1)
+          → SameBut level path path' → get_or indices' (suc level) 0 ≡ get_or indices up 0 + 1 → SameBut (suc level) indices indices'
+          → Moved path indices path' indices' level rows list (suc place)
       next_moves path' indices' is = child_moves stay (λ i low. refl) (λ i low. refl) path' indices' (get_or indices up 0 + 1) (suc place) ((test here.entries here.slot_is).0 is) (omega (arith, here.place_is))
 
       past_all : has ≡ false → length here.entries ≤ get_or indices up 0 + 1

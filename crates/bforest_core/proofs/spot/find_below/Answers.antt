@@ -21,7 +21,9 @@ pub below-here-requires-clause-code : goal.below-here-requires-clause-code
 below-here-requires-clause-code g c =
     let w = c.requires.under in
     let at = c.loop-key.invariant w.0 w.1 w.2 w.3 w.4 in
-    code-low-here (g.met.C.Comparator.total c.args.comp.now) (some_leaf _ c.requires.capacity) at.on c.node.result.now c.node.ensures.value (c.is_inner.ensures.inner.0 c.loop-key-test.true) c.follow-index.result.0 c.follow-index.result.1 c.follow-index.ensures.index c.follow-index.ensures.child at.above at.numbers c.loop-key.here refl at.way
+    code-low-here (g.met.C.Comparator.total c.args.comp.now) (some_leaf _ c.requires.capacity) at.on c.node.result.now c.node.ensures.value
+    (c.is_inner.ensures.inner.0 c.loop-key-test.true) c.follow-index.result.0 c.follow-index.result.1 c.follow-index.ensures.index
+    c.follow-index.ensures.child at.above at.numbers c.loop-key.here refl at.way
 
 pub below-here-requires-clause-height : goal.below-here-requires-clause-height
 below-here-requires-clause-height g c =
@@ -31,7 +33,10 @@ below-here-requires-clause-height g c =
 pub below-here-requires-clause-index : goal.below-here-requires-clause-index
 below-here-requires-clause-index g c =
     let w = c.requires.under in
-    digit-low (g.met.C.Comparator.total c.args.comp.now) (some_leaf _ c.requires.capacity) (c.loop-key.invariant w.0 w.1 w.2 w.3 w.4).on c.node.result.now c.node.ensures.value (c.is_inner.ensures.inner.0 c.loop-key-test.true) c.follow-index.result.0 c.follow-index.result.1 c.follow-index.ensures.index c.follow-index.ensures.child
+    digit-low (g.met.C.Comparator.total c.args.comp.now) (some_leaf _ c.requires.capacity)
+    (c.loop-key.invariant w.0 w.1 w.2 w.3 w.4).on c.node.result.now c.node.ensures.value
+    (c.is_inner.ensures.inner.0 c.loop-key-test.true) c.follow-index.result.0 c.follow-index.result.1 c.follow-index.ensures.index
+    c.follow-index.ensures.child
 
 pub loop-key-smaller : goal.loop-key-smaller
 loop-key-smaller g c =
@@ -42,7 +47,10 @@ loop-key-smaller g c =
 pub loop-key-preserved : goal.loop-key-preserved
 loop-key-preserved g c = λ leaves upper numbers on w.
     let at = c.loop-key.invariant leaves upper numbers on w in
-    let d = down (g.met.C.Comparator.total c.args.comp.now) (some_leaf _ c.requires.capacity) at.on c.node.result.now c.node.ensures.value (c.is_inner.ensures.inner.0 c.loop-key-test.true) c.follow-index.result.0 c.follow-index.result.1 c.follow-index.ensures.index c.follow-index.ensures.child at.above at.numbers c.loop-key.here refl at.way c.below-here.result c.below-here.ensures.code c.below-here.ensures.parent c.below-here.ensures.grand c.below-here.ensures.height in
+    let d = down (g.met.C.Comparator.total c.args.comp.now) (some_leaf _ c.requires.capacity) at.on c.node.result.now c.node.ensures.value
+    (c.is_inner.ensures.inner.0 c.loop-key-test.true) c.follow-index.result.0 c.follow-index.result.1 c.follow-index.ensures.index
+    c.follow-index.ensures.child at.above at.numbers c.loop-key.here refl at.way c.below-here.result c.below-here.ensures.code
+    c.below-here.ensures.parent c.below-here.ensures.grand c.below-here.ensures.height in
     record { above = d.above; numbers = d.numbers; on = d.on; way = d.way; join = d.join ∙ at.join }
 
 pub returns : goal.returns

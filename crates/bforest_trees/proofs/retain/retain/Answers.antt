@@ -10,29 +10,71 @@ loop-entry-init g c = sifting-first g.row.N g.P.Predicate.step g.P.Predicate.may
 
 pub entry-requires : goal.entry-requires
 entry-requires g c =
-    let s = c.loop-entry.invariant in
-    (search rules, (search rules, (s.changes.union, λ some. record { root = c.loop-entry.root; place = s.place; on = record { root_is = s.at.root_is; stands = at_entry c.loop-entry.path.node c.loop-entry.path.entry (tree_of c.loop-entry.pool.nodes c.loop-entry.root) s.place c.loop-entry.path.size some s.at.at } })))
+    let s = c.loop-entry.invariant in (
+      search rules,
+      (
+        search rules,
+        (
+          s.changes.union,
+          λ some. record {
+            root = c.loop-entry.root;
+            place = s.place;
+            on = record {
+              root_is = s.at.root_is;
+              stands = at_entry c.loop-entry.path.node c.loop-entry.path.entry
+                  (tree_of c.loop-entry.pool.nodes c.loop-entry.root) s.place c.loop-entry.path.size some s.at.at;
+            };
+          },
+        ),
+      ),
+    )
 
 pub retain_step-requires : goal.retain_step-requires
 retain_step-requires g c =
     let s = c.loop-entry.invariant in
     let value = c.entry.ensures.value (record { root = c.loop-entry.root; place = s.place; at = s.at }) in
-    let here = sym c.in-Some.is ∙ value in
-    (search rules, (search rules, ((s.changes.union, ((s.place, sifting-stands g.row.N g.P.Predicate.step g.P.Predicate.may c.args.pool.now c.args.root c.args.predicate c.loop-entry.pool c.loop-entry.root c.loop-entry.predicate c.loop-entry.path s c.in-Some.entry.0 c.in-Some.entry.1 here), sifting-may g.row.N g.P.Predicate.step g.P.Predicate.may c.args.pool.now c.args.root c.args.predicate c.loop-entry.pool c.loop-entry.root c.loop-entry.predicate c.loop-entry.path s c.in-Some.entry.0 c.in-Some.entry.1 here)))))
+    let here = sym c.in-Some.is ∙ value in (
+      search rules,
+      (
+        search rules,
+        ((
+          s.changes.union,
+          (
+            (
+              s.place,
+              sifting-stands g.row.N g.P.Predicate.step g.P.Predicate.may c.args.pool.now c.args.root c.args.predicate c.loop-entry.pool
+                  c.loop-entry.root c.loop-entry.predicate c.loop-entry.path s c.in-Some.entry.0 c.in-Some.entry.1 here,
+            ),
+            sifting-may g.row.N g.P.Predicate.step g.P.Predicate.may c.args.pool.now c.args.root c.args.predicate c.loop-entry.pool
+                c.loop-entry.root c.loop-entry.predicate c.loop-entry.path s c.in-Some.entry.0 c.in-Some.entry.1 here,
+          ),
+        )),
+      ),
+    )
 
 pub returns-in_err-root-clause-ended : goal.returns-in_err-root-clause-ended
 returns-in_err-root-clause-ended g c = λ none.
     let s = c.loop-entry.invariant in
     let value = c.entry.ensures.value (record { root = c.loop-entry.root; place = s.place; at = s.at }) in
     let here = sym c.in-Some.is ∙ value in
-    sifting-none g.row.N g.P.Predicate.step g.P.Predicate.may c.args.pool.now c.args.root c.args.predicate c.loop-entry.pool c.loop-entry.root c.loop-entry.predicate c.loop-entry.path s c.in-Some.entry.0 c.in-Some.entry.1 here c.retain_step.new.pool c.args.root c.retain_step.new.predicate c.retain_step.new.path (c.in_err-root.ensures.ended refl s.place (sifting-stands g.row.N g.P.Predicate.step g.P.Predicate.may c.args.pool.now c.args.root c.args.predicate c.loop-entry.pool c.loop-entry.root c.loop-entry.predicate c.loop-entry.path s c.in-Some.entry.0 c.in-Some.entry.1 here))
+    sifting-none g.row.N g.P.Predicate.step g.P.Predicate.may c.args.pool.now c.args.root c.args.predicate c.loop-entry.pool
+    c.loop-entry.root c.loop-entry.predicate c.loop-entry.path s c.in-Some.entry.0 c.in-Some.entry.1 here c.retain_step.new.pool
+    c.args.root c.retain_step.new.predicate c.retain_step.new.path
+    (c.in_err-root.ensures.ended refl s.place
+    (sifting-stands g.row.N g.P.Predicate.step g.P.Predicate.may c.args.pool.now c.args.root c.args.predicate c.loop-entry.pool
+    c.loop-entry.root c.loop-entry.predicate c.loop-entry.path s c.in-Some.entry.0 c.in-Some.entry.1 here))
 
 pub loop-entry-smaller : goal.loop-entry-smaller
 loop-entry-smaller g c =
     let s = c.loop-entry.invariant in
     let value = c.entry.ensures.value (record { root = c.loop-entry.root; place = s.place; at = s.at }) in
     let here = sym c.in-Some.is ∙ value in
-    let next = sifting-next g.row.N g.P.Predicate.step g.P.Predicate.may c.args.pool.now c.args.root c.args.predicate c.loop-entry.pool c.loop-entry.root c.loop-entry.predicate c.loop-entry.path s c.in-Some.entry.0 c.in-Some.entry.1 here c.retain_step.new.pool c.in_ok-root.root c.retain_step.new.predicate c.retain_step.new.path (c.in_ok-root.ensures.stepped s.place (sifting-stands g.row.N g.P.Predicate.step g.P.Predicate.may c.args.pool.now c.args.root c.args.predicate c.loop-entry.pool c.loop-entry.root c.loop-entry.predicate c.loop-entry.path s c.in-Some.entry.0 c.in-Some.entry.1 here)) in
+    let next = sifting-next g.row.N g.P.Predicate.step g.P.Predicate.may c.args.pool.now c.args.root c.args.predicate c.loop-entry.pool
+    c.loop-entry.root c.loop-entry.predicate c.loop-entry.path s c.in-Some.entry.0 c.in-Some.entry.1 here c.retain_step.new.pool
+    c.in_ok-root.root c.retain_step.new.predicate c.retain_step.new.path
+    (c.in_ok-root.ensures.stepped s.place
+    (sifting-stands g.row.N g.P.Predicate.step g.P.Predicate.may c.args.pool.now c.args.root c.args.predicate c.loop-entry.pool
+    c.loop-entry.root c.loop-entry.predicate c.loop-entry.path s c.in-Some.entry.0 c.in-Some.entry.1 here)) in
     let before = sifting-left g.row.N g.P.Predicate.step g.P.Predicate.may c.args.pool.now c.args.root c.args.predicate c.loop-entry.pool c.loop-entry.root c.loop-entry.predicate c.loop-entry.path s in
     let after = sifting-left g.row.N g.P.Predicate.step g.P.Predicate.may c.args.pool.now c.args.root c.args.predicate c.retain_step.new.pool c.in_ok-root.root c.retain_step.new.predicate c.retain_step.new.path next.0 in
     let less : length (entries_from c.retain_step.new.pool c.retain_step.new.path) < length (entries_from c.loop-entry.pool c.loop-entry.path) = omega (arith, before, after, next.1) in
@@ -43,7 +85,12 @@ loop-entry-preserved g c =
     let s = c.loop-entry.invariant in
     let value = c.entry.ensures.value (record { root = c.loop-entry.root; place = s.place; at = s.at }) in
     let here = sym c.in-Some.is ∙ value in
-    let next = sifting-next g.row.N g.P.Predicate.step g.P.Predicate.may c.args.pool.now c.args.root c.args.predicate c.loop-entry.pool c.loop-entry.root c.loop-entry.predicate c.loop-entry.path s c.in-Some.entry.0 c.in-Some.entry.1 here c.retain_step.new.pool c.in_ok-root.root c.retain_step.new.predicate c.retain_step.new.path (c.in_ok-root.ensures.stepped s.place (sifting-stands g.row.N g.P.Predicate.step g.P.Predicate.may c.args.pool.now c.args.root c.args.predicate c.loop-entry.pool c.loop-entry.root c.loop-entry.predicate c.loop-entry.path s c.in-Some.entry.0 c.in-Some.entry.1 here)) in
+    let next = sifting-next g.row.N g.P.Predicate.step g.P.Predicate.may c.args.pool.now c.args.root c.args.predicate c.loop-entry.pool
+    c.loop-entry.root c.loop-entry.predicate c.loop-entry.path s c.in-Some.entry.0 c.in-Some.entry.1 here c.retain_step.new.pool
+    c.in_ok-root.root c.retain_step.new.predicate c.retain_step.new.path
+    (c.in_ok-root.ensures.stepped s.place
+    (sifting-stands g.row.N g.P.Predicate.step g.P.Predicate.may c.args.pool.now c.args.root c.args.predicate c.loop-entry.pool
+    c.loop-entry.root c.loop-entry.predicate c.loop-entry.path s c.in-Some.entry.0 c.in-Some.entry.1 here)) in
     next.0
 
 pub returns-clause-retained : goal.returns-clause-retained

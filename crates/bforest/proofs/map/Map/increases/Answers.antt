@@ -13,13 +13,19 @@ pub returns-then-not-follows : goal.returns-then-not-follows
 returns-then-not-follows g c = record {
   increasing = (
     λ no. absurd (cc),
-    λ up. absurd (not_increasing (g.C.Comparator.order c.args.comp.now) (g.met.C.Comparator.total c.args.comp.now) (list_of c.args.forest.now c.args.self.now) c.entries.last c.in-Some.key c.in-Some.field-0-1 c.next.new.self c.entries.key-iterator c.in-Some.ensures.steps (sym c.if-not-follows.true ∙ c.follows.ensures) c.entries.invariant.1 up),
+    λ up. absurd (not_increasing (g.C.Comparator.order c.args.comp.now) (g.met.C.Comparator.total c.args.comp.now)
+        (list_of c.args.forest.now c.args.self.now) c.entries.last c.in-Some.key c.in-Some.field-0-1 c.next.new.self c.entries.key-iterator
+        c.in-Some.ensures.steps (sym c.if-not-follows.true ∙ c.follows.ensures) c.entries.invariant.1 up),
   );
 }
 
 pub entries-preserved : goal.entries-preserved
-entries-preserved g c =
-    (c.entries.invariant.0, IsDownTo-next (g.C.Comparator.order c.args.comp.now) (g.met.C.Comparator.total c.args.comp.now) (list_of c.args.forest.now c.args.self.now) c.entries.last c.in-Some.key c.in-Some.field-0-1 c.next.new.self c.entries.key-iterator c.in-Some.ensures.steps (sym c.if-not-follows.false ∙ c.follows.ensures) c.entries.invariant.1)
+entries-preserved g c = (
+  c.entries.invariant.0,
+  IsDownTo-next (g.C.Comparator.order c.args.comp.now) (g.met.C.Comparator.total c.args.comp.now)
+      (list_of c.args.forest.now c.args.self.now) c.entries.last c.in-Some.key c.in-Some.field-0-1 c.next.new.self c.entries.key-iterator
+      c.in-Some.ensures.steps (sym c.if-not-follows.false ∙ c.follows.ensures) c.entries.invariant.1,
+)
 
 pub returns : goal.returns
 returns g c =

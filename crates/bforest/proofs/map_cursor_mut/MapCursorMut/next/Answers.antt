@@ -9,4 +9,7 @@ returns-clause-value g c = rw (← c.forest.view_is, ← c.map.view_is) (c.next.
 pub returns-clause-moves : goal.returns-clause-moves
 returns-clause-moves g c =
     let s = c.args.self.now in
-    moves-on g.C.Comparator.order s _ (min (spot s + 1) (length (entries s))) refl refl refl refl refl c.requires.valid (rw (← c.forest.view_is, ← c.map.view_is) (c.next.ensures.spot (record { place = _; spot = rw (← c.forest.view_is, ← c.map.view_is) at c.requires.valid.stands }))) (rw (← c.forest.view_is, ← c.map.view_is) c.next.ensures.computed)
+    moves-on g.C.Comparator.order s _ (min (spot s + 1) (length (entries s))) refl refl refl refl refl c.requires.valid
+    (rw (← c.forest.view_is, ← c.map.view_is)
+    (c.next.ensures.spot (record { place = _; spot = rw (← c.forest.view_is, ← c.map.view_is) at c.requires.valid.stands })))
+    (rw (← c.forest.view_is, ← c.map.view_is) c.next.ensures.computed)

@@ -14,4 +14,9 @@ pub returns-clause-goes : goal.returns-clause-goes
 returns-clause-goes g c =
     let s = c.args.self.now in
     let told : RemovesAt 7 s.forest.now s.map.now (spot s) c.take.new.self c.take.new.handle = rw (← c.forest.view_is, ← c.map.view_is) (c.take.ensures.removed (record { place = _; spot = rw (← c.forest.view_is, ← c.map.view_is) at c.requires.valid.stands })) in
-    goes-on g.C.Comparator.order s _ (spot s) refl refl refl told.removed.live (removes-increasing 7 (g.C.Comparator.order s.comp.now) s.forest.now s.map.now (spot s) c.take.new.self c.take.new.handle c.requires.valid.increasing told) (rw (← c.forest.view_is, ← c.map.view_is) (c.take.ensures.spot (record { place = _; spot = rw (← c.forest.view_is, ← c.map.view_is) at c.requires.valid.stands }))) c.take.ensures.computed
+    goes-on g.C.Comparator.order s _ (spot s) refl refl refl told.removed.live
+    (removes-increasing 7 (g.C.Comparator.order s.comp.now) s.forest.now s.map.now
+    (spot s) c.take.new.self c.take.new.handle c.requires.valid.increasing told)
+    (rw (← c.forest.view_is, ← c.map.view_is)
+    (c.take.ensures.spot (record { place = _; spot = rw (← c.forest.view_is, ← c.map.view_is) at c.requires.valid.stands })))
+    c.take.ensures.computed

@@ -15,13 +15,21 @@ pub returns-then-not-follows : goal.returns-then-not-follows
 returns-then-not-follows g c = record {
   increasing = (
     λ no. absurd (cc),
-    λ up. absurd (not_increasing (g.C.Comparator.order c.args.comp.now) (g.met.C.Comparator.total c.args.comp.now) (list_of c.args.forest.now c.args.self.now) c.keys.last c.in-Some.key the_value (with_each c.next.new.self) (with_each c.keys.key-iterator) (ap with_each c.in-Some.ensures.steps) (sym c.if-not-follows.true ∙ c.follows.ensures) c.keys.invariant.1 up),
+    λ up. absurd (not_increasing (g.C.Comparator.order c.args.comp.now) (g.met.C.Comparator.total c.args.comp.now)
+        (list_of c.args.forest.now c.args.self.now) c.keys.last c.in-Some.key the_value (with_each c.next.new.self)
+        (with_each c.keys.key-iterator) (ap with_each c.in-Some.ensures.steps)
+        (sym c.if-not-follows.true ∙ c.follows.ensures) c.keys.invariant.1 up),
   );
 }
 
 pub keys-preserved : goal.keys-preserved
-keys-preserved g c =
-    (c.keys.invariant.0, IsDownTo-next (g.C.Comparator.order c.args.comp.now) (g.met.C.Comparator.total c.args.comp.now) (list_of c.args.forest.now c.args.self.now) c.keys.last c.in-Some.key the_value (with_each c.next.new.self) (with_each c.keys.key-iterator) (ap with_each c.in-Some.ensures.steps) (sym c.if-not-follows.false ∙ c.follows.ensures) c.keys.invariant.1)
+keys-preserved g c = (
+  c.keys.invariant.0,
+  IsDownTo-next (g.C.Comparator.order c.args.comp.now) (g.met.C.Comparator.total c.args.comp.now)
+      (list_of c.args.forest.now c.args.self.now) c.keys.last c.in-Some.key the_value (with_each c.next.new.self)
+      (with_each c.keys.key-iterator) (ap with_each c.in-Some.ensures.steps)
+      (sym c.if-not-follows.false ∙ c.follows.ensures) c.keys.invariant.1,
+)
 
 pub returns : goal.returns
 returns g c =

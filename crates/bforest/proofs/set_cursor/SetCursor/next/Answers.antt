@@ -14,4 +14,7 @@ pub returns-clause-moves : goal.returns-clause-moves
 returns-clause-moves g c =
     let s = c.args.self.now in
     let es = list_of s.forest.now s.set.now in
-    moves-on g.C.Comparator.order s _ (min (spot s + 1) (length (keys s))) refl refl refl refl refl c.requires.valid (rw (keys-count es) (rw (← c.forest.view_is, ← c.set.view_is) (c.next.ensures.spot (record { place = _; spot = rw (← c.forest.view_is, ← c.set.view_is) at c.requires.valid.stands })))) (rw (← c.forest.view_is, ← c.set.view_is) c.next.ensures.computed)
+    moves-on g.C.Comparator.order s _ (min (spot s + 1) (length (keys s))) refl refl refl refl refl c.requires.valid
+    (rw (keys-count es) (rw (← c.forest.view_is, ← c.set.view_is)
+    (c.next.ensures.spot (record { place = _; spot = rw (← c.forest.view_is, ← c.set.view_is) at c.requires.valid.stands }))))
+    (rw (← c.forest.view_is, ← c.set.view_is) c.next.ensures.computed)

@@ -20,4 +20,9 @@ returns-clause-goes g c =
     let s = c.args.self.now in
     let es = list_of s.forest.now s.set.now in
     let told : RemovesAt 15 s.forest.now s.set.now (spot s) c.take.new.self c.take.new.handle = rw (← c.forest.view_is, ← c.set.view_is) (c.take.ensures.removed (record { place = _; spot = rw (← c.forest.view_is, ← c.set.view_is) at c.requires.valid.stands })) in
-    goes-on g.C.Comparator.order s _ (spot s) refl refl refl told.removed.live (removes-increasing 15 (g.C.Comparator.order s.comp.now) s.forest.now s.set.now (spot s) c.take.new.self c.take.new.handle c.requires.valid.increasing told) (rw (← c.forest.view_is, ← c.set.view_is) (c.take.ensures.spot (record { place = _; spot = rw (← c.forest.view_is, ← c.set.view_is) at c.requires.valid.stands }))) c.take.ensures.computed
+    goes-on g.C.Comparator.order s _ (spot s) refl refl refl told.removed.live
+    (removes-increasing 15 (g.C.Comparator.order s.comp.now) s.forest.now s.set.now
+    (spot s) c.take.new.self c.take.new.handle c.requires.valid.increasing told)
+    (rw (← c.forest.view_is, ← c.set.view_is)
+    (c.take.ensures.spot (record { place = _; spot = rw (← c.forest.view_is, ← c.set.view_is) at c.requires.valid.stands })))
+    c.take.ensures.computed

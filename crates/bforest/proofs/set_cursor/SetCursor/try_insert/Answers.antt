@@ -13,4 +13,7 @@ returns-clause-goes g c =
     let s = c.args.self.now in
     let es = list_of s.forest.now s.set.now in
     let told = c.insert-put.ensures.inserted in
-    goes-on g.C.Comparator.order s _ (place (g.C.Comparator.order s.comp.now) es c.args.elem) refl refl refl (inserts-live 15 (g.C.Comparator.order s.comp.now) s.forest.now s.set.now c.args.elem _ c.insert-put.result c.insert-put.new.self c.insert-put.new.handle c.requires.valid.live (rw (← c.forest.view_is, ← c.set.view_is) told)) told.increasing (rw (← c.forest.view_is, ← c.set.view_is) c.insert-put.ensures.spot) c.insert-put.ensures.computed
+    goes-on g.C.Comparator.order s _ (place (g.C.Comparator.order s.comp.now) es c.args.elem) refl refl refl
+    (inserts-live 15 (g.C.Comparator.order s.comp.now) s.forest.now s.set.now c.args.elem _ c.insert-put.result c.insert-put.new.self
+    c.insert-put.new.handle c.requires.valid.live (rw (← c.forest.view_is, ← c.set.view_is) told)) told.increasing
+    (rw (← c.forest.view_is, ← c.set.view_is) c.insert-put.ensures.spot) c.insert-put.ensures.computed

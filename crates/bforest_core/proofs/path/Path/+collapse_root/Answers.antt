@@ -33,5 +33,10 @@ collapse_root-requires g t c κs within =
 pub returns-clause-trimmed : goal.returns-clause-trimmed
 returns-clause-trimmed g t c = λ rows list u.
     let next = trim_down _ _ rows list c.args.root u (λ one. c.if-self-eq1.false one) c.entries-count.result c.entries-count.ensures.value c.if-count-gt1.false c.child-only.result c.child-only.ensures c.free_node.new.self c.free_node.ensures.freed in
-    let r = c.collapse_root.ensures.trimmed _ list next in
-    (r.0 ++ c.args.root ∷ [], trim_then _ _ rows list c.args.root u (λ one. c.if-self-eq1.false one) c.entries-count.result c.entries-count.ensures.value c.if-count-gt1.false c.child-only.result c.child-only.ensures c.free_node.new.self c.free_node.ensures.freed c.collapse_root.new.pool c.collapse_root.new.self.size c.collapse_root.result r.0 r.1)
+    let r = c.collapse_root.ensures.trimmed _ list next in (
+      r.0 ++ c.args.root ∷ [],
+      trim_then _ _ rows list c.args.root u
+          (λ one. c.if-self-eq1.false one) c.entries-count.result c.entries-count.ensures.value c.if-count-gt1.false c.child-only.result
+          c.child-only.ensures c.free_node.new.self c.free_node.ensures.freed c.collapse_root.new.pool c.collapse_root.new.self.size
+          c.collapse_root.result r.0 r.1,
+    )

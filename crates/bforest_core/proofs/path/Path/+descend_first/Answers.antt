@@ -15,8 +15,32 @@ child-child-requires g t c =
 
 pub descend_first-requires : goal.descend_first-requires
 descend_first-requires g t c κs within =
-    let w = c.requires.under in
-    (omega (arith, c.decreases, c.if-level-eq0.false), (within.0, (within.1, ((λ a m. search rules), (search rules, (search rules, (c.requires.capacity, (omega (arith, c.requires.height), first_goes _ (some_leaf _ c.requires.capacity) _ w.0 w.1 w.2 _ w.3 w.4 w.5 c.if-level-eq0.false c.child-child.result c.child-child.ensures))))))))
+    let w = c.requires.under in (
+      omega (arith, c.decreases, c.if-level-eq0.false),
+      (
+        within.0,
+        (
+          within.1,
+          (
+            (λ a m. search rules),
+            (
+              search rules,
+              (
+                search rules,
+                (
+                  c.requires.capacity,
+                  (
+                    omega (arith, c.requires.height),
+                    first_goes _ (some_leaf _ c.requires.capacity) _ w.0 w.1 w.2 _ w.3 w.4 w.5 c.if-level-eq0.false c.child-child.result
+                        c.child-child.ensures,
+                  ),
+                ),
+              ),
+            ),
+          ),
+        ),
+      ),
+    )
 
 pub returns-clause-led : goal.returns-clause-led
 returns-clause-led g t c = λ leaves lower first b u level_is.

@@ -21,8 +21,32 @@ child-child-requires g t c =
 
 pub descend_last-requires : goal.descend_last-requires
 descend_last-requires g t c κs within =
-    let w = c.requires.under in
-    (omega (arith, c.decreases, c.if-level-eq0.false), (within.0, (within.1, ((λ a m. search rules), (search rules, (search rules, (c.requires.capacity, (omega (arith, c.requires.height), last_goes _ (some_leaf _ c.requires.capacity) _ w.0 w.1 w.2 w.3 _ w.4 w.5 _ c.last_index-last.ensures.last c.if-level-eq0.false c.child-child.result c.child-child.ensures))))))))
+    let w = c.requires.under in (
+      omega (arith, c.decreases, c.if-level-eq0.false),
+      (
+        within.0,
+        (
+          within.1,
+          (
+            (λ a m. search rules),
+            (
+              search rules,
+              (
+                search rules,
+                (
+                  c.requires.capacity,
+                  (
+                    omega (arith, c.requires.height),
+                    last_goes _ (some_leaf _ c.requires.capacity) _ w.0 w.1 w.2 w.3 _ w.4 w.5 _ c.last_index-last.ensures.last c.if-level-eq0.false
+                        c.child-child.result c.child-child.ensures,
+                  ),
+                ),
+              ),
+            ),
+          ),
+        ),
+      ),
+    )
 
 pub returns-clause-led : goal.returns-clause-led
 returns-clause-led g t c = λ leaves lower a first u level_is.

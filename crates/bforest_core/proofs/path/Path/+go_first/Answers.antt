@@ -14,8 +14,38 @@ go_to_child-requires g t c =
 pub go_first-requires : goal.go_first-requires
 go_first-requires g t c κs within =
     let w = c.requires.turned in
-    let went = c.go_to_child.ensures in
-    (omega (arith, c.decreases, c.requires.within, c.if-from-level.false), (within.0, (within.1, ((λ a m. search rules), (search rules, (search rules, (omega (arith, c.requires.within, c.if-from-level.false), (w.0, w.1, w.2, down-turned _ _ _ w.3 (omega (arith, c.requires.within, c.if-from-level.false)) _ _ went.child went.nodes went.entry went.entries, w.4, w.5, w.6, w.7))))))))
+    let went = c.go_to_child.ensures in (
+      omega (arith, c.decreases, c.requires.within, c.if-from-level.false),
+      (
+        within.0,
+        (
+          within.1,
+          (
+            (λ a m. search rules),
+            (
+              search rules,
+              (
+                search rules,
+                (
+                  omega (arith, c.requires.within, c.if-from-level.false),
+                  (
+                    w.0,
+                    w.1,
+                    w.2,
+                    down-turned _ _ _ w.3 (omega (arith, c.requires.within, c.if-from-level.false)) _ _ went.child went.nodes went.entry
+                        went.entries,
+                    w.4,
+                    w.5,
+                    w.6,
+                    w.7,
+                  ),
+                ),
+              ),
+            ),
+          ),
+        ),
+      ),
+    )
 
 pub returns-clause-moved : goal.returns-clause-moved
 returns-clause-moved g t c = λ path indices size turned.

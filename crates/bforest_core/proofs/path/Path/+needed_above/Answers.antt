@@ -15,16 +15,41 @@ is_full-requires g t c =
 
 pub needed_above-requires : goal.needed_above-requires
 needed_above-requires g t c κs within =
-    let w = c.requires.pending in
-    (omega (arith, c.decreases, w.3.height, c.if-up-self.false), (within.0, (within.1, ((λ a m. search rules), (search rules, (search rules, (c.requires.height, level_above c.args.pool.now c.args.self.now.node c.args.self.now.entry c.args.up c.args.self.now.size w.0 w.1 w.2 w.3 c.if-up-self.false (omega (arith, c.requires.height)) c.index-self-up.result)))))))
+    let w = c.requires.pending in (
+      omega (arith, c.decreases, w.3.height, c.if-up-self.false),
+      (
+        within.0,
+        (
+          within.1,
+          (
+            (λ a m. search rules),
+            (
+              search rules,
+              (
+                search rules,
+                (
+                  c.requires.height,
+                  level_above c.args.pool.now c.args.self.now.node c.args.self.now.entry c.args.up c.args.self.now.size w.0 w.1
+                      w.2 w.3 c.if-up-self.false (omega (arith, c.requires.height)) c.index-self-up.result,
+                ),
+              ),
+            ),
+          ),
+        ),
+      ),
+    )
 
 pub returns-then-is_full-clause-value : goal.returns-then-is_full-clause-value
 returns-then-is_full-clause-value g t c = λ rows list place p.
-    level_full c.args.pool.now c.args.self.now.node c.args.self.now.entry c.args.up c.args.self.now.size rows list place p c.if-up-self.false (omega (arith, c.requires.height)) c.index-self-up.result c.node.result.now c.node.ensures.value g.row.N c.is_full.result c.is_full.ensures.full c.if-is_full.true c.needed_above.result c.needed_above.ensures.value
+    level_full c.args.pool.now c.args.self.now.node c.args.self.now.entry c.args.up c.args.self.now.size rows list place p
+    c.if-up-self.false (omega (arith, c.requires.height)) c.index-self-up.result c.node.result.now c.node.ensures.value g.row.N
+    c.is_full.result c.is_full.ensures.full c.if-is_full.true c.needed_above.result c.needed_above.ensures.value
 
 pub returns-else-is_full-clause-value : goal.returns-else-is_full-clause-value
 returns-else-is_full-clause-value g t c = λ rows list place p.
-    level_room c.args.pool.now c.args.self.now.node c.args.self.now.entry c.args.up c.args.self.now.size rows list place p c.if-up-self.false (omega (arith, c.requires.height)) c.index-self-up.result c.node.result.now c.node.ensures.value g.row.N c.is_full.result c.is_full.ensures.full c.if-is_full.false
+    level_room c.args.pool.now c.args.self.now.node c.args.self.now.entry c.args.up c.args.self.now.size rows list place p
+    c.if-up-self.false (omega (arith, c.requires.height)) c.index-self-up.result c.node.result.now c.node.ensures.value g.row.N
+    c.is_full.result c.is_full.ensures.full c.if-is_full.false
 
 pub returns-then-up-self-clause-value : goal.returns-then-up-self-clause-value
 returns-then-up-self-clause-value g t c = λ rows list place p. sym (need_top place rows (omega (arith, p.height, c.if-up-self.true)))

@@ -14,7 +14,9 @@ next_node-moved-requires g c =
 
 -- the path moved to the next node on the level above
 moved : (g : Over) (c : goal.After-way_told-1 g) (rows : List (List (LevelNode g.row.K.Denot ℕ))) (a : List (g.row.K.Denot × ℕ)) (x y : g.row.K.Denot × ℕ) (b : List (g.row.K.Denot × ℕ)) →
-    Above c.args.pool.now c.args.self.now.node c.args.self.now.entry (suc c.args.level) c.args.self.now.size rows (a ++ x ∷ y ∷ b) (length a) → Moved c.args.self.now.node c.args.self.now.entry c.next_node-moved.new.self.node c.next_node-moved.new.self.entry c.args.level rows (a ++ x ∷ y ∷ b) (suc (length a))
+    Above c.args.pool.now c.args.self.now.node c.args.self.now.entry (suc c.args.level) c.args.self.now.size rows (a ++ x ∷ y ∷ b)
+    (length a) → Moved c.args.self.now.node c.args.self.now.entry c.next_node-moved.new.self.node c.next_node-moved.new.self.entry
+    c.args.level rows (a ++ x ∷ y ∷ b) (suc (length a))
 moved g c rows a x y b p =
     let s0 = c.args.self.now in
     let o = over-above c.args.pool.now s0.node s0.entry (suc c.args.level) s0.size rows (a ++ x ∷ y ∷ b) (length a) p in

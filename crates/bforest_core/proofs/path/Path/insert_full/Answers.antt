@@ -31,12 +31,16 @@ split_leaf-requires g c =
 put_at : (g : Over) (c : goal.After-root g) (root place : ℕ) → PlacedUnder c.args.pool.now.nodes root c.args.self.now.node c.args.self.now.entry c.args.self.now.size place →
     Put g.row.N c.args.pool.now c.split_leaf.new.pool root place (c.args.key, c.args.value) c.split_leaf.new.self.node c.split_leaf.new.self.entry c.split_leaf.new.self.size
 put_at g c root place p =
-    put-split _ c.args.pool.now c.reserve.new.self c.split_leaf.new.pool root place _ _ _ c.needed_here.result _ _ _ _ c.requires.union p c.in_ok-reserve.ensures.numbers c.needed_here.ensures.value (λ short. (let e = c.in_ok-reserve.ensures.full.1 short in absurd cc)) c.in_ok-reserve.ensures.ok c.split_leaf.ensures.inserted
+    put-split _ c.args.pool.now c.reserve.new.self c.split_leaf.new.pool root place _ _ _ c.needed_here.result _ _ _ _ c.requires.union p
+    c.in_ok-reserve.ensures.numbers c.needed_here.ensures.value
+    (λ short. (let e = c.in_ok-reserve.ensures.full.1 short in absurd cc)) c.in_ok-reserve.ensures.ok c.split_leaf.ensures.inserted
 
 pub root-requires : goal.root-requires
 root-requires g c =
     let w = c.requires.placed in
-    let put = put-split _ c.args.pool.now c.reserve.new.self c.split_leaf.new.pool w.root w.place _ _ _ c.needed_here.result _ _ _ _ c.requires.union w.placed c.in_ok-reserve.ensures.numbers c.needed_here.ensures.value (λ short. (let e = c.in_ok-reserve.ensures.full.1 short in absurd cc)) c.in_ok-reserve.ensures.ok c.split_leaf.ensures.inserted in
+    let put = put-split _ c.args.pool.now c.reserve.new.self c.split_leaf.new.pool w.root w.place _ _ _ c.needed_here.result
+    _ _ _ _ c.requires.union w.placed c.in_ok-reserve.ensures.numbers c.needed_here.ensures.value
+    (λ short. (let e = c.in_ok-reserve.ensures.full.1 short in absurd cc)) c.in_ok-reserve.ensures.ok c.split_leaf.ensures.inserted in
     (search rules, (put.some, put.low))
 
 pub returns-in_err-reserve : goal.returns-in_err-reserve

@@ -18,7 +18,17 @@ needed_above-requires g c =
     (search rules, (search rules, (c.requires.height, leaf_above g.row.N c.args.pool.now c.args.self.now.node c.args.self.now.entry c.args.self.now.size w.0 w.1 w.2)))
 
 pub returns-then-is_full : goal.returns-then-is_full
-returns-then-is_full g c = record { value = λ tree place p. leaf_full g.row.N c.args.pool.now c.args.self.now.node c.args.self.now.entry c.args.self.now.size tree place p (omega arith) c.index-self-0.result c.node.result.now c.node.ensures.value c.is_full.result c.is_full.ensures.full c.if-is_full.true c.needed_above.result c.needed_above.ensures.value }
+returns-then-is_full g c =
+    record {
+      value = λ tree place p. leaf_full g.row.N c.args.pool.now c.args.self.now.node c.args.self.now.entry c.args.self.now.size tree
+          place p (omega arith) c.index-self-0.result c.node.result.now c.node.ensures.value c.is_full.result c.is_full.ensures.full
+          c.if-is_full.true c.needed_above.result c.needed_above.ensures.value;
+    }
 
 pub returns-else-is_full : goal.returns-else-is_full
-returns-else-is_full g c = record { value = λ tree place p. leaf_room g.row.N c.args.pool.now c.args.self.now.node c.args.self.now.entry c.args.self.now.size tree place p (omega arith) c.index-self-0.result c.node.result.now c.node.ensures.value c.is_full.result c.is_full.ensures.full c.if-is_full.false }
+returns-else-is_full g c =
+    record {
+      value = λ tree place p. leaf_room g.row.N c.args.pool.now c.args.self.now.node c.args.self.now.entry c.args.self.now.size tree
+          place p (omega arith) c.index-self-0.result c.node.result.now c.node.ensures.value c.is_full.result c.is_full.ensures.full
+          c.if-is_full.false;
+    }

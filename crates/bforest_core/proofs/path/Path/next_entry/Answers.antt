@@ -42,4 +42,6 @@ returns-clause-value g c = λ tree place fit inside s.
     sym (entry_read (some_leaf _ c.requires.capacity) fit inside s' c.entry_here.result c.entry_here.ensures)
 
 pub returns-clause-moved : goal.returns-clause-moved
-returns-clause-moved g c = λ tree place fit inside s. next_over (some_leaf _ c.requires.capacity) fit inside s c.in_default.ensures.value _ _ c.set_entry-2.new.self.node c.set_entry-2.new.self.entry (c.next_node.ensures.moved (search rules)) c.set_entry-2.ensures.nodes c.set_entry-2.ensures.here c.set_entry-2.ensures.above
+returns-clause-moved g c = λ tree place fit inside s. next_over
+    (some_leaf _ c.requires.capacity) fit inside s c.in_default.ensures.value _ _ c.set_entry-2.new.self.node c.set_entry-2.new.self.entry
+    (c.next_node.ensures.moved (search rules)) c.set_entry-2.ensures.nodes c.set_entry-2.ensures.here c.set_entry-2.ensures.above

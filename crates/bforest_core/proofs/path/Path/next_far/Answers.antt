@@ -19,11 +19,31 @@ pub go_first-requires : goal.go_first-requires
 go_first-requires g c =
     let said = c.next_turn-turn.ensures in
     let went = c.go_to_child.ensures in
-    let w = c.requires.over in
-    (search rules, (search rules, (omega (arith, said.within), (c.args.self.now.node, c.args.self.now.entry, c.args.self.now.size, turned c.args.pool.now.nodes c.args.self.now.node c.args.self.now.entry c.requires.height said.within c.requires.last said.last c.if-turn-self.false (said.turns c.if-turn-self.false) _ _ went.child went.nodes went.entry went.entries, w.0, w.1, w.2, w.3))))
+    let w = c.requires.over in (
+      search rules,
+      (
+        search rules,
+        (
+          omega (arith, said.within),
+          (
+            c.args.self.now.node,
+            c.args.self.now.entry,
+            c.args.self.now.size,
+            turned c.args.pool.now.nodes c.args.self.now.node c.args.self.now.entry c.requires.height said.within c.requires.last said.last
+                c.if-turn-self.false (said.turns c.if-turn-self.false) _ _ went.child went.nodes went.entry went.entries,
+            w.0,
+            w.1,
+            w.2,
+            w.3,
+          ),
+        ),
+      ),
+    )
 
 pub returns-clause-moved : goal.returns-clause-moved
 returns-clause-moved g c = λ yes.
     let said = c.next_turn-turn.ensures in
     let went = c.go_to_child.ensures in
-    c.go_first.ensures.moved c.args.self.now.node c.args.self.now.entry c.args.self.now.size (turned c.args.pool.now.nodes c.args.self.now.node c.args.self.now.entry c.requires.height said.within c.requires.last said.last c.if-turn-self.false (said.turns c.if-turn-self.false) _ _ went.child went.nodes went.entry went.entries)
+    c.go_first.ensures.moved c.args.self.now.node c.args.self.now.entry c.args.self.now.size
+    (turned c.args.pool.now.nodes c.args.self.now.node c.args.self.now.entry c.requires.height said.within c.requires.last said.last
+    c.if-turn-self.false (said.turns c.if-turn-self.false) _ _ went.child went.nodes went.entry went.entries)

@@ -23,10 +23,35 @@ pub go_to_child-requires : goal.go_to_child-requires
 go_to_child-requires g c = (search rules, (search rules, next_asks c.requires.over.3 (add-one _) c.if-level-self.false c.requires.height c.has_child.result c.has_child.ensures.within c.if-has_child.true))
 
 pub returns-then-has_child : goal.returns-then-has_child
-returns-then-has_child g c = record { moved = λ yes rows list place p. next_moves p (add-one _) c.if-level-self.false c.requires.height c.has_child.result c.has_child.ensures.within c.go_to_child.new.self.node c.go_to_child.new.self.entry c.if-has_child.true c.go_to_child.ensures.child c.go_to_child.ensures.nodes c.go_to_child.ensures.entry c.go_to_child.ensures.entries; last = never refl; same = never refl; size = c.go_to_child.ensures.size }
+returns-then-has_child g c =
+    record {
+      moved = λ yes rows list place p. next_moves p
+          (add-one _) c.if-level-self.false c.requires.height c.has_child.result c.has_child.ensures.within c.go_to_child.new.self.node
+          c.go_to_child.new.self.entry c.if-has_child.true c.go_to_child.ensures.child c.go_to_child.ensures.nodes c.go_to_child.ensures.entry
+          c.go_to_child.ensures.entries;
+      last = never refl;
+      same = never refl;
+      size = c.go_to_child.ensures.size;
+    }
 
 pub next_far-requires : goal.next_far-requires
-next_far-requires g c = (search rules, (search rules, (c.requires.height, (c.requires.over, ((λ e. c.if-level-self.false (add-one c.args.level ∙ e)), here-last c.args.pool.now.nodes c.args.self.now.node c.args.self.now.entry (c.args.level + 1) (sym (add-one _)) (omega arith) c.has_child.result c.has_child.ensures.within c.if-has_child.false)))))
+next_far-requires g c = (
+  search rules,
+  (
+    search rules,
+    (
+      c.requires.height,
+      (
+        c.requires.over,
+        (
+          (λ e. c.if-level-self.false (add-one c.args.level ∙ e)),
+          here-last c.args.pool.now.nodes c.args.self.now.node c.args.self.now.entry (c.args.level + 1) (sym (add-one _))
+              (omega arith) c.has_child.result c.has_child.ensures.within c.if-has_child.false,
+        ),
+      ),
+    ),
+  ),
+)
 
 pub returns : goal.returns
 returns g c = record { moved = c.next_far.ensures.moved; last = c.next_far.ensures.last; same = c.next_far.ensures.same; size = c.next_far.ensures.size }

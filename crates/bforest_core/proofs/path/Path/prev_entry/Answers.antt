@@ -6,7 +6,15 @@ use Rattle.bforest_core.proofs.walks.Steps.{never}
 use Rattle.bforest_core.proofs.path.Path.prev_entry.Goals as goal
 
 pub returns-then-here-gt0 : goal.returns-then-here-gt0
-returns-then-here-gt0 g c = record { moved = λ yes tree place fit inside s. back_within (some_leaf _ c.requires.capacity) fit inside s c.set_entry.new.self.node c.set_entry.new.self.entry c.set_entry.ensures.nodes c.if-here-gt0.true c.set_entry.ensures.here c.set_entry.ensures.above; first = never refl; same = never refl; size = c.set_entry.ensures.size }
+returns-then-here-gt0 g c =
+    record {
+      moved = λ yes tree place fit inside s. back_within
+          (some_leaf _ c.requires.capacity) fit inside s c.set_entry.new.self.node c.set_entry.new.self.entry c.set_entry.ensures.nodes
+          c.if-here-gt0.true c.set_entry.ensures.here c.set_entry.ensures.above;
+      first = never refl;
+      same = never refl;
+      size = c.set_entry.ensures.size;
+    }
 
 pub prev_node-moved-requires : goal.prev_node-moved-requires
 prev_node-moved-requires g c =
@@ -21,7 +29,22 @@ pub returns-then-moved : goal.returns-then-moved
 returns-then-moved g c =
     let new = c.set_entry-then-moved.new.self in
     let set = c.set_entry-then-moved.ensures in
-    record { moved = λ yes tree place fit inside s. back_over (some_leaf _ c.requires.capacity) fit inside s c.prev_node-moved.new.self.node c.prev_node-moved.new.self.entry (c.prev_node-moved.ensures.moved c.if-moved.true) c.index-self-0.result (omega arith) new.node new.entry c.last_index-last.result c.last_index-last.ensures.last set.nodes c.if-here-gt0.false set.here set.above; first = never c.if-moved.true; same = never c.if-moved.true; size = set.size ∙ c.prev_node-moved.ensures.size }
+    record {
+      moved = λ yes tree place fit inside s. back_over
+          (some_leaf _ c.requires.capacity) fit inside s c.prev_node-moved.new.self.node c.prev_node-moved.new.self.entry
+          (c.prev_node-moved.ensures.moved c.if-moved.true) c.index-self-0.result
+          (omega arith) new.node new.entry c.last_index-last.result c.last_index-last.ensures.last set.nodes c.if-here-gt0.false set.here
+          set.above;
+      first = never c.if-moved.true;
+      same = never c.if-moved.true;
+      size = set.size ∙ c.prev_node-moved.ensures.size;
+    }
 
 pub returns-else-moved : goal.returns-else-moved
-returns-else-moved g c = record { moved = λ yes. never yes c.if-moved.false; first = λ no tree place fit inside s. back_first (some_leaf _ c.requires.capacity) fit inside s (c.prev_node-moved.ensures.first c.if-moved.false) c.if-here-gt0.false; same = λ no. c.prev_node-moved.ensures.same c.if-moved.false; size = c.prev_node-moved.ensures.size }
+returns-else-moved g c = record {
+  moved = λ yes. never yes c.if-moved.false;
+  first = λ no tree place fit inside s. back_first (some_leaf _ c.requires.capacity) fit inside s
+      (c.prev_node-moved.ensures.first c.if-moved.false) c.if-here-gt0.false;
+  same = λ no. c.prev_node-moved.ensures.same c.if-moved.false;
+  size = c.prev_node-moved.ensures.size;
+}

@@ -11,7 +11,9 @@ pub returns : goal.returns
 returns g c =
     let w = c.requires.placed in
     record {
-      inserted = λ done tree place p. put_inserts g.row.N c.args.pool.now c.args.self.now.node c.args.self.now.entry c.args.self.now.size tree place p c.index-self-0.result (omega arith) c.put_entry.new.pool c.args.key c.args.value c.put_entry.result c.put_entry.ensures.room c.put_entry.ensures.node done;
+      inserted = λ done tree place p. put_inserts g.row.N c.args.pool.now c.args.self.now.node c.args.self.now.entry c.args.self.now.size
+          tree place p c.index-self-0.result (omega arith) c.put_entry.new.pool c.args.key c.args.value c.put_entry.result
+          c.put_entry.ensures.room c.put_entry.ensures.node done;
       full = λ full. (put_full g.row.N c.args.pool.now c.args.self.now.node c.args.self.now.entry c.args.self.now.size w.0 w.1 w.2 c.index-self-0.result (omega arith) c.put_entry.new.pool c.args.key c.args.value c.put_entry.result c.put_entry.ensures.room c.put_entry.ensures.node full).0;
       pool = λ full. (put_full g.row.N c.args.pool.now c.args.self.now.node c.args.self.now.entry c.args.self.now.size w.0 w.1 w.2 c.index-self-0.result (omega arith) c.put_entry.new.pool c.args.key c.args.value c.put_entry.result c.put_entry.ensures.room c.put_entry.ensures.node full).1;
     }

@@ -14,8 +14,18 @@ entries-left-requires g c =
 
 pub enter_next-requires : goal.enter_next-requires
 enter_next-requires g c =
-    let w = c.requires.pending in
-    (search rules, (search rules, (c.requires.height, past_asks inner_content 4 8 _ half_inner (inner_stored g.row.N) _ _ _ _ _ _ c.index-self-level.result (add-one c.args.level) (omega arith) c.requires.height w.0 w.1 w.2 w.3 w.4 w.5 c.entries-left.result c.entries-left.ensures.value c.if-self-level.true)))
+    let w = c.requires.pending in (
+      search rules,
+      (
+        search rules,
+        (
+          c.requires.height,
+          past_asks inner_content 4 8 _ half_inner (inner_stored g.row.N) _ _ _ _ _ _ c.index-self-level.result
+              (add-one c.args.level) (omega arith) c.requires.height w.0 w.1 w.2 w.3 w.4 w.5 c.entries-left.result c.entries-left.ensures.value
+              c.if-self-level.true,
+        ),
+      ),
+    )
 
 pub returns-then-self-level-clause-healed : goal.returns-then-self-level-clause-healed
 returns-then-self-level-clause-healed g c = λ same before n es after rest p.
@@ -33,20 +43,28 @@ right_sibling-requires g c =
 
 pub balance_nodes-requires : goal.balance_nodes-requires
 balance_nodes-requires g c =
-    let w = c.requires.pending in
-    (search rules, balance_asks inner_content 4 8 _ half_inner (inner_stored g.row.N) _ _ _ _ _ _ c.index-self-level.result (add-one c.args.level) (omega arith) c.requires.height w.0 w.1 w.2 w.3 w.4 w.5 c.entries-left.result c.entries-left.ensures.value c.if-left-ge-MIN_CHILDREN.false _ _ c.in-Some.is c.right_sibling.ensures)
+    let w = c.requires.pending in (
+      search rules,
+      balance_asks inner_content 4 8 _ half_inner (inner_stored g.row.N) _ _ _ _ _ _ c.index-self-level.result
+          (add-one c.args.level) (omega arith) c.requires.height w.0 w.1 w.2 w.3 w.4 w.5 c.entries-left.result c.entries-left.ensures.value
+          c.if-left-ge-MIN_CHILDREN.false _ _ c.in-Some.is c.right_sibling.ensures,
+    )
 
 pub update_next_separator-requires : goal.update_next_separator-requires
 update_next_separator-requires g c =
     let w = c.requires.pending in
-    let asked = rekey_asks inner_content 4 8 _ half_inner (inner_stored g.row.N) _ _ _ _ _ _ c.index-self-level.result (add-one c.args.level) (omega arith) c.requires.height w.0 w.1 w.2 w.3 w.4 w.5 c.entries-left.result c.entries-left.ensures.value c.if-left-ge-MIN_CHILDREN.false _ _ c.in-Some.is c.right_sibling.ensures
+    let asked = rekey_asks inner_content 4 8 _ half_inner (inner_stored g.row.N) _ _ _ _ _ _ c.index-self-level.result
+    (add-one c.args.level) (omega arith) c.requires.height w.0 w.1 w.2 w.3 w.4 w.5 c.entries-left.result c.entries-left.ensures.value
+    c.if-left-ge-MIN_CHILDREN.false _ _ c.in-Some.is c.right_sibling.ensures
     c.balance_nodes.new.self _ c.balance_nodes.ensures.balanced _ c.in-Some-balance_nodes.is in
     (search rules, (search rules, (c.requires.height, asked)))
 
 pub free_node-requires : goal.free_node-requires
 free_node-requires g c =
     let w = c.requires.pending in
-    let asked = free_asks inner_content 4 8 _ half_inner (inner_stored g.row.N) _ _ _ _ _ _ c.index-self-level.result (add-one c.args.level) (omega arith) c.requires.height w.0 w.1 w.2 w.3 w.4 w.5 c.entries-left.result c.entries-left.ensures.value c.if-left-ge-MIN_CHILDREN.false _ _ c.in-Some.is c.right_sibling.ensures
+    let asked = free_asks inner_content 4 8 _ half_inner (inner_stored g.row.N) _ _ _ _ _ _ c.index-self-level.result (add-one c.args.level)
+    (omega arith) c.requires.height w.0 w.1 w.2 w.3 w.4 w.5 c.entries-left.result c.entries-left.ensures.value
+    c.if-left-ge-MIN_CHILDREN.false _ _ c.in-Some.is c.right_sibling.ensures
     c.balance_nodes.new.self _ c.balance_nodes.ensures.balanced c.in-None-balance_nodes.is in
     (search rules, asked)
 
@@ -56,12 +74,16 @@ returns-in-None-clause-healed g c = λ same before n es after rest p.
 
 pub returns-in-Some-balance_nodes-clause-healed : goal.returns-in-Some-balance_nodes-clause-healed
 returns-in-Some-balance_nodes-clause-healed g c = λ same before n es after rest p.
-    rekey_heals inner_content 4 8 _ half_inner (inner_stored g.row.N) _ _ _ _ _ _ c.index-self-level.result (add-one c.args.level) (omega arith) c.requires.height before n es after rest p c.entries-left.result c.entries-left.ensures.value c.if-left-ge-MIN_CHILDREN.false _ _ c.in-Some.is c.right_sibling.ensures
+    rekey_heals inner_content 4 8 _ half_inner (inner_stored g.row.N) _ _ _ _ _ _ c.index-self-level.result (add-one c.args.level)
+    (omega arith) c.requires.height before n es after rest p c.entries-left.result c.entries-left.ensures.value
+    c.if-left-ge-MIN_CHILDREN.false _ _ c.in-Some.is c.right_sibling.ensures
     c.balance_nodes.new.self _ c.balance_nodes.ensures.balanced _ c.in-Some-balance_nodes.is c.update_next_separator.new.pool c.update_next_separator.ensures
 
 pub returns-in-None-balance_nodes-clause-joined : goal.returns-in-None-balance_nodes-clause-joined
 returns-in-None-balance_nodes-clause-joined g c = λ same before n es after rest p.
-    free_joins inner_content 4 8 _ half_inner (inner_stored g.row.N) _ _ _ _ _ _ c.index-self-level.result (add-one c.args.level) (omega arith) c.requires.height before n es after rest p c.entries-left.result c.entries-left.ensures.value c.if-left-ge-MIN_CHILDREN.false _ _ c.in-Some.is c.right_sibling.ensures
+    free_joins inner_content 4 8 _ half_inner (inner_stored g.row.N) _ _ _ _ _ _ c.index-self-level.result (add-one c.args.level)
+    (omega arith) c.requires.height before n es after rest p c.entries-left.result c.entries-left.ensures.value
+    c.if-left-ge-MIN_CHILDREN.false _ _ c.in-Some.is c.right_sibling.ensures
     c.balance_nodes.new.self _ c.balance_nodes.ensures.balanced c.in-None-balance_nodes.is c.free_node.new.self c.free_node.ensures.freed
 
 pub offset_bounds-self-level : goal.offset_bounds-self-level

@@ -61,13 +61,24 @@ update_next_separator-requires g c =
 
 pub remove_child-answer-requires-else-index-entries : goal.remove_child-answer-requires-else-index-entries
 remove_child-answer-requires-else-index-entries g c =
-    let w = c.requires.pending in
-    (search rules, remove_last_asks _ _ _ _ _ w.0 w.1 w.2 w.3 w.4 w.5 w.6 w.7 c.index-self-up.result (omega arith) c.requires.height c.entries.result c.entries.ensures.value c.if-index-entries.false (c.args.up + 1) (add-one c.args.up) c.update_next_separator.new.pool c.separator-key-else-index-entries.result c.update_next_separator.ensures)
+    let w = c.requires.pending in (
+      search rules,
+      remove_last_asks _ _ _ _ _ w.0 w.1 w.2 w.3 w.4 w.5 w.6 w.7 c.index-self-up.result
+          (omega arith) c.requires.height c.entries.result c.entries.ensures.value c.if-index-entries.false (c.args.up + 1)
+          (add-one c.args.up) c.update_next_separator.new.pool c.separator-key-else-index-entries.result c.update_next_separator.ensures,
+    )
 
 pub returns-then-index-entries : goal.returns-then-index-entries
 returns-then-index-entries g c = λ rows a k m k2 n b p.
-    same_parent _ _ _ _ _ rows a k m k2 n b p c.index-self-up.result (omega arith) c.requires.height c.entries.result c.entries.ensures.value c.if-index-entries.true c.set_separator.new.pool c.separator-key.result c.set_separator.ensures c.remove_child-answer.new.pool c.saturating_sub.result c.saturating_sub.ensures c.separator-key.ensures c.remove_child-answer.ensures.node
+    same_parent _ _ _ _ _ rows a k m k2 n b p c.index-self-up.result
+    (omega arith) c.requires.height c.entries.result c.entries.ensures.value c.if-index-entries.true c.set_separator.new.pool
+    c.separator-key.result c.set_separator.ensures c.remove_child-answer.new.pool c.saturating_sub.result c.saturating_sub.ensures
+    c.separator-key.ensures c.remove_child-answer.ensures.node
 
 pub returns-else-index-entries : goal.returns-else-index-entries
 returns-else-index-entries g c = λ rows a k m k2 n b p.
-    next_parent _ _ _ _ _ rows a k m k2 n b p c.index-self-up.result (omega arith) c.requires.height c.entries.result c.entries.ensures.value c.if-index-entries.false (c.args.up + 1) (add-one c.args.up) c.update_next_separator.new.pool c.separator-key-else-index-entries.result c.update_next_separator.ensures c.remove_child-answer-else-index-entries.new.pool c.separator-key-else-index-entries.ensures c.remove_child-answer-else-index-entries.ensures.node
+    next_parent _ _ _ _ _ rows a k m k2 n b p c.index-self-up.result
+    (omega arith) c.requires.height c.entries.result c.entries.ensures.value c.if-index-entries.false (c.args.up + 1)
+    (add-one c.args.up) c.update_next_separator.new.pool c.separator-key-else-index-entries.result c.update_next_separator.ensures
+    c.remove_child-answer-else-index-entries.new.pool c.separator-key-else-index-entries.ensures
+    c.remove_child-answer-else-index-entries.ensures.node

@@ -19,8 +19,24 @@ pub insert_above-requires : goal.insert_above-requires
 insert_above-requires g c =
     let w = c.requires.placed in
     let h = c.halve_leaf-half.ensures.halved w.0 w.1 w.2 in
-    let here = get_or_default c.args.self.now.node 0 c.index-self-0.result 0 (omega arith) in
-    (search rules, (search rules, (omega (arith, c.requires.height, c.halve_leaf-half.ensures.size), (h.rows, heads h.before, h.first.0, heads h.after, rw (c.halve_leaf-half.ensures.size, here) h.above, omega (arith, above_leaf need_above _ _ _ _ _ _ _ _ _ _ _ _ _ h, w.3, ap length h.chain_is), omega (arith, ap length (above_leaf gain_above _ _ _ _ _ _ _ _ _ _ _ _ _ h), w.4)))))
+    let here = get_or_default c.args.self.now.node 0 c.index-self-0.result 0 (omega arith) in (
+      search rules,
+      (
+        search rules,
+        (
+          omega (arith, c.requires.height, c.halve_leaf-half.ensures.size),
+          (
+            h.rows,
+            heads h.before,
+            h.first.0,
+            heads h.after,
+            rw (c.halve_leaf-half.ensures.size, here) h.above,
+            omega (arith, above_leaf need_above _ _ _ _ _ _ _ _ _ _ _ _ _ h, w.3, ap length h.chain_is),
+            omega (arith, ap length (above_leaf gain_above _ _ _ _ _ _ _ _ _ _ _ _ _ h), w.4),
+          ),
+        ),
+      ),
+    )
 
 pub returns : goal.returns
 returns g c = record {

@@ -99,5 +99,12 @@ free_under-returns g t c = λ leaves lower first under apart.
     let one = some_leaf _ c.requires.capacity in
     let o = under-open g.row.N one c.args.self.now.nodes leaves lower first c.args.node under in
     let s = c.loop-index.invariant leaves lower apart o in
-    let all = sweep-last g.row.N one c.args.self.now s.opened.low s.opened.rows s.opened.top c.loop-index.self c.loop-index.index (omega (arith, c.loop-index-test.false, c.child_count-index-end.ensures s.opened.content s.opened.slot_is, ap length s.opened.children_are, length-map s.opened.top (λ (e : g.row.K.Denot × ℕ). e.1))) s.swept in
+    let all = sweep-last g.row.N one c.args.self.now s.opened.low s.opened.rows s.opened.top c.loop-index.self c.loop-index.index
+    (omega (
+      arith,
+      c.loop-index-test.false,
+      c.child_count-index-end.ensures s.opened.content s.opened.slot_is,
+      ap length s.opened.children_are,
+      length-map s.opened.top (λ (e : g.row.K.Denot × ℕ). e.1),
+    )) s.swept in
     subst (λ z. GivesAll c.args.self.now z (numbers_under leaves lower) (numbers_down c.args.self.now.nodes (length lower) c.args.node)) (sym c.free_node.ensures.freed) (gives-down g.row.N c.args.self.now c.loop-index.self leaves lower c.args.node c.loop-index.index s all)

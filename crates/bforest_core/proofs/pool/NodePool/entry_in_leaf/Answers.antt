@@ -21,4 +21,6 @@ returns-then-index-eq0 g c = λ es slot.
 
 pub returns : goal.returns
 returns g c = λ es slot.
-    entry-in-front (g.C.Comparator.order c.args.comp.now) es c.args.key c.look_up-index.result.1 (c.look_up-index.ensures.value es slot) c.look_up-index.result.0 (c.look_up-index.ensures.place es slot) (sym c.is_some.ensures ∙ c.if-is_some.false) c.if-index-eq0.false c.leaf_entry-2.result (c.leaf_entry-2.ensures.value es slot)
+    entry-in-front (g.C.Comparator.order c.args.comp.now) es c.args.key c.look_up-index.result.1
+    (c.look_up-index.ensures.value es slot) c.look_up-index.result.0 (c.look_up-index.ensures.place es slot)
+    (sym c.is_some.ensures ∙ c.if-is_some.false) c.if-index-eq0.false c.leaf_entry-2.result (c.leaf_entry-2.ensures.value es slot)

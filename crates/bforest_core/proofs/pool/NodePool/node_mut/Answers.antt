@@ -11,7 +11,10 @@ invariant_of-self-lent g c w =
 pub returns : goal.returns
 returns g c =
     let used = used_inside _ _ _ c.number.result c.self.view_is c.number.ensures.value c.requires in
-    let found : slice_get c.args.self.now.nodes c.args.node ≡ Some c.index_mut.result.now = rw (← c.self.view_is, ← c.number.ensures.value) (slice_get_read c.self.inside.nodes.items (length c.self.inside.nodes.items) c.number.result c.index_mut.result.now refl used.within c.index_mut.ensures.value) in (
+    let found : slice_get c.args.self.now.nodes c.args.node ≡ Some c.index_mut.result.now =
+    rw (← c.self.view_is, ← c.number.ensures.value)
+    (slice_get_read c.self.inside.nodes.items (length c.self.inside.nodes.items) c.number.result c.index_mut.result.now refl used.within
+    c.index_mut.ensures.value) in (
       (refl, λ w. rw (← c.self.view_is, (IsPool-set _ _ _ _ _ c.number.result w used.off_chain c.self.invariant).1, c.number.ensures.value)),
       record { writes_back = tt; value = found },
     )

@@ -44,8 +44,13 @@ index-requires g c =
     omega (arith, within _ c.self.inside.nodes.items c.self.inside.first c.self.inside.free c.self.inside.limit c.self.invariant _ c.self.view_is c.requires.room c.number.result _ _ c.expand.ensures.value c.unwrap-node.ensures c.number.ensures.value)
 
 pub next_free-self-inside-requires : goal.next_free-self-inside-requires
-next_free-self-inside-requires g c =
-    (search rules, is_free _ c.self.inside.nodes.items c.self.inside.first c.self.inside.free c.self.inside.limit c.self.invariant _ c.self.view_is c.requires.room c.number.result _ _ c.expand.ensures.value c.unwrap-node.ensures c.number.ensures.value c.index.result.now (λ low. slice_get_read c.self.inside.nodes.items (length c.self.inside.nodes.items) c.number.result c.index.result.now refl low c.index.ensures))
+next_free-self-inside-requires g c = (
+  search rules,
+  is_free _ c.self.inside.nodes.items c.self.inside.first c.self.inside.free c.self.inside.limit c.self.invariant
+      _ c.self.view_is c.requires.room c.number.result _ _ c.expand.ensures.value c.unwrap-node.ensures c.number.ensures.value
+      c.index.result.now (λ low. slice_get_read c.self.inside.nodes.items
+      (length c.self.inside.nodes.items) c.number.result c.index.result.now refl low c.index.ensures),
+)
 
 pub overflow_sub-self : goal.overflow_sub-self
 overflow_sub-self g c =
@@ -53,11 +58,19 @@ overflow_sub-self g c =
 
 pub invariant_of-self : goal.invariant_of-self
 invariant_of-self g c =
-    (taken _ c.self.inside.nodes.items c.self.inside.first c.self.inside.free c.self.inside.limit c.self.invariant _ c.self.view_is c.requires.room c.number.result _ _ c.expand.ensures.value c.unwrap-node.ensures c.number.ensures.value c.index.result.now (λ low. slice_get_read c.self.inside.nodes.items (length c.self.inside.nodes.items) c.number.result c.index.result.now refl low c.index.ensures) c.next_free-self-inside.result c.next_free-self-inside.ensures).0
+    (taken _ c.self.inside.nodes.items c.self.inside.first c.self.inside.free c.self.inside.limit c.self.invariant _ c.self.view_is
+    c.requires.room c.number.result _ _ c.expand.ensures.value c.unwrap-node.ensures c.number.ensures.value c.index.result.now
+    (λ low. slice_get_read c.self.inside.nodes.items
+    (length c.self.inside.nodes.items) c.number.result c.index.result.now refl low c.index.ensures) c.next_free-self-inside.result
+    c.next_free-self-inside.ensures).0
 
 pub returns : goal.returns
 returns g c =
-    let after = taken _ c.self.inside.nodes.items c.self.inside.first c.self.inside.free c.self.inside.limit c.self.invariant _ c.self.view_is c.requires.room c.number.result _ _ c.expand.ensures.value c.unwrap-node.ensures c.number.ensures.value c.index.result.now (λ low. slice_get_read c.self.inside.nodes.items (length c.self.inside.nodes.items) c.number.result c.index.result.now refl low c.index.ensures) c.next_free-self-inside.result c.next_free-self-inside.ensures in
+    let after = taken _ c.self.inside.nodes.items c.self.inside.first c.self.inside.free c.self.inside.limit c.self.invariant
+    _ c.self.view_is c.requires.room c.number.result _ _ c.expand.ensures.value c.unwrap-node.ensures c.number.ensures.value
+    c.index.result.now (λ low. slice_get_read c.self.inside.nodes.items
+    (length c.self.inside.nodes.items) c.number.result c.index.result.now refl low c.index.ensures) c.next_free-self-inside.result
+    c.next_free-self-inside.ensures in
     let inside = within _ c.self.inside.nodes.items c.self.inside.first c.self.inside.free c.self.inside.limit c.self.invariant _ c.self.view_is c.requires.room c.number.result _ _ c.expand.ensures.value c.unwrap-node.ensures c.number.ensures.value in
     record {
       node = rw (← c.self.view_is) (front_of-is _ _ _ c.self.invariant.linked ∙ sym c.expand.ensures.value ∙ c.unwrap-node.ensures);

@@ -15,4 +15,11 @@ value_mut-requires g c =
     (search rules, (subst IsLeaf (sym same) e.leaf, (let n = ap entry_count same in omega (arith, n, e.within))))
 
 pub returns : goal.returns
-returns g c = ((refl, λ w. ap (λ z. with_node c.args.self.now c.args.node (with_value z c.args.index w)) (sym (slot-is c.args.self.now.nodes c.args.node c.node_mut.result.now c.node_mut.ensures.value))), record { writes_back = tt; value = rw c.node_mut.ensures.value (sym c.value_mut.ensures.value) })
+returns g c = (
+  (
+    refl,
+    λ w. ap (λ z. with_node c.args.self.now c.args.node (with_value z c.args.index w))
+        (sym (slot-is c.args.self.now.nodes c.args.node c.node_mut.result.now c.node_mut.ensures.value)),
+  ),
+  record { writes_back = tt; value = rw c.node_mut.ensures.value (sym c.value_mut.ensures.value) },
+)

@@ -14,7 +14,9 @@ pub child-leaf-requires : goal.child-leaf-requires
 child-leaf-requires g c = (search rules, cousin-asks c.requires.union c.requires.spot.1 c.requires.last c.requires.deep c.child_count.result c.child_count.ensures.value c.if-index-child_count.true c.child-parent.result c.child-parent.ensures)
 
 pub returns-then-index-child_count-clause-some : goal.returns-then-index-child_count-clause-some
-returns-then-index-child_count-clause-some g c = λ place s. cousin c.requires.union s c.requires.last c.requires.deep c.child_count.result c.child_count.ensures.value c.if-index-child_count.true c.child-parent.result c.child-parent.ensures c.child-leaf.result c.child-leaf.ensures _ refl refl refl refl
+returns-then-index-child_count-clause-some g c = λ place s.
+    cousin c.requires.union s c.requires.last c.requires.deep c.child_count.result c.child_count.ensures.value c.if-index-child_count.true
+    c.child-parent.result c.child-parent.ensures c.child-leaf.result c.child-leaf.ensures _ refl refl refl refl
 
 pub next_far-requires : goal.next_far-requires
 next_far-requires g c =
@@ -27,7 +29,9 @@ overflow_mul-spot g c =
     omega (arith, low)
 
 pub returns-in_err-spot-clause-none : goal.returns-in_err-spot-clause-none
-returns-in_err-spot-clause-none g c = λ none place s. last-leaf c.requires.union c.args.root s.root_is (c.next_far.ensures.none c.in_err-spot.was s.numbers (tree_of c.args.pool.now.nodes c.args.root).above (heads (tree_of c.args.pool.now.nodes c.args.root).leaves) place (spot-over c.requires.union s))
+returns-in_err-spot-clause-none g c = λ none place s. last-leaf c.requires.union c.args.root s.root_is
+    (c.next_far.ensures.none c.in_err-spot.was s.numbers (tree_of c.args.pool.now.nodes c.args.root).above
+    (heads (tree_of c.args.pool.now.nodes c.args.root).leaves) place (spot-over c.requires.union s))
 
 pub returns-clause-some : goal.returns-clause-some
 returns-clause-some g c = far-said c.requires.union c.args.root c.args.self.now (Some (c.in_ok-spot.spot, c.in_ok-spot.leaf)) (rw c.in_ok-spot.was at c.next_far.ensures.some)

@@ -16,7 +16,10 @@ returns g c =
     let right_room : length c.in-Branch-Branch.right_keys.items ≡ 7 = search rules in
     let right_tree_room : length c.in-Branch-Branch.right_tree.items ≡ 8 = search rules in
     rw (← c.self.view_is, ← c.rhs.view_is, b.is-0, b.is-1)
-    (inner_shares c.in-Branch-Branch.size c.in-Branch-Branch.right_size most c.div_ceil.result c.div_ceil.ensures c.if-len-right_len-le-INNER_SIZE.false few b.keys.items c.push.new.self.items c.append.new.self.items b.right_keys.items c.remove_front.new.self.items b.tree.items c.append-in-Branch-Branch.new.self.items b.right_tree.items c.remove_front-in-Branch-Branch.new.self.items c.args.crit_key
+    (inner_shares c.in-Branch-Branch.size c.in-Branch-Branch.right_size most c.div_ceil.result c.div_ceil.ensures
+    c.if-len-right_len-le-INNER_SIZE.false few b.keys.items c.push.new.self.items c.append.new.self.items b.right_keys.items
+    c.remove_front.new.self.items b.tree.items c.append-in-Branch-Branch.new.self.items b.right_tree.items
+    c.remove_front-in-Branch-Branch.new.self.items c.args.crit_key
     keys_room len right_room right_tree_room g.row.N c.at.result c.push.ensures c.append.ensures c.append-in-Branch-Branch.ensures c.remove_front.ensures c.remove_front-in-Branch-Branch.ensures c.at.ensures)
 
 pub unreachable-requires : goal.unreachable-requires

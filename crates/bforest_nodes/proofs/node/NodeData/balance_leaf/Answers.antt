@@ -16,7 +16,11 @@ returns g c = λ crit_key.
     let right_room : length c.in-Entries-Entries.field-0-1.keys.items ≡ g.row.N = search rules in
     let right_vals_room : length c.in-Entries-Entries.field-0-1.vals.items ≡ g.row.N = search rules in
     rw (← c.self.view_is, ← c.rhs.view_is, c.in-Entries-Entries.is-0, c.in-Entries-Entries.is-1)
-    (leaf_shares g.row.N c.in-Entries-Entries.field-0-0.size c.in-Entries-Entries.field-0-1.size c.div_ceil.result c.div_ceil.ensures small most c.if-len-right_len.false c.in-Entries-Entries.field-0-0.keys.items c.append.new.self.items c.in-Entries-Entries.field-0-1.keys.items c.remove_front.new.self.items c.in-Entries-Entries.field-0-0.vals.items c.append-in-Entries-Entries.new.self.items c.in-Entries-Entries.field-0-1.vals.items c.remove_front-in-Entries-Entries.new.self.items crit_key c.at.result
+    (leaf_shares g.row.N c.in-Entries-Entries.field-0-0.size c.in-Entries-Entries.field-0-1.size c.div_ceil.result c.div_ceil.ensures small
+    most c.if-len-right_len.false c.in-Entries-Entries.field-0-0.keys.items c.append.new.self.items
+    c.in-Entries-Entries.field-0-1.keys.items c.remove_front.new.self.items c.in-Entries-Entries.field-0-0.vals.items
+    c.append-in-Entries-Entries.new.self.items c.in-Entries-Entries.field-0-1.vals.items
+    c.remove_front-in-Entries-Entries.new.self.items crit_key c.at.result
     room vals_room right_room right_vals_room under c.append.ensures c.append-in-Entries-Entries.ensures c.remove_front.ensures c.remove_front-in-Entries-Entries.ensures c.at.ensures)
 
 pub unreachable-requires : goal.unreachable-requires
@@ -29,7 +33,10 @@ pub returns-then-len-right_len : goal.returns-then-len-right_len
 returns-then-len-right_len g c = λ crit_key.
     let b = c.in-Entries-Entries in
     rw (← c.self.view_is, ← c.rhs.view_is, b.is-0, b.is-1)
-    (Balances-one_leaf g.row.N c.in-Entries-Entries.field-0-0.size c.in-Entries-Entries.field-0-1.size c.in-Entries-Entries.field-0-0.keys.items c.in-Entries-Entries.field-0-1.keys.items c.put_before.new.self.items c.in-Entries-Entries.field-0-0.vals.items c.in-Entries-Entries.field-0-1.vals.items c.put_before-then-len-right_len.new.self.items crit_key
+    (Balances-one_leaf g.row.N c.in-Entries-Entries.field-0-0.size c.in-Entries-Entries.field-0-1.size
+    c.in-Entries-Entries.field-0-0.keys.items c.in-Entries-Entries.field-0-1.keys.items c.put_before.new.self.items
+    c.in-Entries-Entries.field-0-0.vals.items c.in-Entries-Entries.field-0-1.vals.items c.put_before-then-len-right_len.new.self.items
+    crit_key
     (Leaf (take c.in-Entries-Entries.field-0-0.size c.in-Entries-Entries.field-0-0.keys.items) (take c.in-Entries-Entries.field-0-0.size c.in-Entries-Entries.field-0-0.vals.items)) c.if-len-right_len.true c.put_before.ensures c.put_before-then-len-right_len.ensures)
 
 pub put_before-requires : goal.put_before-requires
@@ -77,5 +84,12 @@ remove_front-requires-in-Entries-Entries g c =
 pub at-requires : goal.at-requires
 at-requires g c =
     let small = entries_most c.self.inside.state c.in-Entries-Entries.field-0-0 c.in-Entries-Entries.is-0 c.self.invariant.1 in
-    let most = entries_most c.rhs.inside.state c.in-Entries-Entries.field-0-1 c.in-Entries-Entries.is-1 c.rhs.invariant.1 in
-    (search rules, (leaf_rest g.row.N c.in-Entries-Entries.field-0-0.size c.in-Entries-Entries.field-0-1.size c.div_ceil.result c.div_ceil.ensures small most c.if-len-right_len.false, leaf_some g.row.N c.in-Entries-Entries.field-0-0.size c.in-Entries-Entries.field-0-1.size c.div_ceil.result c.div_ceil.ensures small most c.if-len-right_len.false c.self.invariant.0.least))
+    let most = entries_most c.rhs.inside.state c.in-Entries-Entries.field-0-1 c.in-Entries-Entries.is-1 c.rhs.invariant.1 in (
+      search rules,
+      (
+        leaf_rest g.row.N c.in-Entries-Entries.field-0-0.size c.in-Entries-Entries.field-0-1.size c.div_ceil.result
+            c.div_ceil.ensures small most c.if-len-right_len.false,
+        leaf_some g.row.N c.in-Entries-Entries.field-0-0.size c.in-Entries-Entries.field-0-1.size c.div_ceil.result c.div_ceil.ensures small
+            most c.if-len-right_len.false c.self.invariant.0.least,
+      ),
+    )

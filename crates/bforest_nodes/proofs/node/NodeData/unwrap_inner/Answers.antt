@@ -9,4 +9,6 @@ returns-clause-value g c = rw (← c.self.view_is, c.in-Branch.is, c.front.ensur
 
 pub returns-clause-shape : goal.returns-clause-shape
 returns-clause-shape g c =
-    branch_shape c.self.inside.state c.in-Branch.size c.in-Branch.keys c.in-Branch.tree c.args.self.now c.front.result.now c.front-in-Branch.result.now c.self.view_is c.in-Branch.is c.self.invariant.1 c.front.ensures.value c.front.ensures.len c.front-in-Branch.ensures.value c.front-in-Branch.ensures.len
+    branch_shape c.self.inside.state c.in-Branch.size c.in-Branch.keys c.in-Branch.tree c.args.self.now c.front.result.now
+    c.front-in-Branch.result.now c.self.view_is c.in-Branch.is c.self.invariant.1 c.front.ensures.value c.front.ensures.len
+    c.front-in-Branch.ensures.value c.front-in-Branch.ensures.len

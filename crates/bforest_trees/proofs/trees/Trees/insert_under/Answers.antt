@@ -25,7 +25,9 @@ returns-in-Some-clause-inserted g c =
     let up = rw (← c.self.view_is) at c.requires.increasing in
     let e = on-key g.row.N (g.C.Comparator.order c.args.comp.now) _ _ c.args.key live _ _ c.find_here.ensures.value c.find_here.ensures.present _ c.in-Some.is in
     rw (c.requires.root, ← c.self.view_is)
-    (overwritten g.row.N (g.C.Comparator.order c.args.comp.now) _ _ c.args.key live _ _ c.find_here.ensures.value c.find_here.ensures.present _ c.in-Some.is (g.met.C.Comparator.total c.args.comp.now) up c.args.value c.set_value.new.pool (c.set_value.ensures.written e) c.set_value.ensures.slots c.set_value.ensures.chain)
+    (overwritten g.row.N (g.C.Comparator.order c.args.comp.now) _ _ c.args.key live _ _ c.find_here.ensures.value
+    c.find_here.ensures.present _ c.in-Some.is (g.met.C.Comparator.total c.args.comp.now) up c.args.value c.set_value.new.pool
+    (c.set_value.ensures.written e) c.set_value.ensures.slots c.set_value.ensures.chain)
 
 pub returns-in-Some-clause-spot : goal.returns-in-Some-clause-spot
 returns-in-Some-clause-spot g c =

@@ -13,12 +13,18 @@ find_leaf-leaf-requires g c =
 
 pub invariant_of-self : goal.invariant_of-self
 invariant_of-self g c =
-    leaf-union g.row.N (g.C.Comparator.order c.args.comp.now) c.self.inside.pool c.args.root c.args.key (rw (← c.self.view_is) at c.requires.live) c.put_in_leaf.new.self (g.met.C.Comparator.total c.args.comp.now) (rw (← c.self.view_is) at c.requires.increasing) c.args.value _ _ _ c.put_in_leaf.result (c.put_in_leaf.ensures.put c.args.root _ _ _ c.find_leaf-leaf.ensures) c.in-Ok.old c.in-Ok.is
+    leaf-union g.row.N (g.C.Comparator.order c.args.comp.now) c.self.inside.pool c.args.root c.args.key
+    (rw (← c.self.view_is) at c.requires.live) c.put_in_leaf.new.self (g.met.C.Comparator.total c.args.comp.now)
+    (rw (← c.self.view_is) at c.requires.increasing) c.args.value _ _ _ c.put_in_leaf.result
+    (c.put_in_leaf.ensures.put c.args.root _ _ _ c.find_leaf-leaf.ensures) c.in-Ok.old c.in-Ok.is
 
 pub returns-in-Ok : goal.returns-in-Ok
 returns-in-Ok g c =
     rw (c.requires.root, ← c.self.view_is)
-    (leaf-put g.row.N (g.C.Comparator.order c.args.comp.now) c.self.inside.pool c.args.root c.args.key (rw (← c.self.view_is) at c.requires.live) c.put_in_leaf.new.self (g.met.C.Comparator.total c.args.comp.now) (rw (← c.self.view_is) at c.requires.increasing) c.args.value _ _ _ c.put_in_leaf.result (c.put_in_leaf.ensures.put c.args.root _ _ _ c.find_leaf-leaf.ensures) c.in-Ok.old c.in-Ok.is)
+    (leaf-put g.row.N (g.C.Comparator.order c.args.comp.now) c.self.inside.pool c.args.root c.args.key
+    (rw (← c.self.view_is) at c.requires.live) c.put_in_leaf.new.self (g.met.C.Comparator.total c.args.comp.now)
+    (rw (← c.self.view_is) at c.requires.increasing) c.args.value _ _ _ c.put_in_leaf.result
+    (c.put_in_leaf.ensures.put c.args.root _ _ _ c.find_leaf-leaf.ensures) c.in-Ok.old c.in-Ok.is)
 
 pub set_index-requires : goal.set_index-requires
 set_index-requires g c = (search rules, c.put_in_leaf.ensures.most c.in-Err.index c.in-Err.is)
@@ -29,8 +35,22 @@ invariant_of-self-in-Err g c = rw ((c.put_in_leaf.ensures.put c.args.root _ _ _ 
 pub put_at-requires : goal.put_at-requires
 put_at-requires g c =
     let wrote = (c.put_in_leaf.ensures.put c.args.root _ _ _ c.find_leaf-leaf.ensures) in
-    let same = wrote.refused c.in-Err.index c.in-Err.is in
-    (search rules, (search rules, ((c.args.root, place (g.C.Comparator.order c.args.comp.now) (list_under c.self.inside.pool c.args.root) c.args.key, c.requires.root, rw (wrote.refused c.in-Err.index c.in-Err.is, c.set_index.ensures.node, c.set_index.ensures.entry, c.set_index.ensures.size) (wrote.placed c.in-Err.index c.in-Err.is)), rw (same, c.set_index.ensures.node, c.find_leaf-leaf.ensures.leaf_is) (c.put_in_leaf.ensures.full c.in-Err.index c.in-Err.is))))
+    let same = wrote.refused c.in-Err.index c.in-Err.is in (
+      search rules,
+      (
+        search rules,
+        (
+          (
+            c.args.root,
+            place (g.C.Comparator.order c.args.comp.now) (list_under c.self.inside.pool c.args.root) c.args.key,
+            c.requires.root,
+            rw (wrote.refused c.in-Err.index c.in-Err.is, c.set_index.ensures.node, c.set_index.ensures.entry, c.set_index.ensures.size)
+                (wrote.placed c.in-Err.index c.in-Err.is),
+          ),
+          rw (same, c.set_index.ensures.node, c.find_leaf-leaf.ensures.leaf_is) (c.put_in_leaf.ensures.full c.in-Err.index c.in-Err.is),
+        ),
+      ),
+    )
 
 pub returns-in-Err : goal.returns-in-Err
 returns-in-Err g c =
@@ -40,4 +60,7 @@ returns-in-Err g c =
     let up = rw (← c.self.view_is) at c.requires.increasing in
     let live = rw (← c.self.view_is) at c.requires.live in
     rw (← c.self.view_is, ← same)
-    (c.put_at.ensures c.args.root cmp c.requires.root (rw same live) (g.met.C.Comparator.total c.args.comp.now) (rw same up) (rw same (wrote.full c.in-Err.index c.in-Err.is)) (rw (wrote.refused c.in-Err.index c.in-Err.is, c.set_index.ensures.node, c.set_index.ensures.entry, c.set_index.ensures.size) (wrote.placed c.in-Err.index c.in-Err.is)))
+    (c.put_at.ensures c.args.root cmp c.requires.root (rw same live) (g.met.C.Comparator.total c.args.comp.now) (rw same up)
+    (rw same (wrote.full c.in-Err.index c.in-Err.is))
+    (rw (wrote.refused c.in-Err.index c.in-Err.is, c.set_index.ensures.node, c.set_index.ensures.entry, c.set_index.ensures.size)
+    (wrote.placed c.in-Err.index c.in-Err.is)))
