@@ -8,7 +8,8 @@ use Rattle.bforest_trees.specs.declared.trees.range.Ends.{Ends}
 use Rattle.bforest_core.proofs.table.Lists.{drop-read}
 use Rattle.bforest_core.specs.Place.{entry_before}
 use Rattle.bforest_nodes.proofs.Seams.{last_taken}
-use Rattle.std.proofs.Common.{Bool, IsTrue, List, Option, Some, [], ap, arith, drop, false, inl, inr, length, min, refl, slice_get, slice_range, subst, suc, sym, take, true, zero, ◌+◌, ◌++◌, ◌-◌, ◌<◌, ◌∙◌, ◌∷◌, ◌≡◌, ◌≤◌, ◌↔◌, ℕ}
+use Rattle.std.proofs.Common.{Bool, IsTrue, List, Option, Some, [], ap, arith, drop, false, inl, inr, length, min, refl, slice_get}
+use Rattle.std.proofs.Common.{slice_range, subst, suc, sym, take, true, zero, ◌+◌, ◌++◌, ◌-◌, ◌<◌, ◌∙◌, ◌∷◌, ◌≡◌, ◌≤◌, ◌↔◌, ℕ}
 use Rattle.std.proofs.lemmas.Bool.{cases_lt}
 use Rattle.std.specs.Iterator.{YieldsFirst, YieldsLast}
 
@@ -50,7 +51,8 @@ module _ {K X : Type 0} (f : Forest K X) (h : Option ℕ) where
         left = λ j. slice_range (list_of f h) (from j) (to j);
       }
 
-  module _ (live : IsLive f h) (ends : Ends K X) (front : IsLook f h ends.front (length (list_of f h))) (back : IsLook f h ends.back (length (list_of f h))) where
+  module _ (live : IsLive f h) (ends : Ends K X) (front : IsLook f h ends.front (length (list_of f h)))
+      (back : IsLook f h ends.back (length (list_of f h))) where
     abbrev pub made : RunsFrom f h ends (length (list_of f h)) (length (list_of f h))
     made = range-made live ends (length (list_of f h)) (length (list_of f h)) front back (omega arith)
 
@@ -77,7 +79,8 @@ module _ {K X : Type 0} (f : Forest K X) (h : Option ℕ) where
     unfolding left_in
     range-empty = (
       λ none. elim (cases_lt from to) [
-        | inl less ↦ absurd (let some = read-at (list_of f h) from (omega (arith, less, to-most)) in let bad = sym (range-first (list_of f h) from to some.0 less some.1) ∙ none in cc)
+        | inl less ↦ absurd (let some = read-at (list_of f h) from (omega (arith, less, to-most)) in let bad =
+            sym (range-first (list_of f h) from to some.0 less some.1) ∙ none in cc)
         | inr ge ↦ omega (arith, ge, r.ordered)
       ],
       λ same. range-none (list_of f h) from to (omega (arith, same)),
@@ -91,18 +94,26 @@ module _ {K X : Type 0} (f : Forest K X) (h : Option ℕ) where
       ]
 
       -- a step of the front removes the first entry of the range
-      pub range-next : o ≡ slice_get (list_of f h) from → ((at : AtLook f h ends.front) → IsLook f h look (min (at.place + 1) (length (list_of f h)))) → IsRange f h (record { front = look; back = ends.back }) × YieldsFirst (left_in f h) ends o (record { front = look; back = ends.back })
+      pub range-next : o ≡ slice_get (list_of f h) from
+          → ((at : AtLook f h ends.front) → IsLook f h look (min (at.place + 1) (length (list_of f h))))
+          → IsRange f h (record { front = look; back = ends.back })
+          × YieldsFirst (left_in f h) ends o (record { front = look; back = ends.back })
       unfolding left_in
       range-next read moved =
           let now : Ends K X = record { front = look; back = ends.back } in
           let at : AtLook f h ends.front = record { place = from; is = r.front } in
           let here : min (from + 1) (length (list_of f h)) ≡ suc from = omega (arith, low, to-most) in
           let made = range-made r.live now (suc from) to (subst (λ (p : ℕ). IsLook f h look p) here (moved at)) r.back (omega (arith, low)) in
-          let some = read-at (list_of f h) from (omega (arith, low, to-most)) in
-          (made.range, subst (λ (z : Option (K × X)). YieldsFirst (left_in f h) ends z now) (sym (read ∙ some.1)) (range-first (list_of f h) from to some.0 low some.1 ∙ ap (λ l. some.0 ∷ l) (sym made.left)))
+          let some = read-at (list_of f h) from (omega (arith, low, to-most)) in (
+            made.range,
+            subst (λ (z : Option (K × X)). YieldsFirst (left_in f h) ends z now) (sym (read ∙ some.1))
+                (range-first (list_of f h) from to some.0 low some.1 ∙ ap (λ l. some.0 ∷ l) (sym made.left)),
+          )
 
       -- a step of the back removes the last entry of the range
-      pub range-back : ((at : AtLook f h ends.back) → o ≡ entry_before (list_of f h) at.place) → ((at : AtLook f h ends.back) → IsLook f h look (at.place - 1)) → IsRange f h (record { front = ends.front; back = look }) × YieldsLast (left_in f h) ends o (record { front = ends.front; back = look })
+      pub range-back : ((at : AtLook f h ends.back) → o ≡ entry_before (list_of f h) at.place)
+          → ((at : AtLook f h ends.back) → IsLook f h look (at.place - 1)) → IsRange f h (record { front = ends.front; back = look })
+          × YieldsLast (left_in f h) ends o (record { front = ends.front; back = look })
       unfolding left_in
       range-back read moved =
           let now : Ends K X = record { front = ends.front; back = look } in
@@ -112,5 +123,6 @@ module _ {K X : Type 0} (f : Forest K X) (h : Option ℕ) where
           let some = read-at (list_of f h) (to - 1) (omega (arith, low, to-most)) in (
             made.range,
             subst (λ (z : Option (K × X)). YieldsLast (left_in f h) ends z now) (sym (read at ∙ ap (entry_before (list_of f h)) one ∙ some.1))
-                (ap (λ z. slice_range (list_of f h) from z) one ∙ range-last (list_of f h) from (to - 1) some.0 (omega (arith, low)) some.1 ∙ ap (λ l. l ++ some.0 ∷ []) (sym made.left)),
+                (ap (λ z. slice_range (list_of f h) from z) one ∙ range-last (list_of f h) from (to - 1) some.0 (omega (arith, low)) some.1
+                ∙ ap (λ l. l ++ some.0 ∷ []) (sym made.left)),
           )

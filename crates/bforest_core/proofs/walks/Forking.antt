@@ -24,17 +24,20 @@ module _ {K : Type 0} {cmp : K → K → Ordering} (o : IsTotalOrder cmp) where
 
   module _ (from to : K) (ordered : is_gt (cmp from to) ≡ false) where
     -- where the separator behind the first key's child is greater than the second key, or there is none, both go there
-    pub same-child : (ks : List K) → IsStrictlySortedBy cmp ks → ((s : K) → slice_get ks (count_up_to cmp ks from) ≡ Some s → cmp s to ≡ Greater) → count_up_to cmp ks from ≡ count_up_to cmp ks to
+    pub same-child : (ks : List K) → IsStrictlySortedBy cmp ks
+        → ((s : K) → slice_get ks (count_up_to cmp ks from) ≡ Some s → cmp s to ≡ Greater) → count_up_to cmp ks from ≡ count_up_to cmp ks to
     unfolding IsStrictlySortedBy
     same-child [] sorted says = refl
     same-child (x ∷ ks) sorted says = go (λ more. same-child ks sorted.1 (λ s found. says s (ap (slice_get (x ∷ ks)) more ∙ found))) (cmp x from) refl
       where
-        later : (count_up_to cmp (x ∷ ks) from ≡ suc (count_up_to cmp ks from) → count_up_to cmp ks from ≡ count_up_to cmp ks to) → is_gt (cmp x from) ≡ false → count_up_to cmp (x ∷ ks) from ≡ count_up_to cmp (x ∷ ks) to
+        later : (count_up_to cmp (x ∷ ks) from ≡ suc (count_up_to cmp ks from) → count_up_to cmp ks from ≡ count_up_to cmp ks to)
+            → is_gt (cmp x from) ≡ false → count_up_to cmp (x ∷ ks) from ≡ count_up_to cmp (x ∷ ks) to
         later rest low =
             let more = count_up_to-yes cmp x ks from low in
             more ∙ ap suc (rest more) ∙ sym (count_up_to-yes cmp x ks to (not-behind x from to low ordered))
 
-        go : (count_up_to cmp (x ∷ ks) from ≡ suc (count_up_to cmp ks from) → count_up_to cmp ks from ≡ count_up_to cmp ks to) → (r : Ordering) → cmp x from ≡ r → count_up_to cmp (x ∷ ks) from ≡ count_up_to cmp (x ∷ ks) to
+        go : (count_up_to cmp (x ∷ ks) from ≡ suc (count_up_to cmp ks from) → count_up_to cmp ks from ≡ count_up_to cmp ks to)
+            → (r : Ordering) → cmp x from ≡ r → count_up_to cmp (x ∷ ks) from ≡ count_up_to cmp (x ∷ ks) to
         go rest Less e = later rest (ap is_gt e)
         go rest Equal e = later rest (ap is_gt e)
         go rest Greater e =
@@ -69,11 +72,13 @@ module _ {K : Type 0} {cmp : K → K → Ordering} (o : IsTotalOrder cmp) where
       go Greater e = ap is_gt (o.trans from s to less (o.antisymm s to ∙ ap ordering_reverse e))
 
 module _ {K V : Type 0} {cmp : K → K → Ordering} (o : IsTotalOrder cmp) (slots : List (Content K V)) (node index : ℕ) (key : K)
-    (asked : (keys : List K) × (children : List ℕ) × (slice_get slots node ≡ Some (Inner keys children)) × IsStrictlySortedBy cmp keys × (length children ≡ suc (length keys)) × (index ≤ length keys)) where
+    (asked : (keys : List K) × (children : List ℕ) × (slice_get slots node ≡ Some (Inner keys children)) × IsStrictlySortedBy cmp keys
+    × (length children ≡ suc (length keys)) × (index ≤ length keys)) where
   -- a search for the key goes to the child at the index, where one for a key that is not greater does
   abbrev pub GoesAlong : Type 0
   GoesAlong =
-      (from : K) (keys : List K) (children : List ℕ) → slice_get slots node ≡ Some (Inner keys children) → index ≡ child_index cmp keys from → is_gt (cmp from key) ≡ false → index ≡ child_index cmp keys key
+      (from : K) (keys : List K) (children : List ℕ) → slice_get slots node ≡ Some (Inner keys children) → index ≡ child_index cmp keys from
+      → is_gt (cmp from key) ≡ false → index ≡ child_index cmp keys key
 
   module _ (keys : List K) (children : List ℕ) (found : slice_get slots node ≡ Some (Inner keys children)) where
     same-keys : asked.0 ≡ keys
@@ -84,7 +89,8 @@ module _ {K V : Type 0} {cmp : K → K → Ordering} (o : IsTotalOrder cmp) (slo
 
   -- there is a separator at an index that is not that of the last child
   module _ {last : ℕ} (says : (content : Content K V) → slice_get slots node ≡ Some content → last ≡ entry_count content - 1) where
-    pub separator-there : (index ≡ last → ⊥) → (keys : List K) × (children : List ℕ) × (slice_get slots node ≡ Some (Inner keys children)) × (index < length keys)
+    pub separator-there : (index ≡ last → ⊥) → (keys : List K) × (children : List ℕ) × (slice_get slots node ≡ Some (Inner keys children))
+        × (index < length keys)
     separator-there other =
         let is = says (Inner asked.0 asked.1) asked.2 in
         (asked.0, asked.1, asked.2, omega (arith, is, asked.4, asked.5, other))
@@ -94,18 +100,22 @@ module _ {K V : Type 0} {cmp : K → K → Ordering} (o : IsTotalOrder cmp) (slo
     along-last is from keys children found at ordered =
         let end = says (Inner asked.0 asked.1) asked.2 in
         let same = ap length (same-keys keys children found) in
-        at ∙ same-child o from key ordered keys (sorted-keys keys children found) (λ s read. absurd (omega (arith, slice_get_within keys (child_index cmp keys from) s read, at, is, end, asked.4, same)))
+        at ∙ same-child o from key ordered keys (sorted-keys keys children found)
+        (λ s read. absurd (omega (arith, slice_get_within keys (child_index cmp keys from) s read, at, is, end, asked.4, same)))
 
   -- the separator behind the child is greater
-  pub along-below : {s : K} → ((keys : List K) (children : List ℕ) → slice_get slots node ≡ Some (Inner keys children) → slice_get keys index ≡ Some s) → cmp key s ≡ Less → GoesAlong
+  pub along-below : {s : K} → ((keys : List K) (children : List ℕ) → slice_get slots node ≡ Some (Inner keys children)
+      → slice_get keys index ≡ Some s) → cmp key s ≡ Less → GoesAlong
   along-below {s} reads less from keys children found at ordered =
       at ∙ same-child o from key ordered keys (sorted-keys keys children found) (λ z read.
       let is : z ≡ s = some_same z s (sym read ∙ ap (slice_get keys) (sym at) ∙ reads keys children found) in
       ap (λ y. cmp y key) is ∙ o.antisymm s key ∙ ap ordering_reverse less)
 
   -- the separator behind the child is not greater, so the key is not less than one whose search goes to the child
-  pub not-along : {s : K} → ((keys : List K) (children : List ℕ) → slice_get slots node ≡ Some (Inner keys children) → slice_get keys index ≡ Some s) → is_lt (cmp key s) ≡ false
-      → (from : K) (keys : List K) (children : List ℕ) → slice_get slots node ≡ Some (Inner keys children) → index ≡ child_index cmp keys from → is_gt (cmp from key) ≡ false
+  pub not-along : {s : K} → ((keys : List K) (children : List ℕ) → slice_get slots node ≡ Some (Inner keys children)
+      → slice_get keys index ≡ Some s) → is_lt (cmp key s) ≡ false
+      → (from : K) (keys : List K) (children : List ℕ) → slice_get slots node ≡ Some (Inner keys children)
+      → index ≡ child_index cmp keys from → is_gt (cmp from key) ≡ false
   not-along {s} reads past from keys children found at =
       not-greater o from s key (greater-behind o from s keys (sorted-keys keys children found) (ap (slice_get keys) (sym at) ∙ reads keys children found)) past
 

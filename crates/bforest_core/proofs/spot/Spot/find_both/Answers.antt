@@ -2,7 +2,8 @@ use Rattle.std.proofs.Common.{ap, arith, refl, rules, sym, ◌∙◌}
 use Rattle.std.specs.Ordering.{is_gt}
 use Rattle.bforest_core.proofs.Words.{false≢true, tree_of}
 use Rattle.bforest_core.proofs.walks.Descent.{some_leaf}
-use Rattle.bforest_core.proofs.walks.Searches.{along-asks, asks, came-end, came-first, came-on, code-low-here, deeper-low, digit-low, down, ends-on, search-ends, spot-found, within}
+use Rattle.bforest_core.proofs.walks.Searches.{along-asks, asks, came-end, came-first, came-on, code-low-here, deeper-low, digit-low, down}
+use Rattle.bforest_core.proofs.walks.Searches.{ends-on, search-ends, spot-found, within}
 use Rattle.bforest_core.proofs.spot.Spot.find_both.Goals as goal
 
 pub loop-index-init : goal.loop-index-init
@@ -13,10 +14,18 @@ loop-index-init g c =
     )
 
 pub node-requires : goal.node-requires
-node-requires g c = (search rules, (search rules, within (g.met.C.Comparator.total c.args.comp.now) (some_leaf _ c.requires.union.1.capacity) c.loop-index.invariant.0.on))
+node-requires g c = (
+  search rules,
+  (search rules, within (g.met.C.Comparator.total c.args.comp.now) (some_leaf _ c.requires.union.1.capacity) c.loop-index.invariant.0.on),
+)
 
 pub follow-index-requires : goal.follow-index-requires
-follow-index-requires g c = (search rules, asks (g.met.C.Comparator.total c.args.comp.now) (some_leaf _ c.requires.union.1.capacity) c.loop-index.invariant.0.on c.node.result.now c.node.ensures.value (c.is_inner.ensures.inner.0 c.loop-index-test.true))
+follow-index-requires g c = (
+  search rules,
+  asks (g.met.C.Comparator.total c.args.comp.now)
+      (some_leaf _ c.requires.union.1.capacity) c.loop-index.invariant.0.on c.node.result.now c.node.ensures.value
+      (c.is_inner.ensures.inner.0 c.loop-index-test.true),
+)
 
 pub below-next-requires-clause-code : goal.below-next-requires-clause-code
 below-next-requires-clause-code g c = code-low-here (g.met.C.Comparator.total c.args.comp.now)
@@ -26,7 +35,9 @@ below-next-requires-clause-code g c = code-low-here (g.met.C.Comparator.total c.
     c.loop-index.invariant.0.way
 
 pub below-next-requires-clause-height : goal.below-next-requires-clause-height
-below-next-requires-clause-height g c = deeper-low (g.met.C.Comparator.total c.args.comp.now) (some_leaf _ c.requires.union.1.capacity) c.loop-index.invariant.0.on c.node.result.now c.node.ensures.value (c.is_inner.ensures.inner.0 c.loop-index-test.true)
+below-next-requires-clause-height g c = deeper-low (g.met.C.Comparator.total c.args.comp.now)
+    (some_leaf _ c.requires.union.1.capacity) c.loop-index.invariant.0.on c.node.result.now c.node.ensures.value
+    (c.is_inner.ensures.inner.0 c.loop-index-test.true)
 
 pub below-next-requires-clause-index : goal.below-next-requires-clause-index
 below-next-requires-clause-index g c = digit-low (g.met.C.Comparator.total c.args.comp.now)
@@ -55,8 +66,11 @@ find_below-first-requires g c =
 
 pub find_below-requires : goal.find_below-requires
 find_below-requires g c =
-    let a = asks (g.met.C.Comparator.total c.args.comp.now) (some_leaf _ c.requires.union.1.capacity) c.loop-index.invariant.0.on c.node.result.now c.node.ensures.value (c.is_inner.ensures.inner.0 c.loop-index-test.true) in
-    let w = c.loop-index.invariant.1 (c.goes_along.ensures.ordered c.if-not-goes_along.true c.args.from a.0 a.1 a.2 (c.follow-index.ensures.index a.0 a.1 a.2)) in
+    let a = asks (g.met.C.Comparator.total c.args.comp.now)
+    (some_leaf _ c.requires.union.1.capacity) c.loop-index.invariant.0.on c.node.result.now c.node.ensures.value
+    (c.is_inner.ensures.inner.0 c.loop-index-test.true) in
+    let w = c.loop-index.invariant.1
+    (c.goes_along.ensures.ordered c.if-not-goes_along.true c.args.from a.0 a.1 a.2 (c.follow-index.ensures.index a.0 a.1 a.2)) in
     (search rules, (c.requires.union.1.capacity, ((tree_of c.args.pool.now.nodes c.args.root).leaves, w.above, w.numbers, w.on, w.way)))
 
 pub returns-then-not-goes_along : goal.returns-then-not-goes_along
@@ -69,17 +83,31 @@ returns-then-not-goes_along g c =
     (c.is_inner.ensures.inner.0 c.loop-index-test.true) c.follow-index.result.0 c.follow-index.result.1 c.follow-index.ensures.index
     c.follow-index.ensures.child w.above w.numbers c.loop-index.here refl w.way c.below-next.result c.below-next.ensures.code
     c.below-next.ensures.parent c.below-next.ensures.grand c.below-next.ensures.height) in
-    let a = asks (g.met.C.Comparator.total c.args.comp.now) (some_leaf _ c.requires.union.1.capacity) w.on c.node.result.now c.node.ensures.value (c.is_inner.ensures.inner.0 c.loop-index-test.true) in
-    let u = c.loop-index.invariant.1 (c.goes_along.ensures.ordered c.if-not-goes_along.true c.args.from a.0 a.1 a.2 (c.follow-index.ensures.index a.0 a.1 a.2)) in
+    let a = asks (g.met.C.Comparator.total c.args.comp.now)
+    (some_leaf _ c.requires.union.1.capacity) w.on c.node.result.now c.node.ensures.value
+    (c.is_inner.ensures.inner.0 c.loop-index-test.true) in
+    let u = c.loop-index.invariant.1
+    (c.goes_along.ensures.ordered c.if-not-goes_along.true c.args.from a.0 a.1 a.2 (c.follow-index.ensures.index a.0 a.1 a.2)) in
     let e = came-end c.args.pool.now c.args.root c.args.from d (c.find_below-first.ensures.found leaves d.above d.numbers d.on d.way) in
     let h = came-end c.args.pool.now c.args.root c.args.to u (c.find_below.ensures.found leaves u.above u.numbers u.on u.way) in
     record {
-      some = record { front_at = spot-found c.requires.root e; first_ends = search-ends c.requires.root e; back_at = spot-found c.requires.root h; last_ends = search-ends c.requires.root h };
+      some = record {
+        front_at = spot-found c.requires.root e;
+        first_ends = search-ends c.requires.root e;
+        back_at = spot-found c.requires.root h;
+        last_ends = search-ends c.requires.root h;
+      };
       none = λ bad. absurd (let no = bad in cc);
     }
 
 pub loop-index-smaller : goal.loop-index-smaller
-loop-index-smaller g c = omega (arith, c.below-next.ensures.height, deeper-low (g.met.C.Comparator.total c.args.comp.now) (some_leaf _ c.requires.union.1.capacity) c.loop-index.invariant.0.on c.node.result.now c.node.ensures.value (c.is_inner.ensures.inner.0 c.loop-index-test.true))
+loop-index-smaller g c = omega (
+  arith,
+  c.below-next.ensures.height,
+  deeper-low (g.met.C.Comparator.total c.args.comp.now)
+      (some_leaf _ c.requires.union.1.capacity) c.loop-index.invariant.0.on c.node.result.now c.node.ensures.value
+      (c.is_inner.ensures.inner.0 c.loop-index-test.true),
+)
 
 pub loop-index-preserved : goal.loop-index-preserved
 loop-index-preserved g c =
@@ -118,6 +146,11 @@ returns g c =
     (some_leaf _ c.requires.union.1.capacity) u.on c.node.result.now c.node.ensures.value
     (λ i. false≢true (sym c.loop-index-test.false ∙ c.is_inner.ensures.inner.1 i)) u.above u.numbers c.loop-index.here u.way) in
     record {
-      some = record { front_at = spot-found c.requires.root e; first_ends = search-ends c.requires.root e; back_at = spot-found c.requires.root h; last_ends = search-ends c.requires.root h };
+      some = record {
+        front_at = spot-found c.requires.root e;
+        first_ends = search-ends c.requires.root e;
+        back_at = spot-found c.requires.root h;
+        last_ends = search-ends c.requires.root h;
+      };
       none = λ bad. absurd (let no = bad in cc);
     }

@@ -8,10 +8,18 @@ pub child_count-requires : goal.child_count-requires
 child_count-requires g c = (search rules, grand-count c.requires.union c.requires.spot.1 c.requires.deep)
 
 pub child-parent-requires : goal.child-parent-requires
-child-parent-requires g c = (search rules, parent-asks c.requires.union c.requires.spot.1 c.requires.last c.requires.deep c.child_count.result c.child_count.ensures.value c.if-index-child_count.true)
+child-parent-requires g c = (
+  search rules,
+  parent-asks c.requires.union c.requires.spot.1 c.requires.last c.requires.deep c.child_count.result
+      c.child_count.ensures.value c.if-index-child_count.true,
+)
 
 pub child-leaf-requires : goal.child-leaf-requires
-child-leaf-requires g c = (search rules, cousin-asks c.requires.union c.requires.spot.1 c.requires.last c.requires.deep c.child_count.result c.child_count.ensures.value c.if-index-child_count.true c.child-parent.result c.child-parent.ensures)
+child-leaf-requires g c = (
+  search rules,
+  cousin-asks c.requires.union c.requires.spot.1 c.requires.last c.requires.deep c.child_count.result c.child_count.ensures.value
+      c.if-index-child_count.true c.child-parent.result c.child-parent.ensures,
+)
 
 pub returns-then-index-child_count-clause-some : goal.returns-then-index-child_count-clause-some
 returns-then-index-child_count-clause-some g c = λ place s.
@@ -20,8 +28,19 @@ returns-then-index-child_count-clause-some g c = λ place s.
 
 pub next_far-requires : goal.next_far-requires
 next_far-requires g c =
-    let s = c.requires.spot.1 in
-    (search rules, (spot-height c.requires.union s, (s.numbers, (tree_of c.args.pool.now.nodes c.args.root).above, heads (tree_of c.args.pool.now.nodes c.args.root).leaves, c.requires.spot.0, spot-over c.requires.union s)))
+    let s = c.requires.spot.1 in (
+      search rules,
+      (
+        spot-height c.requires.union s,
+        (
+          s.numbers,
+          (tree_of c.args.pool.now.nodes c.args.root).above,
+          heads (tree_of c.args.pool.now.nodes c.args.root).leaves,
+          c.requires.spot.0,
+          spot-over c.requires.union s,
+        ),
+      ),
+    )
 
 pub overflow_mul-spot : goal.overflow_mul-spot
 overflow_mul-spot g c =
@@ -34,7 +53,8 @@ returns-in_err-spot-clause-none g c = λ none place s. last-leaf c.requires.unio
     (heads (tree_of c.args.pool.now.nodes c.args.root).leaves) place (spot-over c.requires.union s))
 
 pub returns-clause-some : goal.returns-clause-some
-returns-clause-some g c = far-said c.requires.union c.args.root c.args.self.now (Some (c.in_ok-spot.spot, c.in_ok-spot.leaf)) (rw c.in_ok-spot.was at c.next_far.ensures.some)
+returns-clause-some g c = far-said c.requires.union c.args.root c.args.self.now (Some (c.in_ok-spot.spot, c.in_ok-spot.leaf))
+    (rw c.in_ok-spot.was at c.next_far.ensures.some)
 
 pub overflow_add-index : goal.overflow_add-index
 overflow_add-index g c = omega arith

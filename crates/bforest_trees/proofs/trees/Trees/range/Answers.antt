@@ -26,7 +26,8 @@ pub returns-in-None-clause-left : goal.returns-in-None-clause-left
 returns-in-None-clause-left g c =
     let f = c.args.self.now in
     let h = c.args.handle in
-    none-left f h c.requires.live (record { front = c.end.result; back = c.end-in-None.result }) (c.end.ensures.look f h) (c.end-in-None.ensures.look f h) ∙ sym (c.ends_at.ensures.none c.in-None.is)
+    none-left f h c.requires.live (record { front = c.end.result; back = c.end-in-None.result }) (c.end.ensures.look f h)
+    (c.end-in-None.ensures.look f h) ∙ sym (c.ends_at.ensures.none c.in-None.is)
 
 pub returns-in-None-clause-range : goal.returns-in-None-clause-range
 returns-in-None-clause-range g c =

@@ -5,7 +5,9 @@ use Rattle.std.proofs.lemmas.Bool.{cases_lt, false≢true}
 
 pub returns-then-is_behind : goal.returns-then-is_behind
 returns-then-is_behind g c = record {
-  runs = λ f h s e live x y. range-ended f h live (record { front = c.end-self.result; back = c.end-self-then-is_behind.result }) (c.end-self.ensures.look f h) (c.end-self-then-is_behind.ensures.look f h) s e ((c.is_behind.ensures.behind f h s e x y).0 c.if-is_behind.true);
+  runs = λ f h s e live x y. range-ended f h live (record { front = c.end-self.result; back = c.end-self-then-is_behind.result })
+      (c.end-self.ensures.look f h) (c.end-self-then-is_behind.ensures.look f h) s e
+      ((c.is_behind.ensures.behind f h s e x y).0 c.if-is_behind.true);
 }
 
 pub returns-else-is_behind : goal.returns-else-is_behind

@@ -5,14 +5,24 @@ use Rattle.bforest_trees.proofs.trees.range.Ends.through.Goals as goal
 
 pub find_both-requires : goal.find_both-requires
 find_both-requires g c =
-    let root = live-root c.args.pool.now c.args.root c.requires.live in
-    (search rules, (c.requires.union, (root, subst (IsIncreasing (g.C.Comparator.order c.args.comp.now)) (list-root c.args.pool.now c.args.root root) c.requires.increasing)))
+    let root = live-root c.args.pool.now c.args.root c.requires.live in (
+      search rules,
+      (
+        c.requires.union,
+        (
+          root,
+          subst (IsIncreasing (g.C.Comparator.order c.args.comp.now))
+              (list-root c.args.pool.now c.args.root root) c.requires.increasing,
+        ),
+      ),
+    )
 
 pub settle-requires : goal.settle-requires
 settle-requires g c = let e = rw c.in_ok-spot.was at c.find_both.ensures.some in (search rules, (c.requires.union, (e.front_at, e.first_ends)))
 
 pub settle_past-requires : goal.settle_past-requires
-settle_past-requires g c = let e = rw c.in_ok-spot.was at c.find_both.ensures.some in (search rules, (c.requires.union, (e.back_at, (e.last_ends, c.requires.increasing))))
+settle_past-requires g c = let e = rw c.in_ok-spot.was at c.find_both.ensures.some in
+    (search rules, (c.requires.union, (e.back_at, (e.last_ends, c.requires.increasing))))
 
 pub returns-in_err-spot-clause-none : goal.returns-in_err-spot-clause-none
 returns-in_err-spot-clause-none g c = λ none. c.find_both.ensures.none c.in_err-spot.was
