@@ -7,6 +7,7 @@
 #![tactic(auto)]
 
 mod asked_key;
+mod entry;
 mod forest;
 mod map;
 mod map_cursor;

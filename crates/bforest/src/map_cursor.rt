@@ -6,6 +6,7 @@ ghost use Rattle.bforest_core.specs.Place.{entry_before};
 ghost use Rattle.bforest_nodes.specs.Entries.{IsIncreasing, place, value_at_place, value_for};
 ghost use Rattle.std.specs.Prelude.{IsTrue, [], length, min, option_map, slice_get, ◌+◌, ◌-◌, ◌≡◌, ◌≤◌, ◌↔◌};
 
+use crate::entry::{key_of, value_of};
 use crate::forest::MapForest;
 use crate::map::Map;
 use bforest_core::{Comparator, PackedNode};
@@ -147,25 +148,5 @@ impl<'a, K: Copy, V: Copy, C: Comparator<K>> MapCursor<'a, K, V, C> {
         ensures moves { self.new ≡ at_place self.old (length self.old.entries) }
     {
         self.look = Look::end();
-    }
-}
-
-// Returns the key of an entry, if there is one.
-pub(crate) fn key_of<K: Copy, V: Copy>(entry: Option<(K, V)>) -> Option<K>
-    ensures { result ≡ option_map (λ e. e.0) entry }
-{
-    match entry {
-        Some(entry) => Some(entry.0),
-        None => None,
-    }
-}
-
-// Returns the value of an entry, if there is one.
-pub(crate) fn value_of<K: Copy, V: Copy>(entry: Option<(K, V)>) -> Option<V>
-    ensures { result ≡ option_map (λ e. e.1) entry }
-{
-    match entry {
-        Some(entry) => Some(entry.1),
-        None => None,
     }
 }

@@ -13,8 +13,8 @@ ghost use Rattle.std.specs.declared.cmp.Ordering.{Ordering};
 ghost use Rattle.std.specs.Prelude.{IsTrue, None, [], length, option_map, slice_get, ◌*◌, ◌+◌, ◌-◌, ◌/◌, ◌<◌, ◌^◌, ◌≡◌, ◌≤◌, ◌↔◌};
 
 use crate::asked_key::AskedKey;
+use crate::entry::key_of;
 use crate::map::follows;
-use crate::map_cursor::key_of;
 use crate::room::most_nodes;
 use crate::set_cursor::SetCursor;
 use crate::set_forest::SetForest;

@@ -8,7 +8,7 @@ ghost use Rattle.bforest_core.specs.Place.{entry_before};
 ghost use Rattle.bforest_nodes.specs.Entries.{IsIncreasing, is_present, place};
 ghost use Rattle.std.specs.Prelude.{IsTrue, [], length, min, slice_get, ◌+◌, ◌-◌, ◌≡◌, ◌≤◌, ◌↔◌};
 
-use crate::map_cursor::key_of;
+use crate::entry::key_of;
 use crate::set::{Set, is_new};
 use crate::set_forest::SetForest;
 use bforest_core::{Comparator, OutOfMemory, Path, SetValue};

@@ -5,7 +5,7 @@ ghost use Rattle.bforest.specs.Set.{elements};
 ghost use Rattle.std.specs.Iterator.{YieldsFirst, item_count};
 ghost use Rattle.std.specs.Prelude.{◌≡◌};
 
-use crate::map_cursor::key_of;
+use crate::entry::key_of;
 use crate::set::Set;
 use crate::set_forest::SetForest;
 use bforest_core::SetValue;

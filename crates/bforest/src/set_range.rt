@@ -7,7 +7,7 @@ ghost use Rattle.std.specs.Map.{keys_of};
 ghost use Rattle.std.specs.Iterator.{YieldsFirst, YieldsLast, item_count};
 ghost use Rattle.std.specs.Prelude.{◌≡◌};
 
-use crate::map_cursor::key_of;
+use crate::entry::key_of;
 use crate::set::Set;
 use crate::set_forest::SetForest;
 use bforest_core::{Comparator, PackedNode, SetValue};

@@ -11,7 +11,9 @@ mod lent;
 mod node;
 mod number;
 mod row;
+mod set_value;
 
 pub use comparator::Comparator;
 pub use node::{NodeData, Removed, SplitOff};
-pub use number::{Node, PackedNode, SetValue};
+pub use number::{Node, PackedNode};
+pub use set_value::SetValue;

@@ -104,6 +104,3 @@ impl PackedNode {
         node
     }
 }
-
-/// The value of a set's entry: nothing.
-pub type SetValue = ();

@@ -1,18 +1,112 @@
-//! Removing a merged or emptied node from the rows above it, on the way up, and rebalancing nodes that underflow.
+//! Rebalancing on the way up, once an entry has gone: a node that underflows and its right sibling, under the same parent or another; a merged
+//! or emptied node, taken out of the rows above it; the separators above a node whose first key changed.
 ghost use Rattle.std.specs.Prelude.{◌≡◌, ℕ, suc, ◌+◌, ◌-◌, ◌<◌, ◌≤◌, List, [], ◌∷◌, ◌++◌, map, length, get_or, slice_get, Some, None, true, false};
 ghost use Rattle.bforest_nodes.specs.Content.{Content, IsLeafCapacity, entry_count};
 ghost use Rattle.bforest_core.specs.Levels.{LevelNode, sizes, half_of, most_levels};
 ghost use Rattle.bforest_core.specs.Sizes.{loss_above};
 ghost use Rattle.bforest_core.specs.Place.{inner_content, leaf_content};
-ghost use Rattle.bforest_core.specs.Climb.{Above, NextIs, nodes_up};
+ghost use Rattle.bforest_core.specs.Climb.{Above, NextIs, nodes_up, SameBelow, top_of};
 ghost use Rattle.bforest_core.specs.Removal.{Rebuilt, OnLevel, Loosened, Healed, Joined, Dropped};
 
-use crate::access::{entries, remove_child, separator, set_separator};
+use crate::access::{child, entries, remove_child, separator, set_separator};
 use crate::path::{MIN_CHILDREN, Path};
 use crate::pool::NodePool;
 use bforest_nodes::Node;
 
 impl<K: Copy, V: Copy, const N: usize> Path<K, V, N> {
+    // The right neighbour of the path's node below level `up`, which may have another parent, with the key between the two.
+    pub(super) fn right_sibling(&self, up: usize, pool: &NodePool<K, V, N>) -> Option<(K, Node)>
+        requires height { self.now.size ≤ most_levels }
+        requires pending { (rows : List (List (LevelNode K ℕ))) × (before : List (K × ℕ)) × (x : K × ℕ)
+            × (after : List (K × ℕ)) × Above pool.now self.now.node self.now.entry up self.now.size rows
+            (before ++ x ∷ after) (length before) }
+        ensures { (rows : List (List (LevelNode K ℕ))) (before : List (K × ℕ)) (x : K × ℕ)
+            (after : List (K × ℕ)) → Above pool.now self.now.node self.now.entry up self.now.size rows
+            (before ++ x ∷ after) (length before) → NextIs result after }
+    {
+        if up == self.size {
+            return None;
+        }
+        let parent = self.node[up];
+        let index = self.entry[up] as usize;
+        if index + 1 < entries(pool, parent) {
+            Some((
+                separator(pool, parent, index),
+                child(pool, parent, index + 1),
+            ))
+        } else {
+            match self.right_sibling(up + 1, pool) {
+                None => None,
+                Some(next) => Some((next.0, child(pool, next.1, 0))),
+            }
+        }
+    }
+
+    // Updates the key between the path's node below level `up` and its right neighbour.
+    pub(super) fn update_next_separator(&self, up: usize, key: K, pool: &mut NodePool<K, V, N>)
+        requires height { self.now.size ≤ most_levels }
+        requires pending { (rows : List (List (LevelNode K ℕ))) × (before : List (K × ℕ)) × (x : K × ℕ)
+            × (first : K) × (n : ℕ) × (after : List (K × ℕ)) × Above pool.old self.now.node self.now.entry up
+            self.now.size rows (before ++ x ∷ (first, n) ∷ after) (length before) }
+        ensures { (rows : List (List (LevelNode K ℕ))) (before : List (K × ℕ)) (x : K × ℕ) (first : K) (n : ℕ)
+            (after : List (K × ℕ)) → Above pool.old self.now.node self.now.entry up self.now.size rows
+            (before ++ x ∷ (first, n) ∷ after) (length before) → Rebuilt pool.old pool.new self.now.node
+            self.now.entry self.now.node self.now.entry up self.now.size rows (before ++ x ∷ (key, n) ∷ after)
+            (length before) (map sizes rows) [] }
+    {
+        let parent = self.node[up];
+        let index = self.entry[up] as usize;
+        if index + 1 < entries(pool, parent) {
+            set_separator(pool, parent, index, key);
+        } else {
+            self.update_next_separator(up + 1, key, pool);
+        }
+    }
+
+    // Updates the first key of the path's node below level `up`: its separator in the table, if it has one.
+    pub(super) fn update_separator(&self, up: usize, key: K, pool: &mut NodePool<K, V, N>)
+        requires height { self.now.size ≤ most_levels }
+        requires pending { (rows : List (List (LevelNode K ℕ))) × (before : List (K × ℕ)) × (first : K)
+            × (n : ℕ) × (after : List (K × ℕ)) × Above pool.old self.now.node self.now.entry up self.now.size
+            rows (before ++ (first, n) ∷ after) (length before) }
+        ensures { (rows : List (List (LevelNode K ℕ))) (before : List (K × ℕ)) (first : K) (n : ℕ)
+            (after : List (K × ℕ)) → Above pool.old self.now.node self.now.entry up self.now.size rows
+            (before ++ (first, n) ∷ after) (length before) → Rebuilt pool.old pool.new self.now.node
+            self.now.entry self.now.node self.now.entry up self.now.size rows (before ++ (key, n) ∷ after)
+            (length before) (map sizes rows) [] }
+    {
+        if up >= self.size {
+            return;
+        }
+        let index = self.entry[up] as usize;
+        if index > 0 {
+            set_separator(pool, self.node[up], index - 1, key);
+        } else {
+            self.update_separator(up + 1, key, pool);
+        }
+    }
+
+    // Goes to the first entry of the next node on `level`, if there is one.
+    pub(super) fn enter_next(&mut self, level: usize, pool: &NodePool<K, V, N>)
+        requires height { self.old.size ≤ most_levels }
+        requires pending { (rows : List (List (LevelNode K ℕ))) × (before : List (K × ℕ)) × (x : K × ℕ)
+            × (y : K × ℕ) × (after : List (K × ℕ)) × Above pool.now self.old.node self.old.entry (suc level)
+            self.old.size rows (before ++ x ∷ y ∷ after) (length before) }
+        ensures moved { (rows : List (List (LevelNode K ℕ))) (before : List (K × ℕ)) (x : K × ℕ) (y : K × ℕ)
+            (after : List (K × ℕ)) → Above pool.now self.old.node self.old.entry (suc level) self.old.size
+            rows (before ++ x ∷ y ∷ after) (length before) → Above pool.now self.new.node self.new.entry
+            (suc level) self.old.size rows (before ++ x ∷ y ∷ after) (suc (length before))
+            × (get_or self.new.node level 0 ≡ y.1) }
+        ensures first { get_or self.new.entry level 0 ≡ 0 }
+        ensures nodes_below { SameBelow level self.old.node self.new.node }
+        ensures entries_below { SameBelow level self.old.entry self.new.entry }
+        ensures same_top { top_of self.new.node self.old.size ≡ top_of self.old.node self.old.size }
+        ensures size { self.new.size ≡ self.old.size }
+    {
+        let _moved = self.next_node(level, pool);
+        self.entry[level] = 0;
+    }
+
     // Removes the entry at the path from level `up`, and gives its key to the next one.
     fn remove_merged(&self, up: usize, pool: &mut NodePool<K, V, N>)
         requires height { self.now.size ≤ most_levels }
