@@ -266,7 +266,7 @@ fn times(program: &str, sides: &[Side], rows: &[Row], tries: u32, repeats: u32) 
     for _ in 0..tries {
         for work in works(rows) {
             let mut sums = Vec::new();
-            for side in sides {
+            for side in sides.iter().filter(|side| side.makes(work.kind)) {
                 let Some((sum, time)) = timed(program, *side, work, repeats) else {
                     println!("{work:?}: the run of {} failed", side.name());
                     println!("0 passed, 1 failed");
@@ -381,7 +381,7 @@ fn one(side: Side, work: Work) -> Vec<String> {
 fn instructions(program: &str, sides: &[Side], counter: Counter, rows: &[Row]) -> Costs {
     let mut jobs = Vec::new();
     for work in works(rows) {
-        jobs.extend(sides.iter().map(|side| (*side, work)));
+        jobs.extend(sides.iter().filter(|side| side.makes(work.kind)).map(|side| (*side, work)));
     }
     let workers = std::thread::available_parallelism().map_or(1, |count| count.get());
     let share = jobs.len().div_ceil(workers).max(1);

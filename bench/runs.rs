@@ -19,6 +19,9 @@ unsafe extern "C" {
     fn bench_set_mixture(sets: u32, calls: u32, looks: u32, walks: u32, is_cleared: bool) -> u64;
     fn bench_large_set(size: u32, is_mixed: bool, looks: u32, walks: u32, edits: u32) -> u64;
     fn bench_ranges(size: u32, looks: u32, spans: u32, is_split: bool) -> u64;
+    fn bench_std_mixture(maps: u32, calls: u32, looks: u32, walks: u32, is_cleared: bool) -> u64;
+    fn bench_std_edges(blocks: u32, walks: u32, turns: u32) -> u64;
+    fn bench_std_set_mixture(sets: u32, calls: u32, looks: u32, walks: u32, is_cleared: bool) -> u64;
 }
 
 /// The subject of a run.
@@ -96,6 +99,9 @@ pub enum Side {
     Original,
     Vecs,
     OneMap,
+    /// Maps and sets of the toolchain's standard library, which are proved too.
+    #[cfg(library)]
+    Toolchain,
 }
 
 /// The sides of the tables.
@@ -114,6 +120,8 @@ pub const OTHERS: &[Side] = &[
     Side::Std,
     Side::Vecs,
     Side::OneMap,
+    #[cfg(library)]
+    Side::Toolchain,
 ];
 
 impl Side {
@@ -127,6 +135,17 @@ impl Side {
             Side::Original => "original",
             Side::Vecs => "Vec",
             Side::OneMap => "one-map",
+            #[cfg(library)]
+            Side::Toolchain => "toolchain",
+        }
+    }
+
+    /// Whether the side makes the runs of a kind.
+    pub fn makes(self, kind: Kind) -> bool {
+        match self {
+            #[cfg(library)]
+            Side::Toolchain => matches!(kind, Kind::Mixture | Kind::Indexed | Kind::Edges | Kind::SetMixture),
+            _ => true,
         }
     }
 }
@@ -479,6 +498,22 @@ fn run_bforest(work: Work) -> (u64, Duration) {
     (sum, start.elapsed())
 }
 
+// Makes a run on maps and sets of the toolchain's standard library, as `run_bforest` does.
+#[cfg(library)]
+fn run_toolchain(work: Work) -> (u64, Duration) {
+    let start = Instant::now();
+    let Work { size, looks, walks, turns, .. } = work;
+    // SAFETY: numbers alone are passed, and the program's `malloc`, `realloc` and `free` are the C library's.
+    let sum = unsafe {
+        match work.kind {
+            Kind::Edges => bench_std_edges(size, walks, turns),
+            Kind::SetMixture => bench_std_set_mixture(size, work.calls(), looks, walks, turns > 0),
+            _ => bench_std_mixture(size, work.calls(), looks, walks, turns > 0),
+        }
+    };
+    (sum, start.elapsed())
+}
+
 /// Makes a run, and returns its checksum and its time.
 pub fn run(side: Side, work: Work, is_kept: bool) -> (u64, Duration) {
     match side {
@@ -489,5 +524,7 @@ pub fn run(side: Side, work: Work, is_kept: bool) -> (u64, Duration) {
         Side::Original => run_on::<OriginalMaps, sets::OriginalSets, sets::OriginalRanges>(black_box(work), is_kept),
         Side::Vecs => run_on::<Vecs<u32>, Vecs<()>, Vecs<u32>>(black_box(work), is_kept),
         Side::OneMap => run_on::<OneMap<u32>, OneMap<()>, OneMap<u32>>(black_box(work), is_kept),
+        #[cfg(library)]
+        Side::Toolchain => run_toolchain(black_box(work)),
     }
 }
