@@ -142,9 +142,9 @@ impl Side {
 
     /// Whether the side makes the runs of a kind.
     pub fn makes(self, kind: Kind) -> bool {
-        match self {
+        match (self, kind) {
             #[cfg(library)]
-            Side::Toolchain => matches!(kind, Kind::Mixture | Kind::Indexed | Kind::Edges | Kind::SetMixture),
+            (Side::Toolchain, kind) => matches!(kind, Kind::Mixture | Kind::Indexed | Kind::Edges | Kind::SetMixture),
             _ => true,
         }
     }
