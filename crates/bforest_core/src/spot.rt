@@ -194,6 +194,7 @@ impl Spot {
             };
             return Some((spot, leaf));
         }
+        // The answer is made anew: handed on whole, it would lie in memory, and the answers of all other ways with it.
         let (spot, leaf) = next_far(self.code, self.height, root, pool)?;
         Some((spot, leaf))
     }
@@ -282,6 +283,7 @@ impl Spot {
             };
             return Some((spot, leaf));
         }
+        // The answer is made anew: handed on whole, it would lie in memory, and the answers of all other ways with it.
         let (spot, leaf) = prev_far(self.code, self.height, root, pool)?;
         Some((spot, leaf))
     }
