@@ -7,7 +7,6 @@ use crate::random::added;
 use bforest::{Map, MapForest};
 
 /// Adds each entry to a checksum, from the first on.
-#[inline(always)]
 pub(crate) fn read_on(map: &Map<u32, u32>, forest: &MapForest<u32, u32>, sum: u64) -> u64
     requires live { IsLive forest.now map.now }
     requires increasing { IsIncreasing nat_cmp (list_of forest.now map.now) }
@@ -24,7 +23,6 @@ pub(crate) fn read_on(map: &Map<u32, u32>, forest: &MapForest<u32, u32>, sum: u6
 }
 
 /// Adds each entry to a checksum, from the last back.
-#[inline(always)]
 pub(crate) fn read_back(map: &Map<u32, u32>, forest: &MapForest<u32, u32>, sum: u64) -> u64
     requires live { IsLive forest.now map.now }
     requires increasing { IsIncreasing nat_cmp (list_of forest.now map.now) }
