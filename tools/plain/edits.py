@@ -76,7 +76,7 @@ MISUSED = 'panic!("an earlier call was made on a handle that was not live: the t
 
 EDITS = {
     "bforest/lib.rt": [(FRONT, "", 1)],
-    "bforest/forest.rt": FOREST,
+    "bforest/map_forest.rt": FOREST,
     "bforest/set_forest.rt": FOREST,
     "bforest/map.rt": [*RANGE, (r" \(docs/RULES\.md, removal\)", "", 1)],
     "bforest/set.rt": RANGE,
@@ -185,8 +185,7 @@ CLONED = {
     "bforest_trees/trees/range.rt": ["Ends"],
     "bforest_trees/look.rt": ["Look"],
     "bforest_trees/reader.rt": ["Reader"],
-    "bforest/forest.rt": ["MapForest"],
-    "bforest/set_forest.rt": ["SetForest"],
+    "bforest/forest.rt": ["Forest"],
     "bforest/map_iter.rt": ["MapIter"],
     "bforest/map_into_iter.rt": ["MapIntoIter"],
     "bforest/set_iter.rt": ["SetIter"],
@@ -210,7 +209,7 @@ CONSTANT = {
     "bforest_trees/trees.rt": ["with_limit"],
     "bforest/map.rt": ["new"],
     "bforest/set.rt": ["new"],
-    "bforest/forest.rt": ["new", "with_node_limit"],
+    "bforest/map_forest.rt": ["new", "with_node_limit"],
     "bforest/set_forest.rt": ["new", "with_node_limit"],
 }
 
@@ -221,8 +220,9 @@ SET_TELLING = ["is_empty", "contains", "get_or_less", "levels"]
 MUST_USE = {
     "bforest/map.rt": ["new", "clone", "cursor", "cursor_mut", *(it for it in TELLING if it != "contains")],
     "bforest/set.rt": ["new", "clone", "cursor", *(it for it in TELLING if it != "get")],
-    "bforest/forest.rt": ["new", "with_node_limit", "slots", "free_slots", "node_limit", "holds"],
-    "bforest/set_forest.rt": ["new", "with_node_limit", "slots", "free_slots", "node_limit", "holds"],
+    "bforest/forest.rt": ["slots", "free_slots", "node_limit"],
+    "bforest/map_forest.rt": ["new", "with_node_limit", "holds"],
+    "bforest/set_forest.rt": ["new", "with_node_limit", "holds"],
     "bforest_indexed/maps.rt": [*MANY, "cursor", *(it for it in TELLING if it not in ("contains", "increases"))],
     "bforest_indexed/sets.rt": [*MANY, *SET_TELLING],
     "bforest/map_cursor.rt": ["is_empty", "entry", "key", "value"],

@@ -172,7 +172,7 @@ def checked(text, name):
 
 def with_examples(text, examples):
     """The text in which the docs of each type with an example end with it."""
-    for found in reversed(list(re.finditer(r"^(?:#\[[^\n]*\n)*pub (?:struct|enum|trait) (\w+)", text, re.M))):
+    for found in reversed(list(re.finditer(r"^(?:#\[[^\n]*\n)*pub (?:struct|enum|trait|type) (\w+)", text, re.M))):
         lines = examples.pop(found[1], None)
         if lines:
             docs = ["", "# Example", "", "```", *lines, "```"]

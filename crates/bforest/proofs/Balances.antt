@@ -4,7 +4,7 @@ use Rattle.bforest.proofs.Growing.{growth-fits}
 use Rattle.bforest.proofs.Shrinking.{shrink-fits}
 use Rattle.bforest.specs.Calls.{Clears, Filters, GetsOrInserts, Inserts, Pops, Removes, RemovesAt}
 use Rattle.bforest.specs.Entries.{is_present, place, value_for, with_value}
-use Rattle.bforest.specs.Forest.{Becomes, Forest, Gives, IsFitFor, Takes, free_of, growth, limit_of, list_of, need, need_of, room_of, shrink, sizes_of, slots_of}
+use Rattle.bforest.specs.Forest.{Becomes, Forest, Gives, IsFitFor, Takes, growth, limit_of, list_of, need, need_of, room_of, shrink, sizes_of}
 use Rattle.bforest.specs.Refusal.{OutOfMemory}
 use Rattle.bforest.specs.Retain.{AsksEach, kept_by, sizes_by}
 use Rattle.bforest.specs.Room.{Balances, IsFitAt, node_count}

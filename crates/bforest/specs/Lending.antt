@@ -1,17 +1,18 @@
 -- What a forest and a writing cursor are, once a reference into them has ended.
 use Rattle.bforest.specs.Cursor.{with_value_here}
-use Rattle.bforest.specs.contracts.forest.MapForest.{the_row as forest_row}
+use Rattle.bforest.specs.contracts.forest.Forest.{the_row as forest_row}
 use Rattle.bforest.specs.contracts.map_cursor_mut.MapCursorMut.{the_row}
 use Rattle.bforest.specs.declared.map_cursor_mut.MapCursorMut.{MapCursorMut}
 use Rattle.bforest_core.specs.Table.{with_value_at}
 use Rattle.bforest_trees.specs.Forest.{Forest}
 use Rattle.std.specs.Borrow.{Fml, Lends, LendsIf, MutBor, RattleType}
 use Rattle.std.specs.Prelude.{Option, [], ℕ}
+use denote.Param.{number}
 use mir.Syntax.{named}
 
 -- the forest has the last value written through r at the entry of the node
 abbrev pub lends_value_of : (K V : RattleType) → MutBor (Forest K.Denot V.Denot) → ℕ → ℕ → MutBor V.Denot → Fml
-lends_value_of K V f node index r = Lends (forest_row K V) V f r (with_value_at f.now node index)
+lends_value_of K V f node index r = Lends (forest_row K V (number 7)) V f r (with_value_at f.now node index)
 
 module _ (K V C : RattleType) where
   abbrev pub cursor_row : RattleType

@@ -1,31 +1,20 @@
-//! Forests of maps.
-ghost use Rattle.bforest.specs.Forest.{IsAccounted, IsFitFor, IsLive, empty, free_of, limit_of, list_at, list_of, sizes_at, slots_of};
+//! Forests, of maps or of sets.
+ghost use Rattle.bforest.specs.Forest.{IsAccounted, IsFitFor, empty, free_of, limit_of, list_at, sizes_at, slots_of};
 ghost use Rattle.bforest.specs.Calls.{Reserves};
-ghost use Rattle.bforest.specs.Lending.{lends_value_of};
-ghost use Rattle.bforest_core.specs.Paths.{index_of, leaf_of};
-ghost use Rattle.bforest_core.specs.Table.{with_value_at};
-ghost use Rattle.bforest_core.specs.declared.path.Path.{Path};
-ghost use Rattle.bforest_nodes.specs.Entries.{value_at_place};
-ghost use Rattle.bforest_trees.specs.Place.{IsWritten, OnSpot};
-ghost use Rattle.std.specs.Borrow.{sem};
-ghost use Rattle.std.specs.Prelude.{IsTrue, Option, Some, [], length, ◌↔◌, ◌<◌, ◌≡◌, ◌≢◌, ◌≤◌, ℕ};
+ghost use Rattle.std.specs.Prelude.{[], length, ◌<◌, ◌≡◌, ◌≢◌, ◌≤◌, ℕ};
 
-use crate::map::Map;
-use bforest_core::{Node, OutOfMemory};
+use bforest_core::OutOfMemory;
 use bforest_trees::Trees;
-use std::alloc::Global;
 use std::marker::Model;
 
-/// Many ordered maps in one table of nodes. A forest owns all entries; a [`Map`] is a handle to one tree in it.
-///
-/// A slot of the table is the place of one node. Slots that no tree uses form the free list, from which insertions take nodes before the
-/// table grows.
+/// Many ordered maps, or sets, in one table of nodes, whose leaves have at most `N` entries: a [`MapForest`](crate::MapForest) or
+/// a [`SetForest`](crate::SetForest).
 #[derive(Drop)]
-pub struct MapForest<K: Copy, V: Copy> {
-    pub(crate) trees: Trees<K, V, 7>,
+pub struct Forest<K: Copy, V: Copy, const N: usize> {
+    pub(crate) trees: Trees<K, V, N>,
 }
 
-impl<K: Copy, V: Copy> Model for MapForest<K, V> {
+impl<K: Copy, V: Copy, const N: usize> Model for Forest<K, V, N> {
     ghost use Rattle.bforest.specs.Forest.{Forest};
 
     ghost Value = { Forest K V };
@@ -33,24 +22,8 @@ impl<K: Copy, V: Copy> Model for MapForest<K, V> {
     ghost view = { λ f. f.trees };
 }
 
-impl<K: Copy, V: Copy> MapForest<K, V> {
-    /// Returns an empty forest of at most 4294967295 slots, which is how many nodes 32 bits can name. No memory is taken.
-    pub fn new(alloc: Global) -> Self
-        ensures empty { result ≡ empty u32.MAX }
-    {
-        MapForest::with_node_limit(alloc, u32::MAX)
-    }
-
-    /// Returns an empty forest of at most `limit` slots. No memory is taken. A limit of 0 is allowed: then each insertion is refused.
-    pub fn with_node_limit(alloc: Global, limit: u32) -> Self
-        ensures empty { result ≡ empty limit }
-    {
-        MapForest {
-            trees: Trees::with_limit(alloc, limit),
-        }
-    }
-
-    /// Removes all maps: the table has no slot then, and the limit stays. Only empty handles are live until new trees are made.
+impl<K: Copy, V: Copy, const N: usize> Forest<K, V, N> {
+    /// Removes all maps or sets: the table has no slot then, and the limit stays. Only empty handles are live until new trees are made.
     ///
     /// Constant time. The memory of the table is kept for later slots.
     pub fn clear(&mut self)
@@ -65,7 +38,7 @@ impl<K: Copy, V: Copy> MapForest<K, V> {
         ensures count { result ≡ slots_of self.now }
         ensures within { slots_of self.now ≤ limit_of self.now }
         ensures account { IsAccounted self.now }
-        ensures fit { (n : ℕ) → IsFitFor 7 (length (list_at self.now n)) (sizes_at self.now n) }
+        ensures fit { (n : ℕ) → IsFitFor N (length (list_at self.now n)) (sizes_at self.now n) }
         ensures below { (n : ℕ) → list_at self.now n ≢ [] → n < slots_of self.now }
     {
         self.trees.slots()
@@ -98,29 +71,5 @@ impl<K: Copy, V: Copy> MapForest<K, V> {
         ensures { Reserves self.old n result self.new }
     {
         self.trees.reserve(n)
-    }
-
-    /// Returns whether a handle is live here: whether it is empty or names a tree of this forest, which each call on a handle asks.
-    ///
-    /// Visits all nodes of the forest. No comparison. A handle does not know its forest: one that was filled in another forest is live
-    /// here if this forest has a tree of its number.
-    pub fn holds(&self, map: &Map<K, V>) -> bool
-        ensures live { IsTrue result ↔ IsLive self.now map.now }
-    {
-        self.trees.holds(map.root)
-    }
-
-    /// The value of the entry where a path stands, by the path's leaf and its index there, for writing.
-    pub(crate) fn value_at(&mut self, leaf: Node, index: usize) -> &mut V
-        requires stands { (h : Option ℕ) × (path : Path K V 7) × OnSpot self.old h path
-            × (leaf ≡ leaf_of path) × (index ≡ index_of path) }
-        ensures* writes_back { sem 𝓛 (lends_value_of K.row V.row self.entry leaf index result) }
-        ensures value { (h : Option ℕ) (path : Path K V 7) (at : OnSpot self.old h path) → leaf ≡ leaf_of path
-            → index ≡ index_of path → value_at_place (list_of self.old h) at.place ≡ Some result.now }
-        ensures written { (h : Option ℕ) (path : Path K V 7) (at : OnSpot self.old h path)
-            → leaf ≡ leaf_of path → index ≡ index_of path
-            → (w : V) → IsWritten self.old (with_value_at self.old leaf index w) h path at.place w }
-    {
-        self.trees.value_at(leaf, index)
     }
 }

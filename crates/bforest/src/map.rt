@@ -12,9 +12,9 @@ ghost use Rattle.std.specs.declared.cmp.Ordering.{Ordering};
 ghost use Rattle.std.specs.Ordering.{is_lt};
 ghost use Rattle.std.specs.Prelude.{IsTrue, None, [], true, ◌↔◌, length, slice_get, ◌+◌, ◌-◌, ◌/◌, ◌<◌, ◌^◌, ◌≡◌, ◌≤◌};
 
-use crate::forest::MapForest;
 use crate::map_cursor::MapCursor;
 use crate::map_cursor_mut::MapCursorMut;
+use crate::map_forest::MapForest;
 use crate::map_into_iter::MapIntoIter;
 use crate::map_iter::MapIter;
 use crate::map_range::MapRange;

@@ -7,8 +7,8 @@ ghost use Rattle.bforest_nodes.specs.Entries.{IsIncreasing, place, value_at_plac
 ghost use Rattle.std.specs.Prelude.{IsTrue, [], length, min, option_map, slice_get, ◌+◌, ◌-◌, ◌≡◌, ◌≤◌, ◌↔◌};
 
 use crate::entry::{key_of, value_of};
-use crate::forest::MapForest;
 use crate::map::Map;
+use crate::map_forest::MapForest;
 use bforest_core::{Comparator, PackedNode};
 use bforest_trees::{Look, Trees};
 use std::marker::Model;

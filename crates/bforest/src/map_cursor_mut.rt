@@ -12,8 +12,8 @@ ghost use Rattle.std.specs.Option.{option_copied_mut};
 ghost use Rattle.std.specs.Prelude.{IsTrue, Some, [], length, min, option_map, slice_get, ◌+◌, ◌-◌, ◌≡◌, ◌≤◌, ◌↔◌};
 
 use crate::entry::{key_of, value_of};
-use crate::forest::MapForest;
 use crate::map::Map;
+use crate::map_forest::MapForest;
 use bforest_core::{Comparator, OutOfMemory, Path};
 
 /// A cursor that reads and writes a map: it stands at an entry, or at the end behind the last one. [`Map::cursor_mut`] makes it, at the

@@ -3,8 +3,8 @@ ghost use Rattle.bforest.specs.Forest.{IsLive, list_of};
 ghost use Rattle.std.specs.Iterator.{YieldsFirst, item_count};
 ghost use Rattle.std.specs.Prelude.{◌≡◌};
 
-use crate::forest::MapForest;
 use crate::map::Map;
+use crate::map_forest::MapForest;
 use bforest_core::Path;
 use std::marker::Model;
 

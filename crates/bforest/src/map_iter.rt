@@ -4,8 +4,8 @@ ghost use Rattle.bforest.specs.Memory.{IsReadable};
 ghost use Rattle.std.specs.Iterator.{YieldsFirst, item_count};
 ghost use Rattle.std.specs.Prelude.{◌≡◌};
 
-use crate::forest::MapForest;
 use crate::map::Map;
+use crate::map_forest::MapForest;
 use bforest_trees::{Reader, Trees};
 use std::marker::Model;
 

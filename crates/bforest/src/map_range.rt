@@ -6,8 +6,8 @@ ghost use Rattle.bforest_nodes.specs.Entries.{IsIncreasing};
 ghost use Rattle.std.specs.Iterator.{YieldsFirst, YieldsLast, item_count};
 ghost use Rattle.std.specs.Prelude.{◌≡◌};
 
-use crate::forest::MapForest;
 use crate::map::Map;
+use crate::map_forest::MapForest;
 use bforest_core::{Comparator, PackedNode};
 use bforest_trees::{Ends, Trees};
 use std::marker::{Model, PhantomData};

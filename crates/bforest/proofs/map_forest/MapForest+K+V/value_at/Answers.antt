@@ -1,4 +1,4 @@
-use Rattle.bforest.proofs.forest.MapForest.value_at.Goals as goal
+use Rattle.bforest.proofs.map_forest.MapForest+K+V.value_at.Goals as goal
 use Rattle.bforest_trees.specs.Place.{OnSpot}
 use Rattle.std.proofs.Common.{refl}
 

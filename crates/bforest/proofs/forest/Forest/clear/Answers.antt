@@ -1,4 +1,4 @@
-use Rattle.bforest.proofs.set_forest.SetForest.clear.Goals as goal
+use Rattle.bforest.proofs.forest.Forest.clear.Goals as goal
 
 pub returns-clause-empty : goal.returns-clause-empty
 returns-clause-empty g c = rw (← c.self.view_is) c.clear.ensures.empty

@@ -1,4 +1,4 @@
-use Rattle.bforest.proofs.forest.MapForest.slots.Goals as goal
+use Rattle.bforest.proofs.forest.Forest.slots.Goals as goal
 
 pub returns-clause-count : goal.returns-clause-count
 returns-clause-count g c = rw (← c.self.view_is) c.slots.ensures.count

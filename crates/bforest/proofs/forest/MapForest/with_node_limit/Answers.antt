@@ -1,4 +1,0 @@
-use Rattle.bforest.proofs.forest.MapForest.with_node_limit.Goals as goal
-
-pub returns : goal.returns
-returns g c = c.with_limit.ensures
