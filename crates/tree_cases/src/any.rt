@@ -2,7 +2,7 @@
 
 use crate::tree::{Detail, Tree};
 use bforest_core::OutOfMemory;
-use bforest_plain_tests::Plain;
+use bforest_model::Plain;
 use std::alloc::{AllocError, Global};
 
 /// A tree whose leaves hold at most 3, 7, 15 or 255 entries.

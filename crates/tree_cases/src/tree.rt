@@ -6,7 +6,7 @@ ghost use Rattle.tree_cases.specs.Ordered.{CanGoOn, IsOrderedAt};
 ghost use Rattle.std.specs.Prelude.{IfOk, IfSome, OnErr, ℕ, ◌<◌, ◌≡◌, ◌≢◌};
 
 use bforest_core::{Node, NodePool, OutOfMemory, Path};
-use bforest_plain_tests::Plain;
+use bforest_model::Plain;
 use std::alloc::{AllocError, Global};
 use std::marker::Model;
 use std::process::Abort;

@@ -3,7 +3,7 @@
 use crate::any::AnyTree;
 use crate::words::{Stop, keys, number};
 use bforest_core::OutOfMemory;
-use bforest_plain_tests::Plain;
+use bforest_model::Plain;
 use std::alloc::{AllocError, Global};
 
 /// A tree, and the state of the plain program after the same calls.
