@@ -1,8 +1,10 @@
 pub mod Accounts
+pub mod Acting
 pub mod Adding
+pub mod Chains
+pub mod Comparing
 pub mod Indexed
 pub mod Kept
 pub mod Runs
-pub mod Sights
 pub mod Sums
 pub mod Units

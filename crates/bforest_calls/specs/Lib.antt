@@ -1,3 +1,5 @@
+pub mod Compared
 pub mod Looks
 pub mod Machine
 pub mod State
+pub mod Steps

@@ -2,9 +2,14 @@
 #![tactic(auto)]
 
 mod call;
+mod collection;
+mod engine;
 mod maps;
 mod run;
 mod sets;
+mod steps;
 
 pub use call::{Act, Answer, Call, Look, Seen, Side};
+pub use collection::Collection;
+pub use engine::make;
 pub use run::{run_map, run_set};

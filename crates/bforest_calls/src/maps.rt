@@ -1,52 +1,260 @@
-//! One call on a forest of maps.
-ghost use Rattle.bforest_calls.specs.Machine.{AsksRoom, Step};
-ghost use Rattle.std.specs.Prelude.{IfOk, OnErr, map, true, ◌≡◌};
+//! Maps, as the engine asks for them.
+ghost use Rattle.bforest.specs.Bounds.{entries_between};
+ghost use Rattle.bforest.specs.Cursor.{Goes, IsCursor, entries, forest_now, map_now, spot};
+ghost use Rattle.bforest.specs.Forest.{IsLive, list_of};
+ghost use Rattle.bforest.specs.Memory.{IsReadable};
+ghost use Rattle.bforest_calls.specs.Looks.{all_taken};
+ghost use Rattle.bforest_calls.specs.State.{Retained, WritesAt, is_listed};
+ghost use Rattle.bforest_calls.specs.Steps.{ActsBy, LooksBy, TakesFrom, map_view};
+ghost use Rattle.bforest_nodes.specs.Entries.{IsIncreasing};
+ghost use Rattle.std.proofs.Common.{◌∙◌};
+ghost use Rattle.std.proofs.lemmas.List.{get_or_default};
+ghost use Rattle.std.specs.Prelude.{IfOk, None, is_some, refl, slice_get, true, unwrap_or, ◌≡◌};
 
-mod change;
-mod edit;
-mod look;
-mod read;
-
-use crate::call::{Answer, Call};
-use bforest::{Comparator, Map, MapForest};
+use crate::call::{Act, Look, Seen, Side};
+use crate::collection::Collection;
+use crate::steps::{Steps, each};
+use bforest::{Comparator, Map, MapCursor, MapCursorMut, MapForest, MapRange, OutOfMemory};
 use std::alloc::{AllocError, Global};
+use std::cmp::Ordering;
+use std::ops::Bound;
 
-/// Makes one call. Room for its answer is taken before anything changes.
-pub(crate) fn make<K: Copy, V: Copy, C: Comparator<K>>(
-    alloc: Global,
-    call: &Call<K, V>,
-    comps: &[C],
-    handles: &mut [Map<K, V>],
-    forest: &mut MapForest<K, V>,
-) -> Result<Answer<K, V>, AllocError>
-    ensures step { IfOk result (λ given. Step 7 true (map C.order comps.now)
-        (record { forest = forest.old; handles = handles.old }) call.now given
-        (record { forest = forest.new; handles = handles.new })) }
-    ensures room { OnErr result (AsksRoom call.now) }
-    ensures err_forest { OnErr result (forest.new ≡ forest.old) }
-    ensures err_handles { OnErr result (handles.new ≡ handles.old) }
+impl<K: Copy, V: Copy> Collection<K, V> for Map<K, V> {
+    type Forest = MapForest<K, V>;
+
+    const READS: bool = true;
+
+    ghost READS = { true };
+
+    ghost number = { λ map. map };
+
+    ghost numbers = { λ maps. maps };
+
+    ghost trees = { λ forest. forest };
+
+    ghost most = { 7 };
+
+    ghost ready = { IsReadable K.row V.row };
+
+    fn is_live(&self, forest: &MapForest<K, V>) -> bool {
+        forest.holds(self)
+    }
+
+    fn increases<C: Comparator<K>>(&self, forest: &MapForest<K, V>, comp: &C) -> bool {
+        self.increases(forest, comp)
+    }
+
+    fn get<C: Comparator<K>>(&self, key: K, forest: &MapForest<K, V>, comp: &C) -> Option<V> {
+        self.get(key, forest, comp)
+    }
+
+    fn get_or_less<C: Comparator<K>>(
+        &self,
+        key: K,
+        forest: &MapForest<K, V>,
+        comp: &C,
+    ) -> Option<(K, V)> {
+        self.get_or_less(key, forest, comp)
+    }
+
+    fn entries(&self, alloc: Global, forest: &MapForest<K, V>) -> Result<Vec<(K, V)>, AllocError> {
+        self.iter(forest).collect(alloc)
+    }
+
+    fn read<C: Comparator<K>>(
+        &self,
+        alloc: Global,
+        steps: &[Look<K>],
+        forest: &MapForest<K, V>,
+        comp: &C,
+    ) -> Result<Vec<Seen<K, V>>, AllocError> {
+        let mut cursor = self.cursor(forest, comp);
+        each(alloc, steps, &mut cursor)
+    }
+
+    fn range<C: Comparator<K>>(
+        &self,
+        alloc: Global,
+        bounds: (Bound<K>, Bound<K>),
+        ends: &[Side],
+        forest: &MapForest<K, V>,
+        comp: &C,
+    ) -> Result<Vec<Seen<K, V>>, AllocError>
+        requires ready { IsReadable K.row V.row }
+        requires live { IsLive forest.now self.now }
+        requires increasing { IsIncreasing (C.order comp.now) (list_of forest.now self.now) }
+        ensures sights { IfOk result (λ sights. sights.items ≡ all_taken (entries_between (C.order comp.now)
+            bounds.0 bounds.1 (list_of forest.now self.now)) ends.now) }
+    {
+        let mut range = self.range(bounds, forest, comp);
+        each(alloc, ends, &mut range)
+    }
+
+    fn insert<C: Comparator<K>>(
+        &mut self,
+        key: K,
+        value: V,
+        forest: &mut MapForest<K, V>,
+        comp: &C,
+    ) -> Result<Option<V>, OutOfMemory> {
+        self.insert(key, value, forest, comp)
+    }
+
+    fn remove<C: Comparator<K>>(
+        &mut self,
+        key: K,
+        forest: &mut MapForest<K, V>,
+        comp: &C,
+    ) -> Option<V> {
+        self.remove(key, forest, comp)
+    }
+
+    fn edit<C: Comparator<K>>(
+        &mut self,
+        alloc: Global,
+        steps: &[Act<K, V>],
+        forest: &mut MapForest<K, V>,
+        comp: &C,
+    ) -> Result<Vec<Seen<K, V>>, AllocError> {
+        let mut cursor = self.cursor_mut(forest, comp);
+        each(alloc, steps, &mut cursor)
+    }
+
+    fn retain<C: Comparator<K>>(
+        &mut self,
+        keys: &[K],
+        put: Option<V>,
+        forest: &mut MapForest<K, V>,
+        comp: &C,
+    )
+        requires ready { IsReadable K.row V.row }
+        requires live { IsLive forest.old self.old }
+        ensures retained { Retained 7 (C.order comp.now) keys.now put
+            (record { forest = forest.old; number = self.old })
+            (record { forest = forest.new; number = self.new }) }
+    {
+        self.retain(forest, |key, value| keeps(comp, put, keys, key, value));
+    }
+
+    fn clear(&mut self, forest: &mut MapForest<K, V>) {
+        self.clear(forest);
+    }
+
+    fn alias(&self) -> Map<K, V> {
+        self.clone()
+    }
+
+    fn clear_all(forest: &mut MapForest<K, V>) {
+        forest.clear();
+    }
+
+    ghost odd = { refl };
+
+    ghost counted = { λ xs. refl };
+
+    ghost at = { λ xs h x within is. is ∙ get_or_default xs h x None within };
+
+    ghost written = { λ xs h x. refl };
+}
+
+/// Writes the value of `put`, if there is one, and returns whether one of the keys compares equal to the entry's.
+fn keeps<K: Copy, V: Copy, C: Comparator<K>>(
+    comp: &C,
+    put: Option<V>,
+    keys: &[K],
+    key: K,
+    value: &mut V,
+) -> bool
+    ensures listed { result ≡ is_listed (C.order comp.now) keys.now key }
+    ensures written { value.new ≡ unwrap_or put value.old }
 {
-    match call {
-        Call::Get { h, c, k } => Ok(look::get(*h, *c, *k, comps, handles, forest)),
-        Call::GetOrLess { h, c, k } => Ok(look::get_or_less(*h, *c, *k, comps, handles, forest)),
-        Call::Insert { h, c, k, v } => {
-            Ok(change::insert(*h, *c, (*k, *v), comps, handles, forest))
+    if let Some(put) = put {
+        *value = put;
+    }
+    keys.iter()
+        .any(|listed| comp.cmp(*listed, key) == Ordering::Equal)
+}
+
+impl<K: Copy, V: Copy, C: Comparator<K>> Steps<Look<K>, K, V> for MapCursor<'_, K, V, C> {
+    ghost ready = { λ _. IsReadable K.row V.row };
+
+    ghost goes = { LooksBy C.order };
+
+    fn step(&mut self, step: &Look<K>) -> Seen<K, V> {
+        match step {
+            Look::Empty => Seen::Flag(self.is_empty()),
+            Look::Next => Seen::Pair(self.next()),
+            Look::Prev => Seen::Pair(self.prev()),
+            Look::Key => Seen::Key(self.key()),
+            Look::Value => Seen::Value(self.value()),
+            Look::Goto(k) => Seen::Value(self.goto(*k)),
+            Look::First => {
+                let _value = self.goto_first();
+                Seen::Pair(self.entry())
+            }
+            Look::End => {
+                self.goto_end();
+                Seen::Done
+            }
         }
-        Call::Remove { h, c, k } => Ok(change::remove(*h, *c, *k, comps, handles, forest)),
-        Call::Clear { h } => Ok(change::clear(*h, handles, forest)),
-        Call::Iter { h } => look::iter(alloc, *h, handles, forest),
-        Call::Read { h, c, steps } => read::read(alloc, *h, *c, steps, comps, handles, forest),
-        Call::Edit { h, c, steps } => edit::edit(alloc, *h, *c, steps, comps, handles, forest),
-        Call::Range { h, c, lo, hi, ends } => {
-            read::range(alloc, *h, *c, (*lo, *hi), ends, comps, handles, forest)
+    }
+}
+
+impl<K: Copy, V: Copy, C: Comparator<K>> Steps<Act<K, V>, K, V> for MapCursorMut<'_, K, V, C> {
+    ghost ready = { λ cursor. IsCursor C.order cursor × IsReadable K.row V.row };
+
+    ghost goes = { ActsBy 7 (map_view C.order) };
+
+    fn step(&mut self, step: &Act<K, V>) -> Seen<K, V> {
+        match step {
+            Act::Empty => Seen::Flag(self.is_empty()),
+            Act::Next => Seen::Pair(self.next()),
+            Act::Prev => Seen::Pair(self.prev()),
+            Act::Key => Seen::Key(self.key()),
+            Act::Value => Seen::Value(self.value()),
+            Act::Goto(k) => Seen::Value(self.goto(*k)),
+            Act::First => {
+                let _value = self.goto_first();
+                Seen::Pair(self.entry())
+            }
+            Act::Put(k, v) => Seen::Put(self.insert(*k, *v)),
+            Act::Write(v) => Seen::Flag(write(self, *v)),
+            Act::Remove => {
+                let entry = self.entry();
+                let _value = self.remove();
+                Seen::Pair(entry)
+            }
         }
-        Call::Retain { h, c, keys, put } => {
-            Ok(change::retain(*h, *c, keys, *put, comps, handles, forest))
+    }
+}
+
+/// Writes the value at a cursor's place, and returns whether an entry is there.
+fn write<K: Copy, V: Copy, C: Comparator<K>>(cursor: &mut MapCursorMut<'_, K, V, C>, v: V) -> bool
+    requires valid { IsCursor C.order cursor.old }
+    requires ready { IsReadable K.row V.row }
+    ensures there { result ≡ is_some (slice_get (entries cursor.old) (spot cursor.old)) }
+    ensures writes { WritesAt (record { forest = forest_now cursor.old; number = map_now cursor.old })
+        (spot cursor.old) v (record { forest = forest_now cursor.new; number = map_now cursor.new }) }
+    ensures goes { Goes C.order cursor.old cursor.new (spot cursor.old) }
+{
+    match cursor.value_mut() {
+        Some(value) => {
+            *value = v;
+            true
         }
-        Call::Alias { from, to } => Ok(change::alias(*from, *to, handles)),
-        Call::ForestClear => {
-            forest.clear();
-            Ok(Answer::Done)
+        None => false,
+    }
+}
+
+impl<K: Copy, V: Copy, C: Comparator<K>> Steps<Side, K, V> for MapRange<'_, K, V, C> {
+    ghost ready = { λ _. IsReadable K.row V.row };
+
+    ghost goes = { TakesFrom (λ entries. entries) };
+
+    fn step(&mut self, side: &Side) -> Seen<K, V> {
+        match side {
+            Side::Front => Seen::Pair(self.next()),
+            Side::Back => Seen::Pair(self.next_back()),
         }
     }
 }

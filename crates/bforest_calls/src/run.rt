@@ -3,7 +3,8 @@ ghost use Rattle.bforest_calls.specs.Machine.{MayStopAt, Run};
 ghost use Rattle.std.specs.Prelude.{IfOk, OnErr, false, map, take, true, ◌≡◌, ℕ};
 
 use crate::call::{Answer, Call};
-use crate::{maps, sets};
+use crate::collection::Collection;
+use crate::engine::make;
 use bforest::{Comparator, Map, MapForest, Set, SetForest};
 use std::alloc::{AllocError, Global};
 
@@ -31,12 +32,7 @@ pub fn run_map<K: Copy, V: Copy, C: Comparator<K>>(
         (record { forest = forest.old; handles = handles.old }) (take n calls.now) answers
         (record { forest = forest.new; handles = handles.new }) × MayStopAt calls.now n) }
 {
-    let mut answers = Vec::with_capacity(alloc, calls.len())?;
-    for call in calls {
-        let given = maps::make(alloc, call, comps, handles, forest)?;
-        answers.push(given).unwrap();
-    }
-    Ok(answers)
+    run(alloc, calls, comps, handles, forest)
 }
 
 /// Makes the calls in order, on sets, and returns one answer for each. The only value is the unit: [`Call::Get`] is
@@ -64,9 +60,28 @@ pub fn run_set<K: Copy, C: Comparator<K>>(
         (record { forest = forest.old; handles = handles.old }) (take n calls.now) answers
         (record { forest = forest.new; handles = handles.new }) × MayStopAt calls.now n) }
 {
+    run(alloc, calls, comps, handles, forest)
+}
+
+/// Makes the calls in order. Room for all answers is taken first.
+fn run<K: Copy, V: Copy, C: Comparator<K>, T: Collection<K, V>>(
+    alloc: Global,
+    calls: &[Call<K, V>],
+    comps: &[C],
+    handles: &mut [T],
+    forest: &mut T::Forest,
+) -> Result<Vec<Answer<K, V>>, AllocError>
+    requires ready { T.ready }
+    ensures run { IfOk result (λ answers. Run T.most T.READS (map C.order comps.now)
+        (record { forest = T.trees forest.old; handles = T.numbers handles.old }) calls.now answers.items
+        (record { forest = T.trees forest.new; handles = T.numbers handles.new })) }
+    ensures err { OnErr result ((n : ℕ) × (answers : _) × Run T.most T.READS (map C.order comps.now)
+        (record { forest = T.trees forest.old; handles = T.numbers handles.old }) (take n calls.now) answers
+        (record { forest = T.trees forest.new; handles = T.numbers handles.new }) × MayStopAt calls.now n) }
+{
     let mut answers = Vec::with_capacity(alloc, calls.len())?;
     for call in calls {
-        let given = sets::make(alloc, call, comps, handles, forest)?;
+        let given = make(alloc, call, comps, handles, forest)?;
         answers.push(given).unwrap();
     }
     Ok(answers)

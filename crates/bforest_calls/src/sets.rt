@@ -1,50 +1,231 @@
-//! One call on a forest of sets.
-ghost use Rattle.bforest_calls.specs.Machine.{AsksRoom, Step};
-ghost use Rattle.std.specs.Prelude.{IfOk, OnErr, map, false, ◌≡◌};
+//! Sets, as the engine asks for them: the value of a key is the unit.
+ghost use Rattle.bforest.specs.Bounds.{entries_between};
+ghost use Rattle.bforest.specs.Forest.{IsLive, list_of};
+ghost use Rattle.bforest.specs.Memory.{IsSetReadable};
+ghost use Rattle.bforest.specs.Set.{as_put, as_removed};
+ghost use Rattle.bforest.specs.SetCursor.{IsCursor};
+ghost use Rattle.bforest_calls.specs.Looks.{all_taken, with_each};
+ghost use Rattle.bforest_calls.specs.State.{Retained, is_listed};
+ghost use Rattle.bforest_calls.specs.Steps.{ActsBy, TakesFrom, set_view};
+ghost use Rattle.bforest_nodes.specs.Entries.{IsIncreasing};
+ghost use Rattle.std.proofs.Common.{◌∙◌};
+ghost use Rattle.std.proofs.lemmas.List.{get_or_default};
+ghost use Rattle.std.specs.Prelude.{IfOk, None, false, option_map, refl, ◌≡◌};
 
-mod change;
-mod edit;
-mod look;
-mod read;
-
-use crate::call::{Answer, Call};
-use bforest::{Comparator, Set, SetForest};
+use crate::call::{Act, Look, Seen, Side};
+use crate::collection::Collection;
+use crate::steps::{Steps, each};
+use bforest::{Comparator, OutOfMemory, Set, SetCursor, SetForest, SetRange};
 use std::alloc::{AllocError, Global};
+use std::cmp::Ordering;
+use std::ops::Bound;
 
-/// Makes one call. Room for its answer is taken before anything changes.
-pub(crate) fn make<K: Copy, C: Comparator<K>>(
-    alloc: Global,
-    call: &Call<K, ()>,
-    comps: &[C],
-    handles: &mut [Set<K>],
-    forest: &mut SetForest<K>,
-) -> Result<Answer<K, ()>, AllocError>
-    ensures step { IfOk result (λ given. Step 15 false (map C.order comps.now)
-        (record { forest = forest.old; handles = handles.old }) call.now given
-        (record { forest = forest.new; handles = handles.new })) }
-    ensures room { OnErr result (AsksRoom call.now) }
-    ensures err_forest { OnErr result (forest.new ≡ forest.old) }
-    ensures err_handles { OnErr result (handles.new ≡ handles.old) }
+impl<K: Copy> Collection<K, ()> for Set<K> {
+    type Forest = SetForest<K>;
+
+    const READS: bool = false;
+
+    ghost READS = { false };
+
+    ghost number = { λ set. set };
+
+    ghost numbers = { λ sets. sets };
+
+    ghost trees = { λ forest. forest };
+
+    ghost most = { 15 };
+
+    ghost ready = { IsSetReadable K.row };
+
+    fn is_live(&self, forest: &SetForest<K>) -> bool {
+        forest.holds(self)
+    }
+
+    fn increases<C: Comparator<K>>(&self, forest: &SetForest<K>, comp: &C) -> bool {
+        self.increases(forest, comp)
+    }
+
+    fn get<C: Comparator<K>>(&self, key: K, forest: &SetForest<K>, comp: &C) -> Option<()> {
+        unit_if(self.contains(key, forest, comp))
+    }
+
+    fn get_or_less<C: Comparator<K>>(
+        &self,
+        key: K,
+        forest: &SetForest<K>,
+        comp: &C,
+    ) -> Option<(K, ())> {
+        with_unit(self.get_or_less(key, forest, comp))
+    }
+
+    fn entries(&self, alloc: Global, forest: &SetForest<K>) -> Result<Vec<(K, ())>, AllocError> {
+        let mut entries = Vec::new(alloc);
+        for key in self.iter(forest) {
+            entries.push((key, ()))?;
+        }
+        Ok(entries)
+    }
+
+    fn read<C: Comparator<K>>(
+        &self,
+        _alloc: Global,
+        _steps: &[Look<K>],
+        _forest: &SetForest<K>,
+        _comp: &C,
+    ) -> Result<Vec<Seen<K, ()>>, AllocError> {
+        unreachable!()
+    }
+
+    fn range<C: Comparator<K>>(
+        &self,
+        alloc: Global,
+        bounds: (Bound<K>, Bound<K>),
+        ends: &[Side],
+        forest: &SetForest<K>,
+        comp: &C,
+    ) -> Result<Vec<Seen<K, ()>>, AllocError>
+        requires ready { IsSetReadable K.row }
+        requires live { IsLive forest.now self.now }
+        requires increasing { IsIncreasing (C.order comp.now) (list_of forest.now self.now) }
+        ensures sights { IfOk result (λ sights. sights.items ≡ all_taken (entries_between (C.order comp.now)
+            bounds.0 bounds.1 (list_of forest.now self.now)) ends.now) }
+    {
+        let mut range = self.range(bounds, forest, comp);
+        each(alloc, ends, &mut range)
+    }
+
+    fn insert<C: Comparator<K>>(
+        &mut self,
+        key: K,
+        _value: (),
+        forest: &mut SetForest<K>,
+        comp: &C,
+    ) -> Result<Option<()>, OutOfMemory> {
+        old_unit(self.insert(key, forest, comp))
+    }
+
+    fn remove<C: Comparator<K>>(
+        &mut self,
+        key: K,
+        forest: &mut SetForest<K>,
+        comp: &C,
+    ) -> Option<()> {
+        unit_if(self.remove(key, forest, comp))
+    }
+
+    fn edit<C: Comparator<K>>(
+        &mut self,
+        alloc: Global,
+        steps: &[Act<K, ()>],
+        forest: &mut SetForest<K>,
+        comp: &C,
+    ) -> Result<Vec<Seen<K, ()>>, AllocError> {
+        let mut cursor = self.cursor(forest, comp);
+        each(alloc, steps, &mut cursor)
+    }
+
+    fn retain<C: Comparator<K>>(
+        &mut self,
+        keys: &[K],
+        _put: Option<()>,
+        forest: &mut SetForest<K>,
+        comp: &C,
+    )
+        requires ready { IsSetReadable K.row }
+        requires live { IsLive forest.old self.old }
+        ensures retained { Retained 15 (C.order comp.now) keys.now _put
+            (record { forest = forest.old; number = self.old })
+            (record { forest = forest.new; number = self.new }) }
+    {
+        self.retain(forest, |key| keeps(comp, keys, key));
+    }
+
+    fn clear(&mut self, forest: &mut SetForest<K>) {
+        self.clear(forest);
+    }
+
+    fn alias(&self) -> Set<K> {
+        self.clone()
+    }
+
+    fn clear_all(forest: &mut SetForest<K>) {
+        forest.clear();
+    }
+
+    ghost odd = { refl };
+
+    ghost counted = { λ xs. refl };
+
+    ghost at = { λ xs h x within is. is ∙ get_or_default xs h x None within };
+
+    ghost written = { λ xs h x. refl };
+}
+
+/// Whether one of the keys compares equal to `key`.
+fn keeps<K: Copy, C: Comparator<K>>(comp: &C, keys: &[K], key: K) -> bool
+    ensures listed { result ≡ is_listed (C.order comp.now) keys.now key }
 {
-    match call {
-        Call::Get { h, c, k } => Ok(look::get(*h, *c, *k, comps, handles, forest)),
-        Call::GetOrLess { h, c, k } => Ok(look::get_or_less(*h, *c, *k, comps, handles, forest)),
-        Call::Insert { h, c, k, .. } => { Ok(change::insert(*h, *c, *k, comps, handles, forest)) }
-        Call::Remove { h, c, k } => Ok(change::remove(*h, *c, *k, comps, handles, forest)),
-        Call::Clear { h } => Ok(change::clear(*h, handles, forest)),
-        Call::Iter { h } => look::iter(alloc, *h, handles, forest),
-        Call::Read { h, c, .. } => Ok(look::lacks(*h, *c, comps, handles)),
-        Call::Edit { h, c, steps } => edit::edit(alloc, *h, *c, steps, comps, handles, forest),
-        Call::Range { h, c, lo, hi, ends } => {
-            read::range(alloc, *h, *c, (*lo, *hi), ends, comps, handles, forest)
+    keys.iter()
+        .any(|listed| comp.cmp(*listed, key) == Ordering::Equal)
+}
+
+/// The value of a key that is present.
+fn unit_if(present: bool) -> Option<()>
+    ensures { result ≡ as_removed present }
+{
+    if present { Some(()) } else { None }
+}
+
+/// A key as an entry.
+fn with_unit<K: Copy>(key: Option<K>) -> Option<(K, ())>
+    ensures { result ≡ option_map (λ k. (k, tt)) key }
+{
+    match key {
+        Some(key) => Some((key, ())),
+        None => None,
+    }
+}
+
+/// The old value of a key, from whether the key is new.
+fn old_unit(put: Result<bool, OutOfMemory>) -> Result<Option<()>, OutOfMemory>
+    ensures { result ≡ as_put put }
+{
+    match put? {
+        true => Ok(None),
+        false => Ok(Some(())),
+    }
+}
+
+impl<K: Copy, C: Comparator<K>> Steps<Act<K, ()>, K, ()> for SetCursor<'_, K, C> {
+    ghost ready = { λ cursor. IsCursor C.order cursor × IsSetReadable K.row };
+
+    ghost goes = { ActsBy 15 (set_view C.order) };
+
+    fn step(&mut self, step: &Act<K, ()>) -> Seen<K, ()> {
+        match step {
+            Act::Empty => Seen::Flag(self.is_empty()),
+            Act::Next => Seen::Pair(with_unit(self.next())),
+            Act::Prev => Seen::Pair(with_unit(self.prev())),
+            Act::Key => Seen::Key(self.elem()),
+            Act::Value => Seen::Value(unit_if(self.elem().is_some())),
+            Act::Goto(k) => Seen::Value(unit_if(self.goto(*k))),
+            Act::First => Seen::Pair(with_unit(self.goto_first())),
+            Act::Put(k, ..) => Seen::Put(old_unit(self.insert(*k))),
+            Act::Write(..) => Seen::Flag(self.elem().is_some()),
+            Act::Remove => Seen::Pair(with_unit(self.remove())),
         }
-        Call::Retain { h, c, keys, .. } => {
-            Ok(change::retain(*h, *c, keys, comps, handles, forest))
-        }
-        Call::Alias { from, to } => Ok(change::alias(*from, *to, handles)),
-        Call::ForestClear => {
-            forest.clear();
-            Ok(Answer::Done)
+    }
+}
+
+impl<K: Copy, C: Comparator<K>> Steps<Side, K, ()> for SetRange<'_, K, C> {
+    ghost ready = { λ _. IsSetReadable K.row };
+
+    ghost goes = { TakesFrom with_each };
+
+    fn step(&mut self, side: &Side) -> Seen<K, ()> {
+        match side {
+            Side::Front => Seen::Pair(with_unit(self.next())),
+            Side::Back => Seen::Pair(with_unit(self.next_back())),
         }
     }
 }

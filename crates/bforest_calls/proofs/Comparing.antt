@@ -1,0 +1,68 @@
+-- The tests of a call, and a call that compares keys, from what its handle and its comparator tell.
+use Rattle.bforest.specs.Calls.{Inserts, Removes}
+use Rattle.bforest.specs.Forest.{Forest, IsLive}
+use Rattle.bforest_calls.specs.Compared.{IsComparing, Makes}
+use Rattle.bforest_calls.specs.Machine.{Compares, On, Orders, Refuses, State, Step, Tests, order_at}
+use Rattle.bforest_calls.specs.State.{Edits, Held}
+use Rattle.bforest_calls.specs.declared.call.Answer.TheVariants as answer
+use Rattle.bforest_calls.specs.declared.call.Answer.{Answer}
+use Rattle.bforest_calls.specs.declared.call.Call.TheVariants as call
+use Rattle.bforest_calls.specs.declared.call.Call.{Call}
+use Rattle.std.proofs.Common.{Bool, None, Option, ap, false, inl, inr, subst, sym, true, ◌∙◌, ◌≡◌, ℕ}
+use Rattle.std.proofs.Math.ListN.{set}
+use Rattle.std.proofs.lemmas.Bool.{false≢true}
+use Rattle.std.proofs.lemmas.List.{set-get_or}
+use Rattle.std.specs.Prelude.{IsTrue, ◌↔◌}
+
+-- a test of a handle tells whether the number at its index is live
+module _ {K V : Type 0} (forest : Forest K V) {x n : Option ℕ} (is : x ≡ n) (yes? : Bool) (tells : IsTrue yes? ↔ IsLive forest x) where
+  pub alive : yes? ≡ true → IsLive forest n
+  alive so = subst (λ m. IsLive forest m) is (tells.0 so)
+
+  pub dead : yes? ≡ false → IsLive forest n → ⊥
+  dead so live = false≢true (sym so ∙ tells.1 (subst (λ m. IsLive forest m) (sym is) live))
+
+module _ {K V : Type 0} where
+  -- a call with more to test is refused where one test less refuses it
+  pub refuses-more : (there more live ordered : Type 0) (given : Answer K V) → more → Refuses there live (Unit {0}) given → Refuses (there × more) live ordered given
+  refuses-more there more live ordered answer.NoIndex m r = λ w. r w.0
+  refuses-more there more live ordered answer.Dead m r = ((r.0, m), r.1)
+  refuses-more there more live ordered answer.Unordered m r = absurd (r.2 tt)
+  refuses-more there more live ordered given m r = absurd r
+
+  -- what is made is told otherwise
+  then : {there live ordered M N : Type 0} {old new : State K V} (given : Answer K V) → (M → N) → Tests there live ordered old given new M → Tests there live ordered old given new N
+  then given f t = elim t [ inl w ↦ inl w | inr w ↦ inr (w.0, w.1, w.2, f w.3) ]
+
+  -- a change of handle h that leaves it and its forest as they were changes nothing
+  looks : {P : Type 0} (h : ℕ) (old new : State K V) → On h old new (λ held after. P × (after ≡ held)) → P × (new ≡ old)
+  looks h old new w =
+      let handles : new.handles ≡ old.handles = w.1 ∙ ap (λ (s : Held K V). set old.handles h s.number) w.2.1 ∙ set-get_or old.handles h None in
+      (w.2.0, λ j. record { forest = (w.2.1 j).forest; handles = handles j })
+
+  -- the change with its result in front
+  changes : {X : Type 0} {P : X → Type 0} (R : X → Held K V → Held K V → Type 0) (h : ℕ) (old new : State K V)
+      → On h old new (λ held after. (x : X) × P x × R x held after) → (x : X) × P x × On h old new (R x)
+  changes R h old new w = (w.2.0, w.2.1, (w.0, w.1, w.2.2))
+
+module _ {K V : Type 0} (most : ℕ) (reads : Bool) (orders : Orders K) (h c : ℕ) (old : State K V) (given : Answer K V) (new : State K V) where
+  at : (P : ℕ → ℕ → Type 0) → P h c → (a b : ℕ) → a ≡ h → b ≡ c → P a b
+  at P x a b is-a is-b = subst (λ n. P n b) (sym is-a) (subst (λ n. P h n) (sym is-b) x)
+
+  -- a call that compares keys, from what is made on its handle
+  pub step-of : (made : Call K V) → IsComparing reads h c made → Compares orders h c old given new (On h old new (λ held after. Makes most (order_at orders c) made held given after))
+      → Step most reads orders old made given new
+  step-of (call.Get a b k) is t = at (λ m n. Step most reads orders old (call.Get m n k) given new) (then given (looks h old new) t) a b is.0 is.1
+  step-of (call.GetOrLess a b k) is t = at (λ m n. Step most reads orders old (call.GetOrLess m n k) given new) (then given (looks h old new) t) a b is.0 is.1
+  step-of (call.Insert a b k v) is t = at (λ m n. Step most reads orders old (call.Insert m n k v) given new) (then given (changes (λ result held after. Inserts most (order_at orders c) held.forest held.number k v result after.forest after.number) h old new) t) a b is.0 is.1
+  step-of (call.Remove a b k) is t = at (λ m n. Step most reads orders old (call.Remove m n k) given new) (then given (changes (λ value held after. Removes most (order_at orders c) held.forest held.number k value after.forest after.number) h old new) t) a b is.0 is.1
+  step-of (call.Read a b steps) is t =
+      subst (λ r. Step most r orders old (call.Read a b steps) given new) (sym is.2)
+      (at (λ m n. Step most true orders old (call.Read m n steps) given new) (then given (looks h old new) t) a b is.0 is.1)
+  step-of (call.Edit a b steps) is t = at (λ m n. Step most reads orders old (call.Edit m n steps) given new) (then given (changes (λ sights held after. Edits most (order_at orders c) steps.items sights.items held after) h old new) t) a b is.0 is.1
+  step-of (call.Range a b lo hi ends) is t = at (λ m n. Step most reads orders old (call.Range m n lo hi ends) given new) (then given (looks h old new) t) a b is.0 is.1
+  step-of (call.Retain a b keys put) is t = absurd is
+  step-of (call.Clear a) is t = absurd is
+  step-of (call.Iter a) is t = absurd is
+  step-of (call.Alias from to) is t = absurd is
+  step-of call.ForestClear is t = absurd is

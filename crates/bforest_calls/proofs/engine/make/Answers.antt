@@ -1,0 +1,23 @@
+use Rattle.bforest_calls.proofs.engine.make.Goals as goal
+use Rattle.bforest_calls.specs.Machine.{State, Step}
+use Rattle.bforest_calls.specs.declared.call.Call.TheVariants as call
+use Rattle.std.proofs.Common.{map, subst, sym, ◌∙◌}
+
+pub returns-else-READS-clause-step : goal.returns-else-READS-clause-step
+returns-else-READS-clause-step g c =
+    let t = g.T.Collection in
+    let state : State g.row.K.Denot g.row.V.Denot = record { forest = t.trees c.args.forest.now; handles = t.numbers c.args.handles.now } in
+    let orders = map g.C.Comparator.order c.args.comps.now in
+    rw c.in-Read.is (subst (λ r. Step t.most r orders state (call.Read c.in-Read.h c.in-Read.c c.in-Read.steps) c.lacks.result state) (sym (sym c.READS.ensures ∙ c.if-READS.false)) (c.lacks.ensures state.forest c.in-Read.steps))
+
+pub returns-in-Retain-clause-step : goal.returns-in-Retain-clause-step
+returns-in-Retain-clause-step g c = rw c.in-Retain.is c.retain.ensures
+
+pub returns-in-Clear-clause-step : goal.returns-in-Clear-clause-step
+returns-in-Clear-clause-step g c = rw c.in-Clear.is (c.clear.ensures (map g.C.Comparator.order c.args.comps.now))
+
+pub returns-in-Iter-clause-step : goal.returns-in-Iter-clause-step
+returns-in-Iter-clause-step g c = rw c.in-Iter.is (c.iter.ensures (map g.C.Comparator.order c.args.comps.now))
+
+pub returns-in-Alias-clause-step : goal.returns-in-Alias-clause-step
+returns-in-Alias-clause-step g c = rw c.in-Alias.is (c.alias.ensures (map g.C.Comparator.order c.args.comps.now) (g.T.Collection.trees c.args.forest.now))

@@ -1,0 +1,12 @@
+use Rattle.bforest.specs.Forest.{list_of}
+use Rattle.bforest.specs.Memory.{IsSetReadable}
+use Rattle.bforest_calls.proofs.sets.SetCollectionUnit.entries.Given as goal
+use Rattle.bforest_calls.specs.Looks.{with_each}
+use Rattle.std.proofs.Common.{◌++◌, ◌≡◌}
+
+-- the entries so far, and those of the keys left, are the whole list
+abbrev pub invariant-loop-key : goal.invariant-loop-key
+invariant-loop-key g l = record {
+  left : l.entries.items ++ with_each l.key-iterator ≡ list_of l.forest l.self;
+  ready : IsSetReadable g.row.K;
+}

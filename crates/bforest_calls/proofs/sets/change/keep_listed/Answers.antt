@@ -1,7 +1,0 @@
-use Rattle.bforest_calls.proofs.Kept.{filters-plain}
-use Rattle.bforest_calls.proofs.sets.change.keep_listed.Goals as goal
-use Rattle.bforest_calls.specs.State.{KeepsIf}
-use Rattle.std.proofs.Common.{rules}
-
-pub returns : goal.returns
-returns g c = λ put. filters-plain _ (KeepsIf (g.C.Comparator.order c.args.comp.now) c.args.keys.now put) 15 _ (λ k v b w f' t. search rules) _ _ _ _ c.retain.ensures

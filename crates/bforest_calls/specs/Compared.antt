@@ -1,0 +1,41 @@
+-- A call that compares keys: on one handle, by one comparator, where both are there and all tests are passed.
+use Rattle.bforest.specs.Bounds.{entries_between, entry_at_most}
+use Rattle.bforest.specs.Calls.{Inserts, Removes}
+use Rattle.bforest_calls.specs.Looks.{all_taken, sights_of}
+use Rattle.bforest_calls.specs.Machine.{Shows}
+use Rattle.bforest_calls.specs.State.{Edits, Held, entries}
+use Rattle.bforest_calls.specs.declared.call.Answer.TheVariants as answer
+use Rattle.bforest_calls.specs.declared.call.Answer.{Answer}
+use Rattle.bforest_calls.specs.declared.call.Call.TheVariants as call
+use Rattle.bforest_calls.specs.declared.call.Call.{Call}
+use Rattle.bforest_calls.specs.declared.call.Seen.{Seen}
+use Rattle.bforest_core.specs.declared.pool.OutOfMemory.{OutOfMemory}
+use Rattle.bforest_nodes.specs.Entries.{value_for}
+use Rattle.std.specs.Global.{Global}
+use Rattle.std.specs.Prelude.{Bool, Option, Result, Vec, length, true, ◌≡◌, ℕ}
+use Rattle.std.specs.declared.cmp.Ordering.{Ordering}
+
+module _ {K V : Type 0} where
+  -- the call is on handle h, and compares keys by comparator c
+  abbrev pub IsComparing : Bool → ℕ → ℕ → Call K V → Type 0
+  IsComparing reads h c (call.Get a b k) = (a ≡ h) × (b ≡ c)
+  IsComparing reads h c (call.GetOrLess a b k) = (a ≡ h) × (b ≡ c)
+  IsComparing reads h c (call.Insert a b k v) = (a ≡ h) × (b ≡ c)
+  IsComparing reads h c (call.Remove a b k) = (a ≡ h) × (b ≡ c)
+  IsComparing reads h c (call.Read a b steps) = (a ≡ h) × (b ≡ c) × (reads ≡ true)
+  IsComparing reads h c (call.Edit a b steps) = (a ≡ h) × (b ≡ c)
+  IsComparing reads h c (call.Range a b lo hi ends) = (a ≡ h) × (b ≡ c)
+  IsComparing reads h c other = ⊥
+
+  module _ (most : ℕ) (order : K → K → Ordering) where
+    -- what such a call answers and leaves
+    abbrev pub Makes : Call K V → Held K V → Answer K V → Held K V → Type 0
+    Makes (call.Get h c k) old given new = (given ≡ answer.Value (value_for order (entries old) k)) × (new ≡ old)
+    Makes (call.GetOrLess h c k) old given new = (given ≡ answer.Pair (entry_at_most order (entries old) k)) × (new ≡ old)
+    Makes (call.Insert h c k v) old given new =
+        (result : Result (Option V) OutOfMemory) × (given ≡ answer.Put result) × Inserts most order old.forest old.number k v result new.forest new.number
+    Makes (call.Remove h c k) old given new = (value : Option V) × (given ≡ answer.Value value) × Removes most order old.forest old.number k value new.forest new.number
+    Makes (call.Read h c steps) old given new = Shows (sights_of order (entries old) (length (entries old)) steps.items) given × (new ≡ old)
+    Makes (call.Edit h c steps) old given new = (sights : Vec (Seen K V) Global) × (given ≡ answer.Script sights) × Edits most order steps.items sights.items old new
+    Makes (call.Range h c lo hi ends) old given new = Shows (all_taken (entries_between order lo hi (entries old)) ends.items) given × (new ≡ old)
+    Makes other old given new = ⊥

@@ -1,0 +1,247 @@
+//! One call, and the tests before it.
+ghost use Rattle.bforest.specs.Forest.{IsLive, list_of};
+ghost use Rattle.bforest_calls.specs.Compared.{IsComparing, Makes};
+ghost use Rattle.bforest_calls.specs.Machine.{AsksRoom, Live, Refuses, Step};
+ghost use Rattle.bforest_calls.specs.declared.call.Call.TheVariants as call;
+ghost use Rattle.bforest_nodes.specs.Entries.{IsIncreasing};
+ghost use Rattle.std.specs.Prelude.{IfOk, IfSome, None, OnErr, false, length, map, ◌<◌, ◌≡◌, ℕ};
+
+use crate::call::{Answer, Call};
+use crate::collection::Collection;
+use bforest::Comparator;
+use std::alloc::{AllocError, Global};
+
+/// Makes one call, on maps or on sets. Handles and orders may be any: the call tests them. Room for its answer is taken before anything
+/// changes.
+///
+/// # Errors
+///
+/// `AllocError` where memory for an answer that is a list was refused: then nothing has changed.
+pub fn make<K: Copy, V: Copy, C: Comparator<K>, T: Collection<K, V>>(
+    alloc: Global,
+    call: &Call<K, V>,
+    comps: &[C],
+    handles: &mut [T],
+    forest: &mut T::Forest,
+) -> Result<Answer<K, V>, AllocError>
+    requires ready { T.ready }
+    ensures step { IfOk result (λ given. Step T.most T.READS (map C.order comps.now)
+        (record { forest = T.trees forest.old; handles = T.numbers handles.old }) call.now given
+        (record { forest = T.trees forest.new; handles = T.numbers handles.new })) }
+    ensures room { OnErr result (AsksRoom call.now) }
+    ensures err_forest { OnErr result (forest.new ≡ forest.old) }
+    ensures err_handles { OnErr result (handles.new ≡ handles.old) }
+{
+    match call {
+        Call::Get { h, c, .. }
+        | Call::GetOrLess { h, c, .. }
+        | Call::Insert { h, c, .. }
+        | Call::Remove { h, c, .. }
+        | Call::Edit { h, c, .. }
+        | Call::Range { h, c, .. } => compare(alloc, call, *h, *c, comps, handles, forest),
+        Call::Read { h, c, .. } => {
+            if T::READS {
+                compare(alloc, call, *h, *c, comps, handles, forest)
+            } else {
+                Ok(lacks(*h, *c, comps, handles))
+            }
+        }
+        Call::Retain { h, c, keys, put } => Ok(retain(*h, *c, keys, *put, comps, handles, forest)),
+        Call::Clear { h } => Ok(clear(*h, handles, forest)),
+        Call::Iter { h } => iter(alloc, *h, handles, forest),
+        Call::Alias { from, to } => Ok(alias(*from, *to, handles)),
+        Call::ForestClear => {
+            T::clear_all(forest);
+            Ok(Answer::Done)
+        }
+    }
+}
+
+/// The answer to a call on handle `h` that is not made: the index is out of range, or the handle is not live.
+fn unnamed<K: Copy, V: Copy, T: Collection<K, V>>(
+    h: usize,
+    handles: &[T],
+    forest: &T::Forest,
+) -> Option<Answer<K, V>>
+    requires ready { T.ready }
+    ensures made { result ≡ None → (h < length (T.numbers handles.now))
+        × Live (record { forest = T.trees forest.now; handles = T.numbers handles.now }) h }
+    ensures refused { IfSome result (Refuses (h < length (T.numbers handles.now))
+        (Live (record { forest = T.trees forest.now; handles = T.numbers handles.now }) h) (Unit {0})) }
+{
+    if h >= handles.len() {
+        return Some(Answer::NoIndex);
+    }
+    if !handles[h].is_live(forest) {
+        return Some(Answer::Dead);
+    }
+    None
+}
+
+/// Makes a call on handle `h` that compares keys by comparator `c`.
+fn compare<K: Copy, V: Copy, C: Comparator<K>, T: Collection<K, V>>(
+    alloc: Global,
+    call: &Call<K, V>,
+    h: usize,
+    c: usize,
+    comps: &[C],
+    handles: &mut [T],
+    forest: &mut T::Forest,
+) -> Result<Answer<K, V>, AllocError>
+    requires ready { T.ready }
+    requires compares { IsComparing T.READS h c call.now }
+    ensures step { IfOk result (λ given. Step T.most T.READS (map C.order comps.now)
+        (record { forest = T.trees forest.old; handles = T.numbers handles.old }) call.now given
+        (record { forest = T.trees forest.new; handles = T.numbers handles.new })) }
+    ensures room { OnErr result (AsksRoom call.now) }
+    ensures err_forest { OnErr result (forest.new ≡ forest.old) }
+    ensures err_handles { OnErr result (handles.new ≡ handles.old) }
+{
+    if c >= comps.len() {
+        return Ok(Answer::NoIndex);
+    }
+    if let Some(given) = unnamed(h, handles, forest) {
+        return Ok(given);
+    }
+    if !handles[h].increases(forest, &comps[c]) {
+        return Ok(Answer::Unordered);
+    }
+    let given = compare_in(alloc, call, &mut handles[h], forest, &comps[c])?;
+    Ok(given)
+}
+
+/// Makes a call that compares keys on its handle, which is live and whose list increases.
+fn compare_in<K: Copy, V: Copy, C: Comparator<K>, T: Collection<K, V>>(
+    alloc: Global,
+    call: &Call<K, V>,
+    handle: &mut T,
+    forest: &mut T::Forest,
+    comp: &C,
+) -> Result<Answer<K, V>, AllocError>
+    requires ready { T.ready }
+    requires compares { (h : ℕ) × (c : ℕ) × IsComparing T.READS h c call.now }
+    requires live { IsLive (T.trees forest.old) (T.number handle.old) }
+    requires increasing { IsIncreasing (C.order comp.now) (list_of (T.trees forest.old) (T.number handle.old)) }
+    ensures makes { IfOk result (λ given. Makes T.most (C.order comp.now) call.now
+        (record { forest = T.trees forest.old; number = T.number handle.old }) given
+        (record { forest = T.trees forest.new; number = T.number handle.new })) }
+    ensures room { OnErr result (AsksRoom call.now) }
+    ensures err_forest { OnErr result (forest.new ≡ forest.old) }
+    ensures err_handle { OnErr result (handle.new ≡ handle.old) }
+{
+    match call {
+        Call::Get { k, .. } => Ok(Answer::Value(handle.get(*k, forest, comp))),
+        Call::GetOrLess { k, .. } => Ok(Answer::Pair(handle.get_or_less(*k, forest, comp))),
+        Call::Insert { k, v, .. } => Ok(Answer::Put(handle.insert(*k, *v, forest, comp))),
+        Call::Remove { k, .. } => Ok(Answer::Value(handle.remove(*k, forest, comp))),
+        Call::Read { steps, .. } => {
+            let sights = handle.read(alloc, steps, forest, comp)?;
+            Ok(Answer::Script(sights))
+        }
+        Call::Edit { steps, .. } => {
+            let sights = handle.edit(alloc, steps, forest, comp)?;
+            Ok(Answer::Script(sights))
+        }
+        Call::Range { lo, hi, ends, .. } => {
+            let sights = handle.range(alloc, (*lo, *hi), ends, forest, comp)?;
+            Ok(Answer::Script(sights))
+        }
+        Call::Retain { .. }
+        | Call::Clear { .. }
+        | Call::Iter { .. }
+        | Call::Alias { .. }
+        | Call::ForestClear => unreachable!(),
+    }
+}
+
+/// The answer to a reading cursor that is not offered.
+fn lacks<K: Copy, V: Copy, C: Comparator<K>, T: Collection<K, V>>(
+    h: usize,
+    c: usize,
+    comps: &[C],
+    handles: &[T],
+) -> Answer<K, V>
+    ensures { (trees : _) (steps : _) → Step T.most false (map C.order comps.now)
+        (record { forest = trees; handles = T.numbers handles.now }) (call.Read h c steps) result
+        (record { forest = trees; handles = T.numbers handles.now }) }
+{
+    if h >= handles.len() || c >= comps.len() {
+        return Answer::NoIndex;
+    }
+    Answer::NotOffered
+}
+
+fn retain<K: Copy, V: Copy, C: Comparator<K>, T: Collection<K, V>>(
+    h: usize,
+    c: usize,
+    keys: &Vec<K>,
+    put: Option<V>,
+    comps: &[C],
+    handles: &mut [T],
+    forest: &mut T::Forest,
+) -> Answer<K, V>
+    requires ready { T.ready }
+    ensures { Step T.most T.READS (map C.order comps.now)
+        (record { forest = T.trees forest.old; handles = T.numbers handles.old }) (call.Retain h c keys.now put)
+        result (record { forest = T.trees forest.new; handles = T.numbers handles.new }) }
+{
+    if c >= comps.len() {
+        return Answer::NoIndex;
+    }
+    if let Some(given) = unnamed(h, handles, forest) {
+        return given;
+    }
+    handles[h].retain(keys, put, forest, &comps[c]);
+    Answer::Done
+}
+
+fn clear<K: Copy, V: Copy, T: Collection<K, V>>(
+    h: usize,
+    handles: &mut [T],
+    forest: &mut T::Forest,
+) -> Answer<K, V>
+    requires ready { T.ready }
+    ensures { (orders : _) → Step T.most T.READS orders
+        (record { forest = T.trees forest.old; handles = T.numbers handles.old }) (call.Clear h) result
+        (record { forest = T.trees forest.new; handles = T.numbers handles.new }) }
+{
+    if let Some(given) = unnamed(h, handles, forest) {
+        return given;
+    }
+    handles[h].clear(forest);
+    Answer::Done
+}
+
+fn iter<K: Copy, V: Copy, T: Collection<K, V>>(
+    alloc: Global,
+    h: usize,
+    handles: &[T],
+    forest: &T::Forest,
+) -> Result<Answer<K, V>, AllocError>
+    requires ready { T.ready }
+    ensures { (orders : _) → IfOk result (λ given. Step T.most T.READS orders
+        (record { forest = T.trees forest.now; handles = T.numbers handles.now }) (call.Iter h) given
+        (record { forest = T.trees forest.now; handles = T.numbers handles.now })) }
+{
+    if let Some(given) = unnamed(h, handles, forest) {
+        return Ok(given);
+    }
+    let pairs = handles[h].entries(alloc, forest)?;
+    Ok(Answer::Pairs(pairs))
+}
+
+fn alias<K: Copy, V: Copy, T: Collection<K, V>>(
+    from: usize,
+    to: usize,
+    handles: &mut [T],
+) -> Answer<K, V>
+    ensures { (orders : _) (trees : _) → Step T.most T.READS orders
+        (record { forest = trees; handles = T.numbers handles.old }) (call.Alias from to) result
+        (record { forest = trees; handles = T.numbers handles.new }) }
+{
+    if from >= handles.len() || to >= handles.len() {
+        return Answer::NoIndex;
+    }
+    handles[to] = handles[from].alias();
+    Answer::Done
+}
