@@ -19,7 +19,8 @@ module _ {K V C : Type 0} (order : C → K → K → Ordering) (old : MapCursorM
 
   -- a step that changes the tree
   pub map-acts : (new : MapCursorMut K V C) (p : ℕ) (step : Act K V) (sight : Seen K V)
-      → Acts 7 (order (map.comparator old)) (held old) (map.spot old) step sight (held new) p → map.Goes order old new p → ActsBy 7 (map_view order) old step sight new
+      → Acts 7 (order (map.comparator old)) (held old) (map.spot old) step sight (held new) p → map.Goes order old new p
+      → ActsBy 7 (map_view order) old step sight new
   map-acts new p step sight a m = record {
     acts = rw m.spot a;
     order = ap order m.comparator;
@@ -29,12 +30,15 @@ module _ {K V C : Type 0} (order : C → K → K → Ordering) (old : MapCursorM
 
   -- a step that moves the cursor
   pub map-moves : (new : MapCursorMut K V C) (step : Look K) (sight : Seen K V)
-      → sight ≡ sight_of (order (map.comparator old)) (map.entries old) (map.spot old) step → map.Moves order old new (place_after (order (map.comparator old)) (map.entries old) (map.spot old) step)
-      → Looks 7 (order (map.comparator old)) (held old) (map.spot old) step sight (held new) (place_after (order (map.comparator old)) (map.entries old) (map.spot old) step)
+      → sight ≡ sight_of (order (map.comparator old)) (map.entries old) (map.spot old) step
+      → map.Moves order old new (place_after (order (map.comparator old)) (map.entries old) (map.spot old) step)
+      → Looks 7 (order (map.comparator old)) (held old) (map.spot old) step sight (held new)
+      (place_after (order (map.comparator old)) (map.entries old) (map.spot old) step)
   map-moves new step sight is m = (is, (λ j. record { forest = m.forest j; number = m.map j }), refl)
 
   -- a step that leaves the cursor as it is
-  pub map-stays : (step : Act K V) (sight : Seen K V) → Acts 7 (order (map.comparator old)) (held old) (map.spot old) step sight (held old) (map.spot old) → ActsBy 7 (map_view order) old step sight old
+  pub map-stays : (step : Act K V) (sight : Seen K V) → Acts 7 (order (map.comparator old)) (held old) (map.spot old) step sight (held old) (map.spot old)
+      → ActsBy 7 (map_view order) old step sight old
   map-stays step sight a = record { acts = a; order = refl; handle_loan = refl; forest_loan = refl }
 
 module _ {K C : Type 0} (order : C → K → K → Ordering) (old : SetCursor K C) where
@@ -42,7 +46,8 @@ module _ {K C : Type 0} (order : C → K → K → Ordering) (old : SetCursor K 
   kept c = record { forest = set.forest_now c; number = set.set_now c }
 
   pub set-acts : (new : SetCursor K C) (p : ℕ) (step : Act K (Unit {0})) (sight : Seen K (Unit {0}))
-      → Acts 15 (order (set.comparator old)) (kept old) (set.spot old) step sight (kept new) p → set.Goes order old new p → ActsBy 15 (set_view order) old step sight new
+      → Acts 15 (order (set.comparator old)) (kept old) (set.spot old) step sight (kept new) p → set.Goes order old new p
+      → ActsBy 15 (set_view order) old step sight new
   set-acts new p step sight a m = record {
     acts = rw m.spot a;
     order = ap order m.comparator;
@@ -50,7 +55,8 @@ module _ {K C : Type 0} (order : C → K → K → Ordering) (old : SetCursor K 
     forest_loan = m.forest_loan;
   }
 
-  pub set-stays : (step : Act K (Unit {0})) (sight : Seen K (Unit {0})) → Acts 15 (order (set.comparator old)) (kept old) (set.spot old) step sight (kept old) (set.spot old) → ActsBy 15 (set_view order) old step sight old
+  pub set-stays : (step : Act K (Unit {0})) (sight : Seen K (Unit {0}))
+      → Acts 15 (order (set.comparator old)) (kept old) (set.spot old) step sight (kept old) (set.spot old) → ActsBy 15 (set_view order) old step sight old
   set-stays step sight a = record { acts = a; order = refl; handle_loan = refl; forest_loan = refl }
 
 -- the flag for an empty list is whether the list has no first entry

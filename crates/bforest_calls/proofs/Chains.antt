@@ -32,7 +32,8 @@ module _ {A S Y : Type 0} (goes : S → A → Y → S → Type 0) where
       (subst (λ ss. Chain goes old ss (sights ++ sight ∷ []) new) (ap (λ s. take i steps ++ s ∷ []) is ∙ sym (take_more steps i step within))
       (chain-more old (take i steps) sights mid step sight new h next))
 
-  pub chain-whole : (old : S) (steps : List A) (i : ℕ) (sights : List Y) (new : S) → Chain goes old (take i steps) sights new → length steps ≤ i → Chain goes old steps sights new
+  pub chain-whole : (old : S) (steps : List A) (i : ℕ) (sights : List Y) (new : S) → Chain goes old (take i steps) sights new → length steps ≤ i
+      → Chain goes old steps sights new
   chain-whole old steps i sights new h end = subst (λ ss. Chain goes old ss sights new) (take_all i steps end) h
 
 -- the steps of a reading cursor
@@ -41,7 +42,8 @@ pub looks-of : {K V C : Type 0} (order : C → K → K → Ordering) (old : Curs
 looks-of order old [] [] new h = refl
 looks-of order old (s ∷ steps) (t ∷ sights) new h =
     ap (λ x. x ∷ sights) h.1.0
-    ∙ ap (λ l. sight_of (order old.comparator) old.entries old.spot s ∷ l) (looks-of order h.0 steps sights new h.2 ∙ ap (λ z. sights_of (order z.comparator) z.entries z.spot steps) h.1.1)
+    ∙ ap (λ l. sight_of (order old.comparator) old.entries old.spot s ∷ l) (looks-of order h.0 steps sights new h.2
+    ∙ ap (λ z. sights_of (order z.comparator) z.entries z.spot steps) h.1.1)
 looks-of order old [] (t ∷ sights) new h = absurd h
 looks-of order old (s ∷ steps) [] new h = absurd h
 
@@ -62,7 +64,12 @@ pub record Scripted {S K V : Type 0} (most : ℕ) (view : View S K V) (old : S) 
 
 script-of : {S K V : Type 0} (most : ℕ) → most % 2 ≡ 1 → (view : View S K V) (old : S) (steps : List (Act K V)) (sights : List (Seen K V)) (new : S)
     → Chain (ActsBy most view) old steps sights new → Scripted most view old steps sights new
-script-of most odd view old [] [] new h = record { script = (ap view.held h, ap view.spot h); handle_loan = ap view.handle_loan h; forest_loan = ap view.forest_loan h }
+script-of most odd view old [] [] new h = record {
+  script = (ap view.held h, ap view.spot h);
+  handle_loan = ap view.handle_loan h;
+  forest_loan = ap
+      view.forest_loan h;
+}
 script-of most odd view old (s ∷ steps) (t ∷ sights) new h =
     let mid = h.0 in
     let a = h.1 in
@@ -82,7 +89,8 @@ script-of most odd view old [] (t ∷ sights) new h = absurd h
 script-of most odd view old (s ∷ steps) [] new h = absurd h
 
 -- a script from the end of a list is an edit, where it begins with what the handle held and ends with what it holds
-edits-of : {K V : Type 0} (most : ℕ) (order own : K → K → Ordering) (old first last new : Held K V) (p q : ℕ) (steps : List (Act K V)) (sights : List (Seen K V))
+edits-of : {K V : Type 0} (most : ℕ) (order own : K → K → Ordering) (old first last new : Held K V) (p q : ℕ) (steps : List (Act K V))
+    (sights : List (Seen K V))
     → Script most own first p steps sights last q → own ≡ order → first ≡ old → p ≡ length (entries old) → last ≡ new → Edits most order steps sights old new
 edits-of most order own old first last new p q steps sights h same begins place ends = (
   q,
@@ -93,7 +101,8 @@ edits-of most order own old first last new p q steps sights h same begins place 
 )
 
 -- all steps of a writing cursor, or none where memory for their answers was refused
-module _ {S K V E : Type 0} (most : ℕ) (odd : most % 2 ≡ 1) (view : View S K V) (first last : S) (steps : List (Act K V)) (r : Result (Vec (Seen K V) Global) E)
+module _ {S K V E : Type 0} (most : ℕ) (odd : most % 2 ≡ 1) (view : View S K V) (first last : S) (steps : List (Act K V))
+    (r : Result (Vec (Seen K V) Global) E)
     (chain : IfOk r (λ sights. Chain (ActsBy most view) first steps sights.items last)) (err : OnErr r (last ≡ first)) where
   pub loans-stay : (view.handle_loan last ≡ view.handle_loan first) × (view.forest_loan last ≡ view.forest_loan first)
   loans-stay = by r chain err
@@ -103,11 +112,20 @@ module _ {S K V E : Type 0} (most : ℕ) (odd : most % 2 ≡ 1) (view : View S K
       by (Ok sights) h e = let s = script-of most odd view first steps sights.items last h in (s.handle_loan, s.forest_loan)
       by (Err why) h e = (ap view.handle_loan e, ap view.forest_loan e)
 
-  module _ (old new : Held K V) (begins : view.held first ≡ old) (ends : view.held last ≡ new) where
-    pub all-edits : (order : K → K → Ordering) → view.order first ≡ order → view.spot first ≡ length (entries old) → IfOk r (λ sights. Edits most order steps sights.items old new)
+  module _ (old new : Held K V) (forest : (view.held first).forest ≡ old.forest) (number : (view.held first).number ≡ old.number)
+      (forest' : new.forest ≡ (view.held last).forest) (number' : new.number ≡ (view.held last).number) where
+    begins : view.held first ≡ old
+    begins j = record { forest = forest j; number = number j }
+
+    ends : view.held last ≡ new
+    ends j = record { forest = sym forest' j; number = sym number' j }
+
+    pub all-edits : (order : K → K → Ordering) → view.order first ≡ order → view.spot first ≡ length (entries old)
+        → IfOk r (λ sights. Edits most order steps sights.items old new)
     all-edits order same place = IfOk-weaker r _ _ (λ sights h.
         let s = script-of most odd view first steps sights.items last h in
-        edits-of most order (view.order first) old (view.held first) (view.held last) new (view.spot first) (view.spot last) steps sights.items s.script same begins place ends) chain
+        edits-of most order (view.order first) old (view.held first) (view.held last) new (view.spot first) (view.spot last)
+        steps sights.items s.script same begins place ends) chain
 
     pub none-edits : OnErr r (new ≡ old)
     none-edits = on_err_weaker r (λ e. sym ends ∙ ap view.held e ∙ begins) err

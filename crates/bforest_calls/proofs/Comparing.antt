@@ -24,14 +24,16 @@ module _ {K V : Type 0} (forest : Forest K V) {x n : Option ℕ} (is : x ≡ n) 
 
 module _ {K V : Type 0} where
   -- a call with more to test is refused where one test less refuses it
-  pub refuses-more : (there more live ordered : Type 0) (given : Answer K V) → more → Refuses there live (Unit {0}) given → Refuses (there × more) live ordered given
+  pub refuses-more : (there more live ordered : Type 0) (given : Answer K V) → more → Refuses there live (Unit {0}) given
+      → Refuses (there × more) live ordered given
   refuses-more there more live ordered answer.NoIndex m r = λ w. r w.0
   refuses-more there more live ordered answer.Dead m r = ((r.0, m), r.1)
   refuses-more there more live ordered answer.Unordered m r = absurd (r.2 tt)
   refuses-more there more live ordered given m r = absurd r
 
   -- what is made is told otherwise
-  then : {there live ordered M N : Type 0} {old new : State K V} (given : Answer K V) → (M → N) → Tests there live ordered old given new M → Tests there live ordered old given new N
+  then : {there live ordered M N : Type 0} {old new : State K V} (given : Answer K V) → (M → N) → Tests there live ordered old given new M
+      → Tests there live ordered old given new N
   then given f t = elim t [ inl w ↦ inl w | inr w ↦ inr (w.0, w.1, w.2, f w.3) ]
 
   -- a change of handle h that leaves it and its forest as they were changes nothing
@@ -50,17 +52,24 @@ module _ {K V : Type 0} (most : ℕ) (reads : Bool) (orders : Orders K) (h c : �
   at P x a b is-a is-b = subst (λ n. P n b) (sym is-a) (subst (λ n. P h n) (sym is-b) x)
 
   -- a call that compares keys, from what is made on its handle
-  pub step-of : (made : Call K V) → IsComparing reads h c made → Compares orders h c old given new (On h old new (λ held after. Makes most (order_at orders c) made held given after))
+  pub step-of : (made : Call K V) → IsComparing reads h c made
+      → Compares orders h c old given new (On h old new (λ held after. Makes most (order_at orders c) made held given after))
       → Step most reads orders old made given new
   step-of (call.Get a b k) is t = at (λ m n. Step most reads orders old (call.Get m n k) given new) (then given (looks h old new) t) a b is.0 is.1
   step-of (call.GetOrLess a b k) is t = at (λ m n. Step most reads orders old (call.GetOrLess m n k) given new) (then given (looks h old new) t) a b is.0 is.1
-  step-of (call.Insert a b k v) is t = at (λ m n. Step most reads orders old (call.Insert m n k v) given new) (then given (changes (λ result held after. Inserts most (order_at orders c) held.forest held.number k v result after.forest after.number) h old new) t) a b is.0 is.1
-  step-of (call.Remove a b k) is t = at (λ m n. Step most reads orders old (call.Remove m n k) given new) (then given (changes (λ value held after. Removes most (order_at orders c) held.forest held.number k value after.forest after.number) h old new) t) a b is.0 is.1
+  step-of (call.Insert a b k v) is t = at (λ m n. Step most reads orders old (call.Insert m n k v) given new)
+      (then given (changes (λ result held after. Inserts most (order_at orders c) held.forest held.number k v result after.forest after.number) h old new) t)
+      a b is.0 is.1
+  step-of (call.Remove a b k) is t = at (λ m n. Step most reads orders old (call.Remove m n k) given new)
+      (then given (changes (λ value held after. Removes most (order_at orders c) held.forest held.number k value after.forest after.number) h old new) t)
+      a b is.0 is.1
   step-of (call.Read a b steps) is t =
       subst (λ r. Step most r orders old (call.Read a b steps) given new) (sym is.2)
       (at (λ m n. Step most true orders old (call.Read m n steps) given new) (then given (looks h old new) t) a b is.0 is.1)
-  step-of (call.Edit a b steps) is t = at (λ m n. Step most reads orders old (call.Edit m n steps) given new) (then given (changes (λ sights held after. Edits most (order_at orders c) steps.items sights.items held after) h old new) t) a b is.0 is.1
-  step-of (call.Range a b lo hi ends) is t = at (λ m n. Step most reads orders old (call.Range m n lo hi ends) given new) (then given (looks h old new) t) a b is.0 is.1
+  step-of (call.Edit a b steps) is t = at (λ m n. Step most reads orders old (call.Edit m n steps) given new)
+      (then given (changes (λ sights held after. Edits most (order_at orders c) steps.items sights.items held after) h old new) t) a b is.0 is.1
+  step-of (call.Range a b lo hi ends) is t = at (λ m n. Step most reads orders old (call.Range m n lo hi ends) given new)
+      (then given (looks h old new) t) a b is.0 is.1
   step-of (call.Retain a b keys put) is t = absurd is
   step-of (call.Clear a) is t = absurd is
   step-of (call.Iter a) is t = absurd is

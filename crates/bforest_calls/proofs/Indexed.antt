@@ -15,12 +15,14 @@ order-within order comps c within = subst (λ n. c < n) (length-map comps order)
 pub order-there : {C K : Type 0} (order : C → K → K → Ordering) (comps : List C) (c : ℕ) → c < length comps → c < length (map order comps)
 order-there order comps c within = subst (λ n. c < n) (sym (length-map comps order)) within
 
-pub is_order : {C K : Type 0} (order : C → K → K → Ordering) (comps : List C) (c : ℕ) (x : C) → x ≡ get_or comps c x → c < length (map order comps) → order x ≡ order_at (map order comps) c
+pub is_order : {C K : Type 0} (order : C → K → K → Ordering) (comps : List C) (c : ℕ) (x : C) → x ≡ get_or comps c x → c < length (map order comps)
+    → order x ≡ order_at (map order comps) c
 is_order order comps c x is within = ap order is ∙ sym (get_or-map order comps c x (λ _ _. Equal) (order-within order comps c within))
 
 -- the number of the handle at an index, where the numbers of many handles are that of each
 module _ {T : Type 0} (number : T → Option ℕ) (numbers : List T → List (Option ℕ)) (counted : (xs : List T) → length (numbers xs) ≡ length xs)
-    (at : (xs : List T) (h : ℕ) (x : T) → h < length xs → x ≡ get_or xs h x → number x ≡ get_or (numbers xs) h None) (xs : List T) (h : ℕ) (there : h < length (numbers xs)) where
+    (at : (xs : List T) (h : ℕ) (x : T) → h < length xs → x ≡ get_or xs h x → number x ≡ get_or (numbers xs) h None) (xs : List T) (h : ℕ)
+    (there : h < length (numbers xs)) where
   pub handle-within : h < length xs
   handle-within = subst (λ n. h < n) (counted xs) there
 
@@ -31,7 +33,8 @@ module _ {T : Type 0} (number : T → Option ℕ) (numbers : List T → List (Op
   number-lent d = at xs h (get_or xs h d) handle-within (get_or_default xs h d (get_or xs h d) handle-within)
 
 -- a property of an order and of a number holds of equal ones
-pub at_both : {K : Type 0} {order own : K → K → Ordering} {n h : Option ℕ} (R : (K → K → Ordering) → Option ℕ → Type 0) → own ≡ order → h ≡ n → R own h → R order n
+pub at_both : {K : Type 0} {order own : K → K → Ordering} {n h : Option ℕ} (R : (K → K → Ordering) → Option ℕ → Type 0) → own ≡ order → h ≡ n → R own h
+    → R order n
 at_both {K} {order} {own} {n} {h} R e d r = subst (λ o. R o n) e (subst (R own) d r)
 
 module _ {K V : Type 0} where

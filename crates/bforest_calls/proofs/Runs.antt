@@ -9,8 +9,10 @@ use Rattle.std.proofs.lemmas.Option.{slice_get_read}
 use Rattle.std.specs.Result.{OnErr}
 
 module _ {K V : Type 0} (most : ℕ) (odd : most % 2 ≡ 1) (reads : Bool) where
-  run_more : (orders : Orders K) (old : State K V) (calls : List (Call K V)) (answers : List (Answer K V)) (mid : State K V) (call : Call K V) (given : Answer K V) (new : State K V)
-      → Run most reads orders old calls answers mid → Step most reads orders mid call given new → Run most reads orders old (calls ++ call ∷ []) (answers ++ given ∷ []) new
+  run_more : (orders : Orders K) (old : State K V) (calls : List (Call K V)) (answers : List (Answer K V)) (mid : State K V) (call : Call K V)
+      (given : Answer K V) (new : State K V)
+      → Run most reads orders old calls answers mid → Step most reads orders mid call given new
+      → Run most reads orders old (calls ++ call ∷ []) (answers ++ given ∷ []) new
   run_more orders old [] [] mid call given new h next =
       let first = subst (λ (m : State K V). Step most reads orders m call given new) h next in
       (new, first, refl, step-adds most odd reads orders old call given new first)
@@ -18,12 +20,15 @@ module _ {K V : Type 0} (most : ℕ) (odd : most % 2 ≡ 1) (reads : Bool) where
   run_more orders old [] (b ∷ answers) mid call given new h next = absurd h
   run_more orders old (d ∷ calls) [] mid call given new h next = absurd h
 
-  pub run_next : (orders : Orders K) (old : State K V) (calls : List (Call K V)) (i : ℕ) (answers : List (Answer K V)) (mid : State K V) (call : Call K V) (given : Answer K V) (new : State K V) (told : List (Answer K V))
-      → Run most reads orders old (take i calls) answers mid → Step most reads orders mid call given new → i < length calls → call ≡ get_or calls i call → told ≡ answers ++ given ∷ []
+  pub run_next : (orders : Orders K) (old : State K V) (calls : List (Call K V)) (i : ℕ) (answers : List (Answer K V)) (mid : State K V) (call : Call K V)
+      (given : Answer K V) (new : State K V) (told : List (Answer K V))
+      → Run most reads orders old (take i calls) answers mid → Step most reads orders mid call given new → i < length calls → call ≡ get_or calls i call
+      → told ≡ answers ++ given ∷ []
       → Run most reads orders old (take (i + 1) calls) told new
   run_next orders old calls i answers mid call given new told h next within is tells =
       subst (λ (ts : List (Answer K V)). Run most reads orders old (take (i + 1) calls) ts new) (sym tells)
-      (subst (λ (ss : List (Call K V)). Run most reads orders old ss (answers ++ given ∷ []) new) (ap (λ s. take i calls ++ s ∷ []) is ∙ sym (take_more calls i call within))
+      (subst (λ (ss : List (Call K V)). Run most reads orders old ss (answers ++ given ∷ []) new) (ap (λ s. take i calls ++ s ∷ []) is
+      ∙ sym (take_more calls i call within))
       (run_more orders old (take i calls) answers mid call given new h next))
 
   pub run_same : (orders : Orders K) (old : State K V) (calls : List (Call K V)) (answers : List (Answer K V)) (mid new : State K V)
@@ -36,7 +41,8 @@ module _ {K V : Type 0} (most : ℕ) (odd : most % 2 ≡ 1) (reads : Bool) where
   run_whole orders old calls i answers new h end = subst (λ (cs : List (Call K V)). Run most reads orders old cs answers new) (take_all i calls end) h
 
 -- a list may stop at a call of it that requests memory
-pub may-stop : {K V : Type 0} (calls : List (Call K V)) (i : ℕ) (call : Call K V) → i < length calls → call ≡ get_or calls i call → AsksRoom call → MayStopAt calls i
+pub may-stop : {K V : Type 0} (calls : List (Call K V)) (i : ℕ) (call : Call K V) → i < length calls → call ≡ get_or calls i call → AsksRoom call
+    → MayStopAt calls i
 may-stop calls i call within is asks positive = (call, slice_get_read calls (length calls) i call refl within is, asks)
 
 pub on_err_from : {T E P : Type 0} (r : Result T E) → P → OnErr r P

@@ -29,13 +29,16 @@ returns-clause-step g c =
     let there = order-there order comps c.args.c c.if-c-comps.false in
     let tested = number-lent t.number t.numbers laws.counted laws.at xs c.args.h passed.0 c.index-handles-h.result in
     let lent = number-lent t.number t.numbers laws.counted laws.at xs c.args.h passed.0 c.index-handles-h-2.result in
-    let new : State g.row.K.Denot g.row.V.Denot = record { forest = t.trees c.compare_in.new.forest; handles = t.numbers (slice_set xs c.args.h c.compare_in.new.handle) } in
+    let new : State g.row.K.Denot g.row.V.Denot = record
+    { forest = t.trees c.compare_in.new.forest; handles = t.numbers (slice_set xs c.args.h c.compare_in.new.handle) } in
     let after : Held g.row.K.Denot g.row.V.Denot = record { forest = t.trees c.compare_in.new.forest; number = t.number c.compare_in.new.handle } in
-    step-of t.most t.READS (map order comps) c.args.h c.args.c (record { forest = forest; handles = t.numbers xs }) c.in_ok-given.given new c.args.call.now c.requires.compares
+    step-of t.most t.READS (map order comps) c.args.h c.args.c (record { forest = forest; handles = t.numbers xs }) c.in_ok-given.given new c.args.call.now
+    c.requires.compares
     (inr (
       (passed.0, there),
       passed.1,
-      at_both (λ o n. IsIncreasing o (list_of forest n)) (is_order order comps c.args.c c.index-comps-c.result c.index-comps-c.is there) tested (c.increases.ensures.increasing.0 c.if-not-increases.false),
+      at_both (λ o n. IsIncreasing o (list_of forest n)) (is_order order comps c.args.c c.index-comps-c.result c.index-comps-c.is there) tested
+          (c.increases.ensures.increasing.0 c.if-not-increases.false),
       (
         t.number c.compare_in.new.handle,
         laws.written xs c.args.h c.compare_in.new.handle,

@@ -24,10 +24,23 @@ returns-in_ok-sights-in-Edit-clause-makes g c =
     let s = c.in_ok-sights-in-Edit in
     let old : Held g.row.K.Denot g.row.V.Denot = record { forest = t.trees c.args.forest.now; number = t.number c.args.handle.now } in
     let new : Held g.row.K.Denot g.row.V.Denot = record { forest = t.trees c.edit.new.forest; number = t.number c.edit.new.self } in
-    rw c.in-Edit.is (s.sights, refl, subst (λ steps. Edits t.most (g.C.Comparator.order c.args.comp.now) steps s.sights.items old new) c.deref-in-Edit.ensures.value s.ensures.edits)
+    rw c.in-Edit.is (
+      s.sights,
+      refl,
+      subst (λ steps. Edits t.most (g.C.Comparator.order c.args.comp.now) steps s.sights.items old new)
+          c.deref-in-Edit.ensures.value s.ensures.edits,
+    )
 
 pub returns-in_ok-sights-in-Range-clause-makes : goal.returns-in_ok-sights-in-Range-clause-makes
 returns-in_ok-sights-in-Range-clause-makes g c =
     let es = list_of (g.T.Collection.trees c.args.forest.now) (g.T.Collection.number c.args.handle.now) in
     let s = c.in_ok-sights-in-Range in
-    rw c.in-Range.is ((s.sights, refl, s.ensures.sights ∙ ap (all_taken (entries_between (g.C.Comparator.order c.args.comp.now) c.in-Range.lo c.in-Range.hi es)) c.deref-in-Range.ensures.value), refl)
+    rw c.in-Range.is (
+      (
+        s.sights,
+        refl,
+        s.ensures.sights
+            ∙ ap (all_taken (entries_between (g.C.Comparator.order c.args.comp.now) c.in-Range.lo c.in-Range.hi es)) c.deref-in-Range.ensures.value,
+      ),
+      refl,
+    )

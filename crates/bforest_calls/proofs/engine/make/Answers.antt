@@ -8,7 +8,8 @@ returns-else-READS-clause-step g c =
     let t = g.T.Collection in
     let state : State g.row.K.Denot g.row.V.Denot = record { forest = t.trees c.args.forest.now; handles = t.numbers c.args.handles.now } in
     let orders = map g.C.Comparator.order c.args.comps.now in
-    rw c.in-Read.is (subst (λ r. Step t.most r orders state (call.Read c.in-Read.h c.in-Read.c c.in-Read.steps) c.lacks.result state) (sym (sym c.READS.ensures ∙ c.if-READS.false)) (c.lacks.ensures state.forest c.in-Read.steps))
+    rw c.in-Read.is (subst (λ r. Step t.most r orders state (call.Read c.in-Read.h c.in-Read.c c.in-Read.steps) c.lacks.result state)
+    (sym (sym c.READS.ensures ∙ c.if-READS.false)) (c.lacks.ensures state.forest c.in-Read.steps))
 
 pub returns-in-Retain-clause-step : goal.returns-in-Retain-clause-step
 returns-in-Retain-clause-step g c = rw c.in-Retain.is c.retain.ensures

@@ -14,8 +14,10 @@ returns-in_err-given-clause-err g c =
     on_err_from c.from_residual-in_err-given.result (
       l.call-index,
       l.answers.items,
-      run_same t.most g.met.T.Collection.odd t.READS (map g.C.Comparator.order c.args.comps.now) (record { forest = t.trees c.args.forest.now; handles = t.numbers c.args.handles.now }) _ l.answers.items
-          (record { forest = t.trees l.forest; handles = t.numbers l.handles }) (record { forest = t.trees c.make.new.forest; handles = t.numbers c.make.new.handles })
+      run_same t.most g.met.T.Collection.odd t.READS (map g.C.Comparator.order c.args.comps.now)
+          (record { forest = t.trees c.args.forest.now; handles = t.numbers c.args.handles.now }) _ l.answers.items
+          (record { forest = t.trees l.forest; handles = t.numbers l.handles })
+          (record { forest = t.trees c.make.new.forest; handles = t.numbers c.make.new.handles })
           l.invariant.run (ap t.trees c.in_err-given.ensures.err_forest) (ap t.numbers c.in_err-given.ensures.err_handles),
       may-stop c.args.calls.now l.call-index c.call-item.result c.loop-call-test.true c.call-item.is c.in_err-given.ensures.room,
     )
@@ -25,9 +27,12 @@ loop-call-preserved g c =
     let t = g.T.Collection in
     let l = c.loop-call in
     record {
-      run = run_next t.most g.met.T.Collection.odd t.READS (map g.C.Comparator.order c.args.comps.now) (record { forest = t.trees c.args.forest.now; handles = t.numbers c.args.handles.now }) c.args.calls.now l.call-index l.answers.items
-          (record { forest = t.trees l.forest; handles = t.numbers l.handles }) c.call-item.result c.in_ok-given.given (record { forest = t.trees c.make.new.forest; handles = t.numbers c.make.new.handles }) c.push.new.self.items
-          l.invariant.run c.in_ok-given.ensures.step c.loop-call-test.true c.call-item.is (pushed (is_ok c.push.result) _ _ _ (ap is_ok c.unwrap.ensures) c.push.ensures.items);
+      run = run_next t.most g.met.T.Collection.odd t.READS (map g.C.Comparator.order c.args.comps.now)
+          (record { forest = t.trees c.args.forest.now; handles = t.numbers c.args.handles.now }) c.args.calls.now l.call-index l.answers.items
+          (record { forest = t.trees l.forest; handles = t.numbers l.handles }) c.call-item.result c.in_ok-given.given
+          (record { forest = t.trees c.make.new.forest; handles = t.numbers c.make.new.handles }) c.push.new.self.items
+          l.invariant.run c.in_ok-given.ensures.step c.loop-call-test.true c.call-item.is
+          (pushed (is_ok c.push.result) _ _ _ (ap is_ok c.unwrap.ensures) c.push.ensures.items);
       told = pushed (is_ok c.push.result) _ _ _ (ap is_ok c.unwrap.ensures) c.push.ensures.len ∙ ap (λ n. n + 1) l.invariant.told;
       room = room-stays (length c.args.calls.now) _ _ l.invariant.room c.push.ensures.capacity;
     }
@@ -36,5 +41,6 @@ pub returns-clause-run : goal.returns-clause-run
 returns-clause-run g c =
     let t = g.T.Collection in
     let l = c.loop-call in
-    run_whole t.most g.met.T.Collection.odd t.READS (map g.C.Comparator.order c.args.comps.now) (record { forest = t.trees c.args.forest.now; handles = t.numbers c.args.handles.now }) c.args.calls.now l.call-index l.answers.items
+    run_whole t.most g.met.T.Collection.odd t.READS (map g.C.Comparator.order c.args.comps.now)
+    (record { forest = t.trees c.args.forest.now; handles = t.numbers c.args.handles.now }) c.args.calls.now l.call-index l.answers.items
     (record { forest = t.trees l.forest; handles = t.numbers l.handles }) l.invariant.run c.loop-call-test.false

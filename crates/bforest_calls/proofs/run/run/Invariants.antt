@@ -7,7 +7,8 @@ abbrev pub invariant-loop-call : goal.invariant-loop-call
 invariant-loop-call g l =
     let t = g.T.Collection in
     record {
-      run : Run t.most t.READS (map g.C.Comparator.order l.comps) (record { forest = t.trees l.fn.forest; handles = t.numbers l.fn.handles }) (take l.call-index l.calls) l.answers.items (record { forest = t.trees l.forest; handles = t.numbers l.handles });
+      run : Run t.most t.READS (map g.C.Comparator.order l.comps) (record { forest = t.trees l.fn.forest; handles = t.numbers l.fn.handles })
+          (take l.call-index l.calls) l.answers.items (record { forest = t.trees l.forest; handles = t.numbers l.handles });
       told : vec_len l.answers ≡ l.call-index;
       room : length l.calls ≤ vec_capacity l.answers;
     }

@@ -8,7 +8,8 @@ loop-step-preserved g c =
     let l = c.loop-step in
     let e = c.step-sight.ensures in
     record {
-      chain = chain-next g.S.Steps.goes c.args.stepper.now c.args.steps.now l.step-index l.sights.items l.stepper c.step-item.result c.step-sight.result c.step-sight.new.self c.push.new.self.items
+      chain = chain-next g.S.Steps.goes c.args.stepper.now c.args.steps.now l.step-index l.sights.items l.stepper c.step-item.result c.step-sight.result
+          c.step-sight.new.self c.push.new.self.items
           l.invariant.chain e.goes c.loop-step-test.true c.step-item.is (pushed (is_ok c.push.result) _ _ _ (ap is_ok c.unwrap.ensures) c.push.ensures.items);
       ready = e.ready;
       told = pushed (is_ok c.push.result) _ _ _ (ap is_ok c.unwrap.ensures) c.push.ensures.len ∙ ap (λ n. n + 1) l.invariant.told;

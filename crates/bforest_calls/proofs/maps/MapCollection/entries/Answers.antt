@@ -3,4 +3,7 @@ use Rattle.std.proofs.lemmas.Iterator.Consumers.{YieldsList-from_first}
 use Rattle.std.proofs.lemmas.Iterator.{items_from_collect}
 
 pub returns : goal.returns
-returns g c = record { entries = items_from_collect c.collect.result c.collect.ensures.ran (YieldsList-from_first (λ x. x) (λ es. es) _ c.iter.ensures.entries) }
+returns g c = record {
+  entries = items_from_collect c.collect.result c.collect.ensures.ran
+      (YieldsList-from_first (λ x. x) (λ es. es) _ c.iter.ensures.entries);
+}

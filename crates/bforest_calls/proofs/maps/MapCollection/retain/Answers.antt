@@ -5,5 +5,6 @@ use Rattle.std.proofs.Common.{rules}
 
 pub returns : goal.returns
 returns g c = record {
-  retained = filters-plain _ (KeepsIf (g.C.Comparator.order c.args.comp.now) c.args.keys.now c.args.put) 7 _ (λ k v b w f' t. search rules) _ _ _ _ c.retain.ensures;
+  retained = filters-plain _ (KeepsIf (g.C.Comparator.order c.args.comp.now) c.args.keys.now c.args.put) 7 _ (λ k v b w f' t. search rules) _ _ _ _
+      c.retain.ensures;
 }

@@ -23,7 +23,8 @@ pub returns-in-Goto-clause-goes : goal.returns-in-Goto-clause-goes
 returns-in-Goto-clause-goes g c = rw c.in-Goto.is (ap seen.Value c.goto.ensures.value, c.goto.ensures.moves)
 
 pub returns-in-First-clause-goes : goal.returns-in-First-clause-goes
-returns-in-First-clause-goes g c = rw c.in-First.is (ap seen.Pair (c.entry.ensures.entry ∙ ap (λ z. slice_get z.entries z.spot) c.goto_first-value.ensures.moves), c.goto_first-value.ensures.moves)
+returns-in-First-clause-goes g c = rw c.in-First.is
+    (ap seen.Pair (c.entry.ensures.entry ∙ ap (λ z. slice_get z.entries z.spot) c.goto_first-value.ensures.moves), c.goto_first-value.ensures.moves)
 
 pub returns-in-End-clause-goes : goal.returns-in-End-clause-goes
 returns-in-End-clause-goes g c = rw c.in-End.is (refl, c.goto_end.ensures.moves)

@@ -11,4 +11,8 @@ returns-in-Front-clause-goes g c =
 pub returns-in-Back-clause-goes : goal.returns-in-Back-clause-goes
 returns-in-Back-clause-goes g c =
     let s = c.next_back.ensures.steps in
-    rw c.in-Back.is (ap seen.Pair (taken-last c.args.self.now c.next_back.new.self c.next_back.result s), left-last c.args.self.now c.next_back.new.self c.next_back.result s)
+    rw c.in-Back.is (
+      ap seen.Pair (taken-last c.args.self.now c.next_back.new.self c.next_back.result s),
+      left-last c.args.self.now c.next_back.new.self
+          c.next_back.result s,
+    )

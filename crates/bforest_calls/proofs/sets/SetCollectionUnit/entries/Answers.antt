@@ -7,12 +7,14 @@ use Rattle.std.proofs.Common.{ap, rules, ◌++◌, ◌∙◌}
 pub loop-key-init : goal.loop-key-init
 loop-key-init g c = record {
   left = ap (λ es. es ++ with_each c.into_iter-key-iterator.result) c.new-entries.ensures.items
-      ∙ ap with_each (c.into_iter-key-iterator.ensures.into_iter_gives ∙ c.iter-key-items.ensures.keys) ∙ whole-each (list_of c.args.forest.now c.args.self.now);
+      ∙ ap with_each (c.into_iter-key-iterator.ensures.into_iter_gives ∙ c.iter-key-items.ensures.keys)
+      ∙ whole-each (list_of c.args.forest.now c.args.self.now);
   ready = c.iter-key-items.ensures.ready;
 }
 
 pub loop-key-preserved : goal.loop-key-preserved
 loop-key-preserved g c = record {
-  left = listed-next c.loop-key.entries.items c.push.new.self.items c.loop-key.key-iterator c.next.new.self c.in-Some.key _ (search rules) c.in-Some.ensures.steps c.loop-key.invariant.left;
+  left = listed-next c.loop-key.entries.items c.push.new.self.items c.loop-key.key-iterator c.next.new.self c.in-Some.key _ (search rules)
+      c.in-Some.ensures.steps c.loop-key.invariant.left;
   ready = c.loop-key.invariant.ready;
 }

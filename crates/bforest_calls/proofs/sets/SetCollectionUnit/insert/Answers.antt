@@ -4,5 +4,6 @@ use Rattle.std.proofs.Common.{subst, sym}
 
 pub returns : goal.returns
 returns g c = record {
-  inserts = subst (λ r. Inserts 15 (g.C.Comparator.order c.args.comp.now) c.args.forest.now c.args.self.now c.args.key tt r c.insert.new.forest c.insert.new.self) (sym c.old_unit.ensures) c.insert.ensures;
+  inserts = subst (λ r. Inserts 15 (g.C.Comparator.order c.args.comp.now) c.args.forest.now c.args.self.now c.args.key tt r c.insert.new.forest
+      c.insert.new.self) (sym c.old_unit.ensures) c.insert.ensures;
 }

@@ -6,9 +6,17 @@ use Rattle.std.proofs.Common.{ap, ◌∙◌}
 pub returns-in-Front-clause-goes : goal.returns-in-Front-clause-goes
 returns-in-Front-clause-goes g c =
     let s = c.next.ensures.steps in
-    rw c.in-Front.is (ap seen.Pair (c.with_unit.ensures ∙ each-first c.args.self.now c.next.new.self c.next.result s), each-rest c.args.self.now c.next.new.self c.next.result s)
+    rw c.in-Front.is (
+      ap seen.Pair (c.with_unit.ensures ∙ each-first c.args.self.now c.next.new.self c.next.result s),
+      each-rest c.args.self.now
+          c.next.new.self c.next.result s,
+    )
 
 pub returns-in-Back-clause-goes : goal.returns-in-Back-clause-goes
 returns-in-Back-clause-goes g c =
     let s = c.next_back.ensures.steps in
-    rw c.in-Back.is (ap seen.Pair (c.with_unit-in-Back.ensures ∙ each-last c.args.self.now c.next_back.new.self c.next_back.result s), each-init c.args.self.now c.next_back.new.self c.next_back.result s)
+    rw c.in-Back.is (
+      ap seen.Pair (c.with_unit-in-Back.ensures ∙ each-last c.args.self.now c.next_back.new.self c.next_back.result s),
+      each-init
+          c.args.self.now c.next_back.new.self c.next_back.result s,
+    )
