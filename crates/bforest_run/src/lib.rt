@@ -1,7 +1,7 @@
 //! Calls on a forest as lines of text, and their answers as lines of text.
 //!
-//! [`run_text`] is the engine of the program `forest_run`. docs/RULES.md has the lines. Each line that is a call is made by one call of
-//! [`run_map`] or [`run_set`], which serve callers that have lists of calls as values too.
+//! [`run_text`] is the engine of the program `forest_run`. docs/RULES.md has the lines. Each line that is a call is made by
+//! [`bforest_calls::make`]; [`run_map`] and [`run_set`] serve callers that have lists of calls as values.
 #![tactic(auto)]
 
 mod book_line;

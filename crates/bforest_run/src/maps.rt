@@ -14,7 +14,7 @@ use crate::shown::{Counts, Truth};
 use crate::shown_map::Shown;
 use crate::word::HANDLE_COUNT;
 use bforest::{Map, MapForest};
-use bforest_calls::{Answer, Call, run_map};
+use bforest_calls::{Answer, Call, make};
 use std::alloc::{AllocError, Global};
 use std::array;
 use std::marker::Model;
@@ -61,8 +61,7 @@ impl Maps {
     fn make(&mut self, alloc: Global, call: Call<u32, u32>) -> Result<Answer<u32, u32>, AllocError>
         ensures { IfOk result (λ given. Step 7 true all_orders self.old call given self.new) }
     {
-        let mut answers = run_map(alloc, &[call], &ORDERS, &mut self.handles, &mut self.forest)?;
-        Ok(answers.pop().unwrap())
+        make(alloc, &call, &ORDERS, &mut self.handles, &mut self.forest)
     }
 
     /// Whether a handle is live.
