@@ -16,12 +16,12 @@ not_so full none h = λ a. false≢true (sym none ∙ h.1 a)
 
 module _ {K V : Type 0} where
   -- the need at a full node, and at one with room
-  spot_full : (t : Table K V) (ms js : List ℕ) (up size : ℕ) (rows : List (List (LevelNode K ℕ))) (list : List (K × ℕ)) (p : ℕ) → (f : Spot t.nodes ms js up size rows list p) → length f.entries ≡ 8 → need_above (Some p) (map sizes rows) ≡ suc (need_above (Some (length f.before)) (map sizes f.rest))
-  spot_full t ms js up size rows list p f eight =
+  spot_full : (t : Table K V) (ms js : List ℕ) (up : ℕ) {size : ℕ} {rows : List (List (LevelNode K ℕ))} {list : List (K × ℕ)} {p : ℕ} → (f : Spot t.nodes ms js up size rows list p) → length f.entries ≡ 8 → need_above (Some p) (map sizes rows) ≡ suc (need_above (Some (length f.before)) (map sizes f.rest))
+  spot_full t ms js up f eight =
       rw (f.rows_are, f.row_is, f.place_is, sizes-append f.before (node (get_or ms up 0) f.entries ∷ f.after), gain_full f.before (length f.entries) (get_or js up 0) (sizes f.after) f.within eight) refl
 
-  spot_room : (t : Table K V) (ms js : List ℕ) (up size : ℕ) (rows : List (List (LevelNode K ℕ))) (list : List (K × ℕ)) (p : ℕ) → (f : Spot t.nodes ms js up size rows list p) → length f.entries < 8 → need_above (Some p) (map sizes rows) ≡ 1
-  spot_room t ms js up size rows list p f room =
+  spot_room : (t : Table K V) (ms js : List ℕ) (up : ℕ) {size : ℕ} {rows : List (List (LevelNode K ℕ))} {list : List (K × ℕ)} {p : ℕ} → (f : Spot t.nodes ms js up size rows list p) → length f.entries < 8 → need_above (Some p) (map sizes rows) ≡ 1
+  spot_room t ms js up f room =
       rw (f.rows_are, f.row_is, f.place_is, sizes-append f.before (node (get_or ms up 0) f.entries ∷ f.after), gain_room f.before (length f.entries) (get_or js up 0) (sizes f.after) f.within room) refl
 
   -- the need of a full leaf
@@ -75,10 +75,10 @@ module _ {K V : Type 0} where
 
         pub level_full : full ≡ true → (more : ℕ) → ((rows : List (List (LevelNode K ℕ))) (list : List (K × ℕ)) (at : ℕ) → Above t ms js (up + 1) size rows list at → more ≡ need_above (Some at) (map sizes rows)) → more + 1 ≡ need_above (Some p) (map sizes rows)
         unfolding level_above
-        level_full is more needs = omega (arith, spot_full t ms js up size rows list p level (tells.0 is), needs level_above.0 level_above.1 level_above.2 level_above.3)
+        level_full is more needs = omega (arith, spot_full t ms js up level (tells.0 is), needs level_above.0 level_above.1 level_above.2 level_above.3)
 
         pub level_room : full ≡ false → 1 ≡ need_above (Some p) (map sizes rows)
-        level_room none = sym (spot_room t ms js up size rows list p level (omega (arith, not_so full none tells, level.most_is)))
+        level_room none = sym (spot_room t ms js up level (omega (arith, not_so full none tells, level.most_is)))
 
   -- the leaf, and the test whether it is full
   module _ (most : ℕ) (t : Table K V) (ms js : List ℕ) (size : ℕ) (tree : Tree K V) (place : ℕ) (p : Placed most t ms js size tree place) where

@@ -47,7 +47,7 @@ module _ {K V : Type 0} {cmp : K → K → Ordering} (o : IsTotalOrder cmp) {lea
       let first : 0 ≡ place cmp (flat leaves) key = omega (arith, t.place_is, is, none) in
       ap (entry_before (flat leaves)) first
   in-front (suc i) is gone =
-      let low = place-le cmp o entries key in
+      let low = place-le o entries key in
       let there : suc (length (flat before) + i) ≡ place cmp (flat leaves) key = omega (arith, t.place_is, is) in
       sym (entry-in i (omega (arith, low, is))) ∙ ap (entry_before (flat leaves)) there
 

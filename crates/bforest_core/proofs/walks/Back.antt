@@ -96,7 +96,7 @@ module _ {K V : Type 0} {n : ℕ} {table : Table K V} (union : IsUnion n table) 
         × IsLeafAt table root (place - 1) child
     sibling-before {next} {child} code parent grand height reads =
         let q = prev-code (spot-over union s) (other union s h.0) h.1 spot.parent (its union s h.0) in
-        (q.0, far-spot union s next _ (way-of q.1 next code height (λ low. sym parent) (λ low. s.grand_is low ∙ sym grand)), leaf-at union root s.root_is (prev-child (spot-over union s) (other union s h.0) h.1 spot.parent (its union s h.0) child reads))
+        (q.0, far-spot union s (way-of q.1 next code height (λ low. sym parent) (λ low. s.grand_is low ∙ sym grand)), leaf-at union root s.root_is (prev-child (spot-over union s) (other union s h.0) h.1 spot.parent (its union s h.0) child reads))
 
   module _ (first : HasPrev spot → ⊥) where
     digit-nought : 0 < spot.height → spot.code % 8 ≤ 0
@@ -139,7 +139,7 @@ module _ {K V : Type 0} {n : ℕ} {table : Table K V} (union : IsUnion n table) 
               × IsLeafAt table root (place - 1) leaf
           cousin-before {next} {leaf} code parent_is grand height found =
               let q = last-code (spot-over union s) (other union s some) (digit-nought some) on says in
-              (q.0, far-spot union s next _ (way-of q.1 next code height (λ low. sym parent_is) (λ low. sym grand)), leaf-at union root s.root_is (last-child (spot-over union s) (other union s some) (digit-nought some) on says leaf found))
+              (q.0, far-spot union s (way-of q.1 next code height (λ low. sym parent_is) (λ low. sym grand)), leaf-at union root s.root_is (last-child (spot-over union s) (other union s some) (digit-nought some) on says leaf found))
 
 -- what is said of the node before, to which a way from the root leads, of a spot
 pub far-before : {K V : Type 0} {n : ℕ} {table : Table K V} (union : IsUnion n table) (root : ℕ) (spot : Spot) (found : Option (Spot × ℕ))
@@ -149,4 +149,4 @@ pub far-before : {K V : Type 0} {n : ℕ} {table : Table K V} (union : IsUnion n
     IfSome found (λ f. (place : ℕ) → IsSpotAt table root spot place → (0 < place) × IsSpotAt table root f.0 (place - 1) × IsLeafAt table root (place - 1) f.1)
 far-before {K} {table = table} union root spot found says = if_some _ _ found (λ f far place s.
     let r = far s.numbers (tree_of table.nodes root).above (heads (tree_of table.nodes root).leaves) place (spot-over union s) in
-    (r.0, far-spot union s f.0 r.1 r.2, leaf-at union root s.root_is r.3)) says
+    (r.0, far-spot union s r.2, leaf-at union root s.root_is r.3)) says

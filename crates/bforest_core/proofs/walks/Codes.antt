@@ -109,9 +109,9 @@ module _ {K V : Type 0} (slots : List (Content K V)) (root code depth : ℕ) whe
     pub over : CodedOver slots root (code / 8) (depth - 1) (drop 1 numbers) rest (heads row) top
     pub low : length rest ≤ depth - 1
 
-  pub lowest : (numbers : List ℕ) (rows : List (List (LevelNode K ℕ))) (list : List (K × ℕ)) (place : ℕ) → CodedOver slots root code depth numbers rows list place → depth ≢ 0 → Lowest numbers rows list place
-  lowest numbers [] list place p some = absurd (some p.depth_is)
-  lowest numbers (row ∷ rest) list place p some =
+  pub lowest : {numbers : List ℕ} (rows : List (List (LevelNode K ℕ))) {list : List (K × ℕ)} {place : ℕ} → CodedOver slots root code depth numbers rows list place → depth ≢ 0 → Lowest numbers rows list place
+  lowest [] p some = absurd (some p.depth_is)
+  lowest {numbers = numbers} (row ∷ rest) p some =
       let at = p.coded.0 in
       record {
         row = row;
@@ -130,12 +130,12 @@ module _ {K V : Type 0} (slots : List (Content K V)) (root code depth : ℕ) whe
       }
 
   -- with no levels, the root
-  pub way-none : (numbers : List ℕ) (rows : List (List (LevelNode K ℕ))) (list : List (K × ℕ)) (place : ℕ) → CodedOver slots root code depth numbers rows list place → depth ≡ 0 → NumberAt list place root × (suc place ≡ length list)
-  way-none numbers [] [] place p none = absurd (omega (arith, p.stacked))
-  way-none numbers [] (x ∷ y ∷ list) place p none = absurd (omega (arith, p.stacked))
-  way-none numbers [] (x ∷ []) place p none =
+  pub way-none : {numbers : List ℕ} (rows : List (List (LevelNode K ℕ))) (list : List (K × ℕ)) {place : ℕ} → CodedOver slots root code depth numbers rows list place → depth ≡ 0 → NumberAt list place root × (suc place ≡ length list)
+  way-none [] [] p none = absurd (omega (arith, p.stacked))
+  way-none [] (x ∷ y ∷ list) p none = absurd (omega (arith, p.stacked))
+  way-none [] (x ∷ []) p none =
       ((x.0, ap (λ z. slice_get (x ∷ []) z) p.coded.1 ∙ ap (λ z. Some (x.0, z)) p.root_is), omega (arith, p.coded.1))
-  way-none numbers (row ∷ rest) list place p none = absurd (omega (arith, p.depth_is, none))
+  way-none (row ∷ rest) list p none = absurd (omega (arith, p.depth_is, none))
 
 -- a code, with one digit more
 pub digit-put : (above digit code : ℕ) → digit < 8 → code ≡ above * 8 + digit → (code % 8 ≡ digit) × (code / 8 ≡ above)
@@ -143,7 +143,7 @@ digit-put above digit code low is = (omega (arith, low, is), omega (arith, low, 
 
 module _ {K V : Type 0} {slots : List (Content K V)} {root code depth : ℕ} {numbers : List ℕ} {rows : List (List (LevelNode K ℕ))} {list : List (K × ℕ)} {place : ℕ} (p : CodedOver slots root code depth numbers rows list place) (some : depth ≢ 0) where
   abbrev pub here : Lowest slots root code depth numbers rows list place
-  here = lowest slots root code depth numbers rows list place p some
+  here = lowest slots root code depth rows p some
 
   -- what going on above asks
   pub above-asks : (numbers : List ℕ) × (rows : List (List (LevelNode K ℕ))) × (list : List (K × ℕ)) × (place : ℕ) × CodedOver slots root (code / 8) (depth - 1) numbers rows list place
@@ -266,38 +266,38 @@ module _ {K V : Type 0} {slots : List (Content K V)} {root code depth : ℕ} {nu
         first-child child reads = child-is next-node 0 child (suc place) next-node.some start reads
 
 -- the lowest node is the first of the numbers
-pub kept-same : {K V : Type 0} (slots : List (Content K V)) (root code depth : ℕ) (numbers : List ℕ) (rows : List (List (LevelNode K ℕ)))
-    (list : List (K × ℕ)) (place : ℕ) (p : CodedOver slots root code depth numbers rows list place) (some : depth ≢ 0) (parent : ℕ)
-    → get_or numbers 0 0 ≡ parent → parent ≡ (lowest slots root code depth numbers rows list place p some).number
+pub kept-same : {K V : Type 0} {slots : List (Content K V)} {root code depth : ℕ} {numbers : List ℕ} (rows : List (List (LevelNode K ℕ)))
+    {list : List (K × ℕ)} {place : ℕ} (p : CodedOver slots root code depth numbers rows list place) (some : depth ≢ 0) (parent : ℕ)
+    → get_or numbers 0 0 ≡ parent → parent ≡ (lowest slots root code depth rows p some).number
 unfolding lowest
-kept-same slots root code depth numbers [] list place p some parent is = absurd (some p.depth_is)
-kept-same slots root code depth numbers (row ∷ rest) list place p some parent is = sym is
+kept-same [] p some parent is = absurd (some p.depth_is)
+kept-same (row ∷ rest) p some parent is = sym is
 
 module _ {K V : Type 0} {n : ℕ} {table : Table K V} (union : IsUnion n table) (root : ℕ) (is : IsTrue (is_root table.nodes root)) where
   -- the leaf that is the node at this place of the lowest level
   pub leaf-at : {place number : ℕ} → NumberAt (heads (tree_of table.nodes root).leaves) place number → IsLeafAt table root place number
   leaf-at {place} {number} m =
-      let w = is-rooted n table root union is in
-      let a = node-at leaf_content table.nodes n (half_of n) (some_leaf n union.1.capacity) (tree_of table.nodes root).leaves w.fit.leaves_fit w.inside.leaves_in number place m in
+      let w = is-rooted root union is in
+      let a = node-at leaf_content table.nodes n (half_of n) (some_leaf union.1.capacity) (tree_of table.nodes root).leaves w.fit.leaves_fit w.inside.leaves_in number place m in
       record { before = a.before; entries = a.entries; after = a.after; leaves_are = a.row_is; at = a.at; slot_is = a.slot_is; some = a.some }
 
   -- the last node of the lowest level is the last leaf
   pub last-leaf : {place : ℕ} → suc place ≡ length (heads (tree_of table.nodes root).leaves) → suc place ≡ leaf_count table root
   last-leaf {place} last =
-      let w = is-rooted n table root union is in
-      last ∙ fit_full (half_of n) n (some_leaf n union.1.capacity) (tree_of table.nodes root).leaves w.fit.leaves_fit
+      let w = is-rooted root union is in
+      last ∙ fit_full (half_of n) n (some_leaf union.1.capacity) (tree_of table.nodes root).leaves w.fit.leaves_fit
 
 module _ {K V : Type 0} {n : ℕ} {table : Table K V} (union : IsUnion n table) {root : ℕ} {spot : Spot} {place : ℕ} (s : IsSpotAt table root spot place) where
   -- a spot's code is a way down
   pub spot-over : CodedOver table.nodes root spot.code spot.height s.numbers (tree_of table.nodes root).above (heads (tree_of table.nodes root).leaves) place
-  spot-over = let w = is-rooted n table root union s.root_is in record { stacked = w.fit.stacked; inside = w.inside.rows_in; coded = s.coded; root_is = w.root_is; depth_is = s.height_is }
+  spot-over = let w = is-rooted root union s.root_is in record { stacked = w.fit.stacked; inside = w.inside.rows_in; coded = s.coded; root_is = w.root_is; depth_is = s.height_is }
 
   module _ (some : 0 < spot.height) where
     abbrev pub other : spot.height ≢ 0
     other = λ none. omega (arith, none, some)
 
     abbrev pub its : spot.parent ≡ (here spot-over other).number
-    its = kept-same table.nodes root spot.code spot.height s.numbers (tree_of table.nodes root).above (heads (tree_of table.nodes root).leaves) place spot-over other spot.parent (s.parent_is some)
+    its = kept-same (tree_of table.nodes root).above spot-over other spot.parent (s.parent_is some)
 
     pub spot-count : (content : Content K V) × (slice_get table.nodes spot.parent ≡ Some content) × IsInner content
     spot-count = count-asks spot-over other spot.parent its
@@ -332,12 +332,12 @@ module _ {K V : Type 0} {n : ℕ} {table : Table K V} (union : IsUnion n table) 
           }
 
   pub spot-low : spot.code < 281474976710656
-  spot-low = let w = is-rooted n table root union s.root_is in code-low 16 (tree_of table.nodes root).above s.numbers spot.code place s.coded w.low
+  spot-low = let w = is-rooted root union s.root_is in code-low 16 (tree_of table.nodes root).above s.numbers spot.code place s.coded w.low
 
 module _ {K V : Type 0} {slots : List (Content K V)} {root code depth : ℕ} {numbers : List ℕ} {rows : List (List (LevelNode K ℕ))} {list : List (K × ℕ)} {place : ℕ} (p : CodedOver slots root code depth numbers rows list place) where
   -- the node that was read is the first of the numbers
   pub first-kept : (some : depth ≢ 0) (parent : ℕ) → ((numbers : List ℕ) (rows : List (List (LevelNode K ℕ))) (list : List (K × ℕ)) (place : ℕ) → CodedOver slots root (code / 8) (depth - 1) numbers rows list place → NumberAt list place parent) → get_or numbers 0 0 ≡ parent
-  first-kept some parent says = kept-same slots root code depth numbers rows list place p some (get_or numbers 0 0) refl ∙ sym (read-same p some parent says)
+  first-kept some parent says = kept-same rows p some (get_or numbers 0 0) refl ∙ sym (read-same p some parent says)
 
   -- a spot of this code
   pub way-of : (spot : Spot) → spot.code ≡ code → spot.height ≡ depth → (0 < depth → get_or numbers 0 0 ≡ spot.parent) → (1 < depth → get_or (drop 1 numbers) 0 0 ≡ spot.grand) → IsWay numbers spot rows place
@@ -345,8 +345,8 @@ module _ {K V : Type 0} {slots : List (Content K V)} {root code depth : ℕ} {nu
 
 module _ {K V : Type 0} {n : ℕ} {table : Table K V} (union : IsUnion n table) {root : ℕ} {spot : Spot} {place : ℕ} (s : IsSpotAt table root spot place) where
   pub spot-height : spot.height ≤ 16
-  spot-height = let w = is-rooted n table root union s.root_is in omega (arith, s.height_is, w.low)
+  spot-height = let w = is-rooted root union s.root_is in omega (arith, s.height_is, w.low)
 
   -- the spot at the end of a way from the same root
-  pub far-spot : (next : Spot) (others : List ℕ) {to : ℕ} → IsWay others next (tree_of table.nodes root).above to → IsSpotAt table root next to
-  far-spot next others w = record { root_is = s.root_is; numbers = others; coded = w.coded; parent_is = w.parent_is; grand_is = w.grand_is; height_is = w.height_is }
+  pub far-spot : {next : Spot} {others : List ℕ} {to : ℕ} → IsWay others next (tree_of table.nodes root).above to → IsSpotAt table root next to
+  far-spot {others = others} w = record { root_is = s.root_is; numbers = others; coded = w.coded; parent_is = w.parent_is; grand_is = w.grand_is; height_is = w.height_is }

@@ -33,7 +33,7 @@ module _ {K V : Type 0} {n : ℕ} {table : Table K V} (union : IsUnion n table) 
     up = (here (spot-over union s) (other union s deep-some)).over
 
     pub grand-is : spot.grand ≡ (here up more).number
-    grand-is = kept-same table.nodes root (spot.code / 8) (spot.height - 1) (drop 1 s.numbers) _ _ _ up more spot.grand (s.grand_is (omega (arith, deep)))
+    grand-is = kept-same _ up more spot.grand (s.grand_is (omega (arith, deep)))
 
     -- what the number of the grandparent's children asks
     pub grand-count : (content : Content K V) × (slice_get table.nodes spot.grand ≡ Some content) × IsInner content
@@ -64,12 +64,12 @@ module _ {K V : Type 0} {n : ℕ} {table : Table K V} (union : IsUnion n table) 
       pub last-below : spot.height < 2 → suc place ≡ leaf_count table root
       last-below low =
           let over = (here way (other union s some)).over in
-          last-leaf union root s.root_is (none-next way (other union s some) spot.parent (its union s some) count counts high (way-none table.nodes root _ _ _ _ _ _ over (omega (arith, low, some))).1)
+          last-leaf union root s.root_is (none-next way (other union s some) spot.parent (its union s some) count counts high (way-none table.nodes root _ _ _ _ over (omega (arith, low, some))).1)
 
     -- a leaf without a grandparent and without a next sibling is the last of the tree
     pub last-low : spot.height < 2 → suc place ≡ leaf_count table root
     last-low low = elim (eqb_tells spot.height 0) [
-      | inl none ↦ last-leaf union root s.root_is (way-none table.nodes root _ _ _ _ _ _ (spot-over union s) none.1).1
+      | inl none ↦ last-leaf union root s.root_is (way-none table.nodes root _ _ _ _ (spot-over union s) none.1).1
       | inr w ↦ last-below (omega (arith, w.1)) low
     ]
 
@@ -110,4 +110,4 @@ pub far-said : {K V : Type 0} {n : ℕ} {table : Table K V} (union : IsUnion n t
     IfSome found (λ f. (place : ℕ) → IsSpotAt table root spot place → IsSpotAt table root f.0 (suc place) × IsLeafAt table root (suc place) f.1)
 far-said {K} {table = table} union root spot found says = if_some _ _ found (λ f far place s.
     let r = far s.numbers (tree_of table.nodes root).above (heads (tree_of table.nodes root).leaves) place (spot-over union s) in
-    (far-spot union s f.0 r.0 r.1, leaf-at union root s.root_is r.2)) says
+    (far-spot union s r.1, leaf-at union root s.root_is r.2)) says

@@ -14,8 +14,8 @@ use Rattle.bforest_core.proofs.walks.Rising.{all_split, all_less, increasing_spl
 use Rattle.bforest_core.proofs.walks.Downward.{Seen, last_of, stands_more, heads_increasing, upto_flat, stacked_increasing}
 use Rattle.bforest_core.proofs.walks.TopNode.{InnerUnder, LeafUnder, flat_parted, seen_at, set_but}
 
-pub some_leaf : (n : ℕ) → IsLeafCapacity n → 1 ≤ half_of n
-some_leaf n c = omega (arith, c.least)
+pub some_leaf : {n : ℕ} → IsLeafCapacity n → 1 ≤ half_of n
+some_leaf c = omega (arith, c.least)
 
 -- writing the first of a list twice
 set_twice : (xs : List ℕ) (i j : ℕ) → set (set xs 0 i) 0 j ≡ set xs 0 j
@@ -68,16 +68,16 @@ increasing_about : {K X : Type 0} (cmp : K → K → Ordering) (o : IsTotalOrder
     IsIncreasing cmp (flat at.before ++ (at.e ∷ (at.es ++ flat at.after))) × IsIncreasing cmp (at.e ∷ at.es) × IsIncreasing cmp (flat at.after)
 increasing_about cmp o {number = number} at inc =
     let parts = subst (IsIncreasing cmp) (ap flat at.row_is ∙ flat-append at.before (node number (at.e ∷ at.es) ∷ at.after)) inc in
-    let two = increasing_split cmp o (at.e ∷ at.es) (flat at.after) (increasing_split cmp o (flat at.before) ((at.e ∷ at.es) ++ flat at.after) parts).1 in
+    let two = increasing_split o (at.e ∷ at.es) (flat at.after) (increasing_split o (flat at.before) ((at.e ∷ at.es) ++ flat at.after) parts).1 in
     (parts, two.0, two.1)
 
-module _ {K V : Type 0} (cmp : K → K → Ordering) (o : IsTotalOrder cmp) (most : ℕ) (one : 1 ≤ half_of most) (slots : List (Content K V)) (leaves : List (LevelNode K V)) (lower : List (List (LevelNode K ℕ))) (a : List (K × ℕ)) (first : K) (number : ℕ) (b : List (K × ℕ)) (key : K) where
+module _ {K V : Type 0} {cmp : K → K → Ordering} (o : IsTotalOrder cmp) {most : ℕ} (one : 1 ≤ half_of most) {slots : List (Content K V)} {leaves : List (LevelNode K V)} {lower : List (List (LevelNode K ℕ))} {a : List (K × ℕ)} {first : K} {number : ℕ} {b : List (K × ℕ)} {key : K} where
   module _ (inc : IsIncreasing cmp (flat leaves)) (g : GoesThrough cmp a first b key) where
     -- the search in an inner node, from what is under it
     pub inner_step : InnerUnder most slots leaves lower a first number b → InnerStep cmp most slots leaves lower a first number b key
     inner_step s = record {
       here = s;
-      increasing = (increasing_about cmp o s.at (stacked_increasing cmp o (heads leaves) s.rows (flat s.row) s.under.stacked (heads_increasing cmp o leaves inc))).1;
+      increasing = (increasing_about cmp o s.at (stacked_increasing cmp o (heads leaves) s.rows (flat s.row) s.under.stacked (heads_increasing o leaves inc))).1;
       from = from_at cmp a s.at g.from;
       upto = upto_flat cmp 4 8 (omega arith) s.at.after key s.at.after_fit (subst (λ (z : List (K × ℕ)). IsUpTo cmp z key) (sym s.at.after_is) g.upto);
     }
@@ -93,8 +93,8 @@ module _ {K V : Type 0} (cmp : K → K → Ordering) (o : IsTotalOrder cmp) (mos
           increasing = parts.1;
           increasing_after = parts.2;
           from = from;
-          low = elim from [ inl none ↦ subst (λ (z : List (LevelNode K V)). AllByRecursion (λ p. cmp p key ≡ Less) (keys_of (flat z))) (sym none) tt | inr ng ↦ all_less cmp o at.e.0 key (keys_of (flat at.before)) (all_before cmp o (flat at.before) at.e (at.es ++ flat at.after) parts.0) ng ];
-          high = all_greater cmp o (flat at.after) key parts.2 (λ y c is. subst (λ (z : List (K × V)). IsUpTo cmp z key) is upto);
+          low = elim from [ inl none ↦ subst (λ (z : List (LevelNode K V)). AllByRecursion (λ p. cmp p key ≡ Less) (keys_of (flat z))) (sym none) tt | inr ng ↦ all_less o at.e.0 key (keys_of (flat at.before)) (all_before o (flat at.before) at.e (at.es ++ flat at.after) parts.0) ng ];
+          high = all_greater o (flat at.after) key parts.2 (λ y c is. subst (λ (z : List (K × V)). IsUpTo cmp z key) is upto);
         }
 
   -- the search one level down: at the child of this index, with everything below it
@@ -110,7 +110,7 @@ module _ {K V : Type 0} (cmp : K → K → Ordering) (o : IsTotalOrder cmp) (mos
   module _ (s : InnerStep cmp most slots leaves lower a first number b key) where
     -- the node meets what following a child requires
     pub follow_asks : (keys : List K) × (children : List ℕ) × (slice_get slots number ≡ Some (Inner keys children)) × IsStrictlySortedBy cmp keys
-    follow_asks = (entry_keys s.here.at.es, entry_items (s.here.at.e ∷ s.here.at.es), s.here.slot_is, increasing_rest cmp o s.here.at.e s.here.at.es s.increasing)
+    follow_asks = (entry_keys s.here.at.es, entry_items (s.here.at.e ∷ s.here.at.es), s.here.slot_is, increasing_rest o s.here.at.e s.here.at.es s.increasing)
 
     -- following a child gives the search one level down
     pub below : (index child : ℕ)
@@ -121,7 +121,7 @@ module _ {K V : Type 0} (cmp : K → K → Ordering) (o : IsTotalOrder cmp) (mos
         let index_is = says (entry_keys s.here.at.es) (entry_items (s.here.at.e ∷ s.here.at.es)) s.here.slot_is in
         let child_at = reads (entry_keys s.here.at.es) (entry_items (s.here.at.e ∷ s.here.at.es)) s.here.slot_is in
         let at = s.here.at in
-        let d = sides cmp o at.es key (increasing_rest cmp o at.e at.es s.increasing) in
+        let d = sides o at.es key (increasing_rest o at.e at.es s.increasing) in
         let w = last_of at.e d.l in
         let es_is : at.e ∷ at.es ≡ w.init ++ w.last ∷ d.r = ap (λ z. at.e ∷ z) d.es_is ∙ ap (λ z. z ++ d.r) w.is ∙ append_assoc w.init (w.last ∷ []) d.r in
         let count_is : length w.init ≡ index = omega (arith, ap length w.is, length-append w.init (w.last ∷ []), d.i_is, index_is) in
@@ -141,9 +141,9 @@ module _ {K V : Type 0} (cmp : K → K → Ordering) (o : IsTotalOrder cmp) (mos
         }
 
     -- one level of the descent, whose place was written into the path
-    pub passed : (index child : ℕ) (w : Below s index child) (path indices path' indices' path'' indices'' : List ℕ) (high : ℕ) → high ≡ length lower → Descended cmp leaves s.here.rows key (length w.front) path' indices' path'' indices'' →
+    pub passed : (index : ℕ) {child : ℕ} (w : Below s index child) (path indices path' indices' path'' indices'' : List ℕ) (high : ℕ) → high ≡ length lower → Descended cmp leaves s.here.rows key (length w.front) path' indices' path'' indices'' →
         get_or path' high 0 ≡ number → get_or indices' high 0 ≡ index → path' ≡ set path high number → indices' ≡ set indices high index → Descended cmp leaves lower key (length a) path indices path'' indices''
-    passed index child w path indices path' indices' path'' indices'' high high_is d m_is j_is nodes entries =
+    passed index w path indices path' indices' path'' indices'' high high_is d m_is j_is nodes entries =
         let count_is = s.here.count_is in
         let m_at : get_or path'' high 0 ≡ number = d.nodes_above high (omega (arith, high_is, count_is)) ∙ m_is in
         let j_at : get_or indices'' high 0 ≡ index = d.entries_above high (omega (arith, high_is, count_is)) ∙ j_is in
@@ -164,25 +164,25 @@ module _ {K V : Type 0} (cmp : K → K → Ordering) (o : IsTotalOrder cmp) (mos
 
     -- the key's value in the leaf is its value among all entries
     pub leaf_value : value_for cmp (flat leaves) key ≡ value_for cmp entries key
-    leaf_value = ap (λ z. value_for cmp z key) all_are ∙ ap (λ z. option_map (λ (e : K × V). e.1) z) (entry_between cmp o (flat s.here.at.before) entries (flat s.here.at.after) key s.increasing_after s.low s.high)
+    leaf_value = ap (λ z. value_for cmp z key) all_are ∙ ap (λ z. option_map (λ (e : K × V). e.1) z) (entry_between o (flat s.here.at.before) entries (flat s.here.at.after) key s.increasing_after s.low s.high)
 
     -- the key is present in the leaf exactly if it is present among all entries
     pub leaf_found : is_present cmp (flat leaves) key ≡ is_present cmp entries key
-    leaf_found = ap (λ z. is_present cmp z key) all_are ∙ ap is_some (entry_between cmp o (flat s.here.at.before) entries (flat s.here.at.after) key s.increasing_after s.low s.high)
+    leaf_found = ap (λ z. is_present cmp z key) all_are ∙ ap is_some (entry_between o (flat s.here.at.before) entries (flat s.here.at.after) key s.increasing_after s.low s.high)
 
     abbrev pub placed : (m j : ℕ) → m ≡ number → j ≡ place cmp entries key → IsPlaced cmp leaves key m j
     placed m j m_is j_is =
         let at = s.here.at in
-        let same : is_present cmp (flat leaves) key ≡ is_present cmp entries key = ap (λ z. is_present cmp z key) all_are ∙ ap is_some (entry_between cmp o (flat at.before) entries (flat at.after) key s.increasing_after s.low s.high) in
+        let same : is_present cmp (flat leaves) key ≡ is_present cmp entries key = ap (λ z. is_present cmp z key) all_are ∙ ap is_some (entry_between o (flat at.before) entries (flat at.after) key s.increasing_after s.low s.high) in
         record {
           before = at.before;
           entries = entries;
           after = at.after;
           row_is = at.row_is ∙ ap (λ z. at.before ++ node z entries ∷ at.after) (sym m_is);
-          within = omega (arith, j_is, place-le cmp o entries key);
-          place_is = ap (λ z. place cmp z key) all_are ∙ place_between cmp o (flat at.before) entries (flat at.after) key s.increasing_after s.low s.high ∙ ap (λ z. length (flat at.before) + z) (sym j_is);
+          within = omega (arith, j_is, place-le o entries key);
+          place_is = ap (λ z. place cmp z key) all_are ∙ place_between o (flat at.before) entries (flat at.after) key s.increasing_after s.low s.high ∙ ap (λ z. length (flat at.before) + z) (sym j_is);
           found = λ yes. omega (arith, j_is, place-present cmp entries key (sym same ∙ yes));
-          first = λ no zero_is. elim s.from [ inl none ↦ none | inr ng ↦ absurd (first_passed cmp o at.e at.es key s.increasing ng (sym same ∙ no) (sym j_is ∙ zero_is)) ];
+          first = λ no zero_is. elim s.from [ inl none ↦ none | inr ng ↦ absurd (first_passed o at.e at.es key s.increasing ng (sym same ∙ no) (sym j_is ∙ zero_is)) ];
         }
 
     -- the end of the descent

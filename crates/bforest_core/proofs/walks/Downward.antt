@@ -71,11 +71,11 @@ module _ {K X : Type 0} where
   heads_all P (node m (e ∷ es) ∷ ns) h = (h.0, heads_all P ns (all_split P es (flat ns) h.1).1)
 
   -- the heads of a row increase where its entries do
-  pub heads_increasing : (cmp : K → K → Ordering) → IsTotalOrder cmp → (row : List (LevelNode K X)) → IsIncreasing cmp (flat row) → IsIncreasing cmp (heads row)
+  pub heads_increasing : {cmp : K → K → Ordering} → IsTotalOrder cmp → (row : List (LevelNode K X)) → IsIncreasing cmp (flat row) → IsIncreasing cmp (heads row)
   unfolding IsStrictlySortedBy
-  heads_increasing cmp o [] h = tt
-  heads_increasing cmp o (node m [] ∷ ns) h = heads_increasing cmp o ns h
-  heads_increasing cmp o (node m (e ∷ es) ∷ ns) h = (heads_all (λ k. cmp e.0 k ≡ Less) ns (all_split (λ k. cmp e.0 k ≡ Less) es (flat ns) h.0).1, heads_increasing cmp o ns (increasing_split cmp o es (flat ns) h.1).1)
+  heads_increasing o [] h = tt
+  heads_increasing {cmp = cmp} o (node m [] ∷ ns) h = heads_increasing o ns h
+  heads_increasing {cmp = cmp} o (node m (e ∷ es) ∷ ns) h = (heads_all (λ k. cmp e.0 k ≡ Less) ns (all_split (λ k. cmp e.0 k ≡ Less) es (flat ns) h.0).1, heads_increasing o ns (increasing_split o es (flat ns) h.1).1)
 
   -- a key that is less than the first head of a row is less than its first entry
   pub upto_flat : (cmp : K → K → Ordering) (half most : ℕ) → 1 ≤ half → (row : List (LevelNode K X)) (key : K) → FitRow half most row → IsUpTo cmp (heads row) key → IsUpTo cmp (flat row) key
@@ -86,4 +86,4 @@ module _ {K X : Type 0} where
 -- the nodes of the top increase where the entries of the lowest row do
 pub stacked_increasing : {K : Type 0} (cmp : K → K → Ordering) → IsTotalOrder cmp → (list : List (K × ℕ)) (rows : List (List (LevelNode K ℕ))) (top : List (K × ℕ)) → StackedTo list rows top → IsIncreasing cmp list → IsIncreasing cmp top
 stacked_increasing cmp o list [] top s h = subst (IsIncreasing cmp) s h
-stacked_increasing cmp o list (row ∷ rows) top s h = stacked_increasing cmp o (heads row) rows top s.2 (heads_increasing cmp o row (subst (IsIncreasing cmp) (sym s.0) h))
+stacked_increasing cmp o list (row ∷ rows) top s h = stacked_increasing cmp o (heads row) rows top s.2 (heads_increasing o row (subst (IsIncreasing cmp) (sym s.0) h))

@@ -58,9 +58,9 @@ module _ {K V : Type 0} {most : ℕ} (one : 1 ≤ half_of most) {slots : List (C
   stands_in w size size_is path' indices' place path_is same low place_is = stands-pointed (points_in w size size_is path' indices' place path_is same (omega (arith, low)) place_is) low
 
   -- a path that moved to the front of the next leaf stands on the next entry
-  pub first_behind : {path indices : List ℕ} {leaf : ℕ} (w : InLeaf path indices leaf) (size : ℕ) → size ≡ suc (length tree.above) → (path1 indices1 path' indices' : List ℕ) →
+  pub first_behind : {path indices : List ℕ} {leaf : ℕ} (w : InLeaf path indices leaf) (size : ℕ) → size ≡ suc (length tree.above) → {path1 indices1 : List ℕ} (path' indices' : List ℕ) →
       Moved path indices path1 indices1 0 tree.above (heads tree.leaves) (suc leaf) → path' ≡ path1 → get_or indices' 0 0 ≡ 0 → SameBut 0 indices1 indices' → Stands path' indices' size tree (length (flat w.before) + length w.entries)
-  first_behind w size size_is path1 indices1 path' indices' m path_is here above =
+  first_behind w size size_is {path1 = path1} {indices1 = indices1} path' indices' m path_is here above =
       let next : InLeaf path1 indices1 _ = there leaf_content slots most (half_of most) one tree.leaves fit.leaves_fit inside.leaves_in m in
       stands_in next size size_is path' indices' (length (flat w.before) + length w.entries) path_is above (omega (arith, here, next.some)) (omega (arith, here, seam leaf_content slots most w next refl))
 
@@ -104,7 +104,7 @@ module _ {K V : Type 0} {most : ℕ} (one : 1 ≤ half_of most) {slots : List (C
           → Over slots path indices 1 size rows list at → Moved path indices path1 indices1 0 rows list (suc at)) → path' ≡ path1
           → get_or indices' 0 0 ≡ 0 → SameBut 0 indices1 indices' → Stands path' indices' size tree (suc place)
       next_over path1 indices1 path' indices' moved path_is here above =
-          subst (λ (z : ℕ). Stands path' indices' size tree z) (sym leaf_ends) (first_behind leaf_here size s.size_is path1 indices1 path' indices' (moved tree.above (heads tree.leaves) (length s.leaf.before) over_leaves) path_is here above)
+          subst (λ (z : ℕ). Stands path' indices' size tree z) (sym leaf_ends) (first_behind leaf_here size s.size_is path' indices' (moved tree.above (heads tree.leaves) (length s.leaf.before) over_leaves) path_is here above)
 
       -- where no leaf follows, the path stands on the last entry
       pub next_last : ((rows : List (List (LevelNode K ℕ))) (list : List (K × ℕ)) (at : ℕ) → Over slots path indices 1 size rows list at → suc at ≡ length list) → suc place ≡ length (flat tree.leaves)

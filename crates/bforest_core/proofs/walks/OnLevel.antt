@@ -39,13 +39,13 @@ module _ {K V : Type 0} {slots : List (Content K V)} {root : ℕ} where
   pub root-leads : (spot : Spot) → spot.code ≡ 0 → spot.height ≡ 0 → Leads slots root spot.code spot.height spot root
   root-leads spot code height numbers rows list place p = (
     way-of p spot refl refl (λ low. absurd (omega (arith, low, height))) (λ low. absurd (omega (arith, low, height))),
-    (way-none slots root spot.code spot.height numbers rows list place p height).0,
+    (way-none slots root spot.code spot.height rows list p height).0,
   )
 
   pub root-last : (spot : Spot) → spot.height ≡ 0 → IsNextOf slots root spot.code spot.height None
   root-last spot height = record {
     some = tt;
-    none = λ none numbers rows list place p. (way-none slots root spot.code spot.height numbers rows list place p height).1;
+    none = λ none numbers rows list place p. (way-none slots root spot.code spot.height rows list p height).1;
   }
 
   pub root-first : (spot : Spot) → spot.height ≡ 0 → IsPrevOf slots root spot.code spot.height None

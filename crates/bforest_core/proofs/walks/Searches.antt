@@ -41,13 +41,13 @@ pub record WayBelow {K V : Type 0} (cmp : K → K → Ordering) (most : ℕ) (sl
 module _ {K V : Type 0} {cmp : K → K → Ordering} (o : IsTotalOrder cmp) {most : ℕ} (one : 1 ≤ half_of most) {slots : List (Content K V)} {leaves : List (LevelNode K V)} {key : K} {number depth : ℕ} (t : SearchThrough cmp most slots leaves key number depth) where
   -- the node is in the slots
   pub within : number < length slots
-  within = node_within most one slots leaves t.lower t.before t.first number t.after t.under
+  within = node_within one t.before t.first number t.after t.under
 
   module _ (content : Content K V) (found : slice_get slots number ≡ Some content) where
     -- at the leaf
     module _ (other : IsInner content → ⊥) where
       pub step-leaf : LeafStep cmp most slots leaves t.lower t.before t.first number t.after key
-      step-leaf = leaf_step cmp o most one slots leaves t.lower t.before t.first number t.after key t.increasing t.through (leaf_under most one slots leaves t.lower t.before t.first number t.after t.under content found other)
+      step-leaf = leaf_step o one t.increasing t.through (leaf_under one t.before t.first number t.after t.under content found other)
 
       -- what a search in the leaf asks
       pub leaf-asks : (entries : List (K × V)) × (slice_get slots number ≡ Some (leaf_content entries)) × IsIncreasing cmp entries
@@ -57,11 +57,11 @@ module _ {K V : Type 0} {cmp : K → K → Ordering} (o : IsTotalOrder cmp) {mos
       pub narrowed : Narrows cmp leaves key step-leaf.here.at.before (step-leaf.here.at.e ∷ step-leaf.here.at.es)
       narrowed =
           let s = step-leaf in
-          let p = placed cmp o most one slots leaves t.lower t.before t.first number t.after key s number (place cmp (s.here.at.e ∷ s.here.at.es) key) refl refl in
-          record { increasing = s.increasing; place_is = p.place_is; value_is = leaf_value cmp o most one slots leaves t.lower t.before t.first number t.after key s; found_is = leaf_found cmp o most one slots leaves t.lower t.before t.first number t.after key s; first = p.first }
+          let p = placed o one s number (place cmp (s.here.at.e ∷ s.here.at.es) key) refl refl in
+          record { increasing = s.increasing; place_is = p.place_is; value_is = leaf_value o one s; found_is = leaf_found o one s; first = p.first }
 
-      pub ends-on : (upper : List (List (LevelNode K ℕ))) (numbers : List ℕ) (spot : Spot) → IsWay numbers spot upper (length t.before) → EndsOn cmp slots leaves (t.lower ++ upper) key spot number
-      ends-on upper numbers spot w =
+      pub ends-on : {upper : List (List (LevelNode K ℕ))} {numbers : List ℕ} {spot : Spot} → IsWay numbers spot upper (length t.before) → EndsOn cmp slots leaves (t.lower ++ upper) key spot number
+      ends-on {upper = upper} {numbers = numbers} {spot = spot} w =
           let s = step-leaf in
           let at = s.here.at in
           record {
@@ -79,11 +79,11 @@ module _ {K V : Type 0} {cmp : K → K → Ordering} (o : IsTotalOrder cmp) {mos
     -- at an inner node
     module _ (inner : IsInner content) where
       pub step : InnerStep cmp most slots leaves t.lower t.before t.first number t.after key
-      step = inner_step cmp o most one slots leaves t.lower t.before t.first number t.after key t.increasing t.through (inner_under most one slots leaves t.lower t.before t.first number t.after t.under content found inner)
+      step = inner_step o one t.increasing t.through (inner_under one t.before t.first number t.after t.under content found inner)
 
       -- what following a child asks
       pub asks : (keys : List K) × (children : List ℕ) × (slice_get slots number ≡ Some (Inner keys children)) × IsStrictlySortedBy cmp keys
-      asks = follow_asks cmp o most one slots leaves t.lower t.before t.first number t.after key step
+      asks = follow_asks o one step
 
       -- a level more is not too many
       pub deeper-low : depth < 16
@@ -94,8 +94,8 @@ module _ {K V : Type 0} {cmp : K → K → Ordering} (o : IsTotalOrder cmp) {mos
           → index ≡ child_index cmp keys key)
           (reads : (keys : List K) (children : List ℕ) → slice_get slots number ≡ Some (Inner keys children)
           → slice_get children index ≡ Some child) where
-        pub to : Below cmp o most one slots leaves t.lower t.before t.first number t.after key step index child
-        to = below cmp o most one slots leaves t.lower t.before t.first number t.after key step index child says reads
+        pub to : Below o one step index child
+        to = below o one step index child says reads
 
         -- the search one level down
         abbrev pub one-down : (deeper : ℕ) → deeper ≡ suc depth → SearchThrough cmp most slots leaves key child deeper
@@ -110,9 +110,9 @@ module _ {K V : Type 0} {cmp : K → K → Ordering} (o : IsTotalOrder cmp) {mos
         along-asks =
             let es = step.here.at.es in
             let count = length-map es (λ w. w.0) in
-            (entry_keys es, entry_items (step.here.at.e ∷ es), step.here.slot_is, increasing_rest cmp o step.here.at.e es step.increasing, omega (arith, item_count (step.here.at.e ∷ es), count), omega (arith, to.within, count))
+            (entry_keys es, entry_items (step.here.at.e ∷ es), step.here.slot_is, increasing_rest o step.here.at.e es step.increasing, omega (arith, item_count (step.here.at.e ∷ es), count), omega (arith, to.within, count))
 
-        module _ (upper : List (List (LevelNode K ℕ))) (numbers : List ℕ) (spot : Spot) (height_is : depth ≡ spot.height) (w : IsWay numbers spot upper (length t.before)) where
+        module _ {upper : List (List (LevelNode K ℕ))} {numbers : List ℕ} {spot : Spot} (height_is : depth ≡ spot.height) (w : IsWay numbers spot upper (length t.before)) where
           -- a digit more fits
           pub code-low-here : spot.code < 35184372088832
           code-low-here = code-low 15 upper numbers spot.code (length t.before) w.coded (omega (arith, w.height_is, height_is, deeper-low))
@@ -160,7 +160,7 @@ abbrev pub search-root : {K V : Type 0} {cmp : K → K → Ordering} {most : ℕ
     (union : IsUnion most table) (is : IsTrue (is_root table.nodes root)) → IsIncreasing cmp (flat (tree_of table.nodes root).leaves)
     → (depth : ℕ) → depth ≡ 0 → SearchThrough cmp most table.nodes (tree_of table.nodes root).leaves key root depth
 search-root {cmp = cmp} {most = most} {table = table} {root = root} {key = key} union is increasing depth none =
-    let u = under-root most table root union is in
+    let u = under-root root union is in
     record { lower = (tree_of table.nodes root).above; before = []; first = u.first; after = []; under = u.under; increasing = increasing; through = all_through cmp u.first key; low = omega (arith, u.low, none) }
 
 -- a search from the root on has come to this node, and its spot
@@ -184,7 +184,7 @@ module _ {K V : Type 0} {cmp : K → K → Ordering} {most : ℕ} (table : Table
 -- from the root down: the leaf in which a search ends, and its spot
 module _ {K V : Type 0} {cmp : K → K → Ordering} {table : Table K V} {root : ℕ} (is : IsTrue (is_root table.nodes root)) {key : K} {spot : Spot} {number : ℕ} (e : EndsOn cmp table.nodes (tree_of table.nodes root).leaves ((tree_of table.nodes root).above ++ []) key spot number) where
   on-spot : IsSpotAt table root spot (length e.before)
-  on-spot = way-spot table root spot (length e.before) e.numbers is e.way
+  on-spot = way-spot table root is e.way
 
   pub spot-found : IsSpotAt table root spot (leaf_place table root spot)
   spot-found = subst (λ z. IsSpotAt table root spot z) (sym (place-is on-spot)) on-spot

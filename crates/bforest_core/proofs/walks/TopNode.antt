@@ -47,7 +47,7 @@ seen_slot : {K V X : Type 0} (content : List (K × X) → Content K V)
     (at : Seen half most row a first number b) → RowIn content slots row → slice_get slots number ≡ Some (content (at.e ∷ at.es))
 seen_slot {K} {V} {X} content slots {number = number} at i = (row-split content slots at.before (node number (at.e ∷ at.es) ∷ at.after) (subst (λ (z : List (LevelNode K X)). RowIn content slots z) at.row_is i)).1.0
 
-module _ {K V : Type 0} (most : ℕ) (one : 1 ≤ half_of most) (slots : List (Content K V)) (leaves : List (LevelNode K V)) where
+module _ {K V : Type 0} {most : ℕ} (one : 1 ≤ half_of most) {slots : List (Content K V)} {leaves : List (LevelNode K V)} where
   pub node_under : (lower : List (List (LevelNode K ℕ))) (a : List (K × ℕ)) (first : K) (number : ℕ) (b : List (K × ℕ)) → Under most slots leaves lower (a ++ (first, number) ∷ b) → LeafUnder most slots leaves lower a first number b ⊎ InnerUnder most slots leaves lower a first number b
   node_under [] a first number b u =
       let at = seen (half_of most) most one leaves a first number b u.leaves_fit u.stacked in
@@ -68,7 +68,7 @@ module _ {K V : Type 0} (most : ℕ) (one : 1 ≤ half_of most) (slots : List (C
         slot_is = seen_slot inner_content slots at i.1;
       })
 
-  module _ (lower : List (List (LevelNode K ℕ))) (a : List (K × ℕ)) (first : K) (number : ℕ) (b : List (K × ℕ)) (u : Under most slots leaves lower (a ++ (first, number) ∷ b)) where
+  module _ {lower : List (List (LevelNode K ℕ))} (a : List (K × ℕ)) (first : K) (number : ℕ) (b : List (K × ℕ)) (u : Under most slots leaves lower (a ++ (first, number) ∷ b)) where
     -- the node's slot holds a node with entries
     pub node_held : (content : Content K V) × (slice_get slots number ≡ Some content) × (1 ≤ entry_count content)
     node_held = elim (node_under lower a first number b u) [ inl s ↦ (leaf_content (s.at.e ∷ s.at.es), s.slot_is, omega arith) | inr s ↦ (inner_content (s.at.e ∷ s.at.es), s.slot_is, omega arith) ]

@@ -11,7 +11,7 @@ loop-here-init g c = record { under = c.requires.under; ends = λ end leaf on. o
 pub node-requires : goal.node-requires
 node-requires g c =
     let u = c.loop-here.invariant.under in
-    (search rules, (search rules, node_within _ (some_leaf _ c.requires.capacity) _ _ _ u.4 u.5 _ u.6 u.8))
+    (search rules, (search rules, node_within (some_leaf c.requires.capacity) u.4 u.5 _ u.6 u.8))
 
 pub below-here-requires-clause-code : goal.below-here-requires-clause-code
 below-here-requires-clause-code g c = (down-low c.requires.capacity c.node.ensures.value (c.is_inner.ensures.inner.0 c.loop-here-test.true) first-turns c.loop-here.invariant.under).0

@@ -11,12 +11,12 @@ loop-index-init g c = record { under = c.requires.under; ends = λ end leaf on. 
 pub node-requires : goal.node-requires
 node-requires g c =
     let u = c.loop-index.invariant.under in
-    (search rules, (search rules, node_within _ (some_leaf _ c.requires.capacity) _ _ _ u.4 u.5 _ u.6 u.8))
+    (search rules, (search rules, node_within (some_leaf c.requires.capacity) u.4 u.5 _ u.6 u.8))
 
 pub last_index-index-requires : goal.last_index-index-requires
 last_index-index-requires g c =
     let u = c.loop-index.invariant.under in
-    (search rules, node_held _ (some_leaf _ c.requires.capacity) _ _ _ u.4 u.5 _ u.6 u.8)
+    (search rules, node_held (some_leaf c.requires.capacity) u.4 u.5 _ u.6 u.8)
 
 pub below-here-requires-clause-index : goal.below-here-requires-clause-index
 below-here-requires-clause-index g c = (down-low c.requires.capacity c.node.ensures.value (c.is_inner.ensures.inner.0 c.loop-index-test.true) (last-turns c.last_index-index.ensures.last) c.loop-index.invariant.under).2

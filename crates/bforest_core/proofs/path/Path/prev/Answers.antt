@@ -14,7 +14,7 @@ module _ {K V : Type 0} {n : ℕ} {table : Table K V} (union : IsUnion n table) 
 
   -- the entry read after the move is the previous one
   read_back : (0 < place) × StandsOn table root new (place - 1) → (e : K × V) → ((entries : List (K × V)) → slice_get table.nodes (leaf_of new) ≡ Some (leaf_content entries) → slice_get entries (index_of new) ≡ Some e) → Some e ≡ entry_before (list_under table root) place
-  read_back back e read_is = sym (here-entry table root new (place - 1) union back.1 e read_is) ∙ before_is (list_under table root) place back.0
+  read_back back e read_is = sym (here-entry root new (place - 1) union back.1 e read_is) ∙ before_is (list_under table root) place back.0
 
   module _ (some : old.size ≢ 0) where
     -- the path moved to the previous entry
@@ -42,7 +42,7 @@ prev_entry-requires g c =
 pub entry_here-requires : goal.entry_here-requires
 entry_here-requires g c =
     let back = went_back c.requires.union c.args.self.now c.prev_entry.new.self c.requires.stands.at c.if-self-eq0.false c.prev_entry.ensures.size (c.prev_entry.ensures.moved c.if-prev_entry.true) in
-    (search rules, (search rules, here-leaf _ _ _ _ c.requires.union back.1))
+    (search rules, (search rules, here-leaf _ _ _ c.requires.union back.1))
 
 pub returns-then-prev_entry-clause-value : goal.returns-then-prev_entry-clause-value
 returns-then-prev_entry-clause-value g c = λ t.

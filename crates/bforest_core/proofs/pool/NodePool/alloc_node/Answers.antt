@@ -44,4 +44,4 @@ returns-clause-memory g c = λ is. absurd cc
 
 pub returns-clause-planted : goal.returns-clause-planted
 returns-clause-planted g c = λ union.
-    planted-alloc g.row.N c.args.self.now _ c.take_slot-node.result c.args.key c.args.value union (returns-clause-node g c) (returns-clause-ok g c)
+    planted-alloc g.row.N _ c.take_slot-node.result c.args.key c.args.value union (returns-clause-node g c) (returns-clause-ok g c)

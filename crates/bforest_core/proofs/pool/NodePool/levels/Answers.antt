@@ -10,15 +10,15 @@ use Rattle.bforest_core.proofs.pool.NodePool.levels.Goals as goal
 pub levels_from-requires : goal.levels_from-requires
 levels_from-requires g c =
     let tree = tree_of c.args.self.now.nodes c.args.root in
-    let u = under-root g.row.N c.args.self.now c.args.root c.requires.union c.requires.root in
+    let u = under-root c.args.root c.requires.union c.requires.root in
     (search rules, (c.requires.union.1.capacity, (tree.leaves, tree.above, u.first, [], u.under, omega (arith, u.low))))
 
 pub returns : goal.returns
 returns g c =
     let tree = tree_of c.args.self.now.nodes c.args.root in
-    let u = under-root g.row.N c.args.self.now c.args.root c.requires.union c.requires.root in
-    let w = is-rooted g.row.N c.args.self.now c.args.root c.requires.union c.requires.root in
-    let one = some_leaf _ c.requires.union.1.capacity in
+    let u = under-root c.args.root c.requires.union c.requires.root in
+    let w = is-rooted c.args.root c.requires.union c.requires.root in
+    let one = some_leaf c.requires.union.1.capacity in
     let r = c.levels_from.ensures _ _ u.first [] u.under in
     record {
       value = omega (arith, r, length-map tree.above sizes);

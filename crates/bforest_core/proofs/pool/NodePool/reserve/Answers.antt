@@ -8,13 +8,13 @@ use Rattle.bforest_core.proofs.pool.NodePool.reserve.Goals as goal
 pub invariant_of-self : goal.invariant_of-self
 invariant_of-self g c =
     let size : vec_len c.self.inside.nodes ≡ length c.self.inside.nodes.items = omega arith in
-    let grown = IsPool-grown _ _ _ _ _ (c.args.n - c.self.inside.free) c.args.n (omega arith) (omega arith) c.self.invariant in
+    let grown = IsPool-grown _ _ _ _ (c.args.n - c.self.inside.free) c.args.n (omega arith) (omega arith) c.self.invariant in
     rw (c.in-Ok.ensures.ok, c.in-Ok.ensures.first, size) grown.0
 
 pub returns-in-Ok-clause-ok : goal.returns-in-Ok-clause-ok
 returns-in-Ok-clause-ok g c =
     let size : vec_len c.self.inside.nodes ≡ length c.self.inside.nodes.items = omega arith in
-    let grown = IsPool-grown _ _ _ _ _ (c.args.n - c.self.inside.free) c.args.n (omega arith) (omega arith) c.self.invariant in
+    let grown = IsPool-grown _ _ _ _ (c.args.n - c.self.inside.free) c.args.n (omega arith) (omega arith) c.self.invariant in
     rw (← c.self.view_is, c.in-Ok.ensures.ok, c.in-Ok.ensures.first, size, c.self.invariant.counted, front_of-is _ _ _ c.self.invariant.linked, grown.1)
 
 pub returns-in-Ok-clause-full : goal.returns-in-Ok-clause-full
@@ -31,7 +31,7 @@ pub returns-in-Ok-clause-free : goal.returns-in-Ok-clause-free
 returns-in-Ok-clause-free g c = reserved-frees c.args.self.now _ c.args.n (returns-in-Ok-clause-ok g c)
 
 pub returns-in-Ok-clause-trees : goal.returns-in-Ok-clause-trees
-returns-in-Ok-clause-trees g c = λ union. reserved-keeps g.row.N c.args.self.now _ c.args.n (returns-in-Ok-clause-ok g c) union
+returns-in-Ok-clause-trees g c = λ union. reserved-keeps g.row.N _ c.args.n (returns-in-Ok-clause-ok g c) union
 
 pub returns-then-n-self : goal.returns-then-n-self
 returns-then-n-self g c =
@@ -44,7 +44,7 @@ returns-then-n-self g c =
       enough = λ enough. refl;
       numbers = few_slots _ _ _ _ c.self.view_is c.self.invariant.slots_within c.self.invariant.limit_within;
       free = reserved-frees c.args.self.now _ c.args.n ok;
-      trees = λ union. same-keeps g.row.N c.args.self.now _ refl union;
+      trees = λ union. same-keeps _ refl union;
     }
 
 pub returns-then-missing-self : goal.returns-then-missing-self
@@ -56,7 +56,7 @@ returns-then-missing-self g c = record {
   enough = λ enough. absurd (not_enough _ _ _ _ _ _ c.args.n c.self.view_is c.self.invariant.counted refl c.if-n-self.false enough);
   numbers = few_slots _ _ _ _ c.self.view_is c.self.invariant.slots_within c.self.invariant.limit_within;
   free = tt;
-  trees = λ union. same-keeps g.row.N c.args.self.now _ refl union;
+  trees = λ union. same-keeps _ refl union;
 }
 
 pub returns-in-Err : goal.returns-in-Err
@@ -68,7 +68,7 @@ returns-in-Err g c = record {
   enough = λ enough. absurd (not_enough _ _ _ _ _ _ c.args.n c.self.view_is c.self.invariant.counted refl c.if-n-self.false enough);
   numbers = few_slots _ _ _ _ c.self.view_is c.self.invariant.slots_within c.self.invariant.limit_within;
   free = tt;
-  trees = λ union. same-keeps g.row.N c.args.self.now _ (rw c.in-Err.ensures.err c.self.view_is) union;
+  trees = λ union. same-keeps _ (rw c.in-Err.ensures.err c.self.view_is) union;
 }
 
 pub invariant_of-self-in-Err : goal.invariant_of-self-in-Err
