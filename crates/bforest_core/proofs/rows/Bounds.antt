@@ -64,19 +64,19 @@ none_small p s room =
     let b = below_lt s 8 room in
     elim (cases_lt p s) [ inl lt ↦ (let a = below_lt p s lt in rw (a, b) refl) | inr ge ↦ (let a = above_lt p s ge in rw a refl) ]
 
-root_full : {K : Type 0} (p q : ℕ) (row : List (LevelNode K ℕ)) → length (heads row) ≡ 1 → FitRow 4 8 row → (inner_gain p (sizes row)).0 ≡ Some q → 8 ≤ length (flat row)
-root_full p q [] one f e = absurd (omega (arith, one))
-root_full {K} p q (node m es ∷ []) one f e =
+root_full : {K : Type 0} (p : ℕ) {q : ℕ} (row : List (LevelNode K ℕ)) → length (heads row) ≡ 1 → FitRow 4 8 row → (inner_gain p (sizes row)).0 ≡ Some q → 8 ≤ length (flat row)
+root_full p [] one f e = absurd (omega (arith, one))
+root_full {K} p (node m es ∷ []) one f e =
     let len : length (flat (node m es ∷ [])) ≡ length es = length-append es [] ∙ omega arith in
     elim (cases_lt (length es) 8) [ inl lt ↦ absurd (let z = none_small p (length es) lt in cc) | inr ge ↦ omega (arith, len, ge) ]
-root_full p q (node m es ∷ n ∷ ns) one f e =
+root_full p (node m es ∷ n ∷ ns) one f e =
     absurd (omega (arith, one, fit_full 4 8 (omega arith) (node m es ∷ n ∷ ns) f))
 
 -- a tree that gets a new root has many nodes
 risen : {K : Type 0} (p : ℕ) (hs : List (K × ℕ)) (row : List (LevelNode K ℕ)) (rows : List (List (LevelNode K ℕ))) → Stacked hs (row ∷ rows) → Topped hs (row ∷ rows) → length (gain_above (Some p) (map sizes (row ∷ rows))) ≡ suc (suc (length rows)) → 7 * 4 ^ length rows < length hs
 risen p hs row [] s t e =
     let g = some_grew (inner_gain p (sizes row)).0 [] (omega (arith, e)) in
-    omega (arith, root_full p g.0 row s.2 s.1 g.1, ap length s.0)
+    omega (arith, root_full p row s.2 s.1 g.1, ap length s.0)
 risen p hs row (row2 ∷ rows) s t e =
     let g = some_grew (inner_gain p (sizes row)).0 (map sizes (row2 ∷ rows)) (omega (arith, e, length-map (row2 ∷ rows) sizes)) in
     let up : length (gain_above (Some g.0) (map sizes (row2 ∷ rows))) ≡ suc (suc (length rows)) = ap (λ z. length (gain_above z (map sizes (row2 ∷ rows)))) (sym g.1) ∙ omega (arith, e) in

@@ -11,8 +11,8 @@ use Rattle.bforest_core.proofs.insertion.LeafParted.{full_gain}
 use Rattle.bforest_core.proofs.walks.Steps.{Spot, spot}
 
 -- a test that answers false disproves its condition
-not_so : {A : Type 0} (full : Bool) → full ≡ false → (IsTrue full ↔ A) → ¬ A
-not_so full none h = λ a. false≢true (sym none ∙ h.1 a)
+not_so : {A : Type 0} {full : Bool} → full ≡ false → (IsTrue full ↔ A) → ¬ A
+not_so none h = λ a. false≢true (sym none ∙ h.1 a)
 
 module _ {K V : Type 0} where
   -- the need at a full node, and at one with room
@@ -78,7 +78,7 @@ module _ {K V : Type 0} where
         level_full is more needs = omega (arith, spot_full t ms js up level (tells.0 is), needs level_above.0 level_above.1 level_above.2 level_above.3)
 
         pub level_room : full ≡ false → 1 ≡ need_above (Some p) (map sizes rows)
-        level_room none = sym (spot_room t ms js up level (omega (arith, not_so full none tells, level.most_is)))
+        level_room none = sym (spot_room t ms js up level (omega (arith, not_so none tells, level.most_is)))
 
   -- the leaf, and the test whether it is full
   module _ (most : ℕ) (t : Table K V) (ms js : List ℕ) (size : ℕ) (tree : Tree K V) (place : ℕ) (p : Placed most t ms js size tree place) where
@@ -131,4 +131,4 @@ module _ {K V : Type 0} where
           leaf_full is more needs = needs leaf_above.0 leaf_above.1 leaf_above.2 leaf_above.3 ∙ sym (leaf_need_full most t ms js tree place leaf (leaf_tells.0 is))
 
           pub leaf_room : full ≡ false → 0 ≡ need most place (sizes_of tree)
-          leaf_room none = sym (ap (λ z. need_above z.0 (map sizes tree.above)) (room_gain most t ms js tree place leaf (omega (arith, not_so full none leaf_tells, leaf.most_is))))
+          leaf_room none = sym (ap (λ z. need_above z.0 (map sizes tree.above)) (room_gain most t ms js tree place leaf (omega (arith, not_so none leaf_tells, leaf.most_is))))

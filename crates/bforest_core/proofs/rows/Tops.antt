@@ -9,9 +9,9 @@ only [] x b one = refl
 only (y ∷ a) x b one = absurd (omega (arith, one, length-append a (x ∷ b)))
 
 -- an only node of a row is the first of its heads
-top_row : {K X : Type 0} (row before : List (LevelNode K X)) (n : ℕ) (es : List (K × X)) (after : List (LevelNode K X)) → row ≡ before ++ node n es ∷ after → 1 ≤ length es → length (heads row) ≡ 1 → first_number (heads row) ≡ n
-top_row row before n [] after is some one = absurd (omega (arith, some))
-top_row row before n (e ∷ es) after is some one =
+top_row : {K X : Type 0} {row : List (LevelNode K X)} (before : List (LevelNode K X)) (n : ℕ) (es : List (K × X)) (after : List (LevelNode K X)) → row ≡ before ++ node n es ∷ after → 1 ≤ length es → length (heads row) ≡ 1 → first_number (heads row) ≡ n
+top_row before n [] after is some one = absurd (omega (arith, some))
+top_row {row = row} before n (e ∷ es) after is some one =
     let hs : heads row ≡ heads before ++ (e.0, n) ∷ heads after = ap heads is ∙ heads-append before (node n (e ∷ es) ∷ after) in
     ap first_number hs ∙ only (heads before) (e.0, n) (heads after) (ap length (sym hs) ∙ one)
 
@@ -20,7 +20,7 @@ pub top_rows : {K : Type 0} (hs : List (K × ℕ)) (ms js : List ℕ) (level : �
 top_rows hs ms js level row [] place s st =
     let at = st.0 in
     let here : level ≡ level + 0 = omega arith in
-    top_row row at.before (get_or ms level 0) at.entries at.after at.row_is (omega (arith, at.within)) s.2 ∙ ap (λ z. get_or ms z 0) here
+    top_row at.before (get_or ms level 0) at.entries at.after at.row_is (omega (arith, at.within)) s.2 ∙ ap (λ z. get_or ms z 0) here
 top_rows hs ms js level row (row2 ∷ rows) place s st =
     let here : suc level + length rows ≡ level + suc (length rows) = omega arith in
     top_rows (heads row) ms js (suc level) row2 rows (length st.0.before) s.2 st.1 ∙ ap (λ z. get_or ms z 0) here
@@ -30,7 +30,7 @@ pub top_tree : {K V : Type 0} (leaves : List (LevelNode K V)) (above : List (Lis
     Stacked (heads leaves) above → StandsAbove ms js 1 above place → size ≡ suc (length above) → root_above (heads leaves) above ≡ top_of ms size
 top_tree leaves [] ms js size place before es after is some s st size_is =
     let here : 0 ≡ size - 1 = omega (arith, size_is) in
-    top_row leaves before (get_or ms 0 0) es after is some s ∙ ap (λ z. get_or ms z 0) here
+    top_row before (get_or ms 0 0) es after is some s ∙ ap (λ z. get_or ms z 0) here
 top_tree leaves (row ∷ rows) ms js size place before es after is some s st size_is =
     let here : 1 + length rows ≡ size - 1 = omega (arith, size_is) in
     top_rows (heads leaves) ms js 1 row rows place s st ∙ ap (λ z. get_or ms z 0) here

@@ -25,17 +25,17 @@ module _ {K V : Type 0} where
       IsPool-made (set nodes at content) (chain_from nodes free first) first free limit pool.capacity (IsChain-set nodes _ first at content off pool.linked) pool.counted pool.distinct (omega (arith, length-set nodes at content, pool.slots_within)) pool.limit_within
 
   -- writes to two slots that are not on the chain keep the chain
-  pub IsPool-set_two : {n : ℕ} (nodes : List (Content K V)) (first : Option ℕ) (free limit left right : ℕ) (l r : Content K V) (t : Table K V) (a b : ℕ) → record { nodes = nodes; chain = chain_from nodes free first; limit = limit } ≡ t → left ≡ a → right ≡ b →
+  pub IsPool-set_two : {n : ℕ} (nodes : List (Content K V)) (first : Option ℕ) (free limit : ℕ) {left right : ℕ} (l r : Content K V) {t : Table K V} {a b : ℕ} → record { nodes = nodes; chain = chain_from nodes free first; limit = limit } ≡ t → left ≡ a → right ≡ b →
       list_any (nat_eq a) t.chain ≡ false → list_any (nat_eq b) t.chain ≡ false → IsPool n nodes first free limit → IsPool n (set (set nodes left l) right r) first free limit × (chain_from (set (set nodes left l) right r) free first ≡ chain_from nodes free first)
-  IsPool-set_two {n = n} nodes first free limit left right l r t a b view left_is right_is off_a off_b pool =
+  IsPool-set_two {n = n} nodes first free limit {left = left} {right = right} l r {t = t} {a = a} {b = b} view left_is right_is off_a off_b pool =
       let once = IsPool-set left l (rw (← view, ← left_is) at off_a) pool in
       let off_right = rw (← view, ← right_is) at off_b in
       let twice = IsPool-set right r (ap (list_any (nat_eq right)) once.1 ∙ off_right) once.0 in
       (twice.0, twice.1 ∙ once.1)
 
   -- a used node is used in an equal table, under an equal number
-  pub used_inside : {t : Table K V} (u : Table K V) {node : ℕ} (number : ℕ) → u ≡ t → number ≡ node → IsUsed t node → IsUsed u number
-  used_inside u number same number_is used = rw (same, number_is) used
+  pub used_inside : {t : Table K V} {u : Table K V} {node : ℕ} {number : ℕ} → u ≡ t → number ≡ node → IsUsed t node → IsUsed u number
+  used_inside same number_is used = rw (same, number_is) used
 
   -- at most as many nodes are free as there are slots
   pub free_within : {n : ℕ} (nodes : List (Content K V)) (first : Option ℕ) (free : ℕ) {limit : ℕ} → IsPool n nodes first free limit → free ≤ length nodes
@@ -75,15 +75,15 @@ module _ {K V : Type 0} where
   first_some (Some node) free some pool = refl
 
   -- the front of the chain is a free node
-  pub front_is_free : {n : ℕ} {nodes : List (Content K V)} (node free : ℕ) {limit : ℕ} → 0 < free → IsPool n nodes (Some node) free limit → (next : Option ℕ) × (slice_get nodes node ≡ Some (Free next))
-  front_is_free node zero some pool = absurd (omega arith)
-  front_is_free node (suc count) some pool = (pool.linked.0, pool.linked.2)
+  pub front_is_free : {n : ℕ} {nodes : List (Content K V)} {node : ℕ} (free : ℕ) {limit : ℕ} → 0 < free → IsPool n nodes (Some node) free limit → (next : Option ℕ) × (slice_get nodes node ≡ Some (Free next))
+  front_is_free zero some pool = absurd (omega arith)
+  front_is_free (suc count) some pool = (pool.linked.0, pool.linked.2)
 
   -- the front of the chain is taken off it
-  pub IsPool-taken : {n : ℕ} {nodes : List (Content K V)} (node : ℕ) (next : Option ℕ) (free : ℕ) {limit : ℕ} → 0 < free → IsPool n nodes (Some node) free limit → slice_get nodes node ≡ Some (Free next)
+  pub IsPool-taken : {n : ℕ} {nodes : List (Content K V)} {node : ℕ} (next : Option ℕ) (free : ℕ) {limit : ℕ} → 0 < free → IsPool n nodes (Some node) free limit → slice_get nodes node ≡ Some (Free next)
       → IsPool n nodes next (free - 1) limit × (chain_from nodes free (Some node) ≡ node ∷ chain_from nodes (free - 1) next) × (list_any (nat_eq node) (chain_from nodes (free - 1) next) ≡ false)
-  IsPool-taken node next zero some pool found = absurd (omega arith)
-  IsPool-taken {nodes = nodes} node next (suc count) {limit = limit} some pool found =
+  IsPool-taken next zero some pool found = absurd (omega arith)
+  IsPool-taken {nodes = nodes} {node = node} next (suc count) {limit = limit} some pool found =
       let less : suc count - 1 ≡ count = omega arith in
       let after : next_of (slice_get nodes node) ≡ next = ap next_of found in
       let same : pool.linked.0 ≡ next = let there = pool.linked.2 in cc in
@@ -104,17 +104,17 @@ module _ {K V : Type 0} where
   off-without_front table (front ∷ rest) node is off = (or_parts (nat_eq node front) (list_any (nat_eq node) rest) off).1
 
   -- writing the taken front of the chain
-  pub with_front-is : (table : Table K V) (chain : List ℕ) (node : ℕ) (content : Content K V) → front_of chain ≡ Some node → with_front table chain content ≡ with_node (without_front table chain) node content
-  with_front-is table [] node content front = cc
-  with_front-is table (first ∷ rest) node content front = let same : first ≡ node = cc in rw same
+  pub with_front-is : (table : Table K V) (chain : List ℕ) {node : ℕ} (content : Content K V) → front_of chain ≡ Some node → with_front table chain content ≡ with_node (without_front table chain) node content
+  with_front-is table [] content front = cc
+  with_front-is table (first ∷ rest) {node = node} content front = let same : first ≡ node = cc in rw same
 
   -- a table with no slots, from its fields
   pub empty-is : (table : Table K V) (limit : ℕ) → table.nodes ≡ [] → table.chain ≡ [] → table.limit ≡ limit → table ≡ record { nodes = []; chain = []; limit = limit }
   empty-is table limit nodes_are chain_is limit_is = rw (← nodes_are, ← chain_is, ← limit_is) refl
 
 -- a number that is not on the chain is not its front
-pub apart_front : (chain : List ℕ) (node front : ℕ) → front_of chain ≡ Some front → list_any (nat_eq node) chain ≡ false → front ≡ node → ⊥
-apart_front [] node front is off e = cc
-apart_front (first ∷ rest) node front is off e =
+pub apart_front : (chain : List ℕ) {node front : ℕ} → front_of chain ≡ Some front → list_any (nat_eq node) chain ≡ false → front ≡ node → ⊥
+apart_front [] is off e = cc
+apart_front (first ∷ rest) {node = node} {front = front} is off e =
     let same : first ≡ front = cc in
     eqb-false node first (or_parts (nat_eq node first) (list_any (nat_eq node) rest) off).0 (sym (same ∙ e))

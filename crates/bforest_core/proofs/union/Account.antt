@@ -78,8 +78,8 @@ module _ {K V : Type 0} where
           elim (cases_lt 0 (count m (map root_of trees))) [ inl some ↦ absurd (false≢true (sym e ∙ (root-counts f m).1 some)) | inr past ↦ omega (arith, k, past) ]
 
   -- the slots are the free nodes and the nodes of the trees under all roots
-  pub account : (most : ℕ) (table : Table K V) → IsUnion most table → length table.nodes ≡ length table.chain + sum_by (λ n. if is_root table.nodes n then length (numbers_of (tree_of table.nodes n)) else 0) (upto (length table.nodes))
-  account most table union =
+  pub account : {most : ℕ} (table : Table K V) → IsUnion most table → length table.nodes ≡ length table.chain + sum_by (λ n. if is_root table.nodes n then length (numbers_of (tree_of table.nodes n)) else 0) (upto (length table.nodes))
+  account table union =
       let trees = union.0 in
       let f = union.1 in
       let a = length-same (flat_map numbers_of trees ++ table.chain) (upto (length table.nodes)) (λ m. f.account m ∙ sym (count-upto m (length table.nodes))) in

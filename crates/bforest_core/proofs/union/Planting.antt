@@ -10,9 +10,9 @@ use Rattle.bforest_core.proofs.union.Roots.{not-root, one_root, one_tree}
 use Rattle.bforest_core.proofs.union.Reserved.{reserved-union, reserved-then, reserved-roots}
 
 -- a chain with a front is not empty
-front_rest : (m : ℕ) (chain : List ℕ) → front_of chain ≡ Some m → (rest : List ℕ) × (chain ≡ m ∷ rest)
-front_rest m [] e = absurd cc
-front_rest m (x ∷ rest) e = (rest, (let same : x ≡ m = cc in ap (λ z. z ∷ rest) same))
+front_rest : {m : ℕ} (chain : List ℕ) → front_of chain ≡ Some m → (rest : List ℕ) × (chain ≡ m ∷ rest)
+front_rest [] e = absurd cc
+front_rest {m = m} (x ∷ rest) e = (rest, (let same : x ≡ m = cc in ap (λ z. z ∷ rest) same))
 
 -- a table without slots has no root
 pub no-root : (K V : Type 0) (number : ℕ) → ¬ IsTrue (is_root {K = K} {V = V} [] number)
@@ -25,12 +25,12 @@ module _ {K V : Type 0} where
   IsUnion-empty n capacity = ([], record { capacity = capacity; fit = tt; inside = tt; some = tt; low = tt; free = tt; account = λ m. sym (past-none m 0 (omega arith)) })
 
   -- `alloc_node` leaves a tree of one leaf with one entry under a number that had no tree, and takes one node
-  pub planted-alloc : (most : ℕ) {old : Table K V} (new : Table K V) (number : ℕ) (key : K) (value : V) → IsUnion most old → front_of (reserved old 1).chain ≡ Some number → new ≡ with_front (reserved old 1) (reserved old 1).chain (Leaf (key ∷ []) (value ∷ [])) →
+  pub planted-alloc : (most : ℕ) {old : Table K V} (new : Table K V) {number : ℕ} (key : K) (value : V) → IsUnion most old → front_of (reserved old 1).chain ≡ Some number → new ≡ with_front (reserved old 1) (reserved old 1).chain (Leaf (key ∷ []) (value ∷ [])) →
       Plants most old new number (key, value)
-  planted-alloc most {old = old} new number key value union front is =
+  planted-alloc most {old = old} new {number = number} key value union front is =
       let mid = reserved old 1 in
       let u = reserved-union most old 1 union in
-      let f = front_rest number mid.chain front in
+      let f = front_rest mid.chain front in
       let t = takes mid new number (Leaf (key ∷ []) (value ∷ [])) front is (within-slots u.1 number (omega (arith, ap (λ z. count number z) f.1, count-same number f.0))) in
       let tree : Tree K V = record { leaves = node number ((key, value) ∷ []) ∷ []; above = [] } in
       let p : IsPlanted most new.nodes tree = record {

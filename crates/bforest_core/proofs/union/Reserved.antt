@@ -97,6 +97,6 @@ module _ {K V : Type 0} where
       subst (λ (z : Table K V). IsUnion most z × KeepsTrees old.nodes z.nodes) (sym is) (reserved-union most old n union, reserved-roots most old n union)
 
   -- at least `n` nodes are free after a reservation of `n`
-  pub reserved-frees : (old new : Table K V) (n : ℕ) → new ≡ reserved old n → n ≤ free_count new
-  reserved-frees old new n is =
+  pub reserved-frees : (old : Table K V) {new : Table K V} (n : ℕ) → new ≡ reserved old n → n ≤ free_count new
+  reserved-frees old n is =
       omega (arith, ap (λ (z : Table K V). length z.chain) is, length-append (down_from (slot_count old) (n - free_count old)) old.chain, length-down_from (slot_count old) (n - free_count old))

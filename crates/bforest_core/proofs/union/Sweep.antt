@@ -217,8 +217,8 @@ module _ {K V : Type 0} where
           down = ap (λ z. numbers_down slots z number) s.count_is ∙ ap (λ z. number ∷ flat_map (numbers_down slots (length s.rows)) (reverse (children_of z))) (slot-is slots number (inner_content es) s.slot_is);
         }
 
-    pub under-open : {lower : List (List (LevelNode K ℕ))} (first : K) (number : ℕ) → Under most slots leaves lower ((first, number) ∷ []) → Opened most slots leaves lower number
-    under-open {lower = lower} first number u = elim (node_under one lower [] first number [] u) [ inl s ↦ open_leaf lower number s | inr s ↦ open_inner lower number s ]
+    pub under-open : {lower : List (List (LevelNode K ℕ))} {first : K} {number : ℕ} → Under most slots leaves lower ((first, number) ∷ []) → Opened most slots leaves lower number
+    under-open {lower = lower} {first = first} {number = number} u = elim (node_under one lower [] first number [] u) [ inl s ↦ open_leaf lower number s | inr s ↦ open_inner lower number s ]
 
   -- the progress of freeing a node's children, and the node itself
   pub record Sweeping (most : ℕ) (old now : Table K V) (leaves : List (LevelNode K V)) (lower : List (List (LevelNode K ℕ))) (number index : ℕ) : Type 0 where
@@ -275,9 +275,9 @@ module _ {K V : Type 0} where
 
   -- the child at the index, and everything below it
   pub child_turn : {most : ℕ} (one : 1 ≤ half_of most) {old now : Table K V} {leaves : List (LevelNode K V)}
-      {lower : List (List (LevelNode K ℕ))} {number index : ℕ} (child : ℕ) → (s : Sweeping most old now leaves lower number index)
+      {lower : List (List (LevelNode K ℕ))} {number index : ℕ} {child : ℕ} → (s : Sweeping most old now leaves lower number index)
       → slice_get (children_of s.opened.content) index ≡ Some child → (x : K × ℕ) × (x.1 ≡ child) × (index < length s.opened.top)
       × Turn most one old s.opened.low s.opened.rows s.opened.top now index x
-  child_turn {most = most} one {old = old} {now = now} {index = index} child s found =
+  child_turn {most = most} one {old = old} {now = now} {index = index} {child = child} s found =
       let i = item_at s.opened.top index child (ap (λ z. slice_get z index) (sym s.opened.children_are) ∙ found) in
       (i.0, i.2, slice_get_within s.opened.top index i.0 i.1, sweep-turn most one old s.opened.low s.opened.rows s.opened.top now index i.0 s.apart s.swept i.1)

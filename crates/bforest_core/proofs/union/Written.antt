@@ -73,7 +73,7 @@ module _ {K V : Type 0} (most : ℕ) (table : Table K V) (root place : ℕ) (pat
       let x = read at.entries (get_or indices 0 0) at.within in
       ap (λ z. option_and_then (λ content. slice_get (vals_of content) (get_or indices 0 0)) z) leaf_at
       ∙ items-read at.entries (get_or indices 0 0)
-      ∙ ap (λ z. option_map (λ (e : K × V). e.1) z) (x.1 ∙ sym (ap (λ z. slice_get (flat (tree_of table.nodes root).leaves) z) at.place_is ∙ entry_at (tree_of table.nodes root).leaves at.before (get_or path 0 0) at.entries at.after (get_or indices 0 0) x.0 at.row_is x.1))
+      ∙ ap (λ z. option_map (λ (e : K × V). e.1) z) (x.1 ∙ sym (ap (λ z. slice_get (flat (tree_of table.nodes root).leaves) z) at.place_is ∙ entry_at at.before (get_or path 0 0) at.entries at.after (get_or indices 0 0) at.row_is x.1))
 
   -- writing the value writes it at the place of the tree's list
   pub value-written : (v : V) → Changes most table (with_value_at table (get_or path 0 0) (get_or indices 0 0) v) root root

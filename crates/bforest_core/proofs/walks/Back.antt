@@ -20,7 +20,7 @@ module _ {K V : Type 0} {slots : List (Content K V)} {root code depth : ℕ} {nu
 
   module _ (some : depth ≢ 0) where
     -- the child before, of the same node
-    module _ (low : 0 < code % 8) (parent : ℕ) (same : parent ≡ (here p some).number) where
+    module _ (low : 0 < code % 8) {parent : ℕ} (same : parent ≡ (here p some).number) where
       index-low : code % 8 - 1 < length (here p some).at.entries
       index-low = omega (arith, (here p some).within)
 
@@ -28,13 +28,13 @@ module _ {K V : Type 0} {slots : List (Content K V)} {root code depth : ℕ} {nu
       to-is = omega (arith, low, (here p some).place_is)
 
       pub prev-asks : (keys : List K) × (children : List ℕ) × (slice_get slots parent ≡ Some (Inner keys children)) × (code % 8 - 1 < length children)
-      prev-asks = child-asks p some (node-here p some parent same) (code % 8 - 1) index-low
+      prev-asks = child-asks p some (node-here p some same) (code % 8 - 1) index-low
 
       pub prev-code : (0 < place) × CodedOver slots root (code - 1) depth (parent ∷ drop 1 numbers) rows list (place - 1)
-      prev-code = (omega (arith, low, (here p some).place_is), child-code p some (node-here p some parent same) (here p some).over (code % 8 - 1) (code - 1) (place - 1) index-low (omega (arith, low)) to-is)
+      prev-code = (omega (arith, low, (here p some).place_is), child-code p some (node-here p some same) (here p some).over (code % 8 - 1) (code - 1) (place - 1) index-low (omega (arith, low)) to-is)
 
-      pub prev-child : (child : ℕ) → ((keys : List K) (children : List ℕ) → slice_get slots parent ≡ Some (Inner keys children) → slice_get children (code % 8 - 1) ≡ Some child) → NumberAt list (place - 1) child
-      prev-child child reads = child-is p some (node-here p some parent same) (code % 8 - 1) child (place - 1) index-low to-is reads
+      pub prev-child : {child : ℕ} → ((keys : List K) (children : List ℕ) → slice_get slots parent ≡ Some (Inner keys children) → slice_get children (code % 8 - 1) ≡ Some child) → NumberAt list (place - 1) child
+      prev-child {child = child} reads = child-is p some (node-here p some same) (code % 8 - 1) (place - 1) index-low to-is reads
 
     -- the node before this one on the level above, and the way there
     abbrev pub PrevAbove : ℕ → ℕ → Type 0
@@ -80,13 +80,13 @@ module _ {K V : Type 0} {slots : List (Content K V)} {root code depth : ℕ} {nu
           pub last-code : (0 < place) × CodedOver slots root (above * 8 + last) depth (node ∷ on.1) rows list (place - 1)
           last-code = (omega (arith, meets), child-code p some node-before on.2 last (above * 8 + last) (place - 1) within refl to-last)
 
-          pub last-child : (child : ℕ) → ((keys : List K) (children : List ℕ) → slice_get slots node ≡ Some (Inner keys children) → slice_get children last ≡ Some child) → NumberAt list (place - 1) child
-          last-child child reads = child-is p some node-before last child (place - 1) within to-last reads
+          pub last-child : {child : ℕ} → ((keys : List K) (children : List ℕ) → slice_get slots node ≡ Some (Inner keys children) → slice_get children last ≡ Some child) → NumberAt list (place - 1) child
+          last-child {child = child} reads = child-is p some node-before last (place - 1) within to-last reads
 
 module _ {K V : Type 0} {n : ℕ} {table : Table K V} (union : IsUnion n table) {root : ℕ} {spot : Spot} {place : ℕ} (s : IsSpotAt table root spot place) where
   module _ (h : HasPrev spot) where
     pub sibling-asks : (keys : List K) × (children : List ℕ) × (slice_get table.nodes spot.parent ≡ Some (Inner keys children)) × (spot.code % 8 - 1 < length children)
-    sibling-asks = prev-asks (spot-over union s) (other union s h.0) h.1 spot.parent (its union s h.0)
+    sibling-asks = prev-asks (spot-over union s) (other union s h.0) h.1 (its union s h.0)
 
     -- the leaf before, which has the same parent
     pub sibling-before : {next : Spot} {child : ℕ} → next.code ≡ spot.code - 1 → next.parent ≡ spot.parent → next.grand ≡ spot.grand
@@ -95,8 +95,8 @@ module _ {K V : Type 0} {n : ℕ} {table : Table K V} (union : IsUnion n table) 
         → slice_get children (spot.code % 8 - 1) ≡ Some child) → (0 < place) × IsSpotAt table root next (place - 1)
         × IsLeafAt table root (place - 1) child
     sibling-before {next} {child} code parent grand height reads =
-        let q = prev-code (spot-over union s) (other union s h.0) h.1 spot.parent (its union s h.0) in
-        (q.0, far-spot union s (way-of q.1 next code height (λ low. sym parent) (λ low. s.grand_is low ∙ sym grand)), leaf-at union root s.root_is (prev-child (spot-over union s) (other union s h.0) h.1 spot.parent (its union s h.0) child reads))
+        let q = prev-code (spot-over union s) (other union s h.0) h.1 (its union s h.0) in
+        (q.0, far-spot union s (way-of q.1 next code height (λ low. sym parent) (λ low. s.grand_is low ∙ sym grand)), leaf-at union root s.root_is (prev-child (spot-over union s) (other union s h.0) h.1 (its union s h.0) reads))
 
   module _ (first : HasPrev spot → ⊥) where
     digit-nought : 0 < spot.height → spot.code % 8 ≤ 0
@@ -117,12 +117,12 @@ module _ {K V : Type 0} {n : ℕ} {table : Table K V} (union : IsUnion n table) 
       some = omega (arith, deep)
 
       pub parent-before-asks : (keys : List K) × (children : List ℕ) × (slice_get table.nodes spot.grand ≡ Some (Inner keys children)) × (spot.code / 8 % 8 - 1 < length children)
-      parent-before-asks = prev-asks (up union s deep) (more union s deep) low spot.grand (grand-is union s deep)
+      parent-before-asks = prev-asks (up union s deep) (more union s deep) low (grand-is union s deep)
 
       module _ {parent : ℕ} (reads : (keys : List K) (children : List ℕ) → slice_get table.nodes spot.grand ≡ Some (Inner keys children) → slice_get children (spot.code / 8 % 8 - 1) ≡ Some parent) where
         abbrev on : PrevAbove (spot-over union s) (other union s some) (spot.code / 8 - 1) parent
-        on = let q = prev-code (up union s deep) (more union s deep) low spot.grand (grand-is union s deep) in
-            (q.0, spot.grand ∷ drop 1 (drop 1 s.numbers), q.1, prev-child (up union s deep) (more union s deep) low spot.grand (grand-is union s deep) parent reads)
+        on = let q = prev-code (up union s deep) (more union s deep) low (grand-is union s deep) in
+            (q.0, spot.grand ∷ drop 1 (drop 1 s.numbers), q.1, prev-child (up union s deep) (more union s deep) low (grand-is union s deep) reads)
 
         pub cousin-last-asks : (content : Content K V) × (slice_get table.nodes parent ≡ Some content) × (1 ≤ entry_count content)
         cousin-last-asks = last-asks (spot-over union s) (other union s some) (digit-nought some) on
@@ -139,7 +139,7 @@ module _ {K V : Type 0} {n : ℕ} {table : Table K V} (union : IsUnion n table) 
               × IsLeafAt table root (place - 1) leaf
           cousin-before {next} {leaf} code parent_is grand height found =
               let q = last-code (spot-over union s) (other union s some) (digit-nought some) on says in
-              (q.0, far-spot union s (way-of q.1 next code height (λ low. sym parent_is) (λ low. sym grand)), leaf-at union root s.root_is (last-child (spot-over union s) (other union s some) (digit-nought some) on says leaf found))
+              (q.0, far-spot union s (way-of q.1 next code height (λ low. sym parent_is) (λ low. sym grand)), leaf-at union root s.root_is (last-child (spot-over union s) (other union s some) (digit-nought some) on says found))
 
 -- what is said of the node before, to which a way from the root leads, of a spot
 pub far-before : {K V : Type 0} {n : ℕ} {table : Table K V} (union : IsUnion n table) (root : ℕ) (spot : Spot) (found : Option (Spot × ℕ))

@@ -21,8 +21,8 @@ same-cut [] x1 a1 (y ∷ b2) x2 a2 e l = absurd (omega (arith, l))
 same-cut (y ∷ b1) x1 a1 [] x2 a2 e l = absurd (omega (arith, l))
 same-cut (y ∷ b1) x1 a1 (z ∷ b2) x2 a2 e l = let r = same-cut b1 x1 a1 b2 x2 a2 (cc) (omega (arith, l)) in (cc, r.1)
 
-node-number : {K X : Type 0} (i : ℕ) (xs : List (K × X)) (j : ℕ) (ys : List (K × X)) → node i xs ≡ node j ys → i ≡ j
-node-number i xs j ys e = cc
+node-number : {K X : Type 0} {i : ℕ} {xs : List (K × X)} {j : ℕ} {ys : List (K × X)} → node i xs ≡ node j ys → i ≡ j
+node-number e = cc
 
 module _ {K V X : Type 0} (content : List (K × X) → Content K V) (slots : List (Content K V)) (most : ℕ) where
   -- the node of this number at a place of a row
@@ -55,7 +55,7 @@ module _ {K V X : Type 0} (content : List (K × X) → Content K V) (slots : Lis
     pub node-same : {number1 : ℕ} (b : NodeIn row number1 place) → number1 ≡ number
     node-same {number1} b =
         let same = (same-cut b.before (node number1 b.entries) b.after a.before (node number a.entries) a.after (sym b.row_is ∙ a.row_is) (b.at ∙ sym a.at)).1 in
-        node-number number1 b.entries number a.entries same
+        node-number same
 
     -- the entries of the node are those in front of the next node's
     pub seam : {number1 place1 : ℕ} (b : NodeIn row number1 place1) → place1 ≡ suc place → length (flat b.before) ≡ length (flat a.before) + length a.entries
@@ -155,13 +155,13 @@ module _ {K V : Type 0} {slots : List (Content K V)} {root code depth : ℕ} {nu
       (others : List ℕ) × CodedOver slots root above (depth - 1) others here.rest (heads here.row) (suc here.top) × NumberAt (heads here.row) (suc here.top) number
 
   -- what a child of a node is, as it was read
-  pub child-is : {number top : ℕ} (w : NodeIn inner_content slots 8 here.row number top) (index child to : ℕ) → index < length w.entries → to ≡ length (flat w.before) + index →
+  pub child-is : {number top : ℕ} (w : NodeIn inner_content slots 8 here.row number top) (index : ℕ) {child : ℕ} (to : ℕ) → index < length w.entries → to ≡ length (flat w.before) + index →
       ((keys : List K) (children : List ℕ) → slice_get slots number ≡ Some (Inner keys children) → slice_get children index ≡ Some child) → NumberAt list to child
-  child-is {number} w index child to low to_is reads =
+  child-is {number} w index {child = child} to low to_is reads =
       let e = read w.entries index low in
       let item : slice_get (entry_items w.entries) index ≡ Some e.0.1 = items-read w.entries index ∙ ap (λ z. option_map (λ (x : K × ℕ). x.1) z) e.1 in
       let same : e.0.1 ≡ child = some_same e.0.1 child (sym item ∙ reads (drop 1 (entry_keys w.entries)) (entry_items w.entries) w.slot_is) in
-      (e.0.0, ap (λ z. slice_get z to) (sym here.flat_is) ∙ ap (λ z. slice_get (flat here.row) z) to_is ∙ entry_at here.row w.before number w.entries w.after index e.0 w.row_is e.1 ∙ ap (λ z. Some (e.0.0, z)) same)
+      (e.0.0, ap (λ z. slice_get z to) (sym here.flat_is) ∙ ap (λ z. slice_get (flat here.row) z) to_is ∙ entry_at w.before number w.entries w.after index w.row_is e.1 ∙ ap (λ z. Some (e.0.0, z)) same)
 
   pub child-asks : {number top : ℕ} (w : NodeIn inner_content slots 8 here.row number top) (index : ℕ) → index < length w.entries → (keys : List K) × (children : List ℕ) × (slice_get slots number ≡ Some (Inner keys children)) × (index < length children)
   child-asks w index low = (drop 1 (entry_keys w.entries), entry_items w.entries, w.slot_is, omega (arith, low, item_count w.entries))
@@ -195,7 +195,7 @@ module _ {K V : Type 0} {slots : List (Content K V)} {root code depth : ℕ} {nu
   pub read-same : (parent : ℕ) → ((numbers : List ℕ) (rows : List (List (LevelNode K ℕ))) (list : List (K × ℕ)) (place : ℕ) → CodedOver slots root (code / 8) (depth - 1) numbers rows list place → NumberAt list place parent) → parent ≡ here.number
   read-same parent says = node-same inner_content slots 8 here.at (node-at inner_content slots 8 4 (omega arith) here.row here.fit here.inside parent here.top (says (drop 1 numbers) here.rest (heads here.row) here.top here.over))
 
-  module _ (parent : ℕ) (same : parent ≡ here.number) where
+  module _ {parent : ℕ} (same : parent ≡ here.number) where
     abbrev pub node-here : NodeIn inner_content slots 8 here.row parent here.top
     node-here = record {
       before = here.at.before;
@@ -214,13 +214,13 @@ module _ {K V : Type 0} {slots : List (Content K V)} {root code depth : ℕ} {nu
     code-asks = child-asks node-here (code % 8) here.within
 
     pub code-child : (child : ℕ) → ((keys : List K) (children : List ℕ) → slice_get slots parent ≡ Some (Inner keys children) → slice_get children (code % 8) ≡ Some child) → NumberAt list place child
-    code-child child reads = child-is node-here (code % 8) child place here.within here.place_is reads
+    code-child child reads = child-is node-here (code % 8) place here.within here.place_is reads
 
     -- what the number of children asks, and says
     pub count-asks : (content : Content K V) × (slice_get slots parent ≡ Some content) × IsInner content
     count-asks = (inner_content here.at.entries, node-here.slot_is, tt)
 
-    module _ (count : ℕ) (counts : (content : Content K V) → slice_get slots parent ≡ Some content → count ≡ entry_count content) where
+    module _ {count : ℕ} (counts : (content : Content K V) → slice_get slots parent ≡ Some content → count ≡ entry_count content) where
       count-is : count ≡ length here.at.entries
       count-is = counts (inner_content here.at.entries) node-here.slot_is ∙ item_count here.at.entries
 
@@ -231,8 +231,8 @@ module _ {K V : Type 0} {slots : List (Content K V)} {root code depth : ℕ} {nu
       pub next-asks : code % 8 + 1 < count → (keys : List K) × (children : List ℕ) × (slice_get slots parent ≡ Some (Inner keys children)) × (code % 8 + 1 < length children)
       next-asks low = child-asks node-here (code % 8 + 1) (omega (arith, low, count-is))
 
-      pub next-child : (child : ℕ) → code % 8 + 1 < count → ((keys : List K) (children : List ℕ) → slice_get slots parent ≡ Some (Inner keys children) → slice_get children (code % 8 + 1) ≡ Some child) → NumberAt list (suc place) child
-      next-child child low reads = child-is node-here (code % 8 + 1) child (suc place) (omega (arith, low, count-is)) (omega (arith, here.place_is)) reads
+      pub next-child : {child : ℕ} → code % 8 + 1 < count → ((keys : List K) (children : List ℕ) → slice_get slots parent ≡ Some (Inner keys children) → slice_get children (code % 8 + 1) ≡ Some child) → NumberAt list (suc place) child
+      next-child {child = child} low reads = child-is node-here (code % 8 + 1) (suc place) (omega (arith, low, count-is)) (omega (arith, here.place_is)) reads
 
       pub next-code : code % 8 + 1 < count → CodedOver slots root (code + 1) depth (parent ∷ drop 1 numbers) rows list (suc place)
       next-code low = child-code node-here here.over (code % 8 + 1) (code + 1) (suc place) (omega (arith, low, count-is)) (omega arith) (omega (arith, here.place_is))
@@ -262,8 +262,8 @@ module _ {K V : Type 0} {slots : List (Content K V)} {root code depth : ℕ} {nu
         pub first-code : CodedOver slots root (above * 8) depth (node ∷ on.0) rows list (suc place)
         first-code = child-code next-node on.1 0 (above * 8) (suc place) next-node.some (omega arith) start
 
-        pub first-child : (child : ℕ) → ((keys : List K) (children : List ℕ) → slice_get slots node ≡ Some (Inner keys children) → slice_get children 0 ≡ Some child) → NumberAt list (suc place) child
-        first-child child reads = child-is next-node 0 child (suc place) next-node.some start reads
+        pub first-child : {child : ℕ} → ((keys : List K) (children : List ℕ) → slice_get slots node ≡ Some (Inner keys children) → slice_get children 0 ≡ Some child) → NumberAt list (suc place) child
+        first-child {child = child} reads = child-is next-node 0 (suc place) next-node.some start reads
 
 -- the lowest node is the first of the numbers
 pub kept-same : {K V : Type 0} {slots : List (Content K V)} {root code depth : ℕ} {numbers : List ℕ} (rows : List (List (LevelNode K ℕ)))
@@ -300,28 +300,28 @@ module _ {K V : Type 0} {n : ℕ} {table : Table K V} (union : IsUnion n table) 
     its = kept-same (tree_of table.nodes root).above spot-over other spot.parent (s.parent_is some)
 
     pub spot-count : (content : Content K V) × (slice_get table.nodes spot.parent ≡ Some content) × IsInner content
-    spot-count = count-asks spot-over other spot.parent its
+    spot-count = count-asks spot-over other its
 
-    module _ (count : ℕ) (counts : (content : Content K V) → slice_get table.nodes spot.parent ≡ Some content → count ≡ entry_count content) where
+    module _ {count : ℕ} (counts : (content : Content K V) → slice_get table.nodes spot.parent ≡ Some content → count ≡ entry_count content) where
       pub spot-last : count ≤ spot.code % 8 + 1 → HasNext table spot → ⊥
       spot-last high h = omega (arith, high, h.within, counts (inner_content h.entries) h.parent, item_count h.entries)
 
       pub spot-has : spot.code % 8 + 1 < count → HasNext table spot
-      spot-has low = record { some = some; entries = (here spot-over other).at.entries; parent = (node-here spot-over other spot.parent its).slot_is; within = omega (arith, low, count-is spot-over other spot.parent its count counts) }
+      spot-has low = record { some = some; entries = (here spot-over other).at.entries; parent = (node-here spot-over other its).slot_is; within = omega (arith, low, count-is spot-over other its counts) }
 
     module _ (h : HasNext table spot) where
       counts-next : (content : Content K V) → slice_get table.nodes spot.parent ≡ Some content → length h.entries ≡ entry_count content
       counts-next content found = sym (ap entry_count (some_same content (inner_content h.entries) (sym found ∙ h.parent)) ∙ item_count h.entries)
 
       pub sibling-asks : (keys : List K) × (children : List ℕ) × (slice_get table.nodes spot.parent ≡ Some (Inner keys children)) × (spot.code % 8 + 1 < length children)
-      sibling-asks = next-asks spot-over other spot.parent its (length h.entries) counts-next h.within
+      sibling-asks = next-asks spot-over other its counts-next h.within
 
-      pub sibling-child : (child : ℕ) → ((keys : List K) (children : List ℕ) → slice_get table.nodes spot.parent ≡ Some (Inner keys children) → slice_get children (spot.code % 8 + 1) ≡ Some child) → IsLeafAt table root (suc place) child
-      sibling-child child reads = leaf-at union root s.root_is (next-child spot-over other spot.parent its (length h.entries) counts-next child h.within reads)
+      pub sibling-child : {child : ℕ} → ((keys : List K) (children : List ℕ) → slice_get table.nodes spot.parent ≡ Some (Inner keys children) → slice_get children (spot.code % 8 + 1) ≡ Some child) → IsLeafAt table root (suc place) child
+      sibling-child {child = child} reads = leaf-at union root s.root_is (next-child spot-over other its counts-next h.within reads)
 
       pub sibling-spot : (next : Spot) → next.code ≡ spot.code + 1 → next.parent ≡ spot.parent → next.grand ≡ spot.grand → next.height ≡ spot.height → IsSpotAt table root next (suc place)
       sibling-spot next code parent grand height =
-          let q = next-code spot-over other spot.parent its (length h.entries) counts-next h.within in
+          let q = next-code spot-over other its counts-next h.within in
           record {
             root_is = s.root_is;
             numbers = spot.parent ∷ drop 1 s.numbers;

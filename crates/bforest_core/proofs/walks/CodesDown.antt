@@ -28,10 +28,10 @@ module _ {K V : Type 0} {most : ℕ} {slots : List (Content K V)} (capacity : Is
   -- at a leaf the way has ended
   module _ (other : IsInner content → ⊥) where
     ended : LeafUnder most slots leaves lower a first number b
-    ended = leaf_under (some_leaf capacity) a first number b u content read other
+    ended = leaf_under (some_leaf capacity) a first number b u read other
 
-    way-here : {upper : List (List (LevelNode K ℕ))} {numbers : List ℕ} {spot : Spot} (place : ℕ) → IsWay numbers spot upper (length a) → length a ≡ place → (others : List ℕ) × IsWay others spot (lower ++ upper) place × NumberAt (heads leaves) place number
-    way-here {upper = upper} {numbers = numbers} {spot = spot} place w is =
+    way-here : {upper : List (List (LevelNode K ℕ))} {numbers : List ℕ} {spot : Spot} {place : ℕ} → IsWay numbers spot upper (length a) → length a ≡ place → (others : List ℕ) × IsWay others spot (lower ++ upper) place × NumberAt (heads leaves) place number
+    way-here {upper = upper} {numbers = numbers} {spot = spot} {place = place} w is =
         (numbers, subst (λ (z : List (List (LevelNode K ℕ))). IsWay numbers spot (z ++ upper) place) (sym ended.lower_is) (subst (IsWay numbers spot upper) is w), subst (λ z. NumberAt (heads leaves) z number) is (number-here lower a first number b u ended.lower_is))
 
     ends : b ≡ [] → length a ≡ length leaves - 1
@@ -43,7 +43,7 @@ module _ {K V : Type 0} {most : ℕ} {slots : List (Content K V)} (capacity : Is
   -- a level down
   module _ (inner : IsInner content) where
     below : InnerUnder most slots leaves lower a first number b
-    below = inner_under (some_leaf capacity) a first number b u content read inner
+    below = inner_under (some_leaf capacity) a first number b u read inner
 
     room : suc (length below.at.es) ≤ 8
     room =
@@ -76,8 +76,8 @@ module _ {K V : Type 0} {most : ℕ} {slots : List (Content K V)} (capacity : Is
         (parent : next.parent ≡ number) (grand : next.grand ≡ spot.parent)
         (height : next.height ≡ suc spot.height) {upper : List (List (LevelNode K ℕ))} {numbers : List ℕ}
         (w : IsWay numbers spot upper (length a)) where
-      way-down : (place : ℕ) → place ≡ length (flat below.at.before) + index → IsWay (number ∷ numbers) next (below.row ∷ upper) place
-      way-down place place_is =
+      way-down : {place : ℕ} → place ≡ length (flat below.at.before) + index → IsWay (number ∷ numbers) next (below.row ∷ upper) place
+      way-down place_is =
           let d = digit-put spot.code index next.code (omega (arith, low, room)) code in
           record {
             coded = (
@@ -99,8 +99,8 @@ module _ {K V : Type 0} {most : ℕ} {slots : List (Content K V)} (capacity : Is
 
       down : Down upper numbers next index child
       down =
-          let c = child_under below (inner_content (below.at.e ∷ below.at.es)) below.slot_is index child (reads _ _ below.slot_is) in
-          record { front = c.0; key = c.1; back = c.2; under = c.3; way = way-down (length c.0) c.4; front_is = c.4; sum_is = c.5 }
+          let c = child_under below below.slot_is index (reads _ _ below.slot_is) in
+          record { front = c.0; key = c.1; back = c.2; under = c.3; way = way-down c.4; front_is = c.4; sum_is = c.5 }
 
 -- the entries of a row end with those of its last node
 last-end : {K : Type 0} {row : List (LevelNode K ℕ)} (a : List (K × ℕ)) {first : K} {number : ℕ} (b : List (K × ℕ)) (at : Seen 4 8 row a first number b) → b ≡ [] → length (flat row) ≡ length (flat at.before) + suc (length at.es)
@@ -142,10 +142,10 @@ module _ {K V : Type 0} (end : Spot) (leaf : ℕ) (leaves : List (LevelNode K V)
 module _ {K V : Type 0} {most : ℕ} {slots : List (Content K V)} (capacity : IsLeafCapacity most) {number : ℕ} {content : Content K V} (read : slice_get slots number ≡ Some content) where
   module _ (other : IsInner content → ⊥) (spot : Spot) where
     pub first-here : OnUnder most slots IsFirst spot number (FirstSaid spot number)
-    first-here leaves lower upper numbers a first b side u w = way-here capacity a first number b u read other 0 w (ap length side)
+    first-here leaves lower upper numbers a first b side u w = way-here capacity a first number b u read other w (ap length side)
 
     pub last-here : OnUnder most slots IsLast spot number (LastSaid spot number)
-    last-here leaves lower upper numbers a first b side u w = way-here capacity a first number b u read other (length leaves - 1) w (ends capacity a first number b u read other side)
+    last-here leaves lower upper numbers a first b side u w = way-here capacity a first number b u read other w (ends capacity a first number b u read other side)
 
   module _ (inner : IsInner content) {Side : List (K × ℕ) → List (K × ℕ) → Type 0} {index : ℕ} (turns : Turns most slots Side number index) where
     module _ {spot : Spot} (asked : HasUnder most slots Side spot number) where

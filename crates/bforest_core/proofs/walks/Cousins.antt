@@ -37,7 +37,7 @@ module _ {K V : Type 0} {n : ℕ} {table : Table K V} (union : IsUnion n table) 
 
     -- what the number of the grandparent's children asks
     pub grand-count : (content : Content K V) × (slice_get table.nodes spot.grand ≡ Some content) × IsInner content
-    grand-count = count-asks up more spot.grand grand-is
+    grand-count = count-asks up more grand-is
 
   module _ (last : HasNext table spot → ⊥) where
     module _ (some : 0 < spot.height) where
@@ -64,7 +64,7 @@ module _ {K V : Type 0} {n : ℕ} {table : Table K V} (union : IsUnion n table) 
       pub last-below : spot.height < 2 → suc place ≡ leaf_count table root
       last-below low =
           let over = (here way (other union s some)).over in
-          last-leaf union root s.root_is (none-next way (other union s some) spot.parent (its union s some) count counts high (way-none table.nodes root _ _ _ _ over (omega (arith, low, some))).1)
+          last-leaf union root s.root_is (none-next way (other union s some) (its union s some) counts high (way-none table.nodes root _ _ _ _ over (omega (arith, low, some))).1)
 
     -- a leaf without a grandparent and without a next sibling is the last of the tree
     pub last-low : spot.height < 2 → suc place ≡ leaf_count table root
@@ -74,23 +74,23 @@ module _ {K V : Type 0} {n : ℕ} {table : Table K V} (union : IsUnion n table) 
     ]
 
     module _ (deep : 2 ≤ spot.height) where
-      module _ (children : ℕ) (says : (content : Content K V) → slice_get table.nodes spot.grand ≡ Some content → children ≡ entry_count content) (low : spot.code / 8 % 8 + 1 < children) where
+      module _ {children : ℕ} (says : (content : Content K V) → slice_get table.nodes spot.grand ≡ Some content → children ≡ entry_count content) (low : spot.code / 8 % 8 + 1 < children) where
         pub parent-asks : (keys : List K) × (items : List ℕ) × (slice_get table.nodes spot.grand ≡ Some (Inner keys items)) × (spot.code / 8 % 8 + 1 < length items)
-        parent-asks = next-asks (up deep) (more deep) spot.grand (grand-is deep) children says low
+        parent-asks = next-asks (up deep) (more deep) (grand-is deep) says low
 
-        module _ (parent : ℕ) (reads : (keys : List K) (items : List ℕ) → slice_get table.nodes spot.grand ≡ Some (Inner keys items) → slice_get items (spot.code / 8 % 8 + 1) ≡ Some parent) where
+        module _ {parent : ℕ} (reads : (keys : List K) (items : List ℕ) → slice_get table.nodes spot.grand ≡ Some (Inner keys items) → slice_get items (spot.code / 8 % 8 + 1) ≡ Some parent) where
           abbrev on : NextAbove (spot-over union s) (other union s (deep-some deep)) (spot.code / 8 + 1) parent
-          on = (spot.grand ∷ drop 1 (drop 1 s.numbers), next-code (up deep) (more deep) spot.grand (grand-is deep) children says low, next-child (up deep) (more deep) spot.grand (grand-is deep) children says parent low reads)
+          on = (spot.grand ∷ drop 1 (drop 1 s.numbers), next-code (up deep) (more deep) (grand-is deep) says low, next-child (up deep) (more deep) (grand-is deep) says low reads)
 
           -- what the first child of the next parent asks
           pub cousin-asks : (keys : List K) × (items : List ℕ) × (slice_get table.nodes parent ≡ Some (Inner keys items)) × (0 < length items)
-          cousin-asks = first-asks (spot-over union s) (other union s (deep-some deep)) spot.parent (its union s (deep-some deep)) (count (deep-some deep)) (counts (deep-some deep)) (high (deep-some deep)) (spot.code / 8 + 1) parent on
+          cousin-asks = first-asks (spot-over union s) (other union s (deep-some deep)) (its union s (deep-some deep)) (counts (deep-some deep)) (high (deep-some deep)) (spot.code / 8 + 1) parent on
 
-          module _ (leaf : ℕ) (found : (keys : List K) (items : List ℕ) → slice_get table.nodes parent ≡ Some (Inner keys items) → slice_get items 0 ≡ Some leaf) where
+          module _ {leaf : ℕ} (found : (keys : List K) (items : List ℕ) → slice_get table.nodes parent ≡ Some (Inner keys items) → slice_get items 0 ≡ Some leaf) where
             -- the next leaf is the first child of the next parent
             pub cousin : (next : Spot) → next.code ≡ (spot.code / 8 + 1) * 8 → next.parent ≡ parent → next.grand ≡ spot.grand → next.height ≡ spot.height → IsSpotAt table root next (suc place) × IsLeafAt table root (suc place) leaf
             cousin next code parent_is grand height =
-                let over = first-code (spot-over union s) (other union s (deep-some deep)) spot.parent (its union s (deep-some deep)) (count (deep-some deep)) (counts (deep-some deep)) (high (deep-some deep)) (spot.code / 8 + 1) parent on in (
+                let over = first-code (spot-over union s) (other union s (deep-some deep)) (its union s (deep-some deep)) (counts (deep-some deep)) (high (deep-some deep)) (spot.code / 8 + 1) parent on in (
                   record {
                     root_is = s.root_is;
                     numbers = parent ∷ on.0;
@@ -99,7 +99,7 @@ module _ {K V : Type 0} {n : ℕ} {table : Table K V} (union : IsUnion n table) 
                     grand_is = λ low. sym grand;
                     height_is = height ∙ s.height_is;
                   },
-                  leaf-at union root s.root_is (first-child (spot-over union s) (other union s (deep-some deep)) spot.parent (its union s (deep-some deep)) (count (deep-some deep)) (counts (deep-some deep)) (high (deep-some deep)) (spot.code / 8 + 1) parent on leaf found),
+                  leaf-at union root s.root_is (first-child (spot-over union s) (other union s (deep-some deep)) (its union s (deep-some deep)) (counts (deep-some deep)) (high (deep-some deep)) (spot.code / 8 + 1) parent on found),
                 )
 
 -- what is said of the node that a way from the root leads to, of a spot

@@ -38,11 +38,11 @@ module _ {K : Type 0} (cmp : K → K → Ordering) where
   upto_parts (y ∷ r) after key h u = h.0
 
   -- the last entry that is not greater than the key is the first of its level, or not greater
-  from_last : (front init : List (K × ℕ)) (last e : K × ℕ) (l : List (K × ℕ)) (key : K) → (front ≡ []) ⊎ (cmp e.0 key ≢ Greater) → e ∷ l ≡ init ++ last ∷ [] → AllByRecursion (λ p. cmp p key ≢ Greater) (keys_of l) → IsFrom cmp (front ++ init) last.0 key
-  from_last front [] last e l key f is h =
+  from_last : (front init : List (K × ℕ)) (last : K × ℕ) {e : K × ℕ} (l : List (K × ℕ)) (key : K) → (front ≡ []) ⊎ (cmp e.0 key ≢ Greater) → e ∷ l ≡ init ++ last ∷ [] → AllByRecursion (λ p. cmp p key ≢ Greater) (keys_of l) → IsFrom cmp (front ++ init) last.0 key
+  from_last front [] last {e = e} l key f is h =
       let same : e ≡ last = cc in
       elim f [ inl none ↦ subst (λ (z : List (K × ℕ)). IsFrom cmp (z ++ []) last.0 key) (sym none) tt | inr ng ↦ is_from (front ++ []) last.0 key (subst (λ (z : K × ℕ). cmp z.0 key ≢ Greater) same ng) ]
-  from_last front (x ∷ init) last e l key f is h =
+  from_last front (x ∷ init) last l key f is h =
       let rest : l ≡ init ++ last ∷ [] = cc in
       is_from (front ++ x ∷ init) last.0 key (all_split (λ p. cmp p key ≢ Greater) init (last ∷ []) (subst (λ (z : List (K × ℕ)). AllByRecursion (λ p. cmp p key ≢ Greater) (keys_of z)) rest h)).1.0
 
@@ -113,11 +113,11 @@ module _ {K V : Type 0} {cmp : K → K → Ordering} (o : IsTotalOrder cmp) {mos
     follow_asks = (entry_keys s.here.at.es, entry_items (s.here.at.e ∷ s.here.at.es), s.here.slot_is, increasing_rest o s.here.at.e s.here.at.es s.increasing)
 
     -- following a child gives the search one level down
-    pub below : (index child : ℕ)
+    pub below : {index child : ℕ}
         → ((keys : List K) (children : List ℕ) → slice_get slots number ≡ Some (Inner keys children) → index ≡ child_index cmp keys key)
         → ((keys : List K) (children : List ℕ) → slice_get slots number ≡ Some (Inner keys children)
         → slice_get children index ≡ Some child) → Below s index child
-    below index child says reads =
+    below {index = index} {child = child} says reads =
         let index_is = says (entry_keys s.here.at.es) (entry_items (s.here.at.e ∷ s.here.at.es)) s.here.slot_is in
         let child_at = reads (entry_keys s.here.at.es) (entry_items (s.here.at.e ∷ s.here.at.es)) s.here.slot_is in
         let at = s.here.at in
@@ -131,9 +131,9 @@ module _ {K V : Type 0} {cmp : K → K → Ordering} (o : IsTotalOrder cmp) {mos
           front = flat at.before ++ w.init;
           head = w.last.0;
           back = d.r ++ flat at.after;
-          under = subst (λ (z : List (K × ℕ)). Under most slots leaves s.here.rows z) (ap flat at.row_is ∙ flat_parted at.before number (at.e ∷ at.es) w.init w.last d.r at.after es_is ∙ ap (λ z. (flat at.before ++ w.init) ++ (w.last.0, z) ∷ (d.r ++ flat at.after)) (sym child_is)) s.here.under;
+          under = subst (λ (z : List (K × ℕ)). Under most slots leaves s.here.rows z) (ap flat at.row_is ∙ flat_parted at.before number w.init w.last d.r at.after es_is ∙ ap (λ z. (flat at.before ++ w.init) ++ (w.last.0, z) ∷ (d.r ++ flat at.after)) (sym child_is)) s.here.under;
           through = record {
-            from = from_last cmp (flat at.before) w.init w.last at.e d.l key (elim s.from [ inl none ↦ inl (ap flat none) | inr ng ↦ inr ng ]) w.is d.low;
+            from = from_last cmp (flat at.before) w.init w.last d.l key (elim s.from [ inl none ↦ inl (ap flat none) | inr ng ↦ inr ng ]) w.is d.low;
             upto = upto_parts cmp d.r (flat at.after) key d.high s.upto;
           };
           place_is = length-append (flat at.before) w.init ∙ ap (λ z. length (flat at.before) + z) count_is;
@@ -141,18 +141,18 @@ module _ {K V : Type 0} {cmp : K → K → Ordering} (o : IsTotalOrder cmp) {mos
         }
 
     -- one level of the descent, whose place was written into the path
-    pub passed : (index : ℕ) {child : ℕ} (w : Below s index child) (path indices path' indices' path'' indices'' : List ℕ) (high : ℕ) → high ≡ length lower → Descended cmp leaves s.here.rows key (length w.front) path' indices' path'' indices'' →
+    pub passed : (index : ℕ) {child : ℕ} (w : Below s index child) (path indices path' indices' path'' indices'' : List ℕ) {high : ℕ} → high ≡ length lower → Descended cmp leaves s.here.rows key (length w.front) path' indices' path'' indices'' →
         get_or path' high 0 ≡ number → get_or indices' high 0 ≡ index → path' ≡ set path high number → indices' ≡ set indices high index → Descended cmp leaves lower key (length a) path indices path'' indices''
-    passed index w path indices path' indices' path'' indices'' high high_is d m_is j_is nodes entries =
+    passed index w path indices path' indices' path'' indices'' {high = high} high_is d m_is j_is nodes entries =
         let count_is = s.here.count_is in
         let m_at : get_or path'' high 0 ≡ number = d.nodes_above high (omega (arith, high_is, count_is)) ∙ m_is in
         let j_at : get_or indices'' high 0 ≡ index = d.entries_above high (omega (arith, high_is, count_is)) ∙ j_is in
-        let more = stands_more path'' indices'' 1 s.here.rows s.here.row (length d.leaf.before) (length w.front) high d.stands (omega (arith, high_is, count_is)) (seen_at s.here.at (get_or path'' high 0) (get_or indices'' high 0) index (length w.front) m_at j_at w.within w.place_is) in
+        let more = stands_more path'' indices'' 1 s.here.rows s.here.row (length d.leaf.before) (length w.front) high d.stands (omega (arith, high_is, count_is)) (seen_at s.here.at m_at j_at w.within w.place_is) in
         record {
           leaf = d.leaf;
           stands = subst (λ (z : List (List (LevelNode K ℕ))). StandsTo path'' indices'' 1 z (length d.leaf.before) (length a)) (sym s.here.lower_is) (subst (λ (z : ℕ). StandsTo path'' indices'' 1 (s.here.rows ++ s.here.row ∷ []) (length d.leaf.before) z) s.here.at.before_is more);
-          nodes_above = λ i low. d.nodes_above i (omega (arith, low, count_is)) ∙ set_but path path' high number nodes i (λ z. omega (arith, z, low, high_is));
-          entries_above = λ i low. d.entries_above i (omega (arith, low, count_is)) ∙ set_but indices indices' high index entries i (λ z. omega (arith, z, low, high_is));
+          nodes_above = λ i low. d.nodes_above i (omega (arith, low, count_is)) ∙ set_but path high number nodes i (λ z. omega (arith, z, low, high_is));
+          entries_above = λ i low. d.entries_above i (omega (arith, low, count_is)) ∙ set_but indices high index entries i (λ z. omega (arith, z, low, high_is));
         }
 
   module _ (s : LeafStep cmp most slots leaves lower a first number b key) where
@@ -186,16 +186,16 @@ module _ {K V : Type 0} {cmp : K → K → Ordering} (o : IsTotalOrder cmp) {mos
         }
 
     -- the end of the descent
-    pub landed : (path indices path' indices' : List ℕ) (answer : Option V) → 0 < length path → 0 < length indices
+    pub landed : (path indices path' : List ℕ) {indices' : List ℕ} (answer : Option V) → 0 < length path → 0 < length indices
         → path' ≡ set path 0 number → indices' ≡ set indices 0 (place cmp entries key) → answer ≡ value_for cmp entries key
         → (answer ≡ value_for cmp (flat leaves) key) × Descended cmp leaves lower key (length a) path indices path' indices'
-    landed path indices path' indices' answer wide wide' nodes indices_are answer_is = (
+    landed path indices path' {indices' = indices'} answer wide wide' nodes indices_are answer_is = (
       answer_is ∙ sym leaf_value,
       subst (λ (z : List (List (LevelNode K ℕ))). Descended cmp leaves z key (length a) path indices path' indices') (sym s.here.lower_is) (record {
         leaf = placed (get_or path' 0 0) (get_or indices' 0 0) (ap (λ z. get_or z 0 0) nodes ∙ get_or-set_same path 0 number 0 wide) (ap (λ z. get_or z 0 0) indices_are ∙ get_or-set_same indices 0 (place cmp entries key) 0 wide');
         stands = s.here.at.before_is;
-        nodes_above = λ i low. set_but path path' 0 number nodes i (λ z. omega (arith, z, low));
-        entries_above = λ i low. set_but indices indices' 0 (place cmp entries key) indices_are i (λ z. omega (arith, z, low));
+        nodes_above = λ i low. set_but path 0 number nodes i (λ z. omega (arith, z, low));
+        entries_above = λ i low. set_but indices 0 (place cmp entries key) indices_are i (λ z. omega (arith, z, low));
       }),
     )
 
@@ -210,5 +210,5 @@ module _ {K V : Type 0} {cmp : K → K → Ordering} (o : IsTotalOrder cmp) {mos
       found_is = leaf_found;
       nodes_wide = ap length nodes ∙ length-set path 0 number;
       indices_wide = ap length indices_are ∙ length-set indices 0 0;
-      descended = (landed path indices path' (set indices' 0 (place cmp entries key)) (value_for cmp entries key) wide wide' nodes (ap (λ z. set z 0 (place cmp entries key)) indices_are ∙ set_twice indices 0 (place cmp entries key)) refl).1;
+      descended = (landed path indices path' (value_for cmp entries key) wide wide' nodes (ap (λ z. set z 0 (place cmp entries key)) indices_are ∙ set_twice indices 0 (place cmp entries key)) refl).1;
     }

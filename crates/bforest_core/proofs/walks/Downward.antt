@@ -18,8 +18,8 @@ last_of x [] = record { init = []; last = x; is = refl }
 last_of x (y ∷ xs) = let r = last_of y xs in record { init = x ∷ r.init; last = r.last; is = ap (λ z. x ∷ z) r.is }
 
 -- a place at a node of a row
-abbrev pub at_node : {K X : Type 0} (row before : List (LevelNode K X)) (n : ℕ) (es : List (K × X)) (after : List (LevelNode K X)) (m j index place : ℕ) → row ≡ before ++ node n es ∷ after → m ≡ n → j ≡ index → index < length es → place ≡ length (flat before) + index → IsAt row m j place
-at_node row before n es after m j index place row_is m_is j_is low place_is =
+abbrev pub at_node : {K X : Type 0} {row : List (LevelNode K X)} (before : List (LevelNode K X)) {n : ℕ} (es : List (K × X)) (after : List (LevelNode K X)) {m j index place : ℕ} → row ≡ before ++ node n es ∷ after → m ≡ n → j ≡ index → index < length es → place ≡ length (flat before) + index → IsAt row m j place
+at_node before es after row_is m_is j_is low place_is =
     record { before = before; entries = es; after = after; row_is = row_is ∙ ap (λ z. before ++ node z es ∷ after) (sym m_is); within = omega (arith, j_is, low); place_is = place_is ∙ ap (λ z. length (flat before) + z) (sym j_is) }
 
 module _ {K : Type 0} where

@@ -17,8 +17,8 @@ pair_answer (y ∷ es) zero (Some e) k x = ap (λ z. Some (z, e.1)) (some_same e
 pair_answer (y ∷ es) (suc i) o k x = pair_answer es i o k x
 
 -- an entry from its key and its value
-pub pair_read : {K X : Type 0} (es : List (K × X)) (i : ℕ) (k : K) (x : X) → slice_get (entry_keys es) i ≡ Some k → slice_get (entry_items es) i ≡ Some x → slice_get es i ≡ Some (k, x)
-pair_read es i k x e f = sym (pair_answer es i (Some (k, x)) (sym e) (sym f))
+pub pair_read : {K X : Type 0} (es : List (K × X)) (i : ℕ) {k : K} {x : X} → slice_get (entry_keys es) i ≡ Some k → slice_get (entry_items es) i ≡ Some x → slice_get es i ≡ Some (k, x)
+pair_read es i {k = k} {x = x} e f = sym (pair_answer es i (Some (k, x)) (sym e) (sym f))
 
 -- the content read at a path's leaf is that leaf
 pub leaf_is : {K V : Type 0} (slots : List (Content K V)) (path : List ℕ) (r : ℕ) {content : Content K V} (es : List (K × V)) → 0 < length path → slice_get slots (get_or path 0 r) ≡ Some content → slice_get slots (get_or path 0 0) ≡ Some (leaf_content es) → content ≡ leaf_content es
@@ -38,10 +38,10 @@ module _ {K V : Type 0} {most : ℕ} (one : 1 ≤ half_of most) {slots : List (C
   in_leaf path indices before entries after row_is above = within leaf_content slots most (half_of most) one tree.leaves fit.leaves_fit inside.leaves_in path indices 0 tree.above (length before) before entries after row_is refl above
 
   -- a path with the same nodes, and the same indices but in the leaf, points into the same leaf
-  abbrev pub points_in : {path indices : List ℕ} {leaf : ℕ} (w : InLeaf path indices leaf) (size : ℕ) → size ≡ suc (length tree.above)
-      → (path' indices' : List ℕ) (place : ℕ) → path' ≡ path → SameBut 0 indices indices' → get_or indices' 0 0 ≤ length w.entries
+  abbrev pub points_in : {path indices : List ℕ} {leaf : ℕ} (w : InLeaf path indices leaf) {size : ℕ} → size ≡ suc (length tree.above)
+      → {path' : List ℕ} (indices' : List ℕ) (place : ℕ) → path' ≡ path → SameBut 0 indices indices' → get_or indices' 0 0 ≤ length w.entries
       → place ≡ length (flat w.before) + get_or indices' 0 0 → PointsAt path' indices' size tree place
-  points_in {path} {indices} {leaf} w size size_is path' indices' place path_is same low place_is = record {
+  points_in {path} {indices} {leaf} w size_is {path' = path'} indices' place path_is same low place_is = record {
     before = w.before;
     entries = w.entries;
     after = w.after;
@@ -52,17 +52,17 @@ module _ {K V : Type 0} {most : ℕ} (one : 1 ≤ half_of most) {slots : List (C
     size_is = size_is;
   }
 
-  stands_in : {path indices : List ℕ} {leaf : ℕ} (w : InLeaf path indices leaf) (size : ℕ) → size ≡ suc (length tree.above)
-      → (path' indices' : List ℕ) (place : ℕ) → path' ≡ path → SameBut 0 indices indices' → get_or indices' 0 0 < length w.entries
+  stands_in : {path indices : List ℕ} {leaf : ℕ} (w : InLeaf path indices leaf) {size : ℕ} → size ≡ suc (length tree.above)
+      → {path' : List ℕ} (indices' : List ℕ) (place : ℕ) → path' ≡ path → SameBut 0 indices indices' → get_or indices' 0 0 < length w.entries
       → place ≡ length (flat w.before) + get_or indices' 0 0 → Stands path' indices' size tree place
-  stands_in w size size_is path' indices' place path_is same low place_is = stands-pointed (points_in w size size_is path' indices' place path_is same (omega (arith, low)) place_is) low
+  stands_in w {size = size} size_is {path' = path'} indices' place path_is same low place_is = stands-pointed (points_in w size_is indices' place path_is same (omega (arith, low)) place_is) low
 
   -- a path that moved to the front of the next leaf stands on the next entry
-  pub first_behind : {path indices : List ℕ} {leaf : ℕ} (w : InLeaf path indices leaf) (size : ℕ) → size ≡ suc (length tree.above) → {path1 indices1 : List ℕ} (path' indices' : List ℕ) →
+  pub first_behind : {path indices : List ℕ} {leaf : ℕ} (w : InLeaf path indices leaf) {size : ℕ} → size ≡ suc (length tree.above) → {path1 indices1 : List ℕ} {path' : List ℕ} (indices' : List ℕ) →
       Moved path indices path1 indices1 0 tree.above (heads tree.leaves) (suc leaf) → path' ≡ path1 → get_or indices' 0 0 ≡ 0 → SameBut 0 indices1 indices' → Stands path' indices' size tree (length (flat w.before) + length w.entries)
-  first_behind w size size_is {path1 = path1} {indices1 = indices1} path' indices' m path_is here above =
+  first_behind w {size = size} size_is {path1 = path1} {indices1 = indices1} {path' = path'} indices' m path_is here above =
       let next : InLeaf path1 indices1 _ = there leaf_content slots most (half_of most) one tree.leaves fit.leaves_fit inside.leaves_in m in
-      stands_in next size size_is path' indices' (length (flat w.before) + length w.entries) path_is above (omega (arith, here, next.some)) (omega (arith, here, seam leaf_content slots most w next refl))
+      stands_in next size_is indices' (length (flat w.before) + length w.entries) path_is above (omega (arith, here, next.some)) (omega (arith, here, seam leaf_content slots most w next refl))
 
   -- the last leaf ends at the end of the list
   pub leaf_last : {path indices : List ℕ} {leaf : ℕ} (w : InLeaf path indices leaf) → suc leaf ≡ length (heads tree.leaves) → length (flat w.before) + length w.entries ≡ length (flat tree.leaves)
@@ -77,21 +77,21 @@ module _ {K V : Type 0} {most : ℕ} (one : 1 ≤ half_of most) {slots : List (C
 
     -- an entry of the leaf is an entry of the list
     entry_is : (i : ℕ) (e : K × V) (at : ℕ) → at ≡ length (flat s.leaf.before) + i → ((es : List (K × V)) → slice_get slots (get_or path 0 0) ≡ Some (leaf_content es) → slice_get es i ≡ Some e) → slice_get (flat tree.leaves) at ≡ Some e
-    entry_is i e at at_is read_is = ap (λ z. slice_get (flat tree.leaves) z) at_is ∙ entry_at tree.leaves s.leaf.before (get_or path 0 0) s.leaf.entries s.leaf.after i e s.leaf.row_is (read_is s.leaf.entries leaf_here.slot_is)
+    entry_is i e at at_is read_is = ap (λ z. slice_get (flat tree.leaves) z) at_is ∙ entry_at s.leaf.before (get_or path 0 0) s.leaf.entries s.leaf.after i s.leaf.row_is (read_is s.leaf.entries leaf_here.slot_is)
 
     -- the entry at the place, as it was read in the leaf
-    pub entry_read : (e : K × V) → ((es : List (K × V)) → slice_get slots (get_or path 0 0) ≡ Some (leaf_content es) → slice_get es (get_or indices 0 0) ≡ Some e) → slice_get (flat tree.leaves) place ≡ Some e
-    entry_read e read_is = entry_is (get_or indices 0 0) e place s.leaf.place_is read_is
+    pub entry_read : {e : K × V} → ((es : List (K × V)) → slice_get slots (get_or path 0 0) ≡ Some (leaf_content es) → slice_get es (get_or indices 0 0) ≡ Some e) → slice_get (flat tree.leaves) place ≡ Some e
+    entry_read {e = e} read_is = entry_is (get_or indices 0 0) e place s.leaf.place_is read_is
 
-    module _ (e : K × V) (read_is : (es : List (K × V)) → slice_get slots (get_or path 0 0) ≡ Some (leaf_content es) → Some e ≡ slice_get es (get_or indices 0 0 + 1)) where
+    module _ {e : K × V} (read_is : (es : List (K × V)) → slice_get slots (get_or path 0 0) ≡ Some (leaf_content es) → Some e ≡ slice_get es (get_or indices 0 0 + 1)) where
       -- the next entry is in the same leaf
       pub next_read : Some e ≡ slice_get (flat tree.leaves) (suc place)
       next_read = sym (entry_is (get_or indices 0 0 + 1) e (suc place) (omega (arith, s.leaf.place_is)) (λ es slot. sym (read_is es slot)))
 
-      pub next_within : (path' indices' : List ℕ) → path' ≡ path → get_or indices' 0 0 ≡ get_or indices 0 0 + 1 → SameBut 0 indices indices' → Stands path' indices' size tree (suc place)
-      next_within path' indices' path_is here above =
+      pub next_within : {path' : List ℕ} (indices' : List ℕ) → path' ≡ path → get_or indices' 0 0 ≡ get_or indices 0 0 + 1 → SameBut 0 indices indices' → Stands path' indices' size tree (suc place)
+      next_within {path' = path'} indices' path_is here above =
           let low = slice_get_within s.leaf.entries (get_or indices 0 0 + 1) e (sym (read_is s.leaf.entries leaf_here.slot_is)) in
-          stands_in leaf_here size s.size_is path' indices' (suc place) path_is above (omega (arith, here, low)) (omega (arith, here, s.leaf.place_is))
+          stands_in leaf_here s.size_is indices' (suc place) path_is above (omega (arith, here, low)) (omega (arith, here, s.leaf.place_is))
 
     module _ (none : (es : List (K × V)) → slice_get slots (get_or path 0 0) ≡ Some (leaf_content es) → None ≡ slice_get es (get_or indices 0 0 + 1)) where
       -- the leaf has no entry at the next index
@@ -99,23 +99,23 @@ module _ {K V : Type 0} {most : ℕ} (one : 1 ≤ half_of most) {slots : List (C
       leaf_ends = omega (arith, s.leaf.place_is, s.leaf.within, read_none s.leaf.entries (get_or indices 0 0 + 1) (none s.leaf.entries leaf_here.slot_is))
 
       -- the next entry is the first of the next leaf
-      pub next_over : (path1 indices1 path' indices' : List ℕ)
+      pub next_over : {path1 indices1 path' : List ℕ} (indices' : List ℕ)
           → ((rows : List (List (LevelNode K ℕ))) (list : List (K × ℕ)) (at : ℕ)
           → Over slots path indices 1 size rows list at → Moved path indices path1 indices1 0 rows list (suc at)) → path' ≡ path1
           → get_or indices' 0 0 ≡ 0 → SameBut 0 indices1 indices' → Stands path' indices' size tree (suc place)
-      next_over path1 indices1 path' indices' moved path_is here above =
-          subst (λ (z : ℕ). Stands path' indices' size tree z) (sym leaf_ends) (first_behind leaf_here size s.size_is path' indices' (moved tree.above (heads tree.leaves) (length s.leaf.before) over_leaves) path_is here above)
+      next_over {path' = path'} indices' moved path_is here above =
+          subst (λ (z : ℕ). Stands path' indices' size tree z) (sym leaf_ends) (first_behind leaf_here s.size_is indices' (moved tree.above (heads tree.leaves) (length s.leaf.before) over_leaves) path_is here above)
 
       -- where no leaf follows, the path stands on the last entry
       pub next_last : ((rows : List (List (LevelNode K ℕ))) (list : List (K × ℕ)) (at : ℕ) → Over slots path indices 1 size rows list at → suc at ≡ length list) → suc place ≡ length (flat tree.leaves)
       next_last last = leaf_ends ∙ leaf_last leaf_here (last tree.above (heads tree.leaves) (length s.leaf.before) over_leaves)
 
     -- the previous entry is in the same leaf
-    pub back_within : (path' indices' : List ℕ) → path' ≡ path → 0 < get_or indices 0 0 → get_or indices' 0 0 ≡ get_or indices 0 0 - 1 → SameBut 0 indices indices' → (0 < place) × Stands path' indices' size tree (place - 1)
-    back_within path' indices' path_is some here above =
-        (omega (arith, some, s.leaf.place_is), stands_in leaf_here size s.size_is path' indices' (place - 1) path_is above (omega (arith, here, s.leaf.within)) (omega (arith, here, some, s.leaf.place_is)))
+    pub back_within : {path' : List ℕ} (indices' : List ℕ) → path' ≡ path → 0 < get_or indices 0 0 → get_or indices' 0 0 ≡ get_or indices 0 0 - 1 → SameBut 0 indices indices' → (0 < place) × Stands path' indices' size tree (place - 1)
+    back_within {path' = path'} indices' path_is some here above =
+        (omega (arith, some, s.leaf.place_is), stands_in leaf_here s.size_is indices' (place - 1) path_is above (omega (arith, here, s.leaf.within)) (omega (arith, here, some, s.leaf.place_is)))
 
-    module _ (path1 indices1 : List ℕ) (backs : (rows : List (List (LevelNode K ℕ))) (list : List (K × ℕ)) (at : ℕ) → Over slots path indices 1 size rows list at → (0 < at) × Moved path indices path1 indices1 0 rows list (at - 1)) (r : ℕ) (wide : 0 < length path1) where
+    module _ {path1 indices1 : List ℕ} (backs : (rows : List (List (LevelNode K ℕ))) (list : List (K × ℕ)) (at : ℕ) → Over slots path indices 1 size rows list at → (0 < at) × Moved path indices path1 indices1 0 rows list (at - 1)) (r : ℕ) (wide : 0 < length path1) where
       went : (0 < length s.leaf.before) × Moved path indices path1 indices1 0 tree.above (heads tree.leaves) (length s.leaf.before - 1)
       went = backs tree.above (heads tree.leaves) (length s.leaf.before) over_leaves
 
@@ -128,14 +128,14 @@ module _ {K V : Type 0} {most : ℕ} (one : 1 ≤ half_of most) {slots : List (C
       back_asks = last_asks leaf_content slots most back_leaf key_total r wide
 
       -- the previous entry is the last of the previous leaf
-      pub back_over : (path' indices' : List ℕ) (last : ℕ)
+      pub back_over : (path' indices' : List ℕ) {last : ℕ}
           → ((x : Content K V) → slice_get slots (get_or path1 0 r) ≡ Some x → last ≡ entry_count x - 1) → path' ≡ path1
           → get_or indices 0 0 ≤ 0 → get_or indices' 0 0 ≡ last → SameBut 0 indices1 indices' → (0 < place)
           × Stands path' indices' size tree (place - 1)
-      back_over path' indices' last says path_is none here above =
-          let last_at = last_is leaf_content slots most back_leaf key_total r wide last says in
+      back_over path' indices' {last = last} says path_is none here above =
+          let last_at = last_is leaf_content slots most back_leaf key_total r wide says in
           let seam_is = seam leaf_content slots most back_leaf leaf_here (omega (arith, went.0)) in
-          (omega (arith, s.leaf.place_is, seam_is, last_at), stands_in back_leaf size s.size_is path' indices' (place - 1) path_is above (omega (arith, here, last_at)) (omega (arith, here, last_at, s.leaf.place_is, none, seam_is)))
+          (omega (arith, s.leaf.place_is, seam_is, last_at), stands_in back_leaf s.size_is indices' (place - 1) path_is above (omega (arith, here, last_at)) (omega (arith, here, last_at, s.leaf.place_is, none, seam_is)))
 
     -- where there is no previous leaf, the path stands on the first entry
     pub back_first : ((rows : List (List (LevelNode K ℕ))) (list : List (K × ℕ)) (at : ℕ) → Over slots path indices 1 size rows list at → at ≡ 0) → get_or indices 0 0 ≤ 0 → place ≡ 0

@@ -80,7 +80,7 @@ module _ {K V : Type 0} {cmp : K → K → Ordering} (o : IsTotalOrder cmp) (slo
       (from : K) (keys : List K) (children : List ℕ) → slice_get slots node ≡ Some (Inner keys children) → index ≡ child_index cmp keys from
       → is_gt (cmp from key) ≡ false → index ≡ child_index cmp keys key
 
-  module _ (keys : List K) (children : List ℕ) (found : slice_get slots node ≡ Some (Inner keys children)) where
+  module _ {keys : List K} {children : List ℕ} (found : slice_get slots node ≡ Some (Inner keys children)) where
     same-keys : asked.0 ≡ keys
     same-keys = ap keys_of (some_same (Inner asked.0 asked.1) (Inner keys children) (sym asked.2 ∙ found))
 
@@ -99,15 +99,15 @@ module _ {K V : Type 0} {cmp : K → K → Ordering} (o : IsTotalOrder cmp) (slo
     pub along-last : index ≡ last → GoesAlong
     along-last is from keys children found at ordered =
         let end = says (Inner asked.0 asked.1) asked.2 in
-        let same = ap length (same-keys keys children found) in
-        at ∙ same-child o from key ordered keys (sorted-keys keys children found)
+        let same = ap length (same-keys found) in
+        at ∙ same-child o from key ordered keys (sorted-keys found)
         (λ s read. absurd (omega (arith, slice_get_within keys (child_index cmp keys from) s read, at, is, end, asked.4, same)))
 
   -- the separator behind the child is greater
   pub along-below : {s : K} → ((keys : List K) (children : List ℕ) → slice_get slots node ≡ Some (Inner keys children)
       → slice_get keys index ≡ Some s) → cmp key s ≡ Less → GoesAlong
   along-below {s} reads less from keys children found at ordered =
-      at ∙ same-child o from key ordered keys (sorted-keys keys children found) (λ z read.
+      at ∙ same-child o from key ordered keys (sorted-keys found) (λ z read.
       let is : z ≡ s = some_same z s (sym read ∙ ap (slice_get keys) (sym at) ∙ reads keys children found) in
       ap (λ y. cmp y key) is ∙ o.antisymm s key ∙ ap ordering_reverse less)
 
@@ -117,7 +117,7 @@ module _ {K V : Type 0} {cmp : K → K → Ordering} (o : IsTotalOrder cmp) (slo
       → (from : K) (keys : List K) (children : List ℕ) → slice_get slots node ≡ Some (Inner keys children)
       → index ≡ child_index cmp keys from → is_gt (cmp from key) ≡ false
   not-along {s} reads past from keys children found at =
-      not-greater o from s key (greater-behind o from s keys (sorted-keys keys children found) (ap (slice_get keys) (sym at) ∙ reads keys children found)) past
+      not-greater o from s key (greater-behind o from s keys (sorted-keys found) (ap (slice_get keys) (sym at) ∙ reads keys children found)) past
 
 -- a key that is tested to be less
 pub less-tested : (r : Ordering) → is_lt r ≡ true → r ≡ Less

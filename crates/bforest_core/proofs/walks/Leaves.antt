@@ -25,7 +25,7 @@ root-leaf {table = table} union root content is found other =
     let tree = tree_of table.nodes root in
     let w = is-rooted root union is in
     let u = whole_under w in
-    let f = leaf_under (some_leaf union.1.capacity) [] u.0 root [] u.1 content found other in
+    let f = leaf_under (some_leaf union.1.capacity) [] u.0 root [] u.1 found other in
     subst IsLeaf (sym (slot-is table.nodes root _ f.slot_is)) tt
 
 module _ {K V : Type 0} {n : ℕ} {table : Table K V} (union : IsUnion n table) {root : ℕ} where

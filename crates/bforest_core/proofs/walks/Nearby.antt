@@ -84,7 +84,7 @@ module _ {K V : Type 0} {n : ℕ} (table : Table K V) (root : ℕ) (path : Path 
     pub placed-behind : (path' : Path K V n) (p : ℕ) → StandsOn table root path p → path'.node ≡ path.node → index_of path' ≡ index_of path + 1 → ((i : ℕ) → i ≢ 0 → get_or path'.entry i 0 ≡ get_or path.entry i 0) → path'.size ≡ path.size → IsPlaced table root path' (suc p)
     placed-behind path' p on same index_is above size_is =
         let w = on-tree union path on in
-        let points = points_in (some_leaf union.1.capacity) w.fit w.inside (on-leaf-in union path on) path'.size (size_is ∙ on.stands.size_is) path'.node path'.entry (suc p) same above (omega (arith, index_is, on.stands.leaf.within)) (omega (arith, index_is, on.stands.leaf.place_is)) in
+        let points = points_in (some_leaf union.1.capacity) w.fit w.inside (on-leaf-in union path on) (size_is ∙ on.stands.size_is) path'.entry (suc p) same above (omega (arith, index_is, on.stands.leaf.within)) (omega (arith, index_is, on.stands.leaf.place_is)) in
         record { root_is = on.root_is; at = record { points = points; first = λ none. absurd (omega (arith, none, index_is)) } }
 
     -- an entry may be inserted before the first of the list
@@ -115,7 +115,7 @@ module _ {K V : Type 0} {n : ℕ} (table : Table K V) (root : ℕ) (path : Path 
     }
 
 -- a path that moved to the entry before a place
-module _ {K V : Type 0} {n : ℕ} {cmp : K → K → Ordering} (o : IsTotalOrder cmp) (table : Table K V) (root : ℕ) (key : K) (increasing : IsIncreasing cmp (list_under table root)) (path : Path K V n) (answer : Option (K × V)) where
+module _ {K V : Type 0} {n : ℕ} {cmp : K → K → Ordering} (o : IsTotalOrder cmp) (table : Table K V) (root : ℕ) (key : K) (increasing : IsIncreasing cmp (list_under table root)) (path : Path K V n) {answer : Option (K × V)} where
   -- there is no entry before the place
   pub before-none : (p : ℕ) → answer ≡ entry_before (list_under table root) p → StandsOn table root path (p - 1) → IsUnion n table → IsUpTo cmp (drop p (list_under table root)) key → answer ≡ None → Ended table root path cmp key None
   before-none zero value on union up none =
@@ -126,17 +126,17 @@ module _ {K V : Type 0} {n : ℕ} {cmp : K → K → Ordering} (o : IsTotalOrder
       absurd (cc)
 
   -- the entry before the place has an equal key
-  pub before-equal : (p : ℕ) → answer ≡ entry_before (list_under table root) p → StandsOn table root path (p - 1) → (e : K × V) → answer ≡ Some e → cmp key e.0 ≡ Equal → Ended table root path cmp key (Some e.1)
-  before-equal zero value on e is t = let bad : Some e ≡ None = sym is ∙ value in absurd (cc)
-  before-equal (suc p) value on e is t =
+  pub before-equal : (p : ℕ) → answer ≡ entry_before (list_under table root) p → StandsOn table root path (p - 1) → {e : K × V} → answer ≡ Some e → cmp key e.0 ≡ Equal → Ended table root path cmp key (Some e.1)
+  before-equal zero value on {e = e} is t = let bad : Some e ≡ None = sym is ∙ value in absurd (cc)
+  before-equal (suc p) value on {e = e} is t =
       ended table root path cmp key (finds_here o key (list_under table root) p e (sym value ∙ is) increasing t) (λ some. subst (λ (z : ℕ). StandsOn table root path z) (omega arith) on) (never refl)
 
   -- the entry before the place is less, and the path moved just past it
-  pub before-greater : (p : ℕ) → answer ≡ entry_before (list_under table root) p → StandsOn table root path (p - 1) → (e : K × V) → answer ≡ Some e →
+  pub before-greater : (p : ℕ) → answer ≡ entry_before (list_under table root) p → StandsOn table root path (p - 1) → {e : K × V} → answer ≡ Some e →
       (path' : Path K V n) → IsUnion n table → path'.node ≡ path.node → index_of path' ≡ index_of path + 1 → ((i : ℕ) → i ≢ 0 → get_or path'.entry i 0 ≡ get_or path.entry i 0) → path'.size ≡ path.size →
       IsUpTo cmp (drop p (list_under table root)) key → cmp key e.0 ≡ Greater → Ended table root path' cmp key None
-  before-greater zero value on e is path' union same index_is above size_is up t = let bad : Some e ≡ None = sym is ∙ value in absurd (cc)
-  before-greater (suc p) value on e is path' union same index_is above size_is up t =
+  before-greater zero value on {e = e} is path' union same index_is above size_is up t = let bad : Some e ≡ None = sym is ∙ value in absurd (cc)
+  before-greater (suc p) value on {e = e} is path' union same index_is above size_is up t =
       ended table root path' cmp key (finds_behind o key (list_under table root) p e (sym value ∙ is) increasing t up)
       (λ some. never some refl) (λ none. placed-behind table root path union path' p
       (subst (λ (z : ℕ). StandsOn table root path z) (omega arith) on) same index_is above size_is)
@@ -158,10 +158,10 @@ module _ {K V : Type 0} {n : ℕ} {table : Table K V} (root : ℕ) (path : Path 
   pub here-leaf : (entries : List (K × V)) × (slice_get table.nodes (leaf_of path) ≡ Some (leaf_content entries)) × (index_of path < length entries)
   here-leaf = (on.stands.leaf.entries, (on-leaf-in union path on).slot_is, on.stands.leaf.within)
 
-  module _ (e : K × V) (read_is : (entries : List (K × V)) → slice_get table.nodes (leaf_of path) ≡ Some (leaf_content entries) → slice_get entries (index_of path) ≡ Some e) where
+  module _ {e : K × V} (read_is : (entries : List (K × V)) → slice_get table.nodes (leaf_of path) ≡ Some (leaf_content entries) → slice_get entries (index_of path) ≡ Some e) where
     -- the entry read in the leaf is the entry of the list
     pub here-entry : slice_get (list_under table root) p ≡ Some e
-    here-entry = let w = on-tree union path on in entry_read (some_leaf union.1.capacity) w.fit w.inside on.stands e read_is
+    here-entry = let w = on-tree union path on in entry_read (some_leaf union.1.capacity) w.fit w.inside on.stands read_is
 
     module _ {cmp : K → K → Ordering} (o : IsTotalOrder cmp) (key : K) where
       -- the entry has an equal key

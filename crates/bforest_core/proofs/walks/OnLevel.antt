@@ -130,7 +130,7 @@ module _ {K V : Type 0} {slots : List (Content K V)} {root : ℕ} {spot : Spot} 
           way-of q low (b.code ∙ sym is) (b.height ∙ ap suc same-height) (λ more. sym b.parent) grand
 
   pub index-asked : There → ChildAsked slots node index
-  index-asked o = subst (ChildAsked slots node) index-is (code-asks o.4 some node (same o.4))
+  index-asked o = subst (ChildAsked slots node) index-is (code-asks o.4 some (same o.4))
 
   pub code-low-here : There → spot.height < 16 → spot.code < 35184372088832
   code-low-here o low =
@@ -143,10 +143,10 @@ module _ {K V : Type 0} {slots : List (Content K V)} {root : ℕ} {spot : Spot} 
       let parent = λ (low : 0 < suc spot.height). first-kept p some node said ∙ sym b.parent in
       let grand = λ (low : 1 < suc spot.height). (its p).parent_is (omega (arith, low)) ∙ sym b.grand in
       let read = subst (λ z. ChildRead slots node z child) (sym index-is) reads in
-      (way-of p next b.code b.height parent grand, code-child p some node (same p) child read)
+      (way-of p next b.code b.height parent grand, code-child p some (same p) child read)
 
   pub count-asked : There → (content : Content K V) × (slice_get slots node ≡ Some content) × IsInner content
-  count-asked o = count-asks o.4 some node (same o.4)
+  count-asked o = count-asks o.4 some (same o.4)
 
   module _ {count : ℕ} (counts : (content : Content K V) → slice_get slots node ≡ Some content → count ≡ entry_count content) where
     -- the next child of the same node
@@ -155,10 +155,10 @@ module _ {K V : Type 0} {slots : List (Content K V)} {root : ℕ} {spot : Spot} 
       low-here = subst (λ z. z + 1 < count) (sym index-is) low
 
       pub next-asked : There → ChildAsked slots node (index + 1)
-      next-asked o = subst (λ z. ChildAsked slots node (z + 1)) index-is (next-asks o.4 some node (same o.4) count counts low-here)
+      next-asked o = subst (λ z. ChildAsked slots node (z + 1)) index-is (next-asks o.4 some (same o.4) counts low-here)
 
       pub next-digit : There → index + 1 < 8
-      next-digit o = omega (arith, low, count-low o.4 some node (same o.4) count counts)
+      next-digit o = omega (arith, low, count-low o.4 some (same o.4) counts)
 
       pub next-said : {next : Spot} {child : ℕ} → IsBelow spot node (index + 1) next → ChildRead slots node (index + 1) child → NextOf (Some (next, child))
       next-said {next} {child} b reads =
@@ -166,8 +166,8 @@ module _ {K V : Type 0} {slots : List (Content K V)} {root : ℕ} {spot : Spot} 
           record {
             some = λ numbers rows list place p. (
               node ∷ drop 1 numbers,
-              spot-of p (its p) b (omega arith) (next-code p some node (same p) count counts low-here),
-              next-child p some node (same p) count counts child low-here read,
+              spot-of p (its p) b (omega arith) (next-code p some (same p) counts low-here),
+              next-child p some (same p) counts low-here read,
             );
             none = λ bad. absurd (let no = bad in cc);
           }
@@ -182,7 +182,7 @@ module _ {K V : Type 0} {slots : List (Content K V)} {root : ℕ} {spot : Spot} 
           subst NextOf (sym is) record {
             some = tt;
             none = λ none numbers rows list place p.
-                none-next p some node (same p) count counts high-here (says.none nothing (drop 1 numbers) (rest p) (parents p) (top p) (over p));
+                none-next p some (same p) counts high-here (says.none nothing (drop 1 numbers) (rest p) (parents p) (top p) (over p));
           }
 
       -- the first child of the node behind
@@ -199,19 +199,19 @@ module _ {K V : Type 0} {slots : List (Content K V)} {root : ℕ} {spot : Spot} 
 
         pub turn-low : There → spot.height < 16 → (above.code < 35184372088832) × (above.height < 16)
         turn-low o low = (
-          above-low o.4 some node (same o.4) count counts high-here above.code number (behind-over o.4) (omega (arith, low)),
+          above-low o.4 some (same o.4) counts high-here above.code number (behind-over o.4) (omega (arith, low)),
           omega (arith, low, same-height o.4 (behind o.4).1),
         )
 
         pub turn-asked : There → ChildAsked slots number 0
-        turn-asked o = first-asks o.4 some node (same o.4) count counts high-here above.code number (behind-over o.4)
+        turn-asked o = first-asks o.4 some (same o.4) counts high-here above.code number (behind-over o.4)
 
         pub turn-said : {next : Spot} {child : ℕ} → IsBelow above number 0 next → ChildRead slots number 0 child → NextOf (Some (next, child))
         turn-said {next} {child} b reads =
             record {
               some = λ numbers rows list place p.
-                  let way = first-code p some node (same p) count counts high-here above.code number (behind-over p) in
-                  let at = first-child p some node (same p) count counts high-here above.code number (behind-over p) child reads in
+                  let way = first-code p some (same p) counts high-here above.code number (behind-over p) in
+                  let at = first-child p some (same p) counts high-here above.code number (behind-over p) reads in
                   (number ∷ (behind p).0, spot-of p (behind p).1 b (omega arith) way, at);
               none = λ bad. absurd (let no = bad in cc);
             }
@@ -222,15 +222,15 @@ module _ {K V : Type 0} {slots : List (Content K V)} {root : ℕ} {spot : Spot} 
     above-zero = subst (λ z. 0 < z) (sym index-is) low
 
     pub prev-asked : There → ChildAsked slots node (index - 1)
-    prev-asked o = subst (λ z. ChildAsked slots node (z - 1)) index-is (prev-asks o.4 some above-zero node (same o.4))
+    prev-asked o = subst (λ z. ChildAsked slots node (z - 1)) index-is (prev-asks o.4 some above-zero (same o.4))
 
     pub prev-said : {next : Spot} {child : ℕ} → IsBelow spot node (index - 1) next → ChildRead slots node (index - 1) child → PrevOf (Some (next, child))
     prev-said {next} {child} b reads =
         let read = subst (λ z. ChildRead slots node (z - 1) child) (sym index-is) reads in
         record {
           some = λ numbers rows list place p.
-              let q = prev-code p some above-zero node (same p) in
-              let at = prev-child p some above-zero node (same p) child read in
+              let q = prev-code p some above-zero (same p) in
+              let at = prev-child p some above-zero (same p) read in
               (q.0, node ∷ drop 1 numbers, spot-of p (its p) b (omega (arith, low)) q.1, at);
           none = λ bad. absurd (let no = bad in cc);
         }
@@ -277,7 +277,7 @@ module _ {K V : Type 0} {slots : List (Content K V)} {root : ℕ} {spot : Spot} 
             record {
               some = λ numbers rows list place p.
                   let q = last-code p some none-here (before-over p) last_is in
-                  let at = last-child p some none-here (before-over p) last_is child reads in
+                  let at = last-child p some none-here (before-over p) last_is reads in
                   (q.0, number ∷ (before p).1, spot-of p (before p).2 b refl q.1, at);
               none = λ bad. absurd (let no = bad in cc);
             }

@@ -27,8 +27,8 @@ row-low {leaves = leaves} {a = a} {first = first} {number = number} {b = b} u s 
     omega (arith, (FitRow-split 4 8 s.at.before (node number (s.at.e ∷ s.at.es)) s.at.after (subst (FitRow 4 8) s.at.row_is fit)).1.1)
 
 -- a code with a digit more
-digits : (code index next : ℕ) → next ≡ code * 8 + index → index < 8 → (next % 8 ≡ index) × (next / 8 ≡ code)
-digits code index next is low = (omega (arith, is, low), omega (arith, is, low))
+digits : (code index : ℕ) {next : ℕ} → next ≡ code * 8 + index → index < 8 → (next % 8 ≡ index) × (next / 8 ≡ code)
+digits code index is low = (omega (arith, is, low), omega (arith, is, low))
 
 -- the search one level down, with the way there, below these rows
 pub record WayBelow {K V : Type 0} (cmp : K → K → Ordering) (most : ℕ) (slots : List (Content K V)) (leaves : List (LevelNode K V)) (lower upper : List (List (LevelNode K ℕ))) (key : K) (next : Spot) (child : ℕ) : Type 0 where
@@ -43,11 +43,11 @@ module _ {K V : Type 0} {cmp : K → K → Ordering} (o : IsTotalOrder cmp) {mos
   pub within : number < length slots
   within = node_within one t.before t.first number t.after t.under
 
-  module _ (content : Content K V) (found : slice_get slots number ≡ Some content) where
+  module _ {content : Content K V} (found : slice_get slots number ≡ Some content) where
     -- at the leaf
     module _ (other : IsInner content → ⊥) where
       pub step-leaf : LeafStep cmp most slots leaves t.lower t.before t.first number t.after key
-      step-leaf = leaf_step o one t.increasing t.through (leaf_under one t.before t.first number t.after t.under content found other)
+      step-leaf = leaf_step o one t.increasing t.through (leaf_under one t.before t.first number t.after t.under found other)
 
       -- what a search in the leaf asks
       pub leaf-asks : (entries : List (K × V)) × (slice_get slots number ≡ Some (leaf_content entries)) × IsIncreasing cmp entries
@@ -79,7 +79,7 @@ module _ {K V : Type 0} {cmp : K → K → Ordering} (o : IsTotalOrder cmp) {mos
     -- at an inner node
     module _ (inner : IsInner content) where
       pub step : InnerStep cmp most slots leaves t.lower t.before t.first number t.after key
-      step = inner_step o one t.increasing t.through (inner_under one t.before t.first number t.after t.under content found inner)
+      step = inner_step o one t.increasing t.through (inner_under one t.before t.first number t.after t.under found inner)
 
       -- what following a child asks
       pub asks : (keys : List K) × (children : List ℕ) × (slice_get slots number ≡ Some (Inner keys children)) × IsStrictlySortedBy cmp keys
@@ -89,13 +89,13 @@ module _ {K V : Type 0} {cmp : K → K → Ordering} (o : IsTotalOrder cmp) {mos
       pub deeper-low : depth < 16
       deeper-low = omega (arith, t.low, step.here.count_is)
 
-      module _ (index child : ℕ)
+      module _ (index : ℕ) {child : ℕ}
           (says : (keys : List K) (children : List ℕ) → slice_get slots number ≡ Some (Inner keys children)
           → index ≡ child_index cmp keys key)
           (reads : (keys : List K) (children : List ℕ) → slice_get slots number ≡ Some (Inner keys children)
           → slice_get children index ≡ Some child) where
         pub to : Below o one step index child
-        to = below o one step index child says reads
+        to = below o one step says reads
 
         -- the search one level down
         abbrev pub one-down : (deeper : ℕ) → deeper ≡ suc depth → SearchThrough cmp most slots leaves key child deeper
@@ -121,7 +121,7 @@ module _ {K V : Type 0} {cmp : K → K → Ordering} (o : IsTotalOrder cmp) {mos
             way-to : IsWay (number ∷ numbers) next (step.here.row ∷ upper) (length to.front)
             way-to =
                 let at = step.here.at in
-                let d = digits spot.code index next.code code digit-low in
+                let d = digits spot.code index code digit-low in
                 record {
                   coded = (
                     record {

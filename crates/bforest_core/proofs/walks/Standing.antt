@@ -53,35 +53,35 @@ under-root {most = most} {table = table} root union is =
     record { first = u.0; under = u.1; low = w.low }
 
 -- the level of a root, and the number of levels of a path in its tree
-pub root-level : {K V : Type 0} (tree : Tree K V) (levels : ℕ) → levels ≡ length (sizes_of tree) → levels - 1 ≡ length tree.above
-root-level tree levels is = omega (arith, is, length-map tree.above sizes)
+pub root-level : {K V : Type 0} (tree : Tree K V) {levels : ℕ} → levels ≡ length (sizes_of tree) → levels - 1 ≡ length tree.above
+root-level tree is = omega (arith, is, length-map tree.above sizes)
 
-pub path-levels : {K V : Type 0} (tree : Tree K V) (levels size : ℕ) → levels ≡ length (sizes_of tree) → size ≡ levels → size ≡ suc (length tree.above)
-path-levels tree levels size is same = omega (arith, is, same, length-map tree.above sizes)
+pub path-levels : {K V : Type 0} (tree : Tree K V) {levels size : ℕ} → levels ≡ length (sizes_of tree) → size ≡ levels → size ≡ suc (length tree.above)
+path-levels tree is same = omega (arith, is, same, length-map tree.above sizes)
 
 -- a path that descended from a root to the first entry, or to the last
-module _ {K V : Type 0} {most : ℕ} {table : Table K V} (root : ℕ) (union : IsUnion most table) (is : IsTrue (is_root table.nodes root)) (path indices path' indices' : List ℕ) (levels size : ℕ) (levels_is : levels ≡ length (sizes_of (tree_of table.nodes root))) (size_is : size ≡ levels) where
+module _ {K V : Type 0} {most : ℕ} {table : Table K V} (root : ℕ) (union : IsUnion most table) (is : IsTrue (is_root table.nodes root)) (path indices path' indices' : List ℕ) {levels size : ℕ} (levels_is : levels ≡ length (sizes_of (tree_of table.nodes root))) (size_is : size ≡ levels) where
   abbrev tree_here : Tree K V
   tree_here = tree_of table.nodes root
 
   pub led-first : LeadsFirst most table.nodes path indices path' indices' root (levels - 1) → StandsUnder table.nodes root path' indices' size 0
   led-first leads =
       let u = under-root root union is in
-      let d = leads tree_here.leaves tree_here.above u.first [] u.under (root-level tree_here levels levels_is) in
-      record { root_is = is; stands = led_stands tree_here size d (path-levels tree_here levels size levels_is size_is) }
+      let d = leads tree_here.leaves tree_here.above u.first [] u.under (root-level tree_here levels_is) in
+      record { root_is = is; stands = led_stands tree_here size d (path-levels tree_here levels_is size_is) }
 
   pub led-last : LeadsLast most table.nodes path indices path' indices' root (levels - 1) → StandsUnder table.nodes root path' indices' size (length (flat tree_here.leaves) - 1)
   led-last leads =
       let u = under-root root union is in
-      let d = leads tree_here.leaves tree_here.above [] u.first u.under (root-level tree_here levels levels_is) in
-      record { root_is = is; stands = last_stands tree_here path' indices' size d (path-levels tree_here levels size levels_is size_is) }
+      let d = leads tree_here.leaves tree_here.above [] u.first u.under (root-level tree_here levels_is) in
+      record { root_is = is; stands = last_stands tree_here path' indices' d (path-levels tree_here levels_is size_is) }
 
 -- a path of one level at the front of a root that is a leaf is on the first entry
 pub on-leaf : {K V : Type 0} {most : ℕ} (table : Table K V) (root : ℕ) (path indices : List ℕ) → IsUnion most table → IsTrue (is_root table.nodes root) → IsLeaf (slot table.nodes root) → get_or path 0 0 ≡ root → get_or indices 0 0 ≡ 0 → StandsUnder table.nodes root path indices 1 0
 on-leaf table root path indices union is leaf node_is index_is =
     let u = under-root root union is in
     elim (node_under (some_leaf union.1.capacity) _ [] u.first root [] u.under) [
-      | inl s ↦ (let d = led_leaf (some_leaf union.1.capacity) _ root [] s path indices path indices node_is index_is (λ i ne. refl) (λ i ne. refl) in record { root_is = is; stands = led_stands _ 1 d.1 (omega (arith, d.0)) })
+      | inl s ↦ (let d = led_leaf (some_leaf union.1.capacity) s path indices path indices node_is index_is (λ i ne. refl) (λ i ne. refl) in record { root_is = is; stands = led_stands _ 1 d.1 (omega (arith, d.0)) })
       | inr s ↦ absurd (subst IsLeaf (slot-is table.nodes root _ s.slot_is) leaf)
     ]
 
@@ -157,7 +157,7 @@ module _ {K V : Type 0} {n : ℕ} {table : Table K V} (union : IsUnion n table) 
   pub pointed-above : (path.size ≤ 17) × ((rows : List (List (LevelNode K ℕ))) × (list : List (K × ℕ)) × (at : ℕ) × Over table.nodes path.node path.entry 1 path.size rows list at)
   pointed-above = (omega (arith, to.points.size_is, tree_is.low), ((tree_of table.nodes root).above, heads (tree_of table.nodes root).leaves, length to.points.before, pointed-over))
 
-  module _ (has : Bool) (test : (entries : List (K × V)) → slice_get table.nodes (leaf_of path) ≡ Some (leaf_content entries) → IsTrue has ↔ (index_of path < length entries)) where
+  module _ {has : Bool} (test : (entries : List (K × V)) → slice_get table.nodes (leaf_of path) ≡ Some (leaf_content entries) → IsTrue has ↔ (index_of path < length entries)) where
     -- the path is at an entry of the leaf
     pub pointed-here : has ≡ true → StandsAt table root path place
     pointed-here is = on-at table root path place (record { root_is = to.root_is; stands = stands-pointed to.points ((test to.points.entries pointed.slot_is).0 is) })
@@ -170,7 +170,7 @@ module _ {K V : Type 0} {n : ℕ} {table : Table K V} (union : IsUnion n table) 
         new.node ≡ moved.node → get_or new.entry 0 0 ≡ 0 → SameBut 0 moved.entry new.entry → new.size ≡ path.size → StandsAt table root new place
     pointed-next none moved new goes nodes here above size =
         let m = goes (tree_of table.nodes root).above (heads (tree_of table.nodes root).leaves) (length to.points.before) pointed-over in
-        let s = first_behind (some_leaf union.1.capacity) tree_is.fit tree_is.inside pointed new.size (size ∙ to.points.size_is) new.node new.entry m nodes here above in
+        let s = first_behind (some_leaf union.1.capacity) tree_is.fit tree_is.inside pointed (size ∙ to.points.size_is) new.entry m nodes here above in
         on-at table root new place (record { root_is = to.root_is; stands = subst (λ (z : ℕ). Stands new.node new.entry new.size (tree_of table.nodes root) z) (sym (behind none)) s })
 
     -- past the last entry of all, the path is at the end

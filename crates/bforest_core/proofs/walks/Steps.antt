@@ -19,8 +19,8 @@ pub no_heads : {K X : Type 0} (half most : ℕ) → 1 ≤ half → (row : List (
 no_heads half most one row f none = nil_from_length row (sym (fit_full half most one row f) ∙ ap length none)
 
 -- an entry of a node is an entry of the row
-pub entry_at : {K X : Type 0} (row : List (LevelNode K X)) (before : List (LevelNode K X)) (n : ℕ) (es : List (K × X)) (after : List (LevelNode K X)) (i : ℕ) (x : K × X) → row ≡ before ++ node n es ∷ after → slice_get es i ≡ Some x → slice_get (flat row) (length (flat before) + i) ≡ Some x
-entry_at row before n es after i x row_is found =
+pub entry_at : {K X : Type 0} {row : List (LevelNode K X)} (before : List (LevelNode K X)) (n : ℕ) (es : List (K × X)) (after : List (LevelNode K X)) (i : ℕ) {x : K × X} → row ≡ before ++ node n es ∷ after → slice_get es i ≡ Some x → slice_get (flat row) (length (flat before) + i) ≡ Some x
+entry_at before n es after i {x = x} row_is found =
     ap (λ z. slice_get (flat z) (length (flat before) + i)) row_is ∙ ap (λ z. slice_get z (length (flat before) + i)) (flat-append before (node n es ∷ after)) ∙ slice_get-append-add (flat before) (es ++ flat after) i ∙ slice_get-append_left es (flat after) i x found
 
 -- an index within a list has an element
@@ -92,8 +92,8 @@ module _ {K V X : Type 0} (content : List (K × X) → Content K V) (slots : Lis
       abbrev pub last_asks : (x : Content K V) × (slice_get slots (get_or path up r) ≡ Some x) × (1 ≤ entry_count x)
       last_asks = (content a.entries, at_index slots path r wide refl a.slot_is, omega (arith, counts a.entries, a.some))
 
-      pub last_is : (last : ℕ) → ((x : Content K V) → slice_get slots (get_or path up r) ≡ Some x → last ≡ entry_count x - 1) → suc last ≡ length a.entries
-      last_is last says = omega (arith, says (content a.entries) last_asks.1, counts a.entries, a.some)
+      pub last_is : {last : ℕ} → ((x : Content K V) → slice_get slots (get_or path up r) ≡ Some x → last ≡ entry_count x - 1) → suc last ≡ length a.entries
+      last_is says = omega (arith, says (content a.entries) last_asks.1, counts a.entries, a.some)
 
 module _ {K V : Type 0} where
   -- where the path stands on a row

@@ -10,23 +10,23 @@ use Rattle.bforest_core.proofs.walks.Downward.{Seen, at_node, seen, last_of, sta
 abbrev pub SameBut : ℕ → List ℕ → List ℕ → Type 0
 SameBut level old new = (i : ℕ) → i ≢ level → get_or new i 0 ≡ get_or old i 0
 
-pub set_but : (old new : List ℕ) (level n : ℕ) → new ≡ set old level n → SameBut level old new
-set_but old new level n is i other = ap (λ z. get_or z i 0) is ∙ get_or-set_other old level i n 0 other
+pub set_but : (old : List ℕ) {new : List ℕ} (level n : ℕ) → new ≡ set old level n → SameBut level old new
+set_but old level n is i other = ap (λ z. get_or z i 0) is ∙ get_or-set_other old level i n 0 other
 
 -- a row of no nodes has no entries
 pub none_flat : {K X : Type 0} (row : List (LevelNode K X)) → length row ≡ 0 → length (flat row) ≡ 0
 none_flat row e = ap (λ z. length (flat z)) (nil_from_length row e)
 
 -- the entries of a row, cut within a node
-pub flat_parted : {K X : Type 0} (before : List (LevelNode K X)) (n : ℕ) (es l : List (K × X)) (x : K × X) (r : List (K × X)) (after : List (LevelNode K X)) → es ≡ l ++ x ∷ r → flat (before ++ node n es ∷ after) ≡ (flat before ++ l) ++ x ∷ (r ++ flat after)
-flat_parted before n es l x r after is =
+pub flat_parted : {K X : Type 0} (before : List (LevelNode K X)) (n : ℕ) {es : List (K × X)} (l : List (K × X)) (x : K × X) (r : List (K × X)) (after : List (LevelNode K X)) → es ≡ l ++ x ∷ r → flat (before ++ node n es ∷ after) ≡ (flat before ++ l) ++ x ∷ (r ++ flat after)
+flat_parted before n {es = es} l x r after is =
     flat-append before (node n es ∷ after) ∙ ap (λ z. flat before ++ (z ++ flat after)) is ∙ ap (λ z. flat before ++ z) (append_assoc l (x ∷ r) (flat after)) ∙ sym (append_assoc (flat before) l (x ∷ (r ++ flat after)))
 
 -- a path's place at the node
 abbrev pub seen_at : {K X : Type 0} {half most : ℕ} {row : List (LevelNode K X)} {a : List (K × ℕ)} {first : K} {number : ℕ}
-    {b : List (K × ℕ)} (at : Seen half most row a first number b) (n j index place : ℕ) → n ≡ number → j ≡ index → index ≤ length at.es
+    {b : List (K × ℕ)} (at : Seen half most row a first number b) {n j index place : ℕ} → n ≡ number → j ≡ index → index ≤ length at.es
     → place ≡ length (flat at.before) + index → IsAt row n j place
-seen_at {row = row} {number = number} at n j index place n_is j_is within place_is = at_node row at.before number (at.e ∷ at.es) at.after n j index place at.row_is n_is j_is (omega (arith, within)) place_is
+seen_at {row = row} {number = number} at n_is j_is within place_is = at_node at.before (at.e ∷ at.es) at.after at.row_is n_is j_is (omega (arith, within)) place_is
 
 pub record LeafUnder {K V : Type 0} (most : ℕ) (slots : List (Content K V)) (leaves : List (LevelNode K V)) (lower : List (List (LevelNode K ℕ))) (a : List (K × ℕ)) (first : K) (number : ℕ) (b : List (K × ℕ)) : Type 0 where
   pub lower_is : lower ≡ []
@@ -76,15 +76,15 @@ module _ {K V : Type 0} {most : ℕ} (one : 1 ≤ half_of most) {slots : List (C
     pub node_within : number < length slots
     node_within = slice_get_within slots number node_held.0 node_held.1
 
-    same_inner : (c d : Content K V) → slice_get slots number ≡ Some c → slice_get slots number ≡ Some d → IsInner d → IsInner c
-    same_inner c d e f i = subst IsInner (some_same d c (sym f ∙ e)) i
+    same_inner : {c d : Content K V} → slice_get slots number ≡ Some c → slice_get slots number ≡ Some d → IsInner d → IsInner c
+    same_inner {c = c} {d = d} e f i = subst IsInner (some_same d c (sym f ∙ e)) i
 
     -- the node is a leaf if its content is not an inner node
-    pub leaf_under : (content : Content K V) → slice_get slots number ≡ Some content → (IsInner content → ⊥) → LeafUnder most slots leaves lower a first number b
-    leaf_under content found other = elim (node_under lower a first number b u) [ inl s ↦ s | inr s ↦ absurd (other (same_inner content (inner_content (s.at.e ∷ s.at.es)) found s.slot_is tt)) ]
+    pub leaf_under : {content : Content K V} → slice_get slots number ≡ Some content → (IsInner content → ⊥) → LeafUnder most slots leaves lower a first number b
+    leaf_under {content = content} found other = elim (node_under lower a first number b u) [ inl s ↦ s | inr s ↦ absurd (other (same_inner found s.slot_is tt)) ]
 
-    pub inner_under : (content : Content K V) → slice_get slots number ≡ Some content → IsInner content → InnerUnder most slots leaves lower a first number b
-    inner_under content found inner = elim (node_under lower a first number b u) [ inl s ↦ absurd (same_inner (leaf_content (s.at.e ∷ s.at.es)) content s.slot_is found inner) | inr s ↦ s ]
+    pub inner_under : {content : Content K V} → slice_get slots number ≡ Some content → IsInner content → InnerUnder most slots leaves lower a first number b
+    inner_under {content = content} found inner = elim (node_under lower a first number b u) [ inl s ↦ absurd (same_inner s.slot_is found inner) | inr s ↦ s ]
 
     -- the node is a leaf if there are no rows below it
     pub leaf_at : length lower ≡ 0 → LeafUnder most slots leaves lower a first number b

@@ -35,10 +35,10 @@ module _ {K V : Type 0} (slots : List (Content K V)) (path indices : List ℕ) w
       (s.rest, heads s.row, length s.before, subst (λ (z : ℕ). Over slots path indices z size s.rest (heads s.row) (length s.before)) (sym is) s.over)
 
   -- on one level the path's child is the last, where the test for a further one failed
-  pub here-last : {low high : ℕ} (level : ℕ) → low ≡ level → high ≡ suc level → (has : Bool)
+  pub here-last : {low high : ℕ} {level : ℕ} → low ≡ level → high ≡ suc level → {has : Bool}
       → ((entries : List (K × ℕ)) → slice_get slots (get_or path level 0) ≡ Some (inner_content entries)
       → IsTrue has ↔ (get_or indices level 0 + 1 < length entries)) → has ≡ false → AreLast slots path indices low high
-  here-last level low_is high_is has test is i low high =
+  here-last {level = level} low_is high_is test is i low high =
       subst (λ (z : ℕ). (entries : List (K × ℕ)) → slice_get slots (get_or path z 0) ≡ Some (inner_content entries)
       → length entries ≤ get_or indices z 0 + 1) (omega (arith, low, high, low_is, high_is))
       (λ entries slot. not_less (get_or indices level 0 + 1) (length entries)
@@ -65,7 +65,7 @@ module _ {K V : Type 0} (slots : List (Content K V)) (path indices : List ℕ) w
     pub down-asks : {rows : List (List (LevelNode K ℕ))} {list : List (K × ℕ)} {place : ℕ} → Over slots path indices (suc level) size rows list place → ChildAt slots path1 (from - 1) 0
     down-asks p =
         let o = over-up (from - suc level) (suc (from - 1)) p (omega (arith, low)) (omega (arith, low, t.within)) in
-        first_child_asks {up = from} o.3 (omega (arith, low)) (λ e. omega (arith, e, t.within)) t.height path1 indices1 t.moved
+        first_child_asks {up = from} o.3 (omega (arith, low)) (λ e. omega (arith, e, t.within)) t.height t.moved
 
     -- the path went to the first child, which is the next node of that level
     pub down-turned : (path2 indices2 : List ℕ) → Reads slots path1 path2 (from - 1) 0 → SameBut (from - 1) path1 path2 → get_or indices2 (suc (from - 1)) 0 ≡ 0 → SameBut (suc (from - 1)) indices1 indices2 → Turned slots path indices path2 indices2 level (from - 1) size
@@ -74,7 +74,7 @@ module _ {K V : Type 0} (slots : List (Content K V)) (path indices : List ℕ) w
           height = t.height;
           within = omega (arith, t.within);
           last = λ i above below. t.last i above (omega (arith, below, low));
-          moved = λ rows list place p. first_child_moves {up = from} p (omega (arith, low)) (λ e. omega (arith, e, t.within)) t.height path1 indices1 t.moved path2 indices2 false (none-more from (t.last from (omega (arith, low)) (omega arith))) refl child nodes entry entries;
+          moved = λ rows list place p. first_child_moves {up = from} p (omega (arith, low)) (λ e. omega (arith, e, t.within)) t.height t.moved path2 indices2 false (none-more from (t.last from (omega (arith, low)) (omega arith))) refl child nodes entry entries;
         }
 
   -- the turn, where the path goes to the next child
@@ -114,14 +114,14 @@ module _ {K V : Type 0} (slots : List (Content K V)) (path indices : List ℕ) w
     pub last-held : {rows : List (List (LevelNode K ℕ))} {list : List (K × ℕ)} {place : ℕ} → Over slots path indices (suc level) size rows list place → (x : Content K V) × (slice_get slots (get_or path1 from r) ≡ Some x) × (1 ≤ entry_count x)
     last-held p =
         let o = over-up (from - suc level) (suc (from - 1)) p (omega (arith, low)) (omega (arith, low, t.within)) in
-        back_asks {up = from} o.3 (omega (arith, low)) (λ e. omega (arith, e, t.within)) t.height path1 indices1 t.moved r wide
+        back_asks {up = from} o.3 (omega (arith, low)) (λ e. omega (arith, e, t.within)) t.height t.moved r wide
 
-    module _ (last : ℕ) (says : (x : Content K V) → slice_get slots (get_or path1 from r) ≡ Some x → last ≡ entry_count x - 1) where
+    module _ {last : ℕ} (says : (x : Content K V) → slice_get slots (get_or path1 from r) ≡ Some x → last ≡ entry_count x - 1) where
       -- the node meets what going to its last child requires
       pub last-goes : {rows : List (List (LevelNode K ℕ))} {list : List (K × ℕ)} {place : ℕ} → Over slots path indices (suc level) size rows list place → last ≤ 255 → ChildAt slots path1 (from - 1) last
       last-goes p =
           let o = over-up (from - suc level) (suc (from - 1)) p (omega (arith, low)) (omega (arith, low, t.within)) in
-          last_child_asks {up = from} o.3 (omega (arith, low)) (λ e. omega (arith, e, t.within)) t.height path1 indices1 t.moved r wide last says
+          last_child_asks {up = from} o.3 (omega (arith, low)) (λ e. omega (arith, e, t.within)) t.height t.moved r wide says
 
       -- the path went to the last child, which is the previous node of that level
       pub back-turned : (path2 indices2 : List ℕ) → Reads slots path1 path2 (from - 1) last → SameBut (from - 1) path1 path2 → get_or indices2 (suc (from - 1)) 0 ≡ last → SameBut (suc (from - 1)) indices1 indices2 → TurnedBack slots path indices path2 indices2 level (from - 1) size
@@ -130,7 +130,7 @@ module _ {K V : Type 0} (slots : List (Content K V)) (path indices : List ℕ) w
             height = t.height;
             within = omega (arith, t.within);
             first = λ i above below. t.first i above (omega (arith, below, low));
-            moved = λ rows list place p. last_child_moves {up = from} p (omega (arith, low)) (λ e. omega (arith, e, t.within)) t.height path1 indices1 t.moved r wide last says path2 indices2 (omega (arith, t.first from (omega (arith, low)) (omega arith))) child nodes entry entries;
+            moved = λ rows list place p. last_child_moves {up = from} p (omega (arith, low)) (λ e. omega (arith, e, t.within)) t.height t.moved r wide says path2 indices2 (omega (arith, t.first from (omega (arith, low)) (omega arith))) child nodes entry entries;
           }
 
   -- the turn, where the path goes to the previous child

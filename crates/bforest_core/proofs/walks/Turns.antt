@@ -45,11 +45,11 @@ module _ {K V : Type 0} where
       child_moves nodes_below entries_below path' indices' index to low to_is reads nodes entry entries =
           let e = read w.entries index low in
           let above = stands-same path1 indices1 path' indices' (suc up) here.rest q (λ i high. nodes i (λ e. omega (arith, e, up_is, high))) (λ i high. entries i (λ e. omega (arith, e, up_is, high))) w.stands in
-          let at = at_node here.row w.before (get_or path1 up 0) w.entries w.after (get_or path' up 0) (get_or indices' up 0) index to w.row_is (nodes up (λ e. omega (arith, e, up_is))) (ap (λ z. get_or indices' z 0) up_is ∙ entry) low to_is in
+          let at = at_node w.before w.entries w.after w.row_is (nodes up (λ e. omega (arith, e, up_is))) (ap (λ z. get_or indices' z 0) up_is ∙ entry) low to_is in
           let stands : StandsAbove path' indices' up (here.row ∷ here.rest) to = (at, subst (λ (z : ℕ). StandsAbove path' indices' (suc up) here.rest z) (sym w.at) above) in
           record {
             head = e.0;
-            head_is = ap (λ z. slice_get z to) (sym here.flat_is) ∙ ap (λ z. slice_get (flat here.row) z) to_is ∙ entry_at here.row w.before (get_or path1 up 0) w.entries w.after index e.0 w.row_is e.1;
+            head_is = ap (λ z. slice_get z to) (sym here.flat_is) ∙ ap (λ z. slice_get (flat here.row) z) to_is ∙ entry_at w.before (get_or path1 up 0) w.entries w.after index w.row_is e.1;
             node_is = some_same (get_or path' level 0) e.0.1 (sym (reads w.entries slot_below) ∙ items-read w.entries index ∙ ap (λ z. option_map (λ (w : K × ℕ). w.1) z) e.1);
             stands = subst (λ (z : ℕ). StandsAbove path' indices' z rows to) up_is (subst (λ (z : List (List (LevelNode K ℕ))). StandsAbove path' indices' up z to) (sym here.rows_are) stands);
             nodes_below = λ i low. nodes i (λ e. omega (arith, e, low)) ∙ nodes_below i (omega (arith, low, up_is));
@@ -70,7 +70,7 @@ module _ {K V : Type 0} where
     pub first_moves : ((rows : List (List (LevelNode K ℕ))) (list : List (K × ℕ)) (place : ℕ) → Over slots path indices (suc up) size rows list place → place ≡ 0) → get_or indices up 0 ≤ 0 → place ≡ 0
     first_moves first none = omega (arith, here.place_is, none, none_flat here.before (first here.rest (heads here.row) (length here.before) here.over))
 
-    module _ (path1 indices1 : List ℕ) (backs : (rows : List (List (LevelNode K ℕ))) (list : List (K × ℕ)) (place : ℕ) → Over slots path indices (suc up) size rows list place → (0 < place) × Moved path indices path1 indices1 up rows list (place - 1)) (r : ℕ) (wide : 17 ≤ length path1) where
+    module _ {path1 indices1 : List ℕ} (backs : (rows : List (List (LevelNode K ℕ))) (list : List (K × ℕ)) (place : ℕ) → Over slots path indices (suc up) size rows list place → (0 < place) × Moved path indices path1 indices1 up rows list (place - 1)) (r : ℕ) (wide : 17 ≤ length path1) where
       back : (0 < length here.before) × Moved path indices path1 indices1 up here.rest (heads here.row) (length here.before - 1)
       back = backs here.rest (heads here.row) (length here.before) here.over
 
@@ -81,9 +81,9 @@ module _ {K V : Type 0} where
       pub back_asks : (x : Content K V) × (slice_get slots (get_or path1 up r) ≡ Some x) × (1 ≤ entry_count x)
       back_asks = last_asks inner_content slots 8 back_node item_count r (omega (arith, wide, height, here.over.height))
 
-      module _ (last : ℕ) (says : (x : Content K V) → slice_get slots (get_or path1 up r) ≡ Some x → last ≡ entry_count x - 1) where
+      module _ {last : ℕ} (says : (x : Content K V) → slice_get slots (get_or path1 up r) ≡ Some x → last ≡ entry_count x - 1) where
         last_child : suc last ≡ length back_node.entries
-        last_child = last_is inner_content slots 8 back_node item_count r (omega (arith, wide, height, here.over.height)) last says
+        last_child = last_is inner_content slots 8 back_node item_count r (omega (arith, wide, height, here.over.height)) says
 
         -- the previous node meets what going to its last child requires
         pub last_child_asks : last ≤ 255 → ChildAt slots path1 level last
@@ -113,7 +113,7 @@ module _ {K V : Type 0} where
       pub last_moves : ((rows : List (List (LevelNode K ℕ))) (list : List (K × ℕ)) (place : ℕ) → Over slots path indices (suc up) size rows list place → suc place ≡ length list) → has ≡ false → suc place ≡ length list
       last_moves last is = omega (arith, here.place_is, here.within, past_all is, ap length here.flat_is, none_behind inner_content slots 8 stay 4 (omega arith) here.fit (last here.rest (heads here.row) (length here.before) here.over))
 
-    module _ (path1 indices1 : List ℕ) (goes : (rows : List (List (LevelNode K ℕ))) (list : List (K × ℕ)) (place : ℕ) → Over slots path indices (suc up) size rows list place → Moved path indices path1 indices1 up rows list (suc place)) where
+    module _ {path1 indices1 : List ℕ} (goes : (rows : List (List (LevelNode K ℕ))) (list : List (K × ℕ)) (place : ℕ) → Over slots path indices (suc up) size rows list place → Moved path indices path1 indices1 up rows list (suc place)) where
       on : Moved path indices path1 indices1 up here.rest (heads here.row) (suc (length here.before))
       on = goes here.rest (heads here.row) (length here.before) here.over
 

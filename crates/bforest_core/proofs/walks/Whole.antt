@@ -5,11 +5,11 @@ use Rattle.bforest_core.proofs.Words.{Content, EndsIn, Reached, Table, place, is
 
 module _ {K : Type 0} where
   -- the root alone is the top level
-  top : (list : List (K × ℕ)) (rows : List (List (LevelNode K ℕ))) (root : ℕ) → Stacked list rows → root_above list rows ≡ root → (first : K) × StackedTo list rows ((first, root) ∷ [])
-  top [] [] root s e = absurd (omega (arith, s))
-  top (x ∷ y ∷ list) [] root s e = absurd (omega (arith, s))
-  top (x ∷ []) [] root s e = (x.0, ap (λ z. (x.0, z) ∷ []) e)
-  top list (row ∷ rows) root s e = let t = top (heads row) rows root s.2 e in (t.0, (s.0, s.1, t.1))
+  top : (list : List (K × ℕ)) (rows : List (List (LevelNode K ℕ))) {root : ℕ} → Stacked list rows → root_above list rows ≡ root → (first : K) × StackedTo list rows ((first, root) ∷ [])
+  top [] [] s e = absurd (omega (arith, s))
+  top (x ∷ y ∷ list) [] s e = absurd (omega (arith, s))
+  top (x ∷ []) [] s e = (x.0, ap (λ z. (x.0, z) ∷ []) e)
+  top list (row ∷ rows) {root = root} s e = let t = top (heads row) rows s.2 e in (t.0, (s.0, s.1, t.1))
 
   -- a path that reaches the root stands on all rows
   pub stands_above : (path indices : List ℕ) (level : ℕ) (rows : List (List (LevelNode K ℕ))) (place : ℕ) → StandsTo path indices level rows place 0 → StandsAbove path indices level rows place
@@ -22,7 +22,7 @@ led_stands tree {path' = path'} {indices' = indices'} size d e = record { leaf =
 module _ {K V : Type 0} {most : ℕ} {slots : List (Content K V)} {root : ℕ} {tree : Tree K V} (r : IsRooted most slots root tree) where
   -- the leaves and rows under the root are the whole tree
   pub whole_under : (first : K) × Under most slots tree.leaves tree.above ((first, root) ∷ [])
-  whole_under = let t = top (heads tree.leaves) tree.above root r.fit.stacked r.root_is in (t.0, record { leaves_fit = r.fit.leaves_fit; leaves_in = r.inside.leaves_in; stacked = t.1; rows_in = r.inside.rows_in })
+  whole_under = let t = top (heads tree.leaves) tree.above r.fit.stacked r.root_is in (t.0, record { leaves_fit = r.fit.leaves_fit; leaves_in = r.inside.leaves_in; stacked = t.1; rows_in = r.inside.rows_in })
 
 pub all_through : {K : Type 0} (cmp : K → K → Ordering) (first key : K) → GoesThrough cmp [] first [] key
 all_through cmp first key = record { from = tt; upto = tt }

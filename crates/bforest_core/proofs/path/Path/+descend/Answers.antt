@@ -30,8 +30,8 @@ descend-requires g t c κs within =
     (inner_at (some_leaf c.requires.capacity) w.2 w.3 c.args.node w.4 w.5
     (λ z. c.if-level-eq0.false (w.8 ∙ z))) in
     let d = below (g.met.C.Comparator.total c.args.comp.now)
-    (some_leaf c.requires.capacity) s c.follow-index.result.0
-    c.follow-index.result.1 c.follow-index.ensures.index c.follow-index.ensures.child in (
+    (some_leaf c.requires.capacity) s
+    c.follow-index.ensures.index c.follow-index.ensures.child in (
       omega (arith, c.decreases, w.8, s.here.count_is),
       (
         within.0,
@@ -67,8 +67,8 @@ returns-clause-descended g t c = λ leaves lower a first b u inc through level_i
     (inner_at (some_leaf c.requires.capacity) a first c.args.node b u
     (λ z. c.if-level-eq0.false (level_is ∙ z))) in
     let d = below (g.met.C.Comparator.total c.args.comp.now)
-    (some_leaf c.requires.capacity) s c.follow-index.result.0
-    c.follow-index.result.1 c.follow-index.ensures.index c.follow-index.ensures.child in
+    (some_leaf c.requires.capacity) s
+    c.follow-index.ensures.index c.follow-index.ensures.child in
     let r = c.descend.ensures.descended leaves s.here.rows d.front d.head d.back d.under inc d.through (omega (arith, level_is, s.here.count_is)) in
     let set = c.set_level-2.ensures in
     record {
@@ -82,5 +82,5 @@ returns-clause-descended g t c = λ leaves lower a first b u inc through level_i
       indices_wide = r.indices_wide ∙ ap length set.entry ∙ length-set c.args.self.now.entry c.args.level c.follow-index.result.0;
       descended = passed (g.met.C.Comparator.total c.args.comp.now)
           (some_leaf c.requires.capacity) s _ d
-          _ _ _ _ _ _ c.args.level level_is r.descended set.here.0 set.here.1 set.node set.entry;
+          _ _ _ _ _ _ level_is r.descended set.here.0 set.here.1 set.node set.entry;
     }

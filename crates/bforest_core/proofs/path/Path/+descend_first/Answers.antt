@@ -6,12 +6,12 @@ use Rattle.bforest_core.proofs.path.Path.+descend_first.Goals as goal
 pub returns-then-level-eq0-clause-led : goal.returns-then-level-eq0-clause-led
 returns-then-level-eq0-clause-led g t c = λ leaves lower first b u level_is.
     let set = c.set_level.ensures in
-    first_ends (some_leaf c.requires.capacity) first _ b u level_is c.if-level-eq0.true _ _ _ _ set.here.0 set.here.1 set.node set.entry
+    first_ends (some_leaf c.requires.capacity) u level_is c.if-level-eq0.true _ _ _ _ set.here.0 set.here.1 set.node set.entry
 
 pub child-child-requires : goal.child-child-requires
 child-child-requires g t c =
     let w = c.requires.under in
-    (search rules, first_asks (some_leaf c.requires.capacity) w.2 _ w.3 w.4 w.5 c.if-level-eq0.false)
+    (search rules, first_asks (some_leaf c.requires.capacity) w.4 w.5 c.if-level-eq0.false)
 
 pub descend_first-requires : goal.descend_first-requires
 descend_first-requires g t c κs within =
@@ -31,7 +31,7 @@ descend_first-requires g t c κs within =
                   c.requires.capacity,
                   (
                     omega (arith, c.requires.height),
-                    first_goes (some_leaf c.requires.capacity) w.2 _ w.3 w.4 w.5 c.if-level-eq0.false c.child-child.result
+                    first_goes (some_leaf c.requires.capacity) w.4 w.5 c.if-level-eq0.false
                         c.child-child.ensures,
                   ),
                 ),
@@ -45,4 +45,4 @@ descend_first-requires g t c κs within =
 pub returns-clause-led : goal.returns-clause-led
 returns-clause-led g t c = λ leaves lower first b u level_is.
     let set = c.set_level.ensures in
-    first_led (some_leaf c.requires.capacity) first _ b u level_is c.if-level-eq0.false c.child-child.result c.child-child.ensures _ _ _ _ _ _ set.here.0 set.here.1 set.node set.entry c.descend_first.ensures.led
+    first_led (some_leaf c.requires.capacity) u level_is c.if-level-eq0.false c.child-child.ensures _ _ _ _ _ _ set.here.0 set.here.1 set.node set.entry c.descend_first.ensures.led

@@ -12,12 +12,12 @@ last_index-last-requires g t c =
 pub returns-then-level-eq0-clause-led : goal.returns-then-level-eq0-clause-led
 returns-then-level-eq0-clause-led g t c = λ leaves lower a first u level_is.
     let set = c.set_level.ensures in
-    last_ends (some_leaf c.requires.capacity) a first _ u level_is _ c.last_index-last.ensures.last c.if-level-eq0.true _ _ _ _ set.here.0 set.here.1 set.node set.entry
+    last_ends (some_leaf c.requires.capacity) a first _ u level_is c.last_index-last.ensures.last c.if-level-eq0.true _ _ _ _ set.here.0 set.here.1 set.node set.entry
 
 pub child-child-requires : goal.child-child-requires
 child-child-requires g t c =
     let w = c.requires.under in
-    (search rules, last_asks (some_leaf c.requires.capacity) w.2 w.3 _ w.4 w.5 _ c.last_index-last.ensures.last c.if-level-eq0.false)
+    (search rules, last_asks (some_leaf c.requires.capacity) w.2 w.3 _ w.4 w.5 c.last_index-last.ensures.last c.if-level-eq0.false)
 
 pub descend_last-requires : goal.descend_last-requires
 descend_last-requires g t c κs within =
@@ -37,8 +37,8 @@ descend_last-requires g t c κs within =
                   c.requires.capacity,
                   (
                     omega (arith, c.requires.height),
-                    last_goes (some_leaf c.requires.capacity) w.2 w.3 _ w.4 w.5 _ c.last_index-last.ensures.last c.if-level-eq0.false
-                        c.child-child.result c.child-child.ensures,
+                    last_goes (some_leaf c.requires.capacity) w.2 w.3 _ w.4 w.5 c.last_index-last.ensures.last c.if-level-eq0.false
+                        c.child-child.ensures,
                   ),
                 ),
               ),
@@ -51,4 +51,4 @@ descend_last-requires g t c κs within =
 pub returns-clause-led : goal.returns-clause-led
 returns-clause-led g t c = λ leaves lower a first u level_is.
     let set = c.set_level.ensures in
-    last_led (some_leaf c.requires.capacity) a first _ u level_is _ c.last_index-last.ensures.last c.if-level-eq0.false c.child-child.result c.child-child.ensures _ _ _ _ _ _ set.here.0 set.here.1 set.node set.entry c.descend_last.ensures.led
+    last_led (some_leaf c.requires.capacity) a first _ u level_is c.last_index-last.ensures.last c.if-level-eq0.false c.child-child.ensures _ _ _ _ _ _ set.here.0 set.here.1 set.node set.entry c.descend_last.ensures.led

@@ -14,7 +14,7 @@ last_index-last-requires g t c =
 pub go_to_child-requires : goal.go_to_child-requires
 go_to_child-requires g t c =
     let w = c.requires.turned in
-    (search rules, (search rules, last-goes _ _ _ w.3 (omega (arith, c.requires.within, c.if-from-level.false)) c.index-self-from.result (omega arith) c.last_index-last.result c.last_index-last.ensures.last w.7 c.last_index-last.ensures.most))
+    (search rules, (search rules, last-goes _ _ _ w.3 (omega (arith, c.requires.within, c.if-from-level.false)) c.index-self-from.result (omega arith) c.last_index-last.ensures.last w.7 c.last_index-last.ensures.most))
 
 pub go_last-requires : goal.go_last-requires
 go_last-requires g t c κs within =
@@ -38,7 +38,7 @@ go_last-requires g t c κs within =
                     w.1,
                     w.2,
                     back-turned _ _ _ w.3 (omega (arith, c.requires.within, c.if-from-level.false)) c.index-self-from.result
-                        (omega arith) c.last_index-last.result c.last_index-last.ensures.last _ _ went.child went.nodes went.entry went.entries,
+                        (omega arith) c.last_index-last.ensures.last _ _ went.child went.nodes went.entry went.entries,
                     w.4,
                     w.5,
                     w.6,
@@ -55,4 +55,4 @@ go_last-requires g t c κs within =
 pub returns-clause-moved : goal.returns-clause-moved
 returns-clause-moved g t c = λ path indices size turned.
     let went = c.go_to_child.ensures in
-    c.go_last.ensures.moved path indices size (back-turned _ _ _ turned (omega (arith, c.requires.within, c.if-from-level.false)) c.index-self-from.result (omega arith) c.last_index-last.result c.last_index-last.ensures.last _ _ went.child went.nodes went.entry went.entries)
+    c.go_last.ensures.moved path indices size (back-turned _ _ _ turned (omega (arith, c.requires.within, c.if-from-level.false)) c.index-self-from.result (omega arith) c.last_index-last.ensures.last _ _ went.child went.nodes went.entry went.entries)

@@ -15,5 +15,5 @@ next_turn-requires g t c κs within =
 pub returns-clause-last : goal.returns-clause-last
 returns-clause-last g t c = both-last c.args.pool.now.nodes c.args.self.now.node c.args.self.now.entry c.args.level
     (c.args.level + 1) c.next_turn.result
-    (here-last c.args.pool.now.nodes c.args.self.now.node c.args.self.now.entry c.args.level refl
-    (add-one _) c.has_child.result c.has_child.ensures.within c.if-has_child.false) c.next_turn.ensures.last
+    (here-last c.args.pool.now.nodes c.args.self.now.node c.args.self.now.entry refl
+    (add-one _) c.has_child.ensures.within c.if-has_child.false) c.next_turn.ensures.last

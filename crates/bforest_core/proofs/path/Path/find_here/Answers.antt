@@ -13,7 +13,7 @@ pub returns-in-Equal : goal.returns-in-Equal
 returns-in-Equal g c =
     let at = c.requires.stands in
     let on = some-on c.args.pool.now c.args.root c.args.self.now at.place at.at c.if-self-gt0.true in
-    let e = here-equal c.args.root c.args.self.now at.place c.requires.union on c.entry_here-here.result c.entry_here-here.ensures (g.met.C.Comparator.total c.args.comp.now) c.args.key c.requires.increasing (sym c.cmp.ensures ∙ c.in-Equal.is) in
+    let e = here-equal c.args.root c.args.self.now at.place c.requires.union on c.entry_here-here.ensures (g.met.C.Comparator.total c.args.comp.now) c.args.key c.requires.increasing (sym c.cmp.ensures ∙ c.in-Equal.is) in
     record { value = e.value; present = e.present; absent = e.absent }
 
 pub returns-in-Greater-clause-value : goal.returns-in-Greater-clause-value
@@ -30,9 +30,9 @@ returns-in_default g c =
     let order = g.C.Comparator.order c.args.comp.now in
     let o = g.met.C.Comparator.total c.args.comp.now in
     let at = c.requires.stands in
-    let e = before-none o c.args.pool.now c.args.root c.args.key c.requires.increasing c.prev.new.self c.prev.result at.place (c.prev.ensures.value at) (c.prev.ensures.stands at) c.requires.union (elim c.if-self-gt0.branch [
+    let e = before-none o c.args.pool.now c.args.root c.args.key c.requires.increasing c.prev.new.self at.place (c.prev.ensures.value at) (c.prev.ensures.stands at) c.requires.union (elim c.if-self-gt0.branch [
       | then-self-gt0+in-Less w ↦ here-greater c.args.root c.args.self.now at.place c.requires.union
-          (some-on c.args.pool.now c.args.root c.args.self.now at.place at.at w.if-self-gt0.true) w.entry_here-here.result
+          (some-on c.args.pool.now c.args.root c.args.self.now at.place at.at w.if-self-gt0.true)
           w.entry_here-here.ensures o c.args.key (sym w.cmp.ensures ∙ w.in-Less.is)
       | else-self-gt0 w ↦ none-left c.args.pool.now c.args.root c.args.self.now at.place at.at order c.args.key (omega (arith, w.if-self-gt0.false))
     ]) c.in_default.is in
@@ -47,7 +47,7 @@ returns-in-Equal-cmp g c =
     let at = c.requires.stands in
     let e = before-equal
     (g.met.C.Comparator.total c.args.comp.now) c.args.pool.now c.args.root c.args.key c.requires.increasing c.prev.new.self
-    c.prev.result at.place (c.prev.ensures.value at) (c.prev.ensures.stands at) c.in-Some.before c.in-Some.is
+    at.place (c.prev.ensures.value at) (c.prev.ensures.stands at) c.in-Some.is
     (sym c.cmp-2.ensures ∙ c.in-Equal-cmp.is) in
     record { value = e.value; present = e.present; absent = e.absent }
 
@@ -57,11 +57,11 @@ returns-in-Greater-cmp g c =
     let o = g.met.C.Comparator.total c.args.comp.now in
     let at = c.requires.stands in
     let set = c.set_entry.ensures in
-    let e = before-greater o c.args.pool.now c.args.root c.args.key c.requires.increasing c.prev.new.self c.prev.result at.place
-    (c.prev.ensures.value at) (c.prev.ensures.stands at) c.in-Some.before c.in-Some.is c.set_entry.new.self c.requires.union set.nodes
+    let e = before-greater o c.args.pool.now c.args.root c.args.key c.requires.increasing c.prev.new.self at.place
+    (c.prev.ensures.value at) (c.prev.ensures.stands at) c.in-Some.is c.set_entry.new.self c.requires.union set.nodes
     set.here set.above set.size (elim c.if-self-gt0.branch [
       | then-self-gt0+in-Less w ↦ here-greater c.args.root c.args.self.now at.place c.requires.union
-          (some-on c.args.pool.now c.args.root c.args.self.now at.place at.at w.if-self-gt0.true) w.entry_here-here.result
+          (some-on c.args.pool.now c.args.root c.args.self.now at.place at.at w.if-self-gt0.true)
           w.entry_here-here.ensures o c.args.key (sym w.cmp.ensures ∙ w.in-Less.is)
       | else-self-gt0 w ↦ none-left c.args.pool.now c.args.root c.args.self.now at.place at.at order c.args.key (omega (arith, w.if-self-gt0.false))
     ]) (sym c.cmp-2.ensures ∙ c.in-Greater-cmp.is) in

@@ -24,10 +24,10 @@ pub descend_first-requires : goal.descend_first-requires
 descend_first-requires g c =
     let tree = tree_of c.args.pool.now.nodes c.args.root in
     let u = under-root c.args.root c.requires.union c.requires.root in
-    let levels_is = root-level tree _ c.levels-levels.ensures.value in
+    let levels_is = root-level tree c.levels-levels.ensures.value in
     (search rules, (search rules, (c.requires.union.1.capacity, (omega (arith, levels_is, u.low), (tree.leaves, tree.above, u.first, [], u.under, levels_is)))))
 
 pub returns : goal.returns
 returns g c =
-    let on = led-first c.args.root c.requires.union c.requires.root _ _ _ _ _ _ c.levels-levels.ensures.value c.descend_first.ensures.size c.descend_first.ensures.led in
+    let on = led-first c.args.root c.requires.union c.requires.root _ _ _ _ c.levels-levels.ensures.value c.descend_first.ensures.size c.descend_first.ensures.led in
     record { leaf = get_or_default c.descend_first.new.self.node 0 _ 0 (omega arith); index = omega (arith, on.stands.leaf.place_is); stands = leaf-front c.requires.union 0 _ on (omega (arith, on.stands.leaf.place_is)) }

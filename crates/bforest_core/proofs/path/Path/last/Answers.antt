@@ -11,15 +11,15 @@ pub descend_last-requires : goal.descend_last-requires
 descend_last-requires g c =
     let tree = tree_of c.args.pool.now.nodes c.args.root in
     let u = under-root c.args.root c.requires.union c.requires.root in
-    let levels_is = root-level tree _ c.levels-height.ensures.value in
+    let levels_is = root-level tree c.levels-height.ensures.value in
     (search rules, (search rules, (c.requires.union.1.capacity, (omega (arith, levels_is, u.low), (tree.leaves, tree.above, [], u.first, u.under, levels_is)))))
 
 pub entry_here-requires : goal.entry_here-requires
 entry_here-requires g c =
-    let on = led-last c.args.root c.requires.union c.requires.root _ _ _ _ _ _ c.levels-height.ensures.value c.descend_last.ensures.size c.descend_last.ensures.led in
+    let on = led-last c.args.root c.requires.union c.requires.root _ _ _ _ c.levels-height.ensures.value c.descend_last.ensures.size c.descend_last.ensures.led in
     (search rules, (search rules, here-leaf _ _ _ c.requires.union on))
 
 pub returns : goal.returns
 returns g c =
-    let on = led-last c.args.root c.requires.union c.requires.root _ _ _ _ _ _ c.levels-height.ensures.value c.descend_last.ensures.size c.descend_last.ensures.led in
-    record { value = here-entry c.args.root c.descend_last.new.self _ c.requires.union on c.entry_here.result c.entry_here.ensures; stands = on }
+    let on = led-last c.args.root c.requires.union c.requires.root _ _ _ _ c.levels-height.ensures.value c.descend_last.ensures.size c.descend_last.ensures.led in
+    record { value = here-entry c.args.root c.descend_last.new.self _ c.requires.union on c.entry_here.ensures; stands = on }

@@ -11,10 +11,10 @@ pub leaf_entry-requires : goal.leaf_entry-requires
 leaf_entry-requires g c = (search rules, (search rules, (c.requires.stands.4.leaf.entries, (leaf_here (some_leaf c.requires.capacity) c.requires.stands.2 c.requires.stands.3 c.requires.stands.4).slot_is)))
 
 pub returns-in-Some-clause-value : goal.returns-in-Some-clause-value
-returns-in-Some-clause-value g c = λ tree place fit inside s. next_read (some_leaf c.requires.capacity) fit inside s c.in-Some.entry c.in-Some.ensures.value
+returns-in-Some-clause-value g c = λ tree place fit inside s. next_read (some_leaf c.requires.capacity) fit inside s c.in-Some.ensures.value
 
 pub returns-in-Some-clause-moved : goal.returns-in-Some-clause-moved
-returns-in-Some-clause-moved g c = λ tree place fit inside s. next_within (some_leaf c.requires.capacity) fit inside s c.in-Some.entry c.in-Some.ensures.value c.set_entry.new.self.node c.set_entry.new.self.entry c.set_entry.ensures.nodes c.set_entry.ensures.here c.set_entry.ensures.above
+returns-in-Some-clause-moved g c = λ tree place fit inside s. next_within (some_leaf c.requires.capacity) fit inside s c.in-Some.ensures.value c.set_entry.new.self.entry c.set_entry.ensures.nodes c.set_entry.ensures.here c.set_entry.ensures.above
 
 pub next_node-requires : goal.next_node-requires
 next_node-requires g c =
@@ -33,15 +33,15 @@ returns-then-not-next_node-clause-same g c = λ none. c.next_node.ensures.same c
 pub entry_here-requires : goal.entry_here-requires
 entry_here-requires g c =
     let w = c.requires.stands in
-    let s = next_over (some_leaf c.requires.capacity) w.2 w.3 w.4 c.in_default.ensures.value _ _ c.set_entry-2.new.self.node c.set_entry-2.new.self.entry (c.next_node.ensures.moved (search rules)) c.set_entry-2.ensures.nodes c.set_entry-2.ensures.here c.set_entry-2.ensures.above in
+    let s = next_over (some_leaf c.requires.capacity) w.2 w.3 w.4 c.in_default.ensures.value c.set_entry-2.new.self.entry (c.next_node.ensures.moved (search rules)) c.set_entry-2.ensures.nodes c.set_entry-2.ensures.here c.set_entry-2.ensures.above in
     (search rules, (search rules, (s.leaf.entries, (leaf_here (some_leaf c.requires.capacity) w.2 w.3 s).slot_is, s.leaf.within)))
 
 pub returns-clause-value : goal.returns-clause-value
 returns-clause-value g c = λ tree place fit inside s.
-    let s' = next_over (some_leaf c.requires.capacity) fit inside s c.in_default.ensures.value _ _ c.set_entry-2.new.self.node c.set_entry-2.new.self.entry (c.next_node.ensures.moved (search rules)) c.set_entry-2.ensures.nodes c.set_entry-2.ensures.here c.set_entry-2.ensures.above in
-    sym (entry_read (some_leaf c.requires.capacity) fit inside s' c.entry_here.result c.entry_here.ensures)
+    let s' = next_over (some_leaf c.requires.capacity) fit inside s c.in_default.ensures.value c.set_entry-2.new.self.entry (c.next_node.ensures.moved (search rules)) c.set_entry-2.ensures.nodes c.set_entry-2.ensures.here c.set_entry-2.ensures.above in
+    sym (entry_read (some_leaf c.requires.capacity) fit inside s' c.entry_here.ensures)
 
 pub returns-clause-moved : goal.returns-clause-moved
 returns-clause-moved g c = λ tree place fit inside s. next_over
-    (some_leaf c.requires.capacity) fit inside s c.in_default.ensures.value _ _ c.set_entry-2.new.self.node c.set_entry-2.new.self.entry
+    (some_leaf c.requires.capacity) fit inside s c.in_default.ensures.value c.set_entry-2.new.self.entry
     (c.next_node.ensures.moved (search rules)) c.set_entry-2.ensures.nodes c.set_entry-2.ensures.here c.set_entry-2.ensures.above

@@ -45,8 +45,8 @@ next_far-requires g c = (
         c.requires.over,
         (
           (λ e. c.if-level-self.false (add-one c.args.level ∙ e)),
-          here-last c.args.pool.now.nodes c.args.self.now.node c.args.self.now.entry (c.args.level + 1) (sym (add-one _))
-              (omega arith) c.has_child.result c.has_child.ensures.within c.if-has_child.false,
+          here-last c.args.pool.now.nodes c.args.self.now.node c.args.self.now.entry (sym (add-one _))
+              (omega arith) c.has_child.ensures.within c.if-has_child.false,
         ),
       ),
     ),

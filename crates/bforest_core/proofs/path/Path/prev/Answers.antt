@@ -14,7 +14,7 @@ module _ {K V : Type 0} {n : ℕ} {table : Table K V} (union : IsUnion n table) 
 
   -- the entry read after the move is the previous one
   read_back : (0 < place) × StandsOn table root new (place - 1) → (e : K × V) → ((entries : List (K × V)) → slice_get table.nodes (leaf_of new) ≡ Some (leaf_content entries) → slice_get entries (index_of new) ≡ Some e) → Some e ≡ entry_before (list_under table root) place
-  read_back back e read_is = sym (here-entry root new (place - 1) union back.1 e read_is) ∙ before_is (list_under table root) place back.0
+  read_back back e read_is = sym (here-entry root new (place - 1) union back.1 read_is) ∙ before_is (list_under table root) place back.0
 
   module _ (some : old.size ≢ 0) where
     -- the path moved to the previous entry

@@ -9,7 +9,7 @@ pub returns-then-here-gt0 : goal.returns-then-here-gt0
 returns-then-here-gt0 g c =
     record {
       moved = λ yes tree place fit inside s. back_within
-          (some_leaf c.requires.capacity) fit inside s c.set_entry.new.self.node c.set_entry.new.self.entry c.set_entry.ensures.nodes
+          (some_leaf c.requires.capacity) fit inside s c.set_entry.new.self.entry c.set_entry.ensures.nodes
           c.if-here-gt0.true c.set_entry.ensures.here c.set_entry.ensures.above;
       first = never refl;
       same = never refl;
@@ -23,7 +23,7 @@ prev_node-moved-requires g c =
 
 pub last_index-last-requires : goal.last_index-last-requires
 last_index-last-requires g c =
-    (search rules, back_asks (some_leaf c.requires.capacity) c.requires.stands.2 c.requires.stands.3 c.requires.stands.4 c.prev_node-moved.new.self.node c.prev_node-moved.new.self.entry (c.prev_node-moved.ensures.moved c.if-moved.true) c.index-self-0.result (omega arith))
+    (search rules, back_asks (some_leaf c.requires.capacity) c.requires.stands.2 c.requires.stands.3 c.requires.stands.4 (c.prev_node-moved.ensures.moved c.if-moved.true) c.index-self-0.result (omega arith))
 
 pub returns-then-moved : goal.returns-then-moved
 returns-then-moved g c =
@@ -31,9 +31,9 @@ returns-then-moved g c =
     let set = c.set_entry-then-moved.ensures in
     record {
       moved = λ yes tree place fit inside s. back_over
-          (some_leaf c.requires.capacity) fit inside s c.prev_node-moved.new.self.node c.prev_node-moved.new.self.entry
+          (some_leaf c.requires.capacity) fit inside s
           (c.prev_node-moved.ensures.moved c.if-moved.true) c.index-self-0.result
-          (omega arith) new.node new.entry c.last_index-last.result c.last_index-last.ensures.last set.nodes c.if-here-gt0.false set.here
+          (omega arith) new.node new.entry c.last_index-last.ensures.last set.nodes c.if-here-gt0.false set.here
           set.above;
       first = never c.if-moved.true;
       same = never c.if-moved.true;

@@ -20,7 +20,7 @@ module _ {K V : Type 0} (n : ℕ) (nodes : List (Content K V)) (first : Option �
     here = subst (λ (z : Option ℕ). IsPool n nodes z free limit) first_is pool
 
     front : (next : Option ℕ) × (slice_get nodes number ≡ Some (Free next))
-    front = front_is_free number free some here
+    front = front_is_free free some here
 
     within : number < length nodes
     within = slice_get_within nodes number (Free front.0) front.1
@@ -32,7 +32,7 @@ module _ {K V : Type 0} (n : ℕ) (nodes : List (Content K V)) (first : Option �
       module _ (next : Option ℕ) (next_is : content ≡ Free next) where
         taken : IsPool n nodes next (free - 1) limit × (chain_from nodes free first ≡ number ∷ chain_from nodes (free - 1) next) × (list_any (nat_eq number) (chain_from nodes (free - 1) next) ≡ false)
         taken =
-            let w = IsPool-taken number next free some here (reads within ∙ ap Some next_is) in
+            let w = IsPool-taken next free some here (reads within ∙ ap Some next_is) in
             (w.0, ap (λ z. chain_from nodes free z) first_is ∙ w.1, w.2)
 
 pub unwrap-node-requires : goal.unwrap-node-requires

@@ -10,21 +10,21 @@ child_count-requires g c = (search rules, grand-count c.requires.union c.require
 pub child-parent-requires : goal.child-parent-requires
 child-parent-requires g c = (
   search rules,
-  parent-asks c.requires.union c.requires.spot.1 c.requires.last c.requires.deep c.child_count.result
+  parent-asks c.requires.union c.requires.spot.1 c.requires.last c.requires.deep
       c.child_count.ensures.value c.if-index-child_count.true,
 )
 
 pub child-leaf-requires : goal.child-leaf-requires
 child-leaf-requires g c = (
   search rules,
-  cousin-asks c.requires.union c.requires.spot.1 c.requires.last c.requires.deep c.child_count.result c.child_count.ensures.value
-      c.if-index-child_count.true c.child-parent.result c.child-parent.ensures,
+  cousin-asks c.requires.union c.requires.spot.1 c.requires.last c.requires.deep c.child_count.ensures.value
+      c.if-index-child_count.true c.child-parent.ensures,
 )
 
 pub returns-then-index-child_count-clause-some : goal.returns-then-index-child_count-clause-some
 returns-then-index-child_count-clause-some g c = λ place s.
-    cousin c.requires.union s c.requires.last c.requires.deep c.child_count.result c.child_count.ensures.value c.if-index-child_count.true
-    c.child-parent.result c.child-parent.ensures c.child-leaf.result c.child-leaf.ensures _ refl refl refl refl
+    cousin c.requires.union s c.requires.last c.requires.deep c.child_count.ensures.value c.if-index-child_count.true
+    c.child-parent.ensures c.child-leaf.ensures _ refl refl refl refl
 
 pub next_far-requires : goal.next_far-requires
 next_far-requires g c =

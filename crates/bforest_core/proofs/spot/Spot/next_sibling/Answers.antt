@@ -9,7 +9,7 @@ pub overflow_add-spot : goal.overflow_add-spot
 overflow_add-spot g c = omega (arith, spot-low c.requires.union c.requires.spot.is)
 
 pub returns-clause-leaf : goal.returns-clause-leaf
-returns-clause-leaf g c = λ root place s. sibling-child c.requires.union s c.requires.next.some c.requires.next c.child-leaf.result c.child-leaf.ensures
+returns-clause-leaf g c = λ root place s. sibling-child c.requires.union s c.requires.next.some c.requires.next c.child-leaf.ensures
 
 pub returns-clause-spot : goal.returns-clause-spot
 returns-clause-spot g c = λ root place s. sibling-spot c.requires.union s c.requires.next.some c.requires.next _ refl refl refl refl
