@@ -44,18 +44,18 @@ module _ {K V : Type 0} where
       omega (arith, most, pool.counted)
 
   -- a used slot is freed and put in front of the chain
-  pub IsPool-freed : (n : ℕ) (nodes : List (Content K V)) (first : Option ℕ) (free limit at : ℕ) → at < length nodes
+  pub IsPool-freed : {n : ℕ} (nodes : List (Content K V)) (first : Option ℕ) (free limit at : ℕ) → at < length nodes
       → list_any (nat_eq at) (chain_from nodes free first) ≡ false → IsPool n nodes first free limit
       → IsPool n (set nodes at (Free first)) (Some at) (free + 1) limit
       × (chain_from (set nodes at (Free first)) (free + 1) (Some at) ≡ at ∷ chain_from nodes free first)
-  IsPool-freed n nodes first free limit at within off pool =
+  IsPool-freed nodes first free limit at within off pool =
       IsPool-made (set nodes at (Free first)) (at ∷ chain_from nodes free first) (Some at) (free + 1) limit pool.capacity (IsChain-freed nodes (chain_from nodes free first) first at within off pool.linked)
       (omega (arith, pool.counted)) (IsDistinct-front at _ off pool.distinct) (omega (arith, length-set nodes at (Free first), pool.slots_within)) pool.limit_within
 
   -- where a slot is used, fewer nodes are free than there are slots
-  pub free_below : (n : ℕ) (nodes : List (Content K V)) (first : Option ℕ) (free limit at : ℕ) → at < length nodes → list_any (nat_eq at) (chain_from nodes free first) ≡ false → IsPool n nodes first free limit → free < length nodes
-  free_below n nodes first free limit at within off pool =
-      omega (arith, free_within _ _ _ (IsPool-freed n nodes first free limit at within off pool).0, length-set nodes at (Free first))
+  pub free_below : {n : ℕ} (nodes : List (Content K V)) (first : Option ℕ) (free limit at : ℕ) → at < length nodes → list_any (nat_eq at) (chain_from nodes free first) ≡ false → IsPool n nodes first free limit → free < length nodes
+  free_below nodes first free limit at within off pool =
+      omega (arith, free_within _ _ _ (IsPool-freed nodes first free limit at within off pool).0, length-set nodes at (Free first))
 
   -- new slots in front of the chain
   pub IsPool-grown : {n : ℕ} (nodes : List (Content K V)) (first : Option ℕ) (free limit count total : ℕ) → total ≡ count + free

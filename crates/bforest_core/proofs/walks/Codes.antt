@@ -213,8 +213,8 @@ module _ {K V : Type 0} {slots : List (Content K V)} {root code depth : ℕ} {nu
     pub code-asks : (keys : List K) × (children : List ℕ) × (slice_get slots parent ≡ Some (Inner keys children)) × (code % 8 < length children)
     code-asks = child-asks node-here (code % 8) here.within
 
-    pub code-child : (child : ℕ) → ((keys : List K) (children : List ℕ) → slice_get slots parent ≡ Some (Inner keys children) → slice_get children (code % 8) ≡ Some child) → NumberAt list place child
-    code-child child reads = child-is node-here (code % 8) place here.within here.place_is reads
+    pub code-child : {child : ℕ} → ((keys : List K) (children : List ℕ) → slice_get slots parent ≡ Some (Inner keys children) → slice_get children (code % 8) ≡ Some child) → NumberAt list place child
+    code-child reads = child-is node-here (code % 8) place here.within here.place_is reads
 
     -- what the number of children asks, and says
     pub count-asks : (content : Content K V) × (slice_get slots parent ≡ Some content) × IsInner content

@@ -104,7 +104,7 @@ module _ {K V : Type 0} {most : ℕ} {slots : List (Content K V)} (capacity : Is
 
 -- the entries of a row end with those of its last node
 last-end : {K : Type 0} {row : List (LevelNode K ℕ)} (a : List (K × ℕ)) {first : K} {number : ℕ} (b : List (K × ℕ)) (at : Seen 4 8 row a first number b) → b ≡ [] → length (flat row) ≡ length (flat at.before) + suc (length at.es)
-last-end {row = row} a {first = first} {number = number} [] at none = last_place 4 8 (omega arith) row a first number at
+last-end {row = row} a {first = first} {number = number} [] at none = last_place 8 (omega arith) at
 last-end a (x ∷ b) at none = absurd (omega (arith, ap length none))
 
 module _ {K V : Type 0} (most : ℕ) (slots : List (Content K V)) (Side : List (K × ℕ) → List (K × ℕ) → Type 0) (number index : ℕ) where

@@ -141,13 +141,13 @@ module _ {K V : Type 0} {cmp : K → K → Ordering} (o : IsTotalOrder cmp) {mos
         }
 
     -- one level of the descent, whose place was written into the path
-    pub passed : (index : ℕ) {child : ℕ} (w : Below s index child) (path indices path' indices' path'' indices'' : List ℕ) {high : ℕ} → high ≡ length lower → Descended cmp leaves s.here.rows key (length w.front) path' indices' path'' indices'' →
+    pub passed : (index : ℕ) {child : ℕ} (w : Below s index child) (path indices : List ℕ) {path' indices' : List ℕ} (path'' indices'' : List ℕ) {high : ℕ} → high ≡ length lower → Descended cmp leaves s.here.rows key (length w.front) path' indices' path'' indices'' →
         get_or path' high 0 ≡ number → get_or indices' high 0 ≡ index → path' ≡ set path high number → indices' ≡ set indices high index → Descended cmp leaves lower key (length a) path indices path'' indices''
-    passed index w path indices path' indices' path'' indices'' {high = high} high_is d m_is j_is nodes entries =
+    passed index w path indices path'' indices'' {high = high} high_is d m_is j_is nodes entries =
         let count_is = s.here.count_is in
         let m_at : get_or path'' high 0 ≡ number = d.nodes_above high (omega (arith, high_is, count_is)) ∙ m_is in
         let j_at : get_or indices'' high 0 ≡ index = d.entries_above high (omega (arith, high_is, count_is)) ∙ j_is in
-        let more = stands_more path'' indices'' 1 s.here.rows s.here.row (length d.leaf.before) (length w.front) high d.stands (omega (arith, high_is, count_is)) (seen_at s.here.at m_at j_at w.within w.place_is) in
+        let more = stands_more path'' indices'' 1 s.here.rows (length d.leaf.before) high d.stands (omega (arith, high_is, count_is)) (seen_at s.here.at m_at j_at w.within w.place_is) in
         record {
           leaf = d.leaf;
           stands = subst (λ (z : List (List (LevelNode K ℕ))). StandsTo path'' indices'' 1 z (length d.leaf.before) (length a)) (sym s.here.lower_is) (subst (λ (z : ℕ). StandsTo path'' indices'' 1 (s.here.rows ++ s.here.row ∷ []) (length d.leaf.before) z) s.here.at.before_is more);

@@ -32,13 +32,13 @@ module _ {K : Type 0} where
   in_last slots (r ∷ rows) row i = let w = in_last slots rows row i.1 in ((i.0, w.0), w.1)
 
   -- one more row on top
-  pub stands_more : (path indices : List ℕ) (level : ℕ) (rows : List (List (LevelNode K ℕ))) (row : List (LevelNode K ℕ)) (place q high : ℕ) → StandsTo path indices level rows place q → high ≡ level + length rows → (at : IsAt row (get_or path high 0) (get_or indices high 0) q) →
+  pub stands_more : (path indices : List ℕ) (level : ℕ) (rows : List (List (LevelNode K ℕ))) {row : List (LevelNode K ℕ)} (place : ℕ) {q : ℕ} (high : ℕ) → StandsTo path indices level rows place q → high ≡ level + length rows → (at : IsAt row (get_or path high 0) (get_or indices high 0) q) →
       StandsTo path indices level (rows ++ row ∷ []) place (length at.before)
-  stands_more path indices level [] row place q high s e at =
+  stands_more path indices level [] place high s e at =
       let h : high ≡ level = omega (arith, e) in
       (record { before = at.before; entries = at.entries; after = at.after; row_is = rw h at at.row_is; within = rw h at at.within; place_is = s ∙ (rw h at at.place_is) }, refl)
-  stands_more path indices level (r ∷ rows) row place q high s e at =
-      (s.0, stands_more path indices (suc level) rows row (length s.0.before) q high s.1 (omega (arith, e)) at)
+  stands_more path indices level (r ∷ rows) {row = row} place {q = q} high s e at =
+      (s.0, stands_more path indices (suc level) rows (length s.0.before) high s.1 (omega (arith, e)) at)
 
 -- the node of a row whose head is between these heads
 pub record Seen {K X : Type 0} (half most : ℕ) (row : List (LevelNode K X)) (a : List (K × ℕ)) (first : K) (number : ℕ) (b : List (K × ℕ)) : Type 0 where

@@ -128,11 +128,11 @@ module _ {K V : Type 0} {most : ℕ} (one : 1 ≤ half_of most) {slots : List (C
       back_asks = last_asks leaf_content slots most back_leaf key_total r wide
 
       -- the previous entry is the last of the previous leaf
-      pub back_over : (path' indices' : List ℕ) {last : ℕ}
+      pub back_over : {path' : List ℕ} (indices' : List ℕ) {last : ℕ}
           → ((x : Content K V) → slice_get slots (get_or path1 0 r) ≡ Some x → last ≡ entry_count x - 1) → path' ≡ path1
           → get_or indices 0 0 ≤ 0 → get_or indices' 0 0 ≡ last → SameBut 0 indices1 indices' → (0 < place)
           × Stands path' indices' size tree (place - 1)
-      back_over path' indices' {last = last} says path_is none here above =
+      back_over indices' {last = last} says path_is none here above =
           let last_at = last_is leaf_content slots most back_leaf key_total r wide says in
           let seam_is = seam leaf_content slots most back_leaf leaf_here (omega (arith, went.0)) in
           (omega (arith, s.leaf.place_is, seam_is, last_at), stands_in back_leaf s.size_is indices' (place - 1) path_is above (omega (arith, here, last_at)) (omega (arith, here, last_at, s.leaf.place_is, none, seam_is)))

@@ -22,18 +22,18 @@ child_cut (y ∷ es) zero child found = ([], y.0, es, ap (λ z. (y.0, z) ∷ es)
 child_cut (y ∷ es) (suc index) child found = let r = child_cut es index child found in (y ∷ r.0, r.1, r.2, ap (λ z. y ∷ z) r.3, ap suc r.4)
 
 -- a row ends with the last entry of its last node
-pub last_place : {K X : Type 0} (half most : ℕ) → 1 ≤ half → (row : List (LevelNode K X)) (a : List (K × ℕ)) (first : K) (number : ℕ) (at : Seen half most row a first number []) → length (flat row) ≡ length (flat at.before) + suc (length at.es)
-last_place half most one row a first number at =
+pub last_place : {K X : Type 0} {half : ℕ} (most : ℕ) → 1 ≤ half → {row : List (LevelNode K X)} {a : List (K × ℕ)} {first : K} {number : ℕ} (at : Seen half most row a first number []) → length (flat row) ≡ length (flat at.before) + suc (length at.es)
+last_place {half = half} most one {number = number} at =
     let none = ap (λ z. length (flat z)) (no_heads half most one at.after at.after_fit at.after_is) in
     let parts = ap length (ap flat at.row_is ∙ flat-append at.before (node number (at.e ∷ at.es) ∷ at.after)) in
     omega (arith, none, parts, length-append (flat at.before) ((at.e ∷ at.es) ++ flat at.after), length-append at.es (flat at.after))
 
 module _ {K V : Type 0} {most : ℕ} {slots : List (Content K V)} {leaves : List (LevelNode K V)} {lower : List (List (LevelNode K ℕ))} {a : List (K × ℕ)} {first : K} {number : ℕ} {b : List (K × ℕ)} (path indices : List ℕ) where
   -- the path leads to an entry of a leaf
-  leaf_led : (s : LeafUnder most slots leaves lower a first number b) (path' indices' : List ℕ) (index place : ℕ) → index ≤ length s.at.es
+  leaf_led : (s : LeafUnder most slots leaves lower a first number b) (path' indices' : List ℕ) {index : ℕ} (place : ℕ) → index ≤ length s.at.es
       → place ≡ length (flat s.at.before) + index → get_or path' 0 0 ≡ number → get_or indices' 0 0 ≡ index → SameBut 0 path path'
       → SameBut 0 indices indices' → LedTo leaves lower place (length a) path indices path' indices'
-  leaf_led s path' indices' index place within place_is m_is j_is nodes entries =
+  leaf_led s path' indices' place within place_is m_is j_is nodes entries =
       subst (λ (z : List (List (LevelNode K ℕ))). LedTo leaves z place (length a) path indices path' indices') (sym s.lower_is) (record {
         leaf = seen_at s.at m_is j_is within place_is;
         stands = s.at.before_is;
@@ -42,14 +42,14 @@ module _ {K V : Type 0} {most : ℕ} {slots : List (Content K V)} {leaves : List
       })
 
   -- the path, once it was written at an inner node, leads on from a child
-  inner_led : (s : InnerUnder most slots leaves lower a first number b) {path1 indices1 : List ℕ} (path2 indices2 : List ℕ) (high index : ℕ) {place : ℕ} (top : ℕ)
+  inner_led : (s : InnerUnder most slots leaves lower a first number b) {path1 indices1 : List ℕ} (path2 indices2 : List ℕ) (high : ℕ) {index : ℕ} {place : ℕ} {top : ℕ}
       → high ≡ suc (length s.rows) → index ≤ length s.at.es → top ≡ length (flat s.at.before) + index
       → LedTo leaves s.rows place top path1 indices1 path2 indices2 → get_or path1 high 0 ≡ number → get_or indices1 high 0 ≡ index →
       SameBut high path path1 → SameBut high indices indices1 → LedTo leaves lower place (length a) path indices path2 indices2
-  inner_led s path2 indices2 high index top high_is within top_is d m_is j_is nodes entries =
+  inner_led s path2 indices2 high high_is within top_is d m_is j_is nodes entries =
       let node_is = d.nodes_above high (omega (arith, high_is)) ∙ m_is in
       let index_is = d.entries_above high (omega (arith, high_is)) ∙ j_is in
-      let more = stands_more path2 indices2 1 s.rows s.row (length d.leaf.before) top high d.stands (omega (arith, high_is)) (seen_at s.at node_is index_is within top_is) in
+      let more = stands_more path2 indices2 1 s.rows (length d.leaf.before) high d.stands (omega (arith, high_is)) (seen_at s.at node_is index_is within top_is) in
       record {
         leaf = d.leaf;
         stands = subst (λ (z : List (List (LevelNode K ℕ))). StandsTo path2 indices2 1 z (length d.leaf.before) (length a)) (sym s.lower_is) (subst (λ (z : ℕ). StandsTo path2 indices2 1 (s.rows ++ s.row ∷ []) (length d.leaf.before) z) s.at.before_is more);
@@ -101,7 +101,7 @@ module _ {K V : Type 0} {most : ℕ} (one : 1 ≤ half_of most) {slots : List (C
   -- the first node is a leaf
   pub led_leaf : (s : LeafUnder most slots leaves lower [] first number b) (path indices path' indices' : List ℕ) → get_or path' 0 0 ≡ number → get_or indices' 0 0 ≡ 0 → SameBut 0 path path' → SameBut 0 indices indices' → (0 ≡ length lower) × Led leaves lower path indices path' indices'
   led_leaf s path indices path' indices' m_is j_is nodes entries =
-      let l = leaf_led path indices s path' indices' 0 0 (omega arith) (omega (arith, none_flat s.at.before s.at.before_is)) m_is j_is nodes entries in
+      let l = leaf_led path indices s path' indices' 0 (omega arith) (omega (arith, none_flat s.at.before s.at.before_is)) m_is j_is nodes entries in
       (sym (ap length s.lower_is), record { leaf = l.leaf; stands = l.stands; nodes_above = l.nodes_above; entries_above = l.entries_above })
 
   module _ (u : Under most slots leaves lower ((first, number) ∷ b)) {content content2 : Content K V} (read : slice_get slots number ≡ Some content) (inner : IsInner content) (read2 : slice_get slots number ≡ Some content2) where
@@ -133,7 +133,7 @@ module _ {K V : Type 0} {most : ℕ} (one : 1 ≤ half_of most) {slots : List (C
     -- the node is a leaf
     ended : (none : level ≡ 0) (place : ℕ) → index ≤ length (at_leaf none).at.es → place ≡ length (flat (at_leaf none).at.before) + index → LedTo leaves lower place (length a) path indices path1 indices1
     ended none place within place_is =
-        leaf_led path indices (at_leaf none) path1 indices1 index place within place_is
+        leaf_led path indices (at_leaf none) path1 indices1 place within place_is
         (ap (λ z. get_or path1 z 0) (sym none) ∙ node_here) (ap (λ z. get_or indices1 z 0) (sym none) ∙ entry_here)
         (λ i ne. set_but path level number path_is i (λ e. ne (e ∙ none)))
         (λ i ne. set_but indices level index indices_are i (λ e. ne (e ∙ none)))
@@ -143,7 +143,7 @@ module _ {K V : Type 0} {most : ℕ} (one : 1 ≤ half_of most) {slots : List (C
         → top ≡ length (flat (at_inner some).at.before) + index → LedTo leaves (at_inner some).rows place top path1 indices1 path2 indices2
         → LedTo leaves lower place (length a) path indices path2 indices2
     led_on some path2 indices2 place top within top_is d =
-        inner_led path indices (at_inner some) path2 indices2 level index top
+        inner_led path indices (at_inner some) path2 indices2 level
         (level_is ∙ (at_inner some).count_is) within top_is d node_here entry_here (set_but path level number path_is)
         (set_but indices level index indices_are)
 
@@ -165,8 +165,8 @@ module _ {K V : Type 0} {most : ℕ} (one : 1 ≤ half_of most) {slots : List (C
     {lower : List (List (LevelNode K ℕ))} {first : K} {number : ℕ} {b : List (K × ℕ)}
     (u : Under most slots leaves lower ((first, number) ∷ b)) {level : ℕ} (level_is : level ≡ length lower) where
   -- at the leaf
-  pub first_ends : level ≡ 0 → (path indices path1 indices1 : List ℕ) → get_or path1 level 0 ≡ number → get_or indices1 level 0 ≡ 0 → path1 ≡ set path level number → indices1 ≡ set indices level 0 → Led leaves lower path indices path1 indices1
-  first_ends none path indices path1 indices1 node_here entry_here path_is indices_are =
+  pub first_ends : level ≡ 0 → (path indices : List ℕ) {path1 indices1 : List ℕ} → get_or path1 level 0 ≡ number → get_or indices1 level 0 ≡ 0 → path1 ≡ set path level number → indices1 ≡ set indices level 0 → Led leaves lower path indices path1 indices1
+  first_ends none path indices node_here entry_here path_is indices_are =
       let s = at_leaf one [] first number b u level_is none in
       let l = ended one [] first number b u level_is path indices node_here entry_here path_is indices_are none 0 (omega arith) (omega (arith, none_flat s.at.before s.at.before_is)) in
       record { leaf = l.leaf; stands = l.stands; nodes_above = l.nodes_above; entries_above = l.entries_above }
@@ -184,11 +184,11 @@ module _ {K V : Type 0} {most : ℕ} (one : 1 ≤ half_of most) {slots : List (C
           let none = nil_from_length c.0 (omega (arith, c.4, none_flat s.at.before s.at.before_is)) in
           (leaves, s.rows, c.1, c.2, subst (λ (z : List (K × ℕ)). Under most slots leaves s.rows (z ++ (c.1, child) ∷ c.2)) none c.3, omega (arith, level_is, s.count_is))
 
-      pub first_led : (path indices path1 indices1 path2 indices2 : List ℕ) → get_or path1 level 0 ≡ number → get_or indices1 level 0 ≡ 0
+      pub first_led : (path indices : List ℕ) {path1 indices1 : List ℕ} (path2 indices2 : List ℕ) → get_or path1 level 0 ≡ number → get_or indices1 level 0 ≡ 0
           → path1 ≡ set path level number → indices1 ≡ set indices level 0
           → LeadsFirst most slots path1 indices1 path2 indices2 child (level - 1) → Led leaves lower path indices path2 indices2
       unfolding first_goes
-      first_led path indices path1 indices1 path2 indices2 node_here entry_here path_is indices_are leads =
+      first_led path indices path2 indices2 node_here entry_here path_is indices_are leads =
           let s = at_inner one [] first number b u level_is some in
           let g = first_goes in
           let d = leads g.0 g.1 g.2 g.3 g.4 g.5 in
@@ -203,11 +203,11 @@ module _ {K V : Type 0} {most : ℕ} (one : 1 ≤ half_of most) {slots : List (C
     (u : Under most slots leaves lower (a ++ (first, number) ∷ [])) {level : ℕ} (level_is : level ≡ length lower) {last : ℕ}
     (last_is : (x : Content K V) → slice_get slots number ≡ Some x → last ≡ entry_count x - 1) where
   -- at the leaf
-  pub last_ends : level ≡ 0 → (path indices path1 indices1 : List ℕ) → get_or path1 level 0 ≡ number → get_or indices1 level 0 ≡ last → path1 ≡ set path level number → indices1 ≡ set indices level last → LedLast leaves lower (length a) path indices path1 indices1
-  last_ends none path indices path1 indices1 node_here entry_here path_is indices_are =
+  pub last_ends : level ≡ 0 → (path indices : List ℕ) {path1 indices1 : List ℕ} → get_or path1 level 0 ≡ number → get_or indices1 level 0 ≡ last → path1 ≡ set path level number → indices1 ≡ set indices level last → LedLast leaves lower (length a) path indices path1 indices1
+  last_ends none path indices node_here entry_here path_is indices_are =
       let s = at_leaf one a first number [] u level_is none in
       let index : last ≡ length s.at.es = omega (arith, last_is (leaf_content (s.at.e ∷ s.at.es)) s.slot_is, length-map (s.at.e ∷ s.at.es) (λ w. w.0)) in
-      let l = ended one a first number [] u level_is path indices node_here entry_here path_is indices_are none (length (flat leaves) - 1) (omega (arith, index)) (omega (arith, index, last_place (half_of most) most one leaves a first number s.at)) in
+      let l = ended one a first number [] u level_is path indices node_here entry_here path_is indices_are none (length (flat leaves) - 1) (omega (arith, index)) (omega (arith, index, last_place most one s.at)) in
       record { leaf = l.leaf; stands = l.stands; nodes_above = l.nodes_above; entries_above = l.entries_above }
 
   module _ (some : level ≢ 0) where
@@ -224,18 +224,18 @@ module _ {K V : Type 0} {most : ℕ} (one : 1 ≤ half_of most) {slots : List (C
       below : (before : List (K × ℕ)) × (first : K) × Under most slots leaves back_node.rows (before ++ (first, child) ∷ []) × (length before ≡ length (flat back_node.at.before) + last)
       below =
           let c = inner_below one a first number [] u level_is some last (omega (arith, index)) says in
-          let none = nil_from_length c.2 (omega (arith, c.4, c.5, index, last_place 4 8 (omega arith) back_node.row a first number back_node.at)) in
+          let none = nil_from_length c.2 (omega (arith, c.4, c.5, index, last_place 8 (omega arith) back_node.at)) in
           (c.0, c.1, subst (λ (z : List (K × ℕ)). Under most slots leaves back_node.rows (c.0 ++ (c.1, child) ∷ z)) none c.3, c.4)
 
       -- what the call one level down requires
       pub last_goes : (leaves : List (LevelNode K V)) × (lower : List (List (LevelNode K ℕ))) × (before : List (K × ℕ)) × (first : K) × Under most slots leaves lower (before ++ (first, child) ∷ []) × (level - 1 ≡ length lower)
       last_goes = (leaves, back_node.rows, below.0, below.1, below.2, omega (arith, level_is, back_node.count_is))
 
-      pub last_led : (path indices path1 indices1 path2 indices2 : List ℕ) → get_or path1 level 0 ≡ number → get_or indices1 level 0 ≡ last
+      pub last_led : (path indices : List ℕ) {path1 indices1 : List ℕ} (path2 indices2 : List ℕ) → get_or path1 level 0 ≡ number → get_or indices1 level 0 ≡ last
           → path1 ≡ set path level number → indices1 ≡ set indices level last
           → LeadsLast most slots path1 indices1 path2 indices2 child (level - 1)
           → LedLast leaves lower (length a) path indices path2 indices2
-      last_led path indices path1 indices1 path2 indices2 node_here entry_here path_is indices_are leads =
+      last_led path indices path2 indices2 node_here entry_here path_is indices_are leads =
           let d = leads leaves back_node.rows below.0 below.1 below.2 (omega (arith, level_is, back_node.count_is)) in
           let l = led_on one a first number [] u level_is path indices node_here entry_here
           path_is indices_are some path2 indices2 (length (flat leaves) - 1) (length below.0) (omega (arith, index)) below.3

@@ -143,7 +143,7 @@ module _ {K V : Type 0} {slots : List (Content K V)} {root : ℕ} {spot : Spot} 
       let parent = λ (low : 0 < suc spot.height). first-kept p some node said ∙ sym b.parent in
       let grand = λ (low : 1 < suc spot.height). (its p).parent_is (omega (arith, low)) ∙ sym b.grand in
       let read = subst (λ z. ChildRead slots node z child) (sym index-is) reads in
-      (way-of p next b.code b.height parent grand, code-child p some (same p) child read)
+      (way-of p next b.code b.height parent grand, code-child p some (same p) read)
 
   pub count-asked : There → (content : Content K V) × (slice_get slots node ≡ Some content) × IsInner content
   count-asked o = count-asks o.4 some (same o.4)

@@ -82,5 +82,5 @@ returns-clause-descended g t c = λ leaves lower a first b u inc through level_i
       indices_wide = r.indices_wide ∙ ap length set.entry ∙ length-set c.args.self.now.entry c.args.level c.follow-index.result.0;
       descended = passed (g.met.C.Comparator.total c.args.comp.now)
           (some_leaf c.requires.capacity) s _ d
-          _ _ _ _ _ _ level_is r.descended set.here.0 set.here.1 set.node set.entry;
+          _ _ _ _ level_is r.descended set.here.0 set.here.1 set.node set.entry;
     }

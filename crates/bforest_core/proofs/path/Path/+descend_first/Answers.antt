@@ -6,7 +6,7 @@ use Rattle.bforest_core.proofs.path.Path.+descend_first.Goals as goal
 pub returns-then-level-eq0-clause-led : goal.returns-then-level-eq0-clause-led
 returns-then-level-eq0-clause-led g t c = λ leaves lower first b u level_is.
     let set = c.set_level.ensures in
-    first_ends (some_leaf c.requires.capacity) u level_is c.if-level-eq0.true _ _ _ _ set.here.0 set.here.1 set.node set.entry
+    first_ends (some_leaf c.requires.capacity) u level_is c.if-level-eq0.true _ _ set.here.0 set.here.1 set.node set.entry
 
 pub child-child-requires : goal.child-child-requires
 child-child-requires g t c =
@@ -45,4 +45,4 @@ descend_first-requires g t c κs within =
 pub returns-clause-led : goal.returns-clause-led
 returns-clause-led g t c = λ leaves lower first b u level_is.
     let set = c.set_level.ensures in
-    first_led (some_leaf c.requires.capacity) u level_is c.if-level-eq0.false c.child-child.ensures _ _ _ _ _ _ set.here.0 set.here.1 set.node set.entry c.descend_first.ensures.led
+    first_led (some_leaf c.requires.capacity) u level_is c.if-level-eq0.false c.child-child.ensures _ _ _ _ set.here.0 set.here.1 set.node set.entry c.descend_first.ensures.led

@@ -12,7 +12,7 @@ last_index-last-requires g t c =
 pub returns-then-level-eq0-clause-led : goal.returns-then-level-eq0-clause-led
 returns-then-level-eq0-clause-led g t c = λ leaves lower a first u level_is.
     let set = c.set_level.ensures in
-    last_ends (some_leaf c.requires.capacity) a first _ u level_is c.last_index-last.ensures.last c.if-level-eq0.true _ _ _ _ set.here.0 set.here.1 set.node set.entry
+    last_ends (some_leaf c.requires.capacity) a first _ u level_is c.last_index-last.ensures.last c.if-level-eq0.true _ _ set.here.0 set.here.1 set.node set.entry
 
 pub child-child-requires : goal.child-child-requires
 child-child-requires g t c =
@@ -51,4 +51,4 @@ descend_last-requires g t c κs within =
 pub returns-clause-led : goal.returns-clause-led
 returns-clause-led g t c = λ leaves lower a first u level_is.
     let set = c.set_level.ensures in
-    last_led (some_leaf c.requires.capacity) a first _ u level_is c.last_index-last.ensures.last c.if-level-eq0.false c.child-child.ensures _ _ _ _ _ _ set.here.0 set.here.1 set.node set.entry c.descend_last.ensures.led
+    last_led (some_leaf c.requires.capacity) a first _ u level_is c.last_index-last.ensures.last c.if-level-eq0.false c.child-child.ensures _ _ _ _ set.here.0 set.here.1 set.node set.entry c.descend_last.ensures.led

@@ -33,7 +33,7 @@ returns-then-moved g c =
       moved = λ yes tree place fit inside s. back_over
           (some_leaf c.requires.capacity) fit inside s
           (c.prev_node-moved.ensures.moved c.if-moved.true) c.index-self-0.result
-          (omega arith) new.node new.entry c.last_index-last.ensures.last set.nodes c.if-here-gt0.false set.here
+          (omega arith) new.entry c.last_index-last.ensures.last set.nodes c.if-here-gt0.false set.here
           set.above;
       first = never c.if-moved.true;
       same = never c.if-moved.true;
