@@ -38,7 +38,7 @@ module _ {K V : Type 0} where
   used_inside same number_is used = rw (same, number_is) used
 
   -- at most as many nodes are free as there are slots
-  pub free_within : {n : ℕ} (nodes : List (Content K V)) (first : Option ℕ) (free : ℕ) {limit : ℕ} → IsPool n nodes first free limit → free ≤ length nodes
+  pub free_within : {n : _} (nodes : List (Content K V)) (first free : _) {limit : _} → IsPool n nodes first free limit → free ≤ length nodes
   free_within nodes first free pool =
       let most = length-le_from_distinct_below (chain_from nodes free first) (length nodes) pool.distinct (IsChain-below nodes _ first pool.linked) in
       omega (arith, most, pool.counted)

@@ -67,7 +67,7 @@ module _ {K V : Type 0} where
       omega (arith, ih, back, length-append (numbers_of tree) (flat_map numbers_of trees), sum_by-cons (λ n. nodes_under table.nodes n) (root_of tree) (map root_of trees))
 
   -- the roots are the numbers of slots that pass the test
-  roots-kept : {most : ℕ} (table : Table K V) (trees : List (Tree K V)) → IsForest most table trees → (m : ℕ) → count m (map root_of trees) ≡ count m (kept (is_root table.nodes) (upto (length table.nodes)))
+  roots-kept : {most : _} (table : Table K V) (trees : _) → IsForest most table trees → (m : ℕ) → count m (map root_of trees) ≡ count m (kept (is_root table.nodes) (upto (length table.nodes)))
   roots-kept table trees f m =
       by (is_root table.nodes m) refl ∙ sym (count-kept (is_root table.nodes) m (upto (length table.nodes)) ∙ ap (λ z. if is_root table.nodes m then z else 0) (count-upto m (length table.nodes)))
     where

@@ -35,7 +35,7 @@ module _ {K V : Type 0} where
       omega (arith, ih, a, b, c, count-append m (numbers row) (flat_map numbers rows))
 
   -- each number of a tree but its root is named by one node of the tree, and no other number is
-  named_tree : {most : ℕ} {slots : List (Content K V)} {tree : Tree K V} → IsFit most tree → IsIn slots tree → 1 ≤ length (flat tree.leaves) → (m : ℕ) →
+  named_tree : {most slots : _} {tree : Tree K V} → IsFit most tree → IsIn slots tree → 1 ≤ length (flat tree.leaves) → (m : ℕ) →
       count m (named_by slots (numbers_of tree)) + count m (root_of tree ∷ []) ≡ count m (numbers_of tree)
   named_tree {most = most} {slots = slots} {tree = tree} f i some m =
       let r = named_rows slots (heads tree.leaves) tree.above f.stacked i.rows_in m in
@@ -45,7 +45,7 @@ module _ {K V : Type 0} where
       omega (arith, r, a, b, c, count-append m (numbers tree.leaves) (flat_map numbers tree.above))
 
   -- the root of a tree is one of its numbers
-  pub root-among : (most : ℕ) (slots : List (Content K V)) (tree : Tree K V) → IsFit most tree → IsIn slots tree → 1 ≤ length (flat tree.leaves) → 0 < count (root_of tree) (numbers_of tree)
+  pub root-among : (most slots : _) (tree : Tree K V) → IsFit most tree → IsIn slots tree → 1 ≤ length (flat tree.leaves) → 0 < count (root_of tree) (numbers_of tree)
   root-among most slots tree f i some = omega (arith, named_tree f i some (root_of tree), count-same (root_of tree) [])
 
   -- each number of some trees but their roots is named by one of their nodes, and no other number is
@@ -80,7 +80,7 @@ module _ {K V : Type 0} where
       elim (node_under one tree.above [] u.0 (root_of tree) [] u.1) [ inl w ↦ ap is_used (slot-is slots (root_of tree) _ w.slot_is) | inr w ↦ ap is_used (slot-is slots (root_of tree) _ w.slot_is) ]
 
   -- the slots of a table name each number of its trees except the roots
-  named_all : {most : ℕ} {table : Table K V} {trees : List (Tree K V)} → IsForest most table trees → (m : ℕ) → count m (flat_map children_of table.nodes) + count m (map root_of trees) ≡ count m (flat_map numbers_of trees)
+  named_all : {most : _} {table : Table K V} {trees : _} → IsForest most table trees → (m : ℕ) → count m (flat_map children_of table.nodes) + count m (map root_of trees) ≡ count m (flat_map numbers_of trees)
   named_all {most = most} {table = table} {trees = trees} f m =
       let a = all-named table.nodes (flat_map numbers_of trees ++ table.chain) f.account m in
       let b = ap (λ z. count m z) (flat_map-append (λ k. children_of (slot table.nodes k)) (flat_map numbers_of trees) table.chain) ∙ count-append m (named_by table.nodes (flat_map numbers_of trees)) (named_by table.nodes table.chain) in
@@ -88,16 +88,16 @@ module _ {K V : Type 0} where
       omega (arith, a, b, c, named_trees most table.nodes trees f.fit f.inside f.some m)
 
   -- a number occurs in the trees or on the chain at most once
-  pub once : {most : ℕ} {table : Table K V} {trees : List (Tree K V)} → IsForest most table trees → (m : ℕ) → count m (flat_map numbers_of trees) + count m table.chain ≤ 1
+  pub once : {most : _} {table : Table K V} {trees : _} → IsForest most table trees → (m : ℕ) → count m (flat_map numbers_of trees) + count m table.chain ≤ 1
   once {table = table} {trees = trees} f m = omega (arith, f.account m, at-most-one m (length table.nodes), count-append m (flat_map numbers_of trees) table.chain)
 
   -- a number in the trees or on the chain is that of a slot
-  pub within-slots : {most : ℕ} {table : Table K V} {trees : List (Tree K V)} → IsForest most table trees → (m : ℕ) → 0 < count m (flat_map numbers_of trees) + count m table.chain → m < length table.nodes
+  pub within-slots : {most : _} {table : Table K V} {trees : _} → IsForest most table trees → (m : ℕ) → 0 < count m (flat_map numbers_of trees) + count m table.chain → m < length table.nodes
   within-slots {table = table} {trees = trees} f m some =
       elim (cases_lt m (length table.nodes)) [ inl low ↦ low | inr past ↦ absurd (omega (arith, f.account m, past-none m (length table.nodes) past, some, count-append m (flat_map numbers_of trees) table.chain)) ]
 
   -- no two trees have the same root
-  pub roots-once : {most : ℕ} (table : Table K V) {trees : List (Tree K V)} → IsForest most table trees → (m : ℕ) → count m (map root_of trees) ≤ 1
+  pub roots-once : {most : _} (table : Table K V) {trees : _} → IsForest most table trees → (m : ℕ) → count m (map root_of trees) ≤ 1
   roots-once {most = most} table {trees = trees} f m = omega (arith, named_all f m, once f m)
 
   -- a node is within the slots
@@ -115,7 +115,7 @@ module _ {K V : Type 0} where
       ]
 
   -- a tree of the witness is computed from its root, which is a root of the table
-  pub tree-back : {most : ℕ} {table : Table K V} {trees : List (Tree K V)} (before : List (Tree K V)) (tree : Tree K V) (after : List (Tree K V)) (root : ℕ) → IsForest most table trees → trees ≡ before ++ tree ∷ after → root_of tree ≡ root →
+  pub tree-back : {most : _} {table : Table K V} {trees : _} (before : List (Tree K V)) (tree : Tree K V) (after : List (Tree K V)) (root : ℕ) → IsForest most table trees → trees ≡ before ++ tree ∷ after → root_of tree ≡ root →
       (tree_of table.nodes root ≡ tree) × IsTrue (is_root table.nodes root)
   unfolding is_root
   tree-back {most = most} {table = table} before tree after root given split is =
@@ -131,7 +131,7 @@ module _ {K V : Type 0} where
       subst (λ (z : ℕ). (tree_of table.nodes z ≡ tree) × IsTrue (is_root table.nodes z)) is (read-back most tree fit inside some low, rw (used, none) refl)
 
   -- a number is a root exactly if it is the root of one of the trees
-  pub root-counts : {most : ℕ} {table : Table K V} {trees : List (Tree K V)} → IsForest most table trees → (m : ℕ) → IsTrue (is_root table.nodes m) ↔ (0 < count m (map root_of trees))
+  pub root-counts : {most : _} {table : Table K V} {trees : _} → IsForest most table trees → (m : ℕ) → IsTrue (is_root table.nodes m) ↔ (0 < count m (map root_of trees))
   unfolding is_root
   root-counts {most = most} {table = table} {trees = trees} f m = (
     λ root. (

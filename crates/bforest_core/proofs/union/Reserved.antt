@@ -49,7 +49,7 @@ module _ {K V : Type 0} where
       slice_get-append_left xs more m (get_or xs m (Free None)) e ∙ sym e
 
   -- a table with `n` new slots has the same trees
-  with-slots-forest : {most : ℕ} {table : Table K V} (n : ℕ) {trees : List (Tree K V)} → IsForest most table trees → IsForest most (with_slots table n) trees
+  with-slots-forest : {most : _} {table : Table K V} (n : _) {trees : _} → IsForest most table trees → IsForest most (with_slots table n) trees
   with-slots-forest {most = most} {table = table} n {trees = trees} f =
       let more : List (Content K V) = fresh_nodes (slot_count table) n (front_of table.chain) in
       let c = λ (m : ℕ). count-append m (flat_map numbers_of trees) table.chain in

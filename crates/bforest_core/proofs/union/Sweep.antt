@@ -26,14 +26,13 @@ rows_none list (row ∷ rows) s =
 
 module _ {K V : Type 0} where
   -- the rows under some nodes are in any slots that agree on their numbers
-  under-same : {most : ℕ} {old : List (Content K V)} (new : List (Content K V)) {leaves : List (LevelNode K V)} {lower : List (List (LevelNode K ℕ))}
-      {top : List (K × ℕ)} → ((m : ℕ) → 0 < count m (numbers_under leaves lower) → slice_get new m ≡ slice_get old m)
+  under-same : {most : _} {old : List (Content K V)} (new : List (Content K V)) {leaves : List (LevelNode K V)} {lower : List (List (LevelNode K ℕ))} {top : _} → ((m : ℕ) → 0 < count m (numbers_under leaves lower) → slice_get new m ≡ slice_get old m)
       → Under most old leaves lower top → Under most new leaves lower top
   under-same {old = old} new {leaves = leaves} {lower = lower} same u =
       let i = tree-same old new (record { leaves = leaves; above = lower }) same (record { leaves_in = u.leaves_in; rows_in = u.rows_in }) in
       record { leaves_fit = u.leaves_fit; leaves_in = i.leaves_in; stacked = u.stacked; rows_in = i.rows_in }
 
-  under_none : (most : ℕ) → 1 ≤ half_of most → {slots : List (Content K V)} {leaves : List (LevelNode K V)} {lower : List (List (LevelNode K ℕ))} → Under most slots leaves lower [] → (m : ℕ) → count m (numbers_under leaves lower) ≡ 0
+  under_none : (most : ℕ) → 1 ≤ half_of most → {slots : List (Content K V)} {leaves lower : _} → Under most slots leaves lower [] → (m : ℕ) → count m (numbers_under leaves lower) ≡ 0
   under_none most one {leaves = leaves} {lower = lower} u m =
       let r = rows_none (heads leaves) lower u.stacked in
       let none : leaves ≡ [] = no_heads (half_of most) most one leaves u.leaves_fit r.0 in
@@ -175,7 +174,7 @@ module _ {K V : Type 0} where
     pub down : numbers_down slots (length lower) number ≡ number ∷ flat_map (numbers_down slots (length rows)) (reverse (entry_items top))
 
   module _ {most : ℕ} (one : 1 ≤ half_of most) {slots : List (Content K V)} {leaves : List (LevelNode K V)} where
-    open_leaf : (lower : List (List (LevelNode K ℕ))) {first : K} (number : ℕ) → LeafUnder most slots leaves lower [] first number [] → Opened most slots leaves lower number
+    open_leaf : (lower : _) {first : _} (number : _) → LeafUnder most slots leaves lower [] first number [] → Opened most slots leaves lower number
     open_leaf lower number s =
         let row = one_node most one s.at in
         record {
@@ -191,7 +190,7 @@ module _ {K V : Type 0} where
           down = ap (λ z. numbers_down slots (length z) number) s.lower_is;
         }
 
-    open_inner : (lower : List (List (LevelNode K ℕ))) {first : K} (number : ℕ) → InnerUnder most slots leaves lower [] first number [] → Opened most slots leaves lower number
+    open_inner : (lower : _) {first : _} (number : _) → InnerUnder most slots leaves lower [] first number [] → Opened most slots leaves lower number
     open_inner lower number s =
         let row = one_node 8 (omega arith) s.at in
         let es = s.at.e ∷ s.at.es in
@@ -217,7 +216,7 @@ module _ {K V : Type 0} where
           down = ap (λ z. numbers_down slots z number) s.count_is ∙ ap (λ z. number ∷ flat_map (numbers_down slots (length s.rows)) (reverse (children_of z))) (slot-is slots number (inner_content es) s.slot_is);
         }
 
-    pub under-open : {lower : List (List (LevelNode K ℕ))} {first : K} {number : ℕ} → Under most slots leaves lower ((first, number) ∷ []) → Opened most slots leaves lower number
+    pub under-open : {lower : _} {first : K} {number : ℕ} → Under most slots leaves lower ((first, number) ∷ []) → Opened most slots leaves lower number
     under-open {lower = lower} {first = first} {number = number} u = elim (node_under one lower [] first number [] u) [ inl s ↦ open_leaf lower number s | inr s ↦ open_inner lower number s ]
 
   -- the progress of freeing a node's children, and the node itself
@@ -245,7 +244,7 @@ module _ {K V : Type 0} where
       }
 
   -- the node is freed after its children
-  pub gives-down : {most : ℕ} {old now : Table K V} {leaves : List (LevelNode K V)} {lower : List (List (LevelNode K ℕ))} {number index : ℕ} → (s : Sweeping most old now leaves lower number index) →
+  pub gives-down : {most : _} {old now : Table K V} {leaves lower number index : _} → (s : Sweeping most old now leaves lower number index) →
       GivesAll old now (numbers_under s.opened.low s.opened.rows) (flat_map (numbers_down old.nodes (length s.opened.rows)) (reverse (entry_items s.opened.top))) → GivesAll old (with_freed now number) (numbers_under leaves lower) (numbers_down old.nodes (length lower) number)
   gives-down {old = old} {now = now} {leaves = leaves} {lower = lower} {number = number} s all =
       let own = numbers_under s.opened.low s.opened.rows in
@@ -274,8 +273,7 @@ module _ {K V : Type 0} where
       gives-down s all
 
   -- the child at the index, and everything below it
-  pub child_turn : {most : ℕ} (one : 1 ≤ half_of most) {old now : Table K V} {leaves : List (LevelNode K V)}
-      {lower : List (List (LevelNode K ℕ))} {number index : ℕ} {child : ℕ} → (s : Sweeping most old now leaves lower number index)
+  pub child_turn : {most : ℕ} (one : 1 ≤ half_of most) {old now : Table K V} {leaves lower number index : _} {child : ℕ} → (s : Sweeping most old now leaves lower number index)
       → slice_get (children_of s.opened.content) index ≡ Some child → (x : K × ℕ) × (x.1 ≡ child) × (index < length s.opened.top)
       × Turn most one old s.opened.low s.opened.rows s.opened.top now index x
   child_turn {most = most} one {old = old} {now = now} {index = index} {child = child} s found =

@@ -49,7 +49,7 @@ module _ {K X : Type 0} where
   written-behind (e ∷ es) fs zero i v is = absurd (omega (arith, is))
   written-behind (e ∷ es) fs (suc p) i v is = ap (λ z. e ∷ z) (written-behind es fs p i v (omega (arith, is)))
 
-module _ {K V : Type 0} (most : ℕ) (table : Table K V) (root place : ℕ) (path indices : List ℕ) (size : ℕ) (union : IsUnion most table) (s : StandsUnder table.nodes root path indices size place) where
+module _ {K V : Type 0} (most : ℕ) (table : Table K V) (root place path indices size : _) (union : IsUnion most table) (s : StandsUnder table.nodes root path indices size place) where
   abbrev r : Rooted most table root (tree_of table.nodes root)
   r = rooted most table root union s.root_is
 

@@ -9,12 +9,12 @@ use Rattle.bforest_core.proofs.walks.Codes.{NodeIn, child-asks, child-code, chil
 use Rattle.bforest_core.proofs.walks.Cousins.{grand-is, more, up}
 use Rattle.bforest_core.proofs.walks.TopNode.{none_flat}
 
-module _ {K V : Type 0} {slots : List (Content K V)} {root code depth : ℕ} {numbers : List ℕ} {rows : List (List (LevelNode K ℕ))} {list : List (K × ℕ)} {place : ℕ} (p : CodedOver slots root code depth numbers rows list place) where
+module _ {K V : Type 0} {slots : List (Content K V)} {root code depth numbers rows list place : _} (p : CodedOver slots root code depth numbers rows list place) where
   -- with no levels, the first node
   pub way-first : depth ≡ 0 → place ≡ 0
   way-first none = first rows p none
     where
-      first : (rows : List (List (LevelNode K ℕ))) → CodedOver slots root code depth numbers rows list place → depth ≡ 0 → place ≡ 0
+      first : (rows : _) → CodedOver slots root code depth numbers rows list place → depth ≡ 0 → place ≡ 0
       first [] p none = p.coded.1
       first (row ∷ rows) p none = absurd (omega (arith, p.depth_is, none))
 
@@ -143,7 +143,7 @@ module _ {K V : Type 0} {n : ℕ} {table : Table K V} (union : IsUnion n table) 
 
 -- what is said of the node before, to which a way from the root leads, of a spot
 pub far-before : {K V : Type 0} {n : ℕ} {table : Table K V} (union : IsUnion n table) (root : ℕ) (spot : Spot) (found : Option (Spot × ℕ))
-    → IfSome found (λ f. (numbers : List ℕ) (rows : List (List (LevelNode K ℕ))) (list : List (K × ℕ)) (place : ℕ)
+    → IfSome found (λ f. (numbers rows list place : _)
     → CodedOver table.nodes root spot.code spot.height numbers rows list place → (0 < place) × (others : List ℕ)
     × IsWay others f.0 rows (place - 1) × NumberAt list (place - 1) f.1) →
     IfSome found (λ f. (place : ℕ) → IsSpotAt table root spot place → (0 < place) × IsSpotAt table root f.0 (place - 1) × IsLeafAt table root (place - 1) f.1)

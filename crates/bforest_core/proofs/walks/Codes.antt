@@ -109,7 +109,7 @@ module _ {K V : Type 0} (slots : List (Content K V)) (root code depth : ℕ) whe
     pub over : CodedOver slots root (code / 8) (depth - 1) (drop 1 numbers) rest (heads row) top
     pub low : length rest ≤ depth - 1
 
-  pub lowest : {numbers : List ℕ} (rows : List (List (LevelNode K ℕ))) {list : List (K × ℕ)} {place : ℕ} → CodedOver slots root code depth numbers rows list place → depth ≢ 0 → Lowest numbers rows list place
+  pub lowest : {numbers : _} (rows : _) {list place : _} → CodedOver slots root code depth numbers rows list place → depth ≢ 0 → Lowest numbers rows list place
   lowest [] p some = absurd (some p.depth_is)
   lowest {numbers = numbers} (row ∷ rest) p some =
       let at = p.coded.0 in
@@ -130,7 +130,7 @@ module _ {K V : Type 0} (slots : List (Content K V)) (root code depth : ℕ) whe
       }
 
   -- with no levels, the root
-  pub way-none : {numbers : List ℕ} (rows : List (List (LevelNode K ℕ))) (list : List (K × ℕ)) {place : ℕ} → CodedOver slots root code depth numbers rows list place → depth ≡ 0 → NumberAt list place root × (suc place ≡ length list)
+  pub way-none : {numbers : _} (rows list : _) {place : _} → CodedOver slots root code depth numbers rows list place → depth ≡ 0 → NumberAt list place root × (suc place ≡ length list)
   way-none [] [] p none = absurd (omega (arith, p.stacked))
   way-none [] (x ∷ y ∷ list) p none = absurd (omega (arith, p.stacked))
   way-none [] (x ∷ []) p none =
@@ -141,7 +141,7 @@ module _ {K V : Type 0} (slots : List (Content K V)) (root code depth : ℕ) whe
 pub digit-put : (above digit code : ℕ) → digit < 8 → code ≡ above * 8 + digit → (code % 8 ≡ digit) × (code / 8 ≡ above)
 digit-put above digit code low is = (omega (arith, low, is), omega (arith, low, is))
 
-module _ {K V : Type 0} {slots : List (Content K V)} {root code depth : ℕ} {numbers : List ℕ} {rows : List (List (LevelNode K ℕ))} {list : List (K × ℕ)} {place : ℕ} (p : CodedOver slots root code depth numbers rows list place) (some : depth ≢ 0) where
+module _ {K V : Type 0} {slots : List (Content K V)} {root code depth numbers rows list place : _} (p : CodedOver slots root code depth numbers rows list place) (some : depth ≢ 0) where
   abbrev pub here : Lowest slots root code depth numbers rows list place
   here = lowest slots root code depth rows p some
 
@@ -167,7 +167,7 @@ module _ {K V : Type 0} {slots : List (Content K V)} {root code depth : ℕ} {nu
   child-asks w index low = (drop 1 (entry_keys w.entries), entry_items w.entries, w.slot_is, omega (arith, low, item_count w.entries))
 
   -- the way to a child of a node of the level above, by the way to that node
-  pub child-code : {number top above : ℕ} {others : List ℕ} (w : NodeIn inner_content slots 8 here.row number top)
+  pub child-code : {number top above others : _} (w : NodeIn inner_content slots 8 here.row number top)
       → CodedOver slots root above (depth - 1) others here.rest (heads here.row) top → (digit code1 to : ℕ) → digit < length w.entries
       → code1 ≡ above * 8 + digit → to ≡ length (flat w.before) + digit → CodedOver slots root code1 depth (number ∷ others) rows list to
   child-code {number} {above = above} {others = others} w q digit code1 to low code_is to_is =
@@ -192,7 +192,7 @@ module _ {K V : Type 0} {slots : List (Content K V)} {root code depth : ℕ} {nu
       }
 
   -- the lowest node is the one that was read
-  pub read-same : (parent : ℕ) → ((numbers : List ℕ) (rows : List (List (LevelNode K ℕ))) (list : List (K × ℕ)) (place : ℕ) → CodedOver slots root (code / 8) (depth - 1) numbers rows list place → NumberAt list place parent) → parent ≡ here.number
+  pub read-same : (parent : ℕ) → ((numbers rows list place : _) → CodedOver slots root (code / 8) (depth - 1) numbers rows list place → NumberAt list place parent) → parent ≡ here.number
   read-same parent says = node-same inner_content slots 8 here.at (node-at inner_content slots 8 4 (omega arith) here.row here.fit here.inside parent here.top (says (drop 1 numbers) here.rest (heads here.row) here.top here.over))
 
   module _ {parent : ℕ} (same : parent ≡ here.number) where
@@ -266,8 +266,7 @@ module _ {K V : Type 0} {slots : List (Content K V)} {root code depth : ℕ} {nu
         first-child {child = child} reads = child-is next-node 0 (suc place) next-node.some start reads
 
 -- the lowest node is the first of the numbers
-pub kept-same : {K V : Type 0} {slots : List (Content K V)} {root code depth : ℕ} {numbers : List ℕ} (rows : List (List (LevelNode K ℕ)))
-    {list : List (K × ℕ)} {place : ℕ} (p : CodedOver slots root code depth numbers rows list place) (some : depth ≢ 0) (parent : ℕ)
+pub kept-same : {K V : Type 0} {slots : List (Content K V)} {root code depth numbers : _} (rows : _) {list place : _} (p : CodedOver slots root code depth numbers rows list place) (some : depth ≢ 0) (parent : ℕ)
     → get_or numbers 0 0 ≡ parent → parent ≡ (lowest slots root code depth rows p some).number
 unfolding lowest
 kept-same [] p some parent is = absurd (some p.depth_is)
@@ -334,9 +333,9 @@ module _ {K V : Type 0} {n : ℕ} {table : Table K V} (union : IsUnion n table) 
   pub spot-low : spot.code < 281474976710656
   spot-low = let w = is-rooted root union s.root_is in code-low 16 (tree_of table.nodes root).above s.numbers spot.code place s.coded w.low
 
-module _ {K V : Type 0} {slots : List (Content K V)} {root code depth : ℕ} {numbers : List ℕ} {rows : List (List (LevelNode K ℕ))} {list : List (K × ℕ)} {place : ℕ} (p : CodedOver slots root code depth numbers rows list place) where
+module _ {K V : Type 0} {slots : List (Content K V)} {root code depth numbers rows list place : _} (p : CodedOver slots root code depth numbers rows list place) where
   -- the node that was read is the first of the numbers
-  pub first-kept : (some : depth ≢ 0) (parent : ℕ) → ((numbers : List ℕ) (rows : List (List (LevelNode K ℕ))) (list : List (K × ℕ)) (place : ℕ) → CodedOver slots root (code / 8) (depth - 1) numbers rows list place → NumberAt list place parent) → get_or numbers 0 0 ≡ parent
+  pub first-kept : (some : depth ≢ 0) (parent : ℕ) → ((numbers rows list place : _) → CodedOver slots root (code / 8) (depth - 1) numbers rows list place → NumberAt list place parent) → get_or numbers 0 0 ≡ parent
   first-kept some parent says = kept-same rows p some (get_or numbers 0 0) refl ∙ sym (read-same p some parent says)
 
   -- a spot of this code
@@ -348,5 +347,5 @@ module _ {K V : Type 0} {n : ℕ} {table : Table K V} (union : IsUnion n table) 
   spot-height = let w = is-rooted root union s.root_is in omega (arith, s.height_is, w.low)
 
   -- the spot at the end of a way from the same root
-  pub far-spot : {next : Spot} {others : List ℕ} {to : ℕ} → IsWay others next (tree_of table.nodes root).above to → IsSpotAt table root next to
+  pub far-spot : {next : Spot} {others to : _} → IsWay others next (tree_of table.nodes root).above to → IsSpotAt table root next to
   far-spot {others = others} w = record { root_is = s.root_is; numbers = others; coded = w.coded; parent_is = w.parent_is; grand_is = w.grand_is; height_is = w.height_is }

@@ -15,22 +15,18 @@ use Rattle.bforest_core.proofs.walks.Steps.{no_heads}
 use Rattle.bforest_core.proofs.walks.TopNode.{InnerUnder, LeafUnder, inner_under, leaf_under, node_held, none_flat}
 
 -- the node at a place of the lowest level
-number-here : {K V : Type 0} {most : ℕ} {slots : List (Content K V)} {leaves : List (LevelNode K V)} (lower : List (List (LevelNode K ℕ)))
-    (a : List (K × ℕ)) (first : K) (number : ℕ) (b : List (K × ℕ)) → Under most slots leaves lower (a ++ (first, number) ∷ b) → lower ≡ []
+number-here : {K V : Type 0} {most : _} {slots : List (Content K V)} {leaves : _} (lower : _) (a : List (K × ℕ)) (first : K) (number : ℕ) (b : List (K × ℕ)) → Under most slots leaves lower (a ++ (first, number) ∷ b) → lower ≡ []
     → NumberAt (heads leaves) (length a) number
 number-here [] a first number b u none = (first, ap (λ z. slice_get z (length a)) u.stacked ∙ slice_get_at a (first, number) b (length a) refl)
 number-here (row ∷ lower) a first number b u none = absurd (omega (arith, ap length none))
 
-module _ {K V : Type 0} {most : ℕ} {slots : List (Content K V)} (capacity : IsLeafCapacity most) {leaves : List (LevelNode K V)}
-    {lower : List (List (LevelNode K ℕ))} (a : List (K × ℕ)) (first : K) (number : ℕ) (b : List (K × ℕ))
-    (u : Under most slots leaves lower (a ++ (first, number) ∷ b)) {content : Content K V}
-    (read : slice_get slots number ≡ Some content) where
+module _ {K V : Type 0} {most : _} {slots : List (Content K V)} (capacity : IsLeafCapacity most) {leaves lower : _} (a : List (K × ℕ)) (first : K) (number : ℕ) (b : List (K × ℕ)) (u : Under most slots leaves lower (a ++ (first, number) ∷ b)) {content : Content K V} (read : slice_get slots number ≡ Some content) where
   -- at a leaf the way has ended
   module _ (other : IsInner content → ⊥) where
     ended : LeafUnder most slots leaves lower a first number b
     ended = leaf_under (some_leaf capacity) a first number b u read other
 
-    way-here : {upper : List (List (LevelNode K ℕ))} {numbers : List ℕ} {spot : Spot} {place : ℕ} → IsWay numbers spot upper (length a) → length a ≡ place → (others : List ℕ) × IsWay others spot (lower ++ upper) place × NumberAt (heads leaves) place number
+    way-here : {upper numbers : _} {spot : Spot} {place : ℕ} → IsWay numbers spot upper (length a) → length a ≡ place → (others : List ℕ) × IsWay others spot (lower ++ upper) place × NumberAt (heads leaves) place number
     way-here {upper = upper} {numbers = numbers} {spot = spot} {place = place} w is =
         (numbers, subst (λ (z : List (List (LevelNode K ℕ))). IsWay numbers spot (z ++ upper) place) (sym ended.lower_is) (subst (IsWay numbers spot upper) is w), subst (λ z. NumberAt (heads leaves) z number) is (number-here lower a first number b u ended.lower_is))
 
@@ -70,12 +66,8 @@ module _ {K V : Type 0} {most : ℕ} {slots : List (Content K V)} (capacity : Is
       pub front_is : length front ≡ length (flat below.at.before) + index
       pub sum_is : length front + suc (length back) ≡ length (flat below.row)
 
-    module _ {index child : ℕ} (low : index ≤ length below.at.es)
-        (reads : (keys : List K) (children : List ℕ) → slice_get slots number ≡ Some (Inner keys children)
-        → slice_get children index ≡ Some child) {spot next : Spot} (code : next.code ≡ spot.code * 8 + index)
-        (parent : next.parent ≡ number) (grand : next.grand ≡ spot.parent)
-        (height : next.height ≡ suc spot.height) {upper : List (List (LevelNode K ℕ))} {numbers : List ℕ}
-        (w : IsWay numbers spot upper (length a)) where
+    module _ {index child : ℕ} (low : index ≤ length below.at.es) (reads : (keys : List K) (children : List ℕ) → slice_get slots number ≡ Some (Inner keys children)
+        → slice_get children index ≡ Some child) {spot next : Spot} (code : next.code ≡ spot.code * 8 + index) (parent : next.parent ≡ number) (grand : next.grand ≡ spot.parent) (height : next.height ≡ suc spot.height) {upper numbers : _} (w : IsWay numbers spot upper (length a)) where
       way-down : {place : ℕ} → place ≡ length (flat below.at.before) + index → IsWay (number ∷ numbers) next (below.row ∷ upper) place
       way-down place_is =
           let d = digit-put spot.code index next.code (omega (arith, low, room)) code in
@@ -103,16 +95,15 @@ module _ {K V : Type 0} {most : ℕ} {slots : List (Content K V)} (capacity : Is
           record { front = c.0; key = c.1; back = c.2; under = c.3; way = way-down c.4; front_is = c.4; sum_is = c.5 }
 
 -- the entries of a row end with those of its last node
-last-end : {K : Type 0} {row : List (LevelNode K ℕ)} (a : List (K × ℕ)) {first : K} {number : ℕ} (b : List (K × ℕ)) (at : Seen 4 8 row a first number b) → b ≡ [] → length (flat row) ≡ length (flat at.before) + suc (length at.es)
+last-end : {K : Type 0} {row : List (LevelNode K ℕ)} (a : _) {first number : _} (b : _) (at : Seen 4 8 row a first number b) → b ≡ [] → length (flat row) ≡ length (flat at.before) + suc (length at.es)
 last-end {row = row} a {first = first} {number = number} [] at none = last_place 8 (omega arith) at
 last-end a (x ∷ b) at none = absurd (omega (arith, ap length none))
 
 module _ {K V : Type 0} (most : ℕ) (slots : List (Content K V)) (Side : List (K × ℕ) → List (K × ℕ) → Type 0) (number index : ℕ) where
   -- the way down one side of a tree goes on from a node to its child at this index
   pub record Turns : Type 0 where
-    pub within : (leaves : List (LevelNode K V)) (lower : List (List (LevelNode K ℕ))) (a : List (K × ℕ)) (first : K) (b : List (K × ℕ)) (s : InnerUnder most slots leaves lower a first number b) → Side a b → index ≤ length s.at.es
-    pub keeps : (leaves : List (LevelNode K V)) (lower : List (List (LevelNode K ℕ))) (a : List (K × ℕ)) (first : K) (b : List (K × ℕ))
-        (s : InnerUnder most slots leaves lower a first number b) → Side a b → (front back : List (K × ℕ))
+    pub within : (leaves lower a first b : _) (s : InnerUnder most slots leaves lower a first number b) → Side a b → index ≤ length s.at.es
+    pub keeps : (leaves lower a first b : _) (s : InnerUnder most slots leaves lower a first number b) → Side a b → (front back : List (K × ℕ))
         → length front ≡ length (flat s.at.before) + index → length front + suc (length back) ≡ length (flat s.row) → Side front back
 
 module _ {K V : Type 0} {most : ℕ} {slots : List (Content K V)} where
@@ -128,7 +119,7 @@ module _ {K V : Type 0} {most : ℕ} {slots : List (Content K V)} where
     keeps = λ leaves lower a first b s side front back front_is sum_is. nil_from_length back (omega (arith, front_is, sum_is, index leaves lower a first b s, last-end a b s.at side));
   }
     where
-      index : (leaves : List (LevelNode K V)) (lower : List (List (LevelNode K ℕ))) (a : List (K × ℕ)) (first : K) (b : List (K × ℕ)) (s : InnerUnder most slots leaves lower a first number b) → last ≡ length s.at.es
+      index : (leaves lower a first b : _) (s : InnerUnder most slots leaves lower a first number b) → last ≡ length s.at.es
       index leaves lower a first b s = omega (arith, says (inner_content (s.at.e ∷ s.at.es)) s.slot_is, item_count (s.at.e ∷ s.at.es))
 
 -- what is said of the first leaf, and of the last, as the end of a way
@@ -163,7 +154,7 @@ module _ {K V : Type 0} {most : ℕ} {slots : List (Content K V)} (capacity : Is
     module _ {child : ℕ} (reads : (keys : List K) (children : List ℕ) → slice_get slots number ≡ Some (Inner keys children)
         → slice_get children index ≡ Some child) {spot next : Spot} (code : next.code ≡ spot.code * 8 + index)
         (parent : next.parent ≡ number) (grand : next.grand ≡ spot.parent) (height : next.height ≡ suc spot.height) where
-      module _ (leaves : List (LevelNode K V)) (lower upper : List (List (LevelNode K ℕ))) (numbers : List ℕ) (a : List (K × ℕ)) (first : K) (b : List (K × ℕ)) (side : Side a b) (u : Under most slots leaves lower (a ++ (first, number) ∷ b)) (w : IsWay numbers spot upper (length a)) where
+      module _ (leaves lower : _) (upper : List (List (LevelNode K ℕ))) (numbers : _) (a : List (K × ℕ)) (first : K) (b : List (K × ℕ)) (side : Side a b) (u : Under most slots leaves lower (a ++ (first, number) ∷ b)) (w : IsWay numbers spot upper (length a)) where
         abbrev here : InnerUnder most slots leaves lower a first number b
         here = below capacity a first number b u read inner
 
@@ -197,7 +188,7 @@ pub way-root : {K : Type 0} (spot : Spot) → spot.code ≡ 0 → spot.height �
 way-root spot code height = record { coded = (code, refl); parent_is = λ low. absurd (omega (arith, low, height)); grand_is = λ low. absurd (omega (arith, low, height)); height_is = height }
 
 -- the way from the root down, at its end
-pub way-spot : {K V : Type 0} (table : Table K V) (root : ℕ) {spot : Spot} {place : ℕ} {numbers : List ℕ} → IsTrue (is_root table.nodes root) → IsWay numbers spot ((tree_of table.nodes root).above ++ []) place → IsSpotAt table root spot place
+pub way-spot : {K V : Type 0} (table : Table K V) (root : ℕ) {spot : Spot} {place numbers : _} → IsTrue (is_root table.nodes root) → IsWay numbers spot ((tree_of table.nodes root).above ++ []) place → IsSpotAt table root spot place
 way-spot {K} table root {spot = spot} {place = place} {numbers = numbers} is w =
     let v = subst (λ (z : List (List (LevelNode K ℕ))). IsWay numbers spot z place) (append-nil (tree_of table.nodes root).above) w in
     record { root_is = is; numbers = numbers; coded = v.coded; parent_is = v.parent_is; grand_is = v.grand_is; height_is = v.height_is }

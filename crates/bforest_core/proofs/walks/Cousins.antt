@@ -104,7 +104,7 @@ module _ {K V : Type 0} {n : ℕ} {table : Table K V} (union : IsUnion n table) 
 
 -- what is said of the node that a way from the root leads to, of a spot
 pub far-said : {K V : Type 0} {n : ℕ} {table : Table K V} (union : IsUnion n table) (root : ℕ) (spot : Spot) (found : Option (Spot × ℕ))
-    → IfSome found (λ f. (numbers : List ℕ) (rows : List (List (LevelNode K ℕ))) (list : List (K × ℕ)) (place : ℕ)
+    → IfSome found (λ f. (numbers rows list place : _)
     → CodedOver table.nodes root spot.code spot.height numbers rows list place → (others : List ℕ) × IsWay others f.0 rows (suc place)
     × NumberAt list (suc place) f.1) →
     IfSome found (λ f. (place : ℕ) → IsSpotAt table root spot place → IsSpotAt table root f.0 (suc place) × IsLeafAt table root (suc place) f.1)

@@ -28,7 +28,7 @@ module _ {K : Type 0} (cmp : K → K → Ordering) where
   is_from (x ∷ a) first key ng = ng
 
   -- a node's first key is the first of its level, or not greater
-  from_at : {X : Type 0} {half most : ℕ} {row : List (LevelNode K X)} (a : List (K × ℕ)) {first : K} {number : ℕ} {b : List (K × ℕ)} {key : K} (at : Seen half most row a first number b) → IsFrom cmp a first key → (at.before ≡ []) ⊎ (cmp at.e.0 key ≢ Greater)
+  from_at : {X : Type 0} {half most : _} {row : List (LevelNode K X)} (a : _) {first number b : _} {key : K} (at : Seen half most row a first number b) → IsFrom cmp a first key → (at.before ≡ []) ⊎ (cmp at.e.0 key ≢ Greater)
   from_at [] at f = inl (nil_from_length at.before at.before_is)
   from_at (x ∷ a) {key = key} at f = inr (subst (λ (z : K). cmp z key ≢ Greater) (sym at.first_is) f)
 
@@ -64,7 +64,7 @@ module _ {K V : Type 0} (cmp : K → K → Ordering) (most : ℕ) (slots : List 
     pub high : AllByRecursion (λ p. cmp p key ≡ Greater) (keys_of (flat here.at.after))
 
 -- the entries of a row around a node increase
-increasing_about : {K X : Type 0} (cmp : K → K → Ordering) (o : IsTotalOrder cmp) {half most : ℕ} {row : List (LevelNode K X)} {a : List (K × ℕ)} {first : K} {number : ℕ} {b : List (K × ℕ)} (at : Seen half most row a first number b) → IsIncreasing cmp (flat row) →
+increasing_about : {K X : Type 0} (cmp : K → K → Ordering) (o : IsTotalOrder cmp) {half most : _} {row : List (LevelNode K X)} {a first number b : _} (at : Seen half most row a first number b) → IsIncreasing cmp (flat row) →
     IsIncreasing cmp (flat at.before ++ (at.e ∷ (at.es ++ flat at.after))) × IsIncreasing cmp (at.e ∷ at.es) × IsIncreasing cmp (flat at.after)
 increasing_about cmp o {number = number} at inc =
     let parts = subst (IsIncreasing cmp) (ap flat at.row_is ∙ flat-append at.before (node number (at.e ∷ at.es) ∷ at.after)) inc in
@@ -141,7 +141,7 @@ module _ {K V : Type 0} {cmp : K → K → Ordering} (o : IsTotalOrder cmp) {mos
         }
 
     -- one level of the descent, whose place was written into the path
-    pub passed : (index : ℕ) {child : ℕ} (w : Below s index child) (path indices : List ℕ) {path' indices' : List ℕ} (path'' indices'' : List ℕ) {high : ℕ} → high ≡ length lower → Descended cmp leaves s.here.rows key (length w.front) path' indices' path'' indices'' →
+    pub passed : (index : _) {child : _} (w : Below s index child) (path indices : List ℕ) {path' indices' : _} (path'' indices'' : _) {high : ℕ} → high ≡ length lower → Descended cmp leaves s.here.rows key (length w.front) path' indices' path'' indices'' →
         get_or path' high 0 ≡ number → get_or indices' high 0 ≡ index → path' ≡ set path high number → indices' ≡ set indices high index → Descended cmp leaves lower key (length a) path indices path'' indices''
     passed index w path indices path'' indices'' {high = high} high_is d m_is j_is nodes entries =
         let count_is = s.here.count_is in

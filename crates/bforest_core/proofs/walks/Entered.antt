@@ -28,7 +28,7 @@ leaf_is slots path r {content = content} es some found slot = some_same content 
 pub key_total : {K V : Type 0} (es : List (K × V)) → entry_count (leaf_content es) ≡ length es
 key_total es = length-map es (λ w. w.0)
 
-module _ {K V : Type 0} {most : ℕ} (one : 1 ≤ half_of most) {slots : List (Content K V)} {tree : Tree K V} (fit : IsFit most tree) (inside : IsIn slots tree) where
+module _ {K V : Type 0} {most : ℕ} (one : 1 ≤ half_of most) {slots : _} {tree : Tree K V} (fit : IsFit most tree) (inside : IsIn slots tree) where
   -- a path in the leaf at this index among the leaves
   abbrev pub InLeaf : List ℕ → List ℕ → ℕ → Type 0
   InLeaf path indices leaf = Within leaf_content slots most path indices 0 tree.leaves tree.above leaf
@@ -68,7 +68,7 @@ module _ {K V : Type 0} {most : ℕ} (one : 1 ≤ half_of most) {slots : List (C
   pub leaf_last : {path indices : List ℕ} {leaf : ℕ} (w : InLeaf path indices leaf) → suc leaf ≡ length (heads tree.leaves) → length (flat w.before) + length w.entries ≡ length (flat tree.leaves)
   leaf_last w last = sym (none_behind leaf_content slots most w (half_of most) one fit.leaves_fit last)
 
-  module _ {path indices : List ℕ} {size place : ℕ} (s : Stands path indices size tree place) where
+  module _ {path indices size place : _} (s : Stands path indices size tree place) where
     abbrev pub leaf_here : InLeaf path indices (length s.leaf.before)
     leaf_here = in_leaf path indices s.leaf.before s.leaf.entries s.leaf.after s.leaf.row_is s.above
 
@@ -100,14 +100,14 @@ module _ {K V : Type 0} {most : ℕ} (one : 1 ≤ half_of most) {slots : List (C
 
       -- the next entry is the first of the next leaf
       pub next_over : {path1 indices1 path' : List ℕ} (indices' : List ℕ)
-          → ((rows : List (List (LevelNode K ℕ))) (list : List (K × ℕ)) (at : ℕ)
+          → ((rows list at : _)
           → Over slots path indices 1 size rows list at → Moved path indices path1 indices1 0 rows list (suc at)) → path' ≡ path1
           → get_or indices' 0 0 ≡ 0 → SameBut 0 indices1 indices' → Stands path' indices' size tree (suc place)
       next_over {path' = path'} indices' moved path_is here above =
           subst (λ (z : ℕ). Stands path' indices' size tree z) (sym leaf_ends) (first_behind leaf_here s.size_is indices' (moved tree.above (heads tree.leaves) (length s.leaf.before) over_leaves) path_is here above)
 
       -- where no leaf follows, the path stands on the last entry
-      pub next_last : ((rows : List (List (LevelNode K ℕ))) (list : List (K × ℕ)) (at : ℕ) → Over slots path indices 1 size rows list at → suc at ≡ length list) → suc place ≡ length (flat tree.leaves)
+      pub next_last : ((rows list at : _) → Over slots path indices 1 size rows list at → suc at ≡ length list) → suc place ≡ length (flat tree.leaves)
       next_last last = leaf_ends ∙ leaf_last leaf_here (last tree.above (heads tree.leaves) (length s.leaf.before) over_leaves)
 
     -- the previous entry is in the same leaf
@@ -138,5 +138,5 @@ module _ {K V : Type 0} {most : ℕ} (one : 1 ≤ half_of most) {slots : List (C
           (omega (arith, s.leaf.place_is, seam_is, last_at), stands_in back_leaf s.size_is indices' (place - 1) path_is above (omega (arith, here, last_at)) (omega (arith, here, last_at, s.leaf.place_is, none, seam_is)))
 
     -- where there is no previous leaf, the path stands on the first entry
-    pub back_first : ((rows : List (List (LevelNode K ℕ))) (list : List (K × ℕ)) (at : ℕ) → Over slots path indices 1 size rows list at → at ≡ 0) → get_or indices 0 0 ≤ 0 → place ≡ 0
+    pub back_first : ((rows list at : _) → Over slots path indices 1 size rows list at → at ≡ 0) → get_or indices 0 0 ≤ 0 → place ≡ 0
     back_first first none = omega (arith, s.leaf.place_is, none, none_flat s.leaf.before (first tree.above (heads tree.leaves) (length s.leaf.before) over_leaves))

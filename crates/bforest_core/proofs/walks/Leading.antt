@@ -22,7 +22,7 @@ child_cut (y ∷ es) zero child found = ([], y.0, es, ap (λ z. (y.0, z) ∷ es)
 child_cut (y ∷ es) (suc index) child found = let r = child_cut es index child found in (y ∷ r.0, r.1, r.2, ap (λ z. y ∷ z) r.3, ap suc r.4)
 
 -- a row ends with the last entry of its last node
-pub last_place : {K X : Type 0} {half : ℕ} (most : ℕ) → 1 ≤ half → {row : List (LevelNode K X)} {a : List (K × ℕ)} {first : K} {number : ℕ} (at : Seen half most row a first number []) → length (flat row) ≡ length (flat at.before) + suc (length at.es)
+pub last_place : {K X : Type 0} {half : ℕ} (most : ℕ) → 1 ≤ half → {row : List (LevelNode K X)} {a first number : _} (at : Seen half most row a first number []) → length (flat row) ≡ length (flat at.before) + suc (length at.es)
 last_place {half = half} most one {number = number} at =
     let none = ap (λ z. length (flat z)) (no_heads half most one at.after at.after_fit at.after_is) in
     let parts = ap length (ap flat at.row_is ∙ flat-append at.before (node number (at.e ∷ at.es) ∷ at.after)) in
@@ -42,7 +42,7 @@ module _ {K V : Type 0} {most : ℕ} {slots : List (Content K V)} {leaves : List
       })
 
   -- the path, once it was written at an inner node, leads on from a child
-  inner_led : (s : InnerUnder most slots leaves lower a first number b) {path1 indices1 : List ℕ} (path2 indices2 : List ℕ) (high : ℕ) {index : ℕ} {place : ℕ} {top : ℕ}
+  inner_led : (s : InnerUnder most slots leaves lower a first number b) {path1 indices1 : _} (path2 indices2 : _) (high : ℕ) {index : ℕ} {place : _} {top : ℕ}
       → high ≡ suc (length s.rows) → index ≤ length s.at.es → top ≡ length (flat s.at.before) + index
       → LedTo leaves s.rows place top path1 indices1 path2 indices2 → get_or path1 high 0 ≡ number → get_or indices1 high 0 ≡ index →
       SameBut high path path1 → SameBut high indices indices1 → LedTo leaves lower place (length a) path indices path2 indices2
@@ -57,8 +57,7 @@ module _ {K V : Type 0} {most : ℕ} {slots : List (Content K V)} {leaves : List
         entries_above = λ i low. d.entries_above i (omega (arith, low, s.count_is)) ∙ entries i (λ z. omega (arith, z, low, high_is, s.count_is));
       }
 
-module _ {K V : Type 0} {most : ℕ} {slots : List (Content K V)} {leaves : List (LevelNode K V)} {lower : List (List (LevelNode K ℕ))} {a : List (K × ℕ)} {first : K} {number : ℕ} {b : List (K × ℕ)} (s : InnerUnder most slots leaves lower a first number b)
-    {content2 : Content K V} (read2 : slice_get slots number ≡ Some content2) where
+module _ {K V : Type 0} {most : _} {slots : List (Content K V)} {leaves lower a first number b : _} (s : InnerUnder most slots leaves lower a first number b) {content2 : Content K V} (read2 : slice_get slots number ≡ Some content2) where
   content_is : content2 ≡ inner_content (s.at.e ∷ s.at.es)
   content_is = some_same content2 (inner_content (s.at.e ∷ s.at.es)) (sym read2 ∙ s.slot_is)
 
@@ -120,9 +119,7 @@ module _ {K V : Type 0} {most : ℕ} (one : 1 ≤ half_of most) {slots : List (C
           record { rows = front_node.rows; first = c.1; rest = c.2; under = subst (λ (z : List (K × ℕ)). Under most slots leaves front_node.rows (z ++ (c.1, child) ∷ c.2)) none c.3; count_is = front_node.count_is }
 
 -- a node on a level that is known, whose index in the path was written
-module _ {K V : Type 0} {most : ℕ} (one : 1 ≤ half_of most) {slots : List (Content K V)} {leaves : List (LevelNode K V)}
-    {lower : List (List (LevelNode K ℕ))} (a : List (K × ℕ)) (first : K) (number : ℕ) (b : List (K × ℕ))
-    (u : Under most slots leaves lower (a ++ (first, number) ∷ b)) {level : ℕ} (level_is : level ≡ length lower) where
+module _ {K V : Type 0} {most : ℕ} (one : 1 ≤ half_of most) {slots : List (Content K V)} {leaves lower : _} (a : List (K × ℕ)) (first : K) (number : ℕ) (b : List (K × ℕ)) (u : Under most slots leaves lower (a ++ (first, number) ∷ b)) {level : ℕ} (level_is : level ≡ length lower) where
   abbrev at_leaf : level ≡ 0 → LeafUnder most slots leaves lower a first number b
   at_leaf none = leaf_at one a first number b u (omega (arith, level_is, none))
 
@@ -161,9 +158,7 @@ module _ {K V : Type 0} {most : ℕ} (one : 1 ≤ half_of most) {slots : List (C
     inner_below {child = child} says = let es = (at_inner some).at.e ∷ (at_inner some).at.es in child_under (at_inner some) (at_inner some).slot_is index (says (drop 1 (entry_keys es)) (entry_items es) (at_inner some).slot_is)
 
 -- the descent to the first entry
-module _ {K V : Type 0} {most : ℕ} (one : 1 ≤ half_of most) {slots : List (Content K V)} {leaves : List (LevelNode K V)}
-    {lower : List (List (LevelNode K ℕ))} {first : K} {number : ℕ} {b : List (K × ℕ)}
-    (u : Under most slots leaves lower ((first, number) ∷ b)) {level : ℕ} (level_is : level ≡ length lower) where
+module _ {K V : Type 0} {most : ℕ} (one : 1 ≤ half_of most) {slots : List (Content K V)} {leaves lower : _} {first : K} {number : ℕ} {b : List (K × ℕ)} (u : Under most slots leaves lower ((first, number) ∷ b)) {level : ℕ} (level_is : level ≡ length lower) where
   -- at the leaf
   pub first_ends : level ≡ 0 → (path indices : List ℕ) {path1 indices1 : List ℕ} → get_or path1 level 0 ≡ number → get_or indices1 level 0 ≡ 0 → path1 ≡ set path level number → indices1 ≡ set indices level 0 → Led leaves lower path indices path1 indices1
   first_ends none path indices node_here entry_here path_is indices_are =
@@ -198,10 +193,7 @@ module _ {K V : Type 0} {most : ℕ} (one : 1 ≤ half_of most) {slots : List (C
           record { leaf = l.leaf; stands = l.stands; nodes_above = l.nodes_above; entries_above = l.entries_above }
 
 -- the descent to the last entry
-module _ {K V : Type 0} {most : ℕ} (one : 1 ≤ half_of most) {slots : List (Content K V)} {leaves : List (LevelNode K V)}
-    {lower : List (List (LevelNode K ℕ))} (a : List (K × ℕ)) (first : K) (number : ℕ)
-    (u : Under most slots leaves lower (a ++ (first, number) ∷ [])) {level : ℕ} (level_is : level ≡ length lower) {last : ℕ}
-    (last_is : (x : Content K V) → slice_get slots number ≡ Some x → last ≡ entry_count x - 1) where
+module _ {K V : Type 0} {most : ℕ} (one : 1 ≤ half_of most) {slots : List (Content K V)} {leaves lower : _} (a : List (K × ℕ)) (first : K) (number : ℕ) (u : Under most slots leaves lower (a ++ (first, number) ∷ [])) {level : ℕ} (level_is : level ≡ length lower) {last : ℕ} (last_is : (x : Content K V) → slice_get slots number ≡ Some x → last ≡ entry_count x - 1) where
   -- at the leaf
   pub last_ends : level ≡ 0 → (path indices : List ℕ) {path1 indices1 : List ℕ} → get_or path1 level 0 ≡ number → get_or indices1 level 0 ≡ last → path1 ≡ set path level number → indices1 ≡ set indices level last → LedLast leaves lower (length a) path indices path1 indices1
   last_ends none path indices node_here entry_here path_is indices_are =
@@ -243,5 +235,5 @@ module _ {K V : Type 0} {most : ℕ} (one : 1 ≤ half_of most) {slots : List (C
           record { leaf = l.leaf; stands = l.stands; nodes_above = l.nodes_above; entries_above = l.entries_above }
 
 -- a path that descended from the root stands at the last entry
-pub last_stands : {K V : Type 0} (tree : Tree K V) {path indices : List ℕ} (path' indices' : List ℕ) {size : ℕ} → LedLast tree.leaves tree.above 0 path indices path' indices' → size ≡ suc (length tree.above) → Stands path' indices' size tree (length (flat tree.leaves) - 1)
+pub last_stands : {K V : Type 0} (tree : Tree K V) {path indices : _} (path' indices' : _) {size : ℕ} → LedLast tree.leaves tree.above 0 path indices path' indices' → size ≡ suc (length tree.above) → Stands path' indices' size tree (length (flat tree.leaves) - 1)
 last_stands tree path' indices' d e = record { leaf = d.leaf; above = stands_above path' indices' 1 tree.above (length d.leaf.before) d.stands; size_is = e }

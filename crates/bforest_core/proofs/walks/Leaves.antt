@@ -10,7 +10,7 @@ use Rattle.bforest_core.proofs.walks.TopNode.{leaf_under}
 use Rattle.bforest_core.proofs.walks.Whole.{whole_under}
 
 -- the list from the first entry of the path's leaf on is the leaf's entries and the rest
-leaf-rest : {K V : Type 0} {path indices : List ℕ} {size : ℕ} {tree : Tree K V} {place : ℕ} (s : Stands path indices size tree place) → drop (length (flat s.leaf.before)) (flat tree.leaves) ≡ s.leaf.entries ++ drop (length (flat s.leaf.before) + length s.leaf.entries) (flat tree.leaves)
+leaf-rest : {K V : Type 0} {path indices size : _} {tree : Tree K V} {place : _} (s : Stands path indices size tree place) → drop (length (flat s.leaf.before)) (flat tree.leaves) ≡ s.leaf.entries ++ drop (length (flat s.leaf.before) + length s.leaf.entries) (flat tree.leaves)
 leaf-rest {path = path} {tree = tree} s =
     let front = flat s.leaf.before in
     let entries = s.leaf.entries in

@@ -35,7 +35,7 @@ upto_at cmp key (x ∷ es) (suc p) e here t = upto_at cmp key es p e here t
 
 module _ {K X : Type 0} {cmp : K → K → Ordering} (o : IsTotalOrder cmp) (key : K) where
   -- a search that passes a lesser first entry
-  later : (e : K × X) {es : List (K × X)} → cmp e.0 key ≡ Less → {p : ℕ} {found : Option (K × X)} → Finds cmp es key p found → Finds cmp (e ∷ es) key (suc p) found
+  later : (e : K × X) {es : List (K × X)} → cmp e.0 key ≡ Less → {p found : _} → Finds cmp es key p found → Finds cmp (e ∷ es) key (suc p) found
   later e {es = es} t f = let z = place-later cmp o e es key t in record { place_is = z ∙ ap suc f.place_is; entry_is = ap (λ i. test_at o (e ∷ es) key i) z ∙ f.entry_is }
 
   -- a search in a list whose first entry is greater
@@ -50,7 +50,7 @@ module _ {K X : Type 0} {cmp : K → K → Ordering} (o : IsTotalOrder cmp) (key
   all_at P (x ∷ es) (suc p) e h here = all_at P es p e h.1 here
 
   -- a search from an entry on that is not greater, as in the whole list
-  behind : (es : List (K × X)) (p : ℕ) (e : K × X) → slice_get es p ≡ Some e → IsIncreasing cmp es → cmp e.0 key ≢ Greater → (n : ℕ) (found : Option (K × X)) → (IsIncreasing cmp (e ∷ drop (suc p) es) → Finds cmp (e ∷ drop (suc p) es) key n found) → Finds cmp es key (p + n) found
+  behind : (es : List (K × X)) (p : ℕ) (e : K × X) → slice_get es p ≡ Some e → IsIncreasing cmp es → cmp e.0 key ≢ Greater → (n found : _) → (IsIncreasing cmp (e ∷ drop (suc p) es) → Finds cmp (e ∷ drop (suc p) es) key n found) → Finds cmp es key (p + n) found
   unfolding IsStrictlySortedBy
   behind [] p e here h ng n found f = absurd cc
   behind (x ∷ es) zero e here h ng n found f =
@@ -107,7 +107,7 @@ module _ {K V : Type 0} {n : ℕ} (table : Table K V) (root : ℕ) (path : Path 
       pub absent : is_present cmp (list_under table root) key ≡ false → IsPlaced table root path (place cmp (list_under table root) key)
 
     -- the search ended on the key's entry, or at its place where the key is absent
-    ended : {p : ℕ} {found : Option (K × V)} → Finds cmp (list_under table root) key p found → (is_some found ≡ true → StandsOn table root path p) → (is_some found ≡ false → IsPlaced table root path p) → Ended (option_map (λ w. w.1) found)
+    ended : {p found : _} → Finds cmp (list_under table root) key p found → (is_some found ≡ true → StandsOn table root path p) → (is_some found ≡ false → IsPlaced table root path p) → Ended (option_map (λ w. w.1) found)
     ended f on at = record {
       value = sym (ap (λ o. option_map (λ w. w.1) o) f.entry_is);
       present = λ yes. subst (λ (z : ℕ). StandsOn table root path z) (sym f.place_is) (on (sym (ap is_some f.entry_is) ∙ yes));

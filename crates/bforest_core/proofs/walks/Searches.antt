@@ -19,8 +19,7 @@ use Rattle.bforest_core.proofs.walks.TopNode.{InnerUnder, inner_under, leaf_unde
 use Rattle.bforest_core.proofs.walks.Whole.{all_through}
 
 -- a node of a row over eight children at most
-row-low : {K V : Type 0} {most : ℕ} {slots : List (Content K V)} {leaves : List (LevelNode K V)} {lower : List (List (LevelNode K ℕ))}
-    {a : List (K × ℕ)} {first : K} {number : ℕ} {b : List (K × ℕ)} → Under most slots leaves lower (a ++ (first, number) ∷ b)
+row-low : {K V : Type 0} {most : _} {slots : List (Content K V)} {leaves lower : _} {a : List (K × ℕ)} {first : K} {number : ℕ} {b : List (K × ℕ)} → Under most slots leaves lower (a ++ (first, number) ∷ b)
     → (s : InnerUnder most slots leaves lower a first number b) → length s.at.es < 8
 row-low {leaves = leaves} {a = a} {first = first} {number = number} {b = b} u s =
     let fit = (stacked_last (heads leaves) s.rows s.row (a ++ (first, number) ∷ b) (subst (λ z. StackedTo (heads leaves) z (a ++ (first, number) ∷ b)) s.lower_is u.stacked)).1 in
@@ -38,7 +37,7 @@ pub record WayBelow {K V : Type 0} (cmp : K → K → Ordering) (most : ℕ) (sl
   pub way : IsWay numbers next above (length on.before)
   pub join : on.lower ++ above ≡ lower ++ upper
 
-module _ {K V : Type 0} {cmp : K → K → Ordering} (o : IsTotalOrder cmp) {most : ℕ} (one : 1 ≤ half_of most) {slots : List (Content K V)} {leaves : List (LevelNode K V)} {key : K} {number depth : ℕ} (t : SearchThrough cmp most slots leaves key number depth) where
+module _ {K V : Type 0} {cmp : K → K → Ordering} (o : IsTotalOrder cmp) {most : ℕ} (one : 1 ≤ half_of most) {slots : List (Content K V)} {leaves key number depth : _} (t : SearchThrough cmp most slots leaves key number depth) where
   -- the node is in the slots
   pub within : number < length slots
   within = node_within one t.before t.first number t.after t.under

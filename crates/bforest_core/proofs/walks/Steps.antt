@@ -62,16 +62,16 @@ module _ {K V X : Type 0} (content : List (K × X) → Content K V) (slots : Lis
         record { before = before; entries = entries; after = after; row_is = row_is; at = at; stands = stands; slot_is = i; some = omega (arith, f.0, least-pos half one after); room = f.1 }
 
     -- a path that moved to a place is in the node there
-    pub there : {path indices path1 indices1 : List ℕ} {up : ℕ} {rest : List (List (LevelNode K ℕ))} {place : ℕ} → Moved path indices path1 indices1 up rest (heads row) place → Within path1 indices1 up row rest place
+    pub there : {path indices path1 indices1 up rest place : _} → Moved path indices path1 indices1 up rest (heads row) place → Within path1 indices1 up row rest place
     there {path1 = path1} {indices1 = indices1} {up = up} {rest = rest} {place = place} m =
         let c = cut (heads row) place (slice_get_within (heads row) place m.head m.head_is) in
         let same : c.x ≡ m.head = some_same c.x m.head (sym (ap (λ z. slice_get z place) c.es_is ∙ slice_get_at c.l c.x c.r place c.place_is) ∙ m.head_is) in
         let s = seen half most one row c.l m.head.0 m.head.1 c.r fit (c.es_is ∙ ap (λ z. c.l ++ z ∷ c.r) same) in
         within path1 indices1 up rest place s.before (s.e ∷ s.es) s.after (s.row_is ∙ ap (λ z. s.before ++ node z (s.e ∷ s.es) ∷ s.after) (sym m.node_is)) (s.before_is ∙ c.place_is) m.stands
 
-  module _ {path indices : List ℕ} {up : ℕ} {row : List (LevelNode K X)} {rest : List (List (LevelNode K ℕ))} {place : ℕ} (a : Within path indices up row rest place) where
+  module _ {path indices up : _} {row : List (LevelNode K X)} {rest place : _} (a : Within path indices up row rest place) where
     -- the next node starts where the entries of this one end
-    pub seam : {path1 indices1 : List ℕ} {place1 : ℕ} (b : Within path1 indices1 up row rest place1) → place1 ≡ suc place → length (flat b.before) ≡ length (flat a.before) + length a.entries
+    pub seam : {path1 indices1 place1 : _} (b : Within path1 indices1 up row rest place1) → place1 ≡ suc place → length (flat b.before) ≡ length (flat a.before) + length a.entries
     seam {path1 = path1} b is =
         let k = length b.before in
         let x = node (get_or path up 0) a.entries in
@@ -114,7 +114,7 @@ module _ {K V : Type 0} where
     pub inside : RowIn inner_content slots row
     pub over : Over slots path indices (suc up) size rest (heads row) (length before)
 
-  pub spot : (slots : List (Content K V)) (path indices : List ℕ) (up size : ℕ) (rows : List (List (LevelNode K ℕ))) (list : List (K × ℕ)) (place : ℕ) → Over slots path indices up size rows list place → up ≢ size → Spot slots path indices up size rows list place
+  pub spot : (slots : List (Content K V)) (path indices up size rows list place : _) → Over slots path indices up size rows list place → up ≢ size → Spot slots path indices up size rows list place
   spot slots path indices up size [] list place p other = absurd (other (omega (arith, p.height)))
   spot slots path indices up size (row ∷ rest) list place p other =
       let at = p.stands.0 in
@@ -137,6 +137,6 @@ module _ {K V : Type 0} where
       }
 
 -- where no row is above, the level has one node
-pub only : {K V : Type 0} {slots : List (Content K V)} {path indices : List ℕ} {level size : ℕ} {rows : List (List (LevelNode K ℕ))} {list : List (K × ℕ)} {place : ℕ} → Over slots path indices level size rows list place → level ≡ size → (place ≡ 0) × (suc place ≡ length list)
+pub only : {K V : Type 0} {slots : List (Content K V)} {path indices level size rows list place : _} → Over slots path indices level size rows list place → level ≡ size → (place ≡ 0) × (suc place ≡ length list)
 only {rows = []} p e = (p.stands, omega (arith, p.stands, p.stacked))
 only {rows = row ∷ rows} p e = absurd (omega (arith, p.height, e))

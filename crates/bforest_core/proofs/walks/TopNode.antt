@@ -23,8 +23,7 @@ flat_parted before n {es = es} l x r after is =
     flat-append before (node n es ∷ after) ∙ ap (λ z. flat before ++ (z ++ flat after)) is ∙ ap (λ z. flat before ++ z) (append_assoc l (x ∷ r) (flat after)) ∙ sym (append_assoc (flat before) l (x ∷ (r ++ flat after)))
 
 -- a path's place at the node
-abbrev pub seen_at : {K X : Type 0} {half most : ℕ} {row : List (LevelNode K X)} {a : List (K × ℕ)} {first : K} {number : ℕ}
-    {b : List (K × ℕ)} (at : Seen half most row a first number b) {n j index place : ℕ} → n ≡ number → j ≡ index → index ≤ length at.es
+abbrev pub seen_at : {K X : Type 0} {half most : _} {row : List (LevelNode K X)} {a first number b : _} (at : Seen half most row a first number b) {n j index place : ℕ} → n ≡ number → j ≡ index → index ≤ length at.es
     → place ≡ length (flat at.before) + index → IsAt row n j place
 seen_at {row = row} {number = number} at n_is j_is within place_is = at_node at.before (at.e ∷ at.es) at.after at.row_is n_is j_is (omega (arith, within)) place_is
 
@@ -42,13 +41,11 @@ pub record InnerUnder {K V : Type 0} (most : ℕ) (slots : List (Content K V)) (
   pub under : Under most slots leaves rows (flat row)
   pub slot_is : slice_get slots number ≡ Some (inner_content (at.e ∷ at.es))
 
-seen_slot : {K V X : Type 0} (content : List (K × X) → Content K V)
-    (slots : List (Content K V)) {half most : ℕ} {row : List (LevelNode K X)} {a : List (K × ℕ)} {first : K} {number : ℕ} {b : List (K × ℕ)}
-    (at : Seen half most row a first number b) → RowIn content slots row → slice_get slots number ≡ Some (content (at.e ∷ at.es))
+seen_slot : {K V X : Type 0} (content : List (K × X) → Content K V) (slots : List (Content K V)) {half most : _} {row : List (LevelNode K X)} {a first number b : _} (at : Seen half most row a first number b) → RowIn content slots row → slice_get slots number ≡ Some (content (at.e ∷ at.es))
 seen_slot {K} {V} {X} content slots {number = number} at i = (row-split content slots at.before (node number (at.e ∷ at.es) ∷ at.after) (subst (λ (z : List (LevelNode K X)). RowIn content slots z) at.row_is i)).1.0
 
 module _ {K V : Type 0} {most : ℕ} (one : 1 ≤ half_of most) {slots : List (Content K V)} {leaves : List (LevelNode K V)} where
-  pub node_under : (lower : List (List (LevelNode K ℕ))) (a : List (K × ℕ)) (first : K) (number : ℕ) (b : List (K × ℕ)) → Under most slots leaves lower (a ++ (first, number) ∷ b) → LeafUnder most slots leaves lower a first number b ⊎ InnerUnder most slots leaves lower a first number b
+  pub node_under : (lower : _) (a : List (K × ℕ)) (first : K) (number : ℕ) (b : List (K × ℕ)) → Under most slots leaves lower (a ++ (first, number) ∷ b) → LeafUnder most slots leaves lower a first number b ⊎ InnerUnder most slots leaves lower a first number b
   node_under [] a first number b u =
       let at = seen (half_of most) most one leaves a first number b u.leaves_fit u.stacked in
       inl (record { lower_is = refl; at = at; slot_is = seen_slot leaf_content slots at u.leaves_in })
@@ -68,7 +65,7 @@ module _ {K V : Type 0} {most : ℕ} (one : 1 ≤ half_of most) {slots : List (C
         slot_is = seen_slot inner_content slots at i.1;
       })
 
-  module _ {lower : List (List (LevelNode K ℕ))} (a : List (K × ℕ)) (first : K) (number : ℕ) (b : List (K × ℕ)) (u : Under most slots leaves lower (a ++ (first, number) ∷ b)) where
+  module _ {lower : _} (a : List (K × ℕ)) (first : K) (number : ℕ) (b : List (K × ℕ)) (u : Under most slots leaves lower (a ++ (first, number) ∷ b)) where
     -- the node's slot holds a node with entries
     pub node_held : (content : Content K V) × (slice_get slots number ≡ Some content) × (1 ≤ entry_count content)
     node_held = elim (node_under lower a first number b u) [ inl s ↦ (leaf_content (s.at.e ∷ s.at.es), s.slot_is, omega arith) | inr s ↦ (inner_content (s.at.e ∷ s.at.es), s.slot_is, omega arith) ]

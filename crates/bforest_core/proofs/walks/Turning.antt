@@ -9,7 +9,7 @@ use Rattle.bforest_core.proofs.walks.TopNode.{SameBut}
 
 module _ {K V : Type 0} (slots : List (Content K V)) (path indices : List ℕ) where
   -- the rows from a higher level on
-  pub over-up : (steps : ℕ) {level size : ℕ} {rows : List (List (LevelNode K ℕ))} {list : List (K × ℕ)} {place : ℕ} (to : ℕ)
+  pub over-up : (steps : ℕ) {level size rows list place : _} (to : ℕ)
       → Over slots path indices level size rows list place → to ≡ level + steps → to ≤ size → (rows : List (List (LevelNode K ℕ)))
       × (list : List (K × ℕ)) × (place : ℕ) × Over slots path indices to size rows list place
   over-up zero {size = size} {rows = rows} {list = list} {place = place} to p is low =
@@ -19,7 +19,7 @@ module _ {K V : Type 0} (slots : List (Content K V)) (path indices : List ℕ) w
       over-up steps to s.over (omega (arith, is)) low
 
   -- the node on a level meets what the test for a child requires
-  pub turn-asks : {level size : ℕ} {rows : List (List (LevelNode K ℕ))} {list : List (K × ℕ)} {place : ℕ}
+  pub turn-asks : {level size rows list place : _}
       → Over slots path indices level size rows list place → level ≢ size → size ≤ 17 → (level ≤ 16)
       × ((entries : List (K × ℕ)) × (slice_get slots (get_or path level 0) ≡ Some (inner_content entries)))
   turn-asks {level} {size} p other height =
@@ -27,7 +27,7 @@ module _ {K V : Type 0} (slots : List (Content K V)) (path indices : List ℕ) w
       (omega (arith, height, s.over.height), (s.entries, s.slot_is))
 
   -- the rows above the node meet what a search for the turn from there requires
-  pub turn-above : {level size : ℕ} {rows : List (List (LevelNode K ℕ))} {list : List (K × ℕ)} {place : ℕ} (to : ℕ)
+  pub turn-above : {level size rows list place : _} (to : ℕ)
       → Over slots path indices level size rows list place → level ≢ size → to ≡ suc level → (rows : List (List (LevelNode K ℕ)))
       × (list : List (K × ℕ)) × (place : ℕ) × Over slots path indices to size rows list place
   turn-above {level} {size} to p other is =
@@ -55,14 +55,14 @@ module _ {K V : Type 0} (slots : List (Content K V)) (path indices : List ℕ) w
   none-more up last entries slot = ((λ yes. absurd (false≢true yes)), λ more. absurd (omega (arith, more, last entries slot)))
 
   -- where each child up to the root is the last, the node is the last of its level
-  pub all-last : (steps : ℕ) {level size : ℕ} {rows : List (List (LevelNode K ℕ))} {list : List (K × ℕ)} {place : ℕ} → Over slots path indices (suc level) size rows list place → size ≡ suc level + steps → size ≤ 17 → AreLast slots path indices (suc level) size → suc place ≡ length list
+  pub all-last : (steps : ℕ) {level : ℕ} {size rows list place : _} → Over slots path indices (suc level) size rows list place → size ≡ suc level + steps → size ≤ 17 → AreLast slots path indices (suc level) size → suc place ≡ length list
   all-last zero p is height last = (only p (omega (arith, is))).1
   all-last (suc steps) {level} {size} p is height last =
       last_moves p refl (λ e. omega (arith, e, is)) height false (none-more (suc level) (last (suc level) (omega arith) (omega (arith, is)))) (λ rows list place o. all-last steps o (omega (arith, is)) height (λ i from to. last i (omega (arith, from)) to)) refl
 
-  module _ {path1 indices1 : List ℕ} {level from size : ℕ} (t : Turned slots path indices path1 indices1 level from size) (low : level < from) where
+  module _ {path1 indices1 level from size : _} (t : Turned slots path indices path1 indices1 level from size) (low : level < from) where
     -- a level lower: the node meets what going to its first child requires
-    pub down-asks : {rows : List (List (LevelNode K ℕ))} {list : List (K × ℕ)} {place : ℕ} → Over slots path indices (suc level) size rows list place → ChildAt slots path1 (from - 1) 0
+    pub down-asks : {rows list place : _} → Over slots path indices (suc level) size rows list place → ChildAt slots path1 (from - 1) 0
     down-asks p =
         let o = over-up (from - suc level) (suc (from - 1)) p (omega (arith, low)) (omega (arith, low, t.within)) in
         first_child_asks {up = from} o.3 (omega (arith, low)) (λ e. omega (arith, e, t.within)) t.height t.moved
@@ -80,14 +80,14 @@ module _ {K V : Type 0} (slots : List (Content K V)) (path indices : List ℕ) w
   -- the turn, where the path goes to the next child
   module _ {level turn size : ℕ} (height : size ≤ 17) (within : (level + 2 ≤ turn) × (turn ≤ size)) (here : AreLast slots path indices (suc level) (level + 2)) (last : AreLast slots path indices (level + 2) turn) where
     -- where no level has a further child, the node is the last
-    pub far-last : turn ≡ size → {rows : List (List (LevelNode K ℕ))} {list : List (K × ℕ)} {place : ℕ} → Over slots path indices (suc level) size rows list place → suc place ≡ length list
+    pub far-last : turn ≡ size → {rows list place : _} → Over slots path indices (suc level) size rows list place → suc place ≡ length list
     far-last end p = all-last (size - suc level) p (omega (arith, within)) height (subst (λ (z : ℕ). AreLast slots path indices (suc level) z) end (both-last (suc level) (level + 2) turn here last))
 
     module _ (other : turn ≢ size) (turns : (entries : List (K × ℕ)) → slice_get slots (get_or path turn 0) ≡ Some (inner_content entries) → get_or indices turn 0 + 1 < length entries) where
       has : (entries : List (K × ℕ)) → slice_get slots (get_or path turn 0) ≡ Some (inner_content entries) → IsTrue true ↔ (get_or indices turn 0 + 1 < length entries)
       has entries slot = ((λ yes. turns entries slot), λ more. refl)
 
-      pub turn-goes : {rows : List (List (LevelNode K ℕ))} {list : List (K × ℕ)} {place : ℕ} → Over slots path indices (suc level) size rows list place → ChildAt slots path (turn - 1) (get_or indices turn 0 + 1)
+      pub turn-goes : {rows list place : _} → Over slots path indices (suc level) size rows list place → ChildAt slots path (turn - 1) (get_or indices turn 0 + 1)
       turn-goes p =
           let o = over-up (turn - suc level - 1 + 1) (suc (turn - 1)) p (omega (arith, within)) (omega (arith, within)) in
           next_asks {up = turn} o.3 (omega (arith, within)) other height true has refl
@@ -104,21 +104,21 @@ module _ {K V : Type 0} (slots : List (Content K V)) (path indices : List ℕ) w
           }
 
   -- where each child up to the root is the first, the node is the first of its level
-  pub all-first : (steps : ℕ) {level size : ℕ} {rows : List (List (LevelNode K ℕ))} {list : List (K × ℕ)} {place : ℕ} → Over slots path indices (suc level) size rows list place → size ≡ suc level + steps → size ≤ 17 → AreFirst indices (suc level) size → place ≡ 0
+  pub all-first : (steps : ℕ) {level : ℕ} {size rows list place : _} → Over slots path indices (suc level) size rows list place → size ≡ suc level + steps → size ≤ 17 → AreFirst indices (suc level) size → place ≡ 0
   all-first zero p is height first = (only p (omega (arith, is))).0
   all-first (suc steps) {level} {size} p is height first =
       first_moves p refl (λ e. omega (arith, e, is)) height (λ rows list place o. all-first steps o (omega (arith, is)) height (λ i from to. first i (omega (arith, from)) to)) (omega (arith, first (suc level) (omega arith) (omega (arith, is))))
 
-  module _ {path1 indices1 : List ℕ} {level from size : ℕ} (t : TurnedBack slots path indices path1 indices1 level from size) (low : level < from) (r : ℕ) (wide : 17 ≤ length path1) where
+  module _ {path1 indices1 level from size : _} (t : TurnedBack slots path indices path1 indices1 level from size) (low : level < from) (r : ℕ) (wide : 17 ≤ length path1) where
     -- a level lower: the node meets what reading its last index requires
-    pub last-held : {rows : List (List (LevelNode K ℕ))} {list : List (K × ℕ)} {place : ℕ} → Over slots path indices (suc level) size rows list place → (x : Content K V) × (slice_get slots (get_or path1 from r) ≡ Some x) × (1 ≤ entry_count x)
+    pub last-held : {rows list place : _} → Over slots path indices (suc level) size rows list place → (x : Content K V) × (slice_get slots (get_or path1 from r) ≡ Some x) × (1 ≤ entry_count x)
     last-held p =
         let o = over-up (from - suc level) (suc (from - 1)) p (omega (arith, low)) (omega (arith, low, t.within)) in
         back_asks {up = from} o.3 (omega (arith, low)) (λ e. omega (arith, e, t.within)) t.height t.moved r wide
 
     module _ {last : ℕ} (says : (x : Content K V) → slice_get slots (get_or path1 from r) ≡ Some x → last ≡ entry_count x - 1) where
       -- the node meets what going to its last child requires
-      pub last-goes : {rows : List (List (LevelNode K ℕ))} {list : List (K × ℕ)} {place : ℕ} → Over slots path indices (suc level) size rows list place → last ≤ 255 → ChildAt slots path1 (from - 1) last
+      pub last-goes : {rows list place : _} → Over slots path indices (suc level) size rows list place → last ≤ 255 → ChildAt slots path1 (from - 1) last
       last-goes p =
           let o = over-up (from - suc level) (suc (from - 1)) p (omega (arith, low)) (omega (arith, low, t.within)) in
           last_child_asks {up = from} o.3 (omega (arith, low)) (λ e. omega (arith, e, t.within)) t.height t.moved r wide says
@@ -136,11 +136,11 @@ module _ {K V : Type 0} (slots : List (Content K V)) (path indices : List ℕ) w
   -- the turn, where the path goes to the previous child
   module _ {level turn size : ℕ} (height : size ≤ 17) (within : (level + 1 ≤ turn) × (turn ≤ size)) (first : AreFirst indices (level + 1) turn) where
     -- where no level has a child before, the node is the first
-    pub far-first : turn ≡ size → {rows : List (List (LevelNode K ℕ))} {list : List (K × ℕ)} {place : ℕ} → Over slots path indices (suc level) size rows list place → place ≡ 0
+    pub far-first : turn ≡ size → {rows list place : _} → Over slots path indices (suc level) size rows list place → place ≡ 0
     far-first end p = all-first (size - suc level) p (omega (arith, end, within)) height (λ i above below. first i (omega (arith, above)) (omega (arith, below, end)))
 
     module _ (other : turn ≢ size) (turns : 0 < get_or indices turn 0) where
-      pub before-goes : {rows : List (List (LevelNode K ℕ))} {list : List (K × ℕ)} {place : ℕ} → Over slots path indices (suc level) size rows list place → ChildAt slots path (turn - 1) (get_or indices turn 0 - 1)
+      pub before-goes : {rows list place : _} → Over slots path indices (suc level) size rows list place → ChildAt slots path (turn - 1) (get_or indices turn 0 - 1)
       before-goes p =
           let o = over-up (turn - suc level) (suc (turn - 1)) p (omega (arith, within)) (omega (arith, within)) in
           before_asks {up = turn} o.3 (omega (arith, within)) other height turns

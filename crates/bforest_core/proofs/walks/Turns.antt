@@ -17,7 +17,7 @@ module _ {K V : Type 0} where
   abbrev pub Reads : List (Content K V) → List ℕ → List ℕ → ℕ → ℕ → Type 0
   Reads slots path path' level index = (entries : List (K × ℕ)) → slice_get slots (get_or path (suc level) 0) ≡ Some (inner_content entries) → slice_get (entry_items entries) index ≡ Some (get_or path' level 0)
 
-  module _ {slots : List (Content K V)} {path indices : List ℕ} {level up size : ℕ} {rows : List (List (LevelNode K ℕ))} {list : List (K × ℕ)} {place : ℕ} (p : Over slots path indices (suc level) size rows list place) (up_is : up ≡ suc level) (other : up ≢ size) (height : size ≤ 17) where
+  module _ {slots : List (Content K V)} {path indices : _} {level up : ℕ} {size rows list place : _} (p : Over slots path indices (suc level) size rows list place) (up_is : up ≡ suc level) (other : up ≢ size) (height : size ≤ 17) where
     here : Spot slots path indices up size rows list place
     here = spot slots path indices up size rows list place (subst (λ (z : ℕ). Over slots path indices z size rows list place) (sym up_is) p) other
 
@@ -33,7 +33,7 @@ module _ {K V : Type 0} where
     index_low = omega (arith, here.within, here.most_is)
 
     -- the path goes to a child of the node on which it is after the step above
-    module _ {path1 indices1 : List ℕ} {q : ℕ} (w : Within inner_content slots 8 path1 indices1 up here.row here.rest q) where
+    module _ {path1 indices1 q : _} (w : Within inner_content slots 8 path1 indices1 up here.row here.rest q) where
       slot_below : slice_get slots (get_or path1 (suc level) 0) ≡ Some (inner_content w.entries)
       slot_below = ap (λ z. slice_get slots (get_or path1 z 0)) (sym up_is) ∙ w.slot_is
 
@@ -67,7 +67,7 @@ module _ {K V : Type 0} where
         (omega (arith, some, here.place_is), child_moves stay (λ i low. refl) (λ i low. refl) path' indices' (get_or indices up 0 - 1) (place - 1) (omega (arith, here.within)) (omega (arith, some, here.place_is)) child nodes entry entries)
 
     -- the first child of the first node is the first of the level
-    pub first_moves : ((rows : List (List (LevelNode K ℕ))) (list : List (K × ℕ)) (place : ℕ) → Over slots path indices (suc up) size rows list place → place ≡ 0) → get_or indices up 0 ≤ 0 → place ≡ 0
+    pub first_moves : ((rows list place : _) → Over slots path indices (suc up) size rows list place → place ≡ 0) → get_or indices up 0 ≤ 0 → place ≡ 0
     first_moves first none = omega (arith, here.place_is, none, none_flat here.before (first here.rest (heads here.row) (length here.before) here.over))
 
     module _ {path1 indices1 : List ℕ} (backs : (rows : List (List (LevelNode K ℕ))) (list : List (K × ℕ)) (place : ℕ) → Over slots path indices (suc up) size rows list place → (0 < place) × Moved path indices path1 indices1 up rows list (place - 1)) (r : ℕ) (wide : 17 ≤ length path1) where
@@ -110,7 +110,7 @@ module _ {K V : Type 0} where
       past_all is = not_less (get_or indices up 0 + 1) (length here.entries) (λ low. false≢true (sym is ∙ (test here.entries here.slot_is).1 low))
 
       -- the last child of the last node is the last of the level
-      pub last_moves : ((rows : List (List (LevelNode K ℕ))) (list : List (K × ℕ)) (place : ℕ) → Over slots path indices (suc up) size rows list place → suc place ≡ length list) → has ≡ false → suc place ≡ length list
+      pub last_moves : ((rows list place : _) → Over slots path indices (suc up) size rows list place → suc place ≡ length list) → has ≡ false → suc place ≡ length list
       last_moves last is = omega (arith, here.place_is, here.within, past_all is, ap length here.flat_is, none_behind inner_content slots 8 stay 4 (omega arith) here.fit (last here.rest (heads here.row) (length here.before) here.over))
 
     module _ {path1 indices1 : List ℕ} (goes : (rows : List (List (LevelNode K ℕ))) (list : List (K × ℕ)) (place : ℕ) → Over slots path indices (suc up) size rows list place → Moved path indices path1 indices1 up rows list (suc place)) where

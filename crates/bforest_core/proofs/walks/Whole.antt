@@ -28,12 +28,11 @@ pub all_through : {K : Type 0} (cmp : K → K → Ordering) (first key : K) → 
 all_through cmp first key = record { from = tt; upto = tt }
 
 -- a path that points to an entry of its leaf stands on it
-pub stands-pointed : {K V : Type 0} {path indices : List ℕ} {size place : ℕ} {tree : Tree K V} (p : PointsAt path indices size tree place) → get_or indices 0 0 < length p.entries → Stands path indices size tree place
+pub stands-pointed : {K V : Type 0} {path indices size place : _} {tree : Tree K V} (p : PointsAt path indices size tree place) → get_or indices 0 0 < length p.entries → Stands path indices size tree place
 stands-pointed p low = record { leaf = record { before = p.before; entries = p.entries; after = p.after; row_is = p.leaves_are; within = low; place_is = p.place_is }; above = p.above; size_is = p.size_is }
 
 -- where a search ended: at the key's entry where the key is present, else where it may be inserted
-module _ {K V : Type 0} {cmp : K → K → Ordering} (slots : List (Content K V)) (root : ℕ) (is : IsTrue (is_root slots root)) {key : K} {path indices path' indices' : List ℕ} {size : ℕ}
-    (d : Descended cmp (tree_of slots root).leaves (tree_of slots root).above key 0 path indices path' indices') (size_is : size ≡ suc (length (tree_of slots root).above)) where
+module _ {K V : Type 0} {cmp : K → K → Ordering} (slots : List (Content K V)) (root : ℕ) (is : IsTrue (is_root slots root)) {key path indices path' indices' : _} {size : ℕ} (d : Descended cmp (tree_of slots root).leaves (tree_of slots root).above key 0 path indices path' indices') (size_is : size ≡ suc (length (tree_of slots root).above)) where
   abbrev points : PointsAt path' indices' size (tree_of slots root) (place cmp (flat (tree_of slots root).leaves) key)
   points = record { before = d.leaf.before; entries = d.leaf.entries; after = d.leaf.after; leaves_are = d.leaf.row_is; within = d.leaf.within; place_is = d.leaf.place_is; above = stands_above path' indices' 1 (tree_of slots root).above (length d.leaf.before) d.stands; size_is = size_is }
 
