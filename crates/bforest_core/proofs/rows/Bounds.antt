@@ -97,6 +97,6 @@ climb-seventeen p hs (row ∷ rows) s t few low =
       | inl lt ↦ omega (arith, lt)
       | inr ge ↦ (let fifteen : length rows ≡ 15 = omega (arith, ge, most, len, low) in
           let e : length (gain_above (Some p) (map sizes (row ∷ rows))) ≡ suc (suc (length rows)) = omega (arith, ge, most, len, low) in
-          let r = subst (λ (z : ℕ). 7 * 4 ^ z < length hs) fifteen (risen p hs row rows s t e) in
+          let r = subst (λ z. 7 * 4 ^ z < length hs) fifteen (risen p hs row rows s t e) in
           absurd (omega (arith, r, few)))
     ]

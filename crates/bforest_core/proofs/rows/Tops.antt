@@ -44,7 +44,7 @@ module _ {K V : Type 0} where
   -- the root of a tree is the top of a path that points to a place in it
   pub root-points : (most : ℕ) (tree : Tree K V) (ms js size place : _) → 1 ≤ most → IsFit most tree → PointsAt ms js size tree place → root_of tree ≡ top_of ms size
   root-points most tree ms js size place one fit at =
-      let f = FitRow-split (half_of most) most at.before (node (get_or ms 0 0) at.entries) at.after (subst (λ (z : List (LevelNode K V)). FitRow (half_of most) most z) at.leaves_are fit.leaves_fit) in
+      let f = FitRow-split (half_of most) most at.before (node (get_or ms 0 0) at.entries) at.after (subst (λ z. FitRow (half_of most) most z) at.leaves_are fit.leaves_fit) in
       top_tree tree.leaves tree.above ms js size (length at.before) at.before at.entries at.after at.leaves_are (omega (arith, f.1.0, least-pos (half_of most) (omega (arith, one)) at.after)) fit.stacked at.above at.size_is
 
   -- two paths through the same rows have the same top

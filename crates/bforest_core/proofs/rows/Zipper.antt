@@ -76,7 +76,7 @@ module _ {K V : Type 0} where
       let whole : a ++ x ∷ b ≡ (flat at.before ++ c.l) ++ c.x ∷ (c.r ++ flat at.after) =
       sym p.stacked.0 ∙ ap flat at.row_is ∙ ap (λ z. flat (at.before ++ node n z ∷ at.after)) c.es_is ∙ simp (flat-append, append_assoc) in
       let same = cut_same a (flat at.before ++ c.l) x c.x b (c.r ++ flat at.after) whole (omega (arith, length-append (flat at.before) c.l, at.place_is, c.place_is)) in
-      let full = Solid-full 4 8 (omega arith) at.before (FitRow-split 4 8 at.before (node n at.entries) at.after (subst (λ (z : List (LevelNode K ℕ)). FitRow 4 8 z) at.row_is p.stacked.1)).0 in
+      let full = Solid-full 4 8 (omega arith) at.before (FitRow-split 4 8 at.before (node n at.entries) at.after (subst (λ z. FitRow 4 8 z) at.row_is p.stacked.1)).0 in
       record {
         before = at.before;
         l = c.l;

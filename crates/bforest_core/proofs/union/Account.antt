@@ -37,7 +37,7 @@ count-kept : (p : ℕ → Bool) (m : ℕ) (xs : List ℕ) → count m (kept p xs
 count-kept p m [] = elim (p m) as (λ (b : Bool). ◌≡◌ {A = ℕ} 0 (if b then 0 else 0)) [ true ↦ refl | false ↦ refl ]
 count-kept p m (x ∷ xs) =
     elim (eqb_tells x m) [
-      | inl w ↦ subst (λ (z : ℕ). count m (kept p (z ∷ xs)) ≡ (if p m then count m (z ∷ xs) else 0)) (sym w.1) (here (p m) refl (count-kept p m xs))
+      | inl w ↦ subst (λ z. count m (kept p (z ∷ xs)) ≡ (if p m then count m (z ∷ xs) else 0)) (sym w.1) (here (p m) refl (count-kept p m xs))
       | inr w ↦ there (p x) refl w.1 (count-kept p m xs)
     ]
   where
@@ -62,8 +62,8 @@ module _ {K V : Type 0} where
   trees-sum : {most : ℕ} {table : Table K V} (before trees : List (Tree K V)) → IsForest most table (before ++ trees) → length (flat_map numbers_of trees) ≡ sum_by (λ n. nodes_under table.nodes n) (map root_of trees)
   trees-sum before [] f = refl
   trees-sum {most = most} {table = table} before (tree ∷ trees) f =
-      let ih = trees-sum (before ++ tree ∷ []) trees (subst (λ (z : List (Tree K V)). IsForest most table z) (sym (append_assoc before (tree ∷ []) trees)) f) in
-      let back = ap (λ (z : Tree K V). length (numbers_of z)) (tree-back before tree trees (root_of tree) f refl refl).0 in
+      let ih = trees-sum (before ++ tree ∷ []) trees (subst (λ z. IsForest most table z) (sym (append_assoc before (tree ∷ []) trees)) f) in
+      let back = ap (λ z. length (numbers_of z)) (tree-back before tree trees (root_of tree) f refl refl).0 in
       omega (arith, ih, back, length-append (numbers_of tree) (flat_map numbers_of trees), sum_by-cons (λ n. nodes_under table.nodes n) (root_of tree) (map root_of trees))
 
   -- the roots are the numbers of slots that pass the test

@@ -59,10 +59,10 @@ module _ {K V : Type 0} where
       ((m : ℕ) → count m come + count m freed ≡ count m gone + count m taken) → ((m : ℕ) → count m gone + count m taken ≡ 0 → slice_get new.nodes m ≡ slice_get old.nodes m) → Traded old new gone come
   traded old new gone come taken freed rest free apart old_is new_is freed_are slots nums others =
       let c = λ (m : ℕ). ap (λ z. count m z) old_is ∙ count-append m taken rest in
-      let left = (every-append (λ (number : ℕ). IsFree (slot old.nodes number)) taken rest (subst (λ (z : List ℕ). Every (λ (number : ℕ). IsFree (slot old.nodes number)) z) old_is free)).1 in
+      let left = (every-append (λ (number : ℕ). IsFree (slot old.nodes number)) taken rest (subst (λ z. Every (λ (number : ℕ). IsFree (slot old.nodes number)) z) old_is free)).1 in
       let still = free-same old.nodes new.nodes rest (λ m here. others m (omega (arith, here, c m, apart m, count-append m gone old.chain))) left in
       record {
-        free = subst (λ (z : List ℕ). Every (λ (number : ℕ). IsFree (slot new.nodes number)) z) (sym new_is) (every-join (λ (number : ℕ). IsFree (slot new.nodes number)) freed rest freed_are still);
+        free = subst (λ z. Every (λ (number : ℕ). IsFree (slot new.nodes number)) z) (sym new_is) (every-join (λ (number : ℕ). IsFree (slot new.nodes number)) freed rest freed_are still);
         slots_are = slots;
         nums = λ m. omega (arith, nums m, c m, ap (λ z. count m z) new_is, count-append m freed rest);
         others = λ m none. others m (omega (arith, none, c m));

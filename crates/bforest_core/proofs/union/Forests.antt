@@ -119,7 +119,7 @@ module _ {K V : Type 0} where
       (tree_of table.nodes root ≡ tree) × IsTrue (is_root table.nodes root)
   unfolding is_root
   tree-back {most = most} {table = table} before tree after root given split is =
-      let f = subst (λ (z : List (Tree K V)). IsForest most table z) split given in
+      let f = subst (λ z. IsForest most table z) split given in
       let fit = (every-append (IsFit most) before (tree ∷ after) f.fit).1.0 in
       let inside = (every-append (IsIn table.nodes) before (tree ∷ after) f.inside).1.0 in
       let some = (every-append (λ (tree : Tree K V). 1 ≤ length (flat tree.leaves)) before (tree ∷ after) f.some).1.0 in
@@ -128,7 +128,7 @@ module _ {K V : Type 0} where
       let here = ap (λ z. count m z) (map-append root_of before (tree ∷ after)) ∙ count-append m (map root_of before) (m ∷ map root_of after) in
       let none : count m (flat_map children_of table.nodes) ≡ 0 = omega (arith, here, count-same m (map root_of after), named_all f m, once f m) in
       let used = root_used most (omega (arith, f.capacity.least)) table.nodes tree (record { fit = fit; inside = inside; root_is = refl; some = some; low = low }) in
-      subst (λ (z : ℕ). (tree_of table.nodes z ≡ tree) × IsTrue (is_root table.nodes z)) is (read-back most tree fit inside some low, rw (used, none) refl)
+      subst (λ z. (tree_of table.nodes z ≡ tree) × IsTrue (is_root table.nodes z)) is (read-back most tree fit inside some low, rw (used, none) refl)
 
   -- a number is a root exactly if it is the root of one of the trees
   pub root-counts : {most : _} {table : Table K V} {trees : _} → IsForest most table trees → (m : ℕ) → IsTrue (is_root table.nodes m) ↔ (0 < count m (map root_of trees))

@@ -40,7 +40,7 @@ module _ {K V : Type 0} where
         low = omega arith;
       } in
       let moved = traded mid new [] (numbers_of tree) (number ∷ []) [] new.chain u.1.free (λ m. omega (arith, once u.1 m)) t.chain_is refl tt t.slots_are (λ m. omega arith) (λ m none. t.same m (absent_ne m number [] (omega (arith, none)))) in
-      let g = exchange-trees [] [] (tree ∷ []) u.0 u.1 (p, tt) (subst (λ (z : List ℕ). Traded mid new [] z) (one_tree tree) moved) in
+      let g = exchange-trees [] [] (tree ∷ []) u.0 u.1 (p, tt) (subst (λ z. Traded mid new [] z) (one_tree tree) moved) in
       let back = tree-back [] tree u.0 number g refl refl in
       let made = length-fresh_nodes K V (slot_count old) (1 - free_count old) (front_of old.chain) in
       let slots = length-append old.nodes (fresh_nodes {K = K} {V = V} (slot_count old) (1 - free_count old) (front_of old.chain)) in
@@ -50,8 +50,8 @@ module _ {K V : Type 0} where
         changes = record {
           union = (tree ∷ u.0, g);
           root_is = back.1;
-          list_is = ap (λ (z : Tree K V). flat z.leaves) back.0;
-          sizes_are = ap (λ (z : Tree K V). sizes_of z) back.0;
+          list_is = ap (λ z. flat z.leaves) back.0;
+          sizes_are = ap (λ z. sizes_of z) back.0;
           others = reserved-then most old 1 new number number union (λ other ne ne'. others-keep [] [] (tree ∷ []) u.0 u.1 g other refl (not-root other number ne));
           old_gone = λ ne. absurd (ne refl);
           new_came = λ ne. absurd (ne refl);

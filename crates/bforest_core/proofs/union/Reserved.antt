@@ -90,13 +90,13 @@ module _ {K V : Type 0} where
   -- an equal table, or one with reserved nodes, is a union of trees and keeps them
   pub same-keeps : {most : ℕ} {old : Table K V} (new : Table K V) → new ≡ old → IsUnion most old → IsUnion most new × KeepsTrees old.nodes new.nodes
   same-keeps {most = most} {old = old} new is union =
-      subst (λ (z : Table K V). IsUnion most z × KeepsTrees old.nodes z.nodes) (sym is) (union, λ n. (refl, λ there. refl))
+      subst (λ z. IsUnion most z × KeepsTrees old.nodes z.nodes) (sym is) (union, λ n. (refl, λ there. refl))
 
   pub reserved-keeps : (most : ℕ) {old : Table K V} (new : Table K V) (n : ℕ) → new ≡ reserved old n → IsUnion most old → IsUnion most new × KeepsTrees old.nodes new.nodes
   reserved-keeps most {old = old} new n is union =
-      subst (λ (z : Table K V). IsUnion most z × KeepsTrees old.nodes z.nodes) (sym is) (reserved-union most old n union, reserved-roots most old n union)
+      subst (λ z. IsUnion most z × KeepsTrees old.nodes z.nodes) (sym is) (reserved-union most old n union, reserved-roots most old n union)
 
   -- at least `n` nodes are free after a reservation of `n`
   pub reserved-frees : (old : Table K V) {new : Table K V} (n : ℕ) → new ≡ reserved old n → n ≤ free_count new
   reserved-frees old n is =
-      omega (arith, ap (λ (z : Table K V). length z.chain) is, length-append (down_from (slot_count old) (n - free_count old)) old.chain, length-down_from (slot_count old) (n - free_count old))
+      omega (arith, ap (λ z. length z.chain) is, length-append (down_from (slot_count old) (n - free_count old)) old.chain, length-down_from (slot_count old) (n - free_count old))

@@ -32,10 +32,10 @@ module _ {K V : Type 0} where
   exchanged_by {most = most} old new root {tree' = tree'} union is p t =
       let r = rooted most old root union is in
       let tree = tree_of old.nodes root in
-      let one = subst (λ (z : List ℕ). Traded old new z (flat_map numbers_of (tree' ∷ []))) (one_tree tree) (subst (λ (z : List ℕ). Traded old new (numbers_of tree) z) (one_tree tree') t) in
+      let one = subst (λ z. Traded old new z (flat_map numbers_of (tree' ∷ []))) (one_tree tree) (subst (λ z. Traded old new (numbers_of tree) z) (one_tree tree') t) in
       let g = exchange-trees r.before (tree ∷ []) (tree' ∷ []) r.after r.forest (p, tt) one in
       let back = tree-back r.before tree' r.after (root_of tree') g refl refl in
-      subst (λ (z : ℕ). Exchanged most old new z tree') r.root_is (record {
+      subst (λ z. Exchanged most old new z tree') r.root_is (record {
         union = (r.before ++ tree' ∷ r.after, g);
         root_is = back.1;
         tree_is = back.0;
@@ -64,10 +64,10 @@ module _ {K V : Type 0} where
 
   -- a replaced tree as a change of the table
   pub exchanged-changes : {most : ℕ} {old new : Table K V} {root root' : ℕ} {tree' : Tree K V} → Exchanged most old new root tree' → root_of tree' ≡ root' → new.limit ≡ old.limit → Changes most old new root root' (flat tree'.leaves) (sizes_of tree')
-  exchanged-changes {most} {old} {new} {root} {root'} {tree'} e is limit_is = subst (λ (z : ℕ). Changes most old new root z (flat tree'.leaves) (sizes_of tree')) is (record {
+  exchanged-changes {most} {old} {new} {root} {root'} {tree'} e is limit_is = subst (λ z. Changes most old new root z (flat tree'.leaves) (sizes_of tree')) is (record {
     union = e.union;
     root_is = e.root_is;
-    list_is = ap (λ (z : Tree K V). flat z.leaves) e.tree_is;
+    list_is = ap (λ z. flat z.leaves) e.tree_is;
     sizes_are = ap sizes_of e.tree_is;
     others = e.others;
     old_gone = e.old_gone;
@@ -82,8 +82,8 @@ module _ {K V : Type 0} where
       let r = rooted most old root union is in
       let tree = tree_of old.nodes root in
       let t = traded old new (numbers_of tree) [] [] freed old.chain union.1.free r.apart refl frees.chain_is frees.freed_are frees.slots_are (λ m. omega (arith, nums m)) (λ m none. frees.others m (omega (arith, none))) in
-      let g = exchange-trees r.before (tree ∷ []) [] r.after r.forest tt (subst (λ (z : List ℕ). Traded old new z []) (one_tree tree) t) in (
+      let g = exchange-trees r.before (tree ∷ []) [] r.after r.forest tt (subst (λ z. Traded old new z []) (one_tree tree) t) in (
         (r.before ++ r.after, g),
-        subst (λ (z : ℕ). ¬ IsTrue (is_root new.nodes z)) r.root_is (roots-gone r.before (tree ∷ []) [] r.after r.forest g (root_of tree) (one_root (root_of tree)) refl),
-        subst (λ (z : ℕ). OthersKeep old.nodes new.nodes z z) r.root_is (λ other ne ne'. others-keep r.before (tree ∷ []) [] r.after r.forest g other (not-root other (root_of tree) ne) refl),
+        subst (λ z. ¬ IsTrue (is_root new.nodes z)) r.root_is (roots-gone r.before (tree ∷ []) [] r.after r.forest g (root_of tree) (one_root (root_of tree)) refl),
+        subst (λ z. OthersKeep old.nodes new.nodes z z) r.root_is (λ other ne ne'. others-keep r.before (tree ∷ []) [] r.after r.forest g other (not-root other (root_of tree) ne) refl),
       )

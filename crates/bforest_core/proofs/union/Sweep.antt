@@ -85,7 +85,7 @@ module _ {K V : Type 0} where
     pub sweep-turn : (now : Table K V) (index : ℕ) (x : K × ℕ) → Distinct (numbers_under leaves rows ++ old.chain) → Swept most old now leaves rows top index → slice_get top index ≡ Some x → Turn now index x
     sweep-turn now index x apart s found =
         let todo : drop index top ≡ x ∷ drop (suc index) top = drop-read top index x found in
-        let cut = under-cut most old.nodes one (x ∷ []) (drop (suc index) top) (subst (λ (z : List (K × ℕ)). Under most old.nodes s.left_leaves s.left_rows z) todo s.under) in
+        let cut = under-cut most old.nodes one (x ∷ []) (drop (suc index) top) (subst (λ z. Under most old.nodes s.left_leaves s.left_rows z) todo s.under) in
         record {
           swept = s;
           found = found;
@@ -125,7 +125,7 @@ module _ {K V : Type 0} where
               ∙ ap (λ z. numbers_down old.nodes z x.1 ++ t.swept.given) (t.cut.left_height ∙ t.swept.height)
               ∙ ap (λ z. numbers_down old.nodes (length rows) x.1 ++ z) t.swept.order
               ∙ sym (ap (λ z. flat_map (numbers_down old.nodes (length rows)) (reverse z))
-              (last_taken (entry_items top) index x.1 (items-read top index ∙ ap (λ z. option_map (λ (e : K × ℕ). e.1) z) t.found))
+              (last_taken (entry_items top) index x.1 (items-read top index ∙ ap (λ z. option_map (λ e. e.1) z) t.found))
               ∙ ap (flat_map (numbers_down old.nodes (length rows))) (reverse-append (take index (entry_items top)) (x.1 ∷ [])));
           counted = λ m. omega (arith, count-append m (numbers_down now.nodes (length t.cut.lower_left) x.1) t.swept.given, n m, g.counted m, t.swept.counted m);
           split = λ m. omega (arith, n m, t.swept.split m, t.cut.counted m);
@@ -135,9 +135,9 @@ module _ {K V : Type 0} where
     pub sweep-last : {now : Table K V} {index : ℕ} → length top ≤ index → Swept most old now leaves rows top index → GivesAll old now (numbers_under leaves rows) (flat_map (numbers_down old.nodes (length rows)) (reverse (entry_items top)))
     sweep-last {now = now} {index = index} past s =
         let none : drop index top ≡ [] = drop_all index top past in
-        let left = under_none most one (subst (λ (z : List (K × ℕ)). Under most old.nodes s.left_leaves s.left_rows z) none s.under) in
+        let left = under_none most one (subst (λ z. Under most old.nodes s.left_leaves s.left_rows z) none s.under) in
         let whole = s.order ∙ ap (λ z. flat_map (numbers_down old.nodes (length rows)) (reverse z)) (take_all index (entry_items top) (omega (arith, past, length-map top (λ (e : K × ℕ). e.1)))) in
-        subst (λ (z : List ℕ). GivesAll old now (numbers_under leaves rows) z) whole (record {
+        subst (λ z. GivesAll old now (numbers_under leaves rows) z) whole (record {
           frees = frees-wider old now s.own (numbers_under leaves rows) s.given (λ m zero. omega (arith, zero, s.split m)) s.frees;
           counted = λ m. omega (arith, s.counted m, s.split m, left m);
         })
@@ -251,7 +251,7 @@ module _ {K V : Type 0} where
       let below = flat_map (numbers_down old.nodes (length s.opened.rows)) (reverse (entry_items s.opened.top)) in
       let apart : (m : ℕ) → 0 < count m below → count m (number ∷ []) ≡ 0 =
       λ m some. elim (cases_lt 0 (count m (number ∷ []))) [ inl here ↦ absurd (omega (arith, some, all.counted m, only_here m number own here s.alone)) | inr past ↦ omega (arith, past) ] in
-      subst (λ (z : List ℕ). GivesAll old (with_freed now number) (numbers_under leaves lower) z) (sym s.opened.down) (record {
+      subst (λ z. GivesAll old (with_freed now number) (numbers_under leaves lower) z) (sym s.opened.down) (record {
         frees = frees-then old now (with_freed now number) (numbers_under leaves lower) (number ∷ []) below (number ∷ [])
             (λ m zero. omega (arith, zero, s.opened.counted m)) apart
             (frees-wider old now own (numbers_under leaves lower) below (λ m zero. omega (arith, zero, s.opened.counted m)) all.frees)

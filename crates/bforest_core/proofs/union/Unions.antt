@@ -43,8 +43,8 @@ module _ {K V : Type 0} where
   pub rooted : (most : ℕ) (table : Table K V) (root : ℕ) → IsUnion most table → IsTrue (is_root table.nodes root) → Rooted most table root (tree_of table.nodes root)
   rooted most table root union root_there =
       let r = tree-with union.0 root ((root-counts union.1 root).0 root_there) in
-      let s = rooted_at most table root r.0 r.1 r.2 r.4 (subst (λ (z : List (Tree K V)). IsForest most table z) r.3 union.1) in
-      subst (λ (z : Tree K V). Rooted most table root z) (sym s.tree_is) s
+      let s = rooted_at most table root r.0 r.1 r.2 r.4 (subst (λ z. IsForest most table z) r.3 union.1) in
+      subst (λ z. Rooted most table root z) (sym s.tree_is) s
 
   -- the tree computed from a root is in the slots
   pub is-rooted : {most : ℕ} {table : Table K V} (root : ℕ) → IsUnion most table → IsTrue (is_root table.nodes root) → IsRooted most table.nodes root (tree_of table.nodes root)

@@ -159,7 +159,7 @@ module _ {K V : Type 0} {slots : List (Content K V)} {root code depth numbers ro
       ((keys : List K) (children : List ℕ) → slice_get slots number ≡ Some (Inner keys children) → slice_get children index ≡ Some child) → NumberAt list to child
   child-is {number} w index {child = child} to low to_is reads =
       let e = read w.entries index low in
-      let item : slice_get (entry_items w.entries) index ≡ Some e.0.1 = items-read w.entries index ∙ ap (λ z. option_map (λ (x : K × ℕ). x.1) z) e.1 in
+      let item : slice_get (entry_items w.entries) index ≡ Some e.0.1 = items-read w.entries index ∙ ap (λ z. option_map (λ x. x.1) z) e.1 in
       let same : e.0.1 ≡ child = some_same e.0.1 child (sym item ∙ reads (drop 1 (entry_keys w.entries)) (entry_items w.entries) w.slot_is) in
       (e.0.0, ap (λ z. slice_get z to) (sym here.flat_is) ∙ ap (λ z. slice_get (flat here.row) z) to_is ∙ entry_at w.before number w.entries w.after index w.row_is e.1 ∙ ap (λ z. Some (e.0.0, z)) same)
 

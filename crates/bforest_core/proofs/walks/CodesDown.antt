@@ -28,7 +28,7 @@ module _ {K V : Type 0} {most : _} {slots : List (Content K V)} (capacity : IsLe
 
     way-here : {upper numbers : _} {spot : Spot} {place : ℕ} → IsWay numbers spot upper (length a) → length a ≡ place → (others : List ℕ) × IsWay others spot (lower ++ upper) place × NumberAt (heads leaves) place number
     way-here {upper = upper} {numbers = numbers} {spot = spot} {place = place} w is =
-        (numbers, subst (λ (z : List (List (LevelNode K ℕ))). IsWay numbers spot (z ++ upper) place) (sym ended.lower_is) (subst (IsWay numbers spot upper) is w), subst (λ z. NumberAt (heads leaves) z number) is (number-here lower a first number b u ended.lower_is))
+        (numbers, subst (λ z. IsWay numbers spot (z ++ upper) place) (sym ended.lower_is) (subst (IsWay numbers spot upper) is w), subst (λ z. NumberAt (heads leaves) z number) is (number-here lower a first number b u ended.lower_is))
 
     ends : b ≡ [] → length a ≡ length leaves - 1
     ends none =
@@ -43,7 +43,7 @@ module _ {K V : Type 0} {most : _} {slots : List (Content K V)} (capacity : IsLe
 
     room : suc (length below.at.es) ≤ 8
     room =
-        let fit = (stacked_last (heads leaves) below.rows below.row (a ++ (first, number) ∷ b) (subst (λ (z : List (List (LevelNode K ℕ))). StackedTo (heads leaves) z (a ++ (first, number) ∷ b)) below.lower_is u.stacked)).1 in
+        let fit = (stacked_last (heads leaves) below.rows below.row (a ++ (first, number) ∷ b) (subst (λ z. StackedTo (heads leaves) z (a ++ (first, number) ∷ b)) below.lower_is u.stacked)).1 in
         let f = (FitRow-split 4 8 below.at.before (node number (below.at.e ∷ below.at.es)) below.at.after (subst (FitRow 4 8) below.at.row_is fit)).1 in
         omega (arith, f.1)
 
@@ -190,7 +190,7 @@ way-root spot code height = record { coded = (code, refl); parent_is = λ low. a
 -- the way from the root down, at its end
 pub way-spot : {K V : Type 0} (table : Table K V) (root : ℕ) {spot : Spot} {place numbers : _} → IsTrue (is_root table.nodes root) → IsWay numbers spot ((tree_of table.nodes root).above ++ []) place → IsSpotAt table root spot place
 way-spot {K} table root {spot = spot} {place = place} {numbers = numbers} is w =
-    let v = subst (λ (z : List (List (LevelNode K ℕ))). IsWay numbers spot z place) (append-nil (tree_of table.nodes root).above) w in
+    let v = subst (λ z. IsWay numbers spot z place) (append-nil (tree_of table.nodes root).above) w in
     record { root_is = is; numbers = numbers; coded = v.coded; parent_is = v.parent_is; grand_is = v.grand_is; height_is = v.height_is }
 
 -- a root has entries

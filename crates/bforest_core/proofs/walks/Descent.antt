@@ -30,7 +30,7 @@ module _ {K : Type 0} (cmp : K → K → Ordering) where
   -- a node's first key is the first of its level, or not greater
   from_at : {X : Type 0} {half most : _} {row : List (LevelNode K X)} (a : _) {first number b : _} {key : K} (at : Seen half most row a first number b) → IsFrom cmp a first key → (at.before ≡ []) ⊎ (cmp at.e.0 key ≢ Greater)
   from_at [] at f = inl (nil_from_length at.before at.before_is)
-  from_at (x ∷ a) {key = key} at f = inr (subst (λ (z : K). cmp z key ≢ Greater) (sym at.first_is) f)
+  from_at (x ∷ a) {key = key} at f = inr (subst (λ z. cmp z key ≢ Greater) (sym at.first_is) f)
 
   -- the key is less than the next of two parts of a list, the first of which may be empty
   upto_parts : (r after : List (K × ℕ)) (key : K) → AllByRecursion (λ p. cmp p key ≡ Greater) (keys_of r) → IsUpTo cmp after key → IsUpTo cmp (r ++ after) key
@@ -41,10 +41,10 @@ module _ {K : Type 0} (cmp : K → K → Ordering) where
   from_last : (front init : List (K × ℕ)) (last : K × ℕ) {e : K × ℕ} (l : List (K × ℕ)) (key : K) → (front ≡ []) ⊎ (cmp e.0 key ≢ Greater) → e ∷ l ≡ init ++ last ∷ [] → AllByRecursion (λ p. cmp p key ≢ Greater) (keys_of l) → IsFrom cmp (front ++ init) last.0 key
   from_last front [] last {e = e} l key f is h =
       let same : e ≡ last = cc in
-      elim f [ inl none ↦ subst (λ (z : List (K × ℕ)). IsFrom cmp (z ++ []) last.0 key) (sym none) tt | inr ng ↦ is_from (front ++ []) last.0 key (subst (λ (z : K × ℕ). cmp z.0 key ≢ Greater) same ng) ]
+      elim f [ inl none ↦ subst (λ z. IsFrom cmp (z ++ []) last.0 key) (sym none) tt | inr ng ↦ is_from (front ++ []) last.0 key (subst (λ z. cmp z.0 key ≢ Greater) same ng) ]
   from_last front (x ∷ init) last l key f is h =
       let rest : l ≡ init ++ last ∷ [] = cc in
-      is_from (front ++ x ∷ init) last.0 key (all_split (λ p. cmp p key ≢ Greater) init (last ∷ []) (subst (λ (z : List (K × ℕ)). AllByRecursion (λ p. cmp p key ≢ Greater) (keys_of z)) rest h)).1.0
+      is_from (front ++ x ∷ init) last.0 key (all_split (λ p. cmp p key ≢ Greater) init (last ∷ []) (subst (λ z. AllByRecursion (λ p. cmp p key ≢ Greater) (keys_of z)) rest h)).1.0
 
 module _ {K V : Type 0} (cmp : K → K → Ordering) (most : ℕ) (slots : List (Content K V)) (leaves : List (LevelNode K V)) (lower : List (List (LevelNode K ℕ))) (a : List (K × ℕ)) (first : K) (number : ℕ) (b : List (K × ℕ)) (key : K) where
   -- a search in an inner node, whose row is the highest of those below
@@ -79,22 +79,22 @@ module _ {K V : Type 0} {cmp : K → K → Ordering} (o : IsTotalOrder cmp) {mos
       here = s;
       increasing = (increasing_about cmp o s.at (stacked_increasing cmp o (heads leaves) s.rows (flat s.row) s.under.stacked (heads_increasing o leaves inc))).1;
       from = from_at cmp a s.at g.from;
-      upto = upto_flat cmp 4 8 (omega arith) s.at.after key s.at.after_fit (subst (λ (z : List (K × ℕ)). IsUpTo cmp z key) (sym s.at.after_is) g.upto);
+      upto = upto_flat cmp 4 8 (omega arith) s.at.after key s.at.after_fit (subst (λ z. IsUpTo cmp z key) (sym s.at.after_is) g.upto);
     }
 
     pub leaf_step : LeafUnder most slots leaves lower a first number b → LeafStep cmp most slots leaves lower a first number b key
     leaf_step s =
         let at = s.at in
         let parts = increasing_about cmp o at inc in
-        let upto = upto_flat cmp (half_of most) most one at.after key at.after_fit (subst (λ (z : List (K × ℕ)). IsUpTo cmp z key) (sym at.after_is) g.upto) in
+        let upto = upto_flat cmp (half_of most) most one at.after key at.after_fit (subst (λ z. IsUpTo cmp z key) (sym at.after_is) g.upto) in
         let from = from_at cmp a at g.from in
         record {
           here = s;
           increasing = parts.1;
           increasing_after = parts.2;
           from = from;
-          low = elim from [ inl none ↦ subst (λ (z : List (LevelNode K V)). AllByRecursion (λ p. cmp p key ≡ Less) (keys_of (flat z))) (sym none) tt | inr ng ↦ all_less o at.e.0 key (keys_of (flat at.before)) (all_before o (flat at.before) at.e (at.es ++ flat at.after) parts.0) ng ];
-          high = all_greater o (flat at.after) key parts.2 (λ y c is. subst (λ (z : List (K × V)). IsUpTo cmp z key) is upto);
+          low = elim from [ inl none ↦ subst (λ z. AllByRecursion (λ p. cmp p key ≡ Less) (keys_of (flat z))) (sym none) tt | inr ng ↦ all_less o at.e.0 key (keys_of (flat at.before)) (all_before o (flat at.before) at.e (at.es ++ flat at.after) parts.0) ng ];
+          high = all_greater o (flat at.after) key parts.2 (λ y c is. subst (λ z. IsUpTo cmp z key) is upto);
         }
 
   -- the search one level down: at the child of this index, with everything below it
@@ -126,12 +126,12 @@ module _ {K V : Type 0} {cmp : K → K → Ordering} (o : IsTotalOrder cmp) {mos
         let es_is : at.e ∷ at.es ≡ w.init ++ w.last ∷ d.r = ap (λ z. at.e ∷ z) d.es_is ∙ ap (λ z. z ++ d.r) w.is ∙ append_assoc w.init (w.last ∷ []) d.r in
         let count_is : length w.init ≡ index = omega (arith, ap length w.is, length-append w.init (w.last ∷ []), d.i_is, index_is) in
         let here : slice_get (at.e ∷ at.es) index ≡ Some w.last = ap (λ z. slice_get z index) es_is ∙ slice_get_at w.init w.last d.r index count_is in
-        let child_is : child ≡ w.last.1 = some_same child w.last.1 (sym child_at ∙ items-read (at.e ∷ at.es) index ∙ ap (λ z. option_map (λ (e : K × ℕ). e.1) z) here) in
+        let child_is : child ≡ w.last.1 = some_same child w.last.1 (sym child_at ∙ items-read (at.e ∷ at.es) index ∙ ap (λ z. option_map (λ e. e.1) z) here) in
         record {
           front = flat at.before ++ w.init;
           head = w.last.0;
           back = d.r ++ flat at.after;
-          under = subst (λ (z : List (K × ℕ)). Under most slots leaves s.here.rows z) (ap flat at.row_is ∙ flat_parted at.before number w.init w.last d.r at.after es_is ∙ ap (λ z. (flat at.before ++ w.init) ++ (w.last.0, z) ∷ (d.r ++ flat at.after)) (sym child_is)) s.here.under;
+          under = subst (λ z. Under most slots leaves s.here.rows z) (ap flat at.row_is ∙ flat_parted at.before number w.init w.last d.r at.after es_is ∙ ap (λ z. (flat at.before ++ w.init) ++ (w.last.0, z) ∷ (d.r ++ flat at.after)) (sym child_is)) s.here.under;
           through = record {
             from = from_last cmp (flat at.before) w.init w.last d.l key (elim s.from [ inl none ↦ inl (ap flat none) | inr ng ↦ inr ng ]) w.is d.low;
             upto = upto_parts cmp d.r (flat at.after) key d.high s.upto;
@@ -150,7 +150,7 @@ module _ {K V : Type 0} {cmp : K → K → Ordering} (o : IsTotalOrder cmp) {mos
         let more = stands_more path'' indices'' 1 s.here.rows (length d.leaf.before) high d.stands (omega (arith, high_is, count_is)) (seen_at s.here.at m_at j_at w.within w.place_is) in
         record {
           leaf = d.leaf;
-          stands = subst (λ (z : List (List (LevelNode K ℕ))). StandsTo path'' indices'' 1 z (length d.leaf.before) (length a)) (sym s.here.lower_is) (subst (λ (z : ℕ). StandsTo path'' indices'' 1 (s.here.rows ++ s.here.row ∷ []) (length d.leaf.before) z) s.here.at.before_is more);
+          stands = subst (λ z. StandsTo path'' indices'' 1 z (length d.leaf.before) (length a)) (sym s.here.lower_is) (subst (λ z. StandsTo path'' indices'' 1 (s.here.rows ++ s.here.row ∷ []) (length d.leaf.before) z) s.here.at.before_is more);
           nodes_above = λ i low. d.nodes_above i (omega (arith, low, count_is)) ∙ set_but path high number nodes i (λ z. omega (arith, z, low, high_is));
           entries_above = λ i low. d.entries_above i (omega (arith, low, count_is)) ∙ set_but indices high index entries i (λ z. omega (arith, z, low, high_is));
         }
@@ -164,7 +164,7 @@ module _ {K V : Type 0} {cmp : K → K → Ordering} (o : IsTotalOrder cmp) {mos
 
     -- the key's value in the leaf is its value among all entries
     pub leaf_value : value_for cmp (flat leaves) key ≡ value_for cmp entries key
-    leaf_value = ap (λ z. value_for cmp z key) all_are ∙ ap (λ z. option_map (λ (e : K × V). e.1) z) (entry_between o (flat s.here.at.before) entries (flat s.here.at.after) key s.increasing_after s.low s.high)
+    leaf_value = ap (λ z. value_for cmp z key) all_are ∙ ap (λ z. option_map (λ e. e.1) z) (entry_between o (flat s.here.at.before) entries (flat s.here.at.after) key s.increasing_after s.low s.high)
 
     -- the key is present in the leaf exactly if it is present among all entries
     pub leaf_found : is_present cmp (flat leaves) key ≡ is_present cmp entries key
@@ -191,7 +191,7 @@ module _ {K V : Type 0} {cmp : K → K → Ordering} (o : IsTotalOrder cmp) {mos
         → (answer ≡ value_for cmp (flat leaves) key) × Descended cmp leaves lower key (length a) path indices path' indices'
     landed path indices path' {indices' = indices'} answer wide wide' nodes indices_are answer_is = (
       answer_is ∙ sym leaf_value,
-      subst (λ (z : List (List (LevelNode K ℕ))). Descended cmp leaves z key (length a) path indices path' indices') (sym s.here.lower_is) (record {
+      subst (λ z. Descended cmp leaves z key (length a) path indices path' indices') (sym s.here.lower_is) (record {
         leaf = placed (get_or path' 0 0) (get_or indices' 0 0) (ap (λ z. get_or z 0 0) nodes ∙ get_or-set_same path 0 number 0 wide) (ap (λ z. get_or z 0 0) indices_are ∙ get_or-set_same indices 0 (place cmp entries key) 0 wide');
         stands = s.here.at.before_is;
         nodes_above = λ i low. set_but path 0 number nodes i (λ z. omega (arith, z, low));

@@ -9,7 +9,7 @@ use Rattle.bforest_core.proofs.table.Lists.{read_none}
 use Rattle.bforest_core.proofs.table.Stored.{some_same}
 
 -- an optional entry, from its key and its value
-pub pair_answer : {K X : Type 0} (es : List (K × X)) (i : ℕ) (o : Option (K × X)) → option_map (λ (e : K × X). e.0) o ≡ slice_get (entry_keys es) i → option_map (λ (e : K × X). e.1) o ≡ slice_get (entry_items es) i → o ≡ slice_get es i
+pub pair_answer : {K X : Type 0} (es : List (K × X)) (i : ℕ) (o : Option (K × X)) → option_map (λ e. e.0) o ≡ slice_get (entry_keys es) i → option_map (λ e. e.1) o ≡ slice_get (entry_items es) i → o ≡ slice_get es i
 pair_answer [] i None k x = refl
 pair_answer [] i (Some e) k x = absurd cc
 pair_answer (y ∷ es) zero None k x = absurd cc
@@ -48,7 +48,7 @@ module _ {K V : Type 0} {most : ℕ} (one : 1 ≤ half_of most) {slots : _} {tre
     leaves_are = w.row_is ∙ ap (λ z. w.before ++ node (get_or z 0 0) w.entries ∷ w.after) (sym path_is);
     within = low;
     place_is = place_is;
-    above = subst (λ (z : ℕ). StandsAbove path' indices' 1 tree.above z) (sym w.at) (stands-same path indices path' indices' 1 tree.above leaf (λ i low. ap (λ z. get_or z i 0) path_is) (λ i low. same i (λ e. omega (arith, e, low))) w.stands);
+    above = subst (λ z. StandsAbove path' indices' 1 tree.above z) (sym w.at) (stands-same path indices path' indices' 1 tree.above leaf (λ i low. ap (λ z. get_or z i 0) path_is) (λ i low. same i (λ e. omega (arith, e, low))) w.stands);
     size_is = size_is;
   }
 
@@ -104,7 +104,7 @@ module _ {K V : Type 0} {most : ℕ} (one : 1 ≤ half_of most) {slots : _} {tre
           → Over slots path indices 1 size rows list at → Moved path indices path1 indices1 0 rows list (suc at)) → path' ≡ path1
           → get_or indices' 0 0 ≡ 0 → SameBut 0 indices1 indices' → Stands path' indices' size tree (suc place)
       next_over {path' = path'} indices' moved path_is here above =
-          subst (λ (z : ℕ). Stands path' indices' size tree z) (sym leaf_ends) (first_behind leaf_here s.size_is indices' (moved tree.above (heads tree.leaves) (length s.leaf.before) over_leaves) path_is here above)
+          subst (λ z. Stands path' indices' size tree z) (sym leaf_ends) (first_behind leaf_here s.size_is indices' (moved tree.above (heads tree.leaves) (length s.leaf.before) over_leaves) path_is here above)
 
       -- where no leaf follows, the path stands on the last entry
       pub next_last : ((rows list at : _) → Over slots path indices 1 size rows list at → suc at ≡ length list) → suc place ≡ length (flat tree.leaves)

@@ -34,7 +34,7 @@ module _ {K V : Type 0} {most : ℕ} {slots : List (Content K V)} {leaves : List
       → place ≡ length (flat s.at.before) + index → get_or path' 0 0 ≡ number → get_or indices' 0 0 ≡ index → SameBut 0 path path'
       → SameBut 0 indices indices' → LedTo leaves lower place (length a) path indices path' indices'
   leaf_led s path' indices' place within place_is m_is j_is nodes entries =
-      subst (λ (z : List (List (LevelNode K ℕ))). LedTo leaves z place (length a) path indices path' indices') (sym s.lower_is) (record {
+      subst (λ z. LedTo leaves z place (length a) path indices path' indices') (sym s.lower_is) (record {
         leaf = seen_at s.at m_is j_is within place_is;
         stands = s.at.before_is;
         nodes_above = λ i low. nodes i (λ z. omega (arith, z, low));
@@ -52,7 +52,7 @@ module _ {K V : Type 0} {most : ℕ} {slots : List (Content K V)} {leaves : List
       let more = stands_more path2 indices2 1 s.rows (length d.leaf.before) high d.stands (omega (arith, high_is)) (seen_at s.at node_is index_is within top_is) in
       record {
         leaf = d.leaf;
-        stands = subst (λ (z : List (List (LevelNode K ℕ))). StandsTo path2 indices2 1 z (length d.leaf.before) (length a)) (sym s.lower_is) (subst (λ (z : ℕ). StandsTo path2 indices2 1 (s.rows ++ s.row ∷ []) (length d.leaf.before) z) s.at.before_is more);
+        stands = subst (λ z. StandsTo path2 indices2 1 z (length d.leaf.before) (length a)) (sym s.lower_is) (subst (λ z. StandsTo path2 indices2 1 (s.rows ++ s.row ∷ []) (length d.leaf.before) z) s.at.before_is more);
         nodes_above = λ i low. d.nodes_above i (omega (arith, low, s.count_is)) ∙ nodes i (λ z. omega (arith, z, low, high_is, s.count_is));
         entries_above = λ i low. d.entries_above i (omega (arith, low, s.count_is)) ∙ entries i (λ z. omega (arith, z, low, high_is, s.count_is));
       }
@@ -63,7 +63,7 @@ module _ {K V : Type 0} {most : _} {slots : List (Content K V)} {leaves lower a 
 
   -- the node meets what reading a child requires
   pub child_asks : (index : ℕ) → index ≤ length s.at.es → IsInner content2 × (index < entry_count content2)
-  child_asks index within = (subst IsInner (sym content_is) tt, subst (λ (z : Content K V). index < entry_count z) (sym content_is) (omega (arith, within, item_count (s.at.e ∷ s.at.es))))
+  child_asks index within = (subst IsInner (sym content_is) tt, subst (λ z. index < entry_count z) (sym content_is) (omega (arith, within, item_count (s.at.e ∷ s.at.es))))
 
   -- the leaves and rows under a child
   pub child_under : (index : ℕ) {child : ℕ} → slice_get (children_of content2) index ≡ Some child → (front : List (K × ℕ)) × (key : K)
@@ -74,7 +74,7 @@ module _ {K V : Type 0} {most : _} {slots : List (Content K V)} {leaves lower a 
       let front = flat s.at.before ++ c.0 in
       let back = c.2 ++ flat s.at.after in
       let flat_is = ap flat s.at.row_is ∙ flat_parted s.at.before number c.0 (c.1, child) c.2 s.at.after c.3 in
-      let under = subst (λ (z : List (K × ℕ)). Under most slots leaves s.rows z) flat_is s.under in
+      let under = subst (λ z. Under most slots leaves s.rows z) flat_is s.under in
       (front, c.1, back, under, length-append (flat s.at.before) c.0 ∙ ap (λ z. length (flat s.at.before) + z) c.4, sym (ap length flat_is ∙ length-append front ((c.1, child) ∷ back)))
 
 module _ {K V : Type 0} (most : ℕ) (slots : List (Content K V)) where
@@ -116,7 +116,7 @@ module _ {K V : Type 0} {most : ℕ} (one : 1 ≤ half_of most) {slots : List (C
       front_below =
           let c = child_under front_node read2 0 child_read in
           let none = nil_from_length c.0 (omega (arith, c.4, none_flat front_node.at.before front_node.at.before_is)) in
-          record { rows = front_node.rows; first = c.1; rest = c.2; under = subst (λ (z : List (K × ℕ)). Under most slots leaves front_node.rows (z ++ (c.1, child) ∷ c.2)) none c.3; count_is = front_node.count_is }
+          record { rows = front_node.rows; first = c.1; rest = c.2; under = subst (λ z. Under most slots leaves front_node.rows (z ++ (c.1, child) ∷ c.2)) none c.3; count_is = front_node.count_is }
 
 -- a node on a level that is known, whose index in the path was written
 module _ {K V : Type 0} {most : ℕ} (one : 1 ≤ half_of most) {slots : List (Content K V)} {leaves lower : _} (a : List (K × ℕ)) (first : K) (number : ℕ) (b : List (K × ℕ)) (u : Under most slots leaves lower (a ++ (first, number) ∷ b)) {level : ℕ} (level_is : level ≡ length lower) where
@@ -177,7 +177,7 @@ module _ {K V : Type 0} {most : ℕ} (one : 1 ≤ half_of most) {slots : List (C
           let s = at_inner one [] first number b u level_is some in
           let c = inner_below one [] first number b u level_is some 0 (omega arith) says in
           let none = nil_from_length c.0 (omega (arith, c.4, none_flat s.at.before s.at.before_is)) in
-          (leaves, s.rows, c.1, c.2, subst (λ (z : List (K × ℕ)). Under most slots leaves s.rows (z ++ (c.1, child) ∷ c.2)) none c.3, omega (arith, level_is, s.count_is))
+          (leaves, s.rows, c.1, c.2, subst (λ z. Under most slots leaves s.rows (z ++ (c.1, child) ∷ c.2)) none c.3, omega (arith, level_is, s.count_is))
 
       pub first_led : (path indices : List ℕ) {path1 indices1 : List ℕ} (path2 indices2 : List ℕ) → get_or path1 level 0 ≡ number → get_or indices1 level 0 ≡ 0
           → path1 ≡ set path level number → indices1 ≡ set indices level 0
@@ -217,7 +217,7 @@ module _ {K V : Type 0} {most : ℕ} (one : 1 ≤ half_of most) {slots : List (C
       below =
           let c = inner_below one a first number [] u level_is some last (omega (arith, index)) says in
           let none = nil_from_length c.2 (omega (arith, c.4, c.5, index, last_place 8 (omega arith) back_node.at)) in
-          (c.0, c.1, subst (λ (z : List (K × ℕ)). Under most slots leaves back_node.rows (c.0 ++ (c.1, child) ∷ z)) none c.3, c.4)
+          (c.0, c.1, subst (λ z. Under most slots leaves back_node.rows (c.0 ++ (c.1, child) ∷ z)) none c.3, c.4)
 
       -- what the call one level down requires
       pub last_goes : (leaves : List (LevelNode K V)) × (lower : List (List (LevelNode K ℕ))) × (before : List (K × ℕ)) × (first : K) × Under most slots leaves lower (before ++ (first, child) ∷ []) × (level - 1 ≡ length lower)

@@ -36,9 +36,9 @@ module _ {K V : Type 0} {n : ℕ} {table : Table K V} (union : IsUnion n table) 
       let here : length (flat s.leaf.before) ≡ place = omega (arith, s.leaf.place_is, first) in (
         s.leaf.entries,
         record {
-          on = subst (λ (z : ℕ). StandsOn table root path z) (omega (arith, first)) on;
+          on = subst (λ z. StandsOn table root path z) (omega (arith, first)) on;
           within = s.leaf.within;
           leaf = (on-leaf-in union path on).slot_is;
-          list = subst (λ (z : ℕ). drop z (list_under table root) ≡ s.leaf.entries ++ drop (z + length s.leaf.entries) (list_under table root)) here (leaf-rest s);
+          list = subst (λ z. drop z (list_under table root) ≡ s.leaf.entries ++ drop (z + length s.leaf.entries) (list_under table root)) here (leaf-rest s);
         },
       )

@@ -30,7 +30,7 @@ no-value {K} {X} cmp key es none here =
 -- where the entry at a place is greater than the key, the key is less than the list from there on
 upto_at : {K X : Type 0} (cmp : K → K → Ordering) (key : K) (es : List (K × X)) (p : ℕ) (e : K × X) → slice_get es p ≡ Some e → cmp e.0 key ≡ Greater → IsUpTo cmp (drop p es) key
 upto_at cmp key [] p e here t = absurd cc
-upto_at cmp key (x ∷ es) zero e here t = ap (λ (z : _). cmp z key) (some_same x.0 e.0 (ap (λ z. option_map (λ w. w.0) z) here)) ∙ t
+upto_at cmp key (x ∷ es) zero e here t = ap (λ z. cmp z key) (some_same x.0 e.0 (ap (λ z. option_map (λ w. w.0) z) here)) ∙ t
 upto_at cmp key (x ∷ es) (suc p) e here t = upto_at cmp key es p e here t
 
 module _ {K X : Type 0} {cmp : K → K → Ordering} (o : IsTotalOrder cmp) (key : K) where
@@ -41,12 +41,12 @@ module _ {K X : Type 0} {cmp : K → K → Ordering} (o : IsTotalOrder cmp) (key
   -- a search in a list whose first entry is greater
   pub finds_first : (es : List (K × X)) → IsIncreasing cmp es → IsUpTo cmp es key → Finds cmp es key 0 None
   finds_first es h up =
-      let high = all_greater o es key h (λ y c is. subst (λ (z : List (K × X)). IsUpTo cmp z key) is up) in
+      let high = all_greater o es key h (λ y c is. subst (λ z. IsUpTo cmp z key) is up) in
       record { place_is = place_between o [] [] es key h tt high; entry_is = entry_between o [] [] es key h tt high }
 
   all_at : (P : K → Type 0) (es : List (K × X)) (p : ℕ) (e : K × X) → AllByRecursion P (keys_of es) → slice_get es p ≡ Some e → P e.0
   all_at P [] p e h here = absurd cc
-  all_at P (x ∷ es) zero e h here = subst (λ (z : K × X). P z.0) (some_same x e here) h.0
+  all_at P (x ∷ es) zero e h here = subst (λ z. P z.0) (some_same x e here) h.0
   all_at P (x ∷ es) (suc p) e h here = all_at P es p e h.1 here
 
   -- a search from an entry on that is not greater, as in the whole list
@@ -55,15 +55,15 @@ module _ {K X : Type 0} {cmp : K → K → Ordering} (o : IsTotalOrder cmp) (key
   behind [] p e here h ng n found f = absurd cc
   behind (x ∷ es) zero e here h ng n found f =
       let same = some_same x e here in
-      subst (λ (z : ℕ). Finds cmp (x ∷ es) key z found) (omega arith) (subst (λ (z : K × X). Finds cmp (z ∷ es) key n found) (sym same) (f (subst (λ (z : K × X). IsIncreasing cmp (z ∷ es)) same h)))
+      subst (λ z. Finds cmp (x ∷ es) key z found) (omega arith) (subst (λ z. Finds cmp (z ∷ es) key n found) (sym same) (f (subst (λ z. IsIncreasing cmp (z ∷ es)) same h)))
   behind (x ∷ es) (suc p) e here h ng n found f =
-      subst (λ (z : ℕ). Finds cmp (x ∷ es) key z found) (omega arith) (later x (less_from o x.0 e.0 key (all_at (λ k. cmp x.0 k ≡ Less) es p e h.0 here) ng) (behind es p e here h.1 ng n found f))
+      subst (λ z. Finds cmp (x ∷ es) key z found) (omega arith) (later x (less_from o x.0 e.0 key (all_at (λ k. cmp x.0 k ≡ Less) es p e h.0 here) ng) (behind es p e here h.1 ng n found f))
 
   -- a search that ends at an entry whose key compares equal
   pub finds_here : (es : List (K × X)) (p : ℕ) (e : K × X) → slice_get es p ≡ Some e → IsIncreasing cmp es → cmp key e.0 ≡ Equal → Finds cmp es key p (Some e)
   finds_here es p e here h t =
       let same : cmp e.0 key ≡ Equal = o.antisymm e.0 key ∙ ap ordering_reverse t in
-      subst (λ (z : ℕ). Finds cmp es key z (Some e)) (omega arith) (behind es p e here h (λ g. let bad : Equal ≡ Greater = sym same ∙ g in absurd cc) 0 (Some e) (λ i.
+      subst (λ z. Finds cmp es key z (Some e)) (omega arith) (behind es p e here h (λ g. let bad : Equal ≡ Greater = sym same ∙ g in absurd cc) 0 (Some e) (λ i.
       let z = place-here cmp o e (drop (suc p) es) key i (ap is_lt same) in
       record { place_is = z; entry_is = ap (λ i. test_at o (e ∷ drop (suc p) es) key i) z ∙ ap (λ r. if is_eq r then Some e else None) same }))
 
@@ -71,7 +71,7 @@ module _ {K X : Type 0} {cmp : K → K → Ordering} (o : IsTotalOrder cmp) (key
   pub finds_behind : (es : List (K × X)) (p : ℕ) (e : K × X) → slice_get es p ≡ Some e → IsIncreasing cmp es → cmp key e.0 ≡ Greater → IsUpTo cmp (drop (suc p) es) key → Finds cmp es key (suc p) None
   finds_behind es p e here h t up =
       let less : cmp e.0 key ≡ Less = o.antisymm e.0 key ∙ ap ordering_reverse t in
-      subst (λ (z : ℕ). Finds cmp es key z None) (omega arith) (behind es p e here h (λ g. let bad : Less ≡ Greater = sym less ∙ g in absurd cc) 1 None (λ i. later e less (finds_first (drop (suc p) es) (increasing_rest o e (drop (suc p) es) i) up)))
+      subst (λ z. Finds cmp es key z None) (omega arith) (behind es p e here h (λ g. let bad : Less ≡ Greater = sym less ∙ g in absurd cc) 1 None (λ i. later e less (finds_first (drop (suc p) es) (increasing_rest o e (drop (suc p) es) i) up)))
 
 -- solid nodes without entries are none
 no_nodes : {K X : Type 0} (half most : ℕ) → 1 ≤ half → (row : List (LevelNode K X)) → Solid half most row → length (flat row) ≡ 0 → row ≡ []
@@ -91,7 +91,7 @@ module _ {K V : Type 0} {n : ℕ} (table : Table K V) (root : ℕ) (path : Path 
     pub placed-first : StandsOn table root path 0 → IsPlaced table root path 0
     placed-first on =
         let s = on.stands in
-        let solid = (FitRow-split (half_of n) n s.leaf.before (node (leaf_of path) s.leaf.entries) s.leaf.after (subst (λ (z : List (LevelNode K V)). FitRow (half_of n) n z) s.leaf.row_is (on-tree union path on).fit.leaves_fit)).0 in
+        let solid = (FitRow-split (half_of n) n s.leaf.before (node (leaf_of path) s.leaf.entries) s.leaf.after (subst (λ z. FitRow (half_of n) n z) s.leaf.row_is (on-tree union path on).fit.leaves_fit)).0 in
         let points = points-stands path.node path.entry (tree_of table.nodes root) 0 s in
         record { root_is = on.root_is; at = record { points = points; first = λ none. no_nodes (half_of n) n (some_leaf union.1.capacity) s.leaf.before solid (omega (arith, s.leaf.place_is)) } }
 
@@ -110,8 +110,8 @@ module _ {K V : Type 0} {n : ℕ} (table : Table K V) (root : ℕ) (path : Path 
     ended : {p found : _} → Finds cmp (list_under table root) key p found → (is_some found ≡ true → StandsOn table root path p) → (is_some found ≡ false → IsPlaced table root path p) → Ended (option_map (λ w. w.1) found)
     ended f on at = record {
       value = sym (ap (λ o. option_map (λ w. w.1) o) f.entry_is);
-      present = λ yes. subst (λ (z : ℕ). StandsOn table root path z) (sym f.place_is) (on (sym (ap is_some f.entry_is) ∙ yes));
-      absent = λ none. subst (λ (z : ℕ). IsPlaced table root path z) (sym f.place_is) (at (sym (ap is_some f.entry_is) ∙ none));
+      present = λ yes. subst (λ z. StandsOn table root path z) (sym f.place_is) (on (sym (ap is_some f.entry_is) ∙ yes));
+      absent = λ none. subst (λ z. IsPlaced table root path z) (sym f.place_is) (at (sym (ap is_some f.entry_is) ∙ none));
     }
 
 -- a path that moved to the entry before a place
@@ -129,7 +129,7 @@ module _ {K V : Type 0} {n : ℕ} {cmp : K → K → Ordering} (o : IsTotalOrder
   pub before-equal : (p : ℕ) → answer ≡ entry_before (list_under table root) p → StandsOn table root path (p - 1) → {e : K × V} → answer ≡ Some e → cmp key e.0 ≡ Equal → Ended table root path cmp key (Some e.1)
   before-equal zero value on {e = e} is t = let bad : Some e ≡ None = sym is ∙ value in absurd (cc)
   before-equal (suc p) value on {e = e} is t =
-      ended table root path cmp key (finds_here o key (list_under table root) p e (sym value ∙ is) increasing t) (λ some. subst (λ (z : ℕ). StandsOn table root path z) (omega arith) on) (never refl)
+      ended table root path cmp key (finds_here o key (list_under table root) p e (sym value ∙ is) increasing t) (λ some. subst (λ z. StandsOn table root path z) (omega arith) on) (never refl)
 
   -- the entry before the place is less, and the path moved just past it
   pub before-greater : (p : ℕ) → answer ≡ entry_before (list_under table root) p → StandsOn table root path (p - 1) → {e : K × V} → answer ≡ Some e →
@@ -139,14 +139,14 @@ module _ {K V : Type 0} {n : ℕ} {cmp : K → K → Ordering} (o : IsTotalOrder
   before-greater (suc p) value on {e = e} is path' union same index_is above size_is up t =
       ended table root path' cmp key (finds_behind o key (list_under table root) p e (sym value ∙ is) increasing t up)
       (λ some. never some refl) (λ none. placed-behind table root path union path' p
-      (subst (λ (z : ℕ). StandsOn table root path z) (omega arith) on) same index_is above size_is)
+      (subst (λ z. StandsOn table root path z) (omega arith) on) same index_is above size_is)
 
 -- a path at a place
 module _ {K V : Type 0} {n : ℕ} (table : Table K V) (root : ℕ) (path : Path K V n) (p : ℕ) (at : StandsAt table root path p) where
   -- a path at the end has no entries left
   pub none-left : (cmp : K → K → Ordering) (key : K) → path.size ≡ 0 → IsUpTo cmp (drop p (list_under table root)) key
   none-left cmp key none =
-      subst (λ (z : List (K × V)). IsUpTo cmp z key) (sym (drop_all p (list_under table root) (omega (arith, at_end path.node path.entry (tree_of table.nodes root) p path.size none at.at)))) tt
+      subst (λ z. IsUpTo cmp z key) (sym (drop_all p (list_under table root) (omega (arith, at_end path.node path.entry (tree_of table.nodes root) p path.size none at.at)))) tt
 
   -- a path that is not at the end is on an entry
   pub some-on : 0 < path.size → StandsOn table root path p

@@ -128,10 +128,10 @@ module _ {K V : Type 0} where
         row_is = at.row_is;
         within = at.within;
         place_is = at.place_is;
-        slot_is = (row-split inner_content slots at.before (node (get_or path up 0) at.entries ∷ at.after) (subst (λ (z : List (LevelNode K ℕ)). RowIn inner_content slots z) at.row_is p.inside.0)).1.0;
+        slot_is = (row-split inner_content slots at.before (node (get_or path up 0) at.entries ∷ at.after) (subst (λ z. RowIn inner_content slots z) at.row_is p.inside.0)).1.0;
         fit = p.stacked.1;
         flat_is = p.stacked.0;
-        most_is = (FitRow-split 4 8 at.before (node (get_or path up 0) at.entries) at.after (subst (λ (z : List (LevelNode K ℕ)). FitRow 4 8 z) at.row_is p.stacked.1)).1.1;
+        most_is = (FitRow-split 4 8 at.before (node (get_or path up 0) at.entries) at.after (subst (λ z. FitRow 4 8 z) at.row_is p.stacked.1)).1.1;
         inside = p.inside.0;
         over = record { stacked = p.stacked.2; inside = p.inside.1; stands = p.stands.1; height = omega (arith, p.height) };
       }

@@ -42,7 +42,7 @@ pub record InnerUnder {K V : Type 0} (most : ℕ) (slots : List (Content K V)) (
   pub slot_is : slice_get slots number ≡ Some (inner_content (at.e ∷ at.es))
 
 seen_slot : {K V X : Type 0} (content : List (K × X) → Content K V) (slots : List (Content K V)) {half most : _} {row : List (LevelNode K X)} {a first number b : _} (at : Seen half most row a first number b) → RowIn content slots row → slice_get slots number ≡ Some (content (at.e ∷ at.es))
-seen_slot {K} {V} {X} content slots {number = number} at i = (row-split content slots at.before (node number (at.e ∷ at.es) ∷ at.after) (subst (λ (z : List (LevelNode K X)). RowIn content slots z) at.row_is i)).1.0
+seen_slot {K} {V} {X} content slots {number = number} at i = (row-split content slots at.before (node number (at.e ∷ at.es) ∷ at.after) (subst (λ z. RowIn content slots z) at.row_is i)).1.0
 
 module _ {K V : Type 0} {most : ℕ} (one : 1 ≤ half_of most) {slots : List (Content K V)} {leaves : List (LevelNode K V)} where
   pub node_under : (lower : _) (a : List (K × ℕ)) (first : K) (number : ℕ) (b : List (K × ℕ)) → Under most slots leaves lower (a ++ (first, number) ∷ b) → LeafUnder most slots leaves lower a first number b ⊎ InnerUnder most slots leaves lower a first number b
@@ -52,8 +52,8 @@ module _ {K V : Type 0} {most : ℕ} (one : 1 ≤ half_of most) {slots : List (C
   node_under (r ∷ rs) a first number b u =
       let z = last_of r rs in
       let top = a ++ (first, number) ∷ b in
-      let s = stacked_last (heads leaves) z.init z.last top (subst (λ (w : List (List (LevelNode K ℕ))). StackedTo (heads leaves) w top) z.is u.stacked) in
-      let i = in_last slots z.init z.last (subst (λ (w : List (List (LevelNode K ℕ))). RowsIn slots w) z.is u.rows_in) in
+      let s = stacked_last (heads leaves) z.init z.last top (subst (λ w. StackedTo (heads leaves) w top) z.is u.stacked) in
+      let i = in_last slots z.init z.last (subst (λ w. RowsIn slots w) z.is u.rows_in) in
       let at = seen 4 8 (omega arith) z.last a first number b s.1 s.2 in
       inr (record {
         rows = z.init;

@@ -13,7 +13,7 @@ module _ {K V : Type 0} (slots : List (Content K V)) (path indices : List ℕ) w
       → Over slots path indices level size rows list place → to ≡ level + steps → to ≤ size → (rows : List (List (LevelNode K ℕ)))
       × (list : List (K × ℕ)) × (place : ℕ) × Over slots path indices to size rows list place
   over-up zero {size = size} {rows = rows} {list = list} {place = place} to p is low =
-      (rows, list, place, subst (λ (z : ℕ). Over slots path indices z size rows list place) (omega (arith, is)) p)
+      (rows, list, place, subst (λ z. Over slots path indices z size rows list place) (omega (arith, is)) p)
   over-up (suc steps) {level = level} {size = size} to p is low =
       let s = spot slots path indices level size _ _ _ p (λ e. omega (arith, e, is, low)) in
       over-up steps to s.over (omega (arith, is)) low
@@ -32,14 +32,14 @@ module _ {K V : Type 0} (slots : List (Content K V)) (path indices : List ℕ) w
       × (list : List (K × ℕ)) × (place : ℕ) × Over slots path indices to size rows list place
   turn-above {level} {size} to p other is =
       let s = spot slots path indices level size _ _ _ p other in
-      (s.rest, heads s.row, length s.before, subst (λ (z : ℕ). Over slots path indices z size s.rest (heads s.row) (length s.before)) (sym is) s.over)
+      (s.rest, heads s.row, length s.before, subst (λ z. Over slots path indices z size s.rest (heads s.row) (length s.before)) (sym is) s.over)
 
   -- on one level the path's child is the last, where the test for a further one failed
   pub here-last : {low high : ℕ} {level : ℕ} → low ≡ level → high ≡ suc level → {has : Bool}
       → ((entries : List (K × ℕ)) → slice_get slots (get_or path level 0) ≡ Some (inner_content entries)
       → IsTrue has ↔ (get_or indices level 0 + 1 < length entries)) → has ≡ false → AreLast slots path indices low high
   here-last {level = level} low_is high_is test is i low high =
-      subst (λ (z : ℕ). (entries : List (K × ℕ)) → slice_get slots (get_or path z 0) ≡ Some (inner_content entries)
+      subst (λ z. (entries : List (K × ℕ)) → slice_get slots (get_or path z 0) ≡ Some (inner_content entries)
       → length entries ≤ get_or indices z 0 + 1) (omega (arith, low, high, low_is, high_is))
       (λ entries slot. not_less (get_or indices level 0 + 1) (length entries)
       (λ more. false≢true (sym is ∙ (test entries slot).1 more)))
@@ -81,7 +81,7 @@ module _ {K V : Type 0} (slots : List (Content K V)) (path indices : List ℕ) w
   module _ {level turn size : ℕ} (height : size ≤ 17) (within : (level + 2 ≤ turn) × (turn ≤ size)) (here : AreLast slots path indices (suc level) (level + 2)) (last : AreLast slots path indices (level + 2) turn) where
     -- where no level has a further child, the node is the last
     pub far-last : turn ≡ size → {rows list place : _} → Over slots path indices (suc level) size rows list place → suc place ≡ length list
-    far-last end p = all-last (size - suc level) p (omega (arith, within)) height (subst (λ (z : ℕ). AreLast slots path indices (suc level) z) end (both-last (suc level) (level + 2) turn here last))
+    far-last end p = all-last (size - suc level) p (omega (arith, within)) height (subst (λ z. AreLast slots path indices (suc level) z) end (both-last (suc level) (level + 2) turn here last))
 
     module _ (other : turn ≢ size) (turns : (entries : List (K × ℕ)) → slice_get slots (get_or path turn 0) ≡ Some (inner_content entries) → get_or indices turn 0 + 1 < length entries) where
       has : (entries : List (K × ℕ)) → slice_get slots (get_or path turn 0) ≡ Some (inner_content entries) → IsTrue true ↔ (get_or indices turn 0 + 1 < length entries)

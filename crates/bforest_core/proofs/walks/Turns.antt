@@ -19,7 +19,7 @@ module _ {K V : Type 0} where
 
   module _ {slots : List (Content K V)} {path indices : _} {level up : ℕ} {size rows list place : _} (p : Over slots path indices (suc level) size rows list place) (up_is : up ≡ suc level) (other : up ≢ size) (height : size ≤ 17) where
     here : Spot slots path indices up size rows list place
-    here = spot slots path indices up size rows list place (subst (λ (z : ℕ). Over slots path indices z size rows list place) (sym up_is) p) other
+    here = spot slots path indices up size rows list place (subst (λ z. Over slots path indices z size rows list place) (sym up_is) p) other
 
     abbrev stay : Within inner_content slots 8 path indices up here.row here.rest (length here.before)
     stay = within inner_content slots 8 4 (omega arith) here.row here.fit here.inside path indices up here.rest (length here.before) here.before here.entries here.after here.row_is refl here.over.stands
@@ -46,12 +46,12 @@ module _ {K V : Type 0} where
           let e = read w.entries index low in
           let above = stands-same path1 indices1 path' indices' (suc up) here.rest q (λ i high. nodes i (λ e. omega (arith, e, up_is, high))) (λ i high. entries i (λ e. omega (arith, e, up_is, high))) w.stands in
           let at = at_node w.before w.entries w.after w.row_is (nodes up (λ e. omega (arith, e, up_is))) (ap (λ z. get_or indices' z 0) up_is ∙ entry) low to_is in
-          let stands : StandsAbove path' indices' up (here.row ∷ here.rest) to = (at, subst (λ (z : ℕ). StandsAbove path' indices' (suc up) here.rest z) (sym w.at) above) in
+          let stands : StandsAbove path' indices' up (here.row ∷ here.rest) to = (at, subst (λ z. StandsAbove path' indices' (suc up) here.rest z) (sym w.at) above) in
           record {
             head = e.0;
             head_is = ap (λ z. slice_get z to) (sym here.flat_is) ∙ ap (λ z. slice_get (flat here.row) z) to_is ∙ entry_at w.before (get_or path1 up 0) w.entries w.after index w.row_is e.1;
-            node_is = some_same (get_or path' level 0) e.0.1 (sym (reads w.entries slot_below) ∙ items-read w.entries index ∙ ap (λ z. option_map (λ (w : K × ℕ). w.1) z) e.1);
-            stands = subst (λ (z : ℕ). StandsAbove path' indices' z rows to) up_is (subst (λ (z : List (List (LevelNode K ℕ))). StandsAbove path' indices' up z to) (sym here.rows_are) stands);
+            node_is = some_same (get_or path' level 0) e.0.1 (sym (reads w.entries slot_below) ∙ items-read w.entries index ∙ ap (λ z. option_map (λ w. w.1) z) e.1);
+            stands = subst (λ z. StandsAbove path' indices' z rows to) up_is (subst (λ z. StandsAbove path' indices' up z to) (sym here.rows_are) stands);
             nodes_below = λ i low. nodes i (λ e. omega (arith, e, low)) ∙ nodes_below i (omega (arith, low, up_is));
             entries_below = λ i low. entries i (λ e. omega (arith, e, low)) ∙ entries_below i (omega (arith, low, up_is));
           }

@@ -4,7 +4,7 @@ use Rattle.bforest_core.proofs.walks.Turning.{down-asks, down-turned}
 use Rattle.bforest_core.proofs.path.Path.+go_first.Goals as goal
 
 pub returns-then-from-level-clause-moved : goal.returns-then-from-level-clause-moved
-returns-then-from-level-clause-moved g t c = λ path indices size turned. subst (λ (z : ℕ). Advances c.args.pool.now.nodes path indices c.args.self.now.node c.args.self.now.entry z size) c.if-from-level.true turned.moved
+returns-then-from-level-clause-moved g t c = λ path indices size turned. subst (λ z. Advances c.args.pool.now.nodes path indices c.args.self.now.node c.args.self.now.entry z size) c.if-from-level.true turned.moved
 
 pub go_to_child-requires : goal.go_to_child-requires
 go_to_child-requires g t c =

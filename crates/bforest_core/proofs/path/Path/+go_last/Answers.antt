@@ -4,7 +4,7 @@ use Rattle.bforest_core.proofs.walks.Turning.{back-turned, last-goes, last-held}
 use Rattle.bforest_core.proofs.path.Path.+go_last.Goals as goal
 
 pub returns-then-from-level-clause-moved : goal.returns-then-from-level-clause-moved
-returns-then-from-level-clause-moved g t c = λ path indices size turned. subst (λ (z : ℕ). Retreats c.args.pool.now.nodes path indices c.args.self.now.node c.args.self.now.entry z size) c.if-from-level.true turned.moved
+returns-then-from-level-clause-moved g t c = λ path indices size turned. subst (λ z. Retreats c.args.pool.now.nodes path indices c.args.self.now.node c.args.self.now.entry z size) c.if-from-level.true turned.moved
 
 pub last_index-last-requires : goal.last_index-last-requires
 last_index-last-requires g t c =

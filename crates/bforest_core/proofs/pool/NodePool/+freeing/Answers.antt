@@ -69,7 +69,7 @@ free_under-free_below-requires g t c κs within =
     let x = child_turn one s found in
     let high = s.opened.height (omega (arith, x.2)) in
     let low : suc (c.args.depth + length x.3.cut.lower_left) ≤ 16 = omega (arith, w.5, high, x.3.cut.left_height, x.3.swept.height) in
-    let under = subst (λ (z : ℕ). Under g.row.N c.loop-index.self.nodes x.3.cut.leaves_left x.3.cut.lower_left ((x.0.0, z) ∷ [])) x.1 x.3.under in
+    let under = subst (λ z. Under g.row.N c.loop-index.self.nodes x.3.cut.leaves_left x.3.cut.lower_left ((x.0.0, z) ∷ [])) x.1 x.3.under in
     (omega (arith, c.decreases, low), (within.0, (within.1, ((λ a m. search rules), (search rules, (c.requires.capacity, (x.3.cut.leaves_left, x.3.cut.lower_left, x.0.0, under, x.3.apart, omega (arith, low))))))))
 
 pub free_under-loop-index-preserved : goal.free_under-loop-index-preserved
@@ -79,13 +79,13 @@ free_under-loop-index-preserved g t c = λ leaves lower apart o.
     let content : c.node.result.now ≡ s.opened.content = some_same c.node.result.now s.opened.content (sym c.node.ensures.value ∙ s.slot_is) in
     let found = ap (λ z. slice_get (children_of z) c.loop-index.index) (sym content) ∙ c.child-child.ensures.child in
     let x = child_turn one s found in
-    let under = subst (λ (z : ℕ). Under g.row.N c.loop-index.self.nodes x.3.cut.leaves_left x.3.cut.lower_left ((x.0.0, z) ∷ [])) x.1 x.3.under in
+    let under = subst (λ z. Under g.row.N c.loop-index.self.nodes x.3.cut.leaves_left x.3.cut.lower_left ((x.0.0, z) ∷ [])) x.1 x.3.under in
     let gone =
-    subst (λ (z : ℕ). GivesAll c.loop-index.self c.free_below.new.self (numbers_under x.3.cut.leaves_left x.3.cut.lower_left) (numbers_down c.loop-index.self.nodes (length x.3.cut.lower_left) z)) (sym x.1)
+    subst (λ z. GivesAll c.loop-index.self c.free_below.new.self (numbers_under x.3.cut.leaves_left x.3.cut.lower_left) (numbers_down c.loop-index.self.nodes (length x.3.cut.lower_left) z)) (sym x.1)
     (c.free_below.ensures x.3.cut.leaves_left x.3.cut.lower_left x.0.0 under x.3.apart) in
     let next : suc c.loop-index.index ≡ c.loop-index.index + 1 = omega arith in
     let swept = sweep-next g.row.N one c.args.self.now s.opened.low s.opened.rows s.opened.top x.0 s.apart x.3 gone in
-    subst (λ (z : ℕ). Sweeping g.row.N c.args.self.now c.free_below.new.self leaves lower c.args.node z) next (sweeping apart s.opened swept)
+    subst (λ z. Sweeping g.row.N c.args.self.now c.free_below.new.self leaves lower c.args.node z) next (sweeping apart s.opened swept)
 
 pub free_under-free_node-requires : goal.free_under-free_node-requires
 free_under-free_node-requires g t c =

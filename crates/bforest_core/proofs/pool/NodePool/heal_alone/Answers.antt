@@ -16,7 +16,7 @@ returns-then-entries-gt0 g c = record {
 pub free_node-requires : goal.free_node-requires
 free_node-requires g c =
     let w = c.requires.taken in
-    (search rules, subst (λ (n : ℕ). IsUsed c.args.self.now n) (sym (leaf_is_root _ _ _ _ _ _ _ _ w.4 refl)) (leaf_used _ _ _ _ _ _ _ _ w.4))
+    (search rules, subst (λ n. IsUsed c.args.self.now n) (sym (leaf_is_root _ _ _ _ _ _ _ _ w.4 refl)) (leaf_used _ _ _ _ _ _ _ _ w.4))
 
 pub returns : goal.returns
 returns g c = record {

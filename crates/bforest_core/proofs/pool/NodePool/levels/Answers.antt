@@ -22,8 +22,8 @@ returns g c =
     let r = c.levels_from.ensures _ _ u.first [] u.under in
     record {
       value = omega (arith, r, length-map tree.above sizes);
-      leaves = (le-div_iff_mul-le one).1 (subst (λ (z : ℕ). z ≤ length (flat tree.leaves) + (half_of g.row.N - 1)) (mul_comm (half_of g.row.N) (length tree.leaves)) (leaves-few (half_of g.row.N) g.row.N tree.leaves one w.fit.leaves_fit));
+      leaves = (le-div_iff_mul-le one).1 (subst (λ z. z ≤ length (flat tree.leaves) + (half_of g.row.N - 1)) (mul_comm (half_of g.row.N) (length tree.leaves)) (leaves-few (half_of g.row.N) g.row.N tree.leaves one w.fit.leaves_fit));
       depth = λ two. (let e : length tree.above - 1 ≡ c.levels_from.result - 2 = omega (arith, r) in
-          subst (λ (z : ℕ). half_of g.row.N * 4 ^ z < length (flat tree.leaves)) e (depth (half_of g.row.N) g.row.N one tree.leaves tree.above w.fit.leaves_fit w.fit.stacked w.fit.topped (omega (arith, r, two))));
+          subst (λ z. half_of g.row.N * 4 ^ z < length (flat tree.leaves)) e (depth (half_of g.row.N) g.row.N one tree.leaves tree.above w.fit.leaves_fit w.fit.stacked w.fit.topped (omega (arith, r, two))));
       most = omega (arith, r, u.low);
     }

@@ -17,7 +17,7 @@ module _ {K V : Type 0} (n : ℕ) (nodes : List (Content K V)) (first : Option �
     first_is = sym reads_first ∙ unwraps ∙ ap Some (sym number_is)
 
     here : IsPool n nodes (Some number) free limit
-    here = subst (λ (z : Option ℕ). IsPool n nodes z free limit) first_is pool
+    here = subst (λ z. IsPool n nodes z free limit) first_is pool
 
     front : (next : Option ℕ) × (slice_get nodes number ≡ Some (Free next))
     front = front_is_free free some here
