@@ -1,4 +1,5 @@
 -- Lemmas on descending and stepping.
+pub mod Reading
 pub mod LeafSearch
 pub mod Rising
 pub mod Downward

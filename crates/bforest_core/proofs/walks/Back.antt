@@ -1,6 +1,6 @@
 -- The way back to the leaf before: each answer of `prev_sibling` and `prev_cousin` is one of these.
-use Rattle.std.proofs.Common.{◌≡◌, ◌≢◌, ℕ, suc, ◌+◌, ◌-◌, ◌*◌, ◌/◌, ◌%◌, ◌≤◌, ◌<◌, List, [], ◌∷◌, drop, length, slice_get, IfSome, Option, Some, inl, inr, refl, sym, ◌∙◌, arith}
-use Rattle.bforest_core.proofs.Words.{cases_lt, eqb_tells, Content, Inner, IsUnion, LevelNode, Table, entry_count, flat, heads, inner_content, tree_of}
+use Rattle.std.proofs.Common.{◌≡◌, ◌≢◌, ℕ, suc, ◌+◌, ◌-◌, ◌*◌, ◌/◌, ◌%◌, ◌≤◌, ◌<◌, List, [], ◌∷◌, drop, length, IfSome, Option, inl, inr, refl, sym, ◌∙◌, arith}
+use Rattle.bforest_core.proofs.Words.{cases_lt, eqb_tells, Content, IsUnion, Table, flat, heads, inner_content, tree_of}
 use Rattle.bforest_core.specs.Spots.{CodedOver, HasPrev, IsLeafAt, IsSpotAt, IsWay, NumberAt}
 use Rattle.bforest_core.specs.declared.spot.Spot.{Spot}
 use Rattle.bforest_core.proofs.table.Stored.{item_count}
@@ -8,6 +8,7 @@ use Rattle.bforest_core.proofs.removal.Removal.{if_some}
 use Rattle.bforest_core.proofs.walks.Codes.{NodeIn, child-asks, child-code, child-is, code-low, far-spot, here, its, leaf-at, node-at, node-here, other, seam, spot-over, way-of}
 use Rattle.bforest_core.proofs.walks.Cousins.{grand-is, more, up}
 use Rattle.bforest_core.proofs.walks.TopNode.{none_flat}
+use Rattle.bforest_core.proofs.walks.Reading.{ChildAsked, ChildRead, LastAsked, LastRead}
 
 module _ {K V : Type 0} {slots : List (Content K V)} {root code depth numbers rows list place : _} (p : CodedOver slots root code depth numbers rows list place) where
   -- with no levels, the first node
@@ -27,13 +28,13 @@ module _ {K V : Type 0} {slots : List (Content K V)} {root code depth numbers ro
       to-is : place - 1 ≡ length (flat (here p some).at.before) + (code % 8 - 1)
       to-is = omega (arith, low, (here p some).place_is)
 
-      pub prev-asks : (keys : List K) × (children : List ℕ) × (slice_get slots parent ≡ Some (Inner keys children)) × (code % 8 - 1 < length children)
+      pub prev-asks : ChildAsked slots parent (code % 8 - 1)
       prev-asks = child-asks p some (node-here p some same) (code % 8 - 1) index-low
 
       pub prev-code : (0 < place) × CodedOver slots root (code - 1) depth (parent ∷ drop 1 numbers) rows list (place - 1)
       prev-code = (omega (arith, low, (here p some).place_is), child-code p some (node-here p some same) (here p some).over (code % 8 - 1) (code - 1) (place - 1) index-low (omega (arith, low)) to-is)
 
-      pub prev-child : {child : ℕ} → ((keys : List K) (children : List ℕ) → slice_get slots parent ≡ Some (Inner keys children) → slice_get children (code % 8 - 1) ≡ Some child) → NumberAt list (place - 1) child
+      pub prev-child : {child : ℕ} → ChildRead slots parent (code % 8 - 1) child → NumberAt list (place - 1) child
       prev-child {child = child} reads = child-is p some (node-here p some same) (code % 8 - 1) (place - 1) index-low to-is reads
 
     -- the node before this one on the level above, and the way there
@@ -55,10 +56,10 @@ module _ {K V : Type 0} {slots : List (Content K V)} {root code depth numbers ro
         prev-low low = code-low 15 (here p some).rest on.1 above ((here p some).top - 1) on.2.coded (omega (arith, low, (here p some).low))
 
         -- what the index of its last child asks, and says
-        pub last-asks : (content : Content K V) × (slice_get slots node ≡ Some content) × (1 ≤ entry_count content)
+        pub last-asks : LastAsked slots node
         last-asks = (inner_content node-before.entries, node-before.slot_is, omega (arith, node-before.some, item_count node-before.entries))
 
-        module _ {last : ℕ} (says : (content : Content K V) → slice_get slots node ≡ Some content → last ≡ entry_count content - 1) where
+        module _ {last : ℕ} (says : LastRead slots node last) where
           last-is : suc last ≡ length node-before.entries
           last-is = omega (arith, says (inner_content node-before.entries) node-before.slot_is, item_count node-before.entries, node-before.some)
 
@@ -74,25 +75,24 @@ module _ {K V : Type 0} {slots : List (Content K V)} {root code depth numbers ro
           pub last-low : last < 8
           last-low = omega (arith, last-is, node-before.room)
 
-          pub last-child-asks : (keys : List K) × (children : List ℕ) × (slice_get slots node ≡ Some (Inner keys children)) × (last < length children)
+          pub last-child-asks : ChildAsked slots node last
           last-child-asks = child-asks p some node-before last within
 
           pub last-code : (0 < place) × CodedOver slots root (above * 8 + last) depth (node ∷ on.1) rows list (place - 1)
           last-code = (omega (arith, meets), child-code p some node-before on.2 last (above * 8 + last) (place - 1) within refl to-last)
 
-          pub last-child : {child : ℕ} → ((keys : List K) (children : List ℕ) → slice_get slots node ≡ Some (Inner keys children) → slice_get children last ≡ Some child) → NumberAt list (place - 1) child
+          pub last-child : {child : ℕ} → ChildRead slots node last child → NumberAt list (place - 1) child
           last-child {child = child} reads = child-is p some node-before last (place - 1) within to-last reads
 
 module _ {K V : Type 0} {n : ℕ} {table : Table K V} (union : IsUnion n table) {root : ℕ} {spot : Spot} {place : ℕ} (s : IsSpotAt table root spot place) where
   module _ (h : HasPrev spot) where
-    pub sibling-asks : (keys : List K) × (children : List ℕ) × (slice_get table.nodes spot.parent ≡ Some (Inner keys children)) × (spot.code % 8 - 1 < length children)
+    pub sibling-asks : ChildAsked table.nodes spot.parent (spot.code % 8 - 1)
     sibling-asks = prev-asks (spot-over union s) (other union s h.0) h.1 (its union s h.0)
 
     -- the leaf before, which has the same parent
     pub sibling-before : {next : Spot} {child : ℕ} → next.code ≡ spot.code - 1 → next.parent ≡ spot.parent → next.grand ≡ spot.grand
         → next.height ≡ spot.height
-        → ((keys : List K) (children : List ℕ) → slice_get table.nodes spot.parent ≡ Some (Inner keys children)
-        → slice_get children (spot.code % 8 - 1) ≡ Some child) → (0 < place) × IsSpotAt table root next (place - 1)
+        → ChildRead table.nodes spot.parent (spot.code % 8 - 1) child → (0 < place) × IsSpotAt table root next (place - 1)
         × IsLeafAt table root (place - 1) child
     sibling-before {next} {child} code parent grand height reads =
         let q = prev-code (spot-over union s) (other union s h.0) h.1 (its union s h.0) in
@@ -116,26 +116,25 @@ module _ {K V : Type 0} {n : ℕ} {table : Table K V} (union : IsUnion n table) 
       abbrev some : 0 < spot.height
       some = omega (arith, deep)
 
-      pub parent-before-asks : (keys : List K) × (children : List ℕ) × (slice_get table.nodes spot.grand ≡ Some (Inner keys children)) × (spot.code / 8 % 8 - 1 < length children)
+      pub parent-before-asks : ChildAsked table.nodes spot.grand (spot.code / 8 % 8 - 1)
       parent-before-asks = prev-asks (up union s deep) (more union s deep) low (grand-is union s deep)
 
-      module _ {parent : ℕ} (reads : (keys : List K) (children : List ℕ) → slice_get table.nodes spot.grand ≡ Some (Inner keys children) → slice_get children (spot.code / 8 % 8 - 1) ≡ Some parent) where
+      module _ {parent : ℕ} (reads : ChildRead table.nodes spot.grand (spot.code / 8 % 8 - 1) parent) where
         abbrev on : PrevAbove (spot-over union s) (other union s some) (spot.code / 8 - 1) parent
         on = let q = prev-code (up union s deep) (more union s deep) low (grand-is union s deep) in
             (q.0, spot.grand ∷ drop 1 (drop 1 s.numbers), q.1, prev-child (up union s deep) (more union s deep) low (grand-is union s deep) reads)
 
-        pub cousin-last-asks : (content : Content K V) × (slice_get table.nodes parent ≡ Some content) × (1 ≤ entry_count content)
+        pub cousin-last-asks : LastAsked table.nodes parent
         cousin-last-asks = last-asks (spot-over union s) (other union s some) (digit-nought some) on
 
-        module _ {last : ℕ} (says : (content : Content K V) → slice_get table.nodes parent ≡ Some content → last ≡ entry_count content - 1) where
-          pub cousin-before-asks : (keys : List K) × (children : List ℕ) × (slice_get table.nodes parent ≡ Some (Inner keys children)) × (last < length children)
+        module _ {last : ℕ} (says : LastRead table.nodes parent last) where
+          pub cousin-before-asks : ChildAsked table.nodes parent last
           cousin-before-asks = last-child-asks (spot-over union s) (other union s some) (digit-nought some) on says
 
           -- the leaf before is the last child of the parent before
           pub cousin-before : {next : Spot} {leaf : ℕ} → next.code ≡ (spot.code / 8 - 1) * 8 + last → next.parent ≡ parent
               → next.grand ≡ spot.grand → next.height ≡ spot.height
-              → ((keys : List K) (children : List ℕ) → slice_get table.nodes parent ≡ Some (Inner keys children)
-              → slice_get children last ≡ Some leaf) → (0 < place) × IsSpotAt table root next (place - 1)
+              → ChildRead table.nodes parent last leaf → (0 < place) × IsSpotAt table root next (place - 1)
               × IsLeafAt table root (place - 1) leaf
           cousin-before {next} {leaf} code parent_is grand height found =
               let q = last-code (spot-over union s) (other union s some) (digit-nought some) on says in

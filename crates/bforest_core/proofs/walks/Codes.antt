@@ -1,6 +1,6 @@
 -- The way of a code down rows of inner nodes, and the way to the next node: each step of a spot stands on these.
 use Rattle.std.proofs.Common.{IsTrue, ◌≡◌, ◌≢◌, ℕ, zero, suc, ◌+◌, ◌-◌, ◌*◌, ◌/◌, ◌%◌, ◌≤◌, ◌<◌, List, [], ◌∷◌, ◌++◌, length, take, drop, get_or, slice_get, option_map, Some, refl, sym, ap, subst, ◌∙◌, arith, append_assoc, length-append}
-use Rattle.bforest_core.proofs.Words.{nil_from_length, take_at, slice_get_within, Content, Inner, IsInner, entry_count, LevelNode, node, flat, heads, FitRow, RowIn, inner_content, entry_items, entry_keys}
+use Rattle.bforest_core.proofs.Words.{nil_from_length, take_at, slice_get_within, Content, entry_count, LevelNode, node, flat, heads, FitRow, RowIn, inner_content, entry_items, entry_keys}
 use Rattle.bforest_core.specs.Spots.{Coded, CodedOver, HasNext, IsLeafAt, IsSpotAt, IsWay, NumberAt, leaf_count}
 use Rattle.bforest_core.specs.declared.spot.Spot.{Spot}
 use Rattle.bforest_core.proofs.union.Unions.{is-rooted}
@@ -13,6 +13,7 @@ use Rattle.bforest_core.proofs.walks.Descent.{some_leaf}
 use Rattle.bforest_core.proofs.walks.Downward.{seen}
 use Rattle.bforest_core.proofs.walks.LeafSearch.{items-read}
 use Rattle.bforest_core.proofs.walks.Steps.{entry_at, fit_full, read}
+use Rattle.bforest_core.proofs.walks.Reading.{ChildAsked, ChildRead, CountAsked, CountRead}
 
 -- a list cut at one place is cut into the same parts
 same-cut : {A : Type 0} (b1 : List A) (x1 : A) (a1 b2 : List A) (x2 : A) (a2 : List A) → b1 ++ x1 ∷ a1 ≡ b2 ++ x2 ∷ a2 → length b1 ≡ length b2 → (b1 ≡ b2) × (x1 ≡ x2)
@@ -156,14 +157,14 @@ module _ {K V : Type 0} {slots : List (Content K V)} {root code depth numbers ro
 
   -- what a child of a node is, as it was read
   pub child-is : {number top : ℕ} (w : NodeIn inner_content slots 8 here.row number top) (index : ℕ) {child : ℕ} (to : ℕ) → index < length w.entries → to ≡ length (flat w.before) + index →
-      ((keys : List K) (children : List ℕ) → slice_get slots number ≡ Some (Inner keys children) → slice_get children index ≡ Some child) → NumberAt list to child
+      ChildRead slots number index child → NumberAt list to child
   child-is {number} w index {child = child} to low to_is reads =
       let e = read w.entries index low in
       let item : slice_get (entry_items w.entries) index ≡ Some e.0.1 = items-read w.entries index ∙ ap (λ z. option_map (λ x. x.1) z) e.1 in
       let same : e.0.1 ≡ child = some_same e.0.1 child (sym item ∙ reads (drop 1 (entry_keys w.entries)) (entry_items w.entries) w.slot_is) in
       (e.0.0, ap (λ z. slice_get z to) (sym here.flat_is) ∙ ap (λ z. slice_get (flat here.row) z) to_is ∙ entry_at w.before number w.entries w.after index w.row_is e.1 ∙ ap (λ z. Some (e.0.0, z)) same)
 
-  pub child-asks : {number top : ℕ} (w : NodeIn inner_content slots 8 here.row number top) (index : ℕ) → index < length w.entries → (keys : List K) × (children : List ℕ) × (slice_get slots number ≡ Some (Inner keys children)) × (index < length children)
+  pub child-asks : {number top : ℕ} (w : NodeIn inner_content slots 8 here.row number top) (index : ℕ) → index < length w.entries → ChildAsked slots number index
   child-asks w index low = (drop 1 (entry_keys w.entries), entry_items w.entries, w.slot_is, omega (arith, low, item_count w.entries))
 
   -- the way to a child of a node of the level above, by the way to that node
@@ -210,17 +211,17 @@ module _ {K V : Type 0} {slots : List (Content K V)} {root code depth numbers ro
     }
 
     -- the child to which the code goes
-    pub code-asks : (keys : List K) × (children : List ℕ) × (slice_get slots parent ≡ Some (Inner keys children)) × (code % 8 < length children)
+    pub code-asks : ChildAsked slots parent (code % 8)
     code-asks = child-asks node-here (code % 8) here.within
 
-    pub code-child : {child : ℕ} → ((keys : List K) (children : List ℕ) → slice_get slots parent ≡ Some (Inner keys children) → slice_get children (code % 8) ≡ Some child) → NumberAt list place child
+    pub code-child : {child : ℕ} → ChildRead slots parent (code % 8) child → NumberAt list place child
     code-child reads = child-is node-here (code % 8) place here.within here.place_is reads
 
     -- what the number of children asks, and says
-    pub count-asks : (content : Content K V) × (slice_get slots parent ≡ Some content) × IsInner content
+    pub count-asks : CountAsked slots parent
     count-asks = (inner_content here.at.entries, node-here.slot_is, tt)
 
-    module _ {count : ℕ} (counts : (content : Content K V) → slice_get slots parent ≡ Some content → count ≡ entry_count content) where
+    module _ {count : ℕ} (counts : CountRead slots parent count) where
       count-is : count ≡ length here.at.entries
       count-is = counts (inner_content here.at.entries) node-here.slot_is ∙ item_count here.at.entries
 
@@ -228,10 +229,10 @@ module _ {K V : Type 0} {slots : List (Content K V)} {root code depth numbers ro
       count-low = omega (arith, count-is, here.at.room)
 
       -- the next child of the same node
-      pub next-asks : code % 8 + 1 < count → (keys : List K) × (children : List ℕ) × (slice_get slots parent ≡ Some (Inner keys children)) × (code % 8 + 1 < length children)
+      pub next-asks : code % 8 + 1 < count → ChildAsked slots parent (code % 8 + 1)
       next-asks low = child-asks node-here (code % 8 + 1) (omega (arith, low, count-is))
 
-      pub next-child : {child : ℕ} → code % 8 + 1 < count → ((keys : List K) (children : List ℕ) → slice_get slots parent ≡ Some (Inner keys children) → slice_get children (code % 8 + 1) ≡ Some child) → NumberAt list (suc place) child
+      pub next-child : {child : ℕ} → code % 8 + 1 < count → ChildRead slots parent (code % 8 + 1) child → NumberAt list (suc place) child
       next-child {child = child} low reads = child-is node-here (code % 8 + 1) (suc place) (omega (arith, low, count-is)) (omega (arith, here.place_is)) reads
 
       pub next-code : code % 8 + 1 < count → CodedOver slots root (code + 1) depth (parent ∷ drop 1 numbers) rows list (suc place)
@@ -249,7 +250,7 @@ module _ {K V : Type 0} {slots : List (Content K V)} {root code depth numbers ro
         next-node = node-at inner_content slots 8 4 (omega arith) here.row here.fit here.inside node (suc here.top) on.2
 
         -- the first child of the node behind
-        pub first-asks : (keys : List K) × (children : List ℕ) × (slice_get slots node ≡ Some (Inner keys children)) × (0 < length children)
+        pub first-asks : ChildAsked slots node 0
         first-asks = child-asks next-node 0 next-node.some
 
         pub above-low : depth ≤ 16 → above < 35184372088832
@@ -262,7 +263,7 @@ module _ {K V : Type 0} {slots : List (Content K V)} {root code depth numbers ro
         pub first-code : CodedOver slots root (above * 8) depth (node ∷ on.0) rows list (suc place)
         first-code = child-code next-node on.1 0 (above * 8) (suc place) next-node.some (omega arith) start
 
-        pub first-child : {child : ℕ} → ((keys : List K) (children : List ℕ) → slice_get slots node ≡ Some (Inner keys children) → slice_get children 0 ≡ Some child) → NumberAt list (suc place) child
+        pub first-child : {child : ℕ} → ChildRead slots node 0 child → NumberAt list (suc place) child
         first-child {child = child} reads = child-is next-node 0 (suc place) next-node.some start reads
 
 -- the lowest node is the first of the numbers
@@ -298,10 +299,10 @@ module _ {K V : Type 0} {n : ℕ} {table : Table K V} (union : IsUnion n table) 
     abbrev pub its : spot.parent ≡ (here spot-over other).number
     its = kept-same (tree_of table.nodes root).above spot-over other spot.parent (s.parent_is some)
 
-    pub spot-count : (content : Content K V) × (slice_get table.nodes spot.parent ≡ Some content) × IsInner content
+    pub spot-count : CountAsked table.nodes spot.parent
     spot-count = count-asks spot-over other its
 
-    module _ {count : ℕ} (counts : (content : Content K V) → slice_get table.nodes spot.parent ≡ Some content → count ≡ entry_count content) where
+    module _ {count : ℕ} (counts : CountRead table.nodes spot.parent count) where
       pub spot-last : count ≤ spot.code % 8 + 1 → HasNext table spot → ⊥
       spot-last high h = omega (arith, high, h.within, counts (inner_content h.entries) h.parent, item_count h.entries)
 
@@ -312,10 +313,10 @@ module _ {K V : Type 0} {n : ℕ} {table : Table K V} (union : IsUnion n table) 
       counts-next : (content : Content K V) → slice_get table.nodes spot.parent ≡ Some content → length h.entries ≡ entry_count content
       counts-next content found = sym (ap entry_count (some_same content (inner_content h.entries) (sym found ∙ h.parent)) ∙ item_count h.entries)
 
-      pub sibling-asks : (keys : List K) × (children : List ℕ) × (slice_get table.nodes spot.parent ≡ Some (Inner keys children)) × (spot.code % 8 + 1 < length children)
+      pub sibling-asks : ChildAsked table.nodes spot.parent (spot.code % 8 + 1)
       sibling-asks = next-asks spot-over other its counts-next h.within
 
-      pub sibling-child : {child : ℕ} → ((keys : List K) (children : List ℕ) → slice_get table.nodes spot.parent ≡ Some (Inner keys children) → slice_get children (spot.code % 8 + 1) ≡ Some child) → IsLeafAt table root (suc place) child
+      pub sibling-child : {child : ℕ} → ChildRead table.nodes spot.parent (spot.code % 8 + 1) child → IsLeafAt table root (suc place) child
       sibling-child {child = child} reads = leaf-at union root s.root_is (next-child spot-over other its counts-next h.within reads)
 
       pub sibling-spot : (next : Spot) → next.code ≡ spot.code + 1 → next.parent ≡ spot.parent → next.grand ≡ spot.grand → next.height ≡ spot.height → IsSpotAt table root next (suc place)

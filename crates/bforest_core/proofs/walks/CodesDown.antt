@@ -1,6 +1,6 @@
 -- The way down to the first leaf below a node, and to the last, as a spot: each answer of `first_below` and `last_below` is one of these.
 use Rattle.std.proofs.Common.{◌≡◌, ℕ, suc, ◌+◌, ◌-◌, ◌*◌, ◌≤◌, ◌<◌, List, [], ◌∷◌, ◌++◌, IsTrue, length, slice_get, Some, refl, sym, ap, subst, ◌∙◌, arith, append_assoc, length-append}
-use Rattle.bforest_core.proofs.Words.{Content, FitRow, Inner, IsInner, IsLeafCapacity, IsUnion, LevelNode, StackedTo, flat, heads, half_of, inner_content, node, Under, entry_count, nil_from_length}
+use Rattle.bforest_core.proofs.Words.{Content, FitRow, IsInner, IsLeafCapacity, IsUnion, LevelNode, StackedTo, flat, heads, half_of, inner_content, node, Under, nil_from_length}
 use Rattle.bforest_core.specs.Spots.{Coded, HasUnder, IsFirst, IsLast, IsLeafAt, IsSpotAt, IsWay, NumberAt, OnUnder, leaf_count}
 use Rattle.bforest_core.proofs.Words.{append-nil, Table, is_root, tree_of}
 use Rattle.bforest_core.specs.declared.spot.Spot.{Spot}
@@ -13,6 +13,7 @@ use Rattle.bforest_core.proofs.walks.Leading.{child_under, last_place}
 use Rattle.bforest_core.proofs.walks.Standing.{under-root}
 use Rattle.bforest_core.proofs.walks.Steps.{no_heads}
 use Rattle.bforest_core.proofs.walks.TopNode.{InnerUnder, LeafUnder, inner_under, leaf_under, node_held, none_flat}
+use Rattle.bforest_core.proofs.walks.Reading.{ChildAsked, ChildRead, LastAsked, LastRead}
 
 -- the node at a place of the lowest level
 number-here : {K V : Type 0} {most : _} {slots : List (Content K V)} {leaves : _} (lower : _) (a : List (K × ℕ)) (first : K) (number : ℕ) (b : List (K × ℕ)) → Under most slots leaves lower (a ++ (first, number) ∷ b) → lower ≡ []
@@ -47,7 +48,7 @@ module _ {K V : Type 0} {most : _} {slots : List (Content K V)} (capacity : IsLe
         let f = (FitRow-split 4 8 below.at.before (node number (below.at.e ∷ below.at.es)) below.at.after (subst (FitRow 4 8) below.at.row_is fit)).1 in
         omega (arith, f.1)
 
-    child-at : (index : ℕ) → index ≤ length below.at.es → (keys : List K) × (children : List ℕ) × (slice_get slots number ≡ Some (Inner keys children)) × (index < length children)
+    child-at : (index : ℕ) → index ≤ length below.at.es → ChildAsked slots number index
     child-at index low = (_, _, below.slot_is, omega (arith, low, item_count (below.at.e ∷ below.at.es)))
 
     way-low : {upper : List (List (LevelNode K ℕ))} {numbers : List ℕ} {spot : Spot} {place : ℕ} → IsWay numbers spot upper place → length lower + spot.height ≤ 16 → (spot.code < 35184372088832) × (spot.height < 16)
@@ -66,8 +67,7 @@ module _ {K V : Type 0} {most : _} {slots : List (Content K V)} (capacity : IsLe
       pub front_is : length front ≡ length (flat below.at.before) + index
       pub sum_is : length front + suc (length back) ≡ length (flat below.row)
 
-    module _ {index child : ℕ} (low : index ≤ length below.at.es) (reads : (keys : List K) (children : List ℕ) → slice_get slots number ≡ Some (Inner keys children)
-        → slice_get children index ≡ Some child) {spot next : Spot} (code : next.code ≡ spot.code * 8 + index) (parent : next.parent ≡ number) (grand : next.grand ≡ spot.parent) (height : next.height ≡ suc spot.height) {upper numbers : _} (w : IsWay numbers spot upper (length a)) where
+    module _ {index child : ℕ} (low : index ≤ length below.at.es) (reads : ChildRead slots number index child) {spot next : Spot} (code : next.code ≡ spot.code * 8 + index) (parent : next.parent ≡ number) (grand : next.grand ≡ spot.parent) (height : next.height ≡ suc spot.height) {upper numbers : _} (w : IsWay numbers spot upper (length a)) where
       way-down : {place : ℕ} → place ≡ length (flat below.at.before) + index → IsWay (number ∷ numbers) next (below.row ∷ upper) place
       way-down place_is =
           let d = digit-put spot.code index next.code (omega (arith, low, room)) code in
@@ -113,7 +113,7 @@ module _ {K V : Type 0} {most : ℕ} {slots : List (Content K V)} where
     keeps = λ leaves lower a first b s side front back front_is sum_is. nil_from_length front (omega (arith, front_is, none_flat s.at.before (s.at.before_is ∙ ap length side)));
   }
 
-  pub last-turns : {number last : ℕ} → ((content : Content K V) → slice_get slots number ≡ Some content → last ≡ entry_count content - 1) → Turns most slots IsLast number last
+  pub last-turns : {number last : ℕ} → LastRead slots number last → Turns most slots IsLast number last
   last-turns {number} {last} says = record {
     within = λ leaves lower a first b s side. omega (arith, index leaves lower a first b s);
     keeps = λ leaves lower a first b s side front back front_is sum_is. nil_from_length back (omega (arith, front_is, sum_is, index leaves lower a first b s, last-end a b s.at side));
@@ -143,7 +143,7 @@ module _ {K V : Type 0} {most : ℕ} {slots : List (Content K V)} (capacity : Is
       low-here : index ≤ length (below capacity asked.4 asked.5 number asked.6 asked.8 read inner).at.es
       low-here = turns.within asked.0 asked.1 asked.4 asked.5 asked.6 (below capacity asked.4 asked.5 number asked.6 asked.8 read inner) asked.7
 
-      pub down-asks : (keys : List K) × (children : List ℕ) × (slice_get slots number ≡ Some (Inner keys children)) × (index < length children)
+      pub down-asks : ChildAsked slots number index
       down-asks = child-at capacity asked.4 asked.5 number asked.6 asked.8 read inner index low-here
 
       pub down-low : (spot.code < 35184372088832) × (spot.height < 16) × (index < 8)
@@ -151,8 +151,7 @@ module _ {K V : Type 0} {most : ℕ} {slots : List (Content K V)} (capacity : Is
           let r = way-low capacity asked.4 asked.5 number asked.6 asked.8 read inner asked.9 asked.10 in
           (r.0, r.1, omega (arith, low-here, room capacity asked.4 asked.5 number asked.6 asked.8 read inner))
 
-    module _ {child : ℕ} (reads : (keys : List K) (children : List ℕ) → slice_get slots number ≡ Some (Inner keys children)
-        → slice_get children index ≡ Some child) {spot next : Spot} (code : next.code ≡ spot.code * 8 + index)
+    module _ {child : ℕ} (reads : ChildRead slots number index child) {spot next : Spot} (code : next.code ≡ spot.code * 8 + index)
         (parent : next.parent ≡ number) (grand : next.grand ≡ spot.parent) (height : next.height ≡ suc spot.height) where
       module _ (leaves lower : _) (upper : List (List (LevelNode K ℕ))) (numbers : _) (a : List (K × ℕ)) (first : K) (b : List (K × ℕ)) (side : Side a b) (u : Under most slots leaves lower (a ++ (first, number) ∷ b)) (w : IsWay numbers spot upper (length a)) where
         abbrev here : InnerUnder most slots leaves lower a first number b
@@ -194,7 +193,7 @@ way-spot {K} table root {spot = spot} {place = place} {numbers = numbers} is w =
     record { root_is = is; numbers = numbers; coded = v.coded; parent_is = v.parent_is; grand_is = v.grand_is; height_is = v.height_is }
 
 -- a root has entries
-pub root-held : {K V : Type 0} {n : ℕ} {table : Table K V} (union : IsUnion n table) (root : ℕ) (is : IsTrue (is_root table.nodes root)) → (content : Content K V) × (slice_get table.nodes root ≡ Some content) × (1 ≤ entry_count content)
+pub root-held : {K V : Type 0} {n : ℕ} {table : Table K V} (union : IsUnion n table) (root : ℕ) (is : IsTrue (is_root table.nodes root)) → LastAsked table.nodes root
 root-held {n = n} {table = table} union root is =
     let u = under-root root union is in
     node_held (some_leaf union.1.capacity) [] u.first root [] u.under

@@ -1,11 +1,12 @@
 -- The step of a spot to a leaf with another parent, and the place of a spot's leaf.
 use Rattle.std.proofs.Common.{◌≡◌, ◌≢◌, ℕ, suc, ◌+◌, ◌-◌, ◌*◌, ◌/◌, ◌%◌, ◌≤◌, ◌<◌, List, [], ◌∷◌, drop, length, slice_get, take, IfSome, Option, Some, inl, inr, refl, sym, ap, subst, ◌∙◌, arith}
-use Rattle.bforest_core.proofs.Words.{cases_lt, eqb_tells, take_at, Content, Inner, IsInner, IsUnion, LevelNode, Table, entry_count, flat, heads, inner_content, tree_of}
+use Rattle.bforest_core.proofs.Words.{cases_lt, eqb_tells, take_at, IsUnion, LevelNode, Table, entry_count, flat, heads, inner_content, tree_of}
 use Rattle.bforest_core.specs.Spots.{Coded, CodedOver, HasNext, IsLeafAt, IsSpotAt, IsWay, NumberAt, leaf_count, leaf_place, place_by}
 use Rattle.bforest_core.specs.declared.spot.Spot.{Spot}
 use Rattle.bforest_core.proofs.table.Stored.{some_same, item_count}
 use Rattle.bforest_core.proofs.removal.Removal.{if_some}
 use Rattle.bforest_core.proofs.walks.Codes.{NextAbove, count-asks, far-spot, first-asks, first-child, first-code, here, kept-same, last-leaf, leaf-at, next-asks, next-child, next-code, none-next, other, spot-over, way-none, its}
+use Rattle.bforest_core.proofs.walks.Reading.{ChildAsked, ChildRead, CountAsked, CountRead}
 
 -- a code leads to one place
 pub coded-place : {K : Type 0} (numbers : List ℕ) (rows : List (List (LevelNode K ℕ))) (code place : ℕ) → Coded numbers rows code place → place_by rows code ≡ place
@@ -36,7 +37,7 @@ module _ {K V : Type 0} {n : ℕ} {table : Table K V} (union : IsUnion n table) 
     grand-is = kept-same _ up more spot.grand (s.grand_is (omega (arith, deep)))
 
     -- what the number of the grandparent's children asks
-    pub grand-count : (content : Content K V) × (slice_get table.nodes spot.grand ≡ Some content) × IsInner content
+    pub grand-count : CountAsked table.nodes spot.grand
     grand-count = count-asks up more grand-is
 
   module _ (last : HasNext table spot → ⊥) where
@@ -50,7 +51,7 @@ module _ {K V : Type 0} {n : ℕ} {table : Table K V} (union : IsUnion n table) 
       slot : slice_get table.nodes spot.parent ≡ Some (inner_content (here way (other union s some)).at.entries)
       slot = ap (slice_get table.nodes) (its union s some) ∙ (here way (other union s some)).at.slot_is
 
-      counts : (content : Content K V) → slice_get table.nodes spot.parent ≡ Some content → count ≡ entry_count content
+      counts : CountRead table.nodes spot.parent count
       counts content found = sym (ap entry_count (some_same content (inner_content (here way (other union s some)).at.entries) (sym found ∙ slot)) ∙ item_count (here way (other union s some)).at.entries)
 
       -- the leaf is the last of its parent
@@ -74,19 +75,19 @@ module _ {K V : Type 0} {n : ℕ} {table : Table K V} (union : IsUnion n table) 
     ]
 
     module _ (deep : 2 ≤ spot.height) where
-      module _ {children : ℕ} (says : (content : Content K V) → slice_get table.nodes spot.grand ≡ Some content → children ≡ entry_count content) (low : spot.code / 8 % 8 + 1 < children) where
-        pub parent-asks : (keys : List K) × (items : List ℕ) × (slice_get table.nodes spot.grand ≡ Some (Inner keys items)) × (spot.code / 8 % 8 + 1 < length items)
+      module _ {children : ℕ} (says : CountRead table.nodes spot.grand children) (low : spot.code / 8 % 8 + 1 < children) where
+        pub parent-asks : ChildAsked table.nodes spot.grand (spot.code / 8 % 8 + 1)
         parent-asks = next-asks (up deep) (more deep) (grand-is deep) says low
 
-        module _ {parent : ℕ} (reads : (keys : List K) (items : List ℕ) → slice_get table.nodes spot.grand ≡ Some (Inner keys items) → slice_get items (spot.code / 8 % 8 + 1) ≡ Some parent) where
+        module _ {parent : ℕ} (reads : ChildRead table.nodes spot.grand (spot.code / 8 % 8 + 1) parent) where
           abbrev on : NextAbove (spot-over union s) (other union s (deep-some deep)) (spot.code / 8 + 1) parent
           on = (spot.grand ∷ drop 1 (drop 1 s.numbers), next-code (up deep) (more deep) (grand-is deep) says low, next-child (up deep) (more deep) (grand-is deep) says low reads)
 
           -- what the first child of the next parent asks
-          pub cousin-asks : (keys : List K) × (items : List ℕ) × (slice_get table.nodes parent ≡ Some (Inner keys items)) × (0 < length items)
+          pub cousin-asks : ChildAsked table.nodes parent 0
           cousin-asks = first-asks (spot-over union s) (other union s (deep-some deep)) (its union s (deep-some deep)) (counts (deep-some deep)) (high (deep-some deep)) (spot.code / 8 + 1) parent on
 
-          module _ {leaf : ℕ} (found : (keys : List K) (items : List ℕ) → slice_get table.nodes parent ≡ Some (Inner keys items) → slice_get items 0 ≡ Some leaf) where
+          module _ {leaf : ℕ} (found : ChildRead table.nodes parent 0 leaf) where
             -- the next leaf is the first child of the next parent
             pub cousin : (next : Spot) → next.code ≡ (spot.code / 8 + 1) * 8 → next.parent ≡ parent → next.grand ≡ spot.grand → next.height ≡ spot.height → IsSpotAt table root next (suc place) × IsLeafAt table root (suc place) leaf
             cousin next code parent_is grand height =

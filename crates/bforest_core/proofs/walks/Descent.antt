@@ -13,6 +13,7 @@ use Rattle.bforest_core.proofs.table.Stored.{some_same, slice_get_at}
 use Rattle.bforest_core.proofs.walks.Rising.{all_split, all_less, increasing_split, increasing_rest, all_before, all_greater, place_between, entry_between, place-le, first_passed, sides}
 use Rattle.bforest_core.proofs.walks.Downward.{Seen, last_of, stands_more, heads_increasing, upto_flat, stacked_increasing}
 use Rattle.bforest_core.proofs.walks.TopNode.{InnerUnder, LeafUnder, flat_parted, seen_at, set_but}
+use Rattle.bforest_core.proofs.walks.Reading.{ChildRead}
 
 pub some_leaf : {n : ℕ} → IsLeafCapacity n → 1 ≤ half_of n
 some_leaf c = omega (arith, c.least)
@@ -115,8 +116,7 @@ module _ {K V : Type 0} {cmp : K → K → Ordering} (o : IsTotalOrder cmp) {mos
     -- following a child gives the search one level down
     pub below : {index child : ℕ}
         → ((keys : List K) (children : List ℕ) → slice_get slots number ≡ Some (Inner keys children) → index ≡ child_index cmp keys key)
-        → ((keys : List K) (children : List ℕ) → slice_get slots number ≡ Some (Inner keys children)
-        → slice_get children index ≡ Some child) → Below s index child
+        → ChildRead slots number index child → Below s index child
     below {index = index} {child = child} says reads =
         let index_is = says (entry_keys s.here.at.es) (entry_items (s.here.at.e ∷ s.here.at.es)) s.here.slot_is in
         let child_at = reads (entry_keys s.here.at.es) (entry_items (s.here.at.e ∷ s.here.at.es)) s.here.slot_is in

@@ -7,6 +7,7 @@ use Rattle.bforest_core.proofs.walks.TopNode.{SameBut, none_flat}
 use Rattle.bforest_core.proofs.walks.Whole.{stands-pointed}
 use Rattle.bforest_core.proofs.table.Lists.{read_none}
 use Rattle.bforest_core.proofs.table.Stored.{some_same}
+use Rattle.bforest_core.proofs.walks.Reading.{LastAsked, LastRead}
 
 -- an optional entry, from its key and its value
 pub pair_answer : {K X : Type 0} (es : List (K × X)) (i : ℕ) (o : Option (K × X)) → option_map (λ e. e.0) o ≡ slice_get (entry_keys es) i → option_map (λ e. e.1) o ≡ slice_get (entry_items es) i → o ≡ slice_get es i
@@ -124,12 +125,12 @@ module _ {K V : Type 0} {most : ℕ} (one : 1 ≤ half_of most) {slots : _} {tre
       back_leaf = there leaf_content slots most (half_of most) one tree.leaves fit.leaves_fit inside.leaves_in went.1
 
       -- the previous leaf meets what reading its last index requires
-      pub back_asks : (x : Content K V) × (slice_get slots (get_or path1 0 r) ≡ Some x) × (1 ≤ entry_count x)
+      pub back_asks : LastAsked slots (get_or path1 0 r)
       back_asks = last_asks leaf_content slots most back_leaf key_total r wide
 
       -- the previous entry is the last of the previous leaf
       pub back_over : {path' : List ℕ} (indices' : List ℕ) {last : ℕ}
-          → ((x : Content K V) → slice_get slots (get_or path1 0 r) ≡ Some x → last ≡ entry_count x - 1) → path' ≡ path1
+          → LastRead slots (get_or path1 0 r) last → path' ≡ path1
           → get_or indices 0 0 ≤ 0 → get_or indices' 0 0 ≡ last → SameBut 0 indices1 indices' → (0 < place)
           × Stands path' indices' size tree (place - 1)
       back_over indices' {last = last} says path_is none here above =

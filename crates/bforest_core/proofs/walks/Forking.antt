@@ -1,6 +1,6 @@
 -- Two searches that go to the same child of a node: each answer of `goes_along` is one of these.
 use Rattle.std.proofs.Common.{◌≡◌, ℕ, suc, ◌-◌, ◌<◌, ◌≤◌, List, [], ◌∷◌, Some, arith, false, length, refl, slice_get, subst, sym, ap, true, ◌∙◌}
-use Rattle.bforest_core.proofs.Words.{Content, Inner, IsStrictlySortedBy, IsTotalOrder, child_index, entry_count, slice_get_within}
+use Rattle.bforest_core.proofs.Words.{Content, Inner, IsStrictlySortedBy, IsTotalOrder, child_index, slice_get_within}
 use Rattle.bforest_core.proofs.table.Stored.{some_same}
 use Rattle.bforest_nodes.specs.Content.{keys_of}
 use Rattle.bforest_nodes.proofs.Searched.{all_greater_behind, count_up_to-no, count_up_to-none, count_up_to-yes}
@@ -9,6 +9,7 @@ use Rattle.std.proofs.lemmas.Cmp.{alike_right}
 use Rattle.std.specs.Ordering.{is_gt, is_lt, ordering_reverse}
 use Rattle.std.specs.declared.cmp.Ordering.TheVariants.{Equal, Greater, Less}
 use Rattle.std.specs.declared.cmp.Ordering.{Ordering}
+use Rattle.bforest_core.proofs.walks.Reading.{LastRead}
 
 module _ {K : Type 0} {cmp : K → K → Ordering} (o : IsTotalOrder cmp) where
   -- what is not greater than a key is not greater than one that is not less
@@ -88,7 +89,7 @@ module _ {K V : Type 0} {cmp : K → K → Ordering} (o : IsTotalOrder cmp) (slo
     sorted-keys = subst (IsStrictlySortedBy cmp) same-keys asked.3
 
   -- there is a separator at an index that is not that of the last child
-  module _ {last : ℕ} (says : (content : Content K V) → slice_get slots node ≡ Some content → last ≡ entry_count content - 1) where
+  module _ {last : ℕ} (says : LastRead slots node last) where
     pub separator-there : (index ≡ last → ⊥) → (keys : List K) × (children : List ℕ) × (slice_get slots node ≡ Some (Inner keys children))
         × (index < length keys)
     separator-there other =

@@ -1,12 +1,13 @@
 -- The descent to the first entry and to the last: the answers of `descend_first` and `descend_last`.
 use Rattle.std.proofs.Common.{◌≡◌, ◌≢◌, ℕ, zero, suc, ◌+◌, ◌-◌, ◌≤◌, ◌<◌, List, [], ◌∷◌, ◌++◌, drop, length, get_or, set, slice_get, Some, refl, sym, ap, subst, ◌∙◌, arith, length-append}
-use Rattle.bforest_core.proofs.Words.{length-map, nil_from_length, Content, Inner, IsInner, entry_count, children_of, LevelNode, node, flat, Tree, half_of, leaf_content, inner_content, entry_items, entry_keys, IsAt, Stands, StandsTo, SameAbove, Under, Led, LedLast}
+use Rattle.bforest_core.proofs.Words.{length-map, nil_from_length, Content, IsInner, entry_count, children_of, LevelNode, node, flat, Tree, half_of, leaf_content, inner_content, entry_items, entry_keys, IsAt, Stands, StandsTo, SameAbove, Under, Led, LedLast}
 use Rattle.bforest_core.proofs.rows.LevelRows.{flat-append}
 use Rattle.bforest_core.proofs.table.Stored.{some_same, item_count}
 use Rattle.bforest_core.proofs.walks.Downward.{Seen, stands_more}
 use Rattle.bforest_core.proofs.walks.Steps.{no_heads}
 use Rattle.bforest_core.proofs.walks.TopNode.{SameBut, none_flat, flat_parted, seen_at, set_but, LeafUnder, InnerUnder, inner_at, inner_under, leaf_at}
 use Rattle.bforest_core.proofs.walks.Whole.{stands_above}
+use Rattle.bforest_core.proofs.walks.Reading.{ChildAsked, ChildRead, LastRead}
 
 -- the path stands at a place of the leaves, and on the rows up to this node of the top; above it is unchanged
 pub record LedTo {K V : Type 0} (leaves : List (LevelNode K V)) (lower : List (List (LevelNode K ℕ))) (place top : ℕ) (path indices path' indices' : List ℕ) : Type 0 where
@@ -146,12 +147,11 @@ module _ {K V : Type 0} {most : ℕ} (one : 1 ≤ half_of most) {slots : List (C
 
   module _ (some : level ≢ 0) (index : ℕ) (within : index ≤ length (at_inner some).at.es) where
     -- the node meets what reading the child requires
-    inner_asks : (keys : List K) × (children : List ℕ) × (slice_get slots number ≡ Some (Inner keys children)) × (index < length children)
+    inner_asks : ChildAsked slots number index
     inner_asks = let es = (at_inner some).at.e ∷ (at_inner some).at.es in (drop 1 (entry_keys es), entry_items es, (at_inner some).slot_is, omega (arith, within, item_count es))
 
     -- the leaves and rows under the child
-    inner_below : {child : ℕ} → ((keys : List K) (children : List ℕ) → slice_get slots number ≡ Some (Inner keys children)
-        → slice_get children index ≡ Some child) → (front : List (K × ℕ)) × (key : K) × (back : List (K × ℕ))
+    inner_below : {child : ℕ} → ChildRead slots number index child → (front : List (K × ℕ)) × (key : K) × (back : List (K × ℕ))
         × Under most slots leaves (at_inner some).rows (front ++ (key, child) ∷ back)
         × (length front ≡ length (flat (at_inner some).at.before) + index)
         × (length front + suc (length back) ≡ length (flat (at_inner some).row))
@@ -167,10 +167,10 @@ module _ {K V : Type 0} {most : ℕ} (one : 1 ≤ half_of most) {slots : List (C
       record { leaf = l.leaf; stands = l.stands; nodes_above = l.nodes_above; entries_above = l.entries_above }
 
   module _ (some : level ≢ 0) where
-    pub first_asks : (keys : List K) × (children : List ℕ) × (slice_get slots number ≡ Some (Inner keys children)) × (0 < length children)
+    pub first_asks : ChildAsked slots number 0
     first_asks = inner_asks one [] first number b u level_is some 0 (omega arith)
 
-    module _ {child : ℕ} (says : (keys : List K) (children : List ℕ) → slice_get slots number ≡ Some (Inner keys children) → slice_get children 0 ≡ Some child) where
+    module _ {child : ℕ} (says : ChildRead slots number 0 child) where
       -- what the call one level down requires
       pub first_goes : (leaves : List (LevelNode K V)) × (lower : List (List (LevelNode K ℕ))) × (first : K) × (b : List (K × ℕ)) × Under most slots leaves lower ((first, child) ∷ b) × (level - 1 ≡ length lower)
       first_goes =
@@ -193,7 +193,7 @@ module _ {K V : Type 0} {most : ℕ} (one : 1 ≤ half_of most) {slots : List (C
           record { leaf = l.leaf; stands = l.stands; nodes_above = l.nodes_above; entries_above = l.entries_above }
 
 -- the descent to the last entry
-module _ {K V : Type 0} {most : ℕ} (one : 1 ≤ half_of most) {slots : List (Content K V)} {leaves lower : _} (a : List (K × ℕ)) (first : K) (number : ℕ) (u : Under most slots leaves lower (a ++ (first, number) ∷ [])) {level : ℕ} (level_is : level ≡ length lower) {last : ℕ} (last_is : (x : Content K V) → slice_get slots number ≡ Some x → last ≡ entry_count x - 1) where
+module _ {K V : Type 0} {most : ℕ} (one : 1 ≤ half_of most) {slots : List (Content K V)} {leaves lower : _} (a : List (K × ℕ)) (first : K) (number : ℕ) (u : Under most slots leaves lower (a ++ (first, number) ∷ [])) {level : ℕ} (level_is : level ≡ length lower) {last : ℕ} (last_is : LastRead slots number last) where
   -- at the leaf
   pub last_ends : level ≡ 0 → (path indices : List ℕ) {path1 indices1 : List ℕ} → get_or path1 level 0 ≡ number → get_or indices1 level 0 ≡ last → path1 ≡ set path level number → indices1 ≡ set indices level last → LedLast leaves lower (length a) path indices path1 indices1
   last_ends none path indices node_here entry_here path_is indices_are =
@@ -209,10 +209,10 @@ module _ {K V : Type 0} {most : ℕ} (one : 1 ≤ half_of most) {slots : List (C
     index : last ≡ length back_node.at.es
     index = omega (arith, last_is (inner_content (back_node.at.e ∷ back_node.at.es)) back_node.slot_is, item_count (back_node.at.e ∷ back_node.at.es))
 
-    pub last_asks : (keys : List K) × (children : List ℕ) × (slice_get slots number ≡ Some (Inner keys children)) × (last < length children)
+    pub last_asks : ChildAsked slots number last
     last_asks = inner_asks one a first number [] u level_is some last (omega (arith, index))
 
-    module _ {child : ℕ} (says : (keys : List K) (children : List ℕ) → slice_get slots number ≡ Some (Inner keys children) → slice_get children last ≡ Some child) where
+    module _ {child : ℕ} (says : ChildRead slots number last child) where
       below : (before : List (K × ℕ)) × (first : K) × Under most slots leaves back_node.rows (before ++ (first, child) ∷ []) × (length before ≡ length (flat back_node.at.before) + last)
       below =
           let c = inner_below one a first number [] u level_is some last (omega (arith, index)) says in

@@ -1,9 +1,9 @@
 -- The node beside the one at which the way of a code ends, level by level from the root down: each answer of `next_far`, `next_below`,
 -- `prev_far` and `prev_below` is one of these.
 use Rattle.std.proofs.Common.{◌≡◌, ◌≢◌, ℕ, zero, suc, ◌+◌, ◌-◌, ◌*◌, ◌/◌, ◌%◌, ◌^◌, ◌≤◌, ◌<◌, refl, sym, ap, subst, ◌∙◌, arith}
-use Rattle.std.proofs.Common.{List, [], ◌∷◌, drop, length, slice_get, Some, None, Option}
+use Rattle.std.proofs.Common.{List, [], ◌∷◌, drop, Some, None, Option}
 use Rattle.std.proofs.lemmas.Nat.{shr-shr}
-use Rattle.bforest_core.proofs.Words.{Content, Inner, IsInner, LevelNode, entry_count, heads}
+use Rattle.bforest_core.proofs.Words.{Content, LevelNode, heads}
 use Rattle.bforest_core.specs.Spots.{Coded, CodedOver, HasWay, IsNextOf, IsPrevOf, IsWay, Leads, NumberAt, OnWay}
 use Rattle.bforest_core.specs.declared.spot.Spot.{Spot}
 use Rattle.bforest_core.proofs.walks.Back.{PrevAbove, last-asks, last-child, last-child-asks, last-code, last-low, none-prev}
@@ -11,16 +11,7 @@ use Rattle.bforest_core.proofs.walks.Back.{prev-asks, prev-child, prev-code, pre
 use Rattle.bforest_core.proofs.walks.Codes.{NextAbove, above-asks, above-low, code-asks, code-child, code-low, count-asks, count-low}
 use Rattle.bforest_core.proofs.walks.Codes.{digit-put, first-asks, first-child, first-code, first-kept, here, next-asks, next-child}
 use Rattle.bforest_core.proofs.walks.Codes.{next-code, none-next, read-same, way-none, way-of}
-
--- what is known of a child that was read
-abbrev ChildRead : {K V : Type 0} → List (Content K V) → ℕ → ℕ → ℕ → Type 0
-ChildRead {K} slots number index child =
-    (keys : List K) (children : List ℕ) → slice_get slots number ≡ Some (Inner keys children) → slice_get children index ≡ Some child
-
--- what reading a child asks
-abbrev ChildAsked : {K V : Type 0} → List (Content K V) → ℕ → ℕ → Type 0
-ChildAsked {K} slots number index =
-    (keys : List K) × (children : List ℕ) × (slice_get slots number ≡ Some (Inner keys children)) × (index < length children)
+use Rattle.bforest_core.proofs.walks.Reading.{ChildAsked, ChildRead, CountAsked, CountRead, LastAsked, LastRead}
 
 -- the spot one level below another, at a child of this node
 pub record IsBelow (spot : Spot) (node index : ℕ) (next : Spot) : Type 0 where
@@ -145,10 +136,10 @@ module _ {K V : Type 0} {slots : List (Content K V)} {root : ℕ} {spot : Spot} 
       let read = subst (λ z. ChildRead slots node z child) (sym index-is) reads in
       (way-of p next b.code b.height parent grand, code-child p some (same p) read)
 
-  pub count-asked : There → (content : Content K V) × (slice_get slots node ≡ Some content) × IsInner content
+  pub count-asked : There → CountAsked slots node
   count-asked o = count-asks o.4 some (same o.4)
 
-  module _ {count : ℕ} (counts : (content : Content K V) → slice_get slots node ≡ Some content → count ≡ entry_count content) where
+  module _ {count : ℕ} (counts : CountRead slots node count) where
     -- the next child of the same node
     module _ (low : index + 1 < count) where
       low-here : code % 8 + 1 < count
@@ -262,10 +253,10 @@ module _ {K V : Type 0} {slots : List (Content K V)} {root : ℕ} {spot : Spot} 
       pub back-low : There → spot.height < 16 → (above.code < 35184372088832) × (above.height < 16)
       back-low o low = (prev-low o.4 some none-here (before-over o.4) (omega (arith, low)), omega (arith, low, same-height o.4 (before o.4).2))
 
-      pub back-count : There → (content : Content K V) × (slice_get slots number ≡ Some content) × (1 ≤ entry_count content)
+      pub back-count : There → LastAsked slots number
       back-count o = last-asks o.4 some none-here (before-over o.4)
 
-      module _ {last : ℕ} (last_is : (content : Content K V) → slice_get slots number ≡ Some content → last ≡ entry_count content - 1) where
+      module _ {last : ℕ} (last_is : LastRead slots number last) where
         pub back-asked : There → ChildAsked slots number last
         back-asked o = last-child-asks o.4 some none-here (before-over o.4) last_is
 

@@ -17,6 +17,7 @@ use Rattle.bforest_core.proofs.walks.Downward.{stacked_last}
 use Rattle.bforest_core.proofs.walks.Standing.{under-root}
 use Rattle.bforest_core.proofs.walks.TopNode.{InnerUnder, inner_under, leaf_under, node_within}
 use Rattle.bforest_core.proofs.walks.Whole.{all_through}
+use Rattle.bforest_core.proofs.walks.Reading.{ChildRead}
 
 -- a node of a row over eight children at most
 row-low : {K V : Type 0} {most : _} {slots : List (Content K V)} {leaves lower : _} {a : List (K × ℕ)} {first : K} {number : ℕ} {b : List (K × ℕ)} → Under most slots leaves lower (a ++ (first, number) ∷ b)
@@ -91,8 +92,7 @@ module _ {K V : Type 0} {cmp : K → K → Ordering} (o : IsTotalOrder cmp) {mos
       module _ (index : ℕ) {child : ℕ}
           (says : (keys : List K) (children : List ℕ) → slice_get slots number ≡ Some (Inner keys children)
           → index ≡ child_index cmp keys key)
-          (reads : (keys : List K) (children : List ℕ) → slice_get slots number ≡ Some (Inner keys children)
-          → slice_get children index ≡ Some child) where
+          (reads : ChildRead slots number index child) where
         pub to : Below o one step index child
         to = below o one step says reads
 

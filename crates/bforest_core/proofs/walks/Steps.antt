@@ -7,6 +7,7 @@ use Rattle.bforest_core.proofs.table.Stored.{some_same, slice_get_at}
 use Rattle.bforest_core.proofs.table.Tables.{row-split}
 use Rattle.bforest_core.proofs.rows.Zipper.{cut}
 use Rattle.bforest_core.proofs.walks.Downward.{seen}
+use Rattle.bforest_core.proofs.walks.Reading.{LastAsked, LastRead}
 
 -- a fit row has as many heads as nodes
 pub fit_full : {K X : Type 0} (half most : ℕ) → 1 ≤ half → (row : List (LevelNode K X)) → FitRow half most row → length (heads row) ≡ length row
@@ -89,10 +90,10 @@ module _ {K V X : Type 0} (content : List (K × X) → Content K V) (slots : Lis
 
     -- the node meets what reading its last index requires
     module _ (counts : (es : List (K × X)) → entry_count (content es) ≡ length es) (r : ℕ) (wide : up < length path) where
-      abbrev pub last_asks : (x : Content K V) × (slice_get slots (get_or path up r) ≡ Some x) × (1 ≤ entry_count x)
+      abbrev pub last_asks : LastAsked slots (get_or path up r)
       last_asks = (content a.entries, at_index slots path r wide refl a.slot_is, omega (arith, counts a.entries, a.some))
 
-      pub last_is : {last : ℕ} → ((x : Content K V) → slice_get slots (get_or path up r) ≡ Some x → last ≡ entry_count x - 1) → suc last ≡ length a.entries
+      pub last_is : {last : ℕ} → LastRead slots (get_or path up r) last → suc last ≡ length a.entries
       last_is says = omega (arith, says (content a.entries) last_asks.1, counts a.entries, a.some)
 
 module _ {K V : Type 0} where

@@ -1,10 +1,11 @@
 -- A node on top of some rows: a leaf where there are no inner rows, else a node of the highest of them.
 use Rattle.std.proofs.Common.{◌≡◌, ◌≢◌, ℕ, suc, ◌+◌, ◌≤◌, ◌<◌, ◌⊎◌, inl, inr, List, [], ◌∷◌, ◌++◌, length, get_or, set, slice_get, Some, refl, sym, ap, subst, ◌∙◌, arith, append_assoc, length-append}
-use Rattle.bforest_core.proofs.Words.{get_or-set_other, nil_from_length, slice_get_within, Content, IsInner, entry_count, LevelNode, node, flat, heads, half_of, RowIn, RowsIn, leaf_content, inner_content, IsAt, StackedTo, Under}
+use Rattle.bforest_core.proofs.Words.{get_or-set_other, nil_from_length, slice_get_within, Content, IsInner, LevelNode, node, flat, heads, half_of, RowIn, RowsIn, leaf_content, inner_content, IsAt, StackedTo, Under}
 use Rattle.bforest_core.proofs.rows.LevelRows.{flat-append}
 use Rattle.bforest_core.proofs.table.Stored.{some_same}
 use Rattle.bforest_core.proofs.table.Tables.{row-split}
 use Rattle.bforest_core.proofs.walks.Downward.{Seen, at_node, seen, last_of, stacked_last, in_last}
+use Rattle.bforest_core.proofs.walks.Reading.{LastAsked}
 
 -- the list is unchanged except at this level
 abbrev pub SameBut : ℕ → List ℕ → List ℕ → Type 0
@@ -67,7 +68,7 @@ module _ {K V : Type 0} {most : ℕ} (one : 1 ≤ half_of most) {slots : List (C
 
   module _ {lower : _} (a : List (K × ℕ)) (first : K) (number : ℕ) (b : List (K × ℕ)) (u : Under most slots leaves lower (a ++ (first, number) ∷ b)) where
     -- the node's slot holds a node with entries
-    pub node_held : (content : Content K V) × (slice_get slots number ≡ Some content) × (1 ≤ entry_count content)
+    pub node_held : LastAsked slots number
     node_held = elim (node_under lower a first number b u) [ inl s ↦ (leaf_content (s.at.e ∷ s.at.es), s.slot_is, omega arith) | inr s ↦ (inner_content (s.at.e ∷ s.at.es), s.slot_is, omega arith) ]
 
     pub node_within : number < length slots

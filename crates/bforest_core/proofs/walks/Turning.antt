@@ -1,11 +1,12 @@
 -- A path's node goes to the next one, or to the previous one, by its turn: the lowest level above it where
 -- the path can go on.
 use Rattle.std.proofs.Common.{◌≡◌, ◌≢◌, ℕ, zero, suc, ◌+◌, ◌-◌, ◌≤◌, ◌<◌, List, length, get_or, slice_get, Some, Bool, true, false, IsTrue, ◌↔◌, inl, inr, refl, sym, subst, ◌∙◌, arith}
-use Rattle.bforest_core.proofs.Words.{cases_lt, false≢true, Content, entry_count, LevelNode, heads, inner_content, Over}
+use Rattle.bforest_core.proofs.Words.{cases_lt, false≢true, Content, LevelNode, heads, inner_content, Over}
 use Rattle.bforest_core.specs.Steps.{AreFirst, AreLast, Turned, TurnedBack}
 use Rattle.bforest_core.proofs.walks.Steps.{not_less, only, spot}
 use Rattle.bforest_core.proofs.walks.Turns.{ChildAt, Reads, back_asks, before_asks, before_moves, first_child_asks, first_child_moves, first_moves, last_child_asks, last_child_moves, last_moves, next_asks, next_moves}
 use Rattle.bforest_core.proofs.walks.TopNode.{SameBut}
+use Rattle.bforest_core.proofs.walks.Reading.{LastAsked, LastRead}
 
 module _ {K V : Type 0} (slots : List (Content K V)) (path indices : List ℕ) where
   -- the rows from a higher level on
@@ -111,12 +112,12 @@ module _ {K V : Type 0} (slots : List (Content K V)) (path indices : List ℕ) w
 
   module _ {path1 indices1 level from size : _} (t : TurnedBack slots path indices path1 indices1 level from size) (low : level < from) (r : ℕ) (wide : 17 ≤ length path1) where
     -- a level lower: the node meets what reading its last index requires
-    pub last-held : {rows list place : _} → Over slots path indices (suc level) size rows list place → (x : Content K V) × (slice_get slots (get_or path1 from r) ≡ Some x) × (1 ≤ entry_count x)
+    pub last-held : {rows list place : _} → Over slots path indices (suc level) size rows list place → LastAsked slots (get_or path1 from r)
     last-held p =
         let o = over-up (from - suc level) (suc (from - 1)) p (omega (arith, low)) (omega (arith, low, t.within)) in
         back_asks {up = from} o.3 (omega (arith, low)) (λ e. omega (arith, e, t.within)) t.height t.moved r wide
 
-    module _ {last : ℕ} (says : (x : Content K V) → slice_get slots (get_or path1 from r) ≡ Some x → last ≡ entry_count x - 1) where
+    module _ {last : ℕ} (says : LastRead slots (get_or path1 from r) last) where
       -- the node meets what going to its last child requires
       pub last-goes : {rows list place : _} → Over slots path indices (suc level) size rows list place → last ≤ 255 → ChildAt slots path1 (from - 1) last
       last-goes p =

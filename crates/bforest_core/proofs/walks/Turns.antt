@@ -1,12 +1,13 @@
 -- Moving a path's node to the next or the previous one of its level, once the node above it is there.
 use Rattle.std.proofs.Common.{◌≡◌, ◌≢◌, ℕ, suc, ◌+◌, ◌-◌, ◌≤◌, ◌<◌, List, ◌∷◌, length, get_or, slice_get, option_map, Some, Bool, true, false, IsTrue, ◌↔◌, refl, sym, ap, subst, ◌∙◌, arith}
-use Rattle.bforest_core.proofs.Words.{false≢true, Content, entry_count, LevelNode, flat, heads, inner_content, entry_items, SameBelow, StandsAbove, Over, Moved}
+use Rattle.bforest_core.proofs.Words.{false≢true, Content, LevelNode, flat, heads, inner_content, entry_items, SameBelow, StandsAbove, Over, Moved}
 use Rattle.bforest_core.proofs.rows.Zipper.{stands-same}
 use Rattle.bforest_core.proofs.table.Stored.{some_same, item_count}
 use Rattle.bforest_core.proofs.walks.LeafSearch.{items-read}
 use Rattle.bforest_core.proofs.walks.Downward.{at_node}
 use Rattle.bforest_core.proofs.walks.Steps.{Spot, Within, entry_at, last_asks, last_is, none_behind, not_less, read, seam, spot, there, within}
 use Rattle.bforest_core.proofs.walks.TopNode.{SameBut, none_flat}
+use Rattle.bforest_core.proofs.walks.Reading.{LastAsked, LastRead}
 
 module _ {K V : Type 0} where
   -- what going to a child requires
@@ -78,10 +79,10 @@ module _ {K V : Type 0} where
       back_node = there inner_content slots 8 4 (omega arith) here.row here.fit here.inside back.1
 
       -- the previous node meets what reading its last index requires
-      pub back_asks : (x : Content K V) × (slice_get slots (get_or path1 up r) ≡ Some x) × (1 ≤ entry_count x)
+      pub back_asks : LastAsked slots (get_or path1 up r)
       back_asks = last_asks inner_content slots 8 back_node item_count r (omega (arith, wide, height, here.over.height))
 
-      module _ {last : ℕ} (says : (x : Content K V) → slice_get slots (get_or path1 up r) ≡ Some x → last ≡ entry_count x - 1) where
+      module _ {last : ℕ} (says : LastRead slots (get_or path1 up r) last) where
         last_child : suc last ≡ length back_node.entries
         last_child = last_is inner_content slots 8 back_node item_count r (omega (arith, wide, height, here.over.height)) says
 

@@ -1,4 +1,4 @@
-use Rattle.std.proofs.Common.{rules, ℕ, subst, arith}
+use Rattle.std.proofs.Common.{rules, subst, arith}
 use Rattle.bforest_core.specs.Steps.{Advances}
 use Rattle.bforest_core.proofs.walks.Turning.{down-asks, down-turned}
 use Rattle.bforest_core.proofs.path.Path.+go_first.Goals as goal

@@ -1,4 +1,4 @@
-use Rattle.std.proofs.Common.{rules, ℕ, subst, arith}
+use Rattle.std.proofs.Common.{rules, subst, arith}
 use Rattle.bforest_core.specs.Steps.{Retreats}
 use Rattle.bforest_core.proofs.walks.Turning.{back-turned, last-goes, last-held}
 use Rattle.bforest_core.proofs.path.Path.+go_last.Goals as goal

@@ -1,4 +1,4 @@
-use Rattle.std.proofs.Common.{rules, subst, arith, ℕ}
+use Rattle.std.proofs.Common.{rules, subst, arith}
 use Rattle.bforest_core.specs.Paths.{StandsOn}
 use Rattle.bforest_core.proofs.walks.Nearby.{here-entry}
 use Rattle.bforest_core.proofs.path.Path.first.Goals as goal

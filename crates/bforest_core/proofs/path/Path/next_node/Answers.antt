@@ -1,4 +1,4 @@
-use Rattle.std.proofs.Common.{rules, ◌+◌, refl, sym, ◌∙◌, arith, add-one}
+use Rattle.std.proofs.Common.{rules, refl, sym, ◌∙◌, arith, add-one}
 use Rattle.bforest_core.proofs.walks.Steps.{never, only}
 use Rattle.bforest_core.proofs.walks.Turning.{here-last}
 use Rattle.bforest_core.proofs.walks.Turns.{has_asks, index_low, next_asks, next_moves}
