@@ -4,7 +4,7 @@ pub use Rattle.bforest_core.specs.Change.{AtUnder, Changes, Ends, EntryTaken, Gi
 pub use Rattle.bforest_core.specs.Change.{StandsUnder, TakesNodes, node_count}
 pub use Rattle.bforest_core.specs.Climb.{Above, Grown, Halved, Inserted, LeafHalved, NextIs, Placed, SameBelow, nodes_up, top_of}
 pub use Rattle.bforest_core.specs.Leaves.{EndsIn, EndsOn, Narrows, PutsInLeaf, SearchEndsAt, TakesFromLeaf, entry_up_to}
-pub use Rattle.bforest_core.specs.Descent.{Descended, Reached, GoesThrough, IsFrom, IsRooted, IsUpTo, Led, LedLast, SameAbove, StackedTo, StandsTo}
+pub use Rattle.bforest_core.specs.Descent.{Descended, Reached, GoesThrough, HasBelow, IsFirst, IsFrom, IsLast, IsRooted, IsUpTo, Led, OnBelow, SameAbove, StackedTo, StandsTo}
 pub use Rattle.bforest_core.specs.Descent.{SearchThrough, Under, child_index}
 pub use Rattle.bforest_core.specs.Levels.{FitRow, IsFit, LevelNode, Solid, Stacked, Topped, Tree, flat, half_of, head_of, heads, least, node, numbers}
 pub use Rattle.bforest_core.specs.Levels.{sizes, sizes_of}

@@ -116,14 +116,6 @@ module _ {K V : Type 0} (slots : List (Content K V)) (root code depth : ℕ) whe
     pub some : IfSome found (λ next. OnWay slots root code depth (λ numbers rows list place. (0 < place) × (others : List ℕ) × IsWay others next.0 rows (place - 1) × NumberAt list (place - 1) next.1))
     pub none : found ≡ None → OnWay slots root code depth (λ numbers rows list place. place ≡ 0)
 
-module _ {K : Type 0} where
-  -- no node of a level is before a node, or none is after it
-  abbrev pub IsFirst : List (K × ℕ) → List (K × ℕ) → Type 0
-  IsFirst before after = before ≡ []
-
-  abbrev pub IsLast : List (K × ℕ) → List (K × ℕ) → Type 0
-  IsLast before after = after ≡ []
-
 module _ {K V : Type 0} (most : ℕ) (slots : List (Content K V)) (Side : List (K × ℕ) → List (K × ℕ) → Type 0) (spot : Spot) (number : ℕ) where
   -- a spot's way goes to a node on one side of its level, under which lie some leaves and rows
   abbrev pub HasUnder : Type 0

@@ -8,8 +8,8 @@ ghost use Rattle.bforest_core.specs.Paths.{list_under};
 ghost use Rattle.bforest_core.specs.Trees.{IsUnion, is_root, tree_of};
 ghost use Rattle.bforest_nodes.specs.Content.{Inner, IsLeafCapacity};
 ghost use Rattle.bforest_nodes.specs.Entries.{IsIncreasing};
-ghost use Rattle.bforest_core.specs.Descent.{SearchThrough, child_index};
-ghost use Rattle.bforest_core.specs.Spots.{HasNext, HasNoParent, HasPrev, HasUnder, HasWay, IsFirst, IsLast, IsLeafAt, IsNextOf, IsPrevOf, IsSpotAt, IsWay, Leads, NumberAt, OnUnder, OnWay, SpotOn, leaf_count, leaf_place};
+ghost use Rattle.bforest_core.specs.Descent.{IsFirst, IsLast, SearchThrough, child_index};
+ghost use Rattle.bforest_core.specs.Spots.{HasNext, HasNoParent, HasPrev, HasUnder, HasWay, IsLeafAt, IsNextOf, IsPrevOf, IsSpotAt, IsWay, Leads, NumberAt, OnUnder, OnWay, SpotOn, leaf_count, leaf_place};
 
 use crate::access::{child, child_count, follow, last_index, separator};
 use crate::pool::NodePool;

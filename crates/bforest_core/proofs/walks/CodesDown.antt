@@ -1,19 +1,19 @@
 -- The way down to the first leaf below a node, and to the last, as a spot: each answer of `first_below` and `last_below` is one of these.
 use Rattle.std.proofs.Common.{◌≡◌, ℕ, suc, ◌+◌, ◌-◌, ◌*◌, ◌≤◌, ◌<◌, List, [], ◌∷◌, ◌++◌, IsTrue, length, slice_get, Some, refl, sym, ap, subst, ◌∙◌, arith, append_assoc, length-append}
-use Rattle.bforest_core.proofs.Words.{Content, FitRow, IsInner, IsLeafCapacity, IsUnion, LevelNode, StackedTo, flat, heads, half_of, inner_content, node, Under, nil_from_length}
-use Rattle.bforest_core.specs.Spots.{Coded, HasUnder, IsFirst, IsLast, IsLeafAt, IsSpotAt, IsWay, NumberAt, OnUnder, leaf_count}
-use Rattle.bforest_core.proofs.Words.{append-nil, Table, is_root, tree_of}
+use Rattle.bforest_core.proofs.Words.{Content, FitRow, IsInner, IsLeafCapacity, IsUnion, LevelNode, StackedTo, flat, heads, half_of, node, Under}
+use Rattle.bforest_core.specs.Spots.{Coded, HasUnder, IsLeafAt, IsSpotAt, IsWay, NumberAt, OnUnder, leaf_count}
+use Rattle.bforest_core.proofs.Words.{IsFirst, IsLast, append-nil, Table, is_root, tree_of}
 use Rattle.bforest_core.specs.declared.spot.Spot.{Spot}
 use Rattle.bforest_core.proofs.rows.LevelRows.{FitRow-split}
 use Rattle.bforest_core.proofs.table.Stored.{item_count, slice_get_at}
 use Rattle.bforest_core.proofs.walks.Codes.{code-low, digit-put, leaf-at}
 use Rattle.bforest_core.proofs.walks.Descent.{some_leaf}
-use Rattle.bforest_core.proofs.walks.Downward.{Seen, stacked_last}
-use Rattle.bforest_core.proofs.walks.Leading.{child_under, last_place}
+use Rattle.bforest_core.proofs.walks.Downward.{stacked_last}
+use Rattle.bforest_core.proofs.walks.Leading.{Turns, child_under}
 use Rattle.bforest_core.proofs.walks.Standing.{under-root}
 use Rattle.bforest_core.proofs.walks.Steps.{no_heads}
-use Rattle.bforest_core.proofs.walks.TopNode.{InnerUnder, LeafUnder, inner_under, leaf_under, node_held, none_flat}
-use Rattle.bforest_core.proofs.walks.Reading.{ChildAsked, ChildRead, LastAsked, LastRead}
+use Rattle.bforest_core.proofs.walks.TopNode.{InnerUnder, LeafUnder, inner_under, leaf_under, node_held}
+use Rattle.bforest_core.proofs.walks.Reading.{ChildAsked, ChildRead, LastAsked}
 
 -- the node at a place of the lowest level
 number-here : {K V : Type 0} {most : _} {slots : List (Content K V)} {leaves : _} (lower : _) (a : List (K × ℕ)) (first : K) (number : ℕ) (b : List (K × ℕ)) → Under most slots leaves lower (a ++ (first, number) ∷ b) → lower ≡ []
@@ -94,34 +94,6 @@ module _ {K V : Type 0} {most : _} {slots : List (Content K V)} (capacity : IsLe
           let c = child_under below below.slot_is index (reads _ _ below.slot_is) in
           record { front = c.0; key = c.1; back = c.2; under = c.3; way = way-down c.4; front_is = c.4; sum_is = c.5 }
 
--- the entries of a row end with those of its last node
-last-end : {K : Type 0} {row : List (LevelNode K ℕ)} (a : _) {first number : _} (b : _) (at : Seen 4 8 row a first number b) → b ≡ [] → length (flat row) ≡ length (flat at.before) + suc (length at.es)
-last-end {row = row} a {first = first} {number = number} [] at none = last_place 8 (omega arith) at
-last-end a (x ∷ b) at none = absurd (omega (arith, ap length none))
-
-module _ {K V : Type 0} (most : ℕ) (slots : List (Content K V)) (Side : List (K × ℕ) → List (K × ℕ) → Type 0) (number index : ℕ) where
-  -- the way down one side of a tree goes on from a node to its child at this index
-  pub record Turns : Type 0 where
-    pub within : (leaves lower a first b : _) (s : InnerUnder most slots leaves lower a first number b) → Side a b → index ≤ length s.at.es
-    pub keeps : (leaves lower a first b : _) (s : InnerUnder most slots leaves lower a first number b) → Side a b → (front back : List (K × ℕ))
-        → length front ≡ length (flat s.at.before) + index → length front + suc (length back) ≡ length (flat s.row) → Side front back
-
-module _ {K V : Type 0} {most : ℕ} {slots : List (Content K V)} where
-  pub first-turns : {number : ℕ} → Turns most slots IsFirst number 0
-  first-turns = record {
-    within = λ leaves lower a first b s side. omega arith;
-    keeps = λ leaves lower a first b s side front back front_is sum_is. nil_from_length front (omega (arith, front_is, none_flat s.at.before (s.at.before_is ∙ ap length side)));
-  }
-
-  pub last-turns : {number last : ℕ} → LastRead slots number last → Turns most slots IsLast number last
-  last-turns {number} {last} says = record {
-    within = λ leaves lower a first b s side. omega (arith, index leaves lower a first b s);
-    keeps = λ leaves lower a first b s side front back front_is sum_is. nil_from_length back (omega (arith, front_is, sum_is, index leaves lower a first b s, last-end a b s.at side));
-  }
-    where
-      index : (leaves lower a first b : _) (s : InnerUnder most slots leaves lower a first number b) → last ≡ length s.at.es
-      index leaves lower a first b s = omega (arith, says (inner_content (s.at.e ∷ s.at.es)) s.slot_is, item_count (s.at.e ∷ s.at.es))
-
 -- what is said of the first leaf, and of the last, as the end of a way
 module _ {K V : Type 0} (end : Spot) (leaf : ℕ) (leaves : List (LevelNode K V)) (rows : List (List (LevelNode K ℕ))) where
   abbrev pub FirstSaid : Type 0
@@ -138,7 +110,7 @@ module _ {K V : Type 0} {most : ℕ} {slots : List (Content K V)} (capacity : Is
     pub last-here : OnUnder most slots IsLast spot number (LastSaid spot number)
     last-here leaves lower upper numbers a first b side u w = way-here capacity a first number b u read other w (ends capacity a first number b u read other side)
 
-  module _ (inner : IsInner content) {Side : List (K × ℕ) → List (K × ℕ) → Type 0} {index : ℕ} (turns : Turns most slots Side number index) where
+  module _ (inner : IsInner content) {Side : List (K × ℕ) → List (K × ℕ) → Type 0} {index : ℕ} {place : List (LevelNode K V) → ℕ} (turns : Turns most slots Side place number index) where
     module _ {spot : Spot} (asked : HasUnder most slots Side spot number) where
       low-here : index ≤ length (below capacity asked.4 asked.5 number asked.6 asked.8 read inner).at.es
       low-here = turns.within asked.0 asked.1 asked.4 asked.5 asked.6 (below capacity asked.4 asked.5 number asked.6 asked.8 read inner) asked.7

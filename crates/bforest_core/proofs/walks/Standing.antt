@@ -1,11 +1,11 @@
 -- A path at a place of the list under a root.
 use Rattle.std.proofs.Common.{◌≡◌, ◌≢◌, ℕ, zero, suc, ◌+◌, ◌-◌, ◌==◌, ◌≤◌, ◌<◌, ◌↔◌, Bool, IsTrue, true, false, Some, slice_get, if◌then◌else◌, List, [], ◌∷◌, ◌++◌, get_or, length, length-append, inl, inr, refl, sym, subst, ap, ◌∙◌, arith}
 use Rattle.bforest_core.proofs.Words.{flat_map, false≢true, eqb_tells, Path, PointsTo, StandsAt, StandsOn, index_of, leaf_of, list_under, path_root, place_in, spot, IsLeaf, AtUnder, StandsUnder, IsRooted, Under, LevelNode, Tree, flat}
-use Rattle.bforest_core.proofs.Words.{heads, length-map, node, numbers, sizes, sizes_of, IsFit, IsIn, IsPathAt, PointsAt, Stands, count, leaf_content, numbers_of, Moved, Over, Table, IsUnion, is_root, slot, tree_of}
+use Rattle.bforest_core.proofs.Words.{HasBelow, Led, OnBelow, heads, length-map, node, numbers, sizes, sizes_of, IsFit, IsIn, IsPathAt, PointsAt, Stands, count, leaf_content, numbers_of, Moved, Over, Table, IsUnion, is_root, slot, tree_of}
 use Rattle.bforest_core.specs.Paths.{IsPlaced}
 use Rattle.bforest_core.proofs.walks.Descent.{some_leaf}
-use Rattle.bforest_core.proofs.walks.Leading.{LeadsFirst, LeadsLast, last_stands, led_leaf}
-use Rattle.bforest_core.proofs.walks.TopNode.{SameBut, node_under}
+use Rattle.bforest_core.proofs.walks.Leading.{leaf_led}
+use Rattle.bforest_core.proofs.walks.TopNode.{SameBut, node_under, none_flat}
 use Rattle.bforest_core.proofs.table.Read.{slot-is}
 use Rattle.bforest_core.proofs.rows.LevelRows.{flat-append}
 use Rattle.bforest_core.proofs.rows.Tops.{root-points}
@@ -59,29 +59,27 @@ root-level tree is = omega (arith, is, length-map tree.above sizes)
 pub path-levels : {K V : Type 0} (tree : Tree K V) {levels size : ℕ} → levels ≡ length (sizes_of tree) → size ≡ levels → size ≡ suc (length tree.above)
 path-levels tree is same = omega (arith, is, same, length-map tree.above sizes)
 
--- a path that descended from a root to the first entry, or to the last
-module _ {K V : Type 0} {most : ℕ} {table : Table K V} (root : ℕ) (union : IsUnion most table) (is : IsTrue (is_root table.nodes root)) (path indices path' indices' : List ℕ) {levels size : ℕ} (levels_is : levels ≡ length (sizes_of (tree_of table.nodes root))) (size_is : size ≡ levels) where
-  abbrev tree_here : Tree K V
-  tree_here = tree_of table.nodes root
-
-  pub led-first : LeadsFirst most table.nodes path indices path' indices' root (levels - 1) → StandsUnder table.nodes root path' indices' size 0
-  led-first leads =
+-- a path that descended on one side from a root stands there
+module _ {K V : Type 0} {most : ℕ} {table : Table K V} (root : ℕ) (union : IsUnion most table) (is : IsTrue (is_root table.nodes root)) {levels : ℕ} (levels_is : levels ≡ length (sizes_of (tree_of table.nodes root))) {Side : List (K × ℕ) → List (K × ℕ) → Type 0} (side : Side [] []) where
+  -- what the descent requires
+  pub root-below : HasBelow most table.nodes Side root (levels - 1)
+  root-below =
       let u = under-root root union is in
-      let d = leads tree_here.leaves tree_here.above u.first [] u.under (root-level tree_here levels_is) in
-      record { root_is = is; stands = led_stands tree_here size d (path-levels tree_here levels_is size_is) }
+      ((tree_of table.nodes root).leaves, (tree_of table.nodes root).above, [], u.first, [], side, u.under, root-level (tree_of table.nodes root) levels_is)
 
-  pub led-last : LeadsLast most table.nodes path indices path' indices' root (levels - 1) → StandsUnder table.nodes root path' indices' size (length (flat tree_here.leaves) - 1)
-  led-last leads =
+  pub led-root : (place : List (LevelNode K V) → ℕ) {size : ℕ} {path indices path' indices' : List ℕ} → size ≡ levels → OnBelow most table.nodes Side root (levels - 1) (λ leaves lower top. Led leaves lower (place leaves) top path indices path' indices') → StandsUnder table.nodes root path' indices' size (place (tree_of table.nodes root).leaves)
+  led-root place {size} size_is leads =
+      let tree = tree_of table.nodes root in
       let u = under-root root union is in
-      let d = leads tree_here.leaves tree_here.above [] u.first u.under (root-level tree_here levels_is) in
-      record { root_is = is; stands = last_stands tree_here path' indices' d (path-levels tree_here levels_is size_is) }
+      let d = leads tree.leaves tree.above [] u.first [] side u.under (root-level tree levels_is) in
+      record { root_is = is; stands = led_stands tree size d (path-levels tree levels_is size_is) }
 
 -- a path of one level at the front of a root that is a leaf is on the first entry
 pub on-leaf : {K V : Type 0} {most : ℕ} (table : Table K V) (root : ℕ) (path indices : List ℕ) → IsUnion most table → IsTrue (is_root table.nodes root) → IsLeaf (slot table.nodes root) → get_or path 0 0 ≡ root → get_or indices 0 0 ≡ 0 → StandsUnder table.nodes root path indices 1 0
 on-leaf table root path indices union is leaf node_is index_is =
     let u = under-root root union is in
     elim (node_under (some_leaf union.1.capacity) _ [] u.first root [] u.under) [
-      | inl s ↦ (let d = led_leaf (some_leaf union.1.capacity) s path indices path indices node_is index_is (λ i ne. refl) (λ i ne. refl) in record { root_is = is; stands = led_stands _ 1 d.1 (omega (arith, d.0)) })
+      | inl s ↦ (let d = leaf_led path indices s path indices 0 (omega arith) (omega (arith, none_flat s.at.before s.at.before_is)) node_is index_is (λ i ne. refl) (λ i ne. refl) in record { root_is = is; stands = led_stands _ 1 d (sym (ap (λ z. suc (length z)) s.lower_is)) })
       | inr s ↦ absurd (subst IsLeaf (slot-is table.nodes root _ s.slot_is) leaf)
     ]
 

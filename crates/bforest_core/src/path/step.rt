@@ -2,7 +2,7 @@
 ghost use Rattle.std.specs.Prelude.{◌≡◌, ℕ, suc, ◌+◌, ◌-◌, ◌<◌, ◌≤◌, ◌≢◌, ◌↔◌, IfSome, IsTrue, false, true, List, [], ◌∷◌, ◌++◌, length, get_or, slice_get, Some, None, if◌then◌else◌};
 ghost use Rattle.bforest_nodes.specs.Content.{IsLeafCapacity};
 ghost use Rattle.bforest_core.specs.Levels.{LevelNode, flat, Tree, IsFit, most_levels, top_level};
-ghost use Rattle.bforest_core.specs.Descent.{Under, Led, LedLast};
+ghost use Rattle.bforest_core.specs.Descent.{HasBelow, IsFirst, IsLast, Led, OnBelow};
 ghost use Rattle.bforest_nodes.specs.Entries.{place};
 ghost use Rattle.bforest_core.specs.Place.{inner_content, entry_items, leaf_content, IsIn, Stands, entry_before};
 ghost use Rattle.bforest_core.specs.Trees.{IsUnion, is_root};
@@ -49,13 +49,9 @@ impl<K: Copy, V: Copy, const N: usize> Path<K, V, N> {
     fn descend_first(&mut self, node: Node, level: usize, pool: &NodePool<K, V, N>)
         requires capacity { IsLeafCapacity N }
         requires height { level ≤ top_level }
-        requires under { (leaves : List (LevelNode K V)) × (lower : List (List (LevelNode K ℕ))) × (first : K)
-            × (b : List (K × ℕ)) × Under N pool.now.nodes leaves lower ((first, node) ∷ b)
-            × (level ≡ length lower) }
-        ensures led { (leaves : List (LevelNode K V)) (lower : List (List (LevelNode K ℕ))) (first : K)
-            (b : List (K × ℕ)) → Under N pool.now.nodes leaves lower ((first, node) ∷ b)
-            → level ≡ length lower → Led leaves lower self.old.node self.old.entry self.new.node
-            self.new.entry }
+        requires under { HasBelow N pool.now.nodes IsFirst node level }
+        ensures led { OnBelow N pool.now.nodes IsFirst node level (λ leaves lower top. Led leaves lower 0 top
+            self.old.node self.old.entry self.new.node self.new.entry) }
         ensures size { self.new.size ≡ self.old.size }
     {
         self.set_level(level, node, 0);
@@ -366,13 +362,9 @@ impl<K: Copy, V: Copy, const N: usize> Path<K, V, N> {
     fn descend_last(&mut self, node: Node, level: usize, pool: &NodePool<K, V, N>)
         requires capacity { IsLeafCapacity N }
         requires height { level ≤ top_level }
-        requires under { (leaves : List (LevelNode K V)) × (lower : List (List (LevelNode K ℕ)))
-            × (before : List (K × ℕ)) × (first : K) × Under N pool.now.nodes leaves lower
-            (before ++ (first, node) ∷ []) × (level ≡ length lower) }
-        ensures led { (leaves : List (LevelNode K V)) (lower : List (List (LevelNode K ℕ)))
-            (before : List (K × ℕ)) (first : K) → Under N pool.now.nodes leaves lower
-            (before ++ (first, node) ∷ []) → level ≡ length lower → LedLast leaves lower (length before)
-            self.old.node self.old.entry self.new.node self.new.entry }
+        requires under { HasBelow N pool.now.nodes IsLast node level }
+        ensures led { OnBelow N pool.now.nodes IsLast node level (λ leaves lower top. Led leaves lower
+            (length (flat leaves) - 1) top self.old.node self.old.entry self.new.node self.new.entry) }
         ensures size { self.new.size ≡ self.old.size }
     {
         let last = last_index(pool, node);

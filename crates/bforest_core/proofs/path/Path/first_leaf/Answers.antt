@@ -1,9 +1,9 @@
-use Rattle.std.proofs.Common.{rules, [], sym, ◌∙◌, arith}
+use Rattle.std.proofs.Common.{rules, [], refl, sym, ◌∙◌, arith}
 use Rattle.bforest_core.proofs.Words.{false≢true, get_or_default, tree_of}
 use Rattle.bforest_core.proofs.walks.Descent.{some_leaf}
 use Rattle.bforest_core.proofs.walks.TopNode.{node_within}
 use Rattle.bforest_core.proofs.walks.Leaves.{leaf-front, root-leaf}
-use Rattle.bforest_core.proofs.walks.Standing.{led-first, root-level, under-root}
+use Rattle.bforest_core.proofs.walks.Standing.{led-root, root-below, under-root}
 use Rattle.bforest_core.proofs.path.Path.first_leaf.Goals as goal
 
 pub node-requires : goal.node-requires
@@ -22,12 +22,11 @@ overflow_sub-levels g c = omega (arith, c.levels-levels.ensures.value)
 
 pub descend_first-requires : goal.descend_first-requires
 descend_first-requires g c =
-    let tree = tree_of c.args.pool.now.nodes c.args.root in
     let u = under-root c.args.root c.requires.union c.requires.root in
-    let levels_is = root-level tree c.levels-levels.ensures.value in
-    (search rules, (search rules, (c.requires.union.1.capacity, (omega (arith, levels_is, u.low), (tree.leaves, tree.above, u.first, [], u.under, levels_is)))))
+    let w = root-below c.args.root c.requires.union c.requires.root c.levels-levels.ensures.value refl in
+    (search rules, (search rules, (c.requires.union.1.capacity, (omega (arith, w.7, u.low), w))))
 
 pub returns : goal.returns
 returns g c =
-    let on = led-first c.args.root c.requires.union c.requires.root _ _ _ _ c.levels-levels.ensures.value c.descend_first.ensures.size c.descend_first.ensures.led in
+    let on = led-root c.args.root c.requires.union c.requires.root c.levels-levels.ensures.value refl (λ leaves. 0) c.descend_first.ensures.size c.descend_first.ensures.led in
     record { leaf = get_or_default c.descend_first.new.self.node 0 _ 0 (omega arith); index = omega (arith, on.stands.leaf.place_is); stands = leaf-front c.requires.union 0 _ on (omega (arith, on.stands.leaf.place_is)) }
