@@ -1,5 +1,6 @@
 -- Lemmas on descending and stepping.
 pub mod Reading
+pub mod RowNodes
 pub mod LeafSearch
 pub mod Rising
 pub mod Downward

@@ -2,7 +2,7 @@
 use Rattle.std.proofs.Common.{◌≡◌, ℕ, suc, ◌+◌, ◌*◌, ◌^◌, ◌≤◌, ◌<◌, ◌-◌, nat_lt, true, false, Option, Some, None, List, [], ◌∷◌, ◌++◌, map, length, refl, sym, ap, ◌∙◌, inl, inr, subst, length-append, arith, nat_le}
 use Rattle.bforest_core.proofs.Words.{cases_lt, length-map, LevelNode, node, flat, heads, sizes, FitRow, Stacked, Topped, inner_gain, gain_above}
 use Rattle.std.proofs.Math.Nat.{mul-le-mul_left, pow-succ'}
-use Rattle.bforest_core.proofs.walks.Steps.{fit_full}
+use Rattle.bforest_core.proofs.walks.RowNodes.{fit_full}
 
 -- a row has more entries than half full nodes, one fewer than its nodes, would have
 pub entries-many : {K X : Type 0} (half most : ℕ) → 1 ≤ half → (m : ℕ) (es : List (K × X)) (ns : List (LevelNode K X)) → FitRow half most (node m es ∷ ns) → half * length ns < length (flat (node m es ∷ ns))

@@ -16,11 +16,11 @@ not_so none h = λ a. false≢true (sym none ∙ h.1 a)
 
 module _ {K V : Type 0} where
   -- the need at a full node, and at one with room
-  spot_full : (t : Table K V) (ms js up : _) {size : _} {rows : List (List (LevelNode K ℕ))} {list p : _} → (f : Spot t.nodes ms js up size rows list p) → length f.entries ≡ 8 → need_above (Some p) (map sizes rows) ≡ suc (need_above (Some (length f.before)) (map sizes f.rest))
+  spot_full : (t : Table K V) (ms js up : _) {size rows list p : _} → (f : Spot t.nodes ms js up size rows list p) → length f.entries ≡ 8 → need_above (Some p) (map sizes rows) ≡ suc (need_above (Some (length f.before)) (map sizes f.rest))
   spot_full t ms js up f eight =
       rw (f.rows_are, f.row_is, f.place_is, sizes-append f.before (node (get_or ms up 0) f.entries ∷ f.after), gain_full f.before (length f.entries) (get_or js up 0) (sizes f.after) f.within eight) refl
 
-  spot_room : (t : Table K V) (ms js up : _) {size : _} {rows : List (List (LevelNode K ℕ))} {list p : _} → (f : Spot t.nodes ms js up size rows list p) → length f.entries < 8 → need_above (Some p) (map sizes rows) ≡ 1
+  spot_room : (t : Table K V) (ms js up : _) {size rows list p : _} → (f : Spot t.nodes ms js up size rows list p) → length f.entries < 8 → need_above (Some p) (map sizes rows) ≡ 1
   spot_room t ms js up f room =
       rw (f.rows_are, f.row_is, f.place_is, sizes-append f.before (node (get_or ms up 0) f.entries ∷ f.after), gain_room f.before (length f.entries) (get_or js up 0) (sizes f.after) f.within room) refl
 

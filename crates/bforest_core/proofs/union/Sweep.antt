@@ -10,7 +10,8 @@ use Rattle.bforest_core.proofs.walks.TopNode.{LeafUnder, InnerUnder, node_under}
 use Rattle.bforest_core.proofs.table.Stored.{childless, some_same}
 use Rattle.bforest_nodes.proofs.Seams.{last_taken}
 use Rattle.bforest_core.proofs.walks.LeafSearch.{items-read}
-use Rattle.bforest_core.proofs.walks.Steps.{no_heads, read}
+use Rattle.bforest_core.proofs.walks.Steps.{read}
+use Rattle.bforest_core.proofs.walks.RowNodes.{no_heads}
 use Rattle.bforest_core.proofs.table.Read.{slot-is}
 use Rattle.bforest_core.proofs.table.Lists.{drop-read}
 use Rattle.bforest_core.proofs.union.Sections.{UnderCut, under-cut}

@@ -5,7 +5,8 @@ use Rattle.std.specs.declared.cmp.Ordering.{Ordering}
 use Rattle.bforest_nodes.proofs.Found.{place-present}
 use Rattle.bforest_core.proofs.walks.Backward.{before_is}
 use Rattle.bforest_core.proofs.walks.Rising.{place-le}
-use Rattle.bforest_core.proofs.walks.Steps.{entry_at, read}
+use Rattle.bforest_core.proofs.walks.Steps.{read}
+use Rattle.bforest_core.proofs.walks.RowNodes.{entry_at}
 
 -- a mapped answer is there exactly if the answer is
 some-mapped : {A B : Type 0} (f : A → B) (o : Option A) → is_some (option_map f o) ≡ is_some o

@@ -5,8 +5,9 @@ use Rattle.bforest_core.specs.Spots.{CodedOver, HasPrev, IsLeafAt, IsSpotAt, IsW
 use Rattle.bforest_core.specs.declared.spot.Spot.{Spot}
 use Rattle.bforest_core.proofs.table.Stored.{item_count}
 use Rattle.bforest_core.proofs.removal.Removal.{if_some}
-use Rattle.bforest_core.proofs.walks.Codes.{NodeIn, child-asks, child-code, child-is, code-low, far-spot, here, its, leaf-at, node-at, node-here, other, seam, spot-over, way-of}
+use Rattle.bforest_core.proofs.walks.Codes.{child-asks, child-code, child-is, code-low, far-spot, here, its, leaf-at, node-here, other, spot-over, way-of}
 use Rattle.bforest_core.proofs.walks.Cousins.{grand-is, more, up}
+use Rattle.bforest_core.proofs.walks.RowNodes.{NodeIn, node-at, seam}
 use Rattle.bforest_core.proofs.walks.TopNode.{none_flat}
 use Rattle.bforest_core.proofs.walks.Reading.{ChildAsked, ChildRead, LastAsked, LastRead}
 
@@ -67,7 +68,7 @@ module _ {K V : Type 0} {slots : List (Content K V)} {root code depth numbers ro
           within = omega (arith, last-is)
 
           meets : place ≡ length (flat node-before.before) + suc last
-          meets = omega (arith, seam inner_content slots 8 node-before (here p some).at (omega (arith, on.0)), last-is, none, (here p some).place_is)
+          meets = omega (arith, seam node-before (here p some).at (omega (arith, on.0)), last-is, none, (here p some).place_is)
 
           to-last : place - 1 ≡ length (flat node-before.before) + last
           to-last = omega (arith, meets)

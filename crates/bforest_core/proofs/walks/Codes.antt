@@ -1,79 +1,16 @@
 -- The way of a code down rows of inner nodes, and the way to the next node: each step of a spot stands on these.
-use Rattle.std.proofs.Common.{IsTrue, ◌≡◌, ◌≢◌, ℕ, zero, suc, ◌+◌, ◌-◌, ◌*◌, ◌/◌, ◌%◌, ◌≤◌, ◌<◌, List, [], ◌∷◌, ◌++◌, length, take, drop, get_or, slice_get, option_map, Some, refl, sym, ap, subst, ◌∙◌, arith, append_assoc, length-append}
-use Rattle.bforest_core.proofs.Words.{nil_from_length, take_at, slice_get_within, Content, entry_count, LevelNode, node, flat, heads, FitRow, RowIn, inner_content, entry_items, entry_keys}
+use Rattle.std.proofs.Common.{IsTrue, ◌≡◌, ◌≢◌, ℕ, zero, suc, ◌+◌, ◌-◌, ◌*◌, ◌/◌, ◌%◌, ◌≤◌, ◌<◌, List, [], ◌∷◌, ◌++◌, length, drop, get_or, slice_get, option_map, Some, refl, sym, ap, subst, ◌∙◌, arith}
+use Rattle.bforest_core.proofs.Words.{Content, entry_count, LevelNode, node, flat, heads, FitRow, RowIn, inner_content, entry_items, entry_keys}
 use Rattle.bforest_core.specs.Spots.{Coded, CodedOver, HasNext, IsLeafAt, IsSpotAt, IsWay, NumberAt, leaf_count}
 use Rattle.bforest_core.specs.declared.spot.Spot.{Spot}
 use Rattle.bforest_core.proofs.union.Unions.{is-rooted}
 use Rattle.bforest_core.proofs.Words.{IsUnion, Table, half_of, is_root, leaf_content, tree_of}
-use Rattle.bforest_core.proofs.rows.LevelRows.{flat-append, least-pos, FitRow-split}
-use Rattle.bforest_core.proofs.rows.Zipper.{cut}
-use Rattle.bforest_core.proofs.table.Stored.{some_same, slice_get_at, item_count}
-use Rattle.bforest_core.proofs.table.Tables.{row-split}
+use Rattle.bforest_core.proofs.table.Stored.{some_same, item_count}
 use Rattle.bforest_core.proofs.walks.Descent.{some_leaf}
-use Rattle.bforest_core.proofs.walks.Downward.{seen}
 use Rattle.bforest_core.proofs.walks.LeafSearch.{items-read}
-use Rattle.bforest_core.proofs.walks.Steps.{entry_at, fit_full, read}
+use Rattle.bforest_core.proofs.walks.Steps.{read}
 use Rattle.bforest_core.proofs.walks.Reading.{ChildAsked, ChildRead, CountAsked, CountRead}
-
--- a list cut at one place is cut into the same parts
-same-cut : {A : Type 0} (b1 : List A) (x1 : A) (a1 b2 : List A) (x2 : A) (a2 : List A) → b1 ++ x1 ∷ a1 ≡ b2 ++ x2 ∷ a2 → length b1 ≡ length b2 → (b1 ≡ b2) × (x1 ≡ x2)
-same-cut [] x1 a1 [] x2 a2 e l = (refl, cc)
-same-cut [] x1 a1 (y ∷ b2) x2 a2 e l = absurd (omega (arith, l))
-same-cut (y ∷ b1) x1 a1 [] x2 a2 e l = absurd (omega (arith, l))
-same-cut (y ∷ b1) x1 a1 (z ∷ b2) x2 a2 e l = let r = same-cut b1 x1 a1 b2 x2 a2 (cc) (omega (arith, l)) in (cc, r.1)
-
-node-number : {K X : Type 0} {i : ℕ} {xs : List (K × X)} {j : ℕ} {ys : List (K × X)} → node i xs ≡ node j ys → i ≡ j
-node-number e = cc
-
-module _ {K V X : Type 0} (content : List (K × X) → Content K V) (slots : List (Content K V)) (most : ℕ) where
-  -- the node of this number at a place of a row
-  pub record NodeIn (row : List (LevelNode K X)) (number place : ℕ) : Type 0 where
-    pub before : List (LevelNode K X)
-    pub entries : List (K × X)
-    pub after : List (LevelNode K X)
-    pub row_is : row ≡ before ++ node number entries ∷ after
-    pub at : length before ≡ place
-    pub slot_is : slice_get slots number ≡ Some (content entries)
-    pub some : 1 ≤ length entries
-    pub room : length entries ≤ most
-
-  module _ (half : ℕ) (one : 1 ≤ half) (row : List (LevelNode K X)) (fit : FitRow half most row) (inside : RowIn content slots row) where
-    abbrev pub node-in : (number place : ℕ) (before : List (LevelNode K X)) (entries : List (K × X)) (after : List (LevelNode K X)) → row ≡ before ++ node number entries ∷ after → length before ≡ place → NodeIn row number place
-    node-in number place before entries after row_is at =
-        let f = (FitRow-split half most before (node number entries) after (subst (FitRow half most) row_is fit)).1 in
-        let i = (row-split content slots before (node number entries ∷ after) (subst (RowIn content slots) row_is inside)).1.0 in
-        record { before = before; entries = entries; after = after; row_is = row_is; at = at; slot_is = i; some = omega (arith, f.0, least-pos half one after); room = f.1 }
-
-    pub node-at : (number place : ℕ) → NumberAt (heads row) place number → NodeIn row number place
-    node-at number place m =
-        let c = cut (heads row) place (slice_get_within (heads row) place (m.0, number) m.1) in
-        let same : c.x ≡ (m.0, number) = some_same c.x (m.0, number) (sym (ap (λ z. slice_get z place) c.es_is ∙ slice_get_at c.l c.x c.r place c.place_is) ∙ m.1) in
-        let s = seen half most one row c.l m.0 number c.r fit (c.es_is ∙ ap (λ z. c.l ++ z ∷ c.r) same) in
-        node-in number place s.before (s.e ∷ s.es) s.after s.row_is (s.before_is ∙ c.place_is)
-
-  module _ {row : List (LevelNode K X)} {number place : ℕ} (a : NodeIn row number place) where
-    -- no other node is at that place
-    pub node-same : {number1 : ℕ} (b : NodeIn row number1 place) → number1 ≡ number
-    node-same {number1} b =
-        let same = (same-cut b.before (node number1 b.entries) b.after a.before (node number a.entries) a.after (sym b.row_is ∙ a.row_is) (b.at ∙ sym a.at)).1 in
-        node-number same
-
-    -- the entries of the node are those in front of the next node's
-    pub seam : {number1 place1 : ℕ} (b : NodeIn row number1 place1) → place1 ≡ suc place → length (flat b.before) ≡ length (flat a.before) + length a.entries
-    seam {number1} b next =
-        let k = length b.before in
-        let x = node number a.entries in
-        let two : b.before ≡ a.before ++ x ∷ [] = sym (take_at b.before (node number1 b.entries ∷ b.after) k refl)
-        ∙ ap (λ z. take k z) (sym b.row_is ∙ a.row_is ∙ sym (append_assoc a.before (x ∷ []) a.after))
-        ∙ take_at (a.before ++ x ∷ []) a.after k (omega (arith, a.at, b.at, next, length-append a.before (x ∷ []))) in
-        omega (arith, ap (λ z. length (flat z)) two, ap length (flat-append a.before (x ∷ [])), length-append (flat a.before) (a.entries ++ []), length-append a.entries [])
-
-    -- the entries of the last node of a row end the row's entries
-    pub none-behind : (half : ℕ) → 1 ≤ half → FitRow half most row → suc place ≡ length (heads row) → length (flat row) ≡ length (flat a.before) + length a.entries
-    none-behind half one fit last =
-        let x = node number a.entries in
-        let none = nil_from_length a.after (omega (arith, last, a.at, fit_full half most one row fit, ap length a.row_is, length-append a.before (x ∷ a.after))) in
-        omega (arith, ap (λ z. length (flat z)) a.row_is, ap length (flat-append a.before (x ∷ a.after)), length-append (flat a.before) (a.entries ++ flat a.after), length-append a.entries (flat a.after), ap (λ z. length (flat z)) none)
+use Rattle.bforest_core.proofs.walks.RowNodes.{NodeIn, entry_at, fit_full, node-at, node-in, node-same, none-behind, seam}
 
 -- a power of eight
 abbrev pub eights : ℕ → ℕ
@@ -194,7 +131,7 @@ module _ {K V : Type 0} {slots : List (Content K V)} {root code depth numbers ro
 
   -- the lowest node is the one that was read
   pub read-same : (parent : ℕ) → ((numbers rows list place : _) → CodedOver slots root (code / 8) (depth - 1) numbers rows list place → NumberAt list place parent) → parent ≡ here.number
-  read-same parent says = node-same inner_content slots 8 here.at (node-at inner_content slots 8 4 (omega arith) here.row here.fit here.inside parent here.top (says (drop 1 numbers) here.rest (heads here.row) here.top here.over))
+  read-same parent says = node-same here.at (node-at inner_content slots 8 4 (omega arith) here.row here.fit here.inside parent here.top (says (drop 1 numbers) here.rest (heads here.row) here.top here.over))
 
   module _ {parent : ℕ} (same : parent ≡ here.number) where
     abbrev pub node-here : NodeIn inner_content slots 8 here.row parent here.top
@@ -243,7 +180,7 @@ module _ {K V : Type 0} {slots : List (Content K V)} {root code depth numbers ro
 
       -- the last child of the last node is the last of its level
       pub none-next : count ≤ code % 8 + 1 → suc here.top ≡ length (heads here.row) → suc place ≡ length list
-      none-next high last = omega (arith, past high, here.within, here.place_is, ap length here.flat_is, none-behind inner_content slots 8 here.at 4 (omega arith) here.fit last)
+      none-next high last = omega (arith, past high, here.within, here.place_is, ap length here.flat_is, none-behind here.at 4 (omega arith) here.fit last)
 
       module _ (high : count ≤ code % 8 + 1) (above node : ℕ) (on : NextAbove above node) where
         next-node : NodeIn inner_content slots 8 here.row node (suc here.top)
@@ -257,7 +194,7 @@ module _ {K V : Type 0} {slots : List (Content K V)} {root code depth numbers ro
         above-low low = code-low 15 here.rest on.0 above (suc here.top) on.1.coded (omega (arith, low, here.low))
 
         start : suc place ≡ length (flat next-node.before) + 0
-        start = omega (arith, seam inner_content slots 8 here.at next-node refl, here.place_is, here.within, past high)
+        start = omega (arith, seam here.at next-node refl, here.place_is, here.within, past high)
 
         -- the way goes on to that child
         pub first-code : CodedOver slots root (above * 8) depth (node ∷ on.0) rows list (suc place)

@@ -11,7 +11,7 @@ use Rattle.bforest_core.proofs.walks.Descent.{some_leaf}
 use Rattle.bforest_core.proofs.walks.Downward.{stacked_last}
 use Rattle.bforest_core.proofs.walks.Leading.{Turns, child_under}
 use Rattle.bforest_core.proofs.walks.Standing.{under-root}
-use Rattle.bforest_core.proofs.walks.Steps.{no_heads}
+use Rattle.bforest_core.proofs.walks.RowNodes.{no_heads}
 use Rattle.bforest_core.proofs.walks.TopNode.{InnerUnder, LeafUnder, inner_under, leaf_under, node_held}
 use Rattle.bforest_core.proofs.walks.Reading.{ChildAsked, ChildRead, LastAsked}
 

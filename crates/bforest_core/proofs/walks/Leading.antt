@@ -4,7 +4,7 @@ use Rattle.bforest_core.proofs.Words.{length-map, nil_from_length, Content, IsIn
 use Rattle.bforest_core.proofs.rows.LevelRows.{flat-append}
 use Rattle.bforest_core.proofs.table.Stored.{some_same, item_count}
 use Rattle.bforest_core.proofs.walks.Downward.{Seen, stands_more}
-use Rattle.bforest_core.proofs.walks.Steps.{no_heads}
+use Rattle.bforest_core.proofs.walks.RowNodes.{no_heads}
 use Rattle.bforest_core.proofs.walks.TopNode.{SameBut, none_flat, flat_parted, seen_at, set_but, LeafUnder, InnerUnder, inner_at, inner_under, leaf_at}
 use Rattle.bforest_core.proofs.walks.Reading.{ChildAsked, ChildRead, LastRead}
 
@@ -96,9 +96,9 @@ module _ {K V : Type 0} {most : ℕ} (one : 1 ≤ half_of most) {slots : List (C
           record { rows = front_node.rows; first = c.1; rest = c.2; under = subst (λ z. Under most slots leaves front_node.rows (z ++ (c.1, child) ∷ c.2)) none c.3; count_is = front_node.count_is }
 
 -- the entries of a row end with those of its last node
-last-end : {K X : Type 0} {half : ℕ} (most : ℕ) → 1 ≤ half → {row : List (LevelNode K X)} (a : _) {first number : _} (b : _) (at : Seen half most row a first number b) → b ≡ [] → length (flat row) ≡ length (flat at.before) + suc (length at.es)
-last-end most one a [] at none = last_place most one at
-last-end most one a (x ∷ b) at none = absurd (omega (arith, ap length none))
+last-end : {K X : Type 0} {half : ℕ} {most : ℕ} → 1 ≤ half → {row : List (LevelNode K X)} {a : _} {first number : _} (b : _) (at : Seen half most row a first number b) → b ≡ [] → length (flat row) ≡ length (flat at.before) + suc (length at.es)
+last-end {most = most} one [] at none = last_place most one at
+last-end one (x ∷ b) at none = absurd (omega (arith, ap length none))
 
 module _ {K V : Type 0} (most : ℕ) (slots : List (Content K V)) (Side : List (K × ℕ) → List (K × ℕ) → Type 0) (place : List (LevelNode K V) → ℕ) (number index : ℕ) where
   -- the way down one side of a tree goes on from a node to its child at this index, and ends at this index of a leaf, at this place
@@ -120,17 +120,17 @@ module _ {K V : Type 0} {most : ℕ} {slots : List (Content K V)} where
 
   pub last-turns : {number last : ℕ} (one : 1 ≤ half_of most) → LastRead slots number last → Turns most slots IsLast (λ leaves. length (flat leaves) - 1) number last
   last-turns {number} {last} one says = record {
-    within = λ leaves lower a first b s side. omega (arith, index leaves lower a first b s);
-    keeps = λ leaves lower a first b s side front back front_is sum_is. nil_from_length back (omega (arith, front_is, sum_is, index leaves lower a first b s, last-end 8 (omega arith) a b s.at side));
-    low = λ leaves lower a first b s side. omega (arith, at-leaf leaves lower a first b s);
-    ends = λ leaves lower a first b s side. omega (arith, at-leaf leaves lower a first b s, last-end most one a b s.at side);
+    within = λ leaves lower a first b s side. omega (arith, index s);
+    keeps = λ leaves lower a first b s side front back front_is sum_is. nil_from_length back (omega (arith, front_is, sum_is, index s, last-end (omega arith) b s.at side));
+    low = λ leaves lower a first b s side. omega (arith, at-leaf s);
+    ends = λ leaves lower a first b s side. omega (arith, at-leaf s, last-end one b s.at side);
   }
     where
-      index : (leaves lower a first b : _) (s : InnerUnder most slots leaves lower a first number b) → last ≡ length s.at.es
-      index leaves lower a first b s = omega (arith, says (inner_content (s.at.e ∷ s.at.es)) s.slot_is, item_count (s.at.e ∷ s.at.es))
+      index : {leaves lower a first b : _} (s : InnerUnder most slots leaves lower a first number b) → last ≡ length s.at.es
+      index s = omega (arith, says (inner_content (s.at.e ∷ s.at.es)) s.slot_is, item_count (s.at.e ∷ s.at.es))
 
-      at-leaf : (leaves lower a first b : _) (s : LeafUnder most slots leaves lower a first number b) → last ≡ length s.at.es
-      at-leaf leaves lower a first b s = omega (arith, says (leaf_content (s.at.e ∷ s.at.es)) s.slot_is, length-map (s.at.e ∷ s.at.es) (λ w. w.0))
+      at-leaf : {leaves lower a first b : _} (s : LeafUnder most slots leaves lower a first number b) → last ≡ length s.at.es
+      at-leaf s = omega (arith, says (leaf_content (s.at.e ∷ s.at.es)) s.slot_is, length-map (s.at.e ∷ s.at.es) (λ w. w.0))
 
 -- the descent on one side, from a node whose index in the path was written
 module _ {K V : Type 0} {most : ℕ} (one : 1 ≤ half_of most) {slots : List (Content K V)} {Side : List (K × ℕ) → List (K × ℕ) → Type 0} {place : List (LevelNode K V) → ℕ} {number index : ℕ} (turns : Turns most slots Side place number index) {level : ℕ} where

@@ -38,7 +38,7 @@ module _ {K V : Type 0} {n : ℕ} {table : Table K V} (union : IsUnion n table) 
         record {
           on = subst (λ z. StandsOn table root path z) (omega (arith, first)) on;
           within = s.leaf.within;
-          leaf = (on-leaf-in union path on).slot_is;
+          leaf = (on-leaf-in union path on).node.slot_is;
           list = subst (λ z. drop z (list_under table root) ≡ s.leaf.entries ++ drop (z + length s.leaf.entries) (list_under table root)) here (leaf-rest s);
         },
       )

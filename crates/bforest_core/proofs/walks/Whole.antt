@@ -16,7 +16,7 @@ module _ {K : Type 0} where
   stands_above path indices level [] place s = s
   stands_above path indices level (row ∷ rows) place s = (s.0, stands_above path indices (suc level) rows (length s.0.before) s.1)
 
-pub led_stands : {K V : Type 0} (tree : Tree K V) {place : _} {path indices path' indices' : List ℕ} (size : ℕ) → Led tree.leaves tree.above place 0 path indices path' indices' → size ≡ suc (length tree.above) → Stands path' indices' size tree place
+pub led_stands : {K V : Type 0} (tree : Tree K V) {place path indices path' indices' : _} (size : ℕ) → Led tree.leaves tree.above place 0 path indices path' indices' → size ≡ suc (length tree.above) → Stands path' indices' size tree place
 led_stands tree {path' = path'} {indices' = indices'} size d e = record { leaf = d.leaf; above = stands_above path' indices' 1 tree.above (length d.leaf.before) d.stands; size_is = e }
 
 module _ {K V : Type 0} {most : ℕ} {slots : List (Content K V)} {root : ℕ} {tree : Tree K V} (r : IsRooted most slots root tree) where

@@ -5,10 +5,10 @@ use Rattle.bforest_core.proofs.walks.Entered.{entry_read, leaf_here, next_last, 
 use Rattle.bforest_core.proofs.path.Path.next_entry.Goals as goal
 
 pub overflow_add-next : goal.overflow_add-next
-overflow_add-next g c = let s = c.requires.stands.4 in omega (arith, s.leaf.within, (leaf_here (some_leaf c.requires.capacity) c.requires.stands.2 c.requires.stands.3 s).room, c.requires.capacity.most)
+overflow_add-next g c = let s = c.requires.stands.4 in omega (arith, s.leaf.within, (leaf_here (some_leaf c.requires.capacity) c.requires.stands.2 c.requires.stands.3 s).node.room, c.requires.capacity.most)
 
 pub leaf_entry-requires : goal.leaf_entry-requires
-leaf_entry-requires g c = (search rules, (search rules, (c.requires.stands.4.leaf.entries, (leaf_here (some_leaf c.requires.capacity) c.requires.stands.2 c.requires.stands.3 c.requires.stands.4).slot_is)))
+leaf_entry-requires g c = (search rules, (search rules, (c.requires.stands.4.leaf.entries, (leaf_here (some_leaf c.requires.capacity) c.requires.stands.2 c.requires.stands.3 c.requires.stands.4).node.slot_is)))
 
 pub returns-in-Some-clause-value : goal.returns-in-Some-clause-value
 returns-in-Some-clause-value g c = λ tree place fit inside s. next_read (some_leaf c.requires.capacity) fit inside s c.in-Some.ensures.value
@@ -34,7 +34,7 @@ pub entry_here-requires : goal.entry_here-requires
 entry_here-requires g c =
     let w = c.requires.stands in
     let s = next_over (some_leaf c.requires.capacity) w.2 w.3 w.4 c.in_default.ensures.value c.set_entry-2.new.self.entry (c.next_node.ensures.moved (search rules)) c.set_entry-2.ensures.nodes c.set_entry-2.ensures.here c.set_entry-2.ensures.above in
-    (search rules, (search rules, (s.leaf.entries, (leaf_here (some_leaf c.requires.capacity) w.2 w.3 s).slot_is, s.leaf.within)))
+    (search rules, (search rules, (s.leaf.entries, (leaf_here (some_leaf c.requires.capacity) w.2 w.3 s).node.slot_is, s.leaf.within)))
 
 pub returns-clause-value : goal.returns-clause-value
 returns-clause-value g c = λ tree place fit inside s.
