@@ -19,10 +19,11 @@ pub mod Standing
 pub mod Nearby
 pub mod Codes
 pub mod Ranks
+pub mod Branches
 pub mod CodesDown
 pub mod Cousins
-pub mod Back
 pub mod OnLevel
+pub mod Following
 pub mod Alone
 pub mod Searches
 pub mod AtMost

@@ -375,10 +375,7 @@ fn next_far<K: Copy, V: Copy, const N: usize>(
 ) -> Option<(Spot, Node)>
     requires low { height ≤ 16 }
     requires over { HasWay pool.now.nodes root code height }
-    ensures some { IfSome result (λ found. OnWay pool.now.nodes root code height (λ numbers rows list place.
-        (others : List ℕ) × IsWay others found.0 rows (suc place) × NumberAt list (suc place) found.1)) }
-    ensures none { result ≡ None → OnWay pool.now.nodes root code height (λ numbers rows list place.
-        suc place ≡ length list) }
+    ensures next { IsNextOf pool.now.nodes root code height result }
 {
     let (mut here, mut node) = (Spot::root(root), root);
     let mut next = None;
@@ -430,11 +427,7 @@ fn prev_far<K: Copy, V: Copy, const N: usize>(
 ) -> Option<(Spot, Node)>
     requires low { height ≤ 16 }
     requires over { HasWay pool.now.nodes root code height }
-    ensures some { IfSome result (λ found. OnWay pool.now.nodes root code height (λ numbers rows list place.
-        (0 < place) × (others : List ℕ) × IsWay others found.0 rows (place - 1)
-        × NumberAt list (place - 1) found.1)) }
-    ensures none { result ≡ None → OnWay pool.now.nodes root code height (λ numbers rows list place.
-        place ≡ 0) }
+    ensures before { IsPrevOf pool.now.nodes root code height result }
 {
     let (mut here, mut node) = (Spot::root(root), root);
     let mut before = None;

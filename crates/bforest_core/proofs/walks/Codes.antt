@@ -1,16 +1,14 @@
--- The way of a code down rows of inner nodes, and the way to the next node: each step of a spot stands on these.
-use Rattle.std.proofs.Common.{IsTrue, ◌≡◌, ◌≢◌, ℕ, zero, suc, ◌+◌, ◌-◌, ◌*◌, ◌/◌, ◌%◌, ◌≤◌, ◌<◌, List, [], ◌∷◌, ◌++◌, length, drop, get_or, slice_get, option_map, Some, refl, sym, ap, subst, ◌∙◌, arith}
-use Rattle.bforest_core.proofs.Words.{Content, entry_count, LevelNode, node, flat, heads, FitRow, RowIn, inner_content, entry_items, entry_keys}
+-- The way of a code down rows of inner nodes, and a spot as such a way.
+use Rattle.std.proofs.Common.{IsTrue, ◌≡◌, ◌≢◌, ℕ, zero, suc, ◌+◌, ◌-◌, ◌*◌, ◌/◌, ◌%◌, ◌≤◌, ◌<◌, List, [], ◌∷◌, ◌++◌, length, drop, get_or, slice_get, Some, refl, sym, ap, subst, ◌∙◌, arith}
+use Rattle.bforest_core.proofs.Words.{Content, LevelNode, node, flat, heads, FitRow, RowIn, inner_content}
 use Rattle.bforest_core.specs.Spots.{Coded, CodedOver, HasNext, IsLeafAt, IsSpotAt, IsWay, NumberAt, leaf_count}
 use Rattle.bforest_core.specs.declared.spot.Spot.{Spot}
 use Rattle.bforest_core.proofs.union.Unions.{is-rooted}
 use Rattle.bforest_core.proofs.Words.{IsUnion, Table, half_of, is_root, leaf_content, tree_of}
-use Rattle.bforest_core.proofs.table.Stored.{some_same, item_count}
+use Rattle.bforest_core.proofs.table.Stored.{item_count}
 use Rattle.bforest_core.proofs.walks.Descent.{some_leaf}
-use Rattle.bforest_core.proofs.walks.LeafSearch.{items-read}
-use Rattle.bforest_core.proofs.walks.Steps.{read}
-use Rattle.bforest_core.proofs.walks.Reading.{ChildAsked, ChildRead, CountAsked, CountRead}
-use Rattle.bforest_core.proofs.walks.RowNodes.{NodeIn, entry_at, fit_full, node-at, node-in, node-same, none-behind, seam}
+use Rattle.bforest_core.proofs.walks.Reading.{CountAsked, CountRead}
+use Rattle.bforest_core.proofs.walks.RowNodes.{NodeIn, fit_full, node-at, node-in, node-same}
 
 -- a power of eight
 abbrev pub eights : ℕ → ℕ
@@ -68,11 +66,11 @@ module _ {K V : Type 0} (slots : List (Content K V)) (root code depth : ℕ) whe
       }
 
   -- with no levels, the root
-  pub way-none : {numbers : _} (rows list : _) {place : _} → CodedOver slots root code depth numbers rows list place → depth ≡ 0 → NumberAt list place root × (suc place ≡ length list)
+  pub way-none : {numbers : _} (rows list : _) {place : _} → CodedOver slots root code depth numbers rows list place → depth ≡ 0 → NumberAt list place root × (suc place ≡ length list) × (place ≡ 0)
   way-none [] [] p none = absurd (omega (arith, p.stacked))
   way-none [] (x ∷ y ∷ list) p none = absurd (omega (arith, p.stacked))
   way-none [] (x ∷ []) p none =
-      ((x.0, ap (λ z. slice_get (x ∷ []) z) p.coded.1 ∙ ap (λ z. Some (x.0, z)) p.root_is), omega (arith, p.coded.1))
+      ((x.0, ap (λ z. slice_get (x ∷ []) z) p.coded.1 ∙ ap (λ z. Some (x.0, z)) p.root_is), omega (arith, p.coded.1), p.coded.1)
   way-none (row ∷ rest) list p none = absurd (omega (arith, p.depth_is, none))
 
 -- a code, with one digit more
@@ -86,48 +84,6 @@ module _ {K V : Type 0} {slots : List (Content K V)} {root code depth numbers ro
   -- what going on above asks
   pub above-asks : (numbers : List ℕ) × (rows : List (List (LevelNode K ℕ))) × (list : List (K × ℕ)) × (place : ℕ) × CodedOver slots root (code / 8) (depth - 1) numbers rows list place
   above-asks = (drop 1 numbers, here.rest, heads here.row, here.top, here.over)
-
-  -- the node behind this one on the level above, and the way there
-  abbrev pub NextAbove : ℕ → ℕ → Type 0
-  NextAbove above number =
-      (others : List ℕ) × CodedOver slots root above (depth - 1) others here.rest (heads here.row) (suc here.top) × NumberAt (heads here.row) (suc here.top) number
-
-  -- what a child of a node is, as it was read
-  pub child-is : {number top : ℕ} (w : NodeIn inner_content slots 8 here.row number top) (index : ℕ) {child : ℕ} (to : ℕ) → index < length w.entries → to ≡ length (flat w.before) + index →
-      ChildRead slots number index child → NumberAt list to child
-  child-is {number} w index {child = child} to low to_is reads =
-      let e = read w.entries index low in
-      let item : slice_get (entry_items w.entries) index ≡ Some e.0.1 = items-read w.entries index ∙ ap (λ z. option_map (λ x. x.1) z) e.1 in
-      let same : e.0.1 ≡ child = some_same e.0.1 child (sym item ∙ reads (drop 1 (entry_keys w.entries)) (entry_items w.entries) w.slot_is) in
-      (e.0.0, ap (λ z. slice_get z to) (sym here.flat_is) ∙ ap (λ z. slice_get (flat here.row) z) to_is ∙ entry_at w.before number w.entries w.after index w.row_is e.1 ∙ ap (λ z. Some (e.0.0, z)) same)
-
-  pub child-asks : {number top : ℕ} (w : NodeIn inner_content slots 8 here.row number top) (index : ℕ) → index < length w.entries → ChildAsked slots number index
-  child-asks w index low = (drop 1 (entry_keys w.entries), entry_items w.entries, w.slot_is, omega (arith, low, item_count w.entries))
-
-  -- the way to a child of a node of the level above, by the way to that node
-  pub child-code : {number top above others : _} (w : NodeIn inner_content slots 8 here.row number top)
-      → CodedOver slots root above (depth - 1) others here.rest (heads here.row) top → (digit code1 to : ℕ) → digit < length w.entries
-      → code1 ≡ above * 8 + digit → to ≡ length (flat w.before) + digit → CodedOver slots root code1 depth (number ∷ others) rows list to
-  child-code {number} {above = above} {others = others} w q digit code1 to low code_is to_is =
-      let d = digit-put above digit code1 (omega (arith, low, w.room)) code_is in
-      record {
-        stacked = p.stacked;
-        inside = p.inside;
-        coded = subst (λ z. Coded (number ∷ others) z code1 to) (sym here.rows_are) (
-          record {
-            before = w.before;
-            entries = w.entries;
-            after = w.after;
-            row_is = w.row_is;
-            within = omega (arith, d.0, low);
-            place_is = omega (arith, d.0, to_is);
-          },
-          subst (λ z. Coded others here.rest z (length w.before)) (sym d.1)
-              (subst (λ z. Coded others here.rest above z) (sym w.at) q.coded),
-        );
-        root_is = p.root_is;
-        depth_is = p.depth_is;
-      }
 
   -- the lowest node is the one that was read
   pub read-same : (parent : ℕ) → ((numbers rows list place : _) → CodedOver slots root (code / 8) (depth - 1) numbers rows list place → NumberAt list place parent) → parent ≡ here.number
@@ -146,62 +102,6 @@ module _ {K V : Type 0} {slots : List (Content K V)} {root code depth numbers ro
       some = here.at.some;
       room = here.at.room;
     }
-
-    -- the child to which the code goes
-    pub code-asks : ChildAsked slots parent (code % 8)
-    code-asks = child-asks node-here (code % 8) here.within
-
-    pub code-child : {child : ℕ} → ChildRead slots parent (code % 8) child → NumberAt list place child
-    code-child reads = child-is node-here (code % 8) place here.within here.place_is reads
-
-    -- what the number of children asks, and says
-    pub count-asks : CountAsked slots parent
-    count-asks = (inner_content here.at.entries, node-here.slot_is, tt)
-
-    module _ {count : ℕ} (counts : CountRead slots parent count) where
-      count-is : count ≡ length here.at.entries
-      count-is = counts (inner_content here.at.entries) node-here.slot_is ∙ item_count here.at.entries
-
-      pub count-low : count ≤ 8
-      count-low = omega (arith, count-is, here.at.room)
-
-      -- the next child of the same node
-      pub next-asks : code % 8 + 1 < count → ChildAsked slots parent (code % 8 + 1)
-      next-asks low = child-asks node-here (code % 8 + 1) (omega (arith, low, count-is))
-
-      pub next-child : {child : ℕ} → code % 8 + 1 < count → ChildRead slots parent (code % 8 + 1) child → NumberAt list (suc place) child
-      next-child {child = child} low reads = child-is node-here (code % 8 + 1) (suc place) (omega (arith, low, count-is)) (omega (arith, here.place_is)) reads
-
-      pub next-code : code % 8 + 1 < count → CodedOver slots root (code + 1) depth (parent ∷ drop 1 numbers) rows list (suc place)
-      next-code low = child-code node-here here.over (code % 8 + 1) (code + 1) (suc place) (omega (arith, low, count-is)) (omega arith) (omega (arith, here.place_is))
-
-      past : count ≤ code % 8 + 1 → length here.at.entries ≤ code % 8 + 1
-      past high = omega (arith, high, count-is)
-
-      -- the last child of the last node is the last of its level
-      pub none-next : count ≤ code % 8 + 1 → suc here.top ≡ length (heads here.row) → suc place ≡ length list
-      none-next high last = omega (arith, past high, here.within, here.place_is, ap length here.flat_is, none-behind here.at 4 (omega arith) here.fit last)
-
-      module _ (high : count ≤ code % 8 + 1) (above node : ℕ) (on : NextAbove above node) where
-        next-node : NodeIn inner_content slots 8 here.row node (suc here.top)
-        next-node = node-at inner_content slots 8 4 (omega arith) here.row here.fit here.inside node (suc here.top) on.2
-
-        -- the first child of the node behind
-        pub first-asks : ChildAsked slots node 0
-        first-asks = child-asks next-node 0 next-node.some
-
-        pub above-low : depth ≤ 16 → above < 35184372088832
-        above-low low = code-low 15 here.rest on.0 above (suc here.top) on.1.coded (omega (arith, low, here.low))
-
-        start : suc place ≡ length (flat next-node.before) + 0
-        start = omega (arith, seam here.at next-node refl, here.place_is, here.within, past high)
-
-        -- the way goes on to that child
-        pub first-code : CodedOver slots root (above * 8) depth (node ∷ on.0) rows list (suc place)
-        first-code = child-code next-node on.1 0 (above * 8) (suc place) next-node.some (omega arith) start
-
-        pub first-child : {child : ℕ} → ChildRead slots node 0 child → NumberAt list (suc place) child
-        first-child {child = child} reads = child-is next-node 0 (suc place) next-node.some start reads
 
 -- the lowest node is the first of the numbers
 pub kept-same : {K V : Type 0} {slots : List (Content K V)} {root code depth numbers : _} (rows : _) {list place : _} (p : CodedOver slots root code depth numbers rows list place) (some : depth ≢ 0) (parent : ℕ)
@@ -237,39 +137,24 @@ module _ {K V : Type 0} {n : ℕ} {table : Table K V} (union : IsUnion n table) 
     its = kept-same (tree_of table.nodes root).above spot-over other spot.parent (s.parent_is some)
 
     pub spot-count : CountAsked table.nodes spot.parent
-    spot-count = count-asks spot-over other its
+    spot-count = (inner_content (here spot-over other).at.entries, (node-here spot-over other its).slot_is, tt)
 
     module _ {count : ℕ} (counts : CountRead table.nodes spot.parent count) where
       pub spot-last : count ≤ spot.code % 8 + 1 → HasNext table spot → ⊥
       spot-last high h = omega (arith, high, h.within, counts (inner_content h.entries) h.parent, item_count h.entries)
 
       pub spot-has : spot.code % 8 + 1 < count → HasNext table spot
-      spot-has low = record { some = some; entries = (here spot-over other).at.entries; parent = (node-here spot-over other its).slot_is; within = omega (arith, low, count-is spot-over other its counts) }
-
-    module _ (h : HasNext table spot) where
-      counts-next : (content : Content K V) → slice_get table.nodes spot.parent ≡ Some content → length h.entries ≡ entry_count content
-      counts-next content found = sym (ap entry_count (some_same content (inner_content h.entries) (sym found ∙ h.parent)) ∙ item_count h.entries)
-
-      pub sibling-asks : ChildAsked table.nodes spot.parent (spot.code % 8 + 1)
-      sibling-asks = next-asks spot-over other its counts-next h.within
-
-      pub sibling-child : {child : ℕ} → ChildRead table.nodes spot.parent (spot.code % 8 + 1) child → IsLeafAt table root (suc place) child
-      sibling-child {child = child} reads = leaf-at union root s.root_is (next-child spot-over other its counts-next h.within reads)
-
-      pub sibling-spot : (next : Spot) → next.code ≡ spot.code + 1 → next.parent ≡ spot.parent → next.grand ≡ spot.grand → next.height ≡ spot.height → IsSpotAt table root next (suc place)
-      sibling-spot next code parent grand height =
-          let q = next-code spot-over other its counts-next h.within in
-          record {
-            root_is = s.root_is;
-            numbers = spot.parent ∷ drop 1 s.numbers;
-            coded = subst (λ z. Coded (spot.parent ∷ drop 1 s.numbers) (tree_of table.nodes root).above z (suc place)) (sym code) q.coded;
-            parent_is = λ low. sym parent;
-            grand_is = λ low. s.grand_is (omega (arith, low, height)) ∙ sym grand;
-            height_is = height ∙ s.height_is;
-          }
+      spot-has low = record { some = some; entries = (here spot-over other).at.entries; parent = (node-here spot-over other its).slot_is; within = omega (arith, low, counts (inner_content (here spot-over other).at.entries) (node-here spot-over other its).slot_is, item_count (here spot-over other).at.entries) }
 
   pub spot-low : spot.code < 281474976710656
   spot-low = let w = is-rooted root union s.root_is in code-low 16 (tree_of table.nodes root).above s.numbers spot.code place s.coded w.low
+
+  pub spot-height : spot.height ≤ 16
+  spot-height = let w = is-rooted root union s.root_is in omega (arith, s.height_is, w.low)
+
+  -- the spot at the end of a way from the same root
+  pub far-spot : {next : Spot} {others to : _} → IsWay others next (tree_of table.nodes root).above to → IsSpotAt table root next to
+  far-spot {others = others} w = record { root_is = s.root_is; numbers = others; coded = w.coded; parent_is = w.parent_is; grand_is = w.grand_is; height_is = w.height_is }
 
 module _ {K V : Type 0} {slots : List (Content K V)} {root code depth numbers rows list place : _} (p : CodedOver slots root code depth numbers rows list place) where
   -- the node that was read is the first of the numbers
@@ -279,11 +164,3 @@ module _ {K V : Type 0} {slots : List (Content K V)} {root code depth numbers ro
   -- a spot of this code
   pub way-of : (spot : Spot) → spot.code ≡ code → spot.height ≡ depth → (0 < depth → get_or numbers 0 0 ≡ spot.parent) → (1 < depth → get_or (drop 1 numbers) 0 0 ≡ spot.grand) → IsWay numbers spot rows place
   way-of spot code_is height parent grand = record { coded = subst (λ z. Coded numbers rows z place) (sym code_is) p.coded; parent_is = λ low. parent (omega (arith, low, height)); grand_is = λ low. grand (omega (arith, low, height)); height_is = height ∙ p.depth_is }
-
-module _ {K V : Type 0} {n : ℕ} {table : Table K V} (union : IsUnion n table) {root : ℕ} {spot : Spot} {place : ℕ} (s : IsSpotAt table root spot place) where
-  pub spot-height : spot.height ≤ 16
-  spot-height = let w = is-rooted root union s.root_is in omega (arith, s.height_is, w.low)
-
-  -- the spot at the end of a way from the same root
-  pub far-spot : {next : Spot} {others to : _} → IsWay others next (tree_of table.nodes root).above to → IsSpotAt table root next to
-  far-spot {others = others} w = record { root_is = s.root_is; numbers = others; coded = w.coded; parent_is = w.parent_is; grand_is = w.grand_is; height_is = w.height_is }

@@ -30,12 +30,12 @@ last_index-last-requires g c =
 pub below-requires-2-clause-code : goal.below-requires-2-clause-code
 below-requires-2-clause-code g c =
     let r = c.requires.above in
-    (back-low c.requires.index r.2 c.if-index-gt0.false c.in_ok-spot.was r.3 r.1 c.requires.low).0
+    (back-low c.requires.index r.2 c.if-index-gt0.false c.in_ok-spot.was r.3 c.last_index-last.ensures.last r.1 c.requires.low).0
 
 pub below-requires-2-clause-height : goal.below-requires-2-clause-height
 below-requires-2-clause-height g c =
     let r = c.requires.above in
-    (back-low c.requires.index r.2 c.if-index-gt0.false c.in_ok-spot.was r.3 r.1 c.requires.low).1
+    (back-low c.requires.index r.2 c.if-index-gt0.false c.in_ok-spot.was r.3 c.last_index-last.ensures.last r.1 c.requires.low).1
 
 pub below-requires-2-clause-index : goal.below-requires-2-clause-index
 below-requires-2-clause-index g c =
