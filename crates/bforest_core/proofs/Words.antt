@@ -15,7 +15,7 @@ pub use Rattle.bforest_core.specs.Removal.{Dropped, Emptied, Frees, GivesAll, Ha
 pub use Rattle.bforest_core.specs.Removal.{Trimmed, UpTo, numbers_under}
 pub use Rattle.bforest_core.specs.Sizes.{gain_above, growth, inner_gain, leaf_gain, loss, loss_above, need, need_above, past, rebalanced, shrink}
 pub use Rattle.bforest_core.specs.Sizes.{trimmed}
-pub use Rattle.bforest_core.specs.Steps.{Moved, Over}
+pub use Rattle.bforest_core.specs.Steps.{Advances, HasOver, LastAt, Moved, MoreAt, OnLevels, OnOver, Over, Retreats}
 pub use Rattle.bforest_core.specs.Table.{IsBalancedAt, IsEntryAt, IsFreeAt, IsFullAt, IsSplitAt, IsUnderflowedAt, IsUsed, NeedsGrowth, Table}
 pub use Rattle.bforest_core.specs.Table.{down_from, free_count, fresh_nodes, front_of, front_of_new, reserved, room, slot_count, value_at, with_freed}
 pub use Rattle.bforest_core.specs.Table.{with_front, with_node, with_slots, with_value_at, without_front}
