@@ -1,7 +1,7 @@
 -- The way of a code down rows of inner nodes, and a spot as such a way.
-use Rattle.std.proofs.Common.{IsTrue, ◌≡◌, ◌≢◌, ℕ, zero, suc, ◌+◌, ◌-◌, ◌*◌, ◌/◌, ◌%◌, ◌≤◌, ◌<◌, List, [], ◌∷◌, ◌++◌, length, drop, get_or, slice_get, Some, refl, sym, ap, subst, ◌∙◌, arith}
+use Rattle.std.proofs.Common.{IsTrue, ◌≡◌, ◌≢◌, ℕ, zero, suc, ◌+◌, ◌-◌, ◌*◌, ◌/◌, ◌%◌, ◌≤◌, ◌<◌, List, [], ◌∷◌, ◌++◌, length, drop, get_or, slice_get, Some, refl, sym, ap, subst, ◌∙◌, arith, None}
 use Rattle.bforest_core.proofs.Words.{Content, LevelNode, node, flat, heads, FitRow, RowIn, inner_content}
-use Rattle.bforest_core.specs.Spots.{Coded, CodedOver, HasNext, IsLeafAt, IsSpotAt, IsWay, NumberAt, leaf_count}
+use Rattle.bforest_core.specs.Spots.{Coded, CodedOver, HasNext, IsLeafAt, IsSpotAt, IsWay, IsNextOf, IsPrevOf, Leads, NumberAt, leaf_count}
 use Rattle.bforest_core.specs.declared.spot.Spot.{Spot}
 use Rattle.bforest_core.proofs.union.Unions.{is-rooted}
 use Rattle.bforest_core.proofs.Words.{IsUnion, Table, half_of, is_root, leaf_content, tree_of}
@@ -164,3 +164,29 @@ module _ {K V : Type 0} {slots : List (Content K V)} {root code depth numbers ro
   -- a spot of this code
   pub way-of : (spot : Spot) → spot.code ≡ code → spot.height ≡ depth → (0 < depth → get_or numbers 0 0 ≡ spot.parent) → (1 < depth → get_or (drop 1 numbers) 0 0 ≡ spot.grand) → IsWay numbers spot rows place
   way-of spot code_is height parent grand = record { coded = subst (λ z. Coded numbers rows z place) (sym code_is) p.coded; parent_is = λ low. parent (omega (arith, low, height)); grand_is = λ low. grand (omega (arith, low, height)); height_is = height ∙ p.depth_is }
+
+-- the spot one level below another, at a child of this node
+pub record IsBelow (spot : Spot) (node index : ℕ) (next : Spot) : Type 0 where
+  pub code : next.code ≡ spot.code * 8 + index
+  pub parent : next.parent ≡ node
+  pub grand : next.grand ≡ spot.parent
+  pub height : next.height ≡ suc spot.height
+
+module _ {spot next : Spot} {node index : ℕ} where
+  pub is-below : next.code ≡ spot.code * 8 + index → next.parent ≡ node → next.grand ≡ spot.parent → next.height ≡ suc spot.height →
+      IsBelow spot node index next
+  is-below code parent grand height = record { code = code; parent = parent; grand = grand; height = height }
+
+module _ {K V : Type 0} {slots : List (Content K V)} {root : ℕ} (spot : Spot) (height : spot.height ≡ 0) where
+  -- with no levels, the root
+  pub root-leads : spot.code ≡ 0 → Leads slots root spot.code spot.height spot root
+  root-leads code numbers rows list place p = (
+    way-of p spot refl refl (λ low. absurd (omega (arith, low, height))) (λ low. absurd (omega (arith, low, height))),
+    (way-none slots root spot.code spot.height rows list p height).0,
+  )
+
+  pub root-last : IsNextOf slots root spot.code spot.height None
+  root-last = record { some = tt; none = λ none numbers rows list place p. (way-none slots root spot.code spot.height rows list p height).1 }
+
+  pub root-first : IsPrevOf slots root spot.code spot.height None
+  root-first = record { some = tt; none = λ none numbers rows list place p. (way-none slots root spot.code spot.height rows list p height).2 }

@@ -5,7 +5,8 @@ use Rattle.bforest_core.proofs.Words.{Content}
 use Rattle.bforest_core.specs.Spots.{CodedOver, HasWay, Leads}
 use Rattle.bforest_core.specs.declared.spot.Spot.{Spot}
 use Rattle.bforest_core.proofs.walks.Codes.{above-asks}
-use Rattle.bforest_core.proofs.walks.OnLevel.{IsBelow, leads-on, root-leads}
+use Rattle.bforest_core.proofs.walks.Codes.{IsBelow, root-leads}
+use Rattle.bforest_core.proofs.walks.OnLevel.{leads-on}
 use Rattle.bforest_core.proofs.walks.Reading.{ChildRead}
 
 -- a code without its last digits

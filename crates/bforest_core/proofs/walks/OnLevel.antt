@@ -5,34 +5,8 @@ use Rattle.bforest_core.specs.Spots.{Coded, CodedOver, HasWay, IsBefore, IsBehin
 use Rattle.bforest_core.specs.declared.spot.Spot.{Spot}
 use Rattle.bforest_core.proofs.walks.Branches.{Branch, branch-asks, branch-child, branch-low, branch-way, count-asks, first-of, last-asks, last-of, last-some}
 use Rattle.bforest_core.proofs.walks.Branches.{next-own, none-next, none-prev, own, prev-own, prev-some}
-use Rattle.bforest_core.proofs.walks.Codes.{code-low, digit-put, first-kept, here, read-same, way-none, way-of}
+use Rattle.bforest_core.proofs.walks.Codes.{IsBelow, code-low, digit-put, first-kept, here, read-same, way-of}
 use Rattle.bforest_core.proofs.walks.Reading.{ChildAsked, ChildRead, CountAsked, CountRead, LastAsked, LastRead}
-
--- the spot one level below another, at a child of this node
-pub record IsBelow (spot : Spot) (node index : ℕ) (next : Spot) : Type 0 where
-  pub code : next.code ≡ spot.code * 8 + index
-  pub parent : next.parent ≡ node
-  pub grand : next.grand ≡ spot.parent
-  pub height : next.height ≡ suc spot.height
-
-module _ {spot next : Spot} {node index : ℕ} where
-  pub is-below : next.code ≡ spot.code * 8 + index → next.parent ≡ node → next.grand ≡ spot.parent → next.height ≡ suc spot.height →
-      IsBelow spot node index next
-  is-below code parent grand height = record { code = code; parent = parent; grand = grand; height = height }
-
-module _ {K V : Type 0} {slots : List (Content K V)} {root : ℕ} (spot : Spot) (height : spot.height ≡ 0) where
-  -- with no levels, the root
-  pub root-leads : spot.code ≡ 0 → Leads slots root spot.code spot.height spot root
-  root-leads code numbers rows list place p = (
-    way-of p spot refl refl (λ low. absurd (omega (arith, low, height))) (λ low. absurd (omega (arith, low, height))),
-    (way-none slots root spot.code spot.height rows list p height).0,
-  )
-
-  pub root-last : IsNextOf slots root spot.code spot.height None
-  root-last = record { some = tt; none = λ none numbers rows list place p. (way-none slots root spot.code spot.height rows list p height).1 }
-
-  pub root-first : IsPrevOf slots root spot.code spot.height None
-  root-first = record { some = tt; none = λ none numbers rows list place p. (way-none slots root spot.code spot.height rows list p height).2 }
 
 -- a level down, to the child at an index of the node at which the way of a spot ends
 module _ {K V : Type 0} {slots : List (Content K V)} {root : ℕ} {spot : Spot} {node index : ℕ} (digit : index < 8)

@@ -1,7 +1,8 @@
 use Rattle.std.proofs.Common.{rules, arith}
 use Rattle.bforest_core.specs.Spots.{IsNextOf}
 use Rattle.bforest_core.proofs.walks.Following.{begun, ended, moved, turn-high, turn-way, turned}
-use Rattle.bforest_core.proofs.walks.OnLevel.{code-low-here, index-asked, is-below, root-last}
+use Rattle.bforest_core.proofs.walks.Codes.{is-below, root-last}
+use Rattle.bforest_core.proofs.walks.OnLevel.{code-low-here, index-asked}
 use Rattle.bforest_core.proofs.spot.next_far.Goals as goal
 
 pub loop-left-init : goal.loop-left-init

@@ -1,6 +1,7 @@
 use Rattle.std.proofs.Common.{rules, ◌<◌, arith}
 use Rattle.bforest_core.proofs.walks.OnLevel.{back-asked, back-count, back-digit, back-low, back-said}
-use Rattle.bforest_core.proofs.walks.OnLevel.{code-low-here, first-said, is-below, prev-asked, prev-said}
+use Rattle.bforest_core.proofs.walks.Codes.{is-below}
+use Rattle.bforest_core.proofs.walks.OnLevel.{code-low-here, first-said, prev-asked, prev-said}
 use Rattle.bforest_core.proofs.spot.prev_below.Goals as goal
 
 pub below-requires-clause-code : goal.below-requires-clause-code

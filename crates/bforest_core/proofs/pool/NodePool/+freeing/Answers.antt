@@ -2,7 +2,8 @@ use Rattle.bforest_core.proofs.Words.{false≢true, length-map, slice_get_within
 use Rattle.std.proofs.Common.{rules, ◌≡◌, ℕ, ◌+◌, [], ◌∷◌, length, slice_get, suc, ◌≤◌, sym, ap, subst, ◌∙◌, arith}
 use Rattle.bforest_core.proofs.walks.Descent.{some_leaf}
 use Rattle.bforest_core.proofs.table.Stored.{some_same}
-use Rattle.bforest_core.proofs.union.Sweep.{Sweeping, child_turn, gives-down, gives-leaf, inner-children, sweep-first, sweep-last, sweep-next, sweeping, under-open}
+use Rattle.bforest_core.proofs.union.Opened.{inner-children, under-open}
+use Rattle.bforest_core.proofs.union.Sweep.{Sweeping, child_turn, gives-down, gives-leaf, sweep-first, sweep-last, sweep-next, sweeping}
 use Rattle.bforest_core.proofs.table.Tables.{is_used}
 use Rattle.bforest_core.proofs.pool.NodePool.+freeing.Goals as goal
 
