@@ -1,14 +1,12 @@
 -- The way down to the first leaf below a node, and to the last, as a spot: each answer of `first_below` and `last_below` is one of these.
 use Rattle.std.proofs.Common.{◌≡◌, ℕ, suc, ◌+◌, ◌-◌, ◌*◌, ◌≤◌, ◌<◌, List, [], ◌∷◌, ◌++◌, IsTrue, length, slice_get, Some, refl, sym, ap, subst, ◌∙◌, arith, append_assoc, length-append}
-use Rattle.bforest_core.proofs.Words.{Content, FitRow, IsInner, IsLeafCapacity, IsUnion, LevelNode, StackedTo, flat, heads, half_of, node, Under}
+use Rattle.bforest_core.proofs.Words.{Content, IsInner, IsLeafCapacity, IsUnion, LevelNode, flat, heads, half_of, node, Under}
 use Rattle.bforest_core.specs.Spots.{Coded, HasUnder, IsLeafAt, IsSpotAt, IsWay, NumberAt, OnUnder, leaf_count}
 use Rattle.bforest_core.proofs.Words.{IsFirst, IsLast, append-nil, Table, is_root, tree_of}
 use Rattle.bforest_core.specs.declared.spot.Spot.{Spot}
-use Rattle.bforest_core.proofs.rows.LevelRows.{FitRow-split}
 use Rattle.bforest_core.proofs.table.Stored.{item_count, slice_get_at}
 use Rattle.bforest_core.proofs.walks.Codes.{code-low, digit-put, leaf-at}
 use Rattle.bforest_core.proofs.walks.Descent.{some_leaf}
-use Rattle.bforest_core.proofs.walks.Downward.{stacked_last}
 use Rattle.bforest_core.proofs.walks.Leading.{Turns, child_under}
 use Rattle.bforest_core.proofs.walks.Standing.{under-root}
 use Rattle.bforest_core.proofs.walks.RowNodes.{no_heads}
@@ -20,6 +18,26 @@ number-here : {K V : Type 0} {most : _} {slots : List (Content K V)} {leaves : _
     → NumberAt (heads leaves) (length a) number
 number-here [] a first number b u none = (first, ap (λ z. slice_get z (length a)) u.stacked ∙ slice_get_at a (first, number) b (length a) refl)
 number-here (row ∷ lower) a first number b u none = absurd (omega (arith, ap length none))
+
+module _ {K V : Type 0} {most : _} {slots : List (Content K V)} {leaves lower a first number b : _} (s : InnerUnder most slots leaves lower a first number b) where
+  -- the rows under a node and its own are the rows below it
+  pub rows-join : (upper : List (List (LevelNode K ℕ))) → s.rows ++ (s.row ∷ upper) ≡ lower ++ upper
+  rows-join upper = sym (append_assoc s.rows (s.row ∷ []) upper) ∙ ap (λ z. z ++ upper) (sym s.lower_is)
+
+  -- the way to a child of an inner node, by the way to the node
+  pub child-way : {index : ℕ} → index ≤ length s.at.es → {spot next : Spot} → next.code ≡ spot.code * 8 + index → next.parent ≡ number → next.grand ≡ spot.parent → next.height ≡ suc spot.height
+      → {upper numbers : _} → IsWay numbers spot upper (length a) → {place : ℕ} → place ≡ length (flat s.at.before) + index → IsWay (number ∷ numbers) next (s.row ∷ upper) place
+  child-way {index} low {spot} {next} code parent grand height {upper} {numbers} w place_is =
+      let d = digit-put spot.code index next.code (omega (arith, low, s.room)) code in
+      record {
+        coded = (
+          record { before = s.at.before; entries = s.at.e ∷ s.at.es; after = s.at.after; row_is = s.at.row_is; within = omega (arith, d.0, low); place_is = omega (arith, d.0, place_is) },
+          subst (λ z. Coded numbers upper z (length s.at.before)) (sym d.1) (subst (λ z. Coded numbers upper spot.code z) (sym s.at.before_is) w.coded),
+        );
+        parent_is = λ some. sym parent;
+        grand_is = λ some. w.parent_is (omega (arith, some, height)) ∙ sym grand;
+        height_is = height ∙ ap suc w.height_is;
+      }
 
 module _ {K V : Type 0} {most : _} {slots : List (Content K V)} (capacity : IsLeafCapacity most) {leaves lower : _} (a : List (K × ℕ)) (first : K) (number : ℕ) (b : List (K × ℕ)) (u : Under most slots leaves lower (a ++ (first, number) ∷ b)) {content : Content K V} (read : slice_get slots number ≡ Some content) where
   -- at a leaf the way has ended
@@ -42,20 +60,11 @@ module _ {K V : Type 0} {most : _} {slots : List (Content K V)} (capacity : IsLe
     below : InnerUnder most slots leaves lower a first number b
     below = inner_under (some_leaf capacity) a first number b u read inner
 
-    room : suc (length below.at.es) ≤ 8
-    room =
-        let fit = (stacked_last (heads leaves) below.rows below.row (a ++ (first, number) ∷ b) (subst (λ z. StackedTo (heads leaves) z (a ++ (first, number) ∷ b)) below.lower_is u.stacked)).1 in
-        let f = (FitRow-split 4 8 below.at.before (node number (below.at.e ∷ below.at.es)) below.at.after (subst (FitRow 4 8) below.at.row_is fit)).1 in
-        omega (arith, f.1)
-
     child-at : (index : ℕ) → index ≤ length below.at.es → ChildAsked slots number index
     child-at index low = (_, _, below.slot_is, omega (arith, low, item_count (below.at.e ∷ below.at.es)))
 
     way-low : {upper : List (List (LevelNode K ℕ))} {numbers : List ℕ} {spot : Spot} {place : ℕ} → IsWay numbers spot upper place → length lower + spot.height ≤ 16 → (spot.code < 35184372088832) × (spot.height < 16)
     way-low {upper} {numbers} {spot} {place} w low = (code-low 15 upper numbers spot.code place w.coded (omega (arith, w.height_is, low, below.count_is)), omega (arith, low, below.count_is))
-
-    rows-join : (upper : List (List (LevelNode K ℕ))) → below.rows ++ (below.row ∷ upper) ≡ lower ++ upper
-    rows-join upper = sym (append_assoc below.rows (below.row ∷ []) upper) ∙ ap (λ z. z ++ upper) (sym below.lower_is)
 
     -- the spot of the child at an index, and what lies under it
     record Down (upper : List (List (LevelNode K ℕ))) (numbers : List ℕ) (next : Spot) (index child : ℕ) : Type 0 where
@@ -68,31 +77,10 @@ module _ {K V : Type 0} {most : _} {slots : List (Content K V)} (capacity : IsLe
       pub sum_is : length front + suc (length back) ≡ length (flat below.row)
 
     module _ {index child : ℕ} (low : index ≤ length below.at.es) (reads : ChildRead slots number index child) {spot next : Spot} (code : next.code ≡ spot.code * 8 + index) (parent : next.parent ≡ number) (grand : next.grand ≡ spot.parent) (height : next.height ≡ suc spot.height) {upper numbers : _} (w : IsWay numbers spot upper (length a)) where
-      way-down : {place : ℕ} → place ≡ length (flat below.at.before) + index → IsWay (number ∷ numbers) next (below.row ∷ upper) place
-      way-down place_is =
-          let d = digit-put spot.code index next.code (omega (arith, low, room)) code in
-          record {
-            coded = (
-              record {
-                before = below.at.before;
-                entries = below.at.e ∷ below.at.es;
-                after = below.at.after;
-                row_is = below.at.row_is;
-                within = omega (arith, d.0, low);
-                place_is = omega (arith, d.0, place_is);
-              },
-              subst (λ z. Coded numbers upper z (length below.at.before)) (sym d.1)
-                  (subst (λ z. Coded numbers upper spot.code z) (sym below.at.before_is) w.coded),
-            );
-            parent_is = λ some. sym parent;
-            grand_is = λ some. w.parent_is (omega (arith, some, height)) ∙ sym grand;
-            height_is = height ∙ ap suc w.height_is;
-          }
-
       down : Down upper numbers next index child
       down =
           let c = child_under below below.slot_is index (reads _ _ below.slot_is) in
-          record { front = c.0; key = c.1; back = c.2; under = c.3; way = way-down c.4; front_is = c.4; sum_is = c.5 }
+          record { front = c.0; key = c.1; back = c.2; under = c.3; way = child-way below low code parent grand height w c.4; front_is = c.4; sum_is = c.5 }
 
 -- what is said of the first leaf, and of the last, as the end of a way
 module _ {K V : Type 0} (end : Spot) (leaf : ℕ) (leaves : List (LevelNode K V)) (rows : List (List (LevelNode K ℕ))) where
@@ -121,7 +109,7 @@ module _ {K V : Type 0} {most : ℕ} {slots : List (Content K V)} (capacity : Is
       pub down-low : (spot.code < 35184372088832) × (spot.height < 16) × (index < 8)
       down-low =
           let r = way-low capacity asked.4 asked.5 number asked.6 asked.8 read inner asked.9 asked.10 in
-          (r.0, r.1, omega (arith, low-here, room capacity asked.4 asked.5 number asked.6 asked.8 read inner))
+          (r.0, r.1, omega (arith, low-here, (below capacity asked.4 asked.5 number asked.6 asked.8 read inner).room))
 
     module _ {child : ℕ} (reads : ChildRead slots number index child) {spot next : Spot} (code : next.code ≡ spot.code * 8 + index)
         (parent : next.parent ≡ number) (grand : next.grand ≡ spot.parent) (height : next.height ≡ suc spot.height) where
@@ -146,7 +134,7 @@ module _ {K V : Type 0} {most : ℕ} {slots : List (Content K V)} (capacity : Is
       down-on Said says leaves lower upper numbers a first b side u w =
           let s = here leaves lower upper numbers a first b side u w in
           let d = went leaves lower upper numbers a first b side u w in
-          subst (Said leaves) (rows-join capacity a first number b u read inner upper) (says leaves s.rows (s.row ∷ upper) (number ∷ numbers) d.front d.key d.back (kept leaves lower upper numbers a first b side u w) d.under d.way)
+          subst (Said leaves) (rows-join s upper) (says leaves s.rows (s.row ∷ upper) (number ∷ numbers) d.front d.key d.back (kept leaves lower upper numbers a first b side u w) d.under d.way)
 
 -- from a node on one side of its level the way down has come to a node further down, and it ends where the way from there ends
 pub record GoesDown {K V : Type 0} (most : ℕ) (slots : List (Content K V)) (Side : List (K × ℕ) → List (K × ℕ) → Type 0) (Said : Spot → ℕ → List (LevelNode K V) → List (List (LevelNode K ℕ)) → Type 0)

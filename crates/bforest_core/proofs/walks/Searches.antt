@@ -1,34 +1,21 @@
 -- The way down to the leaf in which a search ends: each answer of `value_below`, `entry_below` and, as a spot, `find_below` is one of these.
-use Rattle.std.proofs.Common.{◌≡◌, ℕ, suc, ◌+◌, ◌*◌, ◌/◌, ◌%◌, ◌≤◌, ◌<◌, List, [], ◌∷◌, ◌++◌, IsTrue, length, slice_get, Some, refl, sym, ap, subst, ◌∙◌, arith, append_assoc}
-use Rattle.bforest_core.proofs.Words.{Content, EndsOn, FitRow, Inner, IsInner, IsIncreasing, IsTotalOrder, IsStrictlySortedBy, IsUnion, LevelNode, Narrows, SearchEndsAt, SearchThrough, StackedTo, Table, Under, child_index, flat, half_of, heads, is_root, leaf_content, node, place, tree_of}
+use Rattle.std.proofs.Common.{◌≡◌, ℕ, suc, ◌+◌, ◌*◌, ◌≤◌, ◌<◌, List, [], ◌∷◌, ◌++◌, IsTrue, length, slice_get, Some, refl, sym, ap, subst, ◌∙◌, arith}
+use Rattle.bforest_core.proofs.Words.{Content, EndsOn, Inner, IsInner, IsIncreasing, IsTotalOrder, IsStrictlySortedBy, IsUnion, LevelNode, Narrows, SearchEndsAt, SearchThrough, Table, child_index, flat, half_of, is_root, leaf_content, place, tree_of}
 use Rattle.bforest_core.specs.Place.{entry_items, entry_keys}
-use Rattle.bforest_core.specs.Spots.{Coded, IsSpotAt, IsWay, leaf_place}
+use Rattle.bforest_core.specs.Spots.{IsSpotAt, IsWay, leaf_place}
 use Rattle.bforest_core.specs.declared.spot.Spot.{Spot}
 use Rattle.std.proofs.lemmas.List.{length-map}
 use Rattle.std.specs.declared.cmp.Ordering.{Ordering}
-use Rattle.bforest_core.proofs.rows.LevelRows.{FitRow-split}
 use Rattle.bforest_core.proofs.table.Stored.{item_count}
 use Rattle.bforest_core.proofs.walks.Rising.{increasing_rest}
 use Rattle.bforest_core.proofs.walks.Codes.{code-low}
-use Rattle.bforest_core.proofs.walks.CodesDown.{way-root, way-spot}
+use Rattle.bforest_core.proofs.walks.CodesDown.{child-way, rows-join, way-root, way-spot}
 use Rattle.bforest_core.proofs.walks.Cousins.{place-is}
 use Rattle.bforest_core.proofs.walks.Descent.{Below, InnerStep, LeafStep, below, follow_asks, inner_step, leaf_found, leaf_step, leaf_value, placed}
-use Rattle.bforest_core.proofs.walks.Downward.{stacked_last}
 use Rattle.bforest_core.proofs.walks.Standing.{under-root}
-use Rattle.bforest_core.proofs.walks.TopNode.{InnerUnder, inner_under, leaf_under, node_within}
+use Rattle.bforest_core.proofs.walks.TopNode.{inner_under, leaf_under, node_within}
 use Rattle.bforest_core.proofs.walks.Whole.{all_through}
 use Rattle.bforest_core.proofs.walks.Reading.{ChildRead}
-
--- a node of a row over eight children at most
-row-low : {K V : Type 0} {most : _} {slots : List (Content K V)} {leaves lower : _} {a : List (K × ℕ)} {first : K} {number : ℕ} {b : List (K × ℕ)} → Under most slots leaves lower (a ++ (first, number) ∷ b)
-    → (s : InnerUnder most slots leaves lower a first number b) → length s.at.es < 8
-row-low {leaves = leaves} {a = a} {first = first} {number = number} {b = b} u s =
-    let fit = (stacked_last (heads leaves) s.rows s.row (a ++ (first, number) ∷ b) (subst (λ z. StackedTo (heads leaves) z (a ++ (first, number) ∷ b)) s.lower_is u.stacked)).1 in
-    omega (arith, (FitRow-split 4 8 s.at.before (node number (s.at.e ∷ s.at.es)) s.at.after (subst (FitRow 4 8) s.at.row_is fit)).1.1)
-
--- a code with a digit more
-digits : (code index : ℕ) {next : ℕ} → next ≡ code * 8 + index → index < 8 → (next % 8 ≡ index) × (next / 8 ≡ code)
-digits code index is low = (omega (arith, is, low), omega (arith, is, low))
 
 -- the search one level down, with the way there, below these rows
 pub record WayBelow {K V : Type 0} (cmp : K → K → Ordering) (most : ℕ) (slots : List (Content K V)) (leaves : List (LevelNode K V)) (lower upper : List (List (LevelNode K ℕ))) (key : K) (next : Spot) (child : ℕ) : Type 0 where
@@ -102,7 +89,7 @@ module _ {K V : Type 0} {cmp : K → K → Ordering} (o : IsTotalOrder cmp) {mos
 
         -- the child's index is a digit
         pub digit-low : index < 8
-        digit-low = omega (arith, to.within, row-low t.under step.here)
+        digit-low = omega (arith, to.within, step.here.room)
 
         -- what asking asks whether another search goes to that child too
         pub along-asks : (keys : List K) × (children : List ℕ) × (slice_get slots number ≡ Some (Inner keys children)) × IsStrictlySortedBy cmp keys × (length children ≡ suc (length keys)) × (index ≤ length keys)
@@ -117,36 +104,14 @@ module _ {K V : Type 0} {cmp : K → K → Ordering} (o : IsTotalOrder cmp) {mos
           code-low-here = code-low 15 upper numbers spot.code (length t.before) w.coded (omega (arith, w.height_is, height_is, deeper-low))
 
           module _ (next : Spot) (code : next.code ≡ spot.code * 8 + index) (parent : next.parent ≡ number) (grand : next.grand ≡ spot.parent) (height : next.height ≡ suc spot.height) where
-            way-to : IsWay (number ∷ numbers) next (step.here.row ∷ upper) (length to.front)
-            way-to =
-                let at = step.here.at in
-                let d = digits spot.code index code digit-low in
-                record {
-                  coded = (
-                    record {
-                      before = at.before;
-                      entries = at.e ∷ at.es;
-                      after = at.after;
-                      row_is = at.row_is;
-                      within = omega (arith, d.0, to.within);
-                      place_is = to.place_is ∙ ap (λ z. length (flat at.before) + z) (sym d.0);
-                    },
-                    subst (λ z. Coded numbers upper z (length at.before)) (sym d.1)
-                        (subst (λ z. Coded numbers upper spot.code z) (sym at.before_is) w.coded),
-                  );
-                  parent_is = λ low. sym parent;
-                  grand_is = λ low. w.parent_is (omega (arith, low, height)) ∙ sym grand;
-                  height_is = height ∙ ap suc w.height_is;
-                }
-
             -- the search one level down, with the way there
             pub down : WayBelow cmp most slots leaves t.lower upper key next child
             down = record {
               above = step.here.row ∷ upper;
               numbers = number ∷ numbers;
               on = one-down next.height (height ∙ ap suc (sym height_is));
-              way = way-to;
-              join = sym (append_assoc step.here.rows (step.here.row ∷ []) upper) ∙ ap (λ z. z ++ upper) (sym step.here.lower_is);
+              way = child-way step.here to.within code parent grand height w to.place_is;
+              join = rows-join step.here upper;
             }
 
 -- whatever lies about a node, a search through it goes on through this node below it, with the way there

@@ -1,7 +1,7 @@
 -- A node on top of some rows: a leaf where there are no inner rows, else a node of the highest of them.
 use Rattle.std.proofs.Common.{◌≡◌, ◌≢◌, ℕ, suc, ◌+◌, ◌≤◌, ◌<◌, ◌⊎◌, inl, inr, List, [], ◌∷◌, ◌++◌, length, get_or, set, slice_get, Some, refl, sym, ap, subst, ◌∙◌, arith, append_assoc, length-append}
-use Rattle.bforest_core.proofs.Words.{get_or-set_other, nil_from_length, slice_get_within, Content, IsInner, LevelNode, node, flat, heads, half_of, RowIn, RowsIn, leaf_content, inner_content, IsAt, StackedTo, Under}
-use Rattle.bforest_core.proofs.rows.LevelRows.{flat-append}
+use Rattle.bforest_core.proofs.Words.{get_or-set_other, nil_from_length, slice_get_within, Content, IsInner, LevelNode, node, flat, heads, half_of, FitRow, RowIn, RowsIn, leaf_content, inner_content, IsAt, StackedTo, Under}
+use Rattle.bforest_core.proofs.rows.LevelRows.{FitRow-split, flat-append}
 use Rattle.bforest_core.proofs.table.Stored.{some_same}
 use Rattle.bforest_core.proofs.table.Tables.{row-split}
 use Rattle.bforest_core.proofs.walks.Downward.{Seen, at_node, seen, last_of, stacked_last, in_last}
@@ -39,6 +39,7 @@ pub record InnerUnder {K V : Type 0} (most : ℕ) (slots : List (Content K V)) (
   pub lower_is : lower ≡ rows ++ row ∷ []
   pub count_is : length lower ≡ suc (length rows)
   pub at : Seen 4 8 row a first number b
+  pub room : length at.es < 8
   pub under : Under most slots leaves rows (flat row)
   pub slot_is : slice_get slots number ≡ Some (inner_content (at.e ∷ at.es))
 
@@ -62,6 +63,7 @@ module _ {K V : Type 0} {most : ℕ} (one : 1 ≤ half_of most) {slots : List (C
         lower_is = z.is;
         count_is = ap length z.is ∙ length-append z.init (z.last ∷ []) ∙ omega arith;
         at = at;
+        room = omega (arith, (FitRow-split 4 8 at.before (node number (at.e ∷ at.es)) at.after (subst (FitRow 4 8) at.row_is s.1)).1.1);
         under = record { leaves_fit = u.leaves_fit; leaves_in = u.leaves_in; stacked = s.0; rows_in = i.0 };
         slot_is = seen_slot inner_content slots at i.1;
       })
