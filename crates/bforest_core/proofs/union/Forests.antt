@@ -1,6 +1,6 @@
 -- The trees of a table as a witness and as computed: the roots are the roots of the trees.
 use Rattle.std.proofs.Common.{◌≡◌, ℕ, ◌+◌, ◌≤◌, ◌<◌, ◌↔◌, nat_eq, IsTrue, true, false, List, [], ◌∷◌, ◌++◌, map, length, None, refl, sym, ap, ◌∙◌, subst, inl, inr, arith}
-use Rattle.bforest_core.proofs.Words.{nil_from_length, flat_map, map-append, get_or_past, flat_map-append, and_parts, cases_lt, eqb_tells, Content, Inner, Leaf, Free, IsFree, children_of, Table, LevelNode, flat, heads, numbers, Stacked, Tree, IsFit}
+use Rattle.bforest_core.proofs.Words.{IsLeafCapacity, nil_from_length, flat_map, map-append, get_or_past, flat_map-append, and_parts, cases_lt, eqb_tells, Content, Inner, Leaf, Free, IsFree, children_of, Table, LevelNode, flat, heads, numbers, Stacked, Tree, IsFit}
 use Rattle.bforest_core.proofs.Words.{half_of, IsRooted, RowsIn, IsIn, entry_items, count, root_above, root_of, numbers_of, slot, is_used, tree_of, is_root, Every, IsForest}
 use Rattle.bforest_core.proofs.table.Tables.{count-append, count-same, count-other}
 use Rattle.bforest_core.proofs.table.Read.{items-heads, half-some, slot-is, children-row, children-leaves, read-back}
@@ -74,10 +74,10 @@ module _ {K V : Type 0} where
   named_free slots (m ∷ ms) f = let e = no_children (slot slots m) f.0 in rw e (named_free slots ms f.1)
 
   -- the root of a tree is a node
-  root_used : (most : ℕ) → 1 ≤ half_of most → (slots : List (Content K V)) (tree : Tree K V) → IsRooted most slots (root_of tree) tree → is_used (slot slots (root_of tree)) ≡ true
-  root_used most one slots tree r =
+  root_used : {most : ℕ} → IsLeafCapacity most → (slots : List (Content K V)) (tree : Tree K V) → IsRooted most slots (root_of tree) tree → is_used (slot slots (root_of tree)) ≡ true
+  root_used capacity slots tree r =
       let u = whole_under r in
-      elim (node_under one tree.above [] u.0 (root_of tree) [] u.1) [ inl w ↦ ap is_used (slot-is slots (root_of tree) _ w.slot_is) | inr w ↦ ap is_used (slot-is slots (root_of tree) _ w.slot_is) ]
+      elim (node_under capacity tree.above [] u.0 (root_of tree) [] u.1) [ inl w ↦ ap is_used (slot-is slots (root_of tree) _ w.slot_is) | inr w ↦ ap is_used (slot-is slots (root_of tree) _ w.slot_is) ]
 
   -- the slots of a table name each number of its trees except the roots
   named_all : {most : _} {table : Table K V} {trees : _} → IsForest most table trees → (m : ℕ) → count m (flat_map children_of table.nodes) + count m (map root_of trees) ≡ count m (flat_map numbers_of trees)
@@ -127,7 +127,7 @@ module _ {K V : Type 0} where
       let m = root_of tree in
       let here = ap (λ z. count m z) (map-append root_of before (tree ∷ after)) ∙ count-append m (map root_of before) (m ∷ map root_of after) in
       let none : count m (flat_map children_of table.nodes) ≡ 0 = omega (arith, here, count-same m (map root_of after), named_all f m, once f m) in
-      let used = root_used most (omega (arith, f.capacity.least)) table.nodes tree (record { fit = fit; inside = inside; root_is = refl; some = some; low = low }) in
+      let used = root_used f.capacity table.nodes tree (record { fit = fit; inside = inside; root_is = refl; some = some; low = low }) in
       subst (λ z. (tree_of table.nodes z ≡ tree) × IsTrue (is_root table.nodes z)) is (read-back most tree fit inside some low, rw (used, none) refl)
 
   -- a number is a root exactly if it is the root of one of the trees

@@ -1,12 +1,14 @@
 -- A node on top of the rows below it, opened: its content, and what is below its children.
 use Rattle.std.proofs.Common.{◌≡◌, ℕ, suc, ◌+◌, ◌≤◌, ◌<◌, List, [], ◌∷◌, ◌++◌, length, reverse, slice_get, Some, append-nil, refl, sym, ap, subst, ◌∙◌, inl, inr, arith}
-use Rattle.bforest_core.proofs.Words.{flat_map, flat_map-append, Content, Inner, Leaf, Free, IsInner, children_of, entry_count, LevelNode, node, flat, numbers, half_of, leaf_content, inner_content}
+use Rattle.bforest_core.proofs.Words.{flat_map, flat_map-append, Content, Inner, Leaf, Free, IsInner, children_of, entry_count, LevelNode, node, flat, numbers, leaf_content, inner_content}
 use Rattle.bforest_core.proofs.Words.{entry_items, count, Under, numbers_down, numbers_under, nil_from_length}
 use Rattle.bforest_core.proofs.walks.Downward.{Seen}
 use Rattle.bforest_core.proofs.walks.TopNode.{LeafUnder, InnerUnder, node_under}
 use Rattle.bforest_core.proofs.walks.RowNodes.{no_heads}
 use Rattle.bforest_core.proofs.table.Read.{slot-is}
 use Rattle.bforest_core.proofs.table.Tables.{count-append}
+use Rattle.bforest_core.proofs.Words.{IsLeafCapacity}
+use Rattle.bforest_core.proofs.rows.LevelRows.{some_leaf}
 
 -- a row with one head has one node
 one_node : {K X : Type 0} {half : ℕ} (most : ℕ) → 1 ≤ half → {row : List (LevelNode K X)} {first : K} {number : ℕ} (at : Seen half most row [] first number []) → row ≡ node number (at.e ∷ at.es) ∷ []
@@ -33,10 +35,10 @@ module _ {K V : Type 0} where
     pub height : 0 < length top → suc (length rows) ≡ length lower
     pub down : numbers_down slots (length lower) number ≡ number ∷ flat_map (numbers_down slots (length rows)) (reverse (entry_items top))
 
-  module _ {most : ℕ} (one : 1 ≤ half_of most) {slots : List (Content K V)} {leaves : List (LevelNode K V)} where
+  module _ {most : ℕ} (capacity : IsLeafCapacity most) {slots : List (Content K V)} {leaves : List (LevelNode K V)} where
     open_leaf : (lower : _) {first : _} (number : _) → LeafUnder most slots leaves lower [] first number [] → Opened most slots leaves lower number
     open_leaf lower number s =
-        let row = one_node most one s.at in
+        let row = one_node most (some_leaf capacity) s.at in
         record {
           low = [];
           rows = [];
@@ -77,4 +79,4 @@ module _ {K V : Type 0} where
         }
 
     pub under-open : {lower : _} {first : K} {number : ℕ} → Under most slots leaves lower ((first, number) ∷ []) → Opened most slots leaves lower number
-    under-open {lower = lower} {first = first} {number = number} u = elim (node_under one lower [] first number [] u) [ inl s ↦ open_leaf lower number s | inr s ↦ open_inner lower number s ]
+    under-open {lower = lower} {first = first} {number = number} u = elim (node_under capacity lower [] first number [] u) [ inl s ↦ open_leaf lower number s | inr s ↦ open_inner lower number s ]

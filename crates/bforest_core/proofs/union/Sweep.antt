@@ -14,6 +14,8 @@ use Rattle.bforest_core.proofs.table.Lists.{drop-read}
 use Rattle.bforest_core.proofs.union.Sections.{UnderCut, under-cut}
 use Rattle.bforest_core.proofs.table.Tables.{count-append, count-same}
 use Rattle.bforest_core.proofs.union.Opened.{Opened}
+use Rattle.bforest_core.proofs.Words.{IsLeafCapacity}
+use Rattle.bforest_core.proofs.rows.LevelRows.{some_leaf}
 
 -- rows below no nodes have no nodes
 rows_none : {K : Type 0} (list : List (K × ℕ)) (rows : List (List (LevelNode K ℕ))) → StackedTo list rows [] → (list ≡ []) × ((m : ℕ) → count m (flat_map numbers rows) ≡ 0)
@@ -31,10 +33,10 @@ module _ {K V : Type 0} where
       let i = tree-same old new (record { leaves = leaves; above = lower }) same (record { leaves_in = u.leaves_in; rows_in = u.rows_in }) in
       record { leaves_fit = u.leaves_fit; leaves_in = i.leaves_in; stacked = u.stacked; rows_in = i.rows_in }
 
-  under_none : (most : ℕ) → 1 ≤ half_of most → {slots : List (Content K V)} {leaves lower : _} → Under most slots leaves lower [] → (m : ℕ) → count m (numbers_under leaves lower) ≡ 0
-  under_none most one {leaves = leaves} {lower = lower} u m =
+  under_none : (most : ℕ) → IsLeafCapacity most → {slots : List (Content K V)} {leaves lower : _} → Under most slots leaves lower [] → (m : ℕ) → count m (numbers_under leaves lower) ≡ 0
+  under_none most capacity {leaves = leaves} {lower = lower} u m =
       let r = rows_none (heads leaves) lower u.stacked in
-      let none : leaves ≡ [] = no_heads (half_of most) most one leaves u.leaves_fit r.0 in
+      let none : leaves ≡ [] = no_heads (half_of most) most (some_leaf capacity) leaves u.leaves_fit r.0 in
       omega (arith, count-append m (numbers leaves) (flat_map numbers lower), ap (λ z. count m (numbers z)) none, r.1 m)
 
   -- the numbers below a node are the same in any slots that agree on them
@@ -67,7 +69,7 @@ module _ {K V : Type 0} where
     pub counted : (m : ℕ) → count m given ≡ count m own
     pub split : (m : ℕ) → count m (numbers_under leaves rows) ≡ count m own + count m (numbers_under left_leaves left_rows)
 
-  module _ (most : ℕ) (one : 1 ≤ half_of most) (old : Table K V) (leaves : List (LevelNode K V)) (rows : List (List (LevelNode K ℕ))) (top : List (K × ℕ)) where
+  module _ {most : ℕ} (capacity : IsLeafCapacity most) (old : Table K V) (leaves : List (LevelNode K V)) (rows : List (List (LevelNode K ℕ))) (top : List (K × ℕ)) where
     -- at first nothing is freed
     pub sweep-first : Under most old.nodes leaves rows top → Swept most old old leaves rows top 0
     sweep-first u = record { left_leaves = leaves; left_rows = rows; own = []; given = []; under = u; height = refl; frees = frees-refl old []; order = refl; counted = λ m. refl; split = λ m. omega arith }
@@ -80,11 +82,11 @@ module _ {K V : Type 0} where
       pub under : Under most now.nodes cut.leaves_left cut.lower_left (x ∷ [])
       pub apart : Distinct (numbers_under cut.leaves_left cut.lower_left ++ now.chain)
 
-    -- while the index is one of the top's, there is a next child
+    -- while the index is capacity of the top's, there is a next child
     pub sweep-turn : (now : Table K V) (index : ℕ) (x : K × ℕ) → Distinct (numbers_under leaves rows ++ old.chain) → Swept most old now leaves rows top index → slice_get top index ≡ Some x → Turn now index x
     sweep-turn now index x apart s found =
         let todo : drop index top ≡ x ∷ drop (suc index) top = drop-read top index x found in
-        let cut = under-cut most old.nodes one (x ∷ []) (drop (suc index) top) (subst (λ z. Under most old.nodes s.left_leaves s.left_rows z) todo s.under) in
+        let cut = under-cut most old.nodes (some_leaf capacity) (x ∷ []) (drop (suc index) top) (subst (λ z. Under most old.nodes s.left_leaves s.left_rows z) todo s.under) in
         record {
           swept = s;
           found = found;
@@ -134,7 +136,7 @@ module _ {K V : Type 0} where
     pub sweep-last : {now : Table K V} {index : ℕ} → length top ≤ index → Swept most old now leaves rows top index → GivesAll old now (numbers_under leaves rows) (flat_map (numbers_down old.nodes (length rows)) (reverse (entry_items top)))
     sweep-last {now = now} {index = index} past s =
         let none : drop index top ≡ [] = drop_all index top past in
-        let left = under_none most one (subst (λ z. Under most old.nodes s.left_leaves s.left_rows z) none s.under) in
+        let left = under_none most capacity (subst (λ z. Under most old.nodes s.left_leaves s.left_rows z) none s.under) in
         let whole = s.order ∙ ap (λ z. flat_map (numbers_down old.nodes (length rows)) (reverse z)) (take_all index (entry_items top) (omega (arith, past, length-map top (λ (e : K × ℕ). e.1)))) in
         subst (λ z. GivesAll old now (numbers_under leaves rows) z) whole (record {
           frees = frees-wider old now s.own (numbers_under leaves rows) s.given (λ m zero. omega (arith, zero, s.split m)) s.frees;
@@ -190,21 +192,21 @@ module _ {K V : Type 0} where
       })
 
   -- a leaf has nothing below it and is freed alone
-  pub gives-leaf : (most : ℕ) (one : 1 ≤ half_of most) (old : Table K V) {leaves : List (LevelNode K V)}
+  pub gives-leaf : {most : ℕ} (capacity : IsLeafCapacity most) (old : Table K V) {leaves : List (LevelNode K V)}
       {lower : List (List (LevelNode K ℕ))} {number : ℕ} → Distinct (numbers_under leaves lower ++ old.chain)
       → (o : Opened most old.nodes leaves lower number) → (IsInner o.content → ⊥)
       → GivesAll old (with_freed old number) (numbers_under leaves lower) (numbers_down old.nodes (length lower) number)
   unfolding sweeping
-  gives-leaf most one old {number = number} apart o other =
-      let first = sweep-first most one old o.low o.rows o.top o.under in
+  gives-leaf capacity old {number = number} apart o other =
+      let first = sweep-first capacity old o.low o.rows o.top o.under in
       let s = sweeping apart o first in
-      let all = sweep-last most one old o.low o.rows o.top (omega (arith, childless o.content other, ap length o.children_are, length-map o.top (λ (e : K × ℕ). e.1))) first in
+      let all = sweep-last capacity old o.low o.rows o.top (omega (arith, childless o.content other, ap length o.children_are, length-map o.top (λ (e : K × ℕ). e.1))) first in
       gives-down s all
 
   -- the child at the index, and everything below it
-  pub child_turn : {most : ℕ} (one : 1 ≤ half_of most) {old now : Table K V} {leaves lower number index : _} {child : ℕ} → (s : Sweeping most old now leaves lower number index)
+  pub child_turn : {most : ℕ} (capacity : IsLeafCapacity most) {old now : Table K V} {leaves lower number index : _} {child : ℕ} → (s : Sweeping most old now leaves lower number index)
       → slice_get (children_of s.opened.content) index ≡ Some child → (x : K × ℕ) × (x.1 ≡ child) × (index < length s.opened.top)
-      × Turn most one old s.opened.low s.opened.rows s.opened.top now index x
-  child_turn {most = most} one {old = old} {now = now} {index = index} {child = child} s found =
+      × Turn capacity old s.opened.low s.opened.rows s.opened.top now index x
+  child_turn {most = most} capacity {old = old} {now = now} {index = index} {child = child} s found =
       let i = item_at s.opened.top index child (ap (λ z. slice_get z index) (sym s.opened.children_are) ∙ found) in
-      (i.0, i.2, slice_get_within s.opened.top index i.0 i.1, sweep-turn most one old s.opened.low s.opened.rows s.opened.top now index i.0 s.apart s.swept i.1)
+      (i.0, i.2, slice_get_within s.opened.top index i.0 i.1, sweep-turn capacity old s.opened.low s.opened.rows s.opened.top now index i.0 s.apart s.swept i.1)

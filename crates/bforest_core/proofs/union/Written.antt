@@ -9,7 +9,6 @@ use Rattle.bforest_core.proofs.table.Tables.{count-append, count-same, count-row
 use Rattle.bforest_core.proofs.walks.LeafSearch.{items-read}
 use Rattle.bforest_core.proofs.insertion.LeafSpot.{keys_count}
 use Rattle.bforest_core.proofs.rows.Zipper.{apart_here}
-use Rattle.bforest_core.proofs.walks.Descent.{some_leaf}
 use Rattle.bforest_core.proofs.walks.Entered.{leaf_here}
 use Rattle.bforest_core.proofs.walks.Steps.{read}
 use Rattle.bforest_core.proofs.walks.RowNodes.{entry_at}
@@ -58,7 +57,7 @@ module _ {K V : Type 0} (most : ℕ) (table : Table K V) (root place path indice
   at = s.stands.leaf
 
   leaf_at : slice_get table.nodes (get_or path 0 0) ≡ Some (leaf_content at.entries)
-  leaf_at = (leaf_here (some_leaf union.1.capacity) r.fit r.inside s.stands).node.slot_is
+  leaf_at = (leaf_here union.1.capacity r.fit r.inside s.stands).node.slot_is
 
   -- the leaf occurs once among the numbers of the tree and the chain
   once_here : (count (get_or path 0 0) (numbers at.before) + count (get_or path 0 0) (numbers at.after) ≡ 0) × (count (get_or path 0 0) (flat_map numbers (tree_of table.nodes root).above) ≡ 0) × (count (get_or path 0 0) table.chain ≡ 0)

@@ -3,7 +3,7 @@ use Rattle.std.proofs.Common.{◌≡◌, ℕ, suc, ◌+◌, ◌≤◌, IsTrue, L
 use Rattle.std.specs.declared.cmp.Ordering.{Ordering}
 use Rattle.bforest_core.proofs.Words.{EndsIn, IsTotalOrder, IsIncreasing, IsLeaf, IsUnion, Content, LevelNode, node, PlacedUnder, StandsAbove, Table, flat, is_root, slot, tree_of}
 use Rattle.bforest_core.proofs.table.Read.{slot-is}
-use Rattle.bforest_core.proofs.walks.Descent.{leaf_step, reached, some_leaf}
+use Rattle.bforest_core.proofs.walks.Descent.{leaf_step, reached}
 use Rattle.bforest_core.proofs.walks.Standing.{under-root}
 use Rattle.bforest_core.proofs.walks.TopNode.{node_under}
 use Rattle.bforest_core.proofs.walks.Whole.{all_through, ends-in}
@@ -19,7 +19,7 @@ ends-alone cmp o table root key union is leaf inc =
     let u = under-root root union is in
     let leaves = (tree_of table.nodes root).leaves in
     let lower = (tree_of table.nodes root).above in
-    let one = some_leaf union.1.capacity in
+    let one = union.1.capacity in
     elim (node_under one lower [] u.first root [] u.under) [
       | inl s ↦ (let step = leaf_step o one inc (all_through cmp u.first key) s in
           ends-in table root is (reached o one step (lone 0) (lone 0)

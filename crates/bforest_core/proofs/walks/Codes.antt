@@ -6,7 +6,7 @@ use Rattle.bforest_core.specs.declared.spot.Spot.{Spot}
 use Rattle.bforest_core.proofs.union.Unions.{is-rooted}
 use Rattle.bforest_core.proofs.Words.{IsUnion, Table, half_of, is_root, leaf_content, tree_of}
 use Rattle.bforest_core.proofs.table.Stored.{item_count}
-use Rattle.bforest_core.proofs.walks.Descent.{some_leaf}
+use Rattle.bforest_core.proofs.rows.LevelRows.{some_leaf}
 use Rattle.bforest_core.proofs.walks.Reading.{CountAsked, CountRead}
 use Rattle.bforest_core.proofs.walks.RowNodes.{NodeIn, fit_full, node-at, node-in, node-same}
 

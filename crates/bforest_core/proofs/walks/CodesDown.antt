@@ -6,7 +6,7 @@ use Rattle.bforest_core.proofs.Words.{IsFirst, IsLast, append-nil, Table, is_roo
 use Rattle.bforest_core.specs.declared.spot.Spot.{Spot}
 use Rattle.bforest_core.proofs.table.Stored.{item_count, slice_get_at}
 use Rattle.bforest_core.proofs.walks.Codes.{code-low, digit-put, leaf-at}
-use Rattle.bforest_core.proofs.walks.Descent.{some_leaf}
+use Rattle.bforest_core.proofs.rows.LevelRows.{some_leaf}
 use Rattle.bforest_core.proofs.walks.Leading.{Turns, child_under}
 use Rattle.bforest_core.proofs.walks.Standing.{under-root}
 use Rattle.bforest_core.proofs.walks.RowNodes.{no_heads}
@@ -43,7 +43,7 @@ module _ {K V : Type 0} {most : _} {slots : List (Content K V)} (capacity : IsLe
   -- at a leaf the way has ended
   module _ (other : IsInner content → ⊥) where
     ended : LeafUnder most slots leaves lower a first number b
-    ended = leaf_under (some_leaf capacity) a first number b u read other
+    ended = leaf_under capacity a first number b u read other
 
     way-here : {upper numbers : _} {spot : Spot} {place : ℕ} → IsWay numbers spot upper (length a) → length a ≡ place → (others : List ℕ) × IsWay others spot (lower ++ upper) place × NumberAt (heads leaves) place number
     way-here {upper = upper} {numbers = numbers} {spot = spot} {place = place} w is =
@@ -58,7 +58,7 @@ module _ {K V : Type 0} {most : _} {slots : List (Content K V)} (capacity : IsLe
   -- a level down
   module _ (inner : IsInner content) where
     below : InnerUnder most slots leaves lower a first number b
-    below = inner_under (some_leaf capacity) a first number b u read inner
+    below = inner_under capacity a first number b u read inner
 
     child-at : (index : ℕ) → index ≤ length below.at.es → ChildAsked slots number index
     child-at index low = (_, _, below.slot_is, omega (arith, low, item_count (below.at.e ∷ below.at.es)))
@@ -156,7 +156,7 @@ way-spot {K} table root {spot = spot} {place = place} {numbers = numbers} is w =
 pub root-held : {K V : Type 0} {n : ℕ} {table : Table K V} (union : IsUnion n table) (root : ℕ) (is : IsTrue (is_root table.nodes root)) → LastAsked table.nodes root
 root-held {n = n} {table = table} union root is =
     let u = under-root root union is in
-    node_held (some_leaf union.1.capacity) [] u.first root [] u.under
+    node_held union.1.capacity [] u.first root [] u.under
 
 -- the ways down from a root
 module _ {K V : Type 0} {n : ℕ} {table : Table K V} (union : IsUnion n table) {root : ℕ} (is : IsTrue (is_root table.nodes root)) {spot : Spot} (code : spot.code ≡ 0) (height : spot.height ≡ 0) where

@@ -14,9 +14,7 @@ use Rattle.bforest_core.proofs.walks.Rising.{all_split, all_less, increasing_spl
 use Rattle.bforest_core.proofs.walks.Downward.{Seen, last_of, stands_more, heads_increasing, upto_flat, stacked_increasing}
 use Rattle.bforest_core.proofs.walks.TopNode.{InnerUnder, LeafUnder, flat_parted, seen_at, set_but}
 use Rattle.bforest_core.proofs.walks.Reading.{ChildRead}
-
-pub some_leaf : {n : ℕ} → IsLeafCapacity n → 1 ≤ half_of n
-some_leaf c = omega (arith, c.least)
+use Rattle.bforest_core.proofs.rows.LevelRows.{some_leaf}
 
 -- writing the first of a list twice
 set_twice : (xs : List ℕ) (i j : ℕ) → set (set xs 0 i) 0 j ≡ set xs 0 j
@@ -72,7 +70,7 @@ increasing_about cmp o {number = number} at inc =
     let two = increasing_split o (at.e ∷ at.es) (flat at.after) (increasing_split o (flat at.before) ((at.e ∷ at.es) ++ flat at.after) parts).1 in
     (parts, two.0, two.1)
 
-module _ {K V : Type 0} {cmp : K → K → Ordering} (o : IsTotalOrder cmp) {most : ℕ} (one : 1 ≤ half_of most) {slots : List (Content K V)} {leaves : List (LevelNode K V)} {lower : List (List (LevelNode K ℕ))} {a : List (K × ℕ)} {first : K} {number : ℕ} {b : List (K × ℕ)} {key : K} where
+module _ {K V : Type 0} {cmp : K → K → Ordering} (o : IsTotalOrder cmp) {most : ℕ} (capacity : IsLeafCapacity most) {slots : List (Content K V)} {leaves : List (LevelNode K V)} {lower : List (List (LevelNode K ℕ))} {a : List (K × ℕ)} {first : K} {number : ℕ} {b : List (K × ℕ)} {key : K} where
   module _ (inc : IsIncreasing cmp (flat leaves)) (g : GoesThrough cmp a first b key) where
     -- the search in an inner node, from what is under it
     pub inner_step : InnerUnder most slots leaves lower a first number b → InnerStep cmp most slots leaves lower a first number b key
@@ -87,7 +85,7 @@ module _ {K V : Type 0} {cmp : K → K → Ordering} (o : IsTotalOrder cmp) {mos
     leaf_step s =
         let at = s.at in
         let parts = increasing_about cmp o at inc in
-        let upto = upto_flat cmp (half_of most) most one at.after key at.after_fit (subst (λ z. IsUpTo cmp z key) (sym at.after_is) g.upto) in
+        let upto = upto_flat cmp (half_of most) most (some_leaf capacity) at.after key at.after_fit (subst (λ z. IsUpTo cmp z key) (sym at.after_is) g.upto) in
         let from = from_at cmp a at g.from in
         record {
           here = s;
@@ -98,7 +96,7 @@ module _ {K V : Type 0} {cmp : K → K → Ordering} (o : IsTotalOrder cmp) {mos
           high = all_greater o (flat at.after) key parts.2 (λ y c is. subst (λ z. IsUpTo cmp z key) is upto);
         }
 
-  -- the search one level down: at the child of this index, with everything below it
+  -- the search capacity level down: at the child of this index, with everything below it
   pub record Below (s : InnerStep cmp most slots leaves lower a first number b key) (index child : ℕ) : Type 0 where
     pub front : List (K × ℕ)
     pub head : K
@@ -113,7 +111,7 @@ module _ {K V : Type 0} {cmp : K → K → Ordering} (o : IsTotalOrder cmp) {mos
     pub follow_asks : (keys : List K) × (children : List ℕ) × (slice_get slots number ≡ Some (Inner keys children)) × IsStrictlySortedBy cmp keys
     follow_asks = (entry_keys s.here.at.es, entry_items (s.here.at.e ∷ s.here.at.es), s.here.slot_is, increasing_rest o s.here.at.e s.here.at.es s.increasing)
 
-    -- following a child gives the search one level down
+    -- following a child gives the search capacity level down
     pub below : {index child : ℕ}
         → ((keys : List K) (children : List ℕ) → slice_get slots number ≡ Some (Inner keys children) → index ≡ child_index cmp keys key)
         → ChildRead slots number index child → Below s index child
@@ -140,7 +138,7 @@ module _ {K V : Type 0} {cmp : K → K → Ordering} (o : IsTotalOrder cmp) {mos
           within = omega (arith, slice_get_within (at.e ∷ at.es) index w.last here);
         }
 
-    -- one level of the descent, whose place was written into the path
+    -- capacity level of the descent, whose place was written into the path
     pub passed : (index : _) {child : _} (w : Below s index child) (path indices : List ℕ) {path' indices' : _} (path'' indices'' : _) {high : ℕ} → high ≡ length lower → Descended cmp leaves s.here.rows key (length w.front) path' indices' path'' indices'' →
         get_or path' high 0 ≡ number → get_or indices' high 0 ≡ index → path' ≡ set path high number → indices' ≡ set indices high index → Descended cmp leaves lower key (length a) path indices path'' indices''
     passed index w path indices path'' indices'' {high = high} high_is d m_is j_is nodes entries =

@@ -9,6 +9,8 @@ use Rattle.bforest_core.proofs.walks.Whole.{stands-pointed}
 use Rattle.bforest_core.proofs.table.Lists.{read_none}
 use Rattle.bforest_core.proofs.table.Stored.{some_same}
 use Rattle.bforest_core.proofs.walks.Reading.{LastAsked, LastRead}
+use Rattle.bforest_core.proofs.Words.{IsLeafCapacity}
+use Rattle.bforest_core.proofs.rows.LevelRows.{some_leaf}
 
 -- an optional entry, from its key and its value
 pub pair_answer : {K X : Type 0} (es : List (K × X)) (i : ℕ) (o : Option (K × X)) → option_map (λ e. e.0) o ≡ slice_get (entry_keys es) i → option_map (λ e. e.1) o ≡ slice_get (entry_items es) i → o ≡ slice_get es i
@@ -30,14 +32,14 @@ leaf_is slots path r {content = content} es some found slot = some_same content 
 pub key_total : {K V : Type 0} (es : List (K × V)) → entry_count (leaf_content es) ≡ length es
 key_total es = length-map es (λ w. w.0)
 
-module _ {K V : Type 0} {most : ℕ} (one : 1 ≤ half_of most) {slots : _} {tree : Tree K V} (fit : IsFit most tree) (inside : IsIn slots tree) where
+module _ {K V : Type 0} {most : ℕ} (capacity : IsLeafCapacity most) {slots : _} {tree : Tree K V} (fit : IsFit most tree) (inside : IsIn slots tree) where
   -- a path in the leaf at this index among the leaves
   abbrev pub InLeaf : List ℕ → List ℕ → ℕ → Type 0
   InLeaf path indices leaf = Within leaf_content slots most path indices 0 tree.leaves tree.above leaf
 
   -- the path is in its leaf at this index
   abbrev pub in_leaf : (path indices : List ℕ) (before : List (LevelNode K V)) (entries : List (K × V)) (after : List (LevelNode K V)) → tree.leaves ≡ before ++ node (get_or path 0 0) entries ∷ after → StandsAbove path indices 1 tree.above (length before) → InLeaf path indices (length before)
-  in_leaf path indices before entries after row_is above = record { node = node-in leaf_content slots most (half_of most) one tree.leaves fit.leaves_fit inside.leaves_in (get_or path 0 0) (length before) before entries after row_is refl; stands = above }
+  in_leaf path indices before entries after row_is above = record { node = node-in leaf_content slots most (half_of most) (some_leaf capacity) tree.leaves fit.leaves_fit inside.leaves_in (get_or path 0 0) (length before) before entries after row_is refl; stands = above }
 
   -- a path with the same nodes, and the same indices but in the leaf, points into the same leaf
   abbrev pub points_in : {path indices : List ℕ} {leaf : ℕ} (w : InLeaf path indices leaf) {size : ℕ} → size ≡ suc (length tree.above)
@@ -63,12 +65,12 @@ module _ {K V : Type 0} {most : ℕ} (one : 1 ≤ half_of most) {slots : _} {tre
   pub first_behind : {path indices : List ℕ} {leaf : ℕ} (w : InLeaf path indices leaf) {size : ℕ} → size ≡ suc (length tree.above) → {path1 indices1 : List ℕ} {path' : List ℕ} (indices' : List ℕ) →
       Moved path indices path1 indices1 0 tree.above (heads tree.leaves) (suc leaf) → path' ≡ path1 → get_or indices' 0 0 ≡ 0 → SameBut 0 indices1 indices' → Stands path' indices' size tree (length (flat w.node.before) + length w.node.entries)
   first_behind w {size = size} size_is {path1 = path1} {indices1 = indices1} {path' = path'} indices' m path_is here above =
-      let next : InLeaf path1 indices1 _ = there leaf_content slots most (half_of most) one tree.leaves fit.leaves_fit inside.leaves_in m in
+      let next : InLeaf path1 indices1 _ = there leaf_content slots most (half_of most) (some_leaf capacity) tree.leaves fit.leaves_fit inside.leaves_in m in
       stands_in next size_is indices' (length (flat w.node.before) + length w.node.entries) path_is above (omega (arith, here, next.node.some)) (omega (arith, here, seam w.node next.node refl))
 
   -- the last leaf ends at the end of the list
   pub leaf_last : {path indices : List ℕ} {leaf : ℕ} (w : InLeaf path indices leaf) → suc leaf ≡ length (heads tree.leaves) → length (flat w.node.before) + length w.node.entries ≡ length (flat tree.leaves)
-  leaf_last w last = sym (none-behind w.node (half_of most) one fit.leaves_fit last)
+  leaf_last w last = sym (none-behind w.node (half_of most) (some_leaf capacity) fit.leaves_fit last)
 
   module _ {path indices size place : _} (s : Stands path indices size tree place) where
     abbrev pub leaf_here : InLeaf path indices (length s.leaf.before)
@@ -123,7 +125,7 @@ module _ {K V : Type 0} {most : ℕ} (one : 1 ≤ half_of most) {slots : _} {tre
 
       -- the previous leaf
       back_leaf : InLeaf path1 indices1 (length s.leaf.before - 1)
-      back_leaf = there leaf_content slots most (half_of most) one tree.leaves fit.leaves_fit inside.leaves_in went.1
+      back_leaf = there leaf_content slots most (half_of most) (some_leaf capacity) tree.leaves fit.leaves_fit inside.leaves_in went.1
 
       -- the previous leaf meets what reading its last index requires
       pub back_asks : LastAsked slots (get_or path1 0 r)

@@ -1,12 +1,14 @@
 -- The descent to the first entry and to the last, as one on a side: the answers of `descend_first` and `descend_last`.
 use Rattle.std.proofs.Common.{◌≡◌, ◌≢◌, ℕ, zero, suc, ◌+◌, ◌-◌, ◌≤◌, ◌<◌, List, [], ◌∷◌, ◌++◌, length, get_or, set, slice_get, Some, refl, sym, ap, subst, ◌∙◌, arith, length-append}
-use Rattle.bforest_core.proofs.Words.{length-map, nil_from_length, Content, IsInner, entry_count, children_of, LevelNode, node, flat, half_of, leaf_content, inner_content, entry_items, StandsTo, HasBelow, IsFirst, IsLast, Led, OnBelow, Under}
+use Rattle.bforest_core.proofs.Words.{length-map, nil_from_length, Content, IsInner, entry_count, children_of, LevelNode, node, flat, leaf_content, inner_content, entry_items, StandsTo, HasBelow, IsFirst, IsLast, Led, OnBelow, Under}
 use Rattle.bforest_core.proofs.rows.LevelRows.{flat-append}
 use Rattle.bforest_core.proofs.table.Stored.{some_same, item_count}
 use Rattle.bforest_core.proofs.walks.Downward.{Seen, stands_more}
 use Rattle.bforest_core.proofs.walks.RowNodes.{no_heads}
 use Rattle.bforest_core.proofs.walks.TopNode.{SameBut, none_flat, flat_parted, seen_at, set_but, LeafUnder, InnerUnder, inner_at, inner_under, leaf_at}
 use Rattle.bforest_core.proofs.walks.Reading.{ChildAsked, ChildRead, LastRead}
+use Rattle.bforest_core.proofs.Words.{IsLeafCapacity}
+use Rattle.bforest_core.proofs.rows.LevelRows.{some_leaf}
 
 -- a node's entries, cut at the child of an index
 child_cut : {K : Type 0} (es : List (K × ℕ)) (index child : ℕ) → slice_get (entry_items es) index ≡ Some child → (l : List (K × ℕ)) × (key : K) × (r : List (K × ℕ)) × (es ≡ l ++ (key, child) ∷ r) × (length l ≡ index)
@@ -79,10 +81,10 @@ module _ {K V : Type 0} (most : ℕ) (slots : List (Content K V)) where
     pub under : Under most slots leaves rows ((first, child) ∷ rest)
     pub count_is : length lower ≡ suc (length rows)
 
-module _ {K V : Type 0} {most : ℕ} (one : 1 ≤ half_of most) {slots : List (Content K V)} {leaves : List (LevelNode K V)} {lower : List (List (LevelNode K ℕ))} {first : K} {number : ℕ} {b : List (K × ℕ)} where
+module _ {K V : Type 0} {most : ℕ} (capacity : IsLeafCapacity most) {slots : List (Content K V)} {leaves : List (LevelNode K V)} {lower : List (List (LevelNode K ℕ))} {first : K} {number : ℕ} {b : List (K × ℕ)} where
   module _ (u : Under most slots leaves lower ((first, number) ∷ b)) {content content2 : Content K V} (read : slice_get slots number ≡ Some content) (inner : IsInner content) (read2 : slice_get slots number ≡ Some content2) where
     abbrev pub front_node : InnerUnder most slots leaves lower [] first number b
-    front_node = inner_under one [] first number b u read inner
+    front_node = inner_under capacity [] first number b u read inner
 
     -- the first node meets what reading its first child requires
     pub front_asks : IsInner content2 × (0 < entry_count content2)
@@ -118,12 +120,12 @@ module _ {K V : Type 0} {most : ℕ} {slots : List (Content K V)} where
     ends = λ leaves lower a first b s side. omega (arith, none_flat s.at.before (s.at.before_is ∙ ap length side));
   }
 
-  pub last-turns : {number last : ℕ} (one : 1 ≤ half_of most) → LastRead slots number last → Turns most slots IsLast (λ leaves. length (flat leaves) - 1) number last
-  last-turns {number} {last} one says = record {
+  pub last-turns : {number last : ℕ} (capacity : IsLeafCapacity most) → LastRead slots number last → Turns most slots IsLast (λ leaves. length (flat leaves) - 1) number last
+  last-turns {number} {last} capacity says = record {
     within = λ leaves lower a first b s side. omega (arith, index s);
     keeps = λ leaves lower a first b s side front back front_is sum_is. nil_from_length back (omega (arith, front_is, sum_is, index s, last-end (omega arith) b s.at side));
     low = λ leaves lower a first b s side. omega (arith, at-leaf s);
-    ends = λ leaves lower a first b s side. omega (arith, at-leaf s, last-end one b s.at side);
+    ends = λ leaves lower a first b s side. omega (arith, at-leaf s, last-end (some_leaf capacity) b s.at side);
   }
     where
       index : {leaves lower a first b : _} (s : InnerUnder most slots leaves lower a first number b) → last ≡ length s.at.es
@@ -132,13 +134,13 @@ module _ {K V : Type 0} {most : ℕ} {slots : List (Content K V)} where
       at-leaf : {leaves lower a first b : _} (s : LeafUnder most slots leaves lower a first number b) → last ≡ length s.at.es
       at-leaf s = omega (arith, says (leaf_content (s.at.e ∷ s.at.es)) s.slot_is, length-map (s.at.e ∷ s.at.es) (λ w. w.0))
 
--- the descent on one side, from a node whose index in the path was written
-module _ {K V : Type 0} {most : ℕ} (one : 1 ≤ half_of most) {slots : List (Content K V)} {Side : List (K × ℕ) → List (K × ℕ) → Type 0} {place : List (LevelNode K V) → ℕ} {number index : ℕ} (turns : Turns most slots Side place number index) {level : ℕ} where
+-- the descent on capacity side, from a node whose index in the path was written
+module _ {K V : Type 0} {most : ℕ} (capacity : IsLeafCapacity most) {slots : List (Content K V)} {Side : List (K × ℕ) → List (K × ℕ) → Type 0} {place : List (LevelNode K V) → ℕ} {number index : ℕ} (turns : Turns most slots Side place number index) {level : ℕ} where
   -- at the leaf
   pub led-ends : level ≡ 0 → {path indices path1 indices1 : List ℕ} → (get_or path1 level 0 ≡ number) × (get_or indices1 level 0 ≡ index) → path1 ≡ set path level number
       → indices1 ≡ set indices level index → OnBelow most slots Side number level (λ leaves lower top. Led leaves lower (place leaves) top path indices path1 indices1)
   led-ends none {path} {indices} {path1} {indices1} here path_is indices_are leaves lower a first b side u level_is =
-      let s = leaf_at one a first number b u (omega (arith, level_is, none)) in
+      let s = leaf_at capacity a first number b u (omega (arith, level_is, none)) in
       leaf_led path indices s path1 indices1 (place leaves) (turns.low leaves lower a first b s side) (turns.ends leaves lower a first b s side)
       (ap (λ z. get_or path1 z 0) (sym none) ∙ here.0) (ap (λ z. get_or indices1 z 0) (sym none) ∙ here.1)
       (λ i ne. set_but path level number path_is i (λ e. ne (e ∙ none)))
@@ -148,14 +150,14 @@ module _ {K V : Type 0} {most : ℕ} (one : 1 ≤ half_of most) {slots : List (C
     -- what reading the child requires
     pub led-asks : HasBelow most slots Side number level → ChildAsked slots number index
     led-asks w =
-        let s = inner_at one w.2 w.3 number w.4 w.6 (λ z. some (w.7 ∙ z)) in
+        let s = inner_at capacity w.2 w.3 number w.4 w.6 (λ z. some (w.7 ∙ z)) in
         (_, _, s.slot_is, omega (arith, turns.within w.0 w.1 w.2 w.3 w.4 s w.5, item_count (s.at.e ∷ s.at.es)))
 
     module _ {child : ℕ} (says : ChildRead slots number index child) where
-      -- what the call one level down requires
+      -- what the call capacity level down requires
       pub led-goes : HasBelow most slots Side number level → HasBelow most slots Side child (level - 1)
       led-goes w =
-          let s = inner_at one w.2 w.3 number w.4 w.6 (λ z. some (w.7 ∙ z)) in
+          let s = inner_at capacity w.2 w.3 number w.4 w.6 (λ z. some (w.7 ∙ z)) in
           let c = child_under s s.slot_is index (says _ _ s.slot_is) in
           (w.0, s.rows, c.0, c.1, c.2, turns.keeps w.0 w.1 w.2 w.3 w.4 s w.5 c.0 c.2 c.4 c.5, c.3, omega (arith, w.7, s.count_is))
 
@@ -163,7 +165,7 @@ module _ {K V : Type 0} {most : ℕ} (one : 1 ≤ half_of most) {slots : List (C
           → indices1 ≡ set indices level index → OnBelow most slots Side child (level - 1) (λ leaves lower top. Led leaves lower (place leaves) top path1 indices1 path2 indices2)
           → OnBelow most slots Side number level (λ leaves lower top. Led leaves lower (place leaves) top path indices path2 indices2)
       led-on {path} {indices} {path2 = path2} {indices2 = indices2} here path_is indices_are leads leaves lower a first b side u level_is =
-          let s = inner_at one a first number b u (λ z. some (level_is ∙ z)) in
+          let s = inner_at capacity a first number b u (λ z. some (level_is ∙ z)) in
           let c = child_under s s.slot_is index (says _ _ s.slot_is) in
           let d = leads leaves s.rows c.0 c.1 c.2 (turns.keeps leaves lower a first b s side c.0 c.2 c.4 c.5) c.3 (omega (arith, level_is, s.count_is)) in
           inner_led path indices s path2 indices2 level (level_is ∙ s.count_is) (turns.within leaves lower a first b s side) c.4 d here.0 here.1

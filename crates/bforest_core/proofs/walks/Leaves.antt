@@ -4,7 +4,6 @@ use Rattle.bforest_core.proofs.Words.{drop_at, Content, IsInner, IsLeaf, Path, T
 use Rattle.bforest_core.proofs.rows.LevelRows.{flat-append}
 use Rattle.bforest_core.proofs.table.Read.{slot-is}
 use Rattle.bforest_core.proofs.union.Unions.{is-rooted}
-use Rattle.bforest_core.proofs.walks.Descent.{some_leaf}
 use Rattle.bforest_core.proofs.walks.Standing.{on-leaf-in}
 use Rattle.bforest_core.proofs.walks.TopNode.{leaf_under}
 use Rattle.bforest_core.proofs.walks.Whole.{whole_under}
@@ -25,7 +24,7 @@ root-leaf {table = table} union root content is found other =
     let tree = tree_of table.nodes root in
     let w = is-rooted root union is in
     let u = whole_under w in
-    let f = leaf_under (some_leaf union.1.capacity) [] u.0 root [] u.1 found other in
+    let f = leaf_under union.1.capacity [] u.0 root [] u.1 found other in
     subst IsLeaf (sym (slot-is table.nodes root _ f.slot_is)) tt
 
 module _ {K V : Type 0} {n : ℕ} {table : Table K V} (union : IsUnion n table) {root : ℕ} where

@@ -10,7 +10,7 @@ use Rattle.bforest_nodes.proofs.Ordered.{place-here, place-later}
 use Rattle.bforest_core.proofs.rows.LevelRows.{FitRow-split}
 use Rattle.bforest_core.proofs.table.Stored.{some_same}
 use Rattle.bforest_core.proofs.walks.Backward.{at_end, at_entry}
-use Rattle.bforest_core.proofs.walks.Descent.{some_leaf}
+use Rattle.bforest_core.proofs.rows.LevelRows.{some_leaf}
 use Rattle.bforest_core.proofs.walks.Entered.{entry_read, points_in}
 use Rattle.bforest_core.proofs.walks.Rising.{all_greater, entry_between, increasing_rest, less_from, place_between, test_at}
 use Rattle.bforest_core.proofs.walks.Standing.{on-leaf-in, on-tree, on-within, points-stands}
@@ -84,7 +84,7 @@ module _ {K V : Type 0} {n : ℕ} (table : Table K V) (root : ℕ) (path : Path 
     pub placed-behind : (path' : Path K V n) (p : ℕ) → StandsOn table root path p → path'.node ≡ path.node → index_of path' ≡ index_of path + 1 → ((i : ℕ) → i ≢ 0 → get_or path'.entry i 0 ≡ get_or path.entry i 0) → path'.size ≡ path.size → IsPlaced table root path' (suc p)
     placed-behind path' p on same index_is above size_is =
         let w = on-tree union path on in
-        let points = points_in (some_leaf union.1.capacity) w.fit w.inside (on-leaf-in union path on) (size_is ∙ on.stands.size_is) path'.entry (suc p) same above (omega (arith, index_is, on.stands.leaf.within)) (omega (arith, index_is, on.stands.leaf.place_is)) in
+        let points = points_in union.1.capacity w.fit w.inside (on-leaf-in union path on) (size_is ∙ on.stands.size_is) path'.entry (suc p) same above (omega (arith, index_is, on.stands.leaf.within)) (omega (arith, index_is, on.stands.leaf.place_is)) in
         record { root_is = on.root_is; at = record { points = points; first = λ none. absurd (omega (arith, none, index_is)) } }
 
     -- an entry may be inserted before the first of the list
@@ -161,7 +161,7 @@ module _ {K V : Type 0} {n : ℕ} {table : Table K V} (root : ℕ) (path : Path 
   module _ {e : K × V} (read_is : (entries : List (K × V)) → slice_get table.nodes (leaf_of path) ≡ Some (leaf_content entries) → slice_get entries (index_of path) ≡ Some e) where
     -- the entry read in the leaf is the entry of the list
     pub here-entry : slice_get (list_under table root) p ≡ Some e
-    here-entry = let w = on-tree union path on in entry_read (some_leaf union.1.capacity) w.fit w.inside on.stands read_is
+    here-entry = let w = on-tree union path on in entry_read union.1.capacity w.fit w.inside on.stands read_is
 
     module _ {cmp : K → K → Ordering} (o : IsTotalOrder cmp) (key : K) where
       -- the entry has an equal key

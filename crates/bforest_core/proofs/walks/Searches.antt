@@ -1,6 +1,6 @@
 -- The way down to the leaf in which a search ends: each answer of `value_below`, `entry_below` and, as a spot, `find_below` is one of these.
 use Rattle.std.proofs.Common.{◌≡◌, ℕ, suc, ◌+◌, ◌*◌, ◌≤◌, ◌<◌, List, [], ◌∷◌, ◌++◌, IsTrue, length, slice_get, Some, refl, sym, ap, subst, ◌∙◌, arith}
-use Rattle.bforest_core.proofs.Words.{Content, EndsOn, Inner, IsInner, IsIncreasing, IsTotalOrder, IsStrictlySortedBy, IsUnion, LevelNode, Narrows, SearchEndsAt, SearchThrough, Table, child_index, flat, half_of, is_root, leaf_content, place, tree_of}
+use Rattle.bforest_core.proofs.Words.{Content, EndsOn, Inner, IsInner, IsIncreasing, IsTotalOrder, IsStrictlySortedBy, IsUnion, LevelNode, Narrows, SearchEndsAt, SearchThrough, Table, child_index, flat, is_root, leaf_content, place, tree_of}
 use Rattle.bforest_core.specs.Place.{entry_items, entry_keys}
 use Rattle.bforest_core.specs.Spots.{IsSpotAt, IsWay, leaf_place}
 use Rattle.bforest_core.specs.declared.spot.Spot.{Spot}
@@ -16,6 +16,7 @@ use Rattle.bforest_core.proofs.walks.Standing.{under-root}
 use Rattle.bforest_core.proofs.walks.TopNode.{inner_under, leaf_under, node_within}
 use Rattle.bforest_core.proofs.walks.Whole.{all_through}
 use Rattle.bforest_core.proofs.walks.Reading.{ChildRead}
+use Rattle.bforest_core.proofs.Words.{IsLeafCapacity}
 
 -- the search one level down, with the way there, below these rows
 pub record WayBelow {K V : Type 0} (cmp : K → K → Ordering) (most : ℕ) (slots : List (Content K V)) (leaves : List (LevelNode K V)) (lower upper : List (List (LevelNode K ℕ))) (key : K) (next : Spot) (child : ℕ) : Type 0 where
@@ -25,16 +26,16 @@ pub record WayBelow {K V : Type 0} (cmp : K → K → Ordering) (most : ℕ) (sl
   pub way : IsWay numbers next above (length on.before)
   pub join : on.lower ++ above ≡ lower ++ upper
 
-module _ {K V : Type 0} {cmp : K → K → Ordering} (o : IsTotalOrder cmp) {most : ℕ} (one : 1 ≤ half_of most) {slots : List (Content K V)} {leaves key number depth : _} (t : SearchThrough cmp most slots leaves key number depth) where
+module _ {K V : Type 0} {cmp : K → K → Ordering} (o : IsTotalOrder cmp) {most : ℕ} (capacity : IsLeafCapacity most) {slots : List (Content K V)} {leaves key number depth : _} (t : SearchThrough cmp most slots leaves key number depth) where
   -- the node is in the slots
   pub within : number < length slots
-  within = node_within one t.before t.first number t.after t.under
+  within = node_within capacity t.before t.first number t.after t.under
 
   module _ {content : Content K V} (found : slice_get slots number ≡ Some content) where
     -- at the leaf
     module _ (other : IsInner content → ⊥) where
       pub step-leaf : LeafStep cmp most slots leaves t.lower t.before t.first number t.after key
-      step-leaf = leaf_step o one t.increasing t.through (leaf_under one t.before t.first number t.after t.under found other)
+      step-leaf = leaf_step o capacity t.increasing t.through (leaf_under capacity t.before t.first number t.after t.under found other)
 
       -- what a search in the leaf asks
       pub leaf-asks : (entries : List (K × V)) × (slice_get slots number ≡ Some (leaf_content entries)) × IsIncreasing cmp entries
@@ -44,8 +45,8 @@ module _ {K V : Type 0} {cmp : K → K → Ordering} (o : IsTotalOrder cmp) {mos
       pub narrowed : Narrows cmp leaves key step-leaf.here.at.before (step-leaf.here.at.e ∷ step-leaf.here.at.es)
       narrowed =
           let s = step-leaf in
-          let p = placed o one s number (place cmp (s.here.at.e ∷ s.here.at.es) key) refl refl in
-          record { increasing = s.increasing; place_is = p.place_is; value_is = leaf_value o one s; found_is = leaf_found o one s; first = p.first }
+          let p = placed o capacity s number (place cmp (s.here.at.e ∷ s.here.at.es) key) refl refl in
+          record { increasing = s.increasing; place_is = p.place_is; value_is = leaf_value o capacity s; found_is = leaf_found o capacity s; first = p.first }
 
       pub ends-on : {upper : List (List (LevelNode K ℕ))} {numbers : List ℕ} {spot : Spot} → IsWay numbers spot upper (length t.before) → EndsOn cmp slots leaves (t.lower ++ upper) key spot number
       ends-on {upper = upper} {numbers = numbers} {spot = spot} w =
@@ -66,11 +67,11 @@ module _ {K V : Type 0} {cmp : K → K → Ordering} (o : IsTotalOrder cmp) {mos
     -- at an inner node
     module _ (inner : IsInner content) where
       pub step : InnerStep cmp most slots leaves t.lower t.before t.first number t.after key
-      step = inner_step o one t.increasing t.through (inner_under one t.before t.first number t.after t.under found inner)
+      step = inner_step o capacity t.increasing t.through (inner_under capacity t.before t.first number t.after t.under found inner)
 
       -- what following a child asks
       pub asks : (keys : List K) × (children : List ℕ) × (slice_get slots number ≡ Some (Inner keys children)) × IsStrictlySortedBy cmp keys
-      asks = follow_asks o one step
+      asks = follow_asks o capacity step
 
       -- a level more is not too many
       pub deeper-low : depth < 16
@@ -80,10 +81,10 @@ module _ {K V : Type 0} {cmp : K → K → Ordering} (o : IsTotalOrder cmp) {mos
           (says : (keys : List K) (children : List ℕ) → slice_get slots number ≡ Some (Inner keys children)
           → index ≡ child_index cmp keys key)
           (reads : ChildRead slots number index child) where
-        pub to : Below o one step index child
-        to = below o one step says reads
+        pub to : Below o capacity step index child
+        to = below o capacity step says reads
 
-        -- the search one level down
+        -- the search capacity level down
         abbrev pub one-down : (deeper : ℕ) → deeper ≡ suc depth → SearchThrough cmp most slots leaves key child deeper
         one-down deeper is = record { lower = step.here.rows; before = to.front; first = to.head; after = to.back; under = to.under; increasing = t.increasing; through = to.through; low = omega (arith, is, t.low, step.here.count_is) }
 
@@ -104,7 +105,7 @@ module _ {K V : Type 0} {cmp : K → K → Ordering} (o : IsTotalOrder cmp) {mos
           code-low-here = code-low 15 upper numbers spot.code (length t.before) w.coded (omega (arith, w.height_is, height_is, deeper-low))
 
           module _ (next : Spot) (code : next.code ≡ spot.code * 8 + index) (parent : next.parent ≡ number) (grand : next.grand ≡ spot.parent) (height : next.height ≡ suc spot.height) where
-            -- the search one level down, with the way there
+            -- the search capacity level down, with the way there
             pub down : WayBelow cmp most slots leaves t.lower upper key next child
             down = record {
               above = step.here.row ∷ upper;

@@ -3,7 +3,7 @@ use Rattle.std.proofs.Common.{◌≡◌, ◌≢◌, ℕ, zero, suc, ◌+◌, ◌
 use Rattle.bforest_core.proofs.Words.{flat_map, false≢true, eqb_tells, Path, PointsTo, StandsAt, StandsOn, index_of, leaf_of, list_under, path_root, place_in, spot, IsLeaf, AtUnder, StandsUnder, IsRooted, Under, LevelNode, Tree, flat}
 use Rattle.bforest_core.proofs.Words.{HasBelow, Led, OnBelow, heads, length-map, node, numbers, sizes, sizes_of, IsFit, IsIn, IsPathAt, PointsAt, Stands, count, leaf_content, numbers_of, Moved, Over, Table, IsUnion, is_root, slot, tree_of}
 use Rattle.bforest_core.specs.Paths.{IsPlaced}
-use Rattle.bforest_core.proofs.walks.Descent.{some_leaf}
+use Rattle.bforest_core.proofs.rows.LevelRows.{some_leaf}
 use Rattle.bforest_core.proofs.walks.Leading.{leaf_led}
 use Rattle.bforest_core.proofs.walks.TopNode.{SameBut, node_under, none_flat}
 use Rattle.bforest_core.proofs.table.Read.{slot-is}
@@ -78,7 +78,7 @@ module _ {K V : Type 0} {most : ℕ} {table : Table K V} (root : ℕ) (union : I
 pub on-leaf : {K V : Type 0} {most : ℕ} (table : Table K V) (root : ℕ) (path indices : List ℕ) → IsUnion most table → IsTrue (is_root table.nodes root) → IsLeaf (slot table.nodes root) → get_or path 0 0 ≡ root → get_or indices 0 0 ≡ 0 → StandsUnder table.nodes root path indices 1 0
 on-leaf table root path indices union is leaf node_is index_is =
     let u = under-root root union is in
-    elim (node_under (some_leaf union.1.capacity) _ [] u.first root [] u.under) [
+    elim (node_under union.1.capacity _ [] u.first root [] u.under) [
       | inl s ↦ (let d = leaf_led path indices s path indices 0 (omega arith) (omega (arith, none_flat s.at.before s.at.before_is)) node_is index_is (λ i ne. refl) (λ i ne. refl) in record { root_is = is; stands = led_stands _ 1 d (sym (ap (λ z. suc (length z)) s.lower_is)) })
       | inr s ↦ absurd (subst IsLeaf (slot-is table.nodes root _ s.slot_is) leaf)
     ]
@@ -126,8 +126,8 @@ module _ {K V : Type 0} {n : ℕ} {table : Table K V} (union : IsUnion n table) 
   on-tree = is-rooted root union on.root_is
 
   -- the path's leaf, and the rows above it
-  abbrev pub on-leaf-in : InLeaf (some_leaf union.1.capacity) on-tree.fit on-tree.inside path.node path.entry (length on.stands.leaf.before)
-  on-leaf-in = leaf_here (some_leaf union.1.capacity) on-tree.fit on-tree.inside on.stands
+  abbrev pub on-leaf-in : InLeaf union.1.capacity on-tree.fit on-tree.inside path.node path.entry (length on.stands.leaf.before)
+  on-leaf-in = leaf_here union.1.capacity on-tree.fit on-tree.inside on.stands
 
   -- the path meets what a step requires
   pub on-asks : (path.size ≤ 17) × ((tree : Tree K V) × (place : ℕ) × IsFit n tree × IsIn table.nodes tree × Stands path.node path.entry path.size tree place)
@@ -141,8 +141,8 @@ module _ {K V : Type 0} {n : ℕ} {table : Table K V} (union : IsUnion n table) 
   abbrev tree_is : IsRooted n table.nodes root (tree_of table.nodes root)
   tree_is = is-rooted root union to.root_is
 
-  abbrev pointed : InLeaf (some_leaf union.1.capacity) tree_is.fit tree_is.inside path.node path.entry (length to.points.before)
-  pointed = in_leaf (some_leaf union.1.capacity) tree_is.fit tree_is.inside path.node path.entry to.points.before to.points.entries to.points.after to.points.leaves_are to.points.above
+  abbrev pointed : InLeaf union.1.capacity tree_is.fit tree_is.inside path.node path.entry (length to.points.before)
+  pointed = in_leaf union.1.capacity tree_is.fit tree_is.inside path.node path.entry to.points.before to.points.entries to.points.after to.points.leaves_are to.points.above
 
   -- the content of the leaf's slot
   pub pointed-leaf : (entries : List (K × V)) × (slice_get table.nodes (leaf_of path) ≡ Some (leaf_content entries))
@@ -168,13 +168,13 @@ module _ {K V : Type 0} {n : ℕ} {table : Table K V} (union : IsUnion n table) 
         new.node ≡ moved.node → get_or new.entry 0 0 ≡ 0 → SameBut 0 moved.entry new.entry → new.size ≡ path.size → StandsAt table root new place
     pointed-next none moved new goes nodes here above size =
         let m = goes (tree_of table.nodes root).above (heads (tree_of table.nodes root).leaves) (length to.points.before) pointed-over in
-        let s = first_behind (some_leaf union.1.capacity) tree_is.fit tree_is.inside pointed (size ∙ to.points.size_is) new.entry m nodes here above in
+        let s = first_behind union.1.capacity tree_is.fit tree_is.inside pointed (size ∙ to.points.size_is) new.entry m nodes here above in
         on-at table root new place (record { root_is = to.root_is; stands = subst (λ z. Stands new.node new.entry new.size (tree_of table.nodes root) z) (sym (behind none)) s })
 
     -- past the last entry of all, the path is at the end
     pub pointed-last : has ≡ false → ((rows list at : _) → Over table.nodes path.node path.entry 1 path.size rows list at → suc at ≡ length list) → (nodes entries : List ℕ) → AtUnder table.nodes root nodes entries 0 place
     pointed-last none last nodes entries =
-        record { root_is = to.root_is; at = behind none ∙ leaf_last (some_leaf union.1.capacity) tree_is.fit tree_is.inside pointed (last (tree_of table.nodes root).above (heads (tree_of table.nodes root).leaves) (length to.points.before) pointed-over) }
+        record { root_is = to.root_is; at = behind none ∙ leaf_last union.1.capacity tree_is.fit tree_is.inside pointed (last (tree_of table.nodes root).above (heads (tree_of table.nodes root).leaves) (length to.points.before) pointed-over) }
 
 -- a path in a union of trees
 module _ {K V : Type 0} {n : ℕ} (most : ℕ) (table : Table K V) (root : ℕ) (path : Path K V n) (place : ℕ) (union : IsUnion most table) where

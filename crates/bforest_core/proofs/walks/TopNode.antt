@@ -6,6 +6,8 @@ use Rattle.bforest_core.proofs.table.Stored.{some_same}
 use Rattle.bforest_core.proofs.table.Tables.{row-split}
 use Rattle.bforest_core.proofs.walks.Downward.{Seen, at_node, seen, last_of, stacked_last, in_last}
 use Rattle.bforest_core.proofs.walks.Reading.{LastAsked}
+use Rattle.bforest_core.proofs.Words.{IsLeafCapacity}
+use Rattle.bforest_core.proofs.rows.LevelRows.{some_leaf}
 
 -- the list is unchanged except at this level
 abbrev pub SameBut : ℕ → List ℕ → List ℕ → Type 0
@@ -46,10 +48,10 @@ pub record InnerUnder {K V : Type 0} (most : ℕ) (slots : List (Content K V)) (
 seen_slot : {K V X : Type 0} (content : List (K × X) → Content K V) (slots : List (Content K V)) {half most : _} {row : List (LevelNode K X)} {a first number b : _} (at : Seen half most row a first number b) → RowIn content slots row → slice_get slots number ≡ Some (content (at.e ∷ at.es))
 seen_slot {K} {V} {X} content slots {number = number} at i = (row-split content slots at.before (node number (at.e ∷ at.es) ∷ at.after) (subst (λ z. RowIn content slots z) at.row_is i)).1.0
 
-module _ {K V : Type 0} {most : ℕ} (one : 1 ≤ half_of most) {slots : List (Content K V)} {leaves : List (LevelNode K V)} where
+module _ {K V : Type 0} {most : ℕ} (capacity : IsLeafCapacity most) {slots : List (Content K V)} {leaves : List (LevelNode K V)} where
   pub node_under : (lower : _) (a : List (K × ℕ)) (first : K) (number : ℕ) (b : List (K × ℕ)) → Under most slots leaves lower (a ++ (first, number) ∷ b) → LeafUnder most slots leaves lower a first number b ⊎ InnerUnder most slots leaves lower a first number b
   node_under [] a first number b u =
-      let at = seen (half_of most) most one leaves a first number b u.leaves_fit u.stacked in
+      let at = seen (half_of most) most (some_leaf capacity) leaves a first number b u.leaves_fit u.stacked in
       inl (record { lower_is = refl; at = at; slot_is = seen_slot leaf_content slots at u.leaves_in })
   node_under (r ∷ rs) a first number b u =
       let z = last_of r rs in

@@ -1,15 +1,14 @@
 use Rattle.std.proofs.Common.{rules, arith}
-use Rattle.bforest_core.proofs.walks.Descent.{some_leaf}
 use Rattle.bforest_core.proofs.walks.Leading.{first-turns, led-asks, led-ends, led-goes, led-on}
 use Rattle.bforest_core.proofs.path.Path.+descend_first.Goals as goal
 
 pub returns-then-level-eq0-clause-led : goal.returns-then-level-eq0-clause-led
 returns-then-level-eq0-clause-led g t c =
     let set = c.set_level.ensures in
-    led-ends (some_leaf c.requires.capacity) first-turns c.if-level-eq0.true set.here set.node set.entry
+    led-ends c.requires.capacity first-turns c.if-level-eq0.true set.here set.node set.entry
 
 pub child-child-requires : goal.child-child-requires
-child-child-requires g t c = (search rules, led-asks (some_leaf c.requires.capacity) first-turns c.if-level-eq0.false c.requires.under)
+child-child-requires g t c = (search rules, led-asks c.requires.capacity first-turns c.if-level-eq0.false c.requires.under)
 
 pub descend_first-requires : goal.descend_first-requires
 descend_first-requires g t c κs within = (
@@ -28,7 +27,7 @@ descend_first-requires g t c κs within = (
               c.requires.capacity,
               (
                 omega (arith, c.requires.height),
-                led-goes (some_leaf c.requires.capacity) first-turns c.if-level-eq0.false c.child-child.ensures c.requires.under,
+                led-goes c.requires.capacity first-turns c.if-level-eq0.false c.child-child.ensures c.requires.under,
               ),
             ),
           ),
@@ -41,4 +40,4 @@ descend_first-requires g t c κs within = (
 pub returns-clause-led : goal.returns-clause-led
 returns-clause-led g t c =
     let set = c.set_level.ensures in
-    led-on (some_leaf c.requires.capacity) first-turns c.if-level-eq0.false c.child-child.ensures set.here set.node set.entry c.descend_first.ensures.led
+    led-on c.requires.capacity first-turns c.if-level-eq0.false c.child-child.ensures set.here set.node set.entry c.descend_first.ensures.led

@@ -1,5 +1,4 @@
 use Rattle.std.proofs.Common.{rules, arith}
-use Rattle.bforest_core.proofs.walks.Descent.{some_leaf}
 use Rattle.bforest_core.proofs.walks.Leading.{last-turns, led-asks, led-ends, led-goes, led-on}
 use Rattle.bforest_core.proofs.walks.TopNode.{node_held}
 use Rattle.bforest_core.proofs.path.Path.+descend_last.Goals as goal
@@ -7,15 +6,15 @@ use Rattle.bforest_core.proofs.path.Path.+descend_last.Goals as goal
 pub last_index-last-requires : goal.last_index-last-requires
 last_index-last-requires g t c =
     let w = c.requires.under in
-    (search rules, node_held (some_leaf c.requires.capacity) w.2 w.3 _ w.4 w.6)
+    (search rules, node_held c.requires.capacity w.2 w.3 _ w.4 w.6)
 
 pub returns-then-level-eq0-clause-led : goal.returns-then-level-eq0-clause-led
 returns-then-level-eq0-clause-led g t c =
     let set = c.set_level.ensures in
-    led-ends (some_leaf c.requires.capacity) (last-turns (some_leaf c.requires.capacity) c.last_index-last.ensures.last) c.if-level-eq0.true set.here set.node set.entry
+    led-ends c.requires.capacity (last-turns c.requires.capacity c.last_index-last.ensures.last) c.if-level-eq0.true set.here set.node set.entry
 
 pub child-child-requires : goal.child-child-requires
-child-child-requires g t c = (search rules, led-asks (some_leaf c.requires.capacity) (last-turns (some_leaf c.requires.capacity) c.last_index-last.ensures.last) c.if-level-eq0.false c.requires.under)
+child-child-requires g t c = (search rules, led-asks c.requires.capacity (last-turns c.requires.capacity c.last_index-last.ensures.last) c.if-level-eq0.false c.requires.under)
 
 pub descend_last-requires : goal.descend_last-requires
 descend_last-requires g t c κs within = (
@@ -34,7 +33,7 @@ descend_last-requires g t c κs within = (
               c.requires.capacity,
               (
                 omega (arith, c.requires.height),
-                led-goes (some_leaf c.requires.capacity) (last-turns (some_leaf c.requires.capacity) c.last_index-last.ensures.last) c.if-level-eq0.false c.child-child.ensures c.requires.under,
+                led-goes c.requires.capacity (last-turns c.requires.capacity c.last_index-last.ensures.last) c.if-level-eq0.false c.child-child.ensures c.requires.under,
               ),
             ),
           ),
@@ -47,4 +46,4 @@ descend_last-requires g t c κs within = (
 pub returns-clause-led : goal.returns-clause-led
 returns-clause-led g t c =
     let set = c.set_level.ensures in
-    led-on (some_leaf c.requires.capacity) (last-turns (some_leaf c.requires.capacity) c.last_index-last.ensures.last) c.if-level-eq0.false c.child-child.ensures set.here set.node set.entry c.descend_last.ensures.led
+    led-on c.requires.capacity (last-turns c.requires.capacity c.last_index-last.ensures.last) c.if-level-eq0.false c.child-child.ensures set.here set.node set.entry c.descend_last.ensures.led

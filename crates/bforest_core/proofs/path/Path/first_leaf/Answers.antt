@@ -1,6 +1,5 @@
 use Rattle.std.proofs.Common.{rules, [], refl, sym, ◌∙◌, arith}
 use Rattle.bforest_core.proofs.Words.{false≢true, get_or_default, tree_of}
-use Rattle.bforest_core.proofs.walks.Descent.{some_leaf}
 use Rattle.bforest_core.proofs.walks.TopNode.{node_within}
 use Rattle.bforest_core.proofs.walks.Leaves.{leaf-front, root-leaf}
 use Rattle.bforest_core.proofs.walks.Standing.{led-root, root-below, under-root}
@@ -10,7 +9,7 @@ pub node-requires : goal.node-requires
 node-requires g c =
     let tree = tree_of c.args.pool.now.nodes c.args.root in
     let u = under-root c.args.root c.requires.union c.requires.root in
-    (search rules, (search rules, node_within (some_leaf c.requires.union.1.capacity) [] u.first c.args.root [] u.under))
+    (search rules, (search rules, node_within c.requires.union.1.capacity [] u.first c.args.root [] u.under))
 
 pub returns-then-not-is_inner : goal.returns-then-not-is_inner
 returns-then-not-is_inner g c =
