@@ -82,10 +82,7 @@ module _ {K V : Type 0} where
   pub reserved-then : (most : ℕ) (table : Table K V) (n : ℕ) (new : Table K V) (root root' : ℕ) → IsUnion most table → OthersKeep (reserved table n).nodes new.nodes root root' → OthersKeep table.nodes new.nodes root root'
   reserved-then most table n new root root' union keep other ne ne' =
       let r = reserved-roots most table n union other in
-      let k = keep other ne ne' in (
-        (λ now. sym r.0 ∙ k.0.0 now, λ was. k.0.1 (r.0 ∙ was)),
-        λ was. k.1 (r.0 ∙ was) ∙ r.1 was,
-      )
+      let k = keep other ne ne' in ((λ now. sym r.0 ∙ k.0.0 now, λ was. k.0.1 (r.0 ∙ was)), λ was. k.1 (r.0 ∙ was) ∙ r.1 was)
 
   -- an equal table, or one with reserved nodes, is a union of trees and keeps them
   pub same-keeps : {most : ℕ} {old : Table K V} (new : Table K V) → new ≡ old → IsUnion most old → IsUnion most new × KeepsTrees old.nodes new.nodes

@@ -186,8 +186,7 @@ module _ {K V : Type 0} where
         frees = frees-then old now (with_freed now number) (numbers_under leaves lower) (number ∷ []) below (number ∷ [])
             (λ m zero. omega (arith, zero, s.opened.counted m)) apart
             (frees-wider old now own (numbers_under leaves lower) below (λ m zero. omega (arith, zero, s.opened.counted m)) all.frees)
-            (frees-one now (with_freed now number) number s.opened.content (number ∷ []) s.slot_is refl
-            (omega (arith, count-same number [])));
+            (frees-one now (with_freed now number) number s.opened.content (number ∷ []) s.slot_is refl (omega (arith, count-same number [])));
         counted = λ m. omega (arith, s.opened.counted m, all.counted m, count-append m (number ∷ []) below);
       })
 

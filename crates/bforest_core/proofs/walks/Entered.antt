@@ -104,8 +104,7 @@ module _ {K V : Type 0} {most : ℕ} (capacity : IsLeafCapacity most) {slots : _
 
       -- the next entry is the first of the next leaf
       pub next_over : {path1 indices1 path' : List ℕ} (indices' : List ℕ)
-          → ((rows list at : _)
-          → Over slots path indices 1 size rows list at → Moved path indices path1 indices1 0 rows list (suc at)) → path' ≡ path1
+          → ((rows list at : _) → Over slots path indices 1 size rows list at → Moved path indices path1 indices1 0 rows list (suc at)) → path' ≡ path1
           → get_or indices' 0 0 ≡ 0 → SameBut 0 indices1 indices' → Stands path' indices' size tree (suc place)
       next_over {path' = path'} indices' moved path_is here above =
           subst (λ z. Stands path' indices' size tree z) (sym leaf_ends) (first_behind leaf_here s.size_is indices' (moved tree.above (heads tree.leaves) (length s.leaf.before) over_leaves) path_is here above)

@@ -78,8 +78,7 @@ module _ {K V : Type 0} {cmp : K → K → Ordering} (o : IsTotalOrder cmp) {mos
       deeper-low = omega (arith, t.low, step.here.count_is)
 
       module _ (index : ℕ) {child : ℕ}
-          (says : (keys : List K) (children : List ℕ) → slice_get slots number ≡ Some (Inner keys children)
-          → index ≡ child_index cmp keys key)
+          (says : (keys : List K) (children : List ℕ) → slice_get slots number ≡ Some (Inner keys children) → index ≡ child_index cmp keys key)
           (reads : ChildRead slots number index child) where
         pub to : Below o capacity step index child
         to = below o capacity step says reads

@@ -7,8 +7,7 @@ pub returns-then-level-eq0-clause-descended : goal.returns-then-level-eq0-clause
 returns-then-level-eq0-clause-descended g t c = λ leaves lower a first b u inc through level_is.
     let s = leaf_step (g.met.C.Comparator.total c.args.comp.now)
     c.requires.capacity inc through
-    (leaf_at c.requires.capacity a first c.args.node b u
-    (sym level_is ∙ c.if-level-eq0.true)) in
+    (leaf_at c.requires.capacity a first c.args.node b u (sym level_is ∙ c.if-level-eq0.true)) in
     reached (g.met.C.Comparator.total c.args.comp.now)
     c.requires.capacity s c.args.self.now.node
     c.args.self.now.entry _ _ (omega arith) (omega arith) c.set_level.ensures.node c.set_level.ensures.entry
@@ -18,8 +17,7 @@ follow-index-requires g t c =
     let w = c.requires.under in
     let s = inner_step (g.met.C.Comparator.total c.args.comp.now)
     c.requires.capacity w.6 w.7
-    (inner_at c.requires.capacity w.2 w.3 c.args.node w.4 w.5
-    (λ z. c.if-level-eq0.false (w.8 ∙ z))) in
+    (inner_at c.requires.capacity w.2 w.3 c.args.node w.4 w.5 (λ z. c.if-level-eq0.false (w.8 ∙ z))) in
     (search rules, follow_asks (g.met.C.Comparator.total c.args.comp.now) c.requires.capacity s)
 
 pub descend-requires : goal.descend-requires
@@ -27,8 +25,7 @@ descend-requires g t c κs within =
     let w = c.requires.under in
     let s = inner_step (g.met.C.Comparator.total c.args.comp.now)
     c.requires.capacity w.6 w.7
-    (inner_at c.requires.capacity w.2 w.3 c.args.node w.4 w.5
-    (λ z. c.if-level-eq0.false (w.8 ∙ z))) in
+    (inner_at c.requires.capacity w.2 w.3 c.args.node w.4 w.5 (λ z. c.if-level-eq0.false (w.8 ∙ z))) in
     let d = below (g.met.C.Comparator.total c.args.comp.now)
     c.requires.capacity s
     c.follow-index.ensures.index c.follow-index.ensures.child in (
@@ -64,8 +61,7 @@ pub returns-clause-descended : goal.returns-clause-descended
 returns-clause-descended g t c = λ leaves lower a first b u inc through level_is.
     let s = inner_step (g.met.C.Comparator.total c.args.comp.now)
     c.requires.capacity inc through
-    (inner_at c.requires.capacity a first c.args.node b u
-    (λ z. c.if-level-eq0.false (level_is ∙ z))) in
+    (inner_at c.requires.capacity a first c.args.node b u (λ z. c.if-level-eq0.false (level_is ∙ z))) in
     let d = below (g.met.C.Comparator.total c.args.comp.now)
     c.requires.capacity s
     c.follow-index.ensures.index c.follow-index.ensures.child in

@@ -25,10 +25,7 @@ descend_first-requires g t c κs within = (
             search rules,
             (
               c.requires.capacity,
-              (
-                omega (arith, c.requires.height),
-                led-goes c.requires.capacity first-turns c.if-level-eq0.false c.child-child.ensures c.requires.under,
-              ),
+              (omega (arith, c.requires.height), led-goes c.requires.capacity first-turns c.if-level-eq0.false c.child-child.ensures c.requires.under),
             ),
           ),
         ),

@@ -13,10 +13,7 @@ loop-index-init g c =
     )
 
 pub node-requires : goal.node-requires
-node-requires g c = (
-  search rules,
-  (search rules, within (g.met.C.Comparator.total c.args.comp.now) c.requires.union.1.capacity c.loop-index.invariant.0.on),
-)
+node-requires g c = (search rules, (search rules, within (g.met.C.Comparator.total c.args.comp.now) c.requires.union.1.capacity c.loop-index.invariant.0.on))
 
 pub follow-index-requires : goal.follow-index-requires
 follow-index-requires g c = (
