@@ -4,7 +4,7 @@ pub use Rattle.bforest_core.specs.Change.{AtUnder, Changes, Ends, EntryTaken, Gi
 pub use Rattle.bforest_core.specs.Change.{StandsUnder, TakesNodes, node_count}
 pub use Rattle.bforest_core.specs.Climb.{Above, Grown, Halved, Inserted, LeafHalved, NextIs, Placed, SameBelow, nodes_up, top_of}
 pub use Rattle.bforest_core.specs.Leaves.{EndsIn, EndsOn, Narrows, PutsInLeaf, SearchEndsAt, TakesFromLeaf, entry_up_to}
-pub use Rattle.bforest_core.specs.Descent.{Descended, Reached, GoesThrough, IsFrom, IsRooted, IsUpTo, Led, LedLast, SameAbove, StackedTo, StandsTo}
+pub use Rattle.bforest_core.specs.Descent.{Descended, Reached, GoesThrough, HasBelow, IsFirst, IsFrom, IsLast, IsRooted, IsUpTo, Led, OnBelow, SameAbove, StackedTo, StandsTo}
 pub use Rattle.bforest_core.specs.Descent.{SearchThrough, Under, child_index}
 pub use Rattle.bforest_core.specs.Levels.{FitRow, IsFit, LevelNode, Solid, Stacked, Topped, Tree, flat, half_of, head_of, heads, least, node, numbers}
 pub use Rattle.bforest_core.specs.Levels.{sizes, sizes_of}
@@ -15,7 +15,7 @@ pub use Rattle.bforest_core.specs.Removal.{Dropped, Emptied, Frees, GivesAll, Ha
 pub use Rattle.bforest_core.specs.Removal.{Trimmed, UpTo, numbers_under}
 pub use Rattle.bforest_core.specs.Sizes.{gain_above, growth, inner_gain, leaf_gain, loss, loss_above, need, need_above, past, rebalanced, shrink}
 pub use Rattle.bforest_core.specs.Sizes.{trimmed}
-pub use Rattle.bforest_core.specs.Steps.{Moved, Over}
+pub use Rattle.bforest_core.specs.Steps.{Advances, HasOver, LastAt, Moved, MoreAt, OnLevels, OnOver, Over, Retreats}
 pub use Rattle.bforest_core.specs.Table.{IsBalancedAt, IsEntryAt, IsFreeAt, IsFullAt, IsSplitAt, IsUnderflowedAt, IsUsed, NeedsGrowth, Table}
 pub use Rattle.bforest_core.specs.Table.{down_from, free_count, fresh_nodes, front_of, front_of_new, reserved, room, slot_count, value_at, with_freed}
 pub use Rattle.bforest_core.specs.Table.{with_front, with_node, with_slots, with_value_at, without_front}

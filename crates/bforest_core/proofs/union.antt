@@ -9,4 +9,5 @@ pub mod Planting
 pub mod Account
 pub mod Written
 pub mod Sections
+pub mod Opened
 pub mod Sweep

@@ -1,4 +1,6 @@
 -- Lemmas on descending and stepping.
+pub mod Reading
+pub mod RowNodes
 pub mod LeafSearch
 pub mod Rising
 pub mod Downward
@@ -17,10 +19,11 @@ pub mod Standing
 pub mod Nearby
 pub mod Codes
 pub mod Ranks
+pub mod Branches
 pub mod CodesDown
 pub mod Cousins
-pub mod Back
 pub mod OnLevel
+pub mod Following
 pub mod Alone
 pub mod Searches
 pub mod AtMost

@@ -88,21 +88,31 @@ module _ {K V : Type 0} (cmp : K → K → Ordering) where
     pub indices_wide : length indices' ≡ length indices
     pub descended : Descended leaves lower key top path indices path' (slice_set indices' 0 (place cmp entries key))
 
--- the path stands at the first entry of the leaves, and on the rows from there up to the first node of the
--- top; above that it is unchanged
-pub record Led {K V : Type 0} (leaves : List (LevelNode K V)) (lower : List (List (LevelNode K ℕ))) (path indices path' indices' : List ℕ) : Type 0 where
-  pub leaf : IsAt leaves (get_or path' 0 0) (get_or indices' 0 0) 0
-  pub stands : StandsTo path' indices' 1 lower (length leaf.before) 0
-  pub nodes_above : SameAbove (length lower) path path'
-  pub entries_above : SameAbove (length lower) indices indices'
-
--- the path stands at the last entry of the leaves, and on the rows from there up to this node of the top;
--- above that it is unchanged
-pub record LedLast {K V : Type 0} (leaves : List (LevelNode K V)) (lower : List (List (LevelNode K ℕ))) (top : ℕ) (path indices path' indices' : List ℕ) : Type 0 where
-  pub leaf : IsAt leaves (get_or path' 0 0) (get_or indices' 0 0) (length (flat leaves) - 1)
+-- the path stands at a place of the leaves, and on the rows from there up to this node of the top; above that it is unchanged
+pub record Led {K V : Type 0} (leaves : List (LevelNode K V)) (lower : List (List (LevelNode K ℕ))) (place top : ℕ) (path indices path' indices' : List ℕ) : Type 0 where
+  pub leaf : IsAt leaves (get_or path' 0 0) (get_or indices' 0 0) place
   pub stands : StandsTo path' indices' 1 lower (length leaf.before) top
   pub nodes_above : SameAbove (length lower) path path'
   pub entries_above : SameAbove (length lower) indices indices'
+
+module _ {K : Type 0} where
+  -- no node of a level is before a node, or none is after it
+  abbrev pub IsFirst : List (K × ℕ) → List (K × ℕ) → Type 0
+  IsFirst before after = before ≡ []
+
+  abbrev pub IsLast : List (K × ℕ) → List (K × ℕ) → Type 0
+  IsLast before after = after ≡ []
+
+module _ {K V : Type 0} (most : ℕ) (slots : List (Content K V)) (Side : List (K × ℕ) → List (K × ℕ) → Type 0) (number level : ℕ) where
+  -- leaves and rows lie under a node of this level, which is on one side of it
+  abbrev pub HasBelow : Type 0
+  HasBelow =
+      (leaves : List (LevelNode K V)) × (lower : List (List (LevelNode K ℕ))) × (before : List (K × ℕ)) × (first : K) × (after : List (K × ℕ)) × Side before after × Under most slots leaves lower (before ++ (first, number) ∷ after) × (level ≡ length lower)
+
+  -- what is said of the leaves and rows under that node and of its place in the level, whichever they are
+  abbrev pub OnBelow : (List (LevelNode K V) → List (List (LevelNode K ℕ)) → ℕ → Type 0) → Type 0
+  OnBelow Said =
+      (leaves : List (LevelNode K V)) (lower : List (List (LevelNode K ℕ))) (before : List (K × ℕ)) (first : K) (after : List (K × ℕ)) → Side before after → Under most slots leaves lower (before ++ (first, number) ∷ after) → level ≡ length lower → Said leaves lower (length before)
 
 -- the tree is in the slots under this root, fit, not empty, and at most 17 levels high
 pub record IsRooted {K V : Type 0} (most : ℕ) (slots : List (Content K V)) (root : ℕ) (tree : Tree K V) : Type 0 where
@@ -111,12 +121,6 @@ pub record IsRooted {K V : Type 0} (most : ℕ) (slots : List (Content K V)) (ro
   pub root_is : root_of tree ≡ root
   pub some : 1 ≤ length (flat tree.leaves)
   pub low : length tree.above ≤ top_level
-
--- the path stands in the tree where a search for the key ends
-pub record StandsFor {K V : Type 0} (cmp : K → K → Ordering) (path indices : List ℕ) (size : ℕ) (tree : Tree K V) (key : K) : Type 0 where
-  pub leaf : IsPlaced cmp tree.leaves key (get_or path 0 0) (get_or indices 0 0)
-  pub above : StandsAbove path indices 1 tree.above (length leaf.before)
-  pub size_is : size ≡ suc (length tree.above)
 
 -- a search for the key among these leaves goes through this node, above which this many levels are
 pub record SearchThrough {K V : Type 0} (cmp : K → K → Ordering) (most : ℕ) (slots : List (Content K V)) (leaves : List (LevelNode K V)) (key : K) (number depth : ℕ) : Type 0 where

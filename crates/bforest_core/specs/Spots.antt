@@ -101,28 +101,36 @@ module _ {K : Type 0} where
     pub grand_is : 1 < spot.height → get_or (drop 1 numbers) 0 0 ≡ spot.grand
     pub height_is : spot.height ≡ length rows
 
+-- a place is right behind another, or right before it
+abbrev pub IsBehind : ℕ → ℕ → Type 0
+IsBehind place to = to ≡ suc place
+
+abbrev pub IsBefore : ℕ → ℕ → Type 0
+IsBefore place to = suc to ≡ place
+
+-- a place is the last of so many, or the first
+abbrev pub IsLastPlace : ℕ → ℕ → Type 0
+IsLastPlace place count = suc place ≡ count
+
+abbrev pub IsFirstPlace : ℕ → ℕ → Type 0
+IsFirstPlace place count = place ≡ 0
+
 module _ {K V : Type 0} (slots : List (Content K V)) (root code depth : ℕ) where
   -- the way of a code ends at this node, whose spot this is
   abbrev pub Leads : Spot → ℕ → Type 0
   Leads here number = OnWay slots root code depth (λ numbers rows list place. IsWay numbers here rows place × NumberAt list place number)
 
-  -- the node behind the one at which the way of a code ends, with its spot, or nothing where that one is the last of its level
-  pub record IsNextOf (found : Option (Spot × ℕ)) : Type 0 where
-    pub some : IfSome found (λ next. OnWay slots root code depth (λ numbers rows list place. (others : List ℕ) × IsWay others next.0 rows (suc place) × NumberAt list (suc place) next.1))
-    pub none : found ≡ None → OnWay slots root code depth (λ numbers rows list place. suc place ≡ length list)
+  -- the node beside the one at which the way of a code ends, with its spot, or nothing where that one is at an end of its level
+  pub record IsBesideOf (Beside AtEnd : ℕ → ℕ → Type 0) (found : Option (Spot × ℕ)) : Type 0 where
+    pub some : IfSome found (λ next. OnWay slots root code depth (λ numbers rows list place. (to : ℕ) × Beside place to × (others : List ℕ) × IsWay others next.0 rows to × NumberAt list to next.1))
+    pub none : found ≡ None → OnWay slots root code depth (λ numbers rows list place. AtEnd place (length list))
 
-  -- the node before the one at which the way of a code ends, with its spot, or nothing where that one is the first of its level
-  pub record IsPrevOf (found : Option (Spot × ℕ)) : Type 0 where
-    pub some : IfSome found (λ next. OnWay slots root code depth (λ numbers rows list place. (0 < place) × (others : List ℕ) × IsWay others next.0 rows (place - 1) × NumberAt list (place - 1) next.1))
-    pub none : found ≡ None → OnWay slots root code depth (λ numbers rows list place. place ≡ 0)
+  -- the next node, or the one before
+  abbrev pub IsNextOf : Option (Spot × ℕ) → Type 0
+  IsNextOf = IsBesideOf IsBehind IsLastPlace
 
-module _ {K : Type 0} where
-  -- no node of a level is before a node, or none is after it
-  abbrev pub IsFirst : List (K × ℕ) → List (K × ℕ) → Type 0
-  IsFirst before after = before ≡ []
-
-  abbrev pub IsLast : List (K × ℕ) → List (K × ℕ) → Type 0
-  IsLast before after = after ≡ []
+  abbrev pub IsPrevOf : Option (Spot × ℕ) → Type 0
+  IsPrevOf = IsBesideOf IsBefore IsFirstPlace
 
 module _ {K V : Type 0} (most : ℕ) (slots : List (Content K V)) (Side : List (K × ℕ) → List (K × ℕ) → Type 0) (spot : Spot) (number : ℕ) where
   -- a spot's way goes to a node on one side of its level, under which lie some leaves and rows

@@ -23,36 +23,54 @@ pub record Moved {K : Type 0} (path indices path' indices' : List ℕ) (level : 
   pub nodes_below : SameBelow level path path'
   pub entries_below : SameBelow (suc level) indices indices'
 
--- on each level from one on and below another, the path's child is the first of its node
+-- on this level the path's child is the first of its node
+abbrev pub FirstAt : List ℕ → ℕ → Type 0
+FirstAt indices level = get_or indices level 0 ≡ 0
+
+-- something holds on each level from one on and below another
+abbrev pub OnLevels : (ℕ → Type 0) → ℕ → ℕ → Type 0
+OnLevels Holds low high = (level : ℕ) → low ≤ level → level < high → Holds level
+
 abbrev pub AreFirst : List ℕ → ℕ → ℕ → Type 0
-AreFirst indices low high = (level : ℕ) → low ≤ level → level < high → get_or indices level 0 ≡ 0
+AreFirst indices = OnLevels (FirstAt indices)
+
+-- the path's node on level `from` moved; on each level below it, down to a level, and on its own the path's child was at an end of its node
+pub record TurnedBy (AtEnd Moves : ℕ → Type 0) (level from size : ℕ) : Type 0 where
+  pub height : size ≤ most_levels
+  pub within : from < size
+  pub ends : OnLevels AtEnd (suc level) (suc from)
+  pub moved : Moves from
 
 module _ {K V : Type 0} (slots : List (Content K V)) (path indices : List ℕ) where
-  -- on each level from one on and below another, the path's child is the last of its node
+  -- some rows from a level up are over the path
+  abbrev pub HasOver : ℕ → ℕ → Type 0
+  HasOver level size = (rows : List (List (LevelNode K ℕ))) × (list : List (K × ℕ)) × (place : ℕ) × Over slots path indices level size rows list place
+
+  -- what is said of the rows from a level up, whichever they are
+  abbrev pub OnOver : ℕ → ℕ → (List (List (LevelNode K ℕ)) → List (K × ℕ) → ℕ → Type 0) → Type 0
+  OnOver level size Said = (rows : List (List (LevelNode K ℕ))) (list : List (K × ℕ)) (place : ℕ) → Over slots path indices level size rows list place → Said rows list place
+
+  -- on this level the path's node has a child behind the path's, or none
+  abbrev pub MoreAt : ℕ → Type 0
+  MoreAt level = (entries : List (K × ℕ)) → slice_get slots (get_or path level 0) ≡ Some (inner_content entries) → get_or indices level 0 + 1 < length entries
+
+  abbrev pub LastAt : ℕ → Type 0
+  LastAt level = (entries : List (K × ℕ)) → slice_get slots (get_or path level 0) ≡ Some (inner_content entries) → length entries ≤ get_or indices level 0 + 1
+
   abbrev pub AreLast : ℕ → ℕ → Type 0
-  AreLast low high = (level : ℕ) → low ≤ level → level < high → (entries : List (K × ℕ)) → slice_get slots (get_or path level 0) ≡ Some (inner_content entries) → length entries ≤ get_or indices level 0 + 1
+  AreLast = OnLevels LastAt
 
   module _ (path' indices' : List ℕ) where
     -- whatever rows are above it, the path's node on this level moved to the next one
     abbrev pub Advances : ℕ → ℕ → Type 0
-    Advances level size = (rows : List (List (LevelNode K ℕ))) (list : List (K × ℕ)) (place : ℕ) → Over slots path indices (suc level) size rows list place → Moved path indices path' indices' level rows list (suc place)
+    Advances level size = OnOver (suc level) size (λ rows list place. Moved path indices path' indices' level rows list (suc place))
 
-    -- the path's node on level `from` moved to the next one; below it, down to a level, each child was the last
-    -- of its node
-    pub record Turned (level from size : ℕ) : Type 0 where
-      pub height : size ≤ most_levels
-      pub within : from < size
-      pub last : AreLast (suc level) (suc from)
-      pub moved : Advances from size
+    abbrev pub Turned : ℕ → ℕ → ℕ → Type 0
+    Turned level from size = TurnedBy LastAt (λ at. Advances at size) level from size
 
     -- whatever rows are above it, the path's node on this level moved to the previous one
     abbrev pub Retreats : ℕ → ℕ → Type 0
-    Retreats level size = (rows : List (List (LevelNode K ℕ))) (list : List (K × ℕ)) (place : ℕ) → Over slots path indices (suc level) size rows list place → (0 < place) × Moved path indices path' indices' level rows list (place - 1)
+    Retreats level size = OnOver (suc level) size (λ rows list place. (0 < place) × Moved path indices path' indices' level rows list (place - 1))
 
-    -- the path's node on level `from` moved to the previous one; below it, down to a level, each child was the
-    -- first of its node
-    pub record TurnedBack (level from size : ℕ) : Type 0 where
-      pub height : size ≤ most_levels
-      pub within : from < size
-      pub first : AreFirst indices (suc level) (suc from)
-      pub moved : Retreats from size
+    abbrev pub TurnedBack : ℕ → ℕ → ℕ → Type 0
+    TurnedBack level from size = TurnedBy (FirstAt indices) (λ at. Retreats at size) level from size

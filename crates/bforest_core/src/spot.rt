@@ -8,8 +8,8 @@ ghost use Rattle.bforest_core.specs.Paths.{list_under};
 ghost use Rattle.bforest_core.specs.Trees.{IsUnion, is_root, tree_of};
 ghost use Rattle.bforest_nodes.specs.Content.{Inner, IsLeafCapacity};
 ghost use Rattle.bforest_nodes.specs.Entries.{IsIncreasing};
-ghost use Rattle.bforest_core.specs.Descent.{SearchThrough, child_index};
-ghost use Rattle.bforest_core.specs.Spots.{HasNext, HasNoParent, HasPrev, HasUnder, HasWay, IsFirst, IsLast, IsLeafAt, IsNextOf, IsPrevOf, IsSpotAt, IsWay, Leads, NumberAt, OnUnder, OnWay, SpotOn, leaf_count, leaf_place};
+ghost use Rattle.bforest_core.specs.Descent.{IsFirst, IsLast, SearchThrough, child_index};
+ghost use Rattle.bforest_core.specs.Spots.{HasNext, HasNoParent, HasPrev, HasUnder, HasWay, IsLeafAt, IsNextOf, IsPrevOf, IsSpotAt, IsWay, Leads, NumberAt, OnUnder, OnWay, SpotOn, leaf_count, leaf_place};
 
 use crate::access::{child, child_count, follow, last_index, separator};
 use crate::pool::NodePool;
@@ -375,10 +375,7 @@ fn next_far<K: Copy, V: Copy, const N: usize>(
 ) -> Option<(Spot, Node)>
     requires low { height ≤ 16 }
     requires over { HasWay pool.now.nodes root code height }
-    ensures some { IfSome result (λ found. OnWay pool.now.nodes root code height (λ numbers rows list place.
-        (others : List ℕ) × IsWay others found.0 rows (suc place) × NumberAt list (suc place) found.1)) }
-    ensures none { result ≡ None → OnWay pool.now.nodes root code height (λ numbers rows list place.
-        suc place ≡ length list) }
+    ensures next { IsNextOf pool.now.nodes root code height result }
 {
     let (mut here, mut node) = (Spot::root(root), root);
     let mut next = None;
@@ -430,11 +427,7 @@ fn prev_far<K: Copy, V: Copy, const N: usize>(
 ) -> Option<(Spot, Node)>
     requires low { height ≤ 16 }
     requires over { HasWay pool.now.nodes root code height }
-    ensures some { IfSome result (λ found. OnWay pool.now.nodes root code height (λ numbers rows list place.
-        (0 < place) × (others : List ℕ) × IsWay others found.0 rows (place - 1)
-        × NumberAt list (place - 1) found.1)) }
-    ensures none { result ≡ None → OnWay pool.now.nodes root code height (λ numbers rows list place.
-        place ≡ 0) }
+    ensures before { IsPrevOf pool.now.nodes root code height result }
 {
     let (mut here, mut node) = (Spot::root(root), root);
     let mut before = None;

@@ -4,7 +4,7 @@ use Rattle.std.proofs.Common.{◌≡◌, ◌≢◌, ℕ, suc, ◌+◌, ◌-◌, 
 use Rattle.bforest_core.proofs.Words.{nil_from_length, flat_map, flat_map-append, Content, IsUsed, Table, with_freed, LevelNode, node, flat, heads, sizes, numbers, Stacked, Topped, trimmed, RowsIn, inner_content, entry_keys, entry_items, count, root_above, first_number}
 use Rattle.bforest_core.proofs.Words.{StandsAbove, UpTo, Trimmed}
 use Rattle.bforest_core.proofs.rows.LevelRows.{least-pos, head-is}
-use Rattle.bforest_core.proofs.walks.Steps.{fit_full}
+use Rattle.bforest_core.proofs.walks.RowNodes.{fit_full}
 use Rattle.bforest_core.proofs.table.Tables.{count-append, count-same, ne_from_count, rows-same, is_used}
 use Rattle.bforest_core.proofs.table.Stored.{item_count, some_same}
 use Rattle.bforest_core.proofs.removal.Asked.{NodeAt, ChildAt, ReadsChild, Counts}

@@ -4,7 +4,7 @@ use Rattle.std.proofs.Common.{◌≡◌, zero, suc, ◌+◌, ◌≤◌, ◌<◌,
 use Rattle.bforest_core.proofs.Words.{flat_map, remove, flat_map-append, Table, LevelNode, node, flat, head_of, heads, sizes, numbers, FitRow, Stacked, Tree, half_of, rebalanced, loss, loss_above, trimmed, RowIn, RowsIn, leaf_content, count, root_above, root_of, numbers_of, StandsAbove, Stands}
 use Rattle.bforest_core.proofs.Words.{IsPathAt, nodes_up, Above, top_of, Frees, Rebuilt, Healed, Joined, UpTo, Trimmed, StandsIn, LeafLoss, Removed, OnLevel}
 use Rattle.bforest_core.proofs.rows.LevelRows.{flat-append, heads-append, sizes-append, FitRow-split, FitRow-join, Solid-full, least-pos}
-use Rattle.bforest_core.proofs.walks.Steps.{fit_full}
+use Rattle.bforest_core.proofs.walks.RowNodes.{fit_full}
 use Rattle.bforest_core.proofs.table.Tables.{count-append, row-same, rows-same}
 use Rattle.bforest_core.proofs.rows.Tops.{root-stands, top_tree}
 use Rattle.bforest_core.proofs.removal.Frees.{frees-refl, frees-then, frees-after}

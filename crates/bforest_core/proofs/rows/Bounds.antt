@@ -2,7 +2,7 @@
 use Rattle.std.proofs.Common.{◌≡◌, ℕ, suc, ◌+◌, ◌*◌, ◌^◌, ◌≤◌, ◌<◌, ◌-◌, nat_lt, true, false, Option, Some, None, List, [], ◌∷◌, ◌++◌, map, length, refl, sym, ap, ◌∙◌, inl, inr, subst, length-append, arith, nat_le}
 use Rattle.bforest_core.proofs.Words.{cases_lt, length-map, LevelNode, node, flat, heads, sizes, FitRow, Stacked, Topped, inner_gain, gain_above}
 use Rattle.std.proofs.Math.Nat.{mul-le-mul_left, pow-succ'}
-use Rattle.bforest_core.proofs.walks.Steps.{fit_full}
+use Rattle.bforest_core.proofs.walks.RowNodes.{fit_full}
 
 -- a row has more entries than half full nodes, one fewer than its nodes, would have
 pub entries-many : {K X : Type 0} (half most : ℕ) → 1 ≤ half → (m : ℕ) (es : List (K × X)) (ns : List (LevelNode K X)) → FitRow half most (node m es ∷ ns) → half * length ns < length (flat (node m es ∷ ns))
@@ -64,19 +64,19 @@ none_small p s room =
     let b = below_lt s 8 room in
     elim (cases_lt p s) [ inl lt ↦ (let a = below_lt p s lt in rw (a, b) refl) | inr ge ↦ (let a = above_lt p s ge in rw a refl) ]
 
-root_full : {K : Type 0} (p q : ℕ) (row : List (LevelNode K ℕ)) → length (heads row) ≡ 1 → FitRow 4 8 row → (inner_gain p (sizes row)).0 ≡ Some q → 8 ≤ length (flat row)
-root_full p q [] one f e = absurd (omega (arith, one))
-root_full {K} p q (node m es ∷ []) one f e =
+root_full : {K : Type 0} (p : ℕ) {q : ℕ} (row : List (LevelNode K ℕ)) → length (heads row) ≡ 1 → FitRow 4 8 row → (inner_gain p (sizes row)).0 ≡ Some q → 8 ≤ length (flat row)
+root_full p [] one f e = absurd (omega (arith, one))
+root_full {K} p (node m es ∷ []) one f e =
     let len : length (flat (node m es ∷ [])) ≡ length es = length-append es [] ∙ omega arith in
     elim (cases_lt (length es) 8) [ inl lt ↦ absurd (let z = none_small p (length es) lt in cc) | inr ge ↦ omega (arith, len, ge) ]
-root_full p q (node m es ∷ n ∷ ns) one f e =
+root_full p (node m es ∷ n ∷ ns) one f e =
     absurd (omega (arith, one, fit_full 4 8 (omega arith) (node m es ∷ n ∷ ns) f))
 
 -- a tree that gets a new root has many nodes
 risen : {K : Type 0} (p : ℕ) (hs : List (K × ℕ)) (row : List (LevelNode K ℕ)) (rows : List (List (LevelNode K ℕ))) → Stacked hs (row ∷ rows) → Topped hs (row ∷ rows) → length (gain_above (Some p) (map sizes (row ∷ rows))) ≡ suc (suc (length rows)) → 7 * 4 ^ length rows < length hs
 risen p hs row [] s t e =
     let g = some_grew (inner_gain p (sizes row)).0 [] (omega (arith, e)) in
-    omega (arith, root_full p g.0 row s.2 s.1 g.1, ap length s.0)
+    omega (arith, root_full p row s.2 s.1 g.1, ap length s.0)
 risen p hs row (row2 ∷ rows) s t e =
     let g = some_grew (inner_gain p (sizes row)).0 (map sizes (row2 ∷ rows)) (omega (arith, e, length-map (row2 ∷ rows) sizes)) in
     let up : length (gain_above (Some g.0) (map sizes (row2 ∷ rows))) ≡ suc (suc (length rows)) = ap (λ z. length (gain_above z (map sizes (row2 ∷ rows)))) (sym g.1) ∙ omega (arith, e) in
@@ -97,6 +97,6 @@ climb-seventeen p hs (row ∷ rows) s t few low =
       | inl lt ↦ omega (arith, lt)
       | inr ge ↦ (let fifteen : length rows ≡ 15 = omega (arith, ge, most, len, low) in
           let e : length (gain_above (Some p) (map sizes (row ∷ rows))) ≡ suc (suc (length rows)) = omega (arith, ge, most, len, low) in
-          let r = subst (λ (z : ℕ). 7 * 4 ^ z < length hs) fifteen (risen p hs row rows s t e) in
+          let r = subst (λ z. 7 * 4 ^ z < length hs) fifteen (risen p hs row rows s t e) in
           absurd (omega (arith, r, few)))
     ]

@@ -9,9 +9,9 @@ only [] x b one = refl
 only (y ∷ a) x b one = absurd (omega (arith, one, length-append a (x ∷ b)))
 
 -- an only node of a row is the first of its heads
-top_row : {K X : Type 0} (row before : List (LevelNode K X)) (n : ℕ) (es : List (K × X)) (after : List (LevelNode K X)) → row ≡ before ++ node n es ∷ after → 1 ≤ length es → length (heads row) ≡ 1 → first_number (heads row) ≡ n
-top_row row before n [] after is some one = absurd (omega (arith, some))
-top_row row before n (e ∷ es) after is some one =
+top_row : {K X : Type 0} {row : List (LevelNode K X)} (before : List (LevelNode K X)) (n : ℕ) (es : List (K × X)) (after : List (LevelNode K X)) → row ≡ before ++ node n es ∷ after → 1 ≤ length es → length (heads row) ≡ 1 → first_number (heads row) ≡ n
+top_row before n [] after is some one = absurd (omega (arith, some))
+top_row {row = row} before n (e ∷ es) after is some one =
     let hs : heads row ≡ heads before ++ (e.0, n) ∷ heads after = ap heads is ∙ heads-append before (node n (e ∷ es) ∷ after) in
     ap first_number hs ∙ only (heads before) (e.0, n) (heads after) (ap length (sym hs) ∙ one)
 
@@ -20,7 +20,7 @@ pub top_rows : {K : Type 0} (hs : List (K × ℕ)) (ms js : List ℕ) (level : �
 top_rows hs ms js level row [] place s st =
     let at = st.0 in
     let here : level ≡ level + 0 = omega arith in
-    top_row row at.before (get_or ms level 0) at.entries at.after at.row_is (omega (arith, at.within)) s.2 ∙ ap (λ z. get_or ms z 0) here
+    top_row at.before (get_or ms level 0) at.entries at.after at.row_is (omega (arith, at.within)) s.2 ∙ ap (λ z. get_or ms z 0) here
 top_rows hs ms js level row (row2 ∷ rows) place s st =
     let here : suc level + length rows ≡ level + suc (length rows) = omega arith in
     top_rows (heads row) ms js (suc level) row2 rows (length st.0.before) s.2 st.1 ∙ ap (λ z. get_or ms z 0) here
@@ -30,26 +30,25 @@ pub top_tree : {K V : Type 0} (leaves : List (LevelNode K V)) (above : List (Lis
     Stacked (heads leaves) above → StandsAbove ms js 1 above place → size ≡ suc (length above) → root_above (heads leaves) above ≡ top_of ms size
 top_tree leaves [] ms js size place before es after is some s st size_is =
     let here : 0 ≡ size - 1 = omega (arith, size_is) in
-    top_row leaves before (get_or ms 0 0) es after is some s ∙ ap (λ z. get_or ms z 0) here
+    top_row before (get_or ms 0 0) es after is some s ∙ ap (λ z. get_or ms z 0) here
 top_tree leaves (row ∷ rows) ms js size place before es after is some s st size_is =
     let here : 1 + length rows ≡ size - 1 = omega (arith, size_is) in
     top_rows (heads leaves) ms js 1 row rows place s st ∙ ap (λ z. get_or ms z 0) here
 
 module _ {K V : Type 0} where
   -- the root of a tree is the top of a path that stands in it
-  pub root-stands : (most : ℕ) (tree : Tree K V) (ms js : List ℕ) (size place : ℕ) → IsFit most tree → Stands ms js size tree place → root_of tree ≡ top_of ms size
+  pub root-stands : (most : _) (tree : Tree K V) (ms js size place : _) → IsFit most tree → Stands ms js size tree place → root_of tree ≡ top_of ms size
   root-stands most tree ms js size place fit at =
       top_tree tree.leaves tree.above ms js size (length at.leaf.before) at.leaf.before at.leaf.entries at.leaf.after at.leaf.row_is (omega (arith, at.leaf.within)) fit.stacked at.above at.size_is
 
   -- the root of a tree is the top of a path that points to a place in it
-  pub root-points : (most : ℕ) (tree : Tree K V) (ms js : List ℕ) (size place : ℕ) → 1 ≤ most → IsFit most tree → PointsAt ms js size tree place → root_of tree ≡ top_of ms size
+  pub root-points : (most : ℕ) (tree : Tree K V) (ms js size place : _) → 1 ≤ most → IsFit most tree → PointsAt ms js size tree place → root_of tree ≡ top_of ms size
   root-points most tree ms js size place one fit at =
-      let f = FitRow-split (half_of most) most at.before (node (get_or ms 0 0) at.entries) at.after (subst (λ (z : List (LevelNode K V)). FitRow (half_of most) most z) at.leaves_are fit.leaves_fit) in
+      let f = FitRow-split (half_of most) most at.before (node (get_or ms 0 0) at.entries) at.after (subst (λ z. FitRow (half_of most) most z) at.leaves_are fit.leaves_fit) in
       top_tree tree.leaves tree.above ms js size (length at.before) at.before at.entries at.after at.leaves_are (omega (arith, f.1.0, least-pos (half_of most) (omega (arith, one)) at.after)) fit.stacked at.above at.size_is
 
   -- two paths through the same rows have the same top
-  pub top-same : (t : Table K V) (path indices path' indices' : List ℕ) (level size : ℕ) (rows : List (List (LevelNode K ℕ)))
-      (list : List (K × ℕ)) (place place' : ℕ) → Above t path indices level size rows list place
+  pub top-same : (t : Table K V) (path indices path' indices' level size rows list place place' : _) → Above t path indices level size rows list place
       → Above t path' indices' level size rows list place' → level < size → top_of path' size ≡ top_of path size
   top-same t path indices path' indices' level size [] list place place' p q low = absurd (omega (arith, p.height, low))
   top-same t path indices path' indices' level size (row ∷ rows) list place place' p q low =

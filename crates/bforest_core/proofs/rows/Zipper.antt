@@ -66,17 +66,17 @@ stands_here ms js up row before n e es after rest p solid row_is n_is e_is withi
 )
 
 module _ {K V : Type 0} where
-  pub parent : (t : Table K V) (ms js : List ℕ) (up size : ℕ) (rows : List (List (LevelNode K ℕ))) (a : List (K × ℕ)) (x : K × ℕ) (b : List (K × ℕ)) → Above t ms js up size rows (a ++ x ∷ b) (length a) → up < size →
+  pub parent : {t : Table K V} (ms js up : _) {size : _} (rows : _) (a : List (K × ℕ)) (x : K × ℕ) (b : List (K × ℕ)) → Above t ms js up size rows (a ++ x ∷ b) (length a) → up < size →
       Parent ms js up rows a x b
-  parent t ms js up size [] a x b p low = absurd (omega (arith, p.height, low))
-  parent t ms js up size (row ∷ rest) a x b p low =
+  parent ms js up [] a x b p low = absurd (omega (arith, p.height, low))
+  parent ms js up (row ∷ rest) a x b p low =
       let at = p.stands.0 in
       let n = get_or ms up 0 in
       let c = cut at.entries (get_or js up 0) at.within in
       let whole : a ++ x ∷ b ≡ (flat at.before ++ c.l) ++ c.x ∷ (c.r ++ flat at.after) =
       sym p.stacked.0 ∙ ap flat at.row_is ∙ ap (λ z. flat (at.before ++ node n z ∷ at.after)) c.es_is ∙ simp (flat-append, append_assoc) in
       let same = cut_same a (flat at.before ++ c.l) x c.x b (c.r ++ flat at.after) whole (omega (arith, length-append (flat at.before) c.l, at.place_is, c.place_is)) in
-      let full = Solid-full 4 8 (omega arith) at.before (FitRow-split 4 8 at.before (node n at.entries) at.after (subst (λ (z : List (LevelNode K ℕ)). FitRow 4 8 z) at.row_is p.stacked.1)).0 in
+      let full = Solid-full 4 8 (omega arith) at.before (FitRow-split 4 8 at.before (node n at.entries) at.after (subst (λ z. FitRow 4 8 z) at.row_is p.stacked.1)).0 in
       record {
         before = at.before;
         l = c.l;
@@ -91,14 +91,13 @@ module _ {K V : Type 0} where
       }
 
   -- a level of two nodes or more has a row above it
-  pub above_two : (t : Table K V) (ms js : List ℕ) (up size : ℕ) (rows : List (List (LevelNode K ℕ))) (a : List (K × ℕ)) (x y : K × ℕ) (b : List (K × ℕ)) (p : ℕ) → Above t ms js up size rows (a ++ x ∷ y ∷ b) p → up < size
+  pub above_two : (t : Table K V) (ms js up size rows : _) (a : List (K × ℕ)) (x y : K × ℕ) (b : List (K × ℕ)) (p : _) → Above t ms js up size rows (a ++ x ∷ y ∷ b) p → up < size
   above_two t ms js up size [] a x y b p h = absurd (omega (arith, h.stacked, length-append a (x ∷ y ∷ b)))
   above_two t ms js up size (row ∷ rest) a x y b p h = omega (arith, h.height)
 
-  cut_above : (t : Table K V) (ms js : List ℕ) (up size : ℕ) (rows : List (List (LevelNode K ℕ))) (a : List (K × ℕ)) (x : K × ℕ)
-      (b : List (K × ℕ)) → Above t ms js up size rows (a ++ x ∷ b) (length a) → (q : Parent ms js up rows a x b)
+  cut_above : {t : Table K V} {ms js up size rows : _} {a : List (K × ℕ)} {x : K × ℕ} {b : List (K × ℕ)} → Above t ms js up size rows (a ++ x ∷ b) (length a) → (q : Parent ms js up rows a x b)
       → Cut_above t ms js up size q.before (get_or ms up 0) q.l x q.r q.after q.rest
-  cut_above t ms js up size rows a x b p q = rw (q.rows_are, q.a_is, q.b_is) at p
+  cut_above p q = rw (q.rows_are, q.a_is, q.b_is) at p
 
   -- what holds of the rows cut at the path's node
   pub record Facts (t : Table K V) (ms js : List ℕ) (up size : ℕ) (before : List (LevelNode K ℕ)) (n : ℕ) (l : List (K × ℕ)) (x : K × ℕ) (r : List (K × ℕ)) (after : List (LevelNode K ℕ)) (rest : List (List (LevelNode K ℕ))) : Type 0 where
@@ -133,10 +132,10 @@ module _ {K V : Type 0} where
     pub count_is : length (q.l ++ x ∷ q.r) ≡ get_or js up 0 + suc (length q.r)
     pub most_is : length (q.l ++ x ∷ q.r) ≤ 8
 
-  pub spot : (t : Table K V) (ms js : List ℕ) (up size : ℕ) (rows : List (List (LevelNode K ℕ))) (a : List (K × ℕ)) (x : K × ℕ) (b : List (K × ℕ)) → Above t ms js up size rows (a ++ x ∷ b) (length a) → up < size → Spot t ms js up size rows a x b
+  pub spot : (t : Table K V) (ms js up size rows : _) (a : List (K × ℕ)) (x : K × ℕ) (b : List (K × ℕ)) → Above t ms js up size rows (a ++ x ∷ b) (length a) → up < size → Spot t ms js up size rows a x b
   spot t ms js up size rows a x b p low =
-      let q = parent t ms js up size rows a x b p low in
-      let w = cut_above t ms js up size rows a x b p q in
+      let q = parent ms js up rows a x b p low in
+      let w = cut_above p q in
       let f = facts t ms js up size q.before (get_or ms up 0) q.l x q.r q.after q.rest w in
       record { q = q; whole = w; f = f; count_is = omega (arith, length-append q.l (x ∷ q.r), q.entry_is); most_is = f.fit.1 }
 

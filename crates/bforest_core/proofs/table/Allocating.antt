@@ -14,8 +14,8 @@ err_iff r e f is = (λ same. (let s : e ≡ f = cc in ap Err s), λ same. (let s
 
 module _ {K V : Type 0} where
   -- writing the node taken from the front of the chain
-  pub taken_is : (t u : Table K V) (node : ℕ) (c d : Content K V) → front_of t.chain ≡ Some node → u ≡ without_front t t.chain → c ≡ d → with_node u node c ≡ with_front t t.chain d
-  taken_is t u node c d front u_is c_is = ap (λ z. with_node z node c) u_is ∙ ap (λ z. with_node (without_front t t.chain) node z) c_is ∙ sym (with_front-is t t.chain node d front)
+  pub taken_is : (t : Table K V) {u : Table K V} {node : ℕ} {c d : Content K V} → front_of t.chain ≡ Some node → u ≡ without_front t t.chain → c ≡ d → with_node u node c ≡ with_front t t.chain d
+  taken_is t {node = node} {c = c} {d = d} front u_is c_is = ap (λ z. with_node z node c) u_is ∙ ap (λ z. with_node (without_front t t.chain) node z) c_is ∙ sym (with_front-is t t.chain d front)
 
   -- a used node stays used when it is written
   pub used_written : (t : Table K V) (node : ℕ) (c : Content K V) → IsUsed t node → IsUsed (with_node t node c) node
@@ -31,7 +31,7 @@ module _ {K V : Type 0} where
       let none : n - free_count table ≡ 0 = omega (arith, enough) in
       rw none (ap (λ z. record table { nodes = z }) (append-nil table.nodes))
 
-  module _ (t : Table K V) (nodes : List (Content K V)) (chain : List ℕ) (free limit len n : ℕ) (view : record { nodes = nodes; chain = chain; limit = limit } ≡ t) (counted : length chain ≡ free) (len_is : len ≡ length nodes) where
+  module _ {t : Table K V} (nodes : List (Content K V)) (chain : List ℕ) {free : ℕ} (limit len n : ℕ) (view : record { nodes = nodes; chain = chain; limit = limit } ≡ t) (counted : length chain ≡ free) (len_is : len ≡ length nodes) where
     -- the fields of a pool as fields of its table
     fields_are : (length t.chain ≡ free) × (t.limit ≡ limit) × (length t.nodes ≡ len)
     fields_are = rw (← view) (counted, refl, sym len_is)
@@ -58,5 +58,5 @@ module _ {K V : Type 0} where
     stays_reserved enough = sym (reserved-enough t n (omega (arith, fields_are.0, enough)))
 
   -- a table within a limit of 32 bits has at most 4294967295 slots
-  pub few_slots : (t : Table K V) (nodes : List (Content K V)) (chain : List ℕ) (limit : ℕ) → record { nodes = nodes; chain = chain; limit = limit } ≡ t → length nodes ≤ limit → limit ≤ 4294967295 → length t.nodes ≤ 4294967295
-  few_slots t nodes chain limit view within most = let e = ap (λ z. length z.nodes) view in omega arith
+  pub few_slots : {t : Table K V} (nodes : List (Content K V)) (chain : List ℕ) (limit : ℕ) → record { nodes = nodes; chain = chain; limit = limit } ≡ t → length nodes ≤ limit → limit ≤ 4294967295 → length t.nodes ≤ 4294967295
+  few_slots nodes chain limit view within most = let e = ap (λ z. length z.nodes) view in omega arith

@@ -30,26 +30,26 @@ module _ {X : Type 0} where
       slice_get-get_or (set xs at e) at e (omega (arith, length-set xs at e)) ∙ ap Some (get_or-set_same xs at e e within)
 
   -- a write before a cut, then one right after it
-  pub set-front-back : (xs front back : List X) (low high : ℕ) (x y : X) → xs ≡ front ++ back → length front ≡ high → low < high → set front low x ++ set back 0 y ≡ set (set xs low x) high y
-  set-front-back xs front back low high x y is len below =
+  pub set-front-back : {xs : List X} (front back : List X) (low high : ℕ) (x y : X) → xs ≡ front ++ back → length front ≡ high → low < high → set front low x ++ set back 0 y ≡ set (set xs low x) high y
+  set-front-back front back low high x y is len below =
       let size : length (set front low x) ≡ high = omega (arith, length-set front low x) in
       let none : high - high ≡ 0 = omega arith in
       rw (is, set-append_left front back low x (omega arith), set-append_right (set front low x) back high high y size (omega arith), none)
 
   -- a write right after a cut, then one before it
-  pub set-back-front : (xs front back : List X) (low high : ℕ) (x y : X) → xs ≡ front ++ back → length front ≡ high → low < high → set front low y ++ set back 0 x ≡ set (set xs high x) low y
-  set-back-front xs front back low high x y is len below =
+  pub set-back-front : {xs : List X} (front back : List X) (low high : ℕ) (x y : X) → xs ≡ front ++ back → length front ≡ high → low < high → set front low y ++ set back 0 x ≡ set (set xs high x) low y
+  set-back-front front back low high x y is len below =
       let none : high - high ≡ 0 = omega arith in
       rw (is, set-append_right front back high high x len (omega arith), none, set-append_left front (set back 0 x) low y (omega arith))
 
   -- an element that is read before a cut
-  pub in_front : (xs front back : List X) (low : ℕ) (x : X) → xs ≡ front ++ back → low < length front → x ≡ get_or front low x → slice_get xs low ≡ Some x
-  in_front xs front back low x is within read =
+  pub in_front : {xs : List X} (front back : List X) (low : ℕ) (x : X) → xs ≡ front ++ back → low < length front → x ≡ get_or front low x → slice_get xs low ≡ Some x
+  in_front front back low x is within read =
       ap (λ zs. slice_get zs low) is ∙ slice_get-append_left front back low x (slice_get_read front (length front) low x refl within read)
 
   -- the element that is read right after a cut
-  pub behind : (xs front back : List X) (high : ℕ) (x : X) → xs ≡ front ++ back → length front ≡ high → 0 < length back → x ≡ get_or back 0 x → slice_get xs high ≡ Some x
-  behind xs front back high x is len some read =
+  pub behind : {xs : List X} (front back : List X) (high : ℕ) (x : X) → xs ≡ front ++ back → length front ≡ high → 0 < length back → x ≡ get_or back 0 x → slice_get xs high ≡ Some x
+  behind front back high x is len some read =
       let place : high ≡ length front + 0 = omega arith in
       ap (λ zs. slice_get zs high) is ∙ ap (slice_get (front ++ back)) place ∙ slice_get-append-add front back 0 ∙ slice_get_read back (length back) 0 x refl some read
 

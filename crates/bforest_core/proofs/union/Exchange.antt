@@ -59,10 +59,10 @@ module _ {K V : Type 0} where
       ((m : ℕ) → count m come + count m freed ≡ count m gone + count m taken) → ((m : ℕ) → count m gone + count m taken ≡ 0 → slice_get new.nodes m ≡ slice_get old.nodes m) → Traded old new gone come
   traded old new gone come taken freed rest free apart old_is new_is freed_are slots nums others =
       let c = λ (m : ℕ). ap (λ z. count m z) old_is ∙ count-append m taken rest in
-      let left = (every-append (λ (number : ℕ). IsFree (slot old.nodes number)) taken rest (subst (λ (z : List ℕ). Every (λ (number : ℕ). IsFree (slot old.nodes number)) z) old_is free)).1 in
+      let left = (every-append (λ (number : ℕ). IsFree (slot old.nodes number)) taken rest (subst (λ z. Every (λ (number : ℕ). IsFree (slot old.nodes number)) z) old_is free)).1 in
       let still = free-same old.nodes new.nodes rest (λ m here. others m (omega (arith, here, c m, apart m, count-append m gone old.chain))) left in
       record {
-        free = subst (λ (z : List ℕ). Every (λ (number : ℕ). IsFree (slot new.nodes number)) z) (sym new_is) (every-join (λ (number : ℕ). IsFree (slot new.nodes number)) freed rest freed_are still);
+        free = subst (λ z. Every (λ (number : ℕ). IsFree (slot new.nodes number)) z) (sym new_is) (every-join (λ (number : ℕ). IsFree (slot new.nodes number)) freed rest freed_are still);
         slots_are = slots;
         nums = λ m. omega (arith, nums m, c m, ap (λ z. count m z) new_is, count-append m freed rest);
         others = λ m none. others m (omega (arith, none, c m));
@@ -76,10 +76,10 @@ module _ {K V : Type 0} where
     pub low : length tree.above ≤ 16
 
   -- replacing trees of a forest by others that are in the new table
-  pub exchange-trees : (most : ℕ) (old new : Table K V) (before gone come after : List (Tree K V))
+  pub exchange-trees : {most : ℕ} {old new : Table K V} (before gone come after : List (Tree K V))
       → IsForest most old (before ++ (gone ++ after)) → Every (IsPlanted most new.nodes) come
       → Traded old new (flat_map numbers_of gone) (flat_map numbers_of come) → IsForest most new (before ++ (come ++ after))
-  exchange-trees most old new before gone come after f p t =
+  exchange-trees {most = most} {old = old} {new = new} before gone come after f p t =
       let one : (m : ℕ) → count m (flat_map numbers_of before) + (count m (flat_map numbers_of gone) + count m (flat_map numbers_of after)) + count m old.chain ≤ 1 =
       λ m. omega (arith, f.account m, at-most-one m (length old.nodes), count_parts m before gone after old.chain) in
       let ins = every_outer (IsIn old.nodes) before gone after f.inside in
@@ -110,21 +110,21 @@ module _ {K V : Type 0} where
   outer_tree : (most : ℕ) (before after : List (Tree K V)) (other : ℕ) → 0 < count other (map root_of before) + count other (map root_of after) → (tree : Tree K V) × ((table : Table K V) (some : List (Tree K V)) → IsForest most table (before ++ (some ++ after)) → tree_of table.nodes other ≡ tree)
   outer_tree most before after other there =
       elim (cases_lt 0 (count other (map root_of before))) [
-        | inl here ↦ (let r = tree-with before other here in (r.1, λ table some f. (tree-back most table (before ++ (some ++ after)) r.0 r.1 (r.2 ++ (some ++ after)) other f (ap (λ z. z ++ (some ++ after)) r.3 ∙ append_assoc r.0 (r.1 ∷ r.2) (some ++ after)) r.4).0))
+        | inl here ↦ (let r = tree-with before other here in (r.1, λ table some f. (tree-back r.0 r.1 (r.2 ++ (some ++ after)) other f (ap (λ z. z ++ (some ++ after)) r.3 ∙ append_assoc r.0 (r.1 ∷ r.2) (some ++ after)) r.4).0))
         | inr none ↦ (let r = tree-with after other (omega (arith, there, none)) in (
           r.1,
-          λ table some f. (tree-back most table (before ++ (some ++ after)) ((before ++ some) ++ r.0) r.1 r.2 other f
+          λ table some f. (tree-back ((before ++ some) ++ r.0) r.1 r.2 other f
               (ap (λ z. before ++ (some ++ z)) r.3 ∙ sym (append_assoc before some (r.0 ++ r.1 ∷ r.2))
               ∙ sym (append_assoc (before ++ some) r.0 (r.1 ∷ r.2))) r.4).0,
         ))
       ]
 
   -- every number that is no root of the replaced trees is a root as before, and keeps its tree
-  pub others-keep : (most : ℕ) (old new : Table K V) (before gone come after : List (Tree K V)) → IsForest most old (before ++ (gone ++ after)) → IsForest most new (before ++ (come ++ after)) →
+  pub others-keep : {most : ℕ} {old new : Table K V} (before gone come after : List (Tree K V)) → IsForest most old (before ++ (gone ++ after)) → IsForest most new (before ++ (come ++ after)) →
       (other : ℕ) → count other (map root_of gone) ≡ 0 → count other (map root_of come) ≡ 0 → (IsTrue (is_root new.nodes other) ↔ IsTrue (is_root old.nodes other)) × (IsTrue (is_root old.nodes other) → tree_of new.nodes other ≡ tree_of old.nodes other)
-  others-keep most old new before gone come after f g other none none' =
-      let cf = root-counts most old (before ++ (gone ++ after)) f other in
-      let cg = root-counts most new (before ++ (come ++ after)) g other in
+  others-keep {most = most} {old = old} {new = new} before gone come after f g other none none' =
+      let cf = root-counts f other in
+      let cg = root-counts g other in
       let a = count_roots other before gone after in
       let b = count_roots other before come after in (
         (λ root. cf.1 (omega (arith, cg.0 root, a, b, none, none')), λ root. cg.1 (omega (arith, cf.0 root, a, b, none, none'))),
@@ -132,7 +132,7 @@ module _ {K V : Type 0} where
       )
 
   -- a root of the replaced trees that none of the new ones has is not a root
-  pub roots-gone : (most : ℕ) (old new : Table K V) (before gone come after : List (Tree K V)) → IsForest most old (before ++ (gone ++ after)) → IsForest most new (before ++ (come ++ after)) →
+  pub roots-gone : {most : ℕ} {old new : Table K V} (before gone come after : List (Tree K V)) → IsForest most old (before ++ (gone ++ after)) → IsForest most new (before ++ (come ++ after)) →
       (m : ℕ) → 0 < count m (map root_of gone) → count m (map root_of come) ≡ 0 → ¬ IsTrue (is_root new.nodes m)
-  roots-gone most old new before gone come after f g m some none root =
-      omega (arith, (root-counts most new (before ++ (come ++ after)) g m).0 root, count_roots m before gone after, count_roots m before come after, some, none, roots-once most old (before ++ (gone ++ after)) f m)
+  roots-gone {most = most} {old = old} {new = new} before gone come after f g m some none root =
+      omega (arith, (root-counts g m).0 root, count_roots m before gone after, count_roots m before come after, some, none, roots-once old f m)

@@ -10,10 +10,7 @@ module _ {K V : Type 0} where
   pub free-at : (slots : List (Content K V)) (ms : List ℕ) → Every (λ (m : ℕ). IsFree (slot slots m)) ms → (k : ℕ) → 0 < count k ms → IsFree (slot slots k)
   free-at slots [] f k some = absurd (omega (arith, some))
   free-at slots (m ∷ ms) f k some =
-      elim (eqb_tells m k) [
-        | inl w ↦ subst (λ (z : ℕ). IsFree (slot slots z)) w.1 f.0
-        | inr w ↦ free-at slots ms f.1 k (omega (arith, some, count-other k m ms w.1))
-      ]
+      elim (eqb_tells m k) [ inl w ↦ subst (λ z. IsFree (slot slots z)) w.1 f.0 | inr w ↦ free-at slots ms f.1 k (omega (arith, some, count-other k m ms w.1)) ]
 
   -- two tables with the same entry for a slot have the same content there
   pub slot_same : (old new : List (Content K V)) (m : ℕ) → slice_get new m ≡ slice_get old m → slot new m ≡ slot old m
@@ -23,7 +20,7 @@ module _ {K V : Type 0} where
   pub free-same : (old new : List (Content K V)) (ms : List ℕ) → ((m : ℕ) → 0 < count m ms → slice_get new m ≡ slice_get old m) → Every (λ (m : ℕ). IsFree (slot old m)) ms → Every (λ (m : ℕ). IsFree (slot new m)) ms
   free-same old new [] same f = tt
   free-same old new (m ∷ ms) same f = (
-    subst (λ (z : Content K V). IsFree z) (sym (slot_same old new m (same m (omega (arith, count-same m ms))))) f.0,
+    subst (λ z. IsFree z) (sym (slot_same old new m (same m (omega (arith, count-same m ms))))) f.0,
     free-same old new ms (λ k some. same k (omega (arith, some))) f.1,
   )
 
@@ -31,4 +28,4 @@ module _ {K V : Type 0} where
   pub freed-slot : (table : Table K V) (m : ℕ) → m < slot_count table → IsFree (slot (with_freed table m).nodes m)
   freed-slot table m low =
       let found = slice_get-set_same table.nodes m (Free (front_of table.chain)) low in
-      subst (λ (z : Content K V). IsFree z) (sym (slot-is (with_freed table m).nodes m (Free (front_of table.chain)) found)) tt
+      subst (λ z. IsFree z) (sym (slot-is (with_freed table m).nodes m (Free (front_of table.chain)) found)) tt

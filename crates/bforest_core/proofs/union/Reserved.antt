@@ -1,6 +1,6 @@
 -- New slots in front of the chain leave the trees of a table unchanged.
 use Rattle.std.proofs.Common.{◌≡◌, ℕ, zero, suc, ◌+◌, ◌-◌, ◌≤◌, ◌<◌, IsTrue, Option, None, List, [], ◌∷◌, ◌++◌, length, get_or, slice_get, refl, sym, ap, ◌∙◌, subst, length-append, arith}
-use Rattle.bforest_core.proofs.Words.{flat_map, get_or-append_right, slice_get-get_or, Content, Free, IsFree, Table, down_from, fresh_nodes, front_of, front_of_new, free_count, slot_count, with_slots, reserved, KeepsTrees, Tree}
+use Rattle.bforest_core.proofs.Words.{flat_map, get_or-append_right, slice_get-get_or, Content, Free, IsFree, Table, down_from, fresh_nodes, front_of, front_of_new, free_count, slot_count, with_slots, reserved, KeepsTrees}
 use Rattle.bforest_core.proofs.Words.{count, numbers_of, slot, tree_of, is_root, Every, IsForest, IsUnion, OthersKeep}
 use Rattle.std.proofs.lemmas.Bool.Decides.{same_from_decides}
 use Rattle.bforest_core.proofs.table.Tables.{count-append}
@@ -49,11 +49,11 @@ module _ {K V : Type 0} where
       slice_get-append_left xs more m (get_or xs m (Free None)) e ∙ sym e
 
   -- a table with `n` new slots has the same trees
-  with-slots-forest : (most : ℕ) (table : Table K V) (n : ℕ) (trees : List (Tree K V)) → IsForest most table trees → IsForest most (with_slots table n) trees
-  with-slots-forest most table n trees f =
+  with-slots-forest : {most : _} {table : Table K V} (n : _) {trees : _} → IsForest most table trees → IsForest most (with_slots table n) trees
+  with-slots-forest {most = most} {table = table} n {trees = trees} f =
       let more : List (Content K V) = fresh_nodes (slot_count table) n (front_of table.chain) in
       let c = λ (m : ℕ). count-append m (flat_map numbers_of trees) table.chain in
-      let low = within-slots most table trees f in
+      let low = within-slots f in
       let slots : length (table.nodes ++ more) ≡ length table.nodes + n = omega (arith, length-append table.nodes more, length-fresh_nodes K V (slot_count table) n (front_of table.chain)) in
       record {
         capacity = f.capacity;
@@ -69,34 +69,31 @@ module _ {K V : Type 0} where
 
   -- the used slots are a union of trees after a reservation
   pub reserved-union : (most : ℕ) (table : Table K V) (n : ℕ) → IsUnion most table → IsUnion most (reserved table n)
-  reserved-union most table n union = (union.0, with-slots-forest most table (n - free_count table) union.0 union.1)
+  reserved-union most table n union = (union.0, with-slots-forest (n - free_count table) union.1)
 
   -- a reservation keeps the roots and their trees
   pub reserved-roots : (most : ℕ) (table : Table K V) (n : ℕ) → IsUnion most table → (number : ℕ) →
       (is_root (reserved table n).nodes number ≡ is_root table.nodes number) × (IsTrue (is_root table.nodes number) → tree_of (reserved table n).nodes number ≡ tree_of table.nodes number)
   reserved-roots most table n union number =
-      let k = others-keep most table (reserved table n) [] [] [] union.0 union.1 (with-slots-forest most table (n - free_count table) union.0 union.1) number refl refl in
+      let k = others-keep [] [] [] union.0 union.1 (with-slots-forest (n - free_count table) union.1) number refl refl in
       (same_from_decides (is_root (reserved table n).nodes number) (is_root table.nodes number) k.0 (λ is. is, λ is. is), k.1)
 
   -- a change that keeps the other trees of the table with more slots keeps those of the table
   pub reserved-then : (most : ℕ) (table : Table K V) (n : ℕ) (new : Table K V) (root root' : ℕ) → IsUnion most table → OthersKeep (reserved table n).nodes new.nodes root root' → OthersKeep table.nodes new.nodes root root'
   reserved-then most table n new root root' union keep other ne ne' =
       let r = reserved-roots most table n union other in
-      let k = keep other ne ne' in (
-        (λ now. sym r.0 ∙ k.0.0 now, λ was. k.0.1 (r.0 ∙ was)),
-        λ was. k.1 (r.0 ∙ was) ∙ r.1 was,
-      )
+      let k = keep other ne ne' in ((λ now. sym r.0 ∙ k.0.0 now, λ was. k.0.1 (r.0 ∙ was)), λ was. k.1 (r.0 ∙ was) ∙ r.1 was)
 
   -- an equal table, or one with reserved nodes, is a union of trees and keeps them
-  pub same-keeps : (most : ℕ) (old new : Table K V) → new ≡ old → IsUnion most old → IsUnion most new × KeepsTrees old.nodes new.nodes
-  same-keeps most old new is union =
-      subst (λ (z : Table K V). IsUnion most z × KeepsTrees old.nodes z.nodes) (sym is) (union, λ n. (refl, λ there. refl))
+  pub same-keeps : {most : ℕ} {old : Table K V} (new : Table K V) → new ≡ old → IsUnion most old → IsUnion most new × KeepsTrees old.nodes new.nodes
+  same-keeps {most = most} {old = old} new is union =
+      subst (λ z. IsUnion most z × KeepsTrees old.nodes z.nodes) (sym is) (union, λ n. (refl, λ there. refl))
 
-  pub reserved-keeps : (most : ℕ) (old new : Table K V) (n : ℕ) → new ≡ reserved old n → IsUnion most old → IsUnion most new × KeepsTrees old.nodes new.nodes
-  reserved-keeps most old new n is union =
-      subst (λ (z : Table K V). IsUnion most z × KeepsTrees old.nodes z.nodes) (sym is) (reserved-union most old n union, reserved-roots most old n union)
+  pub reserved-keeps : (most : ℕ) {old : Table K V} (new : Table K V) (n : ℕ) → new ≡ reserved old n → IsUnion most old → IsUnion most new × KeepsTrees old.nodes new.nodes
+  reserved-keeps most {old = old} new n is union =
+      subst (λ z. IsUnion most z × KeepsTrees old.nodes z.nodes) (sym is) (reserved-union most old n union, reserved-roots most old n union)
 
   -- at least `n` nodes are free after a reservation of `n`
-  pub reserved-frees : (old new : Table K V) (n : ℕ) → new ≡ reserved old n → n ≤ free_count new
-  reserved-frees old new n is =
-      omega (arith, ap (λ (z : Table K V). length z.chain) is, length-append (down_from (slot_count old) (n - free_count old)) old.chain, length-down_from (slot_count old) (n - free_count old))
+  pub reserved-frees : (old : Table K V) {new : Table K V} (n : ℕ) → new ≡ reserved old n → n ≤ free_count new
+  reserved-frees old n is =
+      omega (arith, ap (λ z. length z.chain) is, length-append (down_from (slot_count old) (n - free_count old)) old.chain, length-down_from (slot_count old) (n - free_count old))

@@ -28,20 +28,20 @@ module _ {K V : Type 0} where
   pub one_tree : (tree : Tree K V) → numbers_of tree ≡ flat_map numbers_of (tree ∷ [])
   one_tree tree = sym (append-nil (numbers_of tree))
 
-  exchanged_by : (most : ℕ) (old new : Table K V) (root : ℕ) (tree' : Tree K V) → IsUnion most old → IsTrue (is_root old.nodes root) → IsPlanted most new.nodes tree' → Traded old new (numbers_of (tree_of old.nodes root)) (numbers_of tree') → Exchanged most old new root tree'
-  exchanged_by most old new root tree' union is p t =
+  exchanged_by : {most : ℕ} (old new : Table K V) (root : ℕ) {tree' : Tree K V} → IsUnion most old → IsTrue (is_root old.nodes root) → IsPlanted most new.nodes tree' → Traded old new (numbers_of (tree_of old.nodes root)) (numbers_of tree') → Exchanged most old new root tree'
+  exchanged_by {most = most} old new root {tree' = tree'} union is p t =
       let r = rooted most old root union is in
       let tree = tree_of old.nodes root in
-      let one = subst (λ (z : List ℕ). Traded old new z (flat_map numbers_of (tree' ∷ []))) (one_tree tree) (subst (λ (z : List ℕ). Traded old new (numbers_of tree) z) (one_tree tree') t) in
-      let g = exchange-trees most old new r.before (tree ∷ []) (tree' ∷ []) r.after r.forest (p, tt) one in
-      let back = tree-back most new (r.before ++ tree' ∷ r.after) r.before tree' r.after (root_of tree') g refl refl in
-      subst (λ (z : ℕ). Exchanged most old new z tree') r.root_is (record {
+      let one = subst (λ z. Traded old new z (flat_map numbers_of (tree' ∷ []))) (one_tree tree) (subst (λ z. Traded old new (numbers_of tree) z) (one_tree tree') t) in
+      let g = exchange-trees r.before (tree ∷ []) (tree' ∷ []) r.after r.forest (p, tt) one in
+      let back = tree-back r.before tree' r.after (root_of tree') g refl refl in
+      subst (λ z. Exchanged most old new z tree') r.root_is (record {
         union = (r.before ++ tree' ∷ r.after, g);
         root_is = back.1;
         tree_is = back.0;
-        others = λ other ne ne'. others-keep most old new r.before (tree ∷ []) (tree' ∷ []) r.after r.forest g other (not-root other (root_of tree) ne) (not-root other (root_of tree') ne');
-        old_gone = λ ne. roots-gone most old new r.before (tree ∷ []) (tree' ∷ []) r.after r.forest g (root_of tree) (one_root (root_of tree)) (not-root (root_of tree) (root_of tree') ne);
-        new_came = λ ne. roots-gone most new old r.before (tree' ∷ []) (tree ∷ []) r.after g r.forest (root_of tree') (one_root (root_of tree')) (not-root (root_of tree') (root_of tree) (λ (e : root_of tree' ≡ root_of tree). ne (sym e)));
+        others = λ other ne ne'. others-keep r.before (tree ∷ []) (tree' ∷ []) r.after r.forest g other (not-root other (root_of tree) ne) (not-root other (root_of tree') ne');
+        old_gone = λ ne. roots-gone r.before (tree ∷ []) (tree' ∷ []) r.after r.forest g (root_of tree) (one_root (root_of tree)) (not-root (root_of tree) (root_of tree') ne);
+        new_came = λ ne. roots-gone r.before (tree' ∷ []) (tree ∷ []) r.after g r.forest (root_of tree') (one_root (root_of tree')) (not-root (root_of tree') (root_of tree) (λ (e : root_of tree' ≡ root_of tree). ne (sym e)));
       })
 
   -- the tree after an insertion under a root
@@ -51,23 +51,23 @@ module _ {K V : Type 0} where
       ((m : ℕ) → count m (numbers_of (tree_of old.nodes root)) + count m taken ≡ 0 → slice_get new.nodes m ≡ slice_get old.nodes m) →
       Exchanged most old new root tree'
   exchanged most old new root tree' taken union is p chain_is slots nums others =
-      exchanged_by most old new root tree' union is p (traded old new (numbers_of (tree_of old.nodes root)) (numbers_of tree') taken [] new.chain union.1.free (rooted most old root union is).apart chain_is refl tt slots (λ m. omega (arith, nums m)) others)
+      exchanged_by old new root union is p (traded old new (numbers_of (tree_of old.nodes root)) (numbers_of tree') taken [] new.chain union.1.free (rooted most old root union is).apart chain_is refl tt slots (λ m. omega (arith, nums m)) others)
 
   -- the tree after a removal under a root
   pub exchanged-freed : (most : ℕ) (old new : Table K V) (root : ℕ) (tree' : Tree K V) (freed : List ℕ) → IsUnion most old → IsTrue (is_root old.nodes root) → IsPlanted most new.nodes tree' → Frees old new (numbers_of (tree_of old.nodes root)) freed →
       ((m : ℕ) → count m (numbers_of tree') + count m freed ≡ count m (numbers_of (tree_of old.nodes root))) → Exchanged most old new root tree'
   exchanged-freed most old new root tree' freed union is p frees nums =
-      exchanged_by most old new root tree' union is p
+      exchanged_by old new root union is p
       (traded old new (numbers_of (tree_of old.nodes root)) (numbers_of tree') [] freed old.chain union.1.free
       (rooted most old root union is).apart refl frees.chain_is frees.freed_are frees.slots_are (λ m. omega (arith, nums m))
       (λ m none. frees.others m (omega (arith, none))))
 
   -- a replaced tree as a change of the table
   pub exchanged-changes : {most : ℕ} {old new : Table K V} {root root' : ℕ} {tree' : Tree K V} → Exchanged most old new root tree' → root_of tree' ≡ root' → new.limit ≡ old.limit → Changes most old new root root' (flat tree'.leaves) (sizes_of tree')
-  exchanged-changes {most} {old} {new} {root} {root'} {tree'} e is limit_is = subst (λ (z : ℕ). Changes most old new root z (flat tree'.leaves) (sizes_of tree')) is (record {
+  exchanged-changes {most} {old} {new} {root} {root'} {tree'} e is limit_is = subst (λ z. Changes most old new root z (flat tree'.leaves) (sizes_of tree')) is (record {
     union = e.union;
     root_is = e.root_is;
-    list_is = ap (λ (z : Tree K V). flat z.leaves) e.tree_is;
+    list_is = ap (λ z. flat z.leaves) e.tree_is;
     sizes_are = ap sizes_of e.tree_is;
     others = e.others;
     old_gone = e.old_gone;
@@ -82,8 +82,8 @@ module _ {K V : Type 0} where
       let r = rooted most old root union is in
       let tree = tree_of old.nodes root in
       let t = traded old new (numbers_of tree) [] [] freed old.chain union.1.free r.apart refl frees.chain_is frees.freed_are frees.slots_are (λ m. omega (arith, nums m)) (λ m none. frees.others m (omega (arith, none))) in
-      let g = exchange-trees most old new r.before (tree ∷ []) [] r.after r.forest tt (subst (λ (z : List ℕ). Traded old new z []) (one_tree tree) t) in (
+      let g = exchange-trees r.before (tree ∷ []) [] r.after r.forest tt (subst (λ z. Traded old new z []) (one_tree tree) t) in (
         (r.before ++ r.after, g),
-        subst (λ (z : ℕ). ¬ IsTrue (is_root new.nodes z)) r.root_is (roots-gone most old new r.before (tree ∷ []) [] r.after r.forest g (root_of tree) (one_root (root_of tree)) refl),
-        subst (λ (z : ℕ). OthersKeep old.nodes new.nodes z z) r.root_is (λ other ne ne'. others-keep most old new r.before (tree ∷ []) [] r.after r.forest g other (not-root other (root_of tree) ne) refl),
+        subst (λ z. ¬ IsTrue (is_root new.nodes z)) r.root_is (roots-gone r.before (tree ∷ []) [] r.after r.forest g (root_of tree) (one_root (root_of tree)) refl),
+        subst (λ z. OthersKeep old.nodes new.nodes z z) r.root_is (λ other ne ne'. others-keep r.before (tree ∷ []) [] r.after r.forest g other (not-root other (root_of tree) ne) refl),
       )

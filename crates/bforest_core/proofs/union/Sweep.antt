@@ -1,20 +1,21 @@
 -- Freeing everything below a node, child by child.
-use Rattle.std.proofs.Common.{◌≡◌, ℕ, zero, suc, ◌+◌, ◌≤◌, ◌<◌, List, [], ◌∷◌, ◌++◌, length, drop, take, reverse, slice_get, option_map, Some, append-nil, refl, sym, ap, subst, ◌∙◌, inl, inr, arith}
-use Rattle.bforest_core.proofs.Words.{flat_map, cases_lt, flat_map-append, Content, Inner, Leaf, Free, IsInner, children_of, entry_count, Table, with_freed, LevelNode, node, flat, heads, numbers, half_of, leaf_content, inner_content}
-use Rattle.bforest_core.proofs.Words.{entry_items, count, Distinct, StackedTo, Under, numbers_down, slot, Frees, GivesAll, numbers_under, drop_all, length-map, nil_from_length, reverse-append, take_all, slice_get_within}
+use Rattle.std.proofs.Common.{◌≡◌, ℕ, zero, suc, ◌+◌, ◌≤◌, ◌<◌, List, [], ◌∷◌, ◌++◌, length, drop, take, reverse, slice_get, option_map, Some, refl, sym, ap, subst, ◌∙◌, inl, inr, arith}
+use Rattle.bforest_core.proofs.Words.{flat_map, cases_lt, Content, IsInner, children_of, Table, with_freed, LevelNode, flat, heads, numbers, half_of}
+use Rattle.bforest_core.proofs.Words.{entry_items, count, Distinct, StackedTo, Under, numbers_down, slot, Frees, GivesAll, numbers_under, drop_all, length-map, reverse-append, take_all, slice_get_within}
 use Rattle.bforest_core.proofs.union.Exchange.{tree-same}
 use Rattle.bforest_core.proofs.union.FreeSlots.{slot_same}
 use Rattle.bforest_core.proofs.removal.Frees.{frees-one, frees-refl, frees-then, frees-wider, only_here}
-use Rattle.bforest_core.proofs.walks.Downward.{Seen}
-use Rattle.bforest_core.proofs.walks.TopNode.{LeafUnder, InnerUnder, node_under}
 use Rattle.bforest_core.proofs.table.Stored.{childless, some_same}
 use Rattle.bforest_nodes.proofs.Seams.{last_taken}
 use Rattle.bforest_core.proofs.walks.LeafSearch.{items-read}
-use Rattle.bforest_core.proofs.walks.Steps.{no_heads, read}
-use Rattle.bforest_core.proofs.table.Read.{slot-is}
+use Rattle.bforest_core.proofs.walks.Steps.{read}
+use Rattle.bforest_core.proofs.walks.RowNodes.{no_heads}
 use Rattle.bforest_core.proofs.table.Lists.{drop-read}
 use Rattle.bforest_core.proofs.union.Sections.{UnderCut, under-cut}
 use Rattle.bforest_core.proofs.table.Tables.{count-append, count-same}
+use Rattle.bforest_core.proofs.union.Opened.{Opened}
+use Rattle.bforest_core.proofs.Words.{IsLeafCapacity}
+use Rattle.bforest_core.proofs.rows.LevelRows.{some_leaf}
 
 -- rows below no nodes have no nodes
 rows_none : {K : Type 0} (list : List (K × ℕ)) (rows : List (List (LevelNode K ℕ))) → StackedTo list rows [] → (list ≡ []) × ((m : ℕ) → count m (flat_map numbers rows) ≡ 0)
@@ -26,17 +27,16 @@ rows_none list (row ∷ rows) s =
 
 module _ {K V : Type 0} where
   -- the rows under some nodes are in any slots that agree on their numbers
-  under-same : (most : ℕ) (old new : List (Content K V)) (leaves : List (LevelNode K V)) (lower : List (List (LevelNode K ℕ)))
-      (top : List (K × ℕ)) → ((m : ℕ) → 0 < count m (numbers_under leaves lower) → slice_get new m ≡ slice_get old m)
+  under-same : {most : _} {old : List (Content K V)} (new : List (Content K V)) {leaves : List (LevelNode K V)} {lower : List (List (LevelNode K ℕ))} {top : _} → ((m : ℕ) → 0 < count m (numbers_under leaves lower) → slice_get new m ≡ slice_get old m)
       → Under most old leaves lower top → Under most new leaves lower top
-  under-same most old new leaves lower top same u =
+  under-same {old = old} new {leaves = leaves} {lower = lower} same u =
       let i = tree-same old new (record { leaves = leaves; above = lower }) same (record { leaves_in = u.leaves_in; rows_in = u.rows_in }) in
       record { leaves_fit = u.leaves_fit; leaves_in = i.leaves_in; stacked = u.stacked; rows_in = i.rows_in }
 
-  under_none : (most : ℕ) → 1 ≤ half_of most → (slots : List (Content K V)) (leaves : List (LevelNode K V)) (lower : List (List (LevelNode K ℕ))) → Under most slots leaves lower [] → (m : ℕ) → count m (numbers_under leaves lower) ≡ 0
-  under_none most one slots leaves lower u m =
+  under_none : (most : ℕ) → IsLeafCapacity most → {slots : List (Content K V)} {leaves lower : _} → Under most slots leaves lower [] → (m : ℕ) → count m (numbers_under leaves lower) ≡ 0
+  under_none most capacity {leaves = leaves} {lower = lower} u m =
       let r = rows_none (heads leaves) lower u.stacked in
-      let none : leaves ≡ [] = no_heads (half_of most) most one leaves u.leaves_fit r.0 in
+      let none : leaves ≡ [] = no_heads (half_of most) most (some_leaf capacity) leaves u.leaves_fit r.0 in
       omega (arith, count-append m (numbers leaves) (flat_map numbers lower), ap (λ z. count m (numbers z)) none, r.1 m)
 
   -- the numbers below a node are the same in any slots that agree on them
@@ -69,7 +69,7 @@ module _ {K V : Type 0} where
     pub counted : (m : ℕ) → count m given ≡ count m own
     pub split : (m : ℕ) → count m (numbers_under leaves rows) ≡ count m own + count m (numbers_under left_leaves left_rows)
 
-  module _ (most : ℕ) (one : 1 ≤ half_of most) (old : Table K V) (leaves : List (LevelNode K V)) (rows : List (List (LevelNode K ℕ))) (top : List (K × ℕ)) where
+  module _ {most : ℕ} (capacity : IsLeafCapacity most) (old : Table K V) (leaves : List (LevelNode K V)) (rows : List (List (LevelNode K ℕ))) (top : List (K × ℕ)) where
     -- at first nothing is freed
     pub sweep-first : Under most old.nodes leaves rows top → Swept most old old leaves rows top 0
     sweep-first u = record { left_leaves = leaves; left_rows = rows; own = []; given = []; under = u; height = refl; frees = frees-refl old []; order = refl; counted = λ m. refl; split = λ m. omega arith }
@@ -82,24 +82,24 @@ module _ {K V : Type 0} where
       pub under : Under most now.nodes cut.leaves_left cut.lower_left (x ∷ [])
       pub apart : Distinct (numbers_under cut.leaves_left cut.lower_left ++ now.chain)
 
-    -- while the index is one of the top's, there is a next child
+    -- while the index is capacity of the top's, there is a next child
     pub sweep-turn : (now : Table K V) (index : ℕ) (x : K × ℕ) → Distinct (numbers_under leaves rows ++ old.chain) → Swept most old now leaves rows top index → slice_get top index ≡ Some x → Turn now index x
     sweep-turn now index x apart s found =
         let todo : drop index top ≡ x ∷ drop (suc index) top = drop-read top index x found in
-        let cut = under-cut most old.nodes one s.left_leaves s.left_rows (x ∷ []) (drop (suc index) top) (subst (λ (z : List (K × ℕ)). Under most old.nodes s.left_leaves s.left_rows z) todo s.under) in
+        let cut = under-cut most old.nodes (some_leaf capacity) (x ∷ []) (drop (suc index) top) (subst (λ z. Under most old.nodes s.left_leaves s.left_rows z) todo s.under) in
         record {
           swept = s;
           found = found;
           cut = cut;
-          under = under-same most old.nodes now.nodes cut.leaves_left cut.lower_left (x ∷ []) (λ m some. s.frees.others m (omega (arith, apart m, count-append m (numbers_under leaves rows) old.chain, s.split m, cut.counted m, some))) cut.left;
+          under = under-same now.nodes (λ m some. s.frees.others m (omega (arith, apart m, count-append m (numbers_under leaves rows) old.chain, s.split m, cut.counted m, some))) cut.left;
           apart = λ m. omega (arith, apart m, count-append m (numbers_under leaves rows) old.chain, s.split m, cut.counted m, s.counted m, ap (λ z. count m z) s.frees.chain_is, count-append m s.given old.chain, count-append m (numbers_under cut.leaves_left cut.lower_left) now.chain);
         }
 
     -- the next child is freed with everything below it
-    pub sweep-next : (now new : Table K V) (index : ℕ) (x : K × ℕ) → Distinct (numbers_under leaves rows ++ old.chain)
+    pub sweep-next : {now new : Table K V} {index : ℕ} (x : K × ℕ) → Distinct (numbers_under leaves rows ++ old.chain)
         → (t : Turn now index x) → GivesAll now new (numbers_under t.cut.leaves_left t.cut.lower_left)
         (numbers_down now.nodes (length t.cut.lower_left) x.1) → Swept most old new leaves rows top (suc index)
-    sweep-next now new index x apart t g =
+    sweep-next {now = now} {new = new} {index = index} x apart t g =
         let own = numbers_under t.cut.leaves_left t.cut.lower_left in
         let n = λ (m : ℕ). count-append m t.swept.own own in
         record {
@@ -126,19 +126,19 @@ module _ {K V : Type 0} where
               ∙ ap (λ z. numbers_down old.nodes z x.1 ++ t.swept.given) (t.cut.left_height ∙ t.swept.height)
               ∙ ap (λ z. numbers_down old.nodes (length rows) x.1 ++ z) t.swept.order
               ∙ sym (ap (λ z. flat_map (numbers_down old.nodes (length rows)) (reverse z))
-              (last_taken (entry_items top) index x.1 (items-read top index ∙ ap (λ z. option_map (λ (e : K × ℕ). e.1) z) t.found))
+              (last_taken (entry_items top) index x.1 (items-read top index ∙ ap (λ z. option_map (λ e. e.1) z) t.found))
               ∙ ap (flat_map (numbers_down old.nodes (length rows))) (reverse-append (take index (entry_items top)) (x.1 ∷ [])));
           counted = λ m. omega (arith, count-append m (numbers_down now.nodes (length t.cut.lower_left) x.1) t.swept.given, n m, g.counted m, t.swept.counted m);
           split = λ m. omega (arith, n m, t.swept.split m, t.cut.counted m);
         }
 
     -- at last everything below the top is freed
-    pub sweep-last : (now : Table K V) (index : ℕ) → length top ≤ index → Swept most old now leaves rows top index → GivesAll old now (numbers_under leaves rows) (flat_map (numbers_down old.nodes (length rows)) (reverse (entry_items top)))
-    sweep-last now index past s =
+    pub sweep-last : {now : Table K V} {index : ℕ} → length top ≤ index → Swept most old now leaves rows top index → GivesAll old now (numbers_under leaves rows) (flat_map (numbers_down old.nodes (length rows)) (reverse (entry_items top)))
+    sweep-last {now = now} {index = index} past s =
         let none : drop index top ≡ [] = drop_all index top past in
-        let left = under_none most one old.nodes s.left_leaves s.left_rows (subst (λ (z : List (K × ℕ)). Under most old.nodes s.left_leaves s.left_rows z) none s.under) in
+        let left = under_none most capacity (subst (λ z. Under most old.nodes s.left_leaves s.left_rows z) none s.under) in
         let whole = s.order ∙ ap (λ z. flat_map (numbers_down old.nodes (length rows)) (reverse z)) (take_all index (entry_items top) (omega (arith, past, length-map top (λ (e : K × ℕ). e.1)))) in
-        subst (λ (z : List ℕ). GivesAll old now (numbers_under leaves rows) z) whole (record {
+        subst (λ z. GivesAll old now (numbers_under leaves rows) z) whole (record {
           frees = frees-wider old now s.own (numbers_under leaves rows) s.given (λ m zero. omega (arith, zero, s.split m)) s.frees;
           counted = λ m. omega (arith, s.counted m, s.split m, left m);
         })
@@ -149,77 +149,7 @@ item_at top index child found =
     let r = read top index (omega (arith, slice_get_within (entry_items top) index child found, length-map top (λ w. w.1))) in
     (r.0, r.1, some_same r.0.1 child (sym (items-read top index ∙ ap (λ z. option_map (λ w. w.1) z) r.1) ∙ found))
 
--- a row with one head has one node
-one_node : {K X : Type 0} (half most : ℕ) → 1 ≤ half → (row : List (LevelNode K X)) (first : K) (number : ℕ) (at : Seen half most row [] first number []) → row ≡ node number (at.e ∷ at.es) ∷ []
-one_node half most one row first number at =
-    at.row_is ∙ ap (λ z. z ++ node number (at.e ∷ at.es) ∷ at.after) (nil_from_length at.before at.before_is) ∙ ap (λ z. node number (at.e ∷ at.es) ∷ z) (no_heads half most one at.after at.after_fit at.after_is)
-
 module _ {K V : Type 0} where
-  -- only inner nodes have children, which are their entries
-  pub inner-children : (content : Content K V) → 0 < length (children_of content) → IsInner content × (entry_count content ≡ length (children_of content))
-  inner-children (Inner keys children) some = (tt, refl)
-  inner-children (Leaf keys vals) some = absurd (omega (arith, some))
-  inner-children (Free next) some = absurd (omega (arith, some))
-
-  -- the node on top of the rows below it: its content, and what is below its children, if any
-  pub record Opened (most : ℕ) (slots : List (Content K V)) (leaves : List (LevelNode K V)) (lower : List (List (LevelNode K ℕ))) (number : ℕ) : Type 0 where
-    pub low : List (LevelNode K V)
-    pub rows : List (List (LevelNode K ℕ))
-    pub top : List (K × ℕ)
-    pub content : Content K V
-    pub slot_is : slice_get slots number ≡ Some content
-    pub children_are : children_of content ≡ entry_items top
-    pub under : Under most slots low rows top
-    pub counted : (m : ℕ) → count m (numbers_under leaves lower) ≡ count m (numbers_under low rows) + count m (number ∷ [])
-    pub height : 0 < length top → suc (length rows) ≡ length lower
-    pub down : numbers_down slots (length lower) number ≡ number ∷ flat_map (numbers_down slots (length rows)) (reverse (entry_items top))
-
-  module _ (most : ℕ) (one : 1 ≤ half_of most) (slots : List (Content K V)) (leaves : List (LevelNode K V)) where
-    open_leaf : (lower : List (List (LevelNode K ℕ))) (first : K) (number : ℕ) → LeafUnder most slots leaves lower [] first number [] → Opened most slots leaves lower number
-    open_leaf lower first number s =
-        let row = one_node (half_of most) most one leaves first number s.at in
-        record {
-          low = [];
-          rows = [];
-          top = [];
-          content = leaf_content (s.at.e ∷ s.at.es);
-          slot_is = s.slot_is;
-          children_are = refl;
-          under = record { leaves_fit = tt; leaves_in = tt; stacked = refl; rows_in = tt };
-          counted = λ m. omega (arith, count-append m (numbers leaves) (flat_map numbers lower), ap (λ z. count m (numbers z)) row, ap (λ z. count m (flat_map numbers z)) s.lower_is);
-          height = λ some. absurd (omega (arith, some));
-          down = ap (λ z. numbers_down slots (length z) number) s.lower_is;
-        }
-
-    open_inner : (lower : List (List (LevelNode K ℕ))) (first : K) (number : ℕ) → InnerUnder most slots leaves lower [] first number [] → Opened most slots leaves lower number
-    open_inner lower first number s =
-        let row = one_node 4 8 (omega arith) s.row first number s.at in
-        let es = s.at.e ∷ s.at.es in
-        record {
-          low = leaves;
-          rows = s.rows;
-          top = es;
-          content = inner_content es;
-          slot_is = s.slot_is;
-          children_are = refl;
-          under = subst (λ z. Under most slots leaves s.rows z) (ap flat row ∙ append-nil es) s.under;
-          counted = λ m. omega (
-            arith,
-            count-append m (numbers leaves) (flat_map numbers lower),
-            count-append m (numbers leaves) (flat_map numbers s.rows),
-            ap (λ z. count m (flat_map numbers z)) s.lower_is,
-            ap (λ z. count m z) (flat_map-append numbers s.rows (s.row ∷ [])),
-            count-append m (flat_map numbers s.rows) (numbers s.row ++ []),
-            ap (λ z. count m z) (append-nil (numbers s.row)),
-            ap (λ z. count m (numbers z)) row,
-          );
-          height = λ some. sym s.count_is;
-          down = ap (λ z. numbers_down slots z number) s.count_is ∙ ap (λ z. number ∷ flat_map (numbers_down slots (length s.rows)) (reverse (children_of z))) (slot-is slots number (inner_content es) s.slot_is);
-        }
-
-    pub under-open : (lower : List (List (LevelNode K ℕ))) (first : K) (number : ℕ) → Under most slots leaves lower ((first, number) ∷ []) → Opened most slots leaves lower number
-    under-open lower first number u = elim (node_under most one slots leaves lower [] first number [] u) [ inl s ↦ open_leaf lower first number s | inr s ↦ open_inner lower first number s ]
-
   -- the progress of freeing a node's children, and the node itself
   pub record Sweeping (most : ℕ) (old now : Table K V) (leaves : List (LevelNode K V)) (lower : List (List (LevelNode K ℕ))) (number index : ℕ) : Type 0 where
     pub opened : Opened most old.nodes leaves lower number
@@ -229,10 +159,10 @@ module _ {K V : Type 0} where
     pub slot_is : slice_get now.nodes number ≡ Some opened.content
     pub off_chain : count number now.chain ≡ 0
 
-  pub sweeping : (most : ℕ) (old now : Table K V) (leaves : List (LevelNode K V)) (lower : List (List (LevelNode K ℕ))) (number index : ℕ)
+  pub sweeping : {most : ℕ} {old now : Table K V} {leaves : List (LevelNode K V)} {lower : List (List (LevelNode K ℕ))} {number index : ℕ}
       → Distinct (numbers_under leaves lower ++ old.chain) → (o : Opened most old.nodes leaves lower number)
       → Swept most old now o.low o.rows o.top index → Sweeping most old now leaves lower number index
-  sweeping most old now leaves lower number index apart o s =
+  sweeping {old = old} {leaves = leaves} {lower = lower} {number = number} apart o s =
       let one : count number (number ∷ []) ≡ 1 = count-same number [] in
       let a = apart number in
       record {
@@ -245,39 +175,37 @@ module _ {K V : Type 0} where
       }
 
   -- the node is freed after its children
-  pub gives-down : (most : ℕ) (old now : Table K V) (leaves : List (LevelNode K V)) (lower : List (List (LevelNode K ℕ))) (number index : ℕ) → (s : Sweeping most old now leaves lower number index) →
+  pub gives-down : {most : _} {old now : Table K V} {leaves lower number index : _} → (s : Sweeping most old now leaves lower number index) →
       GivesAll old now (numbers_under s.opened.low s.opened.rows) (flat_map (numbers_down old.nodes (length s.opened.rows)) (reverse (entry_items s.opened.top))) → GivesAll old (with_freed now number) (numbers_under leaves lower) (numbers_down old.nodes (length lower) number)
-  gives-down most old now leaves lower number index s all =
+  gives-down {old = old} {now = now} {leaves = leaves} {lower = lower} {number = number} s all =
       let own = numbers_under s.opened.low s.opened.rows in
       let below = flat_map (numbers_down old.nodes (length s.opened.rows)) (reverse (entry_items s.opened.top)) in
       let apart : (m : ℕ) → 0 < count m below → count m (number ∷ []) ≡ 0 =
       λ m some. elim (cases_lt 0 (count m (number ∷ []))) [ inl here ↦ absurd (omega (arith, some, all.counted m, only_here m number own here s.alone)) | inr past ↦ omega (arith, past) ] in
-      subst (λ (z : List ℕ). GivesAll old (with_freed now number) (numbers_under leaves lower) z) (sym s.opened.down) (record {
+      subst (λ z. GivesAll old (with_freed now number) (numbers_under leaves lower) z) (sym s.opened.down) (record {
         frees = frees-then old now (with_freed now number) (numbers_under leaves lower) (number ∷ []) below (number ∷ [])
             (λ m zero. omega (arith, zero, s.opened.counted m)) apart
             (frees-wider old now own (numbers_under leaves lower) below (λ m zero. omega (arith, zero, s.opened.counted m)) all.frees)
-            (frees-one now (with_freed now number) number s.opened.content (number ∷ []) s.slot_is refl
-            (omega (arith, count-same number [])));
+            (frees-one now (with_freed now number) number s.opened.content (number ∷ []) s.slot_is refl (omega (arith, count-same number [])));
         counted = λ m. omega (arith, s.opened.counted m, all.counted m, count-append m (number ∷ []) below);
       })
 
   -- a leaf has nothing below it and is freed alone
-  pub gives-leaf : (most : ℕ) (one : 1 ≤ half_of most) (old : Table K V) (leaves : List (LevelNode K V))
-      (lower : List (List (LevelNode K ℕ))) (number : ℕ) → Distinct (numbers_under leaves lower ++ old.chain)
+  pub gives-leaf : {most : ℕ} (capacity : IsLeafCapacity most) (old : Table K V) {leaves : List (LevelNode K V)}
+      {lower : List (List (LevelNode K ℕ))} {number : ℕ} → Distinct (numbers_under leaves lower ++ old.chain)
       → (o : Opened most old.nodes leaves lower number) → (IsInner o.content → ⊥)
       → GivesAll old (with_freed old number) (numbers_under leaves lower) (numbers_down old.nodes (length lower) number)
   unfolding sweeping
-  gives-leaf most one old leaves lower number apart o other =
-      let first = sweep-first most one old o.low o.rows o.top o.under in
-      let s = sweeping most old old leaves lower number 0 apart o first in
-      let all = sweep-last most one old o.low o.rows o.top old 0 (omega (arith, childless o.content other, ap length o.children_are, length-map o.top (λ (e : K × ℕ). e.1))) first in
-      gives-down most old old leaves lower number 0 s all
+  gives-leaf capacity old {number = number} apart o other =
+      let first = sweep-first capacity old o.low o.rows o.top o.under in
+      let s = sweeping apart o first in
+      let all = sweep-last capacity old o.low o.rows o.top (omega (arith, childless o.content other, ap length o.children_are, length-map o.top (λ (e : K × ℕ). e.1))) first in
+      gives-down s all
 
   -- the child at the index, and everything below it
-  pub child_turn : (most : ℕ) (one : 1 ≤ half_of most) (old now : Table K V) (leaves : List (LevelNode K V))
-      (lower : List (List (LevelNode K ℕ))) (number index child : ℕ) → (s : Sweeping most old now leaves lower number index)
+  pub child_turn : {most : ℕ} (capacity : IsLeafCapacity most) {old now : Table K V} {leaves lower number index : _} {child : ℕ} → (s : Sweeping most old now leaves lower number index)
       → slice_get (children_of s.opened.content) index ≡ Some child → (x : K × ℕ) × (x.1 ≡ child) × (index < length s.opened.top)
-      × Turn most one old s.opened.low s.opened.rows s.opened.top now index x
-  child_turn most one old now leaves lower number index child s found =
+      × Turn capacity old s.opened.low s.opened.rows s.opened.top now index x
+  child_turn {most = most} capacity {old = old} {now = now} {index = index} {child = child} s found =
       let i = item_at s.opened.top index child (ap (λ z. slice_get z index) (sym s.opened.children_are) ∙ found) in
-      (i.0, i.2, slice_get_within s.opened.top index i.0 i.1, sweep-turn most one old s.opened.low s.opened.rows s.opened.top now index i.0 s.apart s.swept i.1)
+      (i.0, i.2, slice_get_within s.opened.top index i.0 i.1, sweep-turn capacity old s.opened.low s.opened.rows s.opened.top now index i.0 s.apart s.swept i.1)

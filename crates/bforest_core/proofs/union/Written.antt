@@ -9,9 +9,9 @@ use Rattle.bforest_core.proofs.table.Tables.{count-append, count-same, count-row
 use Rattle.bforest_core.proofs.walks.LeafSearch.{items-read}
 use Rattle.bforest_core.proofs.insertion.LeafSpot.{keys_count}
 use Rattle.bforest_core.proofs.rows.Zipper.{apart_here}
-use Rattle.bforest_core.proofs.walks.Descent.{some_leaf}
 use Rattle.bforest_core.proofs.walks.Entered.{leaf_here}
-use Rattle.bforest_core.proofs.walks.Steps.{entry_at, read}
+use Rattle.bforest_core.proofs.walks.Steps.{read}
+use Rattle.bforest_core.proofs.walks.RowNodes.{entry_at}
 use Rattle.bforest_core.proofs.table.Stored.{item_count}
 use Rattle.bforest_core.proofs.table.Read.{slot-is}
 use Rattle.bforest_core.proofs.union.Exchange.{IsPlanted}
@@ -49,7 +49,7 @@ module _ {K X : Type 0} where
   written-behind (e ∷ es) fs zero i v is = absurd (omega (arith, is))
   written-behind (e ∷ es) fs (suc p) i v is = ap (λ z. e ∷ z) (written-behind es fs p i v (omega (arith, is)))
 
-module _ {K V : Type 0} (most : ℕ) (table : Table K V) (root place : ℕ) (path indices : List ℕ) (size : ℕ) (union : IsUnion most table) (s : StandsUnder table.nodes root path indices size place) where
+module _ {K V : Type 0} (most : ℕ) (table : Table K V) (root place path indices size : _) (union : IsUnion most table) (s : StandsUnder table.nodes root path indices size place) where
   abbrev r : Rooted most table root (tree_of table.nodes root)
   r = rooted most table root union s.root_is
 
@@ -57,11 +57,11 @@ module _ {K V : Type 0} (most : ℕ) (table : Table K V) (root place : ℕ) (pat
   at = s.stands.leaf
 
   leaf_at : slice_get table.nodes (get_or path 0 0) ≡ Some (leaf_content at.entries)
-  leaf_at = (leaf_here (some_leaf most union.1.capacity) r.fit r.inside s.stands).slot_is
+  leaf_at = (leaf_here union.1.capacity r.fit r.inside s.stands).node.slot_is
 
   -- the leaf occurs once among the numbers of the tree and the chain
   once_here : (count (get_or path 0 0) (numbers at.before) + count (get_or path 0 0) (numbers at.after) ≡ 0) × (count (get_or path 0 0) (flat_map numbers (tree_of table.nodes root).above) ≡ 0) × (count (get_or path 0 0) table.chain ≡ 0)
-  once_here = apart_here (get_or path 0 0) at.before at.entries at.after (flat_map numbers (tree_of table.nodes root).above) table.chain (subst (λ (z : List (LevelNode K V)). Distinct ((numbers z ++ flat_map numbers (tree_of table.nodes root).above) ++ table.chain)) at.row_is r.apart)
+  once_here = apart_here (get_or path 0 0) at.before at.entries at.after (flat_map numbers (tree_of table.nodes root).above) table.chain (subst (λ z. Distinct ((numbers z ++ flat_map numbers (tree_of table.nodes root).above) ++ table.chain)) at.row_is r.apart)
 
   -- the path's leaf is used, and has an entry at the path's index
   pub entry-used : IsUsed table (get_or path 0 0) × IsEntryAt table.nodes (get_or path 0 0) (get_or indices 0 0)
@@ -73,7 +73,7 @@ module _ {K V : Type 0} (most : ℕ) (table : Table K V) (root place : ℕ) (pat
       let x = read at.entries (get_or indices 0 0) at.within in
       ap (λ z. option_and_then (λ content. slice_get (vals_of content) (get_or indices 0 0)) z) leaf_at
       ∙ items-read at.entries (get_or indices 0 0)
-      ∙ ap (λ z. option_map (λ (e : K × V). e.1) z) (x.1 ∙ sym (ap (λ z. slice_get (flat (tree_of table.nodes root).leaves) z) at.place_is ∙ entry_at (tree_of table.nodes root).leaves at.before (get_or path 0 0) at.entries at.after (get_or indices 0 0) x.0 at.row_is x.1))
+      ∙ ap (λ z. option_map (λ e. e.1) z) (x.1 ∙ sym (ap (λ z. slice_get (flat (tree_of table.nodes root).leaves) z) at.place_is ∙ entry_at at.before (get_or path 0 0) at.entries at.after (get_or indices 0 0) at.row_is x.1))
 
   -- writing the value writes it at the place of the tree's list
   pub value-written : (v : V) → Changes most table (with_value_at table (get_or path 0 0) (get_or indices 0 0) v) root root
@@ -97,15 +97,15 @@ module _ {K V : Type 0} (most : ℕ) (table : Table K V) (root place : ℕ) (pat
       flat-append at.before _ ∙ ap (λ z. flat at.before ++ z) (sym (written-front at.entries (flat at.after) i v at.within)) ∙ sym (written-behind (flat at.before) (at.entries ++ flat at.after) place i v at.place_is)
       ∙ ap (λ z. with_value z place v) (sym (ap flat at.row_is ∙ flat-append at.before (node n at.entries ∷ at.after))) in
       let ss : sizes_of tree' ≡ sizes_of tree = ap (λ z. z ∷ map sizes tree.above) (sizes-append at.before _ ∙ ap (λ z. sizes at.before ++ z ∷ sizes at.after) (length-written at.entries i v) ∙ sym (ap sizes at.row_is ∙ sizes-append at.before (node n at.entries ∷ at.after))) in
-      let fit = FitRow-split (half_of most) most at.before (node n at.entries) at.after (subst (λ (z : List (LevelNode K V)). FitRow (half_of most) most z) at.row_is r.fit.leaves_fit) in
+      let fit = FitRow-split (half_of most) most at.before (node n at.entries) at.after (subst (λ z. FitRow (half_of most) most z) at.row_is r.fit.leaves_fit) in
       let p : IsPlanted most new.nodes tree' = record {
         fit = record {
           leaves_fit = FitRow-join (half_of most) most at.before (node n (with_value at.entries i v)) at.after fit.0 (omega (arith, length-written at.entries i v, fit.1.0), omega (arith, length-written at.entries i v, fit.1.1), fit.1.2);
-          stacked = subst (λ (z : List (K × ℕ)). Stacked z tree.above) (sym hs) r.fit.stacked;
-          topped = subst (λ (z : List (K × ℕ)). Topped z tree.above) (sym hs) r.fit.topped;
+          stacked = subst (λ z. Stacked z tree.above) (sym hs) r.fit.stacked;
+          topped = subst (λ z. Topped z tree.above) (sym hs) r.fit.topped;
         };
         inside = record {
-          leaves_in = row-put leaf_content table.nodes new.nodes at.before n at.entries (with_value at.entries i v) at.after (subst (λ (z : List (LevelNode K V)). RowIn leaf_content table.nodes z) at.row_is r.inside.leaves_in) w.same w.here once_here.0;
+          leaves_in = row-put leaf_content table.nodes new.nodes at.before n at.entries (with_value at.entries i v) at.after (subst (λ z. RowIn leaf_content table.nodes z) at.row_is r.inside.leaves_in) w.same w.here once_here.0;
           rows_in = rows-same table.nodes new.nodes tree.above (λ m some. w.same m (ne_from_count m n (flat_map numbers tree.above) some once_here.1)) r.inside.rows_in;
         };
         some = omega (arith, r.some, ap length fl, length-written (flat tree.leaves) place v);
@@ -118,10 +118,10 @@ module _ {K V : Type 0} (most : ℕ) (table : Table K V) (root place : ℕ) (pat
       (λ m zero_is. w.same m (λ (is : m ≡ n). (let d = ap (λ z. count z (numbers_of tree)) is in omega (arith, zero_is, d, c, count-append n (numbers tree.leaves) (flat_map numbers tree.above), count-same n (numbers at.after))))) in
       let changes = exchanged-changes e same_root w.limit_is in
       let tree_is : tree_of new.nodes root ≡ tree' = ap (tree_of new.nodes) (sym same_root) ∙ e.tree_is in (
-        subst (λ (z : List (List ℕ)). Changes most table new root root (with_value (flat tree.leaves) place v) z) ss (subst (λ (z : List (K × V)). Changes most table new root root z (sizes_of tree')) fl changes),
+        subst (λ z. Changes most table new root root (with_value (flat tree.leaves) place v) z) ss (subst (λ z. Changes most table new root root z (sizes_of tree')) fl changes),
         record {
           root_is = changes.root_is;
-          stands = subst (λ (z : Tree K V). Stands path indices size z place) (sym tree_is) (record {
+          stands = subst (λ z. Stands path indices size z place) (sym tree_is) (record {
             leaf = record { before = at.before; entries = with_value at.entries i v; after = at.after; row_is = refl; within = omega (arith, at.within, length-written at.entries i v); place_is = at.place_is };
             above = s.stands.above;
             size_is = s.stands.size_is;

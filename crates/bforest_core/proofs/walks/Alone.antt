@@ -3,7 +3,7 @@ use Rattle.std.proofs.Common.{◌≡◌, ℕ, suc, ◌+◌, ◌≤◌, IsTrue, L
 use Rattle.std.specs.declared.cmp.Ordering.{Ordering}
 use Rattle.bforest_core.proofs.Words.{EndsIn, IsTotalOrder, IsIncreasing, IsLeaf, IsUnion, Content, LevelNode, node, PlacedUnder, StandsAbove, Table, flat, is_root, slot, tree_of}
 use Rattle.bforest_core.proofs.table.Read.{slot-is}
-use Rattle.bforest_core.proofs.walks.Descent.{leaf_step, reached, some_leaf}
+use Rattle.bforest_core.proofs.walks.Descent.{leaf_step, reached}
 use Rattle.bforest_core.proofs.walks.Standing.{under-root}
 use Rattle.bforest_core.proofs.walks.TopNode.{node_under}
 use Rattle.bforest_core.proofs.walks.Whole.{all_through, ends-in}
@@ -13,16 +13,16 @@ abbrev pub lone : ℕ → List ℕ
 lone n = n ∷ 0 ∷ 0 ∷ 0 ∷ 0 ∷ 0 ∷ 0 ∷ 0 ∷ 0 ∷ 0 ∷ 0 ∷ 0 ∷ 0 ∷ 0 ∷ 0 ∷ 0 ∷ 0 ∷ []
 
 -- a search under a root that is a leaf ends there
-pub ends-alone : {K V : Type 0} (cmp : K → K → Ordering) → IsTotalOrder cmp → (most : ℕ) (table : Table K V) (root : ℕ) (key : K) → IsUnion most table → IsTrue (is_root table.nodes root) → IsLeaf (slot table.nodes root) → IsIncreasing cmp (flat (tree_of table.nodes root).leaves) →
+pub ends-alone : {K V : Type 0} (cmp : K → K → Ordering) → IsTotalOrder cmp → {most : ℕ} (table : Table K V) (root : ℕ) (key : K) → IsUnion most table → IsTrue (is_root table.nodes root) → IsLeaf (slot table.nodes root) → IsIncreasing cmp (flat (tree_of table.nodes root).leaves) →
     EndsIn cmp table root key root (lone root) (lone 0) 1
-ends-alone cmp o most table root key union is leaf inc =
-    let u = under-root most table root union is in
+ends-alone cmp o table root key union is leaf inc =
+    let u = under-root root union is in
     let leaves = (tree_of table.nodes root).leaves in
     let lower = (tree_of table.nodes root).above in
-    let one = some_leaf most union.1.capacity in
-    elim (node_under most one table.nodes leaves lower [] u.first root [] u.under) [
-      | inl s ↦ (let step = leaf_step cmp o most one table.nodes leaves lower [] u.first root [] key inc (all_through cmp u.first key) s in
-          ends-in cmp table root is (reached cmp o most one table.nodes leaves lower [] u.first root [] key step (lone 0) (lone 0)
+    let one = union.1.capacity in
+    elim (node_under one lower [] u.first root [] u.under) [
+      | inl s ↦ (let step = leaf_step o one inc (all_through cmp u.first key) s in
+          ends-in table root is (reached o one step (lone 0) (lone 0)
           (lone root) (lone 0) (omega arith) (omega arith) refl refl) (sym (ap (λ z. suc (length z)) s.lower_is)) refl refl)
       | inr s ↦ absurd (subst IsLeaf (slot-is table.nodes root _ s.slot_is) leaf)
     ]
@@ -33,8 +33,8 @@ none-above path indices path' indices' [] place low s = s
 none-above path indices path' indices' (row ∷ rows) place low s = absurd (omega (arith, low))
 
 -- of a path of one level only the leaf and the index there tell where an entry may be inserted
-pub placed-alone : {K V : Type 0} (slots : List (Content K V)) (root : ℕ) (path indices path' indices' : List ℕ) (place : ℕ) → get_or path 0 0 ≡ get_or path' 0 0 → get_or indices 0 0 ≡ get_or indices' 0 0 → PlacedUnder slots root path indices 1 place → PlacedUnder slots root path' indices' 1 place
-placed-alone slots root path indices path' indices' place node_is index_is p =
+pub placed-alone : {K V : Type 0} (slots : List (Content K V)) (root : ℕ) (path indices path' indices' : List ℕ) {place : ℕ} → get_or path 0 0 ≡ get_or path' 0 0 → get_or indices 0 0 ≡ get_or indices' 0 0 → PlacedUnder slots root path indices 1 place → PlacedUnder slots root path' indices' 1 place
+placed-alone slots root path indices path' indices' node_is index_is p =
     let q = p.at.points in
     record {
       root_is = p.root_is;
@@ -44,7 +44,7 @@ placed-alone slots root path indices path' indices' place node_is index_is p =
           entries = q.entries;
           after = q.after;
           leaves_are = q.leaves_are ∙ ap (λ z. q.before ++ node z q.entries ∷ q.after) node_is;
-          within = subst (λ (z : ℕ). z ≤ length q.entries) index_is q.within;
+          within = subst (λ z. z ≤ length q.entries) index_is q.within;
           place_is = q.place_is ∙ ap (λ z. length (flat q.before) + z) index_is;
           above = none-above path indices path' indices' (tree_of slots root).above (length q.before) q.size_is q.above;
           size_is = q.size_is;

@@ -5,7 +5,8 @@ use Rattle.std.specs.declared.cmp.Ordering.{Ordering}
 use Rattle.bforest_nodes.proofs.Found.{place-present}
 use Rattle.bforest_core.proofs.walks.Backward.{before_is}
 use Rattle.bforest_core.proofs.walks.Rising.{place-le}
-use Rattle.bforest_core.proofs.walks.Steps.{entry_at, read}
+use Rattle.bforest_core.proofs.walks.Steps.{read}
+use Rattle.bforest_core.proofs.walks.RowNodes.{entry_at}
 
 -- a mapped answer is there exactly if the answer is
 some-mapped : {A B : Type 0} (f : A → B) (o : Option A) → is_some (option_map f o) ≡ is_some o
@@ -20,17 +21,17 @@ module _ {K V : Type 0} (cmp : K → K → Ordering) (es : List (K × V)) (key :
   up-to-absent gone = sym (λ j. if gone j then slice_get es (place cmp es key) else entry_before es (place cmp es key))
 
   -- by what a search among the entries answers
-  module _ (value : Option V) (value_is : value ≡ value_for cmp es key) (index : ℕ) (index_is : index ≡ place cmp es key) where
+  module _ {value : Option V} (value_is : value ≡ value_for cmp es key) {index : ℕ} (index_is : index ≡ place cmp es key) where
     present-is : is_present cmp es key ≡ is_some value
     present-is = sym (some-mapped (λ (e : K × V). e.1) (entry_for cmp es key)) ∙ ap is_some (sym value_is)
 
     -- the key's own entry
-    pub own-entry : is_some value ≡ true → (found : Option (K × V)) → found ≡ slice_get es index → found ≡ entry_up_to cmp es key
-    own-entry some found read = read ∙ ap (slice_get es) index_is ∙ up-to-present (present-is ∙ some)
+    pub own-entry : is_some value ≡ true → {found : Option (K × V)} → found ≡ slice_get es index → found ≡ entry_up_to cmp es key
+    own-entry some read = read ∙ ap (slice_get es) index_is ∙ up-to-present (present-is ∙ some)
 
     -- the entry before the key's place
-    pub entry-in-front : is_some value ≡ false → index ≢ 0 → (found : Option (K × V)) → found ≡ slice_get es (index - 1) → found ≡ entry_up_to cmp es key
-    entry-in-front none some found read = read ∙ before_is es index (omega (arith, some)) ∙ ap (entry_before es) index_is ∙ up-to-absent (present-is ∙ none)
+    pub entry-in-front : is_some value ≡ false → index ≢ 0 → {found : Option (K × V)} → found ≡ slice_get es (index - 1) → found ≡ entry_up_to cmp es key
+    entry-in-front none some read = read ∙ before_is es index (omega (arith, some)) ∙ ap (entry_before es) index_is ∙ up-to-absent (present-is ∙ none)
 
     -- no entry is before the key's place
     pub none-in-front : is_some value ≡ false → index ≡ 0 → None ≡ entry_up_to cmp es key
@@ -39,7 +40,7 @@ module _ {K V : Type 0} (cmp : K → K → Ordering) (es : List (K × V)) (key :
 module _ {K V : Type 0} {cmp : K → K → Ordering} (o : IsTotalOrder cmp) {leaves before : List (LevelNode K V)} (number : ℕ) {entries : List (K × V)} (after : List (LevelNode K V)) {key : K}
     (leaves_are : leaves ≡ before ++ node number entries ∷ after) (t : Narrows cmp leaves key before entries) where
   entry-in : (i : ℕ) → i < length entries → slice_get (flat leaves) (length (flat before) + i) ≡ slice_get entries i
-  entry-in i low = let r = read entries i low in entry_at leaves before number entries after i r.0 leaves_are r.1 ∙ sym r.1
+  entry-in i low = let r = read entries i low in entry_at before number entries after i leaves_are r.1 ∙ sym r.1
 
   in-front : (i : ℕ) → place cmp entries key ≡ i → is_present cmp entries key ≡ false → entry_before entries i ≡ entry_before (flat leaves) (place cmp (flat leaves) key)
   in-front zero is gone =
@@ -47,7 +48,7 @@ module _ {K V : Type 0} {cmp : K → K → Ordering} (o : IsTotalOrder cmp) {lea
       let first : 0 ≡ place cmp (flat leaves) key = omega (arith, t.place_is, is, none) in
       ap (entry_before (flat leaves)) first
   in-front (suc i) is gone =
-      let low = place-le cmp o entries key in
+      let low = place-le o entries key in
       let there : suc (length (flat before) + i) ≡ place cmp (flat leaves) key = omega (arith, t.place_is, is) in
       sym (entry-in i (omega (arith, low, is))) ∙ ap (entry_before (flat leaves)) there
 

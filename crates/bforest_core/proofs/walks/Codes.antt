@@ -1,78 +1,14 @@
--- The way of a code down rows of inner nodes, and the way to the next node: each step of a spot stands on these.
-use Rattle.std.proofs.Common.{IsTrue, ◌≡◌, ◌≢◌, ℕ, zero, suc, ◌+◌, ◌-◌, ◌*◌, ◌/◌, ◌%◌, ◌≤◌, ◌<◌, List, [], ◌∷◌, ◌++◌, length, take, drop, get_or, slice_get, option_map, Some, refl, sym, ap, subst, ◌∙◌, arith, append_assoc, length-append}
-use Rattle.bforest_core.proofs.Words.{nil_from_length, take_at, slice_get_within, Content, Inner, IsInner, entry_count, LevelNode, node, flat, heads, FitRow, RowIn, inner_content, entry_items, entry_keys}
-use Rattle.bforest_core.specs.Spots.{Coded, CodedOver, HasNext, IsLeafAt, IsSpotAt, IsWay, NumberAt, leaf_count}
+-- The way of a code down rows of inner nodes, and a spot as such a way.
+use Rattle.std.proofs.Common.{IsTrue, ◌≡◌, ◌≢◌, ℕ, zero, suc, ◌+◌, ◌-◌, ◌*◌, ◌/◌, ◌%◌, ◌≤◌, ◌<◌, List, [], ◌∷◌, ◌++◌, length, drop, get_or, slice_get, Some, refl, sym, ap, subst, ◌∙◌, arith, None}
+use Rattle.bforest_core.proofs.Words.{Content, LevelNode, node, flat, heads, FitRow, RowIn, inner_content}
+use Rattle.bforest_core.specs.Spots.{Coded, CodedOver, HasNext, IsLeafAt, IsSpotAt, IsWay, IsNextOf, IsPrevOf, Leads, NumberAt, leaf_count}
 use Rattle.bforest_core.specs.declared.spot.Spot.{Spot}
 use Rattle.bforest_core.proofs.union.Unions.{is-rooted}
 use Rattle.bforest_core.proofs.Words.{IsUnion, Table, half_of, is_root, leaf_content, tree_of}
-use Rattle.bforest_core.proofs.rows.LevelRows.{flat-append, least-pos, FitRow-split}
-use Rattle.bforest_core.proofs.rows.Zipper.{cut}
-use Rattle.bforest_core.proofs.table.Stored.{some_same, slice_get_at, item_count}
-use Rattle.bforest_core.proofs.table.Tables.{row-split}
-use Rattle.bforest_core.proofs.walks.Descent.{some_leaf}
-use Rattle.bforest_core.proofs.walks.Downward.{seen}
-use Rattle.bforest_core.proofs.walks.LeafSearch.{items-read}
-use Rattle.bforest_core.proofs.walks.Steps.{entry_at, fit_full, read}
-
--- a list cut at one place is cut into the same parts
-same-cut : {A : Type 0} (b1 : List A) (x1 : A) (a1 b2 : List A) (x2 : A) (a2 : List A) → b1 ++ x1 ∷ a1 ≡ b2 ++ x2 ∷ a2 → length b1 ≡ length b2 → (b1 ≡ b2) × (x1 ≡ x2)
-same-cut [] x1 a1 [] x2 a2 e l = (refl, cc)
-same-cut [] x1 a1 (y ∷ b2) x2 a2 e l = absurd (omega (arith, l))
-same-cut (y ∷ b1) x1 a1 [] x2 a2 e l = absurd (omega (arith, l))
-same-cut (y ∷ b1) x1 a1 (z ∷ b2) x2 a2 e l = let r = same-cut b1 x1 a1 b2 x2 a2 (cc) (omega (arith, l)) in (cc, r.1)
-
-node-number : {K X : Type 0} (i : ℕ) (xs : List (K × X)) (j : ℕ) (ys : List (K × X)) → node i xs ≡ node j ys → i ≡ j
-node-number i xs j ys e = cc
-
-module _ {K V X : Type 0} (content : List (K × X) → Content K V) (slots : List (Content K V)) (most : ℕ) where
-  -- the node of this number at a place of a row
-  pub record NodeIn (row : List (LevelNode K X)) (number place : ℕ) : Type 0 where
-    pub before : List (LevelNode K X)
-    pub entries : List (K × X)
-    pub after : List (LevelNode K X)
-    pub row_is : row ≡ before ++ node number entries ∷ after
-    pub at : length before ≡ place
-    pub slot_is : slice_get slots number ≡ Some (content entries)
-    pub some : 1 ≤ length entries
-    pub room : length entries ≤ most
-
-  module _ (half : ℕ) (one : 1 ≤ half) (row : List (LevelNode K X)) (fit : FitRow half most row) (inside : RowIn content slots row) where
-    abbrev pub node-in : (number place : ℕ) (before : List (LevelNode K X)) (entries : List (K × X)) (after : List (LevelNode K X)) → row ≡ before ++ node number entries ∷ after → length before ≡ place → NodeIn row number place
-    node-in number place before entries after row_is at =
-        let f = (FitRow-split half most before (node number entries) after (subst (FitRow half most) row_is fit)).1 in
-        let i = (row-split content slots before (node number entries ∷ after) (subst (RowIn content slots) row_is inside)).1.0 in
-        record { before = before; entries = entries; after = after; row_is = row_is; at = at; slot_is = i; some = omega (arith, f.0, least-pos half one after); room = f.1 }
-
-    pub node-at : (number place : ℕ) → NumberAt (heads row) place number → NodeIn row number place
-    node-at number place m =
-        let c = cut (heads row) place (slice_get_within (heads row) place (m.0, number) m.1) in
-        let same : c.x ≡ (m.0, number) = some_same c.x (m.0, number) (sym (ap (λ z. slice_get z place) c.es_is ∙ slice_get_at c.l c.x c.r place c.place_is) ∙ m.1) in
-        let s = seen half most one row c.l m.0 number c.r fit (c.es_is ∙ ap (λ z. c.l ++ z ∷ c.r) same) in
-        node-in number place s.before (s.e ∷ s.es) s.after s.row_is (s.before_is ∙ c.place_is)
-
-  module _ {row : List (LevelNode K X)} {number place : ℕ} (a : NodeIn row number place) where
-    -- no other node is at that place
-    pub node-same : {number1 : ℕ} (b : NodeIn row number1 place) → number1 ≡ number
-    node-same {number1} b =
-        let same = (same-cut b.before (node number1 b.entries) b.after a.before (node number a.entries) a.after (sym b.row_is ∙ a.row_is) (b.at ∙ sym a.at)).1 in
-        node-number number1 b.entries number a.entries same
-
-    -- the entries of the node are those in front of the next node's
-    pub seam : {number1 place1 : ℕ} (b : NodeIn row number1 place1) → place1 ≡ suc place → length (flat b.before) ≡ length (flat a.before) + length a.entries
-    seam {number1} b next =
-        let k = length b.before in
-        let x = node number a.entries in
-        let two : b.before ≡ a.before ++ x ∷ [] = sym (take_at b.before (node number1 b.entries ∷ b.after) k refl)
-        ∙ ap (λ z. take k z) (sym b.row_is ∙ a.row_is ∙ sym (append_assoc a.before (x ∷ []) a.after))
-        ∙ take_at (a.before ++ x ∷ []) a.after k (omega (arith, a.at, b.at, next, length-append a.before (x ∷ []))) in
-        omega (arith, ap (λ z. length (flat z)) two, ap length (flat-append a.before (x ∷ [])), length-append (flat a.before) (a.entries ++ []), length-append a.entries [])
-
-    -- the entries of the last node of a row end the row's entries
-    pub none-behind : (half : ℕ) → 1 ≤ half → FitRow half most row → suc place ≡ length (heads row) → length (flat row) ≡ length (flat a.before) + length a.entries
-    none-behind half one fit last =
-        let x = node number a.entries in
-        let none = nil_from_length a.after (omega (arith, last, a.at, fit_full half most one row fit, ap length a.row_is, length-append a.before (x ∷ a.after))) in
-        omega (arith, ap (λ z. length (flat z)) a.row_is, ap length (flat-append a.before (x ∷ a.after)), length-append (flat a.before) (a.entries ++ flat a.after), length-append a.entries (flat a.after), ap (λ z. length (flat z)) none)
+use Rattle.bforest_core.proofs.table.Stored.{item_count}
+use Rattle.bforest_core.proofs.rows.LevelRows.{some_leaf}
+use Rattle.bforest_core.proofs.walks.Reading.{CountAsked, CountRead}
+use Rattle.bforest_core.proofs.walks.RowNodes.{NodeIn, fit_full, node-at, node-in, node-same}
 
 -- a power of eight
 abbrev pub eights : ℕ → ℕ
@@ -109,9 +45,9 @@ module _ {K V : Type 0} (slots : List (Content K V)) (root code depth : ℕ) whe
     pub over : CodedOver slots root (code / 8) (depth - 1) (drop 1 numbers) rest (heads row) top
     pub low : length rest ≤ depth - 1
 
-  pub lowest : (numbers : List ℕ) (rows : List (List (LevelNode K ℕ))) (list : List (K × ℕ)) (place : ℕ) → CodedOver slots root code depth numbers rows list place → depth ≢ 0 → Lowest numbers rows list place
-  lowest numbers [] list place p some = absurd (some p.depth_is)
-  lowest numbers (row ∷ rest) list place p some =
+  pub lowest : {numbers : _} (rows : _) {list place : _} → CodedOver slots root code depth numbers rows list place → depth ≢ 0 → Lowest numbers rows list place
+  lowest [] p some = absurd (some p.depth_is)
+  lowest {numbers = numbers} (row ∷ rest) p some =
       let at = p.coded.0 in
       record {
         row = row;
@@ -130,72 +66,30 @@ module _ {K V : Type 0} (slots : List (Content K V)) (root code depth : ℕ) whe
       }
 
   -- with no levels, the root
-  pub way-none : (numbers : List ℕ) (rows : List (List (LevelNode K ℕ))) (list : List (K × ℕ)) (place : ℕ) → CodedOver slots root code depth numbers rows list place → depth ≡ 0 → NumberAt list place root × (suc place ≡ length list)
-  way-none numbers [] [] place p none = absurd (omega (arith, p.stacked))
-  way-none numbers [] (x ∷ y ∷ list) place p none = absurd (omega (arith, p.stacked))
-  way-none numbers [] (x ∷ []) place p none =
-      ((x.0, ap (λ z. slice_get (x ∷ []) z) p.coded.1 ∙ ap (λ z. Some (x.0, z)) p.root_is), omega (arith, p.coded.1))
-  way-none numbers (row ∷ rest) list place p none = absurd (omega (arith, p.depth_is, none))
+  pub way-none : {numbers : _} (rows list : _) {place : _} → CodedOver slots root code depth numbers rows list place → depth ≡ 0 → NumberAt list place root × (suc place ≡ length list) × (place ≡ 0)
+  way-none [] [] p none = absurd (omega (arith, p.stacked))
+  way-none [] (x ∷ y ∷ list) p none = absurd (omega (arith, p.stacked))
+  way-none [] (x ∷ []) p none =
+      ((x.0, ap (λ z. slice_get (x ∷ []) z) p.coded.1 ∙ ap (λ z. Some (x.0, z)) p.root_is), omega (arith, p.coded.1), p.coded.1)
+  way-none (row ∷ rest) list p none = absurd (omega (arith, p.depth_is, none))
 
 -- a code, with one digit more
 pub digit-put : (above digit code : ℕ) → digit < 8 → code ≡ above * 8 + digit → (code % 8 ≡ digit) × (code / 8 ≡ above)
 digit-put above digit code low is = (omega (arith, low, is), omega (arith, low, is))
 
-module _ {K V : Type 0} {slots : List (Content K V)} {root code depth : ℕ} {numbers : List ℕ} {rows : List (List (LevelNode K ℕ))} {list : List (K × ℕ)} {place : ℕ} (p : CodedOver slots root code depth numbers rows list place) (some : depth ≢ 0) where
+module _ {K V : Type 0} {slots : List (Content K V)} {root code depth numbers rows list place : _} (p : CodedOver slots root code depth numbers rows list place) (some : depth ≢ 0) where
   abbrev pub here : Lowest slots root code depth numbers rows list place
-  here = lowest slots root code depth numbers rows list place p some
+  here = lowest slots root code depth rows p some
 
   -- what going on above asks
   pub above-asks : (numbers : List ℕ) × (rows : List (List (LevelNode K ℕ))) × (list : List (K × ℕ)) × (place : ℕ) × CodedOver slots root (code / 8) (depth - 1) numbers rows list place
   above-asks = (drop 1 numbers, here.rest, heads here.row, here.top, here.over)
 
-  -- the node behind this one on the level above, and the way there
-  abbrev pub NextAbove : ℕ → ℕ → Type 0
-  NextAbove above number =
-      (others : List ℕ) × CodedOver slots root above (depth - 1) others here.rest (heads here.row) (suc here.top) × NumberAt (heads here.row) (suc here.top) number
-
-  -- what a child of a node is, as it was read
-  pub child-is : {number top : ℕ} (w : NodeIn inner_content slots 8 here.row number top) (index child to : ℕ) → index < length w.entries → to ≡ length (flat w.before) + index →
-      ((keys : List K) (children : List ℕ) → slice_get slots number ≡ Some (Inner keys children) → slice_get children index ≡ Some child) → NumberAt list to child
-  child-is {number} w index child to low to_is reads =
-      let e = read w.entries index low in
-      let item : slice_get (entry_items w.entries) index ≡ Some e.0.1 = items-read w.entries index ∙ ap (λ z. option_map (λ (x : K × ℕ). x.1) z) e.1 in
-      let same : e.0.1 ≡ child = some_same e.0.1 child (sym item ∙ reads (drop 1 (entry_keys w.entries)) (entry_items w.entries) w.slot_is) in
-      (e.0.0, ap (λ z. slice_get z to) (sym here.flat_is) ∙ ap (λ z. slice_get (flat here.row) z) to_is ∙ entry_at here.row w.before number w.entries w.after index e.0 w.row_is e.1 ∙ ap (λ z. Some (e.0.0, z)) same)
-
-  pub child-asks : {number top : ℕ} (w : NodeIn inner_content slots 8 here.row number top) (index : ℕ) → index < length w.entries → (keys : List K) × (children : List ℕ) × (slice_get slots number ≡ Some (Inner keys children)) × (index < length children)
-  child-asks w index low = (drop 1 (entry_keys w.entries), entry_items w.entries, w.slot_is, omega (arith, low, item_count w.entries))
-
-  -- the way to a child of a node of the level above, by the way to that node
-  pub child-code : {number top above : ℕ} {others : List ℕ} (w : NodeIn inner_content slots 8 here.row number top)
-      → CodedOver slots root above (depth - 1) others here.rest (heads here.row) top → (digit code1 to : ℕ) → digit < length w.entries
-      → code1 ≡ above * 8 + digit → to ≡ length (flat w.before) + digit → CodedOver slots root code1 depth (number ∷ others) rows list to
-  child-code {number} {above = above} {others = others} w q digit code1 to low code_is to_is =
-      let d = digit-put above digit code1 (omega (arith, low, w.room)) code_is in
-      record {
-        stacked = p.stacked;
-        inside = p.inside;
-        coded = subst (λ z. Coded (number ∷ others) z code1 to) (sym here.rows_are) (
-          record {
-            before = w.before;
-            entries = w.entries;
-            after = w.after;
-            row_is = w.row_is;
-            within = omega (arith, d.0, low);
-            place_is = omega (arith, d.0, to_is);
-          },
-          subst (λ z. Coded others here.rest z (length w.before)) (sym d.1)
-              (subst (λ z. Coded others here.rest above z) (sym w.at) q.coded),
-        );
-        root_is = p.root_is;
-        depth_is = p.depth_is;
-      }
-
   -- the lowest node is the one that was read
-  pub read-same : (parent : ℕ) → ((numbers : List ℕ) (rows : List (List (LevelNode K ℕ))) (list : List (K × ℕ)) (place : ℕ) → CodedOver slots root (code / 8) (depth - 1) numbers rows list place → NumberAt list place parent) → parent ≡ here.number
-  read-same parent says = node-same inner_content slots 8 here.at (node-at inner_content slots 8 4 (omega arith) here.row here.fit here.inside parent here.top (says (drop 1 numbers) here.rest (heads here.row) here.top here.over))
+  pub read-same : (parent : ℕ) → ((numbers rows list place : _) → CodedOver slots root (code / 8) (depth - 1) numbers rows list place → NumberAt list place parent) → parent ≡ here.number
+  read-same parent says = node-same here.at (node-at inner_content slots 8 4 (omega arith) here.row here.fit here.inside parent here.top (says (drop 1 numbers) here.rest (heads here.row) here.top here.over))
 
-  module _ (parent : ℕ) (same : parent ≡ here.number) where
+  module _ {parent : ℕ} (same : parent ≡ here.number) where
     abbrev pub node-here : NodeIn inner_content slots 8 here.row parent here.top
     node-here = record {
       before = here.at.before;
@@ -209,144 +103,90 @@ module _ {K V : Type 0} {slots : List (Content K V)} {root code depth : ℕ} {nu
       room = here.at.room;
     }
 
-    -- the child to which the code goes
-    pub code-asks : (keys : List K) × (children : List ℕ) × (slice_get slots parent ≡ Some (Inner keys children)) × (code % 8 < length children)
-    code-asks = child-asks node-here (code % 8) here.within
-
-    pub code-child : (child : ℕ) → ((keys : List K) (children : List ℕ) → slice_get slots parent ≡ Some (Inner keys children) → slice_get children (code % 8) ≡ Some child) → NumberAt list place child
-    code-child child reads = child-is node-here (code % 8) child place here.within here.place_is reads
-
-    -- what the number of children asks, and says
-    pub count-asks : (content : Content K V) × (slice_get slots parent ≡ Some content) × IsInner content
-    count-asks = (inner_content here.at.entries, node-here.slot_is, tt)
-
-    module _ (count : ℕ) (counts : (content : Content K V) → slice_get slots parent ≡ Some content → count ≡ entry_count content) where
-      count-is : count ≡ length here.at.entries
-      count-is = counts (inner_content here.at.entries) node-here.slot_is ∙ item_count here.at.entries
-
-      pub count-low : count ≤ 8
-      count-low = omega (arith, count-is, here.at.room)
-
-      -- the next child of the same node
-      pub next-asks : code % 8 + 1 < count → (keys : List K) × (children : List ℕ) × (slice_get slots parent ≡ Some (Inner keys children)) × (code % 8 + 1 < length children)
-      next-asks low = child-asks node-here (code % 8 + 1) (omega (arith, low, count-is))
-
-      pub next-child : (child : ℕ) → code % 8 + 1 < count → ((keys : List K) (children : List ℕ) → slice_get slots parent ≡ Some (Inner keys children) → slice_get children (code % 8 + 1) ≡ Some child) → NumberAt list (suc place) child
-      next-child child low reads = child-is node-here (code % 8 + 1) child (suc place) (omega (arith, low, count-is)) (omega (arith, here.place_is)) reads
-
-      pub next-code : code % 8 + 1 < count → CodedOver slots root (code + 1) depth (parent ∷ drop 1 numbers) rows list (suc place)
-      next-code low = child-code node-here here.over (code % 8 + 1) (code + 1) (suc place) (omega (arith, low, count-is)) (omega arith) (omega (arith, here.place_is))
-
-      past : count ≤ code % 8 + 1 → length here.at.entries ≤ code % 8 + 1
-      past high = omega (arith, high, count-is)
-
-      -- the last child of the last node is the last of its level
-      pub none-next : count ≤ code % 8 + 1 → suc here.top ≡ length (heads here.row) → suc place ≡ length list
-      none-next high last = omega (arith, past high, here.within, here.place_is, ap length here.flat_is, none-behind inner_content slots 8 here.at 4 (omega arith) here.fit last)
-
-      module _ (high : count ≤ code % 8 + 1) (above node : ℕ) (on : NextAbove above node) where
-        next-node : NodeIn inner_content slots 8 here.row node (suc here.top)
-        next-node = node-at inner_content slots 8 4 (omega arith) here.row here.fit here.inside node (suc here.top) on.2
-
-        -- the first child of the node behind
-        pub first-asks : (keys : List K) × (children : List ℕ) × (slice_get slots node ≡ Some (Inner keys children)) × (0 < length children)
-        first-asks = child-asks next-node 0 next-node.some
-
-        pub above-low : depth ≤ 16 → above < 35184372088832
-        above-low low = code-low 15 here.rest on.0 above (suc here.top) on.1.coded (omega (arith, low, here.low))
-
-        start : suc place ≡ length (flat next-node.before) + 0
-        start = omega (arith, seam inner_content slots 8 here.at next-node refl, here.place_is, here.within, past high)
-
-        -- the way goes on to that child
-        pub first-code : CodedOver slots root (above * 8) depth (node ∷ on.0) rows list (suc place)
-        first-code = child-code next-node on.1 0 (above * 8) (suc place) next-node.some (omega arith) start
-
-        pub first-child : (child : ℕ) → ((keys : List K) (children : List ℕ) → slice_get slots node ≡ Some (Inner keys children) → slice_get children 0 ≡ Some child) → NumberAt list (suc place) child
-        first-child child reads = child-is next-node 0 child (suc place) next-node.some start reads
-
 -- the lowest node is the first of the numbers
-pub kept-same : {K V : Type 0} (slots : List (Content K V)) (root code depth : ℕ) (numbers : List ℕ) (rows : List (List (LevelNode K ℕ)))
-    (list : List (K × ℕ)) (place : ℕ) (p : CodedOver slots root code depth numbers rows list place) (some : depth ≢ 0) (parent : ℕ)
-    → get_or numbers 0 0 ≡ parent → parent ≡ (lowest slots root code depth numbers rows list place p some).number
+pub kept-same : {K V : Type 0} {slots : List (Content K V)} {root code depth numbers : _} (rows : _) {list place : _} (p : CodedOver slots root code depth numbers rows list place) (some : depth ≢ 0) (parent : ℕ)
+    → get_or numbers 0 0 ≡ parent → parent ≡ (lowest slots root code depth rows p some).number
 unfolding lowest
-kept-same slots root code depth numbers [] list place p some parent is = absurd (some p.depth_is)
-kept-same slots root code depth numbers (row ∷ rest) list place p some parent is = sym is
+kept-same [] p some parent is = absurd (some p.depth_is)
+kept-same (row ∷ rest) p some parent is = sym is
 
 module _ {K V : Type 0} {n : ℕ} {table : Table K V} (union : IsUnion n table) (root : ℕ) (is : IsTrue (is_root table.nodes root)) where
   -- the leaf that is the node at this place of the lowest level
   pub leaf-at : {place number : ℕ} → NumberAt (heads (tree_of table.nodes root).leaves) place number → IsLeafAt table root place number
   leaf-at {place} {number} m =
-      let w = is-rooted n table root union is in
-      let a = node-at leaf_content table.nodes n (half_of n) (some_leaf n union.1.capacity) (tree_of table.nodes root).leaves w.fit.leaves_fit w.inside.leaves_in number place m in
+      let w = is-rooted root union is in
+      let a = node-at leaf_content table.nodes n (half_of n) (some_leaf union.1.capacity) (tree_of table.nodes root).leaves w.fit.leaves_fit w.inside.leaves_in number place m in
       record { before = a.before; entries = a.entries; after = a.after; leaves_are = a.row_is; at = a.at; slot_is = a.slot_is; some = a.some }
 
   -- the last node of the lowest level is the last leaf
   pub last-leaf : {place : ℕ} → suc place ≡ length (heads (tree_of table.nodes root).leaves) → suc place ≡ leaf_count table root
   last-leaf {place} last =
-      let w = is-rooted n table root union is in
-      last ∙ fit_full (half_of n) n (some_leaf n union.1.capacity) (tree_of table.nodes root).leaves w.fit.leaves_fit
+      let w = is-rooted root union is in
+      last ∙ fit_full (half_of n) n (some_leaf union.1.capacity) (tree_of table.nodes root).leaves w.fit.leaves_fit
 
 module _ {K V : Type 0} {n : ℕ} {table : Table K V} (union : IsUnion n table) {root : ℕ} {spot : Spot} {place : ℕ} (s : IsSpotAt table root spot place) where
   -- a spot's code is a way down
   pub spot-over : CodedOver table.nodes root spot.code spot.height s.numbers (tree_of table.nodes root).above (heads (tree_of table.nodes root).leaves) place
-  spot-over = let w = is-rooted n table root union s.root_is in record { stacked = w.fit.stacked; inside = w.inside.rows_in; coded = s.coded; root_is = w.root_is; depth_is = s.height_is }
+  spot-over = let w = is-rooted root union s.root_is in record { stacked = w.fit.stacked; inside = w.inside.rows_in; coded = s.coded; root_is = w.root_is; depth_is = s.height_is }
 
   module _ (some : 0 < spot.height) where
     abbrev pub other : spot.height ≢ 0
     other = λ none. omega (arith, none, some)
 
     abbrev pub its : spot.parent ≡ (here spot-over other).number
-    its = kept-same table.nodes root spot.code spot.height s.numbers (tree_of table.nodes root).above (heads (tree_of table.nodes root).leaves) place spot-over other spot.parent (s.parent_is some)
+    its = kept-same (tree_of table.nodes root).above spot-over other spot.parent (s.parent_is some)
 
-    pub spot-count : (content : Content K V) × (slice_get table.nodes spot.parent ≡ Some content) × IsInner content
-    spot-count = count-asks spot-over other spot.parent its
+    pub spot-count : CountAsked table.nodes spot.parent
+    spot-count = (inner_content (here spot-over other).at.entries, (node-here spot-over other its).slot_is, tt)
 
-    module _ (count : ℕ) (counts : (content : Content K V) → slice_get table.nodes spot.parent ≡ Some content → count ≡ entry_count content) where
+    module _ {count : ℕ} (counts : CountRead table.nodes spot.parent count) where
       pub spot-last : count ≤ spot.code % 8 + 1 → HasNext table spot → ⊥
       spot-last high h = omega (arith, high, h.within, counts (inner_content h.entries) h.parent, item_count h.entries)
 
       pub spot-has : spot.code % 8 + 1 < count → HasNext table spot
-      spot-has low = record { some = some; entries = (here spot-over other).at.entries; parent = (node-here spot-over other spot.parent its).slot_is; within = omega (arith, low, count-is spot-over other spot.parent its count counts) }
-
-    module _ (h : HasNext table spot) where
-      counts-next : (content : Content K V) → slice_get table.nodes spot.parent ≡ Some content → length h.entries ≡ entry_count content
-      counts-next content found = sym (ap entry_count (some_same content (inner_content h.entries) (sym found ∙ h.parent)) ∙ item_count h.entries)
-
-      pub sibling-asks : (keys : List K) × (children : List ℕ) × (slice_get table.nodes spot.parent ≡ Some (Inner keys children)) × (spot.code % 8 + 1 < length children)
-      sibling-asks = next-asks spot-over other spot.parent its (length h.entries) counts-next h.within
-
-      pub sibling-child : (child : ℕ) → ((keys : List K) (children : List ℕ) → slice_get table.nodes spot.parent ≡ Some (Inner keys children) → slice_get children (spot.code % 8 + 1) ≡ Some child) → IsLeafAt table root (suc place) child
-      sibling-child child reads = leaf-at union root s.root_is (next-child spot-over other spot.parent its (length h.entries) counts-next child h.within reads)
-
-      pub sibling-spot : (next : Spot) → next.code ≡ spot.code + 1 → next.parent ≡ spot.parent → next.grand ≡ spot.grand → next.height ≡ spot.height → IsSpotAt table root next (suc place)
-      sibling-spot next code parent grand height =
-          let q = next-code spot-over other spot.parent its (length h.entries) counts-next h.within in
-          record {
-            root_is = s.root_is;
-            numbers = spot.parent ∷ drop 1 s.numbers;
-            coded = subst (λ z. Coded (spot.parent ∷ drop 1 s.numbers) (tree_of table.nodes root).above z (suc place)) (sym code) q.coded;
-            parent_is = λ low. sym parent;
-            grand_is = λ low. s.grand_is (omega (arith, low, height)) ∙ sym grand;
-            height_is = height ∙ s.height_is;
-          }
+      spot-has low = record { some = some; entries = (here spot-over other).at.entries; parent = (node-here spot-over other its).slot_is; within = omega (arith, low, counts (inner_content (here spot-over other).at.entries) (node-here spot-over other its).slot_is, item_count (here spot-over other).at.entries) }
 
   pub spot-low : spot.code < 281474976710656
-  spot-low = let w = is-rooted n table root union s.root_is in code-low 16 (tree_of table.nodes root).above s.numbers spot.code place s.coded w.low
+  spot-low = let w = is-rooted root union s.root_is in code-low 16 (tree_of table.nodes root).above s.numbers spot.code place s.coded w.low
 
-module _ {K V : Type 0} {slots : List (Content K V)} {root code depth : ℕ} {numbers : List ℕ} {rows : List (List (LevelNode K ℕ))} {list : List (K × ℕ)} {place : ℕ} (p : CodedOver slots root code depth numbers rows list place) where
+  pub spot-height : spot.height ≤ 16
+  spot-height = let w = is-rooted root union s.root_is in omega (arith, s.height_is, w.low)
+
+  -- the spot at the end of a way from the same root
+  pub far-spot : {next : Spot} {others to : _} → IsWay others next (tree_of table.nodes root).above to → IsSpotAt table root next to
+  far-spot {others = others} w = record { root_is = s.root_is; numbers = others; coded = w.coded; parent_is = w.parent_is; grand_is = w.grand_is; height_is = w.height_is }
+
+module _ {K V : Type 0} {slots : List (Content K V)} {root code depth numbers rows list place : _} (p : CodedOver slots root code depth numbers rows list place) where
   -- the node that was read is the first of the numbers
-  pub first-kept : (some : depth ≢ 0) (parent : ℕ) → ((numbers : List ℕ) (rows : List (List (LevelNode K ℕ))) (list : List (K × ℕ)) (place : ℕ) → CodedOver slots root (code / 8) (depth - 1) numbers rows list place → NumberAt list place parent) → get_or numbers 0 0 ≡ parent
-  first-kept some parent says = kept-same slots root code depth numbers rows list place p some (get_or numbers 0 0) refl ∙ sym (read-same p some parent says)
+  pub first-kept : (some : depth ≢ 0) (parent : ℕ) → ((numbers rows list place : _) → CodedOver slots root (code / 8) (depth - 1) numbers rows list place → NumberAt list place parent) → get_or numbers 0 0 ≡ parent
+  first-kept some parent says = kept-same rows p some (get_or numbers 0 0) refl ∙ sym (read-same p some parent says)
 
   -- a spot of this code
   pub way-of : (spot : Spot) → spot.code ≡ code → spot.height ≡ depth → (0 < depth → get_or numbers 0 0 ≡ spot.parent) → (1 < depth → get_or (drop 1 numbers) 0 0 ≡ spot.grand) → IsWay numbers spot rows place
   way-of spot code_is height parent grand = record { coded = subst (λ z. Coded numbers rows z place) (sym code_is) p.coded; parent_is = λ low. parent (omega (arith, low, height)); grand_is = λ low. grand (omega (arith, low, height)); height_is = height ∙ p.depth_is }
 
-module _ {K V : Type 0} {n : ℕ} {table : Table K V} (union : IsUnion n table) {root : ℕ} {spot : Spot} {place : ℕ} (s : IsSpotAt table root spot place) where
-  pub spot-height : spot.height ≤ 16
-  spot-height = let w = is-rooted n table root union s.root_is in omega (arith, s.height_is, w.low)
+-- the spot one level below another, at a child of this node
+pub record IsBelow (spot : Spot) (node index : ℕ) (next : Spot) : Type 0 where
+  pub code : next.code ≡ spot.code * 8 + index
+  pub parent : next.parent ≡ node
+  pub grand : next.grand ≡ spot.parent
+  pub height : next.height ≡ suc spot.height
 
-  -- the spot at the end of a way from the same root
-  pub far-spot : (next : Spot) (others : List ℕ) {to : ℕ} → IsWay others next (tree_of table.nodes root).above to → IsSpotAt table root next to
-  far-spot next others w = record { root_is = s.root_is; numbers = others; coded = w.coded; parent_is = w.parent_is; grand_is = w.grand_is; height_is = w.height_is }
+module _ {spot next : Spot} {node index : ℕ} where
+  pub is-below : next.code ≡ spot.code * 8 + index → next.parent ≡ node → next.grand ≡ spot.parent → next.height ≡ suc spot.height →
+      IsBelow spot node index next
+  is-below code parent grand height = record { code = code; parent = parent; grand = grand; height = height }
+
+module _ {K V : Type 0} {slots : List (Content K V)} {root : ℕ} (spot : Spot) (height : spot.height ≡ 0) where
+  -- with no levels, the root
+  pub root-leads : spot.code ≡ 0 → Leads slots root spot.code spot.height spot root
+  root-leads code numbers rows list place p = (
+    way-of p spot refl refl (λ low. absurd (omega (arith, low, height))) (λ low. absurd (omega (arith, low, height))),
+    (way-none slots root spot.code spot.height rows list p height).0,
+  )
+
+  pub root-last : IsNextOf slots root spot.code spot.height None
+  root-last = record { some = tt; none = λ none numbers rows list place p. (way-none slots root spot.code spot.height rows list p height).1 }
+
+  pub root-first : IsPrevOf slots root spot.code spot.height None
+  root-first = record { some = tt; none = λ none numbers rows list place p. (way-none slots root spot.code spot.height rows list p height).2 }

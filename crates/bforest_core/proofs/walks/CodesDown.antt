@@ -1,64 +1,70 @@
 -- The way down to the first leaf below a node, and to the last, as a spot: each answer of `first_below` and `last_below` is one of these.
 use Rattle.std.proofs.Common.{◌≡◌, ℕ, suc, ◌+◌, ◌-◌, ◌*◌, ◌≤◌, ◌<◌, List, [], ◌∷◌, ◌++◌, IsTrue, length, slice_get, Some, refl, sym, ap, subst, ◌∙◌, arith, append_assoc, length-append}
-use Rattle.bforest_core.proofs.Words.{Content, FitRow, Inner, IsInner, IsLeafCapacity, IsUnion, LevelNode, StackedTo, flat, heads, half_of, inner_content, node, Under, entry_count, nil_from_length}
-use Rattle.bforest_core.specs.Spots.{Coded, HasUnder, IsFirst, IsLast, IsLeafAt, IsSpotAt, IsWay, NumberAt, OnUnder, leaf_count}
-use Rattle.bforest_core.proofs.Words.{append-nil, Table, is_root, tree_of}
+use Rattle.bforest_core.proofs.Words.{Content, IsInner, IsLeafCapacity, IsUnion, LevelNode, flat, heads, half_of, node, Under}
+use Rattle.bforest_core.specs.Spots.{Coded, HasUnder, IsLeafAt, IsSpotAt, IsWay, NumberAt, OnUnder, leaf_count}
+use Rattle.bforest_core.proofs.Words.{IsFirst, IsLast, append-nil, Table, is_root, tree_of}
 use Rattle.bforest_core.specs.declared.spot.Spot.{Spot}
-use Rattle.bforest_core.proofs.rows.LevelRows.{FitRow-split}
 use Rattle.bforest_core.proofs.table.Stored.{item_count, slice_get_at}
 use Rattle.bforest_core.proofs.walks.Codes.{code-low, digit-put, leaf-at}
-use Rattle.bforest_core.proofs.walks.Descent.{some_leaf}
-use Rattle.bforest_core.proofs.walks.Downward.{Seen, stacked_last}
-use Rattle.bforest_core.proofs.walks.Leading.{child_under, last_place}
+use Rattle.bforest_core.proofs.rows.LevelRows.{some_leaf}
+use Rattle.bforest_core.proofs.walks.Leading.{Turns, child_under}
 use Rattle.bforest_core.proofs.walks.Standing.{under-root}
-use Rattle.bforest_core.proofs.walks.Steps.{no_heads}
-use Rattle.bforest_core.proofs.walks.TopNode.{InnerUnder, LeafUnder, inner_under, leaf_under, node_held, none_flat}
+use Rattle.bforest_core.proofs.walks.RowNodes.{no_heads}
+use Rattle.bforest_core.proofs.walks.TopNode.{InnerUnder, LeafUnder, inner_under, leaf_under, node_held}
+use Rattle.bforest_core.proofs.walks.Reading.{ChildAsked, ChildRead, LastAsked}
 
 -- the node at a place of the lowest level
-number-here : {K V : Type 0} (most : ℕ) (slots : List (Content K V)) (leaves : List (LevelNode K V)) (lower : List (List (LevelNode K ℕ)))
-    (a : List (K × ℕ)) (first : K) (number : ℕ) (b : List (K × ℕ)) → Under most slots leaves lower (a ++ (first, number) ∷ b) → lower ≡ []
+number-here : {K V : Type 0} {most : _} {slots : List (Content K V)} {leaves : _} (lower : _) (a : List (K × ℕ)) (first : K) (number : ℕ) (b : List (K × ℕ)) → Under most slots leaves lower (a ++ (first, number) ∷ b) → lower ≡ []
     → NumberAt (heads leaves) (length a) number
-number-here most slots leaves [] a first number b u none = (first, ap (λ z. slice_get z (length a)) u.stacked ∙ slice_get_at a (first, number) b (length a) refl)
-number-here most slots leaves (row ∷ lower) a first number b u none = absurd (omega (arith, ap length none))
+number-here [] a first number b u none = (first, ap (λ z. slice_get z (length a)) u.stacked ∙ slice_get_at a (first, number) b (length a) refl)
+number-here (row ∷ lower) a first number b u none = absurd (omega (arith, ap length none))
 
-module _ {K V : Type 0} {most : ℕ} {slots : List (Content K V)} (capacity : IsLeafCapacity most) (leaves : List (LevelNode K V))
-    (lower : List (List (LevelNode K ℕ))) (a : List (K × ℕ)) (first : K) (number : ℕ) (b : List (K × ℕ))
-    (u : Under most slots leaves lower (a ++ (first, number) ∷ b)) {content : Content K V}
-    (read : slice_get slots number ≡ Some content) where
+module _ {K V : Type 0} {most : _} {slots : List (Content K V)} {leaves lower a first number b : _} (s : InnerUnder most slots leaves lower a first number b) where
+  -- the rows under a node and its own are the rows below it
+  pub rows-join : (upper : List (List (LevelNode K ℕ))) → s.rows ++ (s.row ∷ upper) ≡ lower ++ upper
+  rows-join upper = sym (append_assoc s.rows (s.row ∷ []) upper) ∙ ap (λ z. z ++ upper) (sym s.lower_is)
+
+  -- the way to a child of an inner node, by the way to the node
+  pub child-way : {index : ℕ} → index ≤ length s.at.es → {spot next : Spot} → next.code ≡ spot.code * 8 + index → next.parent ≡ number → next.grand ≡ spot.parent → next.height ≡ suc spot.height
+      → {upper numbers : _} → IsWay numbers spot upper (length a) → {place : ℕ} → place ≡ length (flat s.at.before) + index → IsWay (number ∷ numbers) next (s.row ∷ upper) place
+  child-way {index} low {spot} {next} code parent grand height {upper} {numbers} w place_is =
+      let d = digit-put spot.code index next.code (omega (arith, low, s.room)) code in
+      record {
+        coded = (
+          record { before = s.at.before; entries = s.at.e ∷ s.at.es; after = s.at.after; row_is = s.at.row_is; within = omega (arith, d.0, low); place_is = omega (arith, d.0, place_is) },
+          subst (λ z. Coded numbers upper z (length s.at.before)) (sym d.1) (subst (λ z. Coded numbers upper spot.code z) (sym s.at.before_is) w.coded),
+        );
+        parent_is = λ some. sym parent;
+        grand_is = λ some. w.parent_is (omega (arith, some, height)) ∙ sym grand;
+        height_is = height ∙ ap suc w.height_is;
+      }
+
+module _ {K V : Type 0} {most : _} {slots : List (Content K V)} (capacity : IsLeafCapacity most) {leaves lower : _} (a : List (K × ℕ)) (first : K) (number : ℕ) (b : List (K × ℕ)) (u : Under most slots leaves lower (a ++ (first, number) ∷ b)) {content : Content K V} (read : slice_get slots number ≡ Some content) where
   -- at a leaf the way has ended
   module _ (other : IsInner content → ⊥) where
     ended : LeafUnder most slots leaves lower a first number b
-    ended = leaf_under most (some_leaf most capacity) slots leaves lower a first number b u content read other
+    ended = leaf_under capacity a first number b u read other
 
-    way-here : (upper : List (List (LevelNode K ℕ))) (numbers : List ℕ) (spot : Spot) (place : ℕ) → IsWay numbers spot upper (length a) → length a ≡ place → (others : List ℕ) × IsWay others spot (lower ++ upper) place × NumberAt (heads leaves) place number
-    way-here upper numbers spot place w is =
-        (numbers, subst (λ (z : List (List (LevelNode K ℕ))). IsWay numbers spot (z ++ upper) place) (sym ended.lower_is) (subst (IsWay numbers spot upper) is w), subst (λ z. NumberAt (heads leaves) z number) is (number-here most slots leaves lower a first number b u ended.lower_is))
+    way-here : {upper numbers : _} {spot : Spot} {place : ℕ} → IsWay numbers spot upper (length a) → length a ≡ place → (others : List ℕ) × IsWay others spot (lower ++ upper) place × NumberAt (heads leaves) place number
+    way-here {upper = upper} {numbers = numbers} {spot = spot} {place = place} w is =
+        (numbers, subst (λ z. IsWay numbers spot (z ++ upper) place) (sym ended.lower_is) (subst (IsWay numbers spot upper) is w), subst (λ z. NumberAt (heads leaves) z number) is (number-here lower a first number b u ended.lower_is))
 
     ends : b ≡ [] → length a ≡ length leaves - 1
     ends none =
         let s = ended.at in
-        let after = no_heads (half_of most) most (some_leaf most capacity) s.after s.after_fit (s.after_is ∙ none) in
+        let after = no_heads (half_of most) most (some_leaf capacity) s.after s.after_fit (s.after_is ∙ none) in
         omega (arith, s.before_is, ap length after, ap length s.row_is, length-append s.before (node number (s.e ∷ s.es) ∷ s.after))
 
   -- a level down
   module _ (inner : IsInner content) where
     below : InnerUnder most slots leaves lower a first number b
-    below = inner_under most (some_leaf most capacity) slots leaves lower a first number b u content read inner
+    below = inner_under capacity a first number b u read inner
 
-    room : suc (length below.at.es) ≤ 8
-    room =
-        let fit = (stacked_last (heads leaves) below.rows below.row (a ++ (first, number) ∷ b) (subst (λ (z : List (List (LevelNode K ℕ))). StackedTo (heads leaves) z (a ++ (first, number) ∷ b)) below.lower_is u.stacked)).1 in
-        let f = (FitRow-split 4 8 below.at.before (node number (below.at.e ∷ below.at.es)) below.at.after (subst (FitRow 4 8) below.at.row_is fit)).1 in
-        omega (arith, f.1)
-
-    child-at : (index : ℕ) → index ≤ length below.at.es → (keys : List K) × (children : List ℕ) × (slice_get slots number ≡ Some (Inner keys children)) × (index < length children)
+    child-at : (index : ℕ) → index ≤ length below.at.es → ChildAsked slots number index
     child-at index low = (_, _, below.slot_is, omega (arith, low, item_count (below.at.e ∷ below.at.es)))
 
     way-low : {upper : List (List (LevelNode K ℕ))} {numbers : List ℕ} {spot : Spot} {place : ℕ} → IsWay numbers spot upper place → length lower + spot.height ≤ 16 → (spot.code < 35184372088832) × (spot.height < 16)
     way-low {upper} {numbers} {spot} {place} w low = (code-low 15 upper numbers spot.code place w.coded (omega (arith, w.height_is, low, below.count_is)), omega (arith, low, below.count_is))
-
-    rows-join : (upper : List (List (LevelNode K ℕ))) → below.rows ++ (below.row ∷ upper) ≡ lower ++ upper
-    rows-join upper = sym (append_assoc below.rows (below.row ∷ []) upper) ∙ ap (λ z. z ++ upper) (sym below.lower_is)
 
     -- the spot of the child at an index, and what lies under it
     record Down (upper : List (List (LevelNode K ℕ))) (numbers : List ℕ) (next : Spot) (index child : ℕ) : Type 0 where
@@ -70,66 +76,11 @@ module _ {K V : Type 0} {most : ℕ} {slots : List (Content K V)} (capacity : Is
       pub front_is : length front ≡ length (flat below.at.before) + index
       pub sum_is : length front + suc (length back) ≡ length (flat below.row)
 
-    module _ {index child : ℕ} (low : index ≤ length below.at.es)
-        (reads : (keys : List K) (children : List ℕ) → slice_get slots number ≡ Some (Inner keys children)
-        → slice_get children index ≡ Some child) {spot next : Spot} (code : next.code ≡ spot.code * 8 + index)
-        (parent : next.parent ≡ number) (grand : next.grand ≡ spot.parent)
-        (height : next.height ≡ suc spot.height) {upper : List (List (LevelNode K ℕ))} {numbers : List ℕ}
-        (w : IsWay numbers spot upper (length a)) where
-      way-down : (place : ℕ) → place ≡ length (flat below.at.before) + index → IsWay (number ∷ numbers) next (below.row ∷ upper) place
-      way-down place place_is =
-          let d = digit-put spot.code index next.code (omega (arith, low, room)) code in
-          record {
-            coded = (
-              record {
-                before = below.at.before;
-                entries = below.at.e ∷ below.at.es;
-                after = below.at.after;
-                row_is = below.at.row_is;
-                within = omega (arith, d.0, low);
-                place_is = omega (arith, d.0, place_is);
-              },
-              subst (λ z. Coded numbers upper z (length below.at.before)) (sym d.1)
-                  (subst (λ z. Coded numbers upper spot.code z) (sym below.at.before_is) w.coded),
-            );
-            parent_is = λ some. sym parent;
-            grand_is = λ some. w.parent_is (omega (arith, some, height)) ∙ sym grand;
-            height_is = height ∙ ap suc w.height_is;
-          }
-
+    module _ {index child : ℕ} (low : index ≤ length below.at.es) (reads : ChildRead slots number index child) {spot next : Spot} (code : next.code ≡ spot.code * 8 + index) (parent : next.parent ≡ number) (grand : next.grand ≡ spot.parent) (height : next.height ≡ suc spot.height) {upper numbers : _} (w : IsWay numbers spot upper (length a)) where
       down : Down upper numbers next index child
       down =
-          let c = child_under most slots leaves lower a first number b below (inner_content (below.at.e ∷ below.at.es)) below.slot_is index child (reads _ _ below.slot_is) in
-          record { front = c.0; key = c.1; back = c.2; under = c.3; way = way-down (length c.0) c.4; front_is = c.4; sum_is = c.5 }
-
--- the entries of a row end with those of its last node
-last-end : {K : Type 0} (row : List (LevelNode K ℕ)) (a : List (K × ℕ)) (first : K) (number : ℕ) (b : List (K × ℕ)) (at : Seen 4 8 row a first number b) → b ≡ [] → length (flat row) ≡ length (flat at.before) + suc (length at.es)
-last-end row a first number [] at none = last_place 4 8 (omega arith) row a first number at
-last-end row a first number (x ∷ b) at none = absurd (omega (arith, ap length none))
-
-module _ {K V : Type 0} (most : ℕ) (slots : List (Content K V)) (Side : List (K × ℕ) → List (K × ℕ) → Type 0) (number index : ℕ) where
-  -- the way down one side of a tree goes on from a node to its child at this index
-  pub record Turns : Type 0 where
-    pub within : (leaves : List (LevelNode K V)) (lower : List (List (LevelNode K ℕ))) (a : List (K × ℕ)) (first : K) (b : List (K × ℕ)) (s : InnerUnder most slots leaves lower a first number b) → Side a b → index ≤ length s.at.es
-    pub keeps : (leaves : List (LevelNode K V)) (lower : List (List (LevelNode K ℕ))) (a : List (K × ℕ)) (first : K) (b : List (K × ℕ))
-        (s : InnerUnder most slots leaves lower a first number b) → Side a b → (front back : List (K × ℕ))
-        → length front ≡ length (flat s.at.before) + index → length front + suc (length back) ≡ length (flat s.row) → Side front back
-
-module _ {K V : Type 0} {most : ℕ} {slots : List (Content K V)} where
-  pub first-turns : {number : ℕ} → Turns most slots IsFirst number 0
-  first-turns = record {
-    within = λ leaves lower a first b s side. omega arith;
-    keeps = λ leaves lower a first b s side front back front_is sum_is. nil_from_length front (omega (arith, front_is, none_flat s.at.before (s.at.before_is ∙ ap length side)));
-  }
-
-  pub last-turns : {number last : ℕ} → ((content : Content K V) → slice_get slots number ≡ Some content → last ≡ entry_count content - 1) → Turns most slots IsLast number last
-  last-turns {number} {last} says = record {
-    within = λ leaves lower a first b s side. omega (arith, index leaves lower a first b s);
-    keeps = λ leaves lower a first b s side front back front_is sum_is. nil_from_length back (omega (arith, front_is, sum_is, index leaves lower a first b s, last-end s.row a first number b s.at side));
-  }
-    where
-      index : (leaves : List (LevelNode K V)) (lower : List (List (LevelNode K ℕ))) (a : List (K × ℕ)) (first : K) (b : List (K × ℕ)) (s : InnerUnder most slots leaves lower a first number b) → last ≡ length s.at.es
-      index leaves lower a first b s = omega (arith, says (inner_content (s.at.e ∷ s.at.es)) s.slot_is, item_count (s.at.e ∷ s.at.es))
+          let c = child_under below below.slot_is index (reads _ _ below.slot_is) in
+          record { front = c.0; key = c.1; back = c.2; under = c.3; way = child-way below low code parent grand height w c.4; front_is = c.4; sum_is = c.5 }
 
 -- what is said of the first leaf, and of the last, as the end of a way
 module _ {K V : Type 0} (end : Spot) (leaf : ℕ) (leaves : List (LevelNode K V)) (rows : List (List (LevelNode K ℕ))) where
@@ -142,33 +93,32 @@ module _ {K V : Type 0} (end : Spot) (leaf : ℕ) (leaves : List (LevelNode K V)
 module _ {K V : Type 0} {most : ℕ} {slots : List (Content K V)} (capacity : IsLeafCapacity most) {number : ℕ} {content : Content K V} (read : slice_get slots number ≡ Some content) where
   module _ (other : IsInner content → ⊥) (spot : Spot) where
     pub first-here : OnUnder most slots IsFirst spot number (FirstSaid spot number)
-    first-here leaves lower upper numbers a first b side u w = way-here capacity leaves lower a first number b u read other upper numbers spot 0 w (ap length side)
+    first-here leaves lower upper numbers a first b side u w = way-here capacity a first number b u read other w (ap length side)
 
     pub last-here : OnUnder most slots IsLast spot number (LastSaid spot number)
-    last-here leaves lower upper numbers a first b side u w = way-here capacity leaves lower a first number b u read other upper numbers spot (length leaves - 1) w (ends capacity leaves lower a first number b u read other side)
+    last-here leaves lower upper numbers a first b side u w = way-here capacity a first number b u read other w (ends capacity a first number b u read other side)
 
-  module _ (inner : IsInner content) {Side : List (K × ℕ) → List (K × ℕ) → Type 0} {index : ℕ} (turns : Turns most slots Side number index) where
+  module _ (inner : IsInner content) {Side : List (K × ℕ) → List (K × ℕ) → Type 0} {index : ℕ} {place : List (LevelNode K V) → ℕ} (turns : Turns most slots Side place number index) where
     module _ {spot : Spot} (asked : HasUnder most slots Side spot number) where
-      low-here : index ≤ length (below capacity asked.0 asked.1 asked.4 asked.5 number asked.6 asked.8 read inner).at.es
-      low-here = turns.within asked.0 asked.1 asked.4 asked.5 asked.6 (below capacity asked.0 asked.1 asked.4 asked.5 number asked.6 asked.8 read inner) asked.7
+      low-here : index ≤ length (below capacity asked.4 asked.5 number asked.6 asked.8 read inner).at.es
+      low-here = turns.within asked.0 asked.1 asked.4 asked.5 asked.6 (below capacity asked.4 asked.5 number asked.6 asked.8 read inner) asked.7
 
-      pub down-asks : (keys : List K) × (children : List ℕ) × (slice_get slots number ≡ Some (Inner keys children)) × (index < length children)
-      down-asks = child-at capacity asked.0 asked.1 asked.4 asked.5 number asked.6 asked.8 read inner index low-here
+      pub down-asks : ChildAsked slots number index
+      down-asks = child-at capacity asked.4 asked.5 number asked.6 asked.8 read inner index low-here
 
       pub down-low : (spot.code < 35184372088832) × (spot.height < 16) × (index < 8)
       down-low =
-          let r = way-low capacity asked.0 asked.1 asked.4 asked.5 number asked.6 asked.8 read inner asked.9 asked.10 in
-          (r.0, r.1, omega (arith, low-here, room capacity asked.0 asked.1 asked.4 asked.5 number asked.6 asked.8 read inner))
+          let r = way-low capacity asked.4 asked.5 number asked.6 asked.8 read inner asked.9 asked.10 in
+          (r.0, r.1, omega (arith, low-here, (below capacity asked.4 asked.5 number asked.6 asked.8 read inner).room))
 
-    module _ {child : ℕ} (reads : (keys : List K) (children : List ℕ) → slice_get slots number ≡ Some (Inner keys children)
-        → slice_get children index ≡ Some child) {spot next : Spot} (code : next.code ≡ spot.code * 8 + index)
+    module _ {child : ℕ} (reads : ChildRead slots number index child) {spot next : Spot} (code : next.code ≡ spot.code * 8 + index)
         (parent : next.parent ≡ number) (grand : next.grand ≡ spot.parent) (height : next.height ≡ suc spot.height) where
-      module _ (leaves : List (LevelNode K V)) (lower upper : List (List (LevelNode K ℕ))) (numbers : List ℕ) (a : List (K × ℕ)) (first : K) (b : List (K × ℕ)) (side : Side a b) (u : Under most slots leaves lower (a ++ (first, number) ∷ b)) (w : IsWay numbers spot upper (length a)) where
+      module _ (leaves lower : _) (upper : List (List (LevelNode K ℕ))) (numbers : _) (a : List (K × ℕ)) (first : K) (b : List (K × ℕ)) (side : Side a b) (u : Under most slots leaves lower (a ++ (first, number) ∷ b)) (w : IsWay numbers spot upper (length a)) where
         abbrev here : InnerUnder most slots leaves lower a first number b
-        here = below capacity leaves lower a first number b u read inner
+        here = below capacity a first number b u read inner
 
-        went : Down capacity leaves lower a first number b u read inner upper numbers next index child
-        went = down capacity leaves lower a first number b u read inner (turns.within leaves lower a first b here side) reads code parent grand height w
+        went : Down capacity a first number b u read inner upper numbers next index child
+        went = down capacity a first number b u read inner (turns.within leaves lower a first b here side) reads code parent grand height w
 
         kept : Side went.front went.back
         kept = turns.keeps leaves lower a first b here side went.front went.back went.front_is went.sum_is
@@ -184,7 +134,7 @@ module _ {K V : Type 0} {most : ℕ} {slots : List (Content K V)} (capacity : Is
       down-on Said says leaves lower upper numbers a first b side u w =
           let s = here leaves lower upper numbers a first b side u w in
           let d = went leaves lower upper numbers a first b side u w in
-          subst (Said leaves) (rows-join capacity leaves lower a first number b u read inner upper) (says leaves s.rows (s.row ∷ upper) (number ∷ numbers) d.front d.key d.back (kept leaves lower upper numbers a first b side u w) d.under d.way)
+          subst (Said leaves) (rows-join s upper) (says leaves s.rows (s.row ∷ upper) (number ∷ numbers) d.front d.key d.back (kept leaves lower upper numbers a first b side u w) d.under d.way)
 
 -- from a node on one side of its level the way down has come to a node further down, and it ends where the way from there ends
 pub record GoesDown {K V : Type 0} (most : ℕ) (slots : List (Content K V)) (Side : List (K × ℕ) → List (K × ℕ) → Type 0) (Said : Spot → ℕ → List (LevelNode K V) → List (List (LevelNode K ℕ)) → Type 0)
@@ -197,32 +147,32 @@ pub way-root : {K : Type 0} (spot : Spot) → spot.code ≡ 0 → spot.height �
 way-root spot code height = record { coded = (code, refl); parent_is = λ low. absurd (omega (arith, low, height)); grand_is = λ low. absurd (omega (arith, low, height)); height_is = height }
 
 -- the way from the root down, at its end
-pub way-spot : {K V : Type 0} (table : Table K V) (root : ℕ) (spot : Spot) (place : ℕ) (numbers : List ℕ) → IsTrue (is_root table.nodes root) → IsWay numbers spot ((tree_of table.nodes root).above ++ []) place → IsSpotAt table root spot place
-way-spot {K} table root spot place numbers is w =
-    let v = subst (λ (z : List (List (LevelNode K ℕ))). IsWay numbers spot z place) (append-nil (tree_of table.nodes root).above) w in
+pub way-spot : {K V : Type 0} (table : Table K V) (root : ℕ) {spot : Spot} {place numbers : _} → IsTrue (is_root table.nodes root) → IsWay numbers spot ((tree_of table.nodes root).above ++ []) place → IsSpotAt table root spot place
+way-spot {K} table root {spot = spot} {place = place} {numbers = numbers} is w =
+    let v = subst (λ z. IsWay numbers spot z place) (append-nil (tree_of table.nodes root).above) w in
     record { root_is = is; numbers = numbers; coded = v.coded; parent_is = v.parent_is; grand_is = v.grand_is; height_is = v.height_is }
 
 -- a root has entries
-pub root-held : {K V : Type 0} {n : ℕ} {table : Table K V} (union : IsUnion n table) (root : ℕ) (is : IsTrue (is_root table.nodes root)) → (content : Content K V) × (slice_get table.nodes root ≡ Some content) × (1 ≤ entry_count content)
+pub root-held : {K V : Type 0} {n : ℕ} {table : Table K V} (union : IsUnion n table) (root : ℕ) (is : IsTrue (is_root table.nodes root)) → LastAsked table.nodes root
 root-held {n = n} {table = table} union root is =
-    let u = under-root n table root union is in
-    node_held n (some_leaf n union.1.capacity) table.nodes (tree_of table.nodes root).leaves (tree_of table.nodes root).above [] u.first root [] u.under
+    let u = under-root root union is in
+    node_held union.1.capacity [] u.first root [] u.under
 
 -- the ways down from a root
 module _ {K V : Type 0} {n : ℕ} {table : Table K V} (union : IsUnion n table) {root : ℕ} (is : IsTrue (is_root table.nodes root)) {spot : Spot} (code : spot.code ≡ 0) (height : spot.height ≡ 0) where
   pub root-under : {Side : List (K × ℕ) → List (K × ℕ) → Type 0} → Side [] [] → HasUnder n table.nodes Side spot root
-  root-under side = let u = under-root n table root union is in ((tree_of table.nodes root).leaves, (tree_of table.nodes root).above, [], [], [], u.first, [], side, u.under, way-root spot code height, omega (arith, u.low, height))
+  root-under side = let u = under-root root union is in ((tree_of table.nodes root).leaves, (tree_of table.nodes root).above, [], [], [], u.first, [], side, u.under, way-root spot code height, omega (arith, u.low, height))
 
   -- what is said at the end of the way, of the leaves of the tree
   said-root : {Side : List (K × ℕ) → List (K × ℕ) → Type 0} (side : Side [] []) (Said : List (LevelNode K V) → List (List (LevelNode K ℕ)) → Type 0) → OnUnder n table.nodes Side spot root Said → Said (tree_of table.nodes root).leaves ((tree_of table.nodes root).above ++ [])
-  said-root side Said says = let u = under-root n table root union is in says (tree_of table.nodes root).leaves (tree_of table.nodes root).above [] [] [] u.first [] side u.under (way-root spot code height)
+  said-root side Said says = let u = under-root root union is in says (tree_of table.nodes root).leaves (tree_of table.nodes root).above [] [] [] u.first [] side u.under (way-root spot code height)
 
   pub first-of : {end : Spot} {leaf : ℕ} → OnUnder n table.nodes IsFirst spot root (FirstSaid end leaf) → IsSpotAt table root end 0 × IsLeafAt table root 0 leaf
   first-of {end} {leaf} says =
       let r = said-root refl (FirstSaid end leaf) says in
-      (way-spot table root end 0 r.0 is r.1, leaf-at union root is r.2)
+      (way-spot table root is r.1, leaf-at union root is r.2)
 
   pub last-of : {end : Spot} {leaf : ℕ} → OnUnder n table.nodes IsLast spot root (LastSaid end leaf) → IsSpotAt table root end (leaf_count table root - 1) × IsLeafAt table root (leaf_count table root - 1) leaf
   last-of {end} {leaf} says =
       let r = said-root refl (LastSaid end leaf) says in
-      (way-spot table root end (leaf_count table root - 1) r.0 is r.1, leaf-at union root is r.2)
+      (way-spot table root is r.1, leaf-at union root is r.2)

@@ -1,11 +1,12 @@
--- The step of a spot to a leaf with another parent, and the place of a spot's leaf.
-use Rattle.std.proofs.Common.{◌≡◌, ◌≢◌, ℕ, suc, ◌+◌, ◌-◌, ◌*◌, ◌/◌, ◌%◌, ◌≤◌, ◌<◌, List, [], ◌∷◌, drop, length, slice_get, take, IfSome, Option, Some, inl, inr, refl, sym, ap, subst, ◌∙◌, arith}
-use Rattle.bforest_core.proofs.Words.{cases_lt, eqb_tells, take_at, Content, Inner, IsInner, IsUnion, LevelNode, Table, entry_count, flat, heads, inner_content, tree_of}
-use Rattle.bforest_core.specs.Spots.{Coded, CodedOver, HasNext, IsLeafAt, IsSpotAt, IsWay, NumberAt, leaf_count, leaf_place, place_by}
+-- The step of a spot to the next leaf and to the one before, and the place of a spot's leaf.
+use Rattle.std.proofs.Common.{◌≡◌, ◌≢◌, ℕ, suc, ◌+◌, ◌-◌, ◌*◌, ◌/◌, ◌%◌, ◌≤◌, ◌<◌, List, [], ◌∷◌, drop, get_or, length, slice_get, take, Some, inl, inr, refl, sym, ap, subst, ◌∙◌, arith}
+use Rattle.bforest_core.proofs.Words.{cases_lt, eqb_tells, take_at, IsUnion, LevelNode, Table, entry_count, flat, heads, inner_content, tree_of}
+use Rattle.bforest_core.specs.Spots.{Coded, CodedOver, HasNext, HasPrev, IsLeafAt, IsNextOf, IsPrevOf, IsSpotAt, NumberAt, leaf_count, leaf_place, place_by}
 use Rattle.bforest_core.specs.declared.spot.Spot.{Spot}
 use Rattle.bforest_core.proofs.table.Stored.{some_same, item_count}
-use Rattle.bforest_core.proofs.removal.Removal.{if_some}
-use Rattle.bforest_core.proofs.walks.Codes.{NextAbove, count-asks, far-spot, first-asks, first-child, first-code, here, kept-same, last-leaf, leaf-at, next-asks, next-child, next-code, none-next, other, spot-over, way-none, its}
+use Rattle.bforest_core.proofs.walks.Branches.{Branch, branch-asks, branch-child, branch-way, count-asks, first-of, last-asks, last-of, last-some, next-own, none-next, none-prev, prev-own, prev-some}
+use Rattle.bforest_core.proofs.walks.Codes.{far-spot, here, its, kept-same, last-leaf, leaf-at, other, spot-over, way-none, way-of}
+use Rattle.bforest_core.proofs.walks.Reading.{ChildAsked, ChildRead, CountAsked, CountRead, LastAsked, LastRead}
 
 -- a code leads to one place
 pub coded-place : {K : Type 0} (numbers : List ℕ) (rows : List (List (LevelNode K ℕ))) (code place : ℕ) → Coded numbers rows code place → place_by rows code ≡ place
@@ -20,94 +21,168 @@ coded-place numbers (row ∷ rows) code place c =
 pub place-is : {K V : Type 0} {table : Table K V} {root : ℕ} {spot : Spot} {place : ℕ} → IsSpotAt table root spot place → leaf_place table root spot ≡ place
 place-is {table = table} {root = root} {spot = spot} {place = place} s = coded-place s.numbers (tree_of table.nodes root).above spot.code place s.coded
 
-module _ {K V : Type 0} {n : ℕ} {table : Table K V} (union : IsUnion n table) {root : ℕ} {spot : Spot} {place : ℕ} (s : IsSpotAt table root spot place) where
-  module _ (deep : 2 ≤ spot.height) where
-    abbrev deep-some : 0 < spot.height
-    deep-some = omega (arith, deep)
+-- a leaf on the level of a spot's leaf, as a child of a node above it
+module _ {K V : Type 0} {n : ℕ} {table : Table K V} (union : IsUnion n table) {root : ℕ} {spot : Spot} {place : ℕ} (s : IsSpotAt table root spot place) (some : 0 < spot.height) where
+  abbrev over : CodedOver table.nodes root spot.code spot.height s.numbers (tree_of table.nodes root).above (heads (tree_of table.nodes root).leaves) place
+  over = spot-over union s
 
-    abbrev pub more : spot.height - 1 ≢ 0
+  abbrev Leaf : ℕ → ℕ → ℕ → Type 0
+  Leaf = Branch over (other union s some)
+
+  -- the way to the leaf, and the leaf as it was read
+  there : {number digit to : ℕ} (b : Leaf number digit to) {above others : _} → CodedOver table.nodes root above (spot.height - 1) others (here over (other union s some)).rest (heads (here over (other union s some)).row) b.top → {next : Spot} {leaf : ℕ} → next.code ≡ above * 8 + digit → next.parent ≡ number → next.height ≡ spot.height → (1 < spot.height → get_or others 0 0 ≡ next.grand) → ChildRead table.nodes number digit leaf →
+      IsSpotAt table root next to × IsLeafAt table root to leaf
+  there b q {next} code parent height grand reads = (
+    far-spot union s (way-of (branch-way over (other union s some) b q refl) next code height (λ low. sym parent) grand),
+    leaf-at union root s.root_is (branch-child over (other union s some) b reads),
+  )
+
+  -- how many children the parent has
+  abbrev count : ℕ
+  count = length (here over (other union s some)).at.entries
+
+  abbrev slot : slice_get table.nodes spot.parent ≡ Some (inner_content (here over (other union s some)).at.entries)
+  slot = ap (slice_get table.nodes) (its union s some) ∙ (here over (other union s some)).at.slot_is
+
+  counts : CountRead table.nodes spot.parent count
+  counts content found = sym (ap entry_count (some_same content (inner_content (here over (other union s some)).at.entries) (sym found ∙ slot)) ∙ item_count (here over (other union s some)).at.entries)
+
+  -- where no sibling is behind it, the leaf is the last of its parent
+  high : (HasNext table spot → ⊥) → count ≤ spot.code % 8 + 1
+  high last = elim (cases_lt (spot.code % 8 + 1) count) [
+    | inl low ↦ absurd (last (record { some = some; entries = (here over (other union s some)).at.entries; parent = slot; within = low }))
+    | inr past ↦ past
+  ]
+
+  -- where none is before it, it is the first
+  nought : (HasPrev spot → ⊥) → spot.code % 8 ≤ 0
+  nought first = elim (cases_lt 0 (spot.code % 8)) [ inl low ↦ absurd (first (some, low)) | inr none ↦ none ]
+
+-- the leaves with the same parent
+module _ {K V : Type 0} {n : ℕ} {table : Table K V} (union : IsUnion n table) {root : ℕ} {spot : Spot} {place : ℕ} (s : IsSpotAt table root spot place) where
+  module _ (h : HasNext table spot) where
+    abbrev behind : Branch (spot-over union s) (other union s h.some) spot.parent (spot.code % 8 + 1) (suc place)
+    behind = next-own (spot-over union s) (other union s h.some) (its union s h.some) refl (λ content found. sym (ap entry_count (some_same content (inner_content h.entries) (sym found ∙ h.parent)) ∙ item_count h.entries)) h.within
+
+    pub sibling-asks : ChildAsked table.nodes spot.parent (spot.code % 8 + 1)
+    sibling-asks = branch-asks (spot-over union s) (other union s h.some) behind
+
+    pub sibling-behind : {next : Spot} {child : ℕ} → next.code ≡ spot.code + 1 → next.parent ≡ spot.parent → next.grand ≡ spot.grand → next.height ≡ spot.height → ChildRead table.nodes spot.parent (spot.code % 8 + 1) child → IsSpotAt table root next (suc place) × IsLeafAt table root (suc place) child
+    sibling-behind code parent grand height reads =
+        there union s h.some behind (here (spot-over union s) (other union s h.some)).over (omega (arith, code)) parent height (λ low. s.grand_is low ∙ sym grand) reads
+
+  module _ (h : HasPrev spot) where
+    abbrev before : Branch (spot-over union s) (other union s h.0) spot.parent (spot.code % 8 - 1) (place - 1)
+    before = prev-own (spot-over union s) (other union s h.0) (its union s h.0) refl h.1
+
+    pub before-asks : ChildAsked table.nodes spot.parent (spot.code % 8 - 1)
+    before-asks = branch-asks (spot-over union s) (other union s h.0) before
+
+    pub sibling-before : {next : Spot} {child : ℕ} → next.code ≡ spot.code - 1 → next.parent ≡ spot.parent → next.grand ≡ spot.grand → next.height ≡ spot.height → ChildRead table.nodes spot.parent (spot.code % 8 - 1) child → (0 < place) × IsSpotAt table root next (place - 1) × IsLeafAt table root (place - 1) child
+    sibling-before code parent grand height reads =
+        let r = there union s h.0 before (here (spot-over union s) (other union s h.0)).over (omega (arith, code, h.1)) parent height (λ low. s.grand_is low ∙ sym grand) reads in
+        (prev-some (spot-over union s) (other union s h.0) (its union s h.0) refl h.1, r.0, r.1)
+
+  -- a leaf without a grandparent and without a sibling behind it is the last of the tree
+  pub last-low : (HasNext table spot → ⊥) → spot.height < 2 → suc place ≡ leaf_count table root
+  last-low last low = elim (eqb_tells spot.height 0) [
+    | inl none ↦ last-leaf union root s.root_is (way-none table.nodes root _ _ _ _ (spot-over union s) none.1).1
+    | inr w ↦ below (omega (arith, w.1))
+  ]
+    where
+      below : 0 < spot.height → suc place ≡ leaf_count table root
+      below some = last-leaf union root s.root_is (none-next (spot-over union s) (other union s some) (its union s some) refl (counts union s some) (high union s some last)
+          (way-none table.nodes root _ _ _ _ (here (spot-over union s) (other union s some)).over (omega (arith, low, some))).1)
+
+  -- and without one before it, the first
+  pub first-low : (HasPrev spot → ⊥) → spot.height < 2 → place ≡ 0
+  first-low first low = elim (eqb_tells spot.height 0) [
+    | inl none ↦ (way-none table.nodes root _ _ _ _ (spot-over union s) none.1).2
+    | inr w ↦ below (omega (arith, w.1))
+  ]
+    where
+      below : 0 < spot.height → place ≡ 0
+      below some = none-prev (spot-over union s) (other union s some) (its union s some) refl (nought union s some first)
+          (way-none table.nodes root _ _ _ _ (here (spot-over union s) (other union s some)).over (omega (arith, low, some))).2
+
+  -- the leaves with the same grandparent and another parent
+  module _ (deep : 2 ≤ spot.height) where
+    abbrev some : 0 < spot.height
+    some = omega (arith, deep)
+
+    abbrev more : spot.height - 1 ≢ 0
     more = λ none. omega (arith, none, deep)
 
     -- the way to the parent
-    abbrev pub up : CodedOver table.nodes root (spot.code / 8) (spot.height - 1) (drop 1 s.numbers) (here (spot-over union s) (other union s deep-some)).rest (heads (here (spot-over union s) (other union s deep-some)).row) (here (spot-over union s) (other union s deep-some)).top
-    up = (here (spot-over union s) (other union s deep-some)).over
+    abbrev up : CodedOver table.nodes root (spot.code / 8) (spot.height - 1) (drop 1 s.numbers) (here (spot-over union s) (other union s some)).rest (heads (here (spot-over union s) (other union s some)).row) (here (spot-over union s) (other union s some)).top
+    up = (here (spot-over union s) (other union s some)).over
 
-    pub grand-is : spot.grand ≡ (here up more).number
-    grand-is = kept-same table.nodes root (spot.code / 8) (spot.height - 1) (drop 1 s.numbers) _ _ _ up more spot.grand (s.grand_is (omega (arith, deep)))
+    abbrev grand-is : spot.grand ≡ (here up more).number
+    grand-is = kept-same _ up more spot.grand (s.grand_is (omega (arith, deep)))
 
     -- what the number of the grandparent's children asks
-    pub grand-count : (content : Content K V) × (slice_get table.nodes spot.grand ≡ Some content) × IsInner content
-    grand-count = count-asks up more spot.grand grand-is
+    pub grand-count : CountAsked table.nodes spot.grand
+    grand-count = count-asks up more grand-is refl
 
-  module _ (last : HasNext table spot → ⊥) where
-    module _ (some : 0 < spot.height) where
-      abbrev way : CodedOver table.nodes root spot.code spot.height s.numbers (tree_of table.nodes root).above (heads (tree_of table.nodes root).leaves) place
-      way = spot-over union s
+    module _ (last : HasNext table spot → ⊥) {children : ℕ} (says : CountRead table.nodes spot.grand children) (low : spot.code / 8 % 8 + 1 < children) where
+      abbrev next-up : Branch up more spot.grand (spot.code / 8 % 8 + 1) (suc (here (spot-over union s) (other union s some)).top)
+      next-up = next-own up more grand-is refl says low
 
-      abbrev count : ℕ
-      count = length (here way (other union s some)).at.entries
+      pub parent-asks : ChildAsked table.nodes spot.grand (spot.code / 8 % 8 + 1)
+      parent-asks = branch-asks up more next-up
 
-      slot : slice_get table.nodes spot.parent ≡ Some (inner_content (here way (other union s some)).at.entries)
-      slot = ap (slice_get table.nodes) (its union s some) ∙ (here way (other union s some)).at.slot_is
+      module _ {parent : ℕ} (reads : ChildRead table.nodes spot.grand (spot.code / 8 % 8 + 1) parent) where
+        abbrev next-leaf : Branch (spot-over union s) (other union s some) parent 0 (suc place)
+        next-leaf = first-of (spot-over union s) (other union s some) (its union s some) refl (counts union s some) (high union s some last) refl (branch-child up more next-up reads)
 
-      counts : (content : Content K V) → slice_get table.nodes spot.parent ≡ Some content → count ≡ entry_count content
-      counts content found = sym (ap entry_count (some_same content (inner_content (here way (other union s some)).at.entries) (sym found ∙ slot)) ∙ item_count (here way (other union s some)).at.entries)
+        -- what the first child of the next parent asks
+        pub cousin-asks : ChildAsked table.nodes parent 0
+        cousin-asks = branch-asks (spot-over union s) (other union s some) next-leaf
 
-      -- the leaf is the last of its parent
-      high : count ≤ spot.code % 8 + 1
-      high = elim (cases_lt (spot.code % 8 + 1) count) [
-        | inl low ↦ absurd (last (record { some = some; entries = (here way (other union s some)).at.entries; parent = slot; within = low }))
-        | inr past ↦ past
-      ]
+        -- the next leaf is that child
+        pub cousin : {next : Spot} {leaf : ℕ} → next.code ≡ (spot.code / 8 + 1) * 8 → next.parent ≡ parent → next.grand ≡ spot.grand → next.height ≡ spot.height → ChildRead table.nodes parent 0 leaf → IsSpotAt table root next (suc place) × IsLeafAt table root (suc place) leaf
+        cousin code parent_is grand height found =
+            there union s some next-leaf (branch-way up more next-up (here up more).over {code1 = spot.code / 8 + 1} (omega arith)) (omega (arith, code)) parent_is height (λ low. sym grand) found
 
-      -- where that parent is the root, the leaf is the last of the tree
-      pub last-below : spot.height < 2 → suc place ≡ leaf_count table root
-      last-below low =
-          let over = (here way (other union s some)).over in
-          last-leaf union root s.root_is (none-next way (other union s some) spot.parent (its union s some) count counts high (way-none table.nodes root _ _ _ _ _ _ over (omega (arith, low, some))).1)
+    module _ (first : HasPrev spot → ⊥) (low : 0 < spot.code / 8 % 8) where
+      abbrev prev-up : Branch up more spot.grand (spot.code / 8 % 8 - 1) ((here (spot-over union s) (other union s some)).top - 1)
+      prev-up = prev-own up more grand-is refl low
 
-    -- a leaf without a grandparent and without a next sibling is the last of the tree
-    pub last-low : spot.height < 2 → suc place ≡ leaf_count table root
-    last-low low = elim (eqb_tells spot.height 0) [
-      | inl none ↦ last-leaf union root s.root_is (way-none table.nodes root _ _ _ _ _ _ (spot-over union s) none.1).1
-      | inr w ↦ last-below (omega (arith, w.1)) low
-    ]
+      pub parent-before-asks : ChildAsked table.nodes spot.grand (spot.code / 8 % 8 - 1)
+      parent-before-asks = branch-asks up more prev-up
 
-    module _ (deep : 2 ≤ spot.height) where
-      module _ (children : ℕ) (says : (content : Content K V) → slice_get table.nodes spot.grand ≡ Some content → children ≡ entry_count content) (low : spot.code / 8 % 8 + 1 < children) where
-        pub parent-asks : (keys : List K) × (items : List ℕ) × (slice_get table.nodes spot.grand ≡ Some (Inner keys items)) × (spot.code / 8 % 8 + 1 < length items)
-        parent-asks = next-asks (up deep) (more deep) spot.grand (grand-is deep) children says low
+      module _ {parent : ℕ} (reads : ChildRead table.nodes spot.grand (spot.code / 8 % 8 - 1) parent) where
+        abbrev parent-at : NumberAt (heads (here (spot-over union s) (other union s some)).row) ((here (spot-over union s) (other union s some)).top - 1) parent
+        parent-at = branch-child up more prev-up reads
 
-        module _ (parent : ℕ) (reads : (keys : List K) (items : List ℕ) → slice_get table.nodes spot.grand ≡ Some (Inner keys items) → slice_get items (spot.code / 8 % 8 + 1) ≡ Some parent) where
-          abbrev on : NextAbove (spot-over union s) (other union s (deep-some deep)) (spot.code / 8 + 1) parent
-          on = (spot.grand ∷ drop 1 (drop 1 s.numbers), next-code (up deep) (more deep) spot.grand (grand-is deep) children says low, next-child (up deep) (more deep) spot.grand (grand-is deep) children says parent low reads)
+        pub cousin-last-asks : LastAsked table.nodes parent
+        cousin-last-asks = last-asks (spot-over union s) (other union s some) _ parent-at
 
-          -- what the first child of the next parent asks
-          pub cousin-asks : (keys : List K) × (items : List ℕ) × (slice_get table.nodes parent ≡ Some (Inner keys items)) × (0 < length items)
-          cousin-asks = first-asks (spot-over union s) (other union s (deep-some deep)) spot.parent (its union s (deep-some deep)) (count (deep-some deep)) (counts (deep-some deep)) (high (deep-some deep)) (spot.code / 8 + 1) parent on
+        module _ {last : ℕ} (says : LastRead table.nodes parent last) where
+          abbrev next-to : suc ((here (spot-over union s) (other union s some)).top - 1) ≡ (here (spot-over union s) (other union s some)).top
+          next-to = omega (arith, prev-some up more grand-is refl low)
 
-          module _ (leaf : ℕ) (found : (keys : List K) (items : List ℕ) → slice_get table.nodes parent ≡ Some (Inner keys items) → slice_get items 0 ≡ Some leaf) where
-            -- the next leaf is the first child of the next parent
-            pub cousin : (next : Spot) → next.code ≡ (spot.code / 8 + 1) * 8 → next.parent ≡ parent → next.grand ≡ spot.grand → next.height ≡ spot.height → IsSpotAt table root next (suc place) × IsLeafAt table root (suc place) leaf
-            cousin next code parent_is grand height =
-                let over = first-code (spot-over union s) (other union s (deep-some deep)) spot.parent (its union s (deep-some deep)) (count (deep-some deep)) (counts (deep-some deep)) (high (deep-some deep)) (spot.code / 8 + 1) parent on in (
-                  record {
-                    root_is = s.root_is;
-                    numbers = parent ∷ on.0;
-                    coded = subst (λ z. Coded (parent ∷ on.0) (tree_of table.nodes root).above z (suc place)) (sym code) over.coded;
-                    parent_is = λ low. sym parent_is;
-                    grand_is = λ low. sym grand;
-                    height_is = height ∙ s.height_is;
-                  },
-                  leaf-at union root s.root_is (first-child (spot-over union s) (other union s (deep-some deep)) spot.parent (its union s (deep-some deep)) (count (deep-some deep)) (counts (deep-some deep)) (high (deep-some deep)) (spot.code / 8 + 1) parent on leaf found),
-                )
+          abbrev leaf-before : Branch (spot-over union s) (other union s some) parent last (place - 1)
+          leaf-before = last-of (spot-over union s) (other union s some) (its union s some) refl (nought union s some first) next-to parent-at says
 
--- what is said of the node that a way from the root leads to, of a spot
-pub far-said : {K V : Type 0} {n : ℕ} {table : Table K V} (union : IsUnion n table) (root : ℕ) (spot : Spot) (found : Option (Spot × ℕ))
-    → IfSome found (λ f. (numbers : List ℕ) (rows : List (List (LevelNode K ℕ))) (list : List (K × ℕ)) (place : ℕ)
-    → CodedOver table.nodes root spot.code spot.height numbers rows list place → (others : List ℕ) × IsWay others f.0 rows (suc place)
-    × NumberAt list (suc place) f.1) →
-    IfSome found (λ f. (place : ℕ) → IsSpotAt table root spot place → IsSpotAt table root f.0 (suc place) × IsLeafAt table root (suc place) f.1)
-far-said {K} {table = table} union root spot found says = if_some _ _ found (λ f far place s.
-    let r = far s.numbers (tree_of table.nodes root).above (heads (tree_of table.nodes root).leaves) place (spot-over union s) in
-    (far-spot union s f.0 r.0 r.1, leaf-at union root s.root_is r.2)) says
+          pub cousin-before-asks : ChildAsked table.nodes parent last
+          cousin-before-asks = branch-asks (spot-over union s) (other union s some) leaf-before
+
+          -- the leaf before is the last child of the parent before
+          pub cousin-before : {next : Spot} {leaf : ℕ} → next.code ≡ (spot.code / 8 - 1) * 8 + last → next.parent ≡ parent → next.grand ≡ spot.grand → next.height ≡ spot.height → ChildRead table.nodes parent last leaf → (0 < place) × IsSpotAt table root next (place - 1) × IsLeafAt table root (place - 1) leaf
+          cousin-before code parent_is grand height found =
+              let r = there union s some leaf-before (branch-way up more prev-up (here up more).over {code1 = spot.code / 8 - 1} (omega (arith, low))) code parent_is height (λ low. sym grand) found in
+              (last-some (spot-over union s) (other union s some) (its union s some) refl (nought union s some first) next-to parent-at says, r.0, r.1)
+
+-- what is said of the node behind or before, to which a way from the root leads, of a spot
+module _ {K V : Type 0} {n : ℕ} {table : Table K V} (union : IsUnion n table) {root : ℕ} {spot far : Spot} {leaf : ℕ} where
+  pub far-behind : IsNextOf table.nodes root spot.code spot.height (Some (far, leaf)) → (place : ℕ) → IsSpotAt table root spot place → IsSpotAt table root far (suc place) × IsLeafAt table root (suc place) leaf
+  far-behind says place s =
+      let r = says.some s.numbers (tree_of table.nodes root).above (heads (tree_of table.nodes root).leaves) place (spot-over union s) in
+      (subst (IsSpotAt table root far) r.1 (far-spot union s r.3), subst (λ z. IsLeafAt table root z leaf) r.1 (leaf-at union root s.root_is r.4))
+
+  pub far-before : IsPrevOf table.nodes root spot.code spot.height (Some (far, leaf)) → (place : ℕ) → IsSpotAt table root spot place → (0 < place) × IsSpotAt table root far (place - 1) × IsLeafAt table root (place - 1) leaf
+  far-before says place s =
+      let r = says.some s.numbers (tree_of table.nodes root).above (heads (tree_of table.nodes root).leaves) place (spot-over union s) in
+      let to : r.0 ≡ place - 1 = omega (arith, r.1) in
+      (omega (arith, r.1), subst (IsSpotAt table root far) to (far-spot union s r.3), subst (λ z. IsLeafAt table root z leaf) to (leaf-at union root s.root_is r.4))

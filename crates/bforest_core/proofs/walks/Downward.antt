@@ -18,8 +18,8 @@ last_of x [] = record { init = []; last = x; is = refl }
 last_of x (y ∷ xs) = let r = last_of y xs in record { init = x ∷ r.init; last = r.last; is = ap (λ z. x ∷ z) r.is }
 
 -- a place at a node of a row
-abbrev pub at_node : {K X : Type 0} (row before : List (LevelNode K X)) (n : ℕ) (es : List (K × X)) (after : List (LevelNode K X)) (m j index place : ℕ) → row ≡ before ++ node n es ∷ after → m ≡ n → j ≡ index → index < length es → place ≡ length (flat before) + index → IsAt row m j place
-at_node row before n es after m j index place row_is m_is j_is low place_is =
+abbrev pub at_node : {K X : Type 0} {row : List (LevelNode K X)} (before : List (LevelNode K X)) {n : ℕ} (es : List (K × X)) (after : List (LevelNode K X)) {m j index place : ℕ} → row ≡ before ++ node n es ∷ after → m ≡ n → j ≡ index → index < length es → place ≡ length (flat before) + index → IsAt row m j place
+at_node before es after row_is m_is j_is low place_is =
     record { before = before; entries = es; after = after; row_is = row_is ∙ ap (λ z. before ++ node z es ∷ after) (sym m_is); within = omega (arith, j_is, low); place_is = place_is ∙ ap (λ z. length (flat before) + z) (sym j_is) }
 
 module _ {K : Type 0} where
@@ -32,13 +32,13 @@ module _ {K : Type 0} where
   in_last slots (r ∷ rows) row i = let w = in_last slots rows row i.1 in ((i.0, w.0), w.1)
 
   -- one more row on top
-  pub stands_more : (path indices : List ℕ) (level : ℕ) (rows : List (List (LevelNode K ℕ))) (row : List (LevelNode K ℕ)) (place q high : ℕ) → StandsTo path indices level rows place q → high ≡ level + length rows → (at : IsAt row (get_or path high 0) (get_or indices high 0) q) →
+  pub stands_more : (path indices : List ℕ) (level : ℕ) (rows : List (List (LevelNode K ℕ))) {row : List (LevelNode K ℕ)} (place : ℕ) {q : ℕ} (high : ℕ) → StandsTo path indices level rows place q → high ≡ level + length rows → (at : IsAt row (get_or path high 0) (get_or indices high 0) q) →
       StandsTo path indices level (rows ++ row ∷ []) place (length at.before)
-  stands_more path indices level [] row place q high s e at =
+  stands_more path indices level [] place high s e at =
       let h : high ≡ level = omega (arith, e) in
       (record { before = at.before; entries = at.entries; after = at.after; row_is = rw h at at.row_is; within = rw h at at.within; place_is = s ∙ (rw h at at.place_is) }, refl)
-  stands_more path indices level (r ∷ rows) row place q high s e at =
-      (s.0, stands_more path indices (suc level) rows row (length s.0.before) q high s.1 (omega (arith, e)) at)
+  stands_more path indices level (r ∷ rows) {row = row} place {q = q} high s e at =
+      (s.0, stands_more path indices (suc level) rows (length s.0.before) high s.1 (omega (arith, e)) at)
 
 -- the node of a row whose head is between these heads
 pub record Seen {K X : Type 0} (half most : ℕ) (row : List (LevelNode K X)) (a : List (K × ℕ)) (first : K) (number : ℕ) (b : List (K × ℕ)) : Type 0 where
@@ -71,11 +71,11 @@ module _ {K X : Type 0} where
   heads_all P (node m (e ∷ es) ∷ ns) h = (h.0, heads_all P ns (all_split P es (flat ns) h.1).1)
 
   -- the heads of a row increase where its entries do
-  pub heads_increasing : (cmp : K → K → Ordering) → IsTotalOrder cmp → (row : List (LevelNode K X)) → IsIncreasing cmp (flat row) → IsIncreasing cmp (heads row)
+  pub heads_increasing : {cmp : K → K → Ordering} → IsTotalOrder cmp → (row : List (LevelNode K X)) → IsIncreasing cmp (flat row) → IsIncreasing cmp (heads row)
   unfolding IsStrictlySortedBy
-  heads_increasing cmp o [] h = tt
-  heads_increasing cmp o (node m [] ∷ ns) h = heads_increasing cmp o ns h
-  heads_increasing cmp o (node m (e ∷ es) ∷ ns) h = (heads_all (λ k. cmp e.0 k ≡ Less) ns (all_split (λ k. cmp e.0 k ≡ Less) es (flat ns) h.0).1, heads_increasing cmp o ns (increasing_split cmp o es (flat ns) h.1).1)
+  heads_increasing o [] h = tt
+  heads_increasing {cmp = cmp} o (node m [] ∷ ns) h = heads_increasing o ns h
+  heads_increasing {cmp = cmp} o (node m (e ∷ es) ∷ ns) h = (heads_all (λ k. cmp e.0 k ≡ Less) ns (all_split (λ k. cmp e.0 k ≡ Less) es (flat ns) h.0).1, heads_increasing o ns (increasing_split o es (flat ns) h.1).1)
 
   -- a key that is less than the first head of a row is less than its first entry
   pub upto_flat : (cmp : K → K → Ordering) (half most : ℕ) → 1 ≤ half → (row : List (LevelNode K X)) (key : K) → FitRow half most row → IsUpTo cmp (heads row) key → IsUpTo cmp (flat row) key
@@ -86,4 +86,4 @@ module _ {K X : Type 0} where
 -- the nodes of the top increase where the entries of the lowest row do
 pub stacked_increasing : {K : Type 0} (cmp : K → K → Ordering) → IsTotalOrder cmp → (list : List (K × ℕ)) (rows : List (List (LevelNode K ℕ))) (top : List (K × ℕ)) → StackedTo list rows top → IsIncreasing cmp list → IsIncreasing cmp top
 stacked_increasing cmp o list [] top s h = subst (IsIncreasing cmp) s h
-stacked_increasing cmp o list (row ∷ rows) top s h = stacked_increasing cmp o (heads row) rows top s.2 (heads_increasing cmp o row (subst (IsIncreasing cmp) (sym s.0) h))
+stacked_increasing cmp o list (row ∷ rows) top s h = stacked_increasing cmp o (heads row) rows top s.2 (heads_increasing o row (subst (IsIncreasing cmp) (sym s.0) h))

@@ -1,6 +1,6 @@
 -- Two searches that go to the same child of a node: each answer of `goes_along` is one of these.
 use Rattle.std.proofs.Common.{◌≡◌, ℕ, suc, ◌-◌, ◌<◌, ◌≤◌, List, [], ◌∷◌, Some, arith, false, length, refl, slice_get, subst, sym, ap, true, ◌∙◌}
-use Rattle.bforest_core.proofs.Words.{Content, Inner, IsStrictlySortedBy, IsTotalOrder, child_index, entry_count, slice_get_within}
+use Rattle.bforest_core.proofs.Words.{Content, Inner, IsStrictlySortedBy, IsTotalOrder, child_index, slice_get_within}
 use Rattle.bforest_core.proofs.table.Stored.{some_same}
 use Rattle.bforest_nodes.specs.Content.{keys_of}
 use Rattle.bforest_nodes.proofs.Searched.{all_greater_behind, count_up_to-no, count_up_to-none, count_up_to-yes}
@@ -9,6 +9,7 @@ use Rattle.std.proofs.lemmas.Cmp.{alike_right}
 use Rattle.std.specs.Ordering.{is_gt, is_lt, ordering_reverse}
 use Rattle.std.specs.declared.cmp.Ordering.TheVariants.{Equal, Greater, Less}
 use Rattle.std.specs.declared.cmp.Ordering.{Ordering}
+use Rattle.bforest_core.proofs.walks.Reading.{LastRead}
 
 module _ {K : Type 0} {cmp : K → K → Ordering} (o : IsTotalOrder cmp) where
   -- what is not greater than a key is not greater than one that is not less
@@ -80,7 +81,7 @@ module _ {K V : Type 0} {cmp : K → K → Ordering} (o : IsTotalOrder cmp) (slo
       (from : K) (keys : List K) (children : List ℕ) → slice_get slots node ≡ Some (Inner keys children) → index ≡ child_index cmp keys from
       → is_gt (cmp from key) ≡ false → index ≡ child_index cmp keys key
 
-  module _ (keys : List K) (children : List ℕ) (found : slice_get slots node ≡ Some (Inner keys children)) where
+  module _ {keys : List K} {children : List ℕ} (found : slice_get slots node ≡ Some (Inner keys children)) where
     same-keys : asked.0 ≡ keys
     same-keys = ap keys_of (some_same (Inner asked.0 asked.1) (Inner keys children) (sym asked.2 ∙ found))
 
@@ -88,7 +89,7 @@ module _ {K V : Type 0} {cmp : K → K → Ordering} (o : IsTotalOrder cmp) (slo
     sorted-keys = subst (IsStrictlySortedBy cmp) same-keys asked.3
 
   -- there is a separator at an index that is not that of the last child
-  module _ {last : ℕ} (says : (content : Content K V) → slice_get slots node ≡ Some content → last ≡ entry_count content - 1) where
+  module _ {last : ℕ} (says : LastRead slots node last) where
     pub separator-there : (index ≡ last → ⊥) → (keys : List K) × (children : List ℕ) × (slice_get slots node ≡ Some (Inner keys children))
         × (index < length keys)
     separator-there other =
@@ -99,15 +100,15 @@ module _ {K V : Type 0} {cmp : K → K → Ordering} (o : IsTotalOrder cmp) (slo
     pub along-last : index ≡ last → GoesAlong
     along-last is from keys children found at ordered =
         let end = says (Inner asked.0 asked.1) asked.2 in
-        let same = ap length (same-keys keys children found) in
-        at ∙ same-child o from key ordered keys (sorted-keys keys children found)
+        let same = ap length (same-keys found) in
+        at ∙ same-child o from key ordered keys (sorted-keys found)
         (λ s read. absurd (omega (arith, slice_get_within keys (child_index cmp keys from) s read, at, is, end, asked.4, same)))
 
   -- the separator behind the child is greater
   pub along-below : {s : K} → ((keys : List K) (children : List ℕ) → slice_get slots node ≡ Some (Inner keys children)
       → slice_get keys index ≡ Some s) → cmp key s ≡ Less → GoesAlong
   along-below {s} reads less from keys children found at ordered =
-      at ∙ same-child o from key ordered keys (sorted-keys keys children found) (λ z read.
+      at ∙ same-child o from key ordered keys (sorted-keys found) (λ z read.
       let is : z ≡ s = some_same z s (sym read ∙ ap (slice_get keys) (sym at) ∙ reads keys children found) in
       ap (λ y. cmp y key) is ∙ o.antisymm s key ∙ ap ordering_reverse less)
 
@@ -117,7 +118,7 @@ module _ {K V : Type 0} {cmp : K → K → Ordering} (o : IsTotalOrder cmp) (slo
       → (from : K) (keys : List K) (children : List ℕ) → slice_get slots node ≡ Some (Inner keys children)
       → index ≡ child_index cmp keys from → is_gt (cmp from key) ≡ false
   not-along {s} reads past from keys children found at =
-      not-greater o from s key (greater-behind o from s keys (sorted-keys keys children found) (ap (slice_get keys) (sym at) ∙ reads keys children found)) past
+      not-greater o from s key (greater-behind o from s keys (sorted-keys found) (ap (slice_get keys) (sym at) ∙ reads keys children found)) past
 
 -- a key that is tested to be less
 pub less-tested : (r : Ordering) → is_lt r ≡ true → r ≡ Less

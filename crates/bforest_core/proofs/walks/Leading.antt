@@ -1,19 +1,14 @@
--- The descent to the first entry and to the last: the answers of `descend_first` and `descend_last`.
-use Rattle.std.proofs.Common.{◌≡◌, ◌≢◌, ℕ, zero, suc, ◌+◌, ◌-◌, ◌≤◌, ◌<◌, List, [], ◌∷◌, ◌++◌, drop, length, get_or, set, slice_get, Some, refl, sym, ap, subst, ◌∙◌, arith, length-append}
-use Rattle.bforest_core.proofs.Words.{length-map, nil_from_length, Content, Inner, IsInner, entry_count, children_of, LevelNode, node, flat, Tree, half_of, leaf_content, inner_content, entry_items, entry_keys, IsAt, Stands, StandsTo, SameAbove, Under, Led, LedLast}
+-- The descent to the first entry and to the last, as one on a side: the answers of `descend_first` and `descend_last`.
+use Rattle.std.proofs.Common.{◌≡◌, ◌≢◌, ℕ, zero, suc, ◌+◌, ◌-◌, ◌≤◌, ◌<◌, List, [], ◌∷◌, ◌++◌, length, get_or, set, slice_get, Some, refl, sym, ap, subst, ◌∙◌, arith, length-append}
+use Rattle.bforest_core.proofs.Words.{length-map, nil_from_length, Content, IsInner, entry_count, children_of, LevelNode, node, flat, leaf_content, inner_content, entry_items, StandsTo, HasBelow, IsFirst, IsLast, Led, OnBelow, Under}
 use Rattle.bforest_core.proofs.rows.LevelRows.{flat-append}
 use Rattle.bforest_core.proofs.table.Stored.{some_same, item_count}
 use Rattle.bforest_core.proofs.walks.Downward.{Seen, stands_more}
-use Rattle.bforest_core.proofs.walks.Steps.{no_heads}
+use Rattle.bforest_core.proofs.walks.RowNodes.{no_heads}
 use Rattle.bforest_core.proofs.walks.TopNode.{SameBut, none_flat, flat_parted, seen_at, set_but, LeafUnder, InnerUnder, inner_at, inner_under, leaf_at}
-use Rattle.bforest_core.proofs.walks.Whole.{stands_above}
-
--- the path stands at a place of the leaves, and on the rows up to this node of the top; above it is unchanged
-pub record LedTo {K V : Type 0} (leaves : List (LevelNode K V)) (lower : List (List (LevelNode K ℕ))) (place top : ℕ) (path indices path' indices' : List ℕ) : Type 0 where
-  pub leaf : IsAt leaves (get_or path' 0 0) (get_or indices' 0 0) place
-  pub stands : StandsTo path' indices' 1 lower (length leaf.before) top
-  pub nodes_above : SameAbove (length lower) path path'
-  pub entries_above : SameAbove (length lower) indices indices'
+use Rattle.bforest_core.proofs.walks.Reading.{ChildAsked, ChildRead, LastRead}
+use Rattle.bforest_core.proofs.Words.{IsLeafCapacity}
+use Rattle.bforest_core.proofs.rows.LevelRows.{some_leaf}
 
 -- a node's entries, cut at the child of an index
 child_cut : {K : Type 0} (es : List (K × ℕ)) (index child : ℕ) → slice_get (entry_items es) index ≡ Some child → (l : List (K × ℕ)) × (key : K) × (r : List (K × ℕ)) × (es ≡ l ++ (key, child) ∷ r) × (length l ≡ index)
@@ -22,60 +17,59 @@ child_cut (y ∷ es) zero child found = ([], y.0, es, ap (λ z. (y.0, z) ∷ es)
 child_cut (y ∷ es) (suc index) child found = let r = child_cut es index child found in (y ∷ r.0, r.1, r.2, ap (λ z. y ∷ z) r.3, ap suc r.4)
 
 -- a row ends with the last entry of its last node
-pub last_place : {K X : Type 0} (half most : ℕ) → 1 ≤ half → (row : List (LevelNode K X)) (a : List (K × ℕ)) (first : K) (number : ℕ) (at : Seen half most row a first number []) → length (flat row) ≡ length (flat at.before) + suc (length at.es)
-last_place half most one row a first number at =
+pub last_place : {K X : Type 0} {half : ℕ} (most : ℕ) → 1 ≤ half → {row : List (LevelNode K X)} {a first number : _} (at : Seen half most row a first number []) → length (flat row) ≡ length (flat at.before) + suc (length at.es)
+last_place {half = half} most one {number = number} at =
     let none = ap (λ z. length (flat z)) (no_heads half most one at.after at.after_fit at.after_is) in
     let parts = ap length (ap flat at.row_is ∙ flat-append at.before (node number (at.e ∷ at.es) ∷ at.after)) in
     omega (arith, none, parts, length-append (flat at.before) ((at.e ∷ at.es) ++ flat at.after), length-append at.es (flat at.after))
 
-module _ {K V : Type 0} (most : ℕ) (slots : List (Content K V)) (leaves : List (LevelNode K V)) (lower : List (List (LevelNode K ℕ))) (a : List (K × ℕ)) (first : K) (number : ℕ) (b : List (K × ℕ)) (path indices : List ℕ) where
+module _ {K V : Type 0} {most : ℕ} {slots : List (Content K V)} {leaves : List (LevelNode K V)} {lower : List (List (LevelNode K ℕ))} {a : List (K × ℕ)} {first : K} {number : ℕ} {b : List (K × ℕ)} (path indices : List ℕ) where
   -- the path leads to an entry of a leaf
-  leaf_led : (s : LeafUnder most slots leaves lower a first number b) (path' indices' : List ℕ) (index place : ℕ) → index ≤ length s.at.es
+  pub leaf_led : (s : LeafUnder most slots leaves lower a first number b) (path' indices' : List ℕ) {index : ℕ} (place : ℕ) → index ≤ length s.at.es
       → place ≡ length (flat s.at.before) + index → get_or path' 0 0 ≡ number → get_or indices' 0 0 ≡ index → SameBut 0 path path'
-      → SameBut 0 indices indices' → LedTo leaves lower place (length a) path indices path' indices'
-  leaf_led s path' indices' index place within place_is m_is j_is nodes entries =
-      subst (λ (z : List (List (LevelNode K ℕ))). LedTo leaves z place (length a) path indices path' indices') (sym s.lower_is) (record {
-        leaf = seen_at s.at (get_or path' 0 0) (get_or indices' 0 0) index place m_is j_is within place_is;
+      → SameBut 0 indices indices' → Led leaves lower place (length a) path indices path' indices'
+  leaf_led s path' indices' place within place_is m_is j_is nodes entries =
+      subst (λ z. Led leaves z place (length a) path indices path' indices') (sym s.lower_is) (record {
+        leaf = seen_at s.at m_is j_is within place_is;
         stands = s.at.before_is;
         nodes_above = λ i low. nodes i (λ z. omega (arith, z, low));
         entries_above = λ i low. entries i (λ z. omega (arith, z, low));
       })
 
   -- the path, once it was written at an inner node, leads on from a child
-  inner_led : (s : InnerUnder most slots leaves lower a first number b) (path1 indices1 path2 indices2 : List ℕ) (high index place top : ℕ)
+  inner_led : (s : InnerUnder most slots leaves lower a first number b) {path1 indices1 : _} (path2 indices2 : _) (high : ℕ) {index : ℕ} {place : _} {top : ℕ}
       → high ≡ suc (length s.rows) → index ≤ length s.at.es → top ≡ length (flat s.at.before) + index
-      → LedTo leaves s.rows place top path1 indices1 path2 indices2 → get_or path1 high 0 ≡ number → get_or indices1 high 0 ≡ index →
-      SameBut high path path1 → SameBut high indices indices1 → LedTo leaves lower place (length a) path indices path2 indices2
-  inner_led s path1 indices1 path2 indices2 high index place top high_is within top_is d m_is j_is nodes entries =
+      → Led leaves s.rows place top path1 indices1 path2 indices2 → get_or path1 high 0 ≡ number → get_or indices1 high 0 ≡ index →
+      SameBut high path path1 → SameBut high indices indices1 → Led leaves lower place (length a) path indices path2 indices2
+  inner_led s path2 indices2 high high_is within top_is d m_is j_is nodes entries =
       let node_is = d.nodes_above high (omega (arith, high_is)) ∙ m_is in
       let index_is = d.entries_above high (omega (arith, high_is)) ∙ j_is in
-      let more = stands_more path2 indices2 1 s.rows s.row (length d.leaf.before) top high d.stands (omega (arith, high_is)) (seen_at s.at (get_or path2 high 0) (get_or indices2 high 0) index top node_is index_is within top_is) in
+      let more = stands_more path2 indices2 1 s.rows (length d.leaf.before) high d.stands (omega (arith, high_is)) (seen_at s.at node_is index_is within top_is) in
       record {
         leaf = d.leaf;
-        stands = subst (λ (z : List (List (LevelNode K ℕ))). StandsTo path2 indices2 1 z (length d.leaf.before) (length a)) (sym s.lower_is) (subst (λ (z : ℕ). StandsTo path2 indices2 1 (s.rows ++ s.row ∷ []) (length d.leaf.before) z) s.at.before_is more);
+        stands = subst (λ z. StandsTo path2 indices2 1 z (length d.leaf.before) (length a)) (sym s.lower_is) (subst (λ z. StandsTo path2 indices2 1 (s.rows ++ s.row ∷ []) (length d.leaf.before) z) s.at.before_is more);
         nodes_above = λ i low. d.nodes_above i (omega (arith, low, s.count_is)) ∙ nodes i (λ z. omega (arith, z, low, high_is, s.count_is));
         entries_above = λ i low. d.entries_above i (omega (arith, low, s.count_is)) ∙ entries i (λ z. omega (arith, z, low, high_is, s.count_is));
       }
 
-module _ {K V : Type 0} (most : ℕ) (slots : List (Content K V)) (leaves : List (LevelNode K V)) (lower : List (List (LevelNode K ℕ))) (a : List (K × ℕ)) (first : K) (number : ℕ) (b : List (K × ℕ)) (s : InnerUnder most slots leaves lower a first number b)
-    (content2 : Content K V) (read2 : slice_get slots number ≡ Some content2) where
+module _ {K V : Type 0} {most : _} {slots : List (Content K V)} {leaves lower a first number b : _} (s : InnerUnder most slots leaves lower a first number b) {content2 : Content K V} (read2 : slice_get slots number ≡ Some content2) where
   content_is : content2 ≡ inner_content (s.at.e ∷ s.at.es)
   content_is = some_same content2 (inner_content (s.at.e ∷ s.at.es)) (sym read2 ∙ s.slot_is)
 
   -- the node meets what reading a child requires
   pub child_asks : (index : ℕ) → index ≤ length s.at.es → IsInner content2 × (index < entry_count content2)
-  child_asks index within = (subst IsInner (sym content_is) tt, subst (λ (z : Content K V). index < entry_count z) (sym content_is) (omega (arith, within, item_count (s.at.e ∷ s.at.es))))
+  child_asks index within = (subst IsInner (sym content_is) tt, subst (λ z. index < entry_count z) (sym content_is) (omega (arith, within, item_count (s.at.e ∷ s.at.es))))
 
   -- the leaves and rows under a child
-  pub child_under : (index child : ℕ) → slice_get (children_of content2) index ≡ Some child → (front : List (K × ℕ)) × (key : K)
+  pub child_under : (index : ℕ) {child : ℕ} → slice_get (children_of content2) index ≡ Some child → (front : List (K × ℕ)) × (key : K)
       × (back : List (K × ℕ)) × Under most slots leaves s.rows (front ++ (key, child) ∷ back)
       × (length front ≡ length (flat s.at.before) + index) × (length front + suc (length back) ≡ length (flat s.row))
-  child_under index child found =
+  child_under index {child = child} found =
       let c = child_cut (s.at.e ∷ s.at.es) index child (ap (λ z. slice_get (children_of z) index) (sym content_is) ∙ found) in
       let front = flat s.at.before ++ c.0 in
       let back = c.2 ++ flat s.at.after in
-      let flat_is = ap flat s.at.row_is ∙ flat_parted s.at.before number (s.at.e ∷ s.at.es) c.0 (c.1, child) c.2 s.at.after c.3 in
-      let under = subst (λ (z : List (K × ℕ)). Under most slots leaves s.rows z) flat_is s.under in
+      let flat_is = ap flat s.at.row_is ∙ flat_parted s.at.before number c.0 (c.1, child) c.2 s.at.after c.3 in
+      let under = subst (λ z. Under most slots leaves s.rows z) flat_is s.under in
       (front, c.1, back, under, length-append (flat s.at.before) c.0 ∙ ap (λ z. length (flat s.at.before) + z) c.4, sym (ap length flat_is ∙ length-append front ((c.1, child) ∷ back)))
 
 module _ {K V : Type 0} (most : ℕ) (slots : List (Content K V)) where
@@ -87,161 +81,92 @@ module _ {K V : Type 0} (most : ℕ) (slots : List (Content K V)) where
     pub under : Under most slots leaves rows ((first, child) ∷ rest)
     pub count_is : length lower ≡ suc (length rows)
 
-  -- what a call leaves that descends from a node on this level to the first entry below it
-  abbrev pub LeadsFirst : List ℕ → List ℕ → List ℕ → List ℕ → ℕ → ℕ → Type 0
-  LeadsFirst path indices path1 indices1 child level =
-      (leaves : List (LevelNode K V)) (lower : List (List (LevelNode K ℕ))) (first : K) (b : List (K × ℕ)) → Under most slots leaves lower ((first, child) ∷ b) → level ≡ length lower → Led leaves lower path indices path1 indices1
-
-  -- what a call leaves that descends from the last node of this level to the last entry below it
-  abbrev pub LeadsLast : List ℕ → List ℕ → List ℕ → List ℕ → ℕ → ℕ → Type 0
-  LeadsLast path indices path1 indices1 child level =
-      (leaves : List (LevelNode K V)) (lower : List (List (LevelNode K ℕ))) (before : List (K × ℕ)) (first : K) → Under most slots leaves lower (before ++ (first, child) ∷ []) → level ≡ length lower → LedLast leaves lower (length before) path indices path1 indices1
-
-module _ {K V : Type 0} (most : ℕ) (one : 1 ≤ half_of most) (slots : List (Content K V)) (leaves : List (LevelNode K V)) (lower : List (List (LevelNode K ℕ))) (first : K) (number : ℕ) (b : List (K × ℕ)) where
-  -- the first node is a leaf
-  pub led_leaf : (s : LeafUnder most slots leaves lower [] first number b) (path indices path' indices' : List ℕ) → get_or path' 0 0 ≡ number → get_or indices' 0 0 ≡ 0 → SameBut 0 path path' → SameBut 0 indices indices' → (0 ≡ length lower) × Led leaves lower path indices path' indices'
-  led_leaf s path indices path' indices' m_is j_is nodes entries =
-      let l = leaf_led most slots leaves lower [] first number b path indices s path' indices' 0 0 (omega arith) (omega (arith, none_flat s.at.before s.at.before_is)) m_is j_is nodes entries in
-      (sym (ap length s.lower_is), record { leaf = l.leaf; stands = l.stands; nodes_above = l.nodes_above; entries_above = l.entries_above })
-
-  module _ (u : Under most slots leaves lower ((first, number) ∷ b)) (content content2 : Content K V) (read : slice_get slots number ≡ Some content) (inner : IsInner content) (read2 : slice_get slots number ≡ Some content2) where
+module _ {K V : Type 0} {most : ℕ} (capacity : IsLeafCapacity most) {slots : List (Content K V)} {leaves : List (LevelNode K V)} {lower : List (List (LevelNode K ℕ))} {first : K} {number : ℕ} {b : List (K × ℕ)} where
+  module _ (u : Under most slots leaves lower ((first, number) ∷ b)) {content content2 : Content K V} (read : slice_get slots number ≡ Some content) (inner : IsInner content) (read2 : slice_get slots number ≡ Some content2) where
     abbrev pub front_node : InnerUnder most slots leaves lower [] first number b
-    front_node = inner_under most one slots leaves lower [] first number b u content read inner
+    front_node = inner_under capacity [] first number b u read inner
 
     -- the first node meets what reading its first child requires
     pub front_asks : IsInner content2 × (0 < entry_count content2)
-    front_asks = child_asks most slots leaves lower [] first number b front_node content2 read2 0 (omega arith)
+    front_asks = child_asks front_node read2 0 (omega arith)
 
-    module _ (child : ℕ) (child_read : slice_get (children_of content2) 0 ≡ Some child) where
+    module _ {child : ℕ} (child_read : slice_get (children_of content2) 0 ≡ Some child) where
       pub front_below : FrontBelow most slots leaves lower child
       front_below =
-          let c = child_under most slots leaves lower [] first number b front_node content2 read2 0 child child_read in
+          let c = child_under front_node read2 0 child_read in
           let none = nil_from_length c.0 (omega (arith, c.4, none_flat front_node.at.before front_node.at.before_is)) in
-          record { rows = front_node.rows; first = c.1; rest = c.2; under = subst (λ (z : List (K × ℕ)). Under most slots leaves front_node.rows (z ++ (c.1, child) ∷ c.2)) none c.3; count_is = front_node.count_is }
+          record { rows = front_node.rows; first = c.1; rest = c.2; under = subst (λ z. Under most slots leaves front_node.rows (z ++ (c.1, child) ∷ c.2)) none c.3; count_is = front_node.count_is }
 
--- a node on a level that is known, whose index in the path was written
-module _ {K V : Type 0} (most : ℕ) (one : 1 ≤ half_of most) (slots : List (Content K V)) (leaves : List (LevelNode K V))
-    (lower : List (List (LevelNode K ℕ))) (a : List (K × ℕ)) (first : K) (number : ℕ) (b : List (K × ℕ))
-    (u : Under most slots leaves lower (a ++ (first, number) ∷ b)) {level : ℕ} (level_is : level ≡ length lower) where
-  abbrev at_leaf : level ≡ 0 → LeafUnder most slots leaves lower a first number b
-  at_leaf none = leaf_at most one slots leaves lower a first number b u (omega (arith, level_is, none))
+-- the entries of a row end with those of its last node
+last-end : {K X : Type 0} {half : ℕ} {most : ℕ} → 1 ≤ half → {row : List (LevelNode K X)} {a : _} {first number : _} (b : _) (at : Seen half most row a first number b) → b ≡ [] → length (flat row) ≡ length (flat at.before) + suc (length at.es)
+last-end {most = most} one [] at none = last_place most one at
+last-end one (x ∷ b) at none = absurd (omega (arith, ap length none))
 
-  abbrev at_inner : level ≢ 0 → InnerUnder most slots leaves lower a first number b
-  at_inner some = inner_at most one slots leaves lower a first number b u (λ z. some (level_is ∙ z))
+module _ {K V : Type 0} (most : ℕ) (slots : List (Content K V)) (Side : List (K × ℕ) → List (K × ℕ) → Type 0) (place : List (LevelNode K V) → ℕ) (number index : ℕ) where
+  -- the way down one side of a tree goes on from a node to its child at this index, and ends at this index of a leaf, at this place
+  pub record Turns : Type 0 where
+    pub within : (leaves lower a first b : _) (s : InnerUnder most slots leaves lower a first number b) → Side a b → index ≤ length s.at.es
+    pub keeps : (leaves lower a first b : _) (s : InnerUnder most slots leaves lower a first number b) → Side a b → (front back : List (K × ℕ))
+        → length front ≡ length (flat s.at.before) + index → length front + suc (length back) ≡ length (flat s.row) → Side front back
+    pub low : (leaves lower a first b : _) (s : LeafUnder most slots leaves lower a first number b) → Side a b → index ≤ length s.at.es
+    pub ends : (leaves lower a first b : _) (s : LeafUnder most slots leaves lower a first number b) → Side a b → place leaves ≡ length (flat s.at.before) + index
 
-  module _ (path indices path1 indices1 : List ℕ) (index : ℕ) (node_here : get_or path1 level 0 ≡ number) (entry_here : get_or indices1 level 0 ≡ index) (path_is : path1 ≡ set path level number) (indices_are : indices1 ≡ set indices level index) where
-    -- the node is a leaf
-    ended : (none : level ≡ 0) (place : ℕ) → index ≤ length (at_leaf none).at.es → place ≡ length (flat (at_leaf none).at.before) + index → LedTo leaves lower place (length a) path indices path1 indices1
-    ended none place within place_is =
-        leaf_led most slots leaves lower a first number b path indices (at_leaf none) path1 indices1 index place within place_is
-        (ap (λ z. get_or path1 z 0) (sym none) ∙ node_here) (ap (λ z. get_or indices1 z 0) (sym none) ∙ entry_here)
-        (λ i ne. set_but path path1 level number path_is i (λ e. ne (e ∙ none)))
-        (λ i ne. set_but indices indices1 level index indices_are i (λ e. ne (e ∙ none)))
+module _ {K V : Type 0} {most : ℕ} {slots : List (Content K V)} where
+  pub first-turns : {number : ℕ} → Turns most slots IsFirst (λ leaves. 0) number 0
+  first-turns = record {
+    within = λ leaves lower a first b s side. omega arith;
+    keeps = λ leaves lower a first b s side front back front_is sum_is. nil_from_length front (omega (arith, front_is, none_flat s.at.before (s.at.before_is ∙ ap length side)));
+    low = λ leaves lower a first b s side. omega arith;
+    ends = λ leaves lower a first b s side. omega (arith, none_flat s.at.before (s.at.before_is ∙ ap length side));
+  }
 
-    -- the path leads on from a child of the node
-    led_on : (some : level ≢ 0) (path2 indices2 : List ℕ) (place top : ℕ) → index ≤ length (at_inner some).at.es
-        → top ≡ length (flat (at_inner some).at.before) + index → LedTo leaves (at_inner some).rows place top path1 indices1 path2 indices2
-        → LedTo leaves lower place (length a) path indices path2 indices2
-    led_on some path2 indices2 place top within top_is d =
-        inner_led most slots leaves lower a first number b path indices (at_inner some) path1 indices1 path2 indices2 level index place top
-        (level_is ∙ (at_inner some).count_is) within top_is d node_here entry_here (set_but path path1 level number path_is)
-        (set_but indices indices1 level index indices_are)
+  pub last-turns : {number last : ℕ} (capacity : IsLeafCapacity most) → LastRead slots number last → Turns most slots IsLast (λ leaves. length (flat leaves) - 1) number last
+  last-turns {number} {last} capacity says = record {
+    within = λ leaves lower a first b s side. omega (arith, index s);
+    keeps = λ leaves lower a first b s side front back front_is sum_is. nil_from_length back (omega (arith, front_is, sum_is, index s, last-end (omega arith) b s.at side));
+    low = λ leaves lower a first b s side. omega (arith, at-leaf s);
+    ends = λ leaves lower a first b s side. omega (arith, at-leaf s, last-end (some_leaf capacity) b s.at side);
+  }
+    where
+      index : {leaves lower a first b : _} (s : InnerUnder most slots leaves lower a first number b) → last ≡ length s.at.es
+      index s = omega (arith, says (inner_content (s.at.e ∷ s.at.es)) s.slot_is, item_count (s.at.e ∷ s.at.es))
 
-  module _ (some : level ≢ 0) (index : ℕ) (within : index ≤ length (at_inner some).at.es) where
-    -- the node meets what reading the child requires
-    inner_asks : (keys : List K) × (children : List ℕ) × (slice_get slots number ≡ Some (Inner keys children)) × (index < length children)
-    inner_asks = let es = (at_inner some).at.e ∷ (at_inner some).at.es in (drop 1 (entry_keys es), entry_items es, (at_inner some).slot_is, omega (arith, within, item_count es))
+      at-leaf : {leaves lower a first b : _} (s : LeafUnder most slots leaves lower a first number b) → last ≡ length s.at.es
+      at-leaf s = omega (arith, says (leaf_content (s.at.e ∷ s.at.es)) s.slot_is, length-map (s.at.e ∷ s.at.es) (λ w. w.0))
 
-    -- the leaves and rows under the child
-    inner_below : (child : ℕ) → ((keys : List K) (children : List ℕ) → slice_get slots number ≡ Some (Inner keys children)
-        → slice_get children index ≡ Some child) → (front : List (K × ℕ)) × (key : K) × (back : List (K × ℕ))
-        × Under most slots leaves (at_inner some).rows (front ++ (key, child) ∷ back)
-        × (length front ≡ length (flat (at_inner some).at.before) + index)
-        × (length front + suc (length back) ≡ length (flat (at_inner some).row))
-    inner_below child says = let es = (at_inner some).at.e ∷ (at_inner some).at.es in child_under most slots leaves lower a first number b (at_inner some) (inner_content es) (at_inner some).slot_is index child (says (drop 1 (entry_keys es)) (entry_items es) (at_inner some).slot_is)
-
--- the descent to the first entry
-module _ {K V : Type 0} (most : ℕ) (one : 1 ≤ half_of most) (slots : List (Content K V)) (leaves : List (LevelNode K V))
-    (lower : List (List (LevelNode K ℕ))) (first : K) (number : ℕ) (b : List (K × ℕ))
-    (u : Under most slots leaves lower ((first, number) ∷ b)) {level : ℕ} (level_is : level ≡ length lower) where
+-- the descent on capacity side, from a node whose index in the path was written
+module _ {K V : Type 0} {most : ℕ} (capacity : IsLeafCapacity most) {slots : List (Content K V)} {Side : List (K × ℕ) → List (K × ℕ) → Type 0} {place : List (LevelNode K V) → ℕ} {number index : ℕ} (turns : Turns most slots Side place number index) {level : ℕ} where
   -- at the leaf
-  pub first_ends : level ≡ 0 → (path indices path1 indices1 : List ℕ) → get_or path1 level 0 ≡ number → get_or indices1 level 0 ≡ 0 → path1 ≡ set path level number → indices1 ≡ set indices level 0 → Led leaves lower path indices path1 indices1
-  first_ends none path indices path1 indices1 node_here entry_here path_is indices_are =
-      let s = at_leaf most one slots leaves lower [] first number b u level_is none in
-      let l = ended most one slots leaves lower [] first number b u level_is path indices path1 indices1 0 node_here entry_here path_is indices_are none 0 (omega arith) (omega (arith, none_flat s.at.before s.at.before_is)) in
-      record { leaf = l.leaf; stands = l.stands; nodes_above = l.nodes_above; entries_above = l.entries_above }
+  pub led-ends : level ≡ 0 → {path indices path1 indices1 : List ℕ} → (get_or path1 level 0 ≡ number) × (get_or indices1 level 0 ≡ index) → path1 ≡ set path level number
+      → indices1 ≡ set indices level index → OnBelow most slots Side number level (λ leaves lower top. Led leaves lower (place leaves) top path indices path1 indices1)
+  led-ends none {path} {indices} {path1} {indices1} here path_is indices_are leaves lower a first b side u level_is =
+      let s = leaf_at capacity a first number b u (omega (arith, level_is, none)) in
+      leaf_led path indices s path1 indices1 (place leaves) (turns.low leaves lower a first b s side) (turns.ends leaves lower a first b s side)
+      (ap (λ z. get_or path1 z 0) (sym none) ∙ here.0) (ap (λ z. get_or indices1 z 0) (sym none) ∙ here.1)
+      (λ i ne. set_but path level number path_is i (λ e. ne (e ∙ none)))
+      (λ i ne. set_but indices level index indices_are i (λ e. ne (e ∙ none)))
 
   module _ (some : level ≢ 0) where
-    pub first_asks : (keys : List K) × (children : List ℕ) × (slice_get slots number ≡ Some (Inner keys children)) × (0 < length children)
-    first_asks = inner_asks most one slots leaves lower [] first number b u level_is some 0 (omega arith)
+    -- what reading the child requires
+    pub led-asks : HasBelow most slots Side number level → ChildAsked slots number index
+    led-asks w =
+        let s = inner_at capacity w.2 w.3 number w.4 w.6 (λ z. some (w.7 ∙ z)) in
+        (_, _, s.slot_is, omega (arith, turns.within w.0 w.1 w.2 w.3 w.4 s w.5, item_count (s.at.e ∷ s.at.es)))
 
-    module _ (child : ℕ) (says : (keys : List K) (children : List ℕ) → slice_get slots number ≡ Some (Inner keys children) → slice_get children 0 ≡ Some child) where
-      -- what the call one level down requires
-      pub first_goes : (leaves : List (LevelNode K V)) × (lower : List (List (LevelNode K ℕ))) × (first : K) × (b : List (K × ℕ)) × Under most slots leaves lower ((first, child) ∷ b) × (level - 1 ≡ length lower)
-      first_goes =
-          let s = at_inner most one slots leaves lower [] first number b u level_is some in
-          let c = inner_below most one slots leaves lower [] first number b u level_is some 0 (omega arith) child says in
-          let none = nil_from_length c.0 (omega (arith, c.4, none_flat s.at.before s.at.before_is)) in
-          (leaves, s.rows, c.1, c.2, subst (λ (z : List (K × ℕ)). Under most slots leaves s.rows (z ++ (c.1, child) ∷ c.2)) none c.3, omega (arith, level_is, s.count_is))
+    module _ {child : ℕ} (says : ChildRead slots number index child) where
+      -- what the call capacity level down requires
+      pub led-goes : HasBelow most slots Side number level → HasBelow most slots Side child (level - 1)
+      led-goes w =
+          let s = inner_at capacity w.2 w.3 number w.4 w.6 (λ z. some (w.7 ∙ z)) in
+          let c = child_under s s.slot_is index (says _ _ s.slot_is) in
+          (w.0, s.rows, c.0, c.1, c.2, turns.keeps w.0 w.1 w.2 w.3 w.4 s w.5 c.0 c.2 c.4 c.5, c.3, omega (arith, w.7, s.count_is))
 
-      pub first_led : (path indices path1 indices1 path2 indices2 : List ℕ) → get_or path1 level 0 ≡ number → get_or indices1 level 0 ≡ 0
-          → path1 ≡ set path level number → indices1 ≡ set indices level 0
-          → LeadsFirst most slots path1 indices1 path2 indices2 child (level - 1) → Led leaves lower path indices path2 indices2
-      unfolding first_goes
-      first_led path indices path1 indices1 path2 indices2 node_here entry_here path_is indices_are leads =
-          let s = at_inner most one slots leaves lower [] first number b u level_is some in
-          let g = first_goes in
-          let d = leads g.0 g.1 g.2 g.3 g.4 g.5 in
-          let l = led_on most one slots leaves lower [] first number b u level_is path indices path1 indices1 0 node_here entry_here path_is
-          indices_are some path2 indices2 0 0 (omega arith) (omega (arith, none_flat s.at.before s.at.before_is))
-          (record { leaf = d.leaf; stands = d.stands; nodes_above = d.nodes_above; entries_above = d.entries_above }) in
-          record { leaf = l.leaf; stands = l.stands; nodes_above = l.nodes_above; entries_above = l.entries_above }
-
--- the descent to the last entry
-module _ {K V : Type 0} (most : ℕ) (one : 1 ≤ half_of most) (slots : List (Content K V)) (leaves : List (LevelNode K V))
-    (lower : List (List (LevelNode K ℕ))) (a : List (K × ℕ)) (first : K) (number : ℕ)
-    (u : Under most slots leaves lower (a ++ (first, number) ∷ [])) {level : ℕ} (level_is : level ≡ length lower) (last : ℕ)
-    (last_is : (x : Content K V) → slice_get slots number ≡ Some x → last ≡ entry_count x - 1) where
-  -- at the leaf
-  pub last_ends : level ≡ 0 → (path indices path1 indices1 : List ℕ) → get_or path1 level 0 ≡ number → get_or indices1 level 0 ≡ last → path1 ≡ set path level number → indices1 ≡ set indices level last → LedLast leaves lower (length a) path indices path1 indices1
-  last_ends none path indices path1 indices1 node_here entry_here path_is indices_are =
-      let s = at_leaf most one slots leaves lower a first number [] u level_is none in
-      let index : last ≡ length s.at.es = omega (arith, last_is (leaf_content (s.at.e ∷ s.at.es)) s.slot_is, length-map (s.at.e ∷ s.at.es) (λ w. w.0)) in
-      let l = ended most one slots leaves lower a first number [] u level_is path indices path1 indices1 last node_here entry_here path_is indices_are none (length (flat leaves) - 1) (omega (arith, index)) (omega (arith, index, last_place (half_of most) most one leaves a first number s.at)) in
-      record { leaf = l.leaf; stands = l.stands; nodes_above = l.nodes_above; entries_above = l.entries_above }
-
-  module _ (some : level ≢ 0) where
-    abbrev back_node : InnerUnder most slots leaves lower a first number []
-    back_node = at_inner most one slots leaves lower a first number [] u level_is some
-
-    index : last ≡ length back_node.at.es
-    index = omega (arith, last_is (inner_content (back_node.at.e ∷ back_node.at.es)) back_node.slot_is, item_count (back_node.at.e ∷ back_node.at.es))
-
-    pub last_asks : (keys : List K) × (children : List ℕ) × (slice_get slots number ≡ Some (Inner keys children)) × (last < length children)
-    last_asks = inner_asks most one slots leaves lower a first number [] u level_is some last (omega (arith, index))
-
-    module _ (child : ℕ) (says : (keys : List K) (children : List ℕ) → slice_get slots number ≡ Some (Inner keys children) → slice_get children last ≡ Some child) where
-      below : (before : List (K × ℕ)) × (first : K) × Under most slots leaves back_node.rows (before ++ (first, child) ∷ []) × (length before ≡ length (flat back_node.at.before) + last)
-      below =
-          let c = inner_below most one slots leaves lower a first number [] u level_is some last (omega (arith, index)) child says in
-          let none = nil_from_length c.2 (omega (arith, c.4, c.5, index, last_place 4 8 (omega arith) back_node.row a first number back_node.at)) in
-          (c.0, c.1, subst (λ (z : List (K × ℕ)). Under most slots leaves back_node.rows (c.0 ++ (c.1, child) ∷ z)) none c.3, c.4)
-
-      -- what the call one level down requires
-      pub last_goes : (leaves : List (LevelNode K V)) × (lower : List (List (LevelNode K ℕ))) × (before : List (K × ℕ)) × (first : K) × Under most slots leaves lower (before ++ (first, child) ∷ []) × (level - 1 ≡ length lower)
-      last_goes = (leaves, back_node.rows, below.0, below.1, below.2, omega (arith, level_is, back_node.count_is))
-
-      pub last_led : (path indices path1 indices1 path2 indices2 : List ℕ) → get_or path1 level 0 ≡ number → get_or indices1 level 0 ≡ last
-          → path1 ≡ set path level number → indices1 ≡ set indices level last
-          → LeadsLast most slots path1 indices1 path2 indices2 child (level - 1)
-          → LedLast leaves lower (length a) path indices path2 indices2
-      last_led path indices path1 indices1 path2 indices2 node_here entry_here path_is indices_are leads =
-          let d = leads leaves back_node.rows below.0 below.1 below.2 (omega (arith, level_is, back_node.count_is)) in
-          let l = led_on most one slots leaves lower a first number [] u level_is path indices path1 indices1 last node_here entry_here
-          path_is indices_are some path2 indices2 (length (flat leaves) - 1) (length below.0) (omega (arith, index)) below.3
-          (record { leaf = d.leaf; stands = d.stands; nodes_above = d.nodes_above; entries_above = d.entries_above }) in
-          record { leaf = l.leaf; stands = l.stands; nodes_above = l.nodes_above; entries_above = l.entries_above }
-
--- a path that descended from the root stands at the last entry
-pub last_stands : {K V : Type 0} (tree : Tree K V) (path indices path' indices' : List ℕ) (size : ℕ) → LedLast tree.leaves tree.above 0 path indices path' indices' → size ≡ suc (length tree.above) → Stands path' indices' size tree (length (flat tree.leaves) - 1)
-last_stands tree path indices path' indices' size d e = record { leaf = d.leaf; above = stands_above path' indices' 1 tree.above (length d.leaf.before) d.stands; size_is = e }
+      pub led-on : {path indices path1 indices1 path2 indices2 : List ℕ} → (get_or path1 level 0 ≡ number) × (get_or indices1 level 0 ≡ index) → path1 ≡ set path level number
+          → indices1 ≡ set indices level index → OnBelow most slots Side child (level - 1) (λ leaves lower top. Led leaves lower (place leaves) top path1 indices1 path2 indices2)
+          → OnBelow most slots Side number level (λ leaves lower top. Led leaves lower (place leaves) top path indices path2 indices2)
+      led-on {path} {indices} {path2 = path2} {indices2 = indices2} here path_is indices_are leads leaves lower a first b side u level_is =
+          let s = inner_at capacity a first number b u (λ z. some (level_is ∙ z)) in
+          let c = child_under s s.slot_is index (says _ _ s.slot_is) in
+          let d = leads leaves s.rows c.0 c.1 c.2 (turns.keeps leaves lower a first b s side c.0 c.2 c.4 c.5) c.3 (omega (arith, level_is, s.count_is)) in
+          inner_led path indices s path2 indices2 level (level_is ∙ s.count_is) (turns.within leaves lower a first b s side) c.4 d here.0 here.1
+          (set_but path level number path_is) (set_but indices level index indices_are)

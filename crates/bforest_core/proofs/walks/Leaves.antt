@@ -4,14 +4,13 @@ use Rattle.bforest_core.proofs.Words.{drop_at, Content, IsInner, IsLeaf, Path, T
 use Rattle.bforest_core.proofs.rows.LevelRows.{flat-append}
 use Rattle.bforest_core.proofs.table.Read.{slot-is}
 use Rattle.bforest_core.proofs.union.Unions.{is-rooted}
-use Rattle.bforest_core.proofs.walks.Descent.{some_leaf}
 use Rattle.bforest_core.proofs.walks.Standing.{on-leaf-in}
 use Rattle.bforest_core.proofs.walks.TopNode.{leaf_under}
 use Rattle.bforest_core.proofs.walks.Whole.{whole_under}
 
 -- the list from the first entry of the path's leaf on is the leaf's entries and the rest
-leaf-rest : {K V : Type 0} (path indices : List ℕ) (size : ℕ) (tree : Tree K V) (place : ℕ) (s : Stands path indices size tree place) → drop (length (flat s.leaf.before)) (flat tree.leaves) ≡ s.leaf.entries ++ drop (length (flat s.leaf.before) + length s.leaf.entries) (flat tree.leaves)
-leaf-rest path indices size tree place s =
+leaf-rest : {K V : Type 0} {path indices size : _} {tree : Tree K V} {place : _} (s : Stands path indices size tree place) → drop (length (flat s.leaf.before)) (flat tree.leaves) ≡ s.leaf.entries ++ drop (length (flat s.leaf.before) + length s.leaf.entries) (flat tree.leaves)
+leaf-rest {path = path} {tree = tree} s =
     let front = flat s.leaf.before in
     let entries = s.leaf.entries in
     let rest = flat s.leaf.after in
@@ -20,12 +19,12 @@ leaf-rest path indices size tree place s =
     ap (λ z. drop (length front) z) whole ∙ drop_at front (entries ++ rest) (length front) refl ∙ ap (λ z. entries ++ z) (sym behind)
 
 -- a root that is no inner node is a leaf
-pub root-leaf : {K V : Type 0} (most : ℕ) (table : Table K V) (union : IsUnion most table) (root : ℕ) (content : Content K V) → IsTrue (is_root table.nodes root) → slice_get table.nodes root ≡ Some content → (IsInner content → ⊥) → IsLeaf (slot table.nodes root)
-root-leaf most table union root content is found other =
+pub root-leaf : {K V : Type 0} {most : ℕ} {table : Table K V} (union : IsUnion most table) (root : ℕ) (content : Content K V) → IsTrue (is_root table.nodes root) → slice_get table.nodes root ≡ Some content → (IsInner content → ⊥) → IsLeaf (slot table.nodes root)
+root-leaf {table = table} union root content is found other =
     let tree = tree_of table.nodes root in
-    let w = is-rooted most table root union is in
-    let u = whole_under most table.nodes root tree w in
-    let f = leaf_under most (some_leaf most union.1.capacity) table.nodes tree.leaves tree.above [] u.0 root [] u.1 content found other in
+    let w = is-rooted root union is in
+    let u = whole_under w in
+    let f = leaf_under union.1.capacity [] u.0 root [] u.1 found other in
     subst IsLeaf (sym (slot-is table.nodes root _ f.slot_is)) tt
 
 module _ {K V : Type 0} {n : ℕ} {table : Table K V} (union : IsUnion n table) {root : ℕ} where
@@ -36,9 +35,9 @@ module _ {K V : Type 0} {n : ℕ} {table : Table K V} (union : IsUnion n table) 
       let here : length (flat s.leaf.before) ≡ place = omega (arith, s.leaf.place_is, first) in (
         s.leaf.entries,
         record {
-          on = subst (λ (z : ℕ). StandsOn table root path z) (omega (arith, first)) on;
+          on = subst (λ z. StandsOn table root path z) (omega (arith, first)) on;
           within = s.leaf.within;
-          leaf = (on-leaf-in union path on).slot_is;
-          list = subst (λ (z : ℕ). drop z (list_under table root) ≡ s.leaf.entries ++ drop (z + length s.leaf.entries) (list_under table root)) here (leaf-rest path.node path.entry path.size (tree_of table.nodes root) place s);
+          leaf = (on-leaf-in union path on).node.slot_is;
+          list = subst (λ z. drop z (list_under table root) ≡ s.leaf.entries ++ drop (z + length s.leaf.entries) (list_under table root)) here (leaf-rest s);
         },
       )

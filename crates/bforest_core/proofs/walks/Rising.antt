@@ -14,7 +14,7 @@ pub all_split : {K X : Type 0} (P : K → Type 0) (xs ys : List (K × X)) → Al
 all_split P [] ys h = (tt, h)
 all_split P (x ∷ xs) ys h = let r = all_split P xs ys h.1 in ((h.0, r.0), r.1)
 
-module _ {K : Type 0} (cmp : K → K → Ordering) (o : IsTotalOrder cmp) where
+module _ {K : Type 0} {cmp : K → K → Ordering} (o : IsTotalOrder cmp) where
   -- a key less than one that is not greater than k is less than k
   pub less_from : (p q k : K) → cmp p q ≡ Less → cmp q k ≢ Greater → cmp p k ≡ Less
   less_from p q k l ng = go (cmp q k) refl

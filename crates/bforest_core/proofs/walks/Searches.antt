@@ -1,34 +1,22 @@
 -- The way down to the leaf in which a search ends: each answer of `value_below`, `entry_below` and, as a spot, `find_below` is one of these.
-use Rattle.std.proofs.Common.{◌≡◌, ℕ, suc, ◌+◌, ◌*◌, ◌/◌, ◌%◌, ◌≤◌, ◌<◌, List, [], ◌∷◌, ◌++◌, IsTrue, length, slice_get, Some, refl, sym, ap, subst, ◌∙◌, arith, append_assoc}
-use Rattle.bforest_core.proofs.Words.{Content, EndsOn, FitRow, Inner, IsInner, IsIncreasing, IsTotalOrder, IsStrictlySortedBy, IsUnion, LevelNode, Narrows, SearchEndsAt, SearchThrough, StackedTo, Table, Under, child_index, flat, half_of, heads, is_root, leaf_content, node, place, tree_of}
+use Rattle.std.proofs.Common.{◌≡◌, ℕ, suc, ◌+◌, ◌*◌, ◌≤◌, ◌<◌, List, [], ◌∷◌, ◌++◌, IsTrue, length, slice_get, Some, refl, sym, ap, subst, ◌∙◌, arith}
+use Rattle.bforest_core.proofs.Words.{Content, EndsOn, Inner, IsInner, IsIncreasing, IsTotalOrder, IsStrictlySortedBy, IsUnion, LevelNode, Narrows, SearchEndsAt, SearchThrough, Table, child_index, flat, is_root, leaf_content, place, tree_of}
 use Rattle.bforest_core.specs.Place.{entry_items, entry_keys}
-use Rattle.bforest_core.specs.Spots.{Coded, IsSpotAt, IsWay, leaf_place}
+use Rattle.bforest_core.specs.Spots.{IsSpotAt, IsWay, leaf_place}
 use Rattle.bforest_core.specs.declared.spot.Spot.{Spot}
 use Rattle.std.proofs.lemmas.List.{length-map}
 use Rattle.std.specs.declared.cmp.Ordering.{Ordering}
-use Rattle.bforest_core.proofs.rows.LevelRows.{FitRow-split}
 use Rattle.bforest_core.proofs.table.Stored.{item_count}
 use Rattle.bforest_core.proofs.walks.Rising.{increasing_rest}
 use Rattle.bforest_core.proofs.walks.Codes.{code-low}
-use Rattle.bforest_core.proofs.walks.CodesDown.{way-root, way-spot}
+use Rattle.bforest_core.proofs.walks.CodesDown.{child-way, rows-join, way-root, way-spot}
 use Rattle.bforest_core.proofs.walks.Cousins.{place-is}
 use Rattle.bforest_core.proofs.walks.Descent.{Below, InnerStep, LeafStep, below, follow_asks, inner_step, leaf_found, leaf_step, leaf_value, placed}
-use Rattle.bforest_core.proofs.walks.Downward.{stacked_last}
 use Rattle.bforest_core.proofs.walks.Standing.{under-root}
-use Rattle.bforest_core.proofs.walks.TopNode.{InnerUnder, inner_under, leaf_under, node_within}
+use Rattle.bforest_core.proofs.walks.TopNode.{inner_under, leaf_under, node_within}
 use Rattle.bforest_core.proofs.walks.Whole.{all_through}
-
--- a node of a row over eight children at most
-row-low : {K V : Type 0} {most : ℕ} {slots : List (Content K V)} {leaves : List (LevelNode K V)} {lower : List (List (LevelNode K ℕ))}
-    {a : List (K × ℕ)} {first : K} {number : ℕ} {b : List (K × ℕ)} → Under most slots leaves lower (a ++ (first, number) ∷ b)
-    → (s : InnerUnder most slots leaves lower a first number b) → length s.at.es < 8
-row-low {leaves = leaves} {a = a} {first = first} {number = number} {b = b} u s =
-    let fit = (stacked_last (heads leaves) s.rows s.row (a ++ (first, number) ∷ b) (subst (λ z. StackedTo (heads leaves) z (a ++ (first, number) ∷ b)) s.lower_is u.stacked)).1 in
-    omega (arith, (FitRow-split 4 8 s.at.before (node number (s.at.e ∷ s.at.es)) s.at.after (subst (FitRow 4 8) s.at.row_is fit)).1.1)
-
--- a code with a digit more
-digits : (code index next : ℕ) → next ≡ code * 8 + index → index < 8 → (next % 8 ≡ index) × (next / 8 ≡ code)
-digits code index next is low = (omega (arith, is, low), omega (arith, is, low))
+use Rattle.bforest_core.proofs.walks.Reading.{ChildRead}
+use Rattle.bforest_core.proofs.Words.{IsLeafCapacity}
 
 -- the search one level down, with the way there, below these rows
 pub record WayBelow {K V : Type 0} (cmp : K → K → Ordering) (most : ℕ) (slots : List (Content K V)) (leaves : List (LevelNode K V)) (lower upper : List (List (LevelNode K ℕ))) (key : K) (next : Spot) (child : ℕ) : Type 0 where
@@ -38,16 +26,16 @@ pub record WayBelow {K V : Type 0} (cmp : K → K → Ordering) (most : ℕ) (sl
   pub way : IsWay numbers next above (length on.before)
   pub join : on.lower ++ above ≡ lower ++ upper
 
-module _ {K V : Type 0} {cmp : K → K → Ordering} (o : IsTotalOrder cmp) {most : ℕ} (one : 1 ≤ half_of most) {slots : List (Content K V)} {leaves : List (LevelNode K V)} {key : K} {number depth : ℕ} (t : SearchThrough cmp most slots leaves key number depth) where
+module _ {K V : Type 0} {cmp : K → K → Ordering} (o : IsTotalOrder cmp) {most : ℕ} (capacity : IsLeafCapacity most) {slots : List (Content K V)} {leaves key number depth : _} (t : SearchThrough cmp most slots leaves key number depth) where
   -- the node is in the slots
   pub within : number < length slots
-  within = node_within most one slots leaves t.lower t.before t.first number t.after t.under
+  within = node_within capacity t.before t.first number t.after t.under
 
-  module _ (content : Content K V) (found : slice_get slots number ≡ Some content) where
+  module _ {content : Content K V} (found : slice_get slots number ≡ Some content) where
     -- at the leaf
     module _ (other : IsInner content → ⊥) where
       pub step-leaf : LeafStep cmp most slots leaves t.lower t.before t.first number t.after key
-      step-leaf = leaf_step cmp o most one slots leaves t.lower t.before t.first number t.after key t.increasing t.through (leaf_under most one slots leaves t.lower t.before t.first number t.after t.under content found other)
+      step-leaf = leaf_step o capacity t.increasing t.through (leaf_under capacity t.before t.first number t.after t.under found other)
 
       -- what a search in the leaf asks
       pub leaf-asks : (entries : List (K × V)) × (slice_get slots number ≡ Some (leaf_content entries)) × IsIncreasing cmp entries
@@ -57,11 +45,11 @@ module _ {K V : Type 0} {cmp : K → K → Ordering} (o : IsTotalOrder cmp) {mos
       pub narrowed : Narrows cmp leaves key step-leaf.here.at.before (step-leaf.here.at.e ∷ step-leaf.here.at.es)
       narrowed =
           let s = step-leaf in
-          let p = placed cmp o most one slots leaves t.lower t.before t.first number t.after key s number (place cmp (s.here.at.e ∷ s.here.at.es) key) refl refl in
-          record { increasing = s.increasing; place_is = p.place_is; value_is = leaf_value cmp o most one slots leaves t.lower t.before t.first number t.after key s; found_is = leaf_found cmp o most one slots leaves t.lower t.before t.first number t.after key s; first = p.first }
+          let p = placed o capacity s number (place cmp (s.here.at.e ∷ s.here.at.es) key) refl refl in
+          record { increasing = s.increasing; place_is = p.place_is; value_is = leaf_value o capacity s; found_is = leaf_found o capacity s; first = p.first }
 
-      pub ends-on : (upper : List (List (LevelNode K ℕ))) (numbers : List ℕ) (spot : Spot) → IsWay numbers spot upper (length t.before) → EndsOn cmp slots leaves (t.lower ++ upper) key spot number
-      ends-on upper numbers spot w =
+      pub ends-on : {upper : List (List (LevelNode K ℕ))} {numbers : List ℕ} {spot : Spot} → IsWay numbers spot upper (length t.before) → EndsOn cmp slots leaves (t.lower ++ upper) key spot number
+      ends-on {upper = upper} {numbers = numbers} {spot = spot} w =
           let s = step-leaf in
           let at = s.here.at in
           record {
@@ -79,75 +67,51 @@ module _ {K V : Type 0} {cmp : K → K → Ordering} (o : IsTotalOrder cmp) {mos
     -- at an inner node
     module _ (inner : IsInner content) where
       pub step : InnerStep cmp most slots leaves t.lower t.before t.first number t.after key
-      step = inner_step cmp o most one slots leaves t.lower t.before t.first number t.after key t.increasing t.through (inner_under most one slots leaves t.lower t.before t.first number t.after t.under content found inner)
+      step = inner_step o capacity t.increasing t.through (inner_under capacity t.before t.first number t.after t.under found inner)
 
       -- what following a child asks
       pub asks : (keys : List K) × (children : List ℕ) × (slice_get slots number ≡ Some (Inner keys children)) × IsStrictlySortedBy cmp keys
-      asks = follow_asks cmp o most one slots leaves t.lower t.before t.first number t.after key step
+      asks = follow_asks o capacity step
 
       -- a level more is not too many
       pub deeper-low : depth < 16
       deeper-low = omega (arith, t.low, step.here.count_is)
 
-      module _ (index child : ℕ)
-          (says : (keys : List K) (children : List ℕ) → slice_get slots number ≡ Some (Inner keys children)
-          → index ≡ child_index cmp keys key)
-          (reads : (keys : List K) (children : List ℕ) → slice_get slots number ≡ Some (Inner keys children)
-          → slice_get children index ≡ Some child) where
-        pub to : Below cmp o most one slots leaves t.lower t.before t.first number t.after key step index child
-        to = below cmp o most one slots leaves t.lower t.before t.first number t.after key step index child says reads
+      module _ (index : ℕ) {child : ℕ}
+          (says : (keys : List K) (children : List ℕ) → slice_get slots number ≡ Some (Inner keys children) → index ≡ child_index cmp keys key)
+          (reads : ChildRead slots number index child) where
+        pub to : Below o capacity step index child
+        to = below o capacity step says reads
 
-        -- the search one level down
+        -- the search capacity level down
         abbrev pub one-down : (deeper : ℕ) → deeper ≡ suc depth → SearchThrough cmp most slots leaves key child deeper
         one-down deeper is = record { lower = step.here.rows; before = to.front; first = to.head; after = to.back; under = to.under; increasing = t.increasing; through = to.through; low = omega (arith, is, t.low, step.here.count_is) }
 
         -- the child's index is a digit
         pub digit-low : index < 8
-        digit-low = omega (arith, to.within, row-low t.under step.here)
+        digit-low = omega (arith, to.within, step.here.room)
 
         -- what asking asks whether another search goes to that child too
         pub along-asks : (keys : List K) × (children : List ℕ) × (slice_get slots number ≡ Some (Inner keys children)) × IsStrictlySortedBy cmp keys × (length children ≡ suc (length keys)) × (index ≤ length keys)
         along-asks =
             let es = step.here.at.es in
             let count = length-map es (λ w. w.0) in
-            (entry_keys es, entry_items (step.here.at.e ∷ es), step.here.slot_is, increasing_rest cmp o step.here.at.e es step.increasing, omega (arith, item_count (step.here.at.e ∷ es), count), omega (arith, to.within, count))
+            (entry_keys es, entry_items (step.here.at.e ∷ es), step.here.slot_is, increasing_rest o step.here.at.e es step.increasing, omega (arith, item_count (step.here.at.e ∷ es), count), omega (arith, to.within, count))
 
-        module _ (upper : List (List (LevelNode K ℕ))) (numbers : List ℕ) (spot : Spot) (height_is : depth ≡ spot.height) (w : IsWay numbers spot upper (length t.before)) where
+        module _ {upper : List (List (LevelNode K ℕ))} {numbers : List ℕ} {spot : Spot} (height_is : depth ≡ spot.height) (w : IsWay numbers spot upper (length t.before)) where
           -- a digit more fits
           pub code-low-here : spot.code < 35184372088832
           code-low-here = code-low 15 upper numbers spot.code (length t.before) w.coded (omega (arith, w.height_is, height_is, deeper-low))
 
           module _ (next : Spot) (code : next.code ≡ spot.code * 8 + index) (parent : next.parent ≡ number) (grand : next.grand ≡ spot.parent) (height : next.height ≡ suc spot.height) where
-            way-to : IsWay (number ∷ numbers) next (step.here.row ∷ upper) (length to.front)
-            way-to =
-                let at = step.here.at in
-                let d = digits spot.code index next.code code digit-low in
-                record {
-                  coded = (
-                    record {
-                      before = at.before;
-                      entries = at.e ∷ at.es;
-                      after = at.after;
-                      row_is = at.row_is;
-                      within = omega (arith, d.0, to.within);
-                      place_is = to.place_is ∙ ap (λ z. length (flat at.before) + z) (sym d.0);
-                    },
-                    subst (λ z. Coded numbers upper z (length at.before)) (sym d.1)
-                        (subst (λ z. Coded numbers upper spot.code z) (sym at.before_is) w.coded),
-                  );
-                  parent_is = λ low. sym parent;
-                  grand_is = λ low. w.parent_is (omega (arith, low, height)) ∙ sym grand;
-                  height_is = height ∙ ap suc w.height_is;
-                }
-
-            -- the search one level down, with the way there
+            -- the search capacity level down, with the way there
             pub down : WayBelow cmp most slots leaves t.lower upper key next child
             down = record {
               above = step.here.row ∷ upper;
               numbers = number ∷ numbers;
               on = one-down next.height (height ∙ ap suc (sym height_is));
-              way = way-to;
-              join = sym (append_assoc step.here.rows (step.here.row ∷ []) upper) ∙ ap (λ z. z ++ upper) (sym step.here.lower_is);
+              way = child-way step.here to.within code parent grand height w to.place_is;
+              join = rows-join step.here upper;
             }
 
 -- whatever lies about a node, a search through it goes on through this node below it, with the way there
@@ -160,7 +124,7 @@ abbrev pub search-root : {K V : Type 0} {cmp : K → K → Ordering} {most : ℕ
     (union : IsUnion most table) (is : IsTrue (is_root table.nodes root)) → IsIncreasing cmp (flat (tree_of table.nodes root).leaves)
     → (depth : ℕ) → depth ≡ 0 → SearchThrough cmp most table.nodes (tree_of table.nodes root).leaves key root depth
 search-root {cmp = cmp} {most = most} {table = table} {root = root} {key = key} union is increasing depth none =
-    let u = under-root most table root union is in
+    let u = under-root root union is in
     record { lower = (tree_of table.nodes root).above; before = []; first = u.first; after = []; under = u.under; increasing = increasing; through = all_through cmp u.first key; low = omega (arith, u.low, none) }
 
 -- a search from the root on has come to this node, and its spot
@@ -184,7 +148,7 @@ module _ {K V : Type 0} {cmp : K → K → Ordering} {most : ℕ} (table : Table
 -- from the root down: the leaf in which a search ends, and its spot
 module _ {K V : Type 0} {cmp : K → K → Ordering} {table : Table K V} {root : ℕ} (is : IsTrue (is_root table.nodes root)) {key : K} {spot : Spot} {number : ℕ} (e : EndsOn cmp table.nodes (tree_of table.nodes root).leaves ((tree_of table.nodes root).above ++ []) key spot number) where
   on-spot : IsSpotAt table root spot (length e.before)
-  on-spot = way-spot table root spot (length e.before) e.numbers is e.way
+  on-spot = way-spot table root is e.way
 
   pub spot-found : IsSpotAt table root spot (leaf_place table root spot)
   spot-found = subst (λ z. IsSpotAt table root spot z) (sym (place-is on-spot)) on-spot

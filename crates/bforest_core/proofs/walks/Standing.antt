@@ -1,11 +1,11 @@
 -- A path at a place of the list under a root.
 use Rattle.std.proofs.Common.{◌≡◌, ◌≢◌, ℕ, zero, suc, ◌+◌, ◌-◌, ◌==◌, ◌≤◌, ◌<◌, ◌↔◌, Bool, IsTrue, true, false, Some, slice_get, if◌then◌else◌, List, [], ◌∷◌, ◌++◌, get_or, length, length-append, inl, inr, refl, sym, subst, ap, ◌∙◌, arith}
 use Rattle.bforest_core.proofs.Words.{flat_map, false≢true, eqb_tells, Path, PointsTo, StandsAt, StandsOn, index_of, leaf_of, list_under, path_root, place_in, spot, IsLeaf, AtUnder, StandsUnder, IsRooted, Under, LevelNode, Tree, flat}
-use Rattle.bforest_core.proofs.Words.{heads, length-map, node, numbers, sizes, sizes_of, IsFit, IsIn, IsPathAt, PointsAt, Stands, count, leaf_content, numbers_of, Moved, Over, Table, IsUnion, is_root, slot, tree_of}
+use Rattle.bforest_core.proofs.Words.{HasBelow, Led, OnBelow, heads, length-map, node, numbers, sizes, sizes_of, IsFit, IsIn, IsPathAt, PointsAt, Stands, count, leaf_content, numbers_of, Moved, Over, Table, IsUnion, is_root, slot, tree_of}
 use Rattle.bforest_core.specs.Paths.{IsPlaced}
-use Rattle.bforest_core.proofs.walks.Descent.{some_leaf}
-use Rattle.bforest_core.proofs.walks.Leading.{LeadsFirst, LeadsLast, last_stands, led_leaf}
-use Rattle.bforest_core.proofs.walks.TopNode.{SameBut, node_under}
+use Rattle.bforest_core.proofs.rows.LevelRows.{some_leaf}
+use Rattle.bforest_core.proofs.walks.Leading.{leaf_led}
+use Rattle.bforest_core.proofs.walks.TopNode.{SameBut, node_under, none_flat}
 use Rattle.bforest_core.proofs.table.Read.{slot-is}
 use Rattle.bforest_core.proofs.rows.LevelRows.{flat-append}
 use Rattle.bforest_core.proofs.rows.Tops.{root-points}
@@ -18,8 +18,8 @@ use Rattle.bforest_core.proofs.walks.Whole.{led_stands, stands-pointed, whole_un
 
 module _ {K V : Type 0} (path indices : List ℕ) (tree : Tree K V) (place : ℕ) where
   -- a path that stands on an entry points to it
-  abbrev pub points-stands : (size : ℕ) → Stands path indices size tree place → PointsAt path indices size tree place
-  points-stands size s = record {
+  abbrev pub points-stands : {size : ℕ} → Stands path indices size tree place → PointsAt path indices size tree place
+  points-stands s = record {
     before = s.leaf.before;
     entries = s.leaf.entries;
     after = s.leaf.after;
@@ -46,42 +46,40 @@ pub record UnderRoot {K V : Type 0} (most : ℕ) (table : Table K V) (root : ℕ
   pub under : Under most table.nodes (tree_of table.nodes root).leaves (tree_of table.nodes root).above ((first, root) ∷ [])
   pub low : length (tree_of table.nodes root).above ≤ 16
 
-pub under-root : {K V : Type 0} (most : ℕ) (table : Table K V) (root : ℕ) → IsUnion most table → IsTrue (is_root table.nodes root) → UnderRoot most table root
-under-root most table root union is =
-    let w = is-rooted most table root union is in
-    let u = whole_under most table.nodes root (tree_of table.nodes root) w in
+pub under-root : {K V : Type 0} {most : ℕ} {table : Table K V} (root : ℕ) → IsUnion most table → IsTrue (is_root table.nodes root) → UnderRoot most table root
+under-root {most = most} {table = table} root union is =
+    let w = is-rooted root union is in
+    let u = whole_under w in
     record { first = u.0; under = u.1; low = w.low }
 
 -- the level of a root, and the number of levels of a path in its tree
-pub root-level : {K V : Type 0} (tree : Tree K V) (levels : ℕ) → levels ≡ length (sizes_of tree) → levels - 1 ≡ length tree.above
-root-level tree levels is = omega (arith, is, length-map tree.above sizes)
+pub root-level : {K V : Type 0} (tree : Tree K V) {levels : ℕ} → levels ≡ length (sizes_of tree) → levels - 1 ≡ length tree.above
+root-level tree is = omega (arith, is, length-map tree.above sizes)
 
-pub path-levels : {K V : Type 0} (tree : Tree K V) (levels size : ℕ) → levels ≡ length (sizes_of tree) → size ≡ levels → size ≡ suc (length tree.above)
-path-levels tree levels size is same = omega (arith, is, same, length-map tree.above sizes)
+pub path-levels : {K V : Type 0} (tree : Tree K V) {levels size : ℕ} → levels ≡ length (sizes_of tree) → size ≡ levels → size ≡ suc (length tree.above)
+path-levels tree is same = omega (arith, is, same, length-map tree.above sizes)
 
--- a path that descended from a root to the first entry, or to the last
-module _ {K V : Type 0} (most : ℕ) (table : Table K V) (root : ℕ) (union : IsUnion most table) (is : IsTrue (is_root table.nodes root)) (path indices path' indices' : List ℕ) (levels size : ℕ) (levels_is : levels ≡ length (sizes_of (tree_of table.nodes root))) (size_is : size ≡ levels) where
-  abbrev tree_here : Tree K V
-  tree_here = tree_of table.nodes root
+-- a path that descended on one side from a root stands there
+module _ {K V : Type 0} {most : ℕ} {table : Table K V} (root : ℕ) (union : IsUnion most table) (is : IsTrue (is_root table.nodes root)) {levels : ℕ} (levels_is : levels ≡ length (sizes_of (tree_of table.nodes root))) {Side : List (K × ℕ) → List (K × ℕ) → Type 0} (side : Side [] []) where
+  -- what the descent requires
+  pub root-below : HasBelow most table.nodes Side root (levels - 1)
+  root-below =
+      let u = under-root root union is in
+      ((tree_of table.nodes root).leaves, (tree_of table.nodes root).above, [], u.first, [], side, u.under, root-level (tree_of table.nodes root) levels_is)
 
-  pub led-first : LeadsFirst most table.nodes path indices path' indices' root (levels - 1) → StandsUnder table.nodes root path' indices' size 0
-  led-first leads =
-      let u = under-root most table root union is in
-      let d = leads tree_here.leaves tree_here.above u.first [] u.under (root-level tree_here levels levels_is) in
-      record { root_is = is; stands = led_stands tree_here path indices path' indices' size d (path-levels tree_here levels size levels_is size_is) }
-
-  pub led-last : LeadsLast most table.nodes path indices path' indices' root (levels - 1) → StandsUnder table.nodes root path' indices' size (length (flat tree_here.leaves) - 1)
-  led-last leads =
-      let u = under-root most table root union is in
-      let d = leads tree_here.leaves tree_here.above [] u.first u.under (root-level tree_here levels levels_is) in
-      record { root_is = is; stands = last_stands tree_here path indices path' indices' size d (path-levels tree_here levels size levels_is size_is) }
+  pub led-root : (place : List (LevelNode K V) → ℕ) {size : ℕ} {path indices path' indices' : List ℕ} → size ≡ levels → OnBelow most table.nodes Side root (levels - 1) (λ leaves lower top. Led leaves lower (place leaves) top path indices path' indices') → StandsUnder table.nodes root path' indices' size (place (tree_of table.nodes root).leaves)
+  led-root place {size} size_is leads =
+      let tree = tree_of table.nodes root in
+      let u = under-root root union is in
+      let d = leads tree.leaves tree.above [] u.first [] side u.under (root-level tree levels_is) in
+      record { root_is = is; stands = led_stands tree size d (path-levels tree levels_is size_is) }
 
 -- a path of one level at the front of a root that is a leaf is on the first entry
-pub on-leaf : {K V : Type 0} (most : ℕ) (table : Table K V) (root : ℕ) (path indices : List ℕ) → IsUnion most table → IsTrue (is_root table.nodes root) → IsLeaf (slot table.nodes root) → get_or path 0 0 ≡ root → get_or indices 0 0 ≡ 0 → StandsUnder table.nodes root path indices 1 0
-on-leaf most table root path indices union is leaf node_is index_is =
-    let u = under-root most table root union is in
-    elim (node_under most (some_leaf most union.1.capacity) table.nodes _ _ [] u.first root [] u.under) [
-      | inl s ↦ (let d = led_leaf most (some_leaf most union.1.capacity) table.nodes _ _ _ root [] s path indices path indices node_is index_is (λ i ne. refl) (λ i ne. refl) in record { root_is = is; stands = led_stands _ path indices path indices 1 d.1 (omega (arith, d.0)) })
+pub on-leaf : {K V : Type 0} {most : ℕ} (table : Table K V) (root : ℕ) (path indices : List ℕ) → IsUnion most table → IsTrue (is_root table.nodes root) → IsLeaf (slot table.nodes root) → get_or path 0 0 ≡ root → get_or indices 0 0 ≡ 0 → StandsUnder table.nodes root path indices 1 0
+on-leaf table root path indices union is leaf node_is index_is =
+    let u = under-root root union is in
+    elim (node_under union.1.capacity _ [] u.first root [] u.under) [
+      | inl s ↦ (let d = leaf_led path indices s path indices 0 (omega arith) (omega (arith, none_flat s.at.before s.at.before_is)) node_is index_is (λ i ne. refl) (λ i ne. refl) in record { root_is = is; stands = led_stands _ 1 d (sym (ap (λ z. suc (length z)) s.lower_is)) })
       | inr s ↦ absurd (subst IsLeaf (slot-is table.nodes root _ s.slot_is) leaf)
     ]
 
@@ -117,7 +115,7 @@ module _ {K V : Type 0} {n : ℕ} (table : Table K V) (root : ℕ) (path : Path 
 
   -- a path that stands on an entry points to its place
   pub on-points : StandsOn table root path place → PointsTo table root path place
-  on-points on = record { root_is = on.root_is; points = points-stands path.node path.entry (tree_of table.nodes root) place path.size on.stands }
+  on-points on = record { root_is = on.root_is; points = points-stands path.node path.entry (tree_of table.nodes root) place on.stands }
 
   pub placed-points : IsPlaced table root path place → PointsTo table root path place
   placed-points p = record { root_is = p.root_is; points = p.at.points }
@@ -125,11 +123,11 @@ module _ {K V : Type 0} {n : ℕ} (table : Table K V) (root : ℕ) (path : Path 
 -- a path on an entry, in a union of trees
 module _ {K V : Type 0} {n : ℕ} {table : Table K V} (union : IsUnion n table) {root place : ℕ} (path : Path K V n) (on : StandsOn table root path place) where
   abbrev pub on-tree : IsRooted n table.nodes root (tree_of table.nodes root)
-  on-tree = is-rooted n table root union on.root_is
+  on-tree = is-rooted root union on.root_is
 
   -- the path's leaf, and the rows above it
-  abbrev pub on-leaf-in : InLeaf (some_leaf n union.1.capacity) on-tree.fit on-tree.inside path.node path.entry (length on.stands.leaf.before)
-  on-leaf-in = leaf_here (some_leaf n union.1.capacity) on-tree.fit on-tree.inside on.stands
+  abbrev pub on-leaf-in : InLeaf union.1.capacity on-tree.fit on-tree.inside path.node path.entry (length on.stands.leaf.before)
+  on-leaf-in = leaf_here union.1.capacity on-tree.fit on-tree.inside on.stands
 
   -- the path meets what a step requires
   pub on-asks : (path.size ≤ 17) × ((tree : Tree K V) × (place : ℕ) × IsFit n tree × IsIn table.nodes tree × Stands path.node path.entry path.size tree place)
@@ -141,14 +139,14 @@ module _ {K V : Type 0} {n : ℕ} {table : Table K V} (union : IsUnion n table) 
 -- a path at an entry of a leaf, or past a leaf's last one
 module _ {K V : Type 0} {n : ℕ} {table : Table K V} (union : IsUnion n table) {root place : ℕ} (path : Path K V n) (to : PointsTo table root path place) where
   abbrev tree_is : IsRooted n table.nodes root (tree_of table.nodes root)
-  tree_is = is-rooted n table root union to.root_is
+  tree_is = is-rooted root union to.root_is
 
-  abbrev pointed : InLeaf (some_leaf n union.1.capacity) tree_is.fit tree_is.inside path.node path.entry (length to.points.before)
-  pointed = in_leaf (some_leaf n union.1.capacity) tree_is.fit tree_is.inside path.node path.entry to.points.before to.points.entries to.points.after to.points.leaves_are to.points.above
+  abbrev pointed : InLeaf union.1.capacity tree_is.fit tree_is.inside path.node path.entry (length to.points.before)
+  pointed = in_leaf union.1.capacity tree_is.fit tree_is.inside path.node path.entry to.points.before to.points.entries to.points.after to.points.leaves_are to.points.above
 
   -- the content of the leaf's slot
   pub pointed-leaf : (entries : List (K × V)) × (slice_get table.nodes (leaf_of path) ≡ Some (leaf_content entries))
-  pointed-leaf = (to.points.entries, pointed.slot_is)
+  pointed-leaf = (to.points.entries, pointed.node.slot_is)
 
   pointed-over : Over table.nodes path.node path.entry 1 path.size (tree_of table.nodes root).above (heads (tree_of table.nodes root).leaves) (length to.points.before)
   pointed-over = record { stacked = tree_is.fit.stacked; inside = tree_is.inside.rows_in; stands = to.points.above; height = omega (arith, to.points.size_is) }
@@ -157,26 +155,26 @@ module _ {K V : Type 0} {n : ℕ} {table : Table K V} (union : IsUnion n table) 
   pub pointed-above : (path.size ≤ 17) × ((rows : List (List (LevelNode K ℕ))) × (list : List (K × ℕ)) × (at : ℕ) × Over table.nodes path.node path.entry 1 path.size rows list at)
   pointed-above = (omega (arith, to.points.size_is, tree_is.low), ((tree_of table.nodes root).above, heads (tree_of table.nodes root).leaves, length to.points.before, pointed-over))
 
-  module _ (has : Bool) (test : (entries : List (K × V)) → slice_get table.nodes (leaf_of path) ≡ Some (leaf_content entries) → IsTrue has ↔ (index_of path < length entries)) where
+  module _ {has : Bool} (test : (entries : List (K × V)) → slice_get table.nodes (leaf_of path) ≡ Some (leaf_content entries) → IsTrue has ↔ (index_of path < length entries)) where
     -- the path is at an entry of the leaf
     pub pointed-here : has ≡ true → StandsAt table root path place
-    pointed-here is = on-at table root path place (record { root_is = to.root_is; stands = stands-pointed to.points ((test to.points.entries pointed.slot_is).0 is) })
+    pointed-here is = on-at table root path place (record { root_is = to.root_is; stands = stands-pointed to.points ((test to.points.entries pointed.node.slot_is).0 is) })
 
     behind : has ≡ false → place ≡ length (flat to.points.before) + length to.points.entries
-    behind none = omega (arith, to.points.place_is, to.points.within, not_less (index_of path) (length to.points.entries) (λ low. false≢true (sym none ∙ (test to.points.entries pointed.slot_is).1 low)))
+    behind none = omega (arith, to.points.place_is, to.points.within, not_less (index_of path) (length to.points.entries) (λ low. false≢true (sym none ∙ (test to.points.entries pointed.node.slot_is).1 low)))
 
     -- past a leaf's last entry, the first of the next leaf is at the same place
-    pub pointed-next : has ≡ false → (moved new : Path K V n) → ((rows : List (List (LevelNode K ℕ))) (list : List (K × ℕ)) (at : ℕ) → Over table.nodes path.node path.entry 1 path.size rows list at → Moved path.node path.entry moved.node moved.entry 0 rows list (suc at)) →
+    pub pointed-next : has ≡ false → (moved new : Path K V n) → ((rows list at : _) → Over table.nodes path.node path.entry 1 path.size rows list at → Moved path.node path.entry moved.node moved.entry 0 rows list (suc at)) →
         new.node ≡ moved.node → get_or new.entry 0 0 ≡ 0 → SameBut 0 moved.entry new.entry → new.size ≡ path.size → StandsAt table root new place
     pointed-next none moved new goes nodes here above size =
         let m = goes (tree_of table.nodes root).above (heads (tree_of table.nodes root).leaves) (length to.points.before) pointed-over in
-        let s = first_behind (some_leaf n union.1.capacity) tree_is.fit tree_is.inside pointed new.size (size ∙ to.points.size_is) moved.node moved.entry new.node new.entry m nodes here above in
-        on-at table root new place (record { root_is = to.root_is; stands = subst (λ (z : ℕ). Stands new.node new.entry new.size (tree_of table.nodes root) z) (sym (behind none)) s })
+        let s = first_behind union.1.capacity tree_is.fit tree_is.inside pointed (size ∙ to.points.size_is) new.entry m nodes here above in
+        on-at table root new place (record { root_is = to.root_is; stands = subst (λ z. Stands new.node new.entry new.size (tree_of table.nodes root) z) (sym (behind none)) s })
 
     -- past the last entry of all, the path is at the end
-    pub pointed-last : has ≡ false → ((rows : List (List (LevelNode K ℕ))) (list : List (K × ℕ)) (at : ℕ) → Over table.nodes path.node path.entry 1 path.size rows list at → suc at ≡ length list) → (nodes entries : List ℕ) → AtUnder table.nodes root nodes entries 0 place
+    pub pointed-last : has ≡ false → ((rows list at : _) → Over table.nodes path.node path.entry 1 path.size rows list at → suc at ≡ length list) → (nodes entries : List ℕ) → AtUnder table.nodes root nodes entries 0 place
     pointed-last none last nodes entries =
-        record { root_is = to.root_is; at = behind none ∙ leaf_last (some_leaf n union.1.capacity) tree_is.fit tree_is.inside pointed (last (tree_of table.nodes root).above (heads (tree_of table.nodes root).leaves) (length to.points.before) pointed-over) }
+        record { root_is = to.root_is; at = behind none ∙ leaf_last union.1.capacity tree_is.fit tree_is.inside pointed (last (tree_of table.nodes root).above (heads (tree_of table.nodes root).leaves) (length to.points.before) pointed-over) }
 
 -- a path in a union of trees
 module _ {K V : Type 0} {n : ℕ} (most : ℕ) (table : Table K V) (root : ℕ) (path : Path K V n) (place : ℕ) (union : IsUnion most table) where
@@ -184,7 +182,7 @@ module _ {K V : Type 0} {n : ℕ} (most : ℕ) (table : Table K V) (root : ℕ) 
   pub points-root : PointsTo table root path place → path_root path ≡ root
   points-root to =
       let r = rooted most table root union to.root_is in
-      let half = some_leaf most union.1.capacity in
+      let half = some_leaf union.1.capacity in
       sym (root-points most (tree_of table.nodes root) path.node path.entry path.size place (omega (arith, half)) r.fit to.points) ∙ r.root_is
 
   -- a path points to one place only, which is computed from its leaf and its index there

@@ -2,11 +2,11 @@
 ghost use Rattle.std.specs.Prelude.{◌≡◌, ℕ, suc, ◌+◌, ◌-◌, ◌<◌, ◌≤◌, ◌≢◌, ◌↔◌, IfSome, IsTrue, false, true, List, [], ◌∷◌, ◌++◌, length, get_or, slice_get, Some, None, if◌then◌else◌};
 ghost use Rattle.bforest_nodes.specs.Content.{IsLeafCapacity};
 ghost use Rattle.bforest_core.specs.Levels.{LevelNode, flat, Tree, IsFit, most_levels, top_level};
-ghost use Rattle.bforest_core.specs.Descent.{Under, Led, LedLast};
+ghost use Rattle.bforest_core.specs.Descent.{HasBelow, IsFirst, IsLast, Led, OnBelow};
 ghost use Rattle.bforest_nodes.specs.Entries.{place};
 ghost use Rattle.bforest_core.specs.Place.{inner_content, entry_items, leaf_content, IsIn, Stands, entry_before};
 ghost use Rattle.bforest_core.specs.Trees.{IsUnion, is_root};
-ghost use Rattle.bforest_core.specs.Steps.{Advances, AreFirst, AreLast, Moved, Over, Retreats, Turned, TurnedBack};
+ghost use Rattle.bforest_core.specs.Steps.{Advances, AreFirst, AreLast, HasOver, MoreAt, OnOver, Retreats, Turned, TurnedBack};
 
 use crate::access::{child, entries, last_index, leaf_entry};
 use crate::path::Path;
@@ -49,13 +49,9 @@ impl<K: Copy, V: Copy, const N: usize> Path<K, V, N> {
     fn descend_first(&mut self, node: Node, level: usize, pool: &NodePool<K, V, N>)
         requires capacity { IsLeafCapacity N }
         requires height { level ≤ top_level }
-        requires under { (leaves : List (LevelNode K V)) × (lower : List (List (LevelNode K ℕ))) × (first : K)
-            × (b : List (K × ℕ)) × Under N pool.now.nodes leaves lower ((first, node) ∷ b)
-            × (level ≡ length lower) }
-        ensures led { (leaves : List (LevelNode K V)) (lower : List (List (LevelNode K ℕ))) (first : K)
-            (b : List (K × ℕ)) → Under N pool.now.nodes leaves lower ((first, node) ∷ b)
-            → level ≡ length lower → Led leaves lower self.old.node self.old.entry self.new.node
-            self.new.entry }
+        requires under { HasBelow N pool.now.nodes IsFirst node level }
+        ensures led { OnBelow N pool.now.nodes IsFirst node level (λ leaves lower top. Led leaves lower 0 top
+            self.old.node self.old.entry self.new.node self.new.entry) }
         ensures size { self.new.size ≡ self.old.size }
     {
         self.set_level(level, node, 0);
@@ -179,14 +175,11 @@ impl<K: Copy, V: Copy, const N: usize> Path<K, V, N> {
     // Moves the path's node on `level` to the next one. Where there is none it returns false, and changes nothing.
     pub(super) fn next_node(&mut self, level: usize, pool: &NodePool<K, V, N>) -> bool
         requires height { self.old.size ≤ most_levels }
-        requires over { (rows : List (List (LevelNode K ℕ))) × (list : List (K × ℕ)) × (place : ℕ)
-            × Over pool.now.nodes self.old.node self.old.entry (suc level) self.old.size rows list place }
-        ensures moved { result ≡ true → (rows : List (List (LevelNode K ℕ))) (list : List (K × ℕ)) (place : ℕ)
-            → Over pool.now.nodes self.old.node self.old.entry (suc level) self.old.size rows list place
-            → Moved self.old.node self.old.entry self.new.node self.new.entry level rows list (suc place) }
-        ensures last { result ≡ false → (rows : List (List (LevelNode K ℕ))) (list : List (K × ℕ)) (place : ℕ)
-            → Over pool.now.nodes self.old.node self.old.entry (suc level) self.old.size rows list place
-            → suc place ≡ length list }
+        requires over { HasOver pool.now.nodes self.old.node self.old.entry (suc level) self.old.size }
+        ensures moved { result ≡ true → Advances pool.now.nodes self.old.node self.old.entry self.new.node
+            self.new.entry level self.old.size }
+        ensures last { result ≡ false → OnOver pool.now.nodes self.old.node self.old.entry (suc level) self.old.size
+            (λ rows list place. suc place ≡ length list) }
         ensures same { result ≡ false → self.new ≡ self.old }
         ensures size { self.new.size ≡ self.old.size }
     {
@@ -206,15 +199,13 @@ impl<K: Copy, V: Copy, const N: usize> Path<K, V, N> {
     #[inline(never)]
     fn next_far(&mut self, level: usize, pool: &NodePool<K, V, N>) -> bool
         requires height { self.old.size ≤ most_levels }
-        requires over { (rows : List (List (LevelNode K ℕ))) × (list : List (K × ℕ)) × (place : ℕ)
-            × Over pool.now.nodes self.old.node self.old.entry (suc level) self.old.size rows list place }
+        requires over { HasOver pool.now.nodes self.old.node self.old.entry (suc level) self.old.size }
         requires parent { suc level ≢ self.old.size }
         requires last { AreLast pool.now.nodes self.old.node self.old.entry (suc level) (level + 2) }
         ensures moved { result ≡ true → Advances pool.now.nodes self.old.node self.old.entry self.new.node
             self.new.entry level self.old.size }
-        ensures last { result ≡ false → (rows : List (List (LevelNode K ℕ))) (list : List (K × ℕ)) (place : ℕ)
-            → Over pool.now.nodes self.old.node self.old.entry (suc level) self.old.size rows list place
-            → suc place ≡ length list }
+        ensures last { result ≡ false → OnOver pool.now.nodes self.old.node self.old.entry (suc level) self.old.size
+            (λ rows list place. suc place ≡ length list) }
         ensures same { result ≡ false → self.new ≡ self.old }
         ensures size { self.new.size ≡ self.old.size }
     {
@@ -231,13 +222,10 @@ impl<K: Copy, V: Copy, const N: usize> Path<K, V, N> {
     // The lowest level from this one on where the path's node has a child behind the path's, or else the number of levels.
     fn next_turn(&self, level: usize, pool: &NodePool<K, V, N>) -> usize
         requires height { self.now.size ≤ most_levels }
-        requires over { (rows : List (List (LevelNode K ℕ))) × (list : List (K × ℕ)) × (place : ℕ)
-            × Over pool.now.nodes self.now.node self.now.entry level self.now.size rows list place }
+        requires over { HasOver pool.now.nodes self.now.node self.now.entry level self.now.size }
         ensures within { (level ≤ result) × (result ≤ self.now.size) }
         ensures last { AreLast pool.now.nodes self.now.node self.now.entry level result }
-        ensures turns { result ≢ self.now.size → (entries : List (K × ℕ))
-            → slice_get pool.now.nodes (get_or self.now.node result 0) ≡ Some (inner_content entries)
-            → get_or self.now.entry result 0 + 1 < length entries }
+        ensures turns { result ≢ self.now.size → MoreAt pool.now.nodes self.now.node self.now.entry result }
     {
         if level == self.size {
             return level;
@@ -254,8 +242,7 @@ impl<K: Copy, V: Copy, const N: usize> Path<K, V, N> {
         requires within { level ≤ from }
         requires turned { (path : List ℕ) × (indices : List ℕ) × (size : ℕ)
             × Turned pool.now.nodes path indices self.old.node self.old.entry level from size
-            × (rows : List (List (LevelNode K ℕ))) × (list : List (K × ℕ)) × (place : ℕ)
-            × Over pool.now.nodes path indices (suc level) size rows list place }
+            × HasOver pool.now.nodes path indices (suc level) size }
         ensures moved { (path : List ℕ) (indices : List ℕ) (size : ℕ)
             → Turned pool.now.nodes path indices self.old.node self.old.entry level from size
             → Advances pool.now.nodes path indices self.new.node self.new.entry level size }
@@ -366,13 +353,9 @@ impl<K: Copy, V: Copy, const N: usize> Path<K, V, N> {
     fn descend_last(&mut self, node: Node, level: usize, pool: &NodePool<K, V, N>)
         requires capacity { IsLeafCapacity N }
         requires height { level ≤ top_level }
-        requires under { (leaves : List (LevelNode K V)) × (lower : List (List (LevelNode K ℕ)))
-            × (before : List (K × ℕ)) × (first : K) × Under N pool.now.nodes leaves lower
-            (before ++ (first, node) ∷ []) × (level ≡ length lower) }
-        ensures led { (leaves : List (LevelNode K V)) (lower : List (List (LevelNode K ℕ)))
-            (before : List (K × ℕ)) (first : K) → Under N pool.now.nodes leaves lower
-            (before ++ (first, node) ∷ []) → level ≡ length lower → LedLast leaves lower (length before)
-            self.old.node self.old.entry self.new.node self.new.entry }
+        requires under { HasBelow N pool.now.nodes IsLast node level }
+        ensures led { OnBelow N pool.now.nodes IsLast node level (λ leaves lower top. Led leaves lower
+            (length (flat leaves) - 1) top self.old.node self.old.entry self.new.node self.new.entry) }
         ensures size { self.new.size ≡ self.old.size }
     {
         let last = last_index(pool, node);
@@ -415,15 +398,11 @@ impl<K: Copy, V: Copy, const N: usize> Path<K, V, N> {
     // Moves the path's node on `level` to the previous one. Where there is none it returns false, and changes nothing.
     fn prev_node(&mut self, level: usize, pool: &NodePool<K, V, N>) -> bool
         requires height { self.old.size ≤ most_levels }
-        requires over { (rows : List (List (LevelNode K ℕ))) × (list : List (K × ℕ)) × (place : ℕ)
-            × Over pool.now.nodes self.old.node self.old.entry (suc level) self.old.size rows list place }
-        ensures moved { result ≡ true → (rows : List (List (LevelNode K ℕ))) (list : List (K × ℕ)) (place : ℕ)
-            → Over pool.now.nodes self.old.node self.old.entry (suc level) self.old.size rows list place
-            → (0 < place) × Moved self.old.node self.old.entry self.new.node self.new.entry level rows list
-            (place - 1) }
-        ensures first { result ≡ false → (rows : List (List (LevelNode K ℕ))) (list : List (K × ℕ))
-            (place : ℕ) → Over pool.now.nodes self.old.node self.old.entry (suc level) self.old.size rows list
-            place → place ≡ 0 }
+        requires over { HasOver pool.now.nodes self.old.node self.old.entry (suc level) self.old.size }
+        ensures moved { result ≡ true → Retreats pool.now.nodes self.old.node self.old.entry self.new.node
+            self.new.entry level self.old.size }
+        ensures first { result ≡ false → OnOver pool.now.nodes self.old.node self.old.entry (suc level) self.old.size
+            (λ rows list place. place ≡ 0) }
         ensures same { result ≡ false → self.new ≡ self.old }
         ensures size { self.new.size ≡ self.old.size }
     {
@@ -460,8 +439,7 @@ impl<K: Copy, V: Copy, const N: usize> Path<K, V, N> {
         requires within { level ≤ from }
         requires turned { (path : List ℕ) × (indices : List ℕ) × (size : ℕ)
             × TurnedBack pool.now.nodes path indices self.old.node self.old.entry level from size
-            × (rows : List (List (LevelNode K ℕ))) × (list : List (K × ℕ)) × (place : ℕ)
-            × Over pool.now.nodes path indices (suc level) size rows list place }
+            × HasOver pool.now.nodes path indices (suc level) size }
         ensures moved { (path : List ℕ) (indices : List ℕ) (size : ℕ)
             → TurnedBack pool.now.nodes path indices self.old.node self.old.entry level from size
             → Retreats pool.now.nodes path indices self.new.node self.new.entry level size }

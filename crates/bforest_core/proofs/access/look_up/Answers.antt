@@ -22,7 +22,7 @@ told g c es slot =
     let order = g.C.Comparator.order c.args.comp.now in
     let w = c.requires.leaf in
     let up : IsIncreasing order es = read_as c.args.pool.now.nodes c.args.node w.1 slot (λ z. IsStrictlySortedBy order (keys_of z)) w.2 in
-    looked order es c.args.key up c.look_up.result.1 c.look_up.result.0
+    looked order es c.args.key up c.look_up.result.1
     (read_as c.args.pool.now.nodes c.args.node c.node.ensures.value slot (λ z. IfSome c.look_up.result.1 (λ v. search_of order (keys_of z) c.args.key ≡ Ok c.look_up.result.0)) c.look_up.ensures.found)
     (read_as c.args.pool.now.nodes c.args.node c.node.ensures.value slot (λ z. IfSome c.look_up.result.1 (λ v. slice_get (vals_of z) c.look_up.result.0 ≡ Some v)) c.look_up.ensures.value)
     (read_as c.args.pool.now.nodes c.args.node c.node.ensures.value slot (λ z. c.look_up.result.1 ≡ None → search_of order (keys_of z) c.args.key ≡ Err c.look_up.result.0) c.look_up.ensures.absent)

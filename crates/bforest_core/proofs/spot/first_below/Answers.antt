@@ -1,7 +1,7 @@
 use Rattle.std.proofs.Common.{arith, rules, sym, ◌∙◌}
 use Rattle.bforest_core.proofs.Words.{false≢true}
-use Rattle.bforest_core.proofs.walks.CodesDown.{FirstSaid, down-ask, down-asks, down-low, down-on, first-here, first-turns}
-use Rattle.bforest_core.proofs.walks.Descent.{some_leaf}
+use Rattle.bforest_core.proofs.walks.CodesDown.{FirstSaid, down-ask, down-asks, down-low, down-on, first-here}
+use Rattle.bforest_core.proofs.walks.Leading.{first-turns}
 use Rattle.bforest_core.proofs.walks.TopNode.{node_within}
 use Rattle.bforest_core.proofs.spot.first_below.Goals as goal
 
@@ -11,7 +11,7 @@ loop-here-init g c = record { under = c.requires.under; ends = λ end leaf on. o
 pub node-requires : goal.node-requires
 node-requires g c =
     let u = c.loop-here.invariant.under in
-    (search rules, (search rules, node_within _ (some_leaf _ c.requires.capacity) _ _ _ u.4 u.5 _ u.6 u.8))
+    (search rules, (search rules, node_within c.requires.capacity u.4 u.5 _ u.6 u.8))
 
 pub below-here-requires-clause-code : goal.below-here-requires-clause-code
 below-here-requires-clause-code g c = (down-low c.requires.capacity c.node.ensures.value (c.is_inner.ensures.inner.0 c.loop-here-test.true) first-turns c.loop-here.invariant.under).0

@@ -1,7 +1,7 @@
 use Rattle.std.proofs.Common.{arith, rules, sym, ◌∙◌}
 use Rattle.bforest_core.proofs.Words.{false≢true}
-use Rattle.bforest_core.proofs.walks.CodesDown.{LastSaid, down-ask, down-asks, down-low, down-on, last-here, last-turns}
-use Rattle.bforest_core.proofs.walks.Descent.{some_leaf}
+use Rattle.bforest_core.proofs.walks.CodesDown.{LastSaid, down-ask, down-asks, down-low, down-on, last-here}
+use Rattle.bforest_core.proofs.walks.Leading.{last-turns}
 use Rattle.bforest_core.proofs.walks.TopNode.{node_held, node_within}
 use Rattle.bforest_core.proofs.spot.last_below.Goals as goal
 
@@ -11,35 +11,35 @@ loop-index-init g c = record { under = c.requires.under; ends = λ end leaf on. 
 pub node-requires : goal.node-requires
 node-requires g c =
     let u = c.loop-index.invariant.under in
-    (search rules, (search rules, node_within _ (some_leaf _ c.requires.capacity) _ _ _ u.4 u.5 _ u.6 u.8))
+    (search rules, (search rules, node_within c.requires.capacity u.4 u.5 _ u.6 u.8))
 
 pub last_index-index-requires : goal.last_index-index-requires
 last_index-index-requires g c =
     let u = c.loop-index.invariant.under in
-    (search rules, node_held _ (some_leaf _ c.requires.capacity) _ _ _ u.4 u.5 _ u.6 u.8)
+    (search rules, node_held c.requires.capacity u.4 u.5 _ u.6 u.8)
 
 pub below-here-requires-clause-index : goal.below-here-requires-clause-index
-below-here-requires-clause-index g c = (down-low c.requires.capacity c.node.ensures.value (c.is_inner.ensures.inner.0 c.loop-index-test.true) (last-turns c.last_index-index.ensures.last) c.loop-index.invariant.under).2
+below-here-requires-clause-index g c = (down-low c.requires.capacity c.node.ensures.value (c.is_inner.ensures.inner.0 c.loop-index-test.true) (last-turns c.requires.capacity c.last_index-index.ensures.last) c.loop-index.invariant.under).2
 
 pub below-here-requires-clause-code : goal.below-here-requires-clause-code
-below-here-requires-clause-code g c = (down-low c.requires.capacity c.node.ensures.value (c.is_inner.ensures.inner.0 c.loop-index-test.true) (last-turns c.last_index-index.ensures.last) c.loop-index.invariant.under).0
+below-here-requires-clause-code g c = (down-low c.requires.capacity c.node.ensures.value (c.is_inner.ensures.inner.0 c.loop-index-test.true) (last-turns c.requires.capacity c.last_index-index.ensures.last) c.loop-index.invariant.under).0
 
 pub below-here-requires-clause-height : goal.below-here-requires-clause-height
-below-here-requires-clause-height g c = (down-low c.requires.capacity c.node.ensures.value (c.is_inner.ensures.inner.0 c.loop-index-test.true) (last-turns c.last_index-index.ensures.last) c.loop-index.invariant.under).1
+below-here-requires-clause-height g c = (down-low c.requires.capacity c.node.ensures.value (c.is_inner.ensures.inner.0 c.loop-index-test.true) (last-turns c.requires.capacity c.last_index-index.ensures.last) c.loop-index.invariant.under).1
 
 pub child-last-requires : goal.child-last-requires
-child-last-requires g c = (search rules, down-asks c.requires.capacity c.node.ensures.value (c.is_inner.ensures.inner.0 c.loop-index-test.true) (last-turns c.last_index-index.ensures.last) c.loop-index.invariant.under)
+child-last-requires g c = (search rules, down-asks c.requires.capacity c.node.ensures.value (c.is_inner.ensures.inner.0 c.loop-index-test.true) (last-turns c.requires.capacity c.last_index-index.ensures.last) c.loop-index.invariant.under)
 
 pub loop-index-smaller : goal.loop-index-smaller
-loop-index-smaller g c = omega (arith, c.below-here.ensures.height, (down-low c.requires.capacity c.node.ensures.value (c.is_inner.ensures.inner.0 c.loop-index-test.true) (last-turns c.last_index-index.ensures.last) c.loop-index.invariant.under).1)
+loop-index-smaller g c = omega (arith, c.below-here.ensures.height, (down-low c.requires.capacity c.node.ensures.value (c.is_inner.ensures.inner.0 c.loop-index-test.true) (last-turns c.requires.capacity c.last_index-index.ensures.last) c.loop-index.invariant.under).1)
 
 pub loop-index-preserved : goal.loop-index-preserved
 loop-index-preserved g c =
     let b = c.below-here.ensures in
     record {
-      under = down-ask c.requires.capacity c.node.ensures.value (c.is_inner.ensures.inner.0 c.loop-index-test.true) (last-turns c.last_index-index.ensures.last) c.child-last.ensures b.code b.parent b.grand b.height c.loop-index.invariant.under;
+      under = down-ask c.requires.capacity c.node.ensures.value (c.is_inner.ensures.inner.0 c.loop-index-test.true) (last-turns c.requires.capacity c.last_index-index.ensures.last) c.child-last.ensures b.code b.parent b.grand b.height c.loop-index.invariant.under;
       ends = λ end leaf on.
-          c.loop-index.invariant.ends end leaf (down-on c.requires.capacity c.node.ensures.value (c.is_inner.ensures.inner.0 c.loop-index-test.true) (last-turns c.last_index-index.ensures.last) c.child-last.ensures b.code b.parent b.grand b.height (LastSaid end leaf) on);
+          c.loop-index.invariant.ends end leaf (down-on c.requires.capacity c.node.ensures.value (c.is_inner.ensures.inner.0 c.loop-index-test.true) (last-turns c.requires.capacity c.last_index-index.ensures.last) c.child-last.ensures b.code b.parent b.grand b.height (LastSaid end leaf) on);
     }
 
 pub returns : goal.returns

@@ -1,5 +1,6 @@
 use Rattle.std.proofs.Common.{rules, ◌+◌, ◌<◌, arith}
-use Rattle.bforest_core.proofs.walks.OnLevel.{code-low-here, count-asked, is-below, last-said, next-asked, next-digit, next-said}
+use Rattle.bforest_core.proofs.walks.Codes.{is-below}
+use Rattle.bforest_core.proofs.walks.OnLevel.{code-low-here, count-asked, last-said, next-asked, next-digit, next-said}
 use Rattle.bforest_core.proofs.walks.OnLevel.{turn-asked, turn-low, turn-said}
 use Rattle.bforest_core.proofs.spot.next_below.Goals as goal
 

@@ -1,6 +1,8 @@
 use Rattle.std.proofs.Common.{rules, arith}
 use Rattle.bforest_core.specs.Spots.{IsNextOf}
-use Rattle.bforest_core.proofs.walks.OnLevel.{begun, code-low-here, ended, index-asked, is-below, moved, root-last, turn-high, turn-way, turned}
+use Rattle.bforest_core.proofs.walks.Following.{begun, ended, moved, turn-high, turn-way, turned}
+use Rattle.bforest_core.proofs.walks.Codes.{is-below, root-last}
+use Rattle.bforest_core.proofs.walks.OnLevel.{code-low-here, index-asked}
 use Rattle.bforest_core.proofs.spot.next_far.Goals as goal
 
 pub loop-left-init : goal.loop-left-init
@@ -42,12 +44,7 @@ loop-left-preserved g c =
       moved (λ code depth. IsNextOf c.args.pool.now.nodes c.args.root code depth c.next_below-next.result) b said,
     )
 
-pub returns-clause-some : goal.returns-clause-some
-returns-clause-some g c =
+pub returns : goal.returns
+returns g c =
     let i = c.loop-left.invariant in
-    (ended i.0 (λ code depth. IsNextOf c.args.pool.now.nodes c.args.root code depth c.loop-left.next) c.loop-left-test.false i.1).some
-
-pub returns-clause-none : goal.returns-clause-none
-returns-clause-none g c =
-    let i = c.loop-left.invariant in
-    (ended i.0 (λ code depth. IsNextOf c.args.pool.now.nodes c.args.root code depth c.loop-left.next) c.loop-left-test.false i.1).none
+    record { next = ended i.0 (λ code depth. IsNextOf c.args.pool.now.nodes c.args.root code depth c.loop-left.next) c.loop-left-test.false i.1 }

@@ -1,6 +1,7 @@
 use Rattle.std.proofs.Common.{rules, ◌<◌, arith}
 use Rattle.bforest_core.proofs.walks.OnLevel.{back-asked, back-count, back-digit, back-low, back-said}
-use Rattle.bforest_core.proofs.walks.OnLevel.{code-low-here, first-said, is-below, prev-asked, prev-said}
+use Rattle.bforest_core.proofs.walks.Codes.{is-below}
+use Rattle.bforest_core.proofs.walks.OnLevel.{code-low-here, first-said, prev-asked, prev-said}
 use Rattle.bforest_core.proofs.spot.prev_below.Goals as goal
 
 pub below-requires-clause-code : goal.below-requires-clause-code
@@ -30,12 +31,12 @@ last_index-last-requires g c =
 pub below-requires-2-clause-code : goal.below-requires-2-clause-code
 below-requires-2-clause-code g c =
     let r = c.requires.above in
-    (back-low c.requires.index r.2 c.if-index-gt0.false c.in_ok-spot.was r.3 r.1 c.requires.low).0
+    (back-low c.requires.index r.2 c.if-index-gt0.false c.in_ok-spot.was r.3 c.last_index-last.ensures.last r.1 c.requires.low).0
 
 pub below-requires-2-clause-height : goal.below-requires-2-clause-height
 below-requires-2-clause-height g c =
     let r = c.requires.above in
-    (back-low c.requires.index r.2 c.if-index-gt0.false c.in_ok-spot.was r.3 r.1 c.requires.low).1
+    (back-low c.requires.index r.2 c.if-index-gt0.false c.in_ok-spot.was r.3 c.last_index-last.ensures.last r.1 c.requires.low).1
 
 pub below-requires-2-clause-index : goal.below-requires-2-clause-index
 below-requires-2-clause-index g c =

@@ -1,6 +1,8 @@
 use Rattle.std.proofs.Common.{rules, arith}
 use Rattle.bforest_core.specs.Spots.{IsPrevOf}
-use Rattle.bforest_core.proofs.walks.OnLevel.{begun, code-low-here, ended, index-asked, is-below, moved, root-first, turn-high, turn-way, turned}
+use Rattle.bforest_core.proofs.walks.Following.{begun, ended, moved, turn-high, turn-way, turned}
+use Rattle.bforest_core.proofs.walks.Codes.{is-below, root-first}
+use Rattle.bforest_core.proofs.walks.OnLevel.{code-low-here, index-asked}
 use Rattle.bforest_core.proofs.spot.prev_far.Goals as goal
 
 pub loop-left-init : goal.loop-left-init
@@ -42,12 +44,7 @@ loop-left-preserved g c =
       moved (λ code depth. IsPrevOf c.args.pool.now.nodes c.args.root code depth c.prev_below-before.result) b said,
     )
 
-pub returns-clause-some : goal.returns-clause-some
-returns-clause-some g c =
+pub returns : goal.returns
+returns g c =
     let i = c.loop-left.invariant in
-    (ended i.0 (λ code depth. IsPrevOf c.args.pool.now.nodes c.args.root code depth c.loop-left.before) c.loop-left-test.false i.1).some
-
-pub returns-clause-none : goal.returns-clause-none
-returns-clause-none g c =
-    let i = c.loop-left.invariant in
-    (ended i.0 (λ code depth. IsPrevOf c.args.pool.now.nodes c.args.root code depth c.loop-left.before) c.loop-left-test.false i.1).none
+    record { before = ended i.0 (λ code depth. IsPrevOf c.args.pool.now.nodes c.args.root code depth c.loop-left.before) c.loop-left-test.false i.1 }

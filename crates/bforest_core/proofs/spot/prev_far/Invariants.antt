@@ -1,5 +1,5 @@
 use Rattle.bforest_core.specs.Spots.{IsPrevOf}
-use Rattle.bforest_core.proofs.walks.OnLevel.{Followed}
+use Rattle.bforest_core.proofs.walks.Following.{Followed}
 use Rattle.bforest_core.proofs.spot.prev_far.Given as goal
 
 abbrev pub invariant-loop-left : goal.invariant-loop-left

@@ -1,48 +1,40 @@
 use Rattle.std.proofs.Common.{rules, arith}
-use Rattle.bforest_core.proofs.walks.Descent.{some_leaf}
-use Rattle.bforest_core.proofs.walks.Leading.{first_asks, first_ends, first_goes, first_led}
+use Rattle.bforest_core.proofs.walks.Leading.{first-turns, led-asks, led-ends, led-goes, led-on}
 use Rattle.bforest_core.proofs.path.Path.+descend_first.Goals as goal
 
 pub returns-then-level-eq0-clause-led : goal.returns-then-level-eq0-clause-led
-returns-then-level-eq0-clause-led g t c = λ leaves lower first b u level_is.
+returns-then-level-eq0-clause-led g t c =
     let set = c.set_level.ensures in
-    first_ends _ (some_leaf _ c.requires.capacity) _ leaves lower first _ b u level_is c.if-level-eq0.true _ _ _ _ set.here.0 set.here.1 set.node set.entry
+    led-ends c.requires.capacity first-turns c.if-level-eq0.true set.here set.node set.entry
 
 pub child-child-requires : goal.child-child-requires
-child-child-requires g t c =
-    let w = c.requires.under in
-    (search rules, first_asks _ (some_leaf _ c.requires.capacity) _ w.0 w.1 w.2 _ w.3 w.4 w.5 c.if-level-eq0.false)
+child-child-requires g t c = (search rules, led-asks c.requires.capacity first-turns c.if-level-eq0.false c.requires.under)
 
 pub descend_first-requires : goal.descend_first-requires
-descend_first-requires g t c κs within =
-    let w = c.requires.under in (
-      omega (arith, c.decreases, c.if-level-eq0.false),
+descend_first-requires g t c κs within = (
+  omega (arith, c.decreases, c.if-level-eq0.false),
+  (
+    within.0,
+    (
+      within.1,
       (
-        within.0,
+        (λ a m. search rules),
         (
-          within.1,
+          search rules,
           (
-            (λ a m. search rules),
+            search rules,
             (
-              search rules,
-              (
-                search rules,
-                (
-                  c.requires.capacity,
-                  (
-                    omega (arith, c.requires.height),
-                    first_goes _ (some_leaf _ c.requires.capacity) _ w.0 w.1 w.2 _ w.3 w.4 w.5 c.if-level-eq0.false c.child-child.result
-                        c.child-child.ensures,
-                  ),
-                ),
-              ),
+              c.requires.capacity,
+              (omega (arith, c.requires.height), led-goes c.requires.capacity first-turns c.if-level-eq0.false c.child-child.ensures c.requires.under),
             ),
           ),
         ),
       ),
-    )
+    ),
+  ),
+)
 
 pub returns-clause-led : goal.returns-clause-led
-returns-clause-led g t c = λ leaves lower first b u level_is.
+returns-clause-led g t c =
     let set = c.set_level.ensures in
-    first_led _ (some_leaf _ c.requires.capacity) _ leaves lower first _ b u level_is c.if-level-eq0.false c.child-child.result c.child-child.ensures _ _ _ _ _ _ set.here.0 set.here.1 set.node set.entry c.descend_first.ensures.led
+    led-on c.requires.capacity first-turns c.if-level-eq0.false c.child-child.ensures set.here set.node set.entry c.descend_first.ensures.led

@@ -1,54 +1,49 @@
-use Rattle.std.proofs.Common.{rules, [], arith}
-use Rattle.bforest_core.proofs.walks.Descent.{some_leaf}
-use Rattle.bforest_core.proofs.walks.Leading.{last_asks, last_ends, last_goes, last_led}
+use Rattle.std.proofs.Common.{rules, arith}
+use Rattle.bforest_core.proofs.walks.Leading.{last-turns, led-asks, led-ends, led-goes, led-on}
 use Rattle.bforest_core.proofs.walks.TopNode.{node_held}
 use Rattle.bforest_core.proofs.path.Path.+descend_last.Goals as goal
 
 pub last_index-last-requires : goal.last_index-last-requires
 last_index-last-requires g t c =
     let w = c.requires.under in
-    (search rules, node_held _ (some_leaf _ c.requires.capacity) _ w.0 w.1 w.2 w.3 _ [] w.4)
+    (search rules, node_held c.requires.capacity w.2 w.3 _ w.4 w.6)
 
 pub returns-then-level-eq0-clause-led : goal.returns-then-level-eq0-clause-led
-returns-then-level-eq0-clause-led g t c = λ leaves lower a first u level_is.
+returns-then-level-eq0-clause-led g t c =
     let set = c.set_level.ensures in
-    last_ends _ (some_leaf _ c.requires.capacity) _ leaves lower a first _ u level_is _ c.last_index-last.ensures.last c.if-level-eq0.true _ _ _ _ set.here.0 set.here.1 set.node set.entry
+    led-ends c.requires.capacity (last-turns c.requires.capacity c.last_index-last.ensures.last) c.if-level-eq0.true set.here set.node set.entry
 
 pub child-child-requires : goal.child-child-requires
-child-child-requires g t c =
-    let w = c.requires.under in
-    (search rules, last_asks _ (some_leaf _ c.requires.capacity) _ w.0 w.1 w.2 w.3 _ w.4 w.5 _ c.last_index-last.ensures.last c.if-level-eq0.false)
+child-child-requires g t c = (search rules, led-asks c.requires.capacity (last-turns c.requires.capacity c.last_index-last.ensures.last) c.if-level-eq0.false c.requires.under)
 
 pub descend_last-requires : goal.descend_last-requires
-descend_last-requires g t c κs within =
-    let w = c.requires.under in (
-      omega (arith, c.decreases, c.if-level-eq0.false),
+descend_last-requires g t c κs within = (
+  omega (arith, c.decreases, c.if-level-eq0.false),
+  (
+    within.0,
+    (
+      within.1,
       (
-        within.0,
+        (λ a m. search rules),
         (
-          within.1,
+          search rules,
           (
-            (λ a m. search rules),
+            search rules,
             (
-              search rules,
+              c.requires.capacity,
               (
-                search rules,
-                (
-                  c.requires.capacity,
-                  (
-                    omega (arith, c.requires.height),
-                    last_goes _ (some_leaf _ c.requires.capacity) _ w.0 w.1 w.2 w.3 _ w.4 w.5 _ c.last_index-last.ensures.last c.if-level-eq0.false
-                        c.child-child.result c.child-child.ensures,
-                  ),
-                ),
+                omega (arith, c.requires.height),
+                led-goes c.requires.capacity (last-turns c.requires.capacity c.last_index-last.ensures.last) c.if-level-eq0.false c.child-child.ensures c.requires.under,
               ),
             ),
           ),
         ),
       ),
-    )
+    ),
+  ),
+)
 
 pub returns-clause-led : goal.returns-clause-led
-returns-clause-led g t c = λ leaves lower a first u level_is.
+returns-clause-led g t c =
     let set = c.set_level.ensures in
-    last_led _ (some_leaf _ c.requires.capacity) _ leaves lower a first _ u level_is _ c.last_index-last.ensures.last c.if-level-eq0.false c.child-child.result c.child-child.ensures _ _ _ _ _ _ set.here.0 set.here.1 set.node set.entry c.descend_last.ensures.led
+    led-on c.requires.capacity (last-turns c.requires.capacity c.last_index-last.ensures.last) c.if-level-eq0.false c.child-child.ensures set.here set.node set.entry c.descend_last.ensures.led

@@ -1,20 +1,21 @@
-use Rattle.std.proofs.Common.{rules, ℕ, subst, arith}
+use Rattle.std.proofs.Common.{rules, subst, arith}
 use Rattle.bforest_core.specs.Steps.{Advances}
 use Rattle.bforest_core.proofs.walks.Turning.{down-asks, down-turned}
+use Rattle.bforest_core.proofs.walks.Turns.{went}
 use Rattle.bforest_core.proofs.path.Path.+go_first.Goals as goal
 
 pub returns-then-from-level-clause-moved : goal.returns-then-from-level-clause-moved
-returns-then-from-level-clause-moved g t c = λ path indices size turned. subst (λ (z : ℕ). Advances c.args.pool.now.nodes path indices c.args.self.now.node c.args.self.now.entry z size) c.if-from-level.true turned.moved
+returns-then-from-level-clause-moved g t c = λ path indices size turned. subst (λ z. Advances c.args.pool.now.nodes path indices c.args.self.now.node c.args.self.now.entry z size) c.if-from-level.true turned.moved
 
 pub go_to_child-requires : goal.go_to_child-requires
 go_to_child-requires g t c =
     let w = c.requires.turned in
-    (search rules, (search rules, down-asks _ _ _ w.3 (omega (arith, c.requires.within, c.if-from-level.false)) w.7))
+    (search rules, (search rules, down-asks _ _ _ (omega (arith, c.requires.within, c.if-from-level.false)) w.3 w.4))
 
 pub go_first-requires : goal.go_first-requires
 go_first-requires g t c κs within =
     let w = c.requires.turned in
-    let went = c.go_to_child.ensures in (
+    let w' = c.go_to_child.ensures in (
       omega (arith, c.decreases, c.requires.within, c.if-from-level.false),
       (
         within.0,
@@ -32,12 +33,8 @@ go_first-requires g t c κs within =
                     w.0,
                     w.1,
                     w.2,
-                    down-turned _ _ _ w.3 (omega (arith, c.requires.within, c.if-from-level.false)) _ _ went.child went.nodes went.entry
-                        went.entries,
+                    down-turned _ _ _ (omega (arith, c.requires.within, c.if-from-level.false)) w.3 (went w'.child w'.nodes w'.entry w'.entries),
                     w.4,
-                    w.5,
-                    w.6,
-                    w.7,
                   ),
                 ),
               ),
@@ -49,5 +46,5 @@ go_first-requires g t c κs within =
 
 pub returns-clause-moved : goal.returns-clause-moved
 returns-clause-moved g t c = λ path indices size turned.
-    let went = c.go_to_child.ensures in
-    c.go_first.ensures.moved path indices size (down-turned _ _ _ turned (omega (arith, c.requires.within, c.if-from-level.false)) _ _ went.child went.nodes went.entry went.entries)
+    let w' = c.go_to_child.ensures in
+    c.go_first.ensures.moved path indices size (down-turned _ _ _ (omega (arith, c.requires.within, c.if-from-level.false)) turned (went w'.child w'.nodes w'.entry w'.entries))

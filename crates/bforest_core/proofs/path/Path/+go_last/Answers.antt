@@ -1,25 +1,26 @@
-use Rattle.std.proofs.Common.{rules, ℕ, subst, arith}
+use Rattle.std.proofs.Common.{rules, subst, arith}
 use Rattle.bforest_core.specs.Steps.{Retreats}
 use Rattle.bforest_core.proofs.walks.Turning.{back-turned, last-goes, last-held}
+use Rattle.bforest_core.proofs.walks.Turns.{went}
 use Rattle.bforest_core.proofs.path.Path.+go_last.Goals as goal
 
 pub returns-then-from-level-clause-moved : goal.returns-then-from-level-clause-moved
-returns-then-from-level-clause-moved g t c = λ path indices size turned. subst (λ (z : ℕ). Retreats c.args.pool.now.nodes path indices c.args.self.now.node c.args.self.now.entry z size) c.if-from-level.true turned.moved
+returns-then-from-level-clause-moved g t c = λ path indices size turned. subst (λ z. Retreats c.args.pool.now.nodes path indices c.args.self.now.node c.args.self.now.entry z size) c.if-from-level.true turned.moved
 
 pub last_index-last-requires : goal.last_index-last-requires
 last_index-last-requires g t c =
     let w = c.requires.turned in
-    (search rules, last-held _ _ _ w.3 (omega (arith, c.requires.within, c.if-from-level.false)) c.index-self-from.result (omega arith) w.7)
+    (search rules, last-held _ _ _ (omega (arith, c.requires.within, c.if-from-level.false)) w.3 c.index-self-from.result (omega arith) w.4)
 
 pub go_to_child-requires : goal.go_to_child-requires
 go_to_child-requires g t c =
     let w = c.requires.turned in
-    (search rules, (search rules, last-goes _ _ _ w.3 (omega (arith, c.requires.within, c.if-from-level.false)) c.index-self-from.result (omega arith) c.last_index-last.result c.last_index-last.ensures.last w.7 c.last_index-last.ensures.most))
+    (search rules, (search rules, last-goes _ _ _ (omega (arith, c.requires.within, c.if-from-level.false)) w.3 c.index-self-from.result (omega arith) c.last_index-last.ensures.last w.4))
 
 pub go_last-requires : goal.go_last-requires
 go_last-requires g t c κs within =
     let w = c.requires.turned in
-    let went = c.go_to_child.ensures in (
+    let w' = c.go_to_child.ensures in (
       omega (arith, c.decreases, c.requires.within, c.if-from-level.false),
       (
         within.0,
@@ -37,12 +38,8 @@ go_last-requires g t c κs within =
                     w.0,
                     w.1,
                     w.2,
-                    back-turned _ _ _ w.3 (omega (arith, c.requires.within, c.if-from-level.false)) c.index-self-from.result
-                        (omega arith) c.last_index-last.result c.last_index-last.ensures.last _ _ went.child went.nodes went.entry went.entries,
+                    back-turned _ _ _ (omega (arith, c.requires.within, c.if-from-level.false)) w.3 c.index-self-from.result (omega arith) c.last_index-last.ensures.last (went w'.child w'.nodes w'.entry w'.entries),
                     w.4,
-                    w.5,
-                    w.6,
-                    w.7,
                   ),
                 ),
               ),
@@ -54,5 +51,5 @@ go_last-requires g t c κs within =
 
 pub returns-clause-moved : goal.returns-clause-moved
 returns-clause-moved g t c = λ path indices size turned.
-    let went = c.go_to_child.ensures in
-    c.go_last.ensures.moved path indices size (back-turned _ _ _ turned (omega (arith, c.requires.within, c.if-from-level.false)) c.index-self-from.result (omega arith) c.last_index-last.result c.last_index-last.ensures.last _ _ went.child went.nodes went.entry went.entries)
+    let w' = c.go_to_child.ensures in
+    c.go_last.ensures.moved path indices size (back-turned _ _ _ (omega (arith, c.requires.within, c.if-from-level.false)) turned c.index-self-from.result (omega arith) c.last_index-last.ensures.last (went w'.child w'.nodes w'.entry w'.entries))

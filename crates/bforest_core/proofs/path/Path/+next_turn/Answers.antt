@@ -1,5 +1,5 @@
 use Rattle.std.proofs.Common.{rules, ◌+◌, refl, arith, add-one}
-use Rattle.bforest_core.proofs.walks.Turning.{both-last, here-last, turn-above, turn-asks}
+use Rattle.bforest_core.proofs.walks.Turning.{both, here-last, turn-above, turn-asks}
 use Rattle.bforest_core.proofs.path.Path.+next_turn.Goals as goal
 
 pub has_child-requires : goal.has_child-requires
@@ -13,7 +13,7 @@ next_turn-requires g t c κs within =
     (omega (arith, c.decreases, c.requires.over.3.height, c.if-level-self.false), (within.0, (within.1, ((λ a m. search rules), (search rules, (search rules, (c.requires.height, turn-above _ _ _ (c.args.level + 1) c.requires.over.3 c.if-level-self.false (add-one _))))))))
 
 pub returns-clause-last : goal.returns-clause-last
-returns-clause-last g t c = both-last c.args.pool.now.nodes c.args.self.now.node c.args.self.now.entry c.args.level
+returns-clause-last g t c = both c.args.level
     (c.args.level + 1) c.next_turn.result
-    (here-last c.args.pool.now.nodes c.args.self.now.node c.args.self.now.entry c.args.level refl
-    (add-one _) c.has_child.result c.has_child.ensures.within c.if-has_child.false) c.next_turn.ensures.last
+    (here-last c.args.pool.now.nodes c.args.self.now.node c.args.self.now.entry refl
+    (add-one _) c.has_child.ensures.within c.if-has_child.false) c.next_turn.ensures.last

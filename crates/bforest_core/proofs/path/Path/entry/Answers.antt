@@ -8,7 +8,7 @@ use Rattle.bforest_core.proofs.path.Path.entry.Goals as goal
 pub entry_here-requires : goal.entry_here-requires
 entry_here-requires g c =
     let at = c.requires.stands (λ e. omega (arith, e, c.if-self-gt0.true)) in
-    (search rules, (search rules, here-leaf c.args.pool.now at.root c.args.self.now at.place c.requires.union at.on))
+    (search rules, (search rules, here-leaf at.root c.args.self.now at.place c.requires.union at.on))
 
 pub returns-else-self-gt0 : goal.returns-else-self-gt0
 returns-else-self-gt0 g c =
@@ -18,4 +18,4 @@ returns-else-self-gt0 g c =
 pub returns-then-self-gt0 : goal.returns-then-self-gt0
 returns-then-self-gt0 g c =
     let on = λ (at : Standing c.args.pool.now c.args.self.now). some-on c.args.pool.now at.root c.args.self.now at.place at.at c.if-self-gt0.true in
-    record { value = λ at. sym (here-entry c.args.pool.now at.root c.args.self.now at.place c.requires.union (on at) c.entry_here.result c.entry_here.ensures); end = λ none. absurd (omega (arith, none, c.if-self-gt0.true)) }
+    record { value = λ at. sym (here-entry at.root c.args.self.now at.place c.requires.union (on at) c.entry_here.ensures); end = λ none. absurd (omega (arith, none, c.if-self-gt0.true)) }

@@ -9,7 +9,7 @@ pub returns : goal.returns
 returns g c = λ es slot.
     let content = leaf_is c.args.pool.now.nodes c.args.self.now.node c.index-self-0.result es (omega arith) c.node.ensures.value slot in
     let i = get_or c.args.self.now.entry 0 0 in
-    pair_read es i c.entry.result.0 c.entry.result.1 (ap (λ z. slice_get (keys_of z) i) (sym content) ∙ c.entry.ensures.key) (ap (λ z. slice_get (vals_of z) i) (sym content) ∙ c.entry.ensures.value)
+    pair_read es i (ap (λ z. slice_get (keys_of z) i) (sym content) ∙ c.entry.ensures.key) (ap (λ z. slice_get (vals_of z) i) (sym content) ∙ c.entry.ensures.value)
 
 pub node-requires : goal.node-requires
 node-requires g c = (search rules, (search rules, slice_get_within c.args.pool.now.nodes _ (leaf_content c.requires.0) (at_index _ c.args.self.now.node c.index-self-0.result (omega arith) refl c.requires.1)))

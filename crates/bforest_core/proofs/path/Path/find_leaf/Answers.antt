@@ -11,15 +11,15 @@ pub descend-requires : goal.descend-requires
 descend-requires g c =
     let order = g.C.Comparator.order c.args.comp.now in
     let tree = tree_of c.args.pool.now.nodes c.args.root in
-    let u = under-root g.row.N c.args.pool.now c.args.root c.requires.union c.requires.root in
-    let levels_is = root-level tree _ c.levels-levels.ensures.value in
+    let u = under-root c.args.root c.requires.union c.requires.root in
+    let levels_is = root-level tree c.levels-levels.ensures.value in
     (search rules, (search rules, (c.requires.union.1.capacity, (omega (arith, levels_is, u.low), (tree.leaves, tree.above, [], u.first, [], u.under, c.requires.increasing, all_through order _ c.args.key, levels_is)))))
 
 pub returns : goal.returns
 returns g c =
     let order = g.C.Comparator.order c.args.comp.now in
     let tree = tree_of c.args.pool.now.nodes c.args.root in
-    let u = under-root g.row.N c.args.pool.now c.args.root c.requires.union c.requires.root in
-    let d = c.descend.ensures.descended tree.leaves tree.above [] u.first [] u.under c.requires.increasing (all_through order _ c.args.key) (root-level tree _ c.levels-levels.ensures.value) in
-    let levels = path-levels tree _ _ c.levels-levels.ensures.value c.descend.ensures.size in
-    ends-in order c.args.pool.now c.args.root c.requires.root d levels (omega (arith, d.nodes_wide)) (omega (arith, d.indices_wide))
+    let u = under-root c.args.root c.requires.union c.requires.root in
+    let d = c.descend.ensures.descended tree.leaves tree.above [] u.first [] u.under c.requires.increasing (all_through order _ c.args.key) (root-level tree c.levels-levels.ensures.value) in
+    let levels = path-levels tree c.levels-levels.ensures.value c.descend.ensures.size in
+    ends-in c.args.pool.now c.args.root c.requires.root d levels (omega (arith, d.nodes_wide)) (omega (arith, d.indices_wide))

@@ -1,4 +1,4 @@
-use Rattle.std.proofs.Common.{rules, subst, arith, ℕ}
+use Rattle.std.proofs.Common.{rules, subst, arith}
 use Rattle.bforest_core.specs.Paths.{StandsOn}
 use Rattle.bforest_core.proofs.walks.Nearby.{here-entry}
 use Rattle.bforest_core.proofs.path.Path.first.Goals as goal
@@ -10,5 +10,5 @@ entry_here-requires g c =
 
 pub returns : goal.returns
 returns g c =
-    let on = subst (λ (z : ℕ). StandsOn c.args.pool.now c.args.root c.first_leaf.new.self z) (omega (arith, c.first_leaf.ensures.index)) c.first_leaf.ensures.stands.1.on in
-    record { value = here-entry c.args.pool.now c.args.root c.first_leaf.new.self 0 c.requires.union on c.entry_here.result c.entry_here.ensures; stands = on }
+    let on = subst (λ z. StandsOn c.args.pool.now c.args.root c.first_leaf.new.self z) (omega (arith, c.first_leaf.ensures.index)) c.first_leaf.ensures.stands.1.on in
+    record { value = here-entry c.args.root c.first_leaf.new.self 0 c.requires.union on c.entry_here.ensures; stands = on }

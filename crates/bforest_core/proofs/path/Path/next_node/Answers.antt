@@ -1,7 +1,7 @@
-use Rattle.std.proofs.Common.{rules, ◌+◌, refl, sym, ◌∙◌, arith, add-one}
+use Rattle.std.proofs.Common.{rules, refl, sym, ◌∙◌, arith, add-one}
 use Rattle.bforest_core.proofs.walks.Steps.{never, only}
 use Rattle.bforest_core.proofs.walks.Turning.{here-last}
-use Rattle.bforest_core.proofs.walks.Turns.{has_asks, index_low, next_asks, next_moves}
+use Rattle.bforest_core.proofs.walks.Turns.{has_asks, index_low, next_turn, turn_asks, turn_moves, went}
 use Rattle.bforest_core.proofs.path.Path.next_node.Goals as goal
 
 pub overflow_add-level : goal.overflow_add-level
@@ -20,15 +20,14 @@ pub overflow_add-entry-then-has_child : goal.overflow_add-entry-then-has_child
 overflow_add-entry-then-has_child g c = omega (arith, index_low c.requires.over.3 (add-one _) c.if-level-self.false c.requires.height)
 
 pub go_to_child-requires : goal.go_to_child-requires
-go_to_child-requires g c = (search rules, (search rules, next_asks c.requires.over.3 (add-one _) c.if-level-self.false c.requires.height c.has_child.result c.has_child.ensures.within c.if-has_child.true))
+go_to_child-requires g c = (search rules, (search rules, turn_asks c.requires.over.3 (add-one _) c.if-level-self.false c.requires.height (next_turn c.requires.over.3 (add-one _) c.if-level-self.false c.requires.height (λ entries slot. (c.has_child.ensures.within entries slot).0 c.if-has_child.true))))
 
 pub returns-then-has_child : goal.returns-then-has_child
 returns-then-has_child g c =
     record {
-      moved = λ yes rows list place p. next_moves p
-          (add-one _) c.if-level-self.false c.requires.height c.has_child.result c.has_child.ensures.within c.go_to_child.new.self.node
-          c.go_to_child.new.self.entry c.if-has_child.true c.go_to_child.ensures.child c.go_to_child.ensures.nodes c.go_to_child.ensures.entry
-          c.go_to_child.ensures.entries;
+      moved = λ yes rows list place p. turn_moves p (add-one _) c.if-level-self.false c.requires.height
+          (next_turn p (add-one _) c.if-level-self.false c.requires.height (λ entries slot. (c.has_child.ensures.within entries slot).0 c.if-has_child.true))
+          (went c.go_to_child.ensures.child c.go_to_child.ensures.nodes c.go_to_child.ensures.entry c.go_to_child.ensures.entries);
       last = never refl;
       same = never refl;
       size = c.go_to_child.ensures.size;
@@ -45,8 +44,8 @@ next_far-requires g c = (
         c.requires.over,
         (
           (λ e. c.if-level-self.false (add-one c.args.level ∙ e)),
-          here-last c.args.pool.now.nodes c.args.self.now.node c.args.self.now.entry (c.args.level + 1) (sym (add-one _))
-              (omega arith) c.has_child.result c.has_child.ensures.within c.if-has_child.false,
+          here-last c.args.pool.now.nodes c.args.self.now.node c.args.self.now.entry (sym (add-one _))
+              (omega arith) c.has_child.ensures.within c.if-has_child.false,
         ),
       ),
     ),

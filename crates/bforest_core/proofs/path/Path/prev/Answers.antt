@@ -10,24 +10,24 @@ module _ {K V : Type 0} {n : ℕ} {table : Table K V} (union : IsUnion n table) 
   end_back : old.size ≡ 0 → (e : K × V) → slice_get (list_under table root) (length (list_under table root) - 1) ≡ Some e → StandsOn table root new (length (list_under table root) - 1) → (Some e ≡ entry_before (list_under table root) place) × StandsOn table root new (place - 1)
   end_back none e read_is on =
       let end = at_end old.node old.entry (tree_of table.nodes root) place old.size none at.at in
-      (sym read_is ∙ ap (λ z. slice_get (list_under table root) (z - 1)) (sym end) ∙ before_is (list_under table root) place (omega (arith, end, on-within table root new _ on)), subst (λ (z : ℕ). StandsOn table root new (z - 1)) (sym end) on)
+      (sym read_is ∙ ap (λ z. slice_get (list_under table root) (z - 1)) (sym end) ∙ before_is (list_under table root) place (omega (arith, end, on-within table root new _ on)), subst (λ z. StandsOn table root new (z - 1)) (sym end) on)
 
   -- the entry read after the move is the previous one
   read_back : (0 < place) × StandsOn table root new (place - 1) → (e : K × V) → ((entries : List (K × V)) → slice_get table.nodes (leaf_of new) ≡ Some (leaf_content entries) → slice_get entries (index_of new) ≡ Some e) → Some e ≡ entry_before (list_under table root) place
-  read_back back e read_is = sym (here-entry table root new (place - 1) union back.1 e read_is) ∙ before_is (list_under table root) place back.0
+  read_back back e read_is = sym (here-entry root new (place - 1) union back.1 read_is) ∙ before_is (list_under table root) place back.0
 
   module _ (some : old.size ≢ 0) where
     -- the path moved to the previous entry
     went_back : new.size ≡ old.size → ((tree : Tree K V) (place : ℕ) → IsFit n tree → IsIn table.nodes tree → Stands old.node old.entry old.size tree place → (0 < place) × Stands new.node new.entry old.size tree (place - 1)) → (0 < place) × StandsOn table root new (place - 1)
     went_back same says =
         let r = said union old (some-on table root old place at (omega (arith, some))) says in
-        (r.0, record { root_is = at.root_is; stands = subst (λ (z : ℕ). Stands new.node new.entry z (tree_of table.nodes root) (place - 1)) (sym same) r.1 })
+        (r.0, record { root_is = at.root_is; stands = subst (λ z. Stands new.node new.entry z (tree_of table.nodes root) (place - 1)) (sym same) r.1 })
 
     -- at the first entry the path stays
     stayed : new ≡ old → ((tree : Tree K V) (place : ℕ) → IsFit n tree → IsIn table.nodes tree → Stands old.node old.entry old.size tree place → place ≡ 0) → (None ≡ entry_before (list_under table root) place) × StandsOn table root new (place - 1)
     stayed same says =
         let first = said union old (some-on table root old place at (omega (arith, some))) says in
-        (ap (λ z. entry_before (list_under table root) z) (sym first), subst (λ (z : Path K V n). StandsOn table root z (place - 1)) (sym same) (subst (λ (z : ℕ). StandsOn table root old z) (omega (arith, first)) (some-on table root old place at (omega (arith, some)))))
+        (ap (λ z. entry_before (list_under table root) z) (sym first), subst (λ z. StandsOn table root z (place - 1)) (sym same) (subst (λ z. StandsOn table root old z) (omega (arith, first)) (some-on table root old place at (omega (arith, some)))))
 
 pub returns-then-self-eq0-clause-value : goal.returns-then-self-eq0-clause-value
 returns-then-self-eq0-clause-value g c = λ t. (end_back c.requires.union c.args.self.now c.last.new.self t.at c.if-self-eq0.true c.last.result c.last.ensures.value c.last.ensures.stands).0
@@ -42,7 +42,7 @@ prev_entry-requires g c =
 pub entry_here-requires : goal.entry_here-requires
 entry_here-requires g c =
     let back = went_back c.requires.union c.args.self.now c.prev_entry.new.self c.requires.stands.at c.if-self-eq0.false c.prev_entry.ensures.size (c.prev_entry.ensures.moved c.if-prev_entry.true) in
-    (search rules, (search rules, here-leaf _ _ _ _ c.requires.union back.1))
+    (search rules, (search rules, here-leaf _ _ _ c.requires.union back.1))
 
 pub returns-then-prev_entry-clause-value : goal.returns-then-prev_entry-clause-value
 returns-then-prev_entry-clause-value g c = λ t.

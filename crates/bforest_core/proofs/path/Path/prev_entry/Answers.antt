@@ -1,6 +1,5 @@
 use Rattle.std.proofs.Common.{rules, length, refl, ◌∙◌, arith}
 use Rattle.bforest_core.proofs.Words.{heads}
-use Rattle.bforest_core.proofs.walks.Descent.{some_leaf}
 use Rattle.bforest_core.proofs.walks.Entered.{back_within, back_asks, back_over, back_first, over_leaves}
 use Rattle.bforest_core.proofs.walks.Steps.{never}
 use Rattle.bforest_core.proofs.path.Path.prev_entry.Goals as goal
@@ -9,7 +8,7 @@ pub returns-then-here-gt0 : goal.returns-then-here-gt0
 returns-then-here-gt0 g c =
     record {
       moved = λ yes tree place fit inside s. back_within
-          (some_leaf _ c.requires.capacity) fit inside s c.set_entry.new.self.node c.set_entry.new.self.entry c.set_entry.ensures.nodes
+          c.requires.capacity fit inside s c.set_entry.new.self.entry c.set_entry.ensures.nodes
           c.if-here-gt0.true c.set_entry.ensures.here c.set_entry.ensures.above;
       first = never refl;
       same = never refl;
@@ -19,11 +18,11 @@ returns-then-here-gt0 g c =
 pub prev_node-moved-requires : goal.prev_node-moved-requires
 prev_node-moved-requires g c =
     let w = c.requires.stands in
-    (search rules, (search rules, (c.requires.height, (w.0.above, heads w.0.leaves, length w.4.leaf.before, over_leaves (some_leaf _ c.requires.capacity) w.2 w.3 w.4))))
+    (search rules, (search rules, (c.requires.height, (w.0.above, heads w.0.leaves, length w.4.leaf.before, over_leaves c.requires.capacity w.2 w.3 w.4))))
 
 pub last_index-last-requires : goal.last_index-last-requires
 last_index-last-requires g c =
-    (search rules, back_asks (some_leaf _ c.requires.capacity) c.requires.stands.2 c.requires.stands.3 c.requires.stands.4 c.prev_node-moved.new.self.node c.prev_node-moved.new.self.entry (c.prev_node-moved.ensures.moved c.if-moved.true) c.index-self-0.result (omega arith))
+    (search rules, back_asks c.requires.capacity c.requires.stands.2 c.requires.stands.3 c.requires.stands.4 (c.prev_node-moved.ensures.moved c.if-moved.true) c.index-self-0.result (omega arith))
 
 pub returns-then-moved : goal.returns-then-moved
 returns-then-moved g c =
@@ -31,9 +30,9 @@ returns-then-moved g c =
     let set = c.set_entry-then-moved.ensures in
     record {
       moved = λ yes tree place fit inside s. back_over
-          (some_leaf _ c.requires.capacity) fit inside s c.prev_node-moved.new.self.node c.prev_node-moved.new.self.entry
+          c.requires.capacity fit inside s
           (c.prev_node-moved.ensures.moved c.if-moved.true) c.index-self-0.result
-          (omega arith) new.node new.entry c.last_index-last.result c.last_index-last.ensures.last set.nodes c.if-here-gt0.false set.here
+          (omega arith) new.entry c.last_index-last.ensures.last set.nodes c.if-here-gt0.false set.here
           set.above;
       first = never c.if-moved.true;
       same = never c.if-moved.true;
@@ -43,7 +42,7 @@ returns-then-moved g c =
 pub returns-else-moved : goal.returns-else-moved
 returns-else-moved g c = record {
   moved = λ yes. never yes c.if-moved.false;
-  first = λ no tree place fit inside s. back_first (some_leaf _ c.requires.capacity) fit inside s
+  first = λ no tree place fit inside s. back_first c.requires.capacity fit inside s
       (c.prev_node-moved.ensures.first c.if-moved.false) c.if-here-gt0.false;
   same = λ no. c.prev_node-moved.ensures.same c.if-moved.false;
   size = c.prev_node-moved.ensures.size;

@@ -1,5 +1,6 @@
 use Rattle.std.proofs.Common.{rules, arith}
 use Rattle.bforest_core.proofs.walks.Turning.{before-goes, far-first, turned-back}
+use Rattle.bforest_core.proofs.walks.Turns.{went}
 use Rattle.bforest_core.proofs.path.Path.prev_node.Goals as goal
 
 pub overflow_add-level : goal.overflow_add-level
@@ -9,7 +10,7 @@ pub prev_turn-turn-requires : goal.prev_turn-turn-requires
 prev_turn-turn-requires g c = (search rules, (c.requires.height, omega (arith, c.requires.over.3.height)))
 
 pub returns-then-turn-self-clause-first : goal.returns-then-turn-self-clause-first
-returns-then-turn-self-clause-first g c = λ no rows list place p. far-first c.args.pool.now.nodes c.args.self.now.node c.args.self.now.entry c.requires.height c.prev_turn-turn.ensures.within c.prev_turn-turn.ensures.first c.if-turn-self.true p
+returns-then-turn-self-clause-first g c = λ no. far-first c.args.pool.now.nodes c.args.self.now.node c.args.self.now.entry c.requires.height c.prev_turn-turn.ensures.within c.prev_turn-turn.ensures.first c.if-turn-self.true
 
 pub overflow_sub-index : goal.overflow_sub-index
 overflow_sub-index g c = c.prev_turn-turn.ensures.turns c.if-turn-self.false
@@ -17,13 +18,12 @@ overflow_sub-index g c = c.prev_turn-turn.ensures.turns c.if-turn-self.false
 pub go_to_child-requires : goal.go_to_child-requires
 go_to_child-requires g c =
     let said = c.prev_turn-turn.ensures in
-    (search rules, (search rules, before-goes c.args.pool.now.nodes c.args.self.now.node c.args.self.now.entry c.requires.height said.within said.first c.if-turn-self.false (said.turns c.if-turn-self.false) c.requires.over.3))
+    (search rules, (search rules, before-goes c.args.pool.now.nodes c.args.self.now.node c.args.self.now.entry c.requires.height said.within said.first c.if-turn-self.false (said.turns c.if-turn-self.false) c.requires.over))
 
 pub go_last-requires : goal.go_last-requires
 go_last-requires g c =
     let said = c.prev_turn-turn.ensures in
-    let went = c.go_to_child.ensures in
-    let w = c.requires.over in (
+    let w' = c.go_to_child.ensures in (
       search rules,
       (
         search rules,
@@ -34,11 +34,8 @@ go_last-requires g c =
             c.args.self.now.entry,
             c.args.self.now.size,
             turned-back c.args.pool.now.nodes c.args.self.now.node c.args.self.now.entry c.requires.height said.within said.first
-                c.if-turn-self.false (said.turns c.if-turn-self.false) _ _ went.child went.nodes went.entry went.entries,
-            w.0,
-            w.1,
-            w.2,
-            w.3,
+                c.if-turn-self.false (said.turns c.if-turn-self.false) (went w'.child w'.nodes w'.entry w'.entries),
+            c.requires.over,
           ),
         ),
       ),
@@ -47,7 +44,7 @@ go_last-requires g c =
 pub returns-clause-moved : goal.returns-clause-moved
 returns-clause-moved g c = λ yes.
     let said = c.prev_turn-turn.ensures in
-    let went = c.go_to_child.ensures in
+    let w' = c.go_to_child.ensures in
     c.go_last.ensures.moved c.args.self.now.node c.args.self.now.entry c.args.self.now.size
     (turned-back c.args.pool.now.nodes c.args.self.now.node c.args.self.now.entry c.requires.height said.within said.first
-    c.if-turn-self.false (said.turns c.if-turn-self.false) _ _ went.child went.nodes went.entry went.entries)
+    c.if-turn-self.false (said.turns c.if-turn-self.false) (went w'.child w'.nodes w'.entry w'.entries))

@@ -4,4 +4,4 @@ use Rattle.bforest_core.proofs.path.Path.set_root_node.Goals as goal
 
 pub returns-clause-stands : goal.returns-clause-stands
 returns-clause-stands g c = λ table union is leaf.
-    on-leaf g.row.N table c.args.root _ _ union is leaf (search rules) (search rules)
+    on-leaf table c.args.root _ _ union is leaf (search rules) (search rules)

@@ -29,8 +29,8 @@ pub returns-clause-node : goal.returns-clause-node
 returns-clause-node g c = ap (λ z. front_of z.chain) (sym c.in_ok-reserve.ensures.ok) ∙ c.take_slot-node.ensures.node
 
 pub returns-clause-ok : goal.returns-clause-ok
-returns-clause-ok g c = taken_is c.reserve.new.self c.take_slot-node.new.self c.take_slot-node.result c.leaf.new.self
-    (Leaf (c.args.key ∷ []) (c.args.value ∷ [])) c.take_slot-node.ensures.node c.take_slot-node.ensures.table c.leaf.ensures.node
+returns-clause-ok g c = taken_is c.reserve.new.self
+    c.take_slot-node.ensures.node c.take_slot-node.ensures.table c.leaf.ensures.node
     ∙ ap (λ z. with_front z z.chain (Leaf (c.args.key ∷ []) (c.args.value ∷ []))) c.in_ok-reserve.ensures.ok
 
 pub returns-clause-used : goal.returns-clause-used
@@ -44,4 +44,4 @@ returns-clause-memory g c = λ is. absurd cc
 
 pub returns-clause-planted : goal.returns-clause-planted
 returns-clause-planted g c = λ union.
-    planted-alloc g.row.N c.args.self.now _ c.take_slot-node.result c.args.key c.args.value union (returns-clause-node g c) (returns-clause-ok g c)
+    planted-alloc g.row.N _ c.args.key c.args.value union (returns-clause-node g c) (returns-clause-ok g c)

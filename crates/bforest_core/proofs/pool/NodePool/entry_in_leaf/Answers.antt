@@ -13,14 +13,14 @@ leaf_entry-requires-2 g c = (search rules, (c.requires.leaf.0, c.requires.leaf.1
 
 pub returns-then-is_some : goal.returns-then-is_some
 returns-then-is_some g c = λ es slot.
-    own-entry (g.C.Comparator.order c.args.comp.now) es c.args.key c.look_up-index.result.1 (c.look_up-index.ensures.value es slot) c.look_up-index.result.0 (c.look_up-index.ensures.place es slot) (sym c.is_some.ensures ∙ c.if-is_some.true) c.leaf_entry.result (c.leaf_entry.ensures.value es slot)
+    own-entry (g.C.Comparator.order c.args.comp.now) es c.args.key (c.look_up-index.ensures.value es slot) (c.look_up-index.ensures.place es slot) (sym c.is_some.ensures ∙ c.if-is_some.true) (c.leaf_entry.ensures.value es slot)
 
 pub returns-then-index-eq0 : goal.returns-then-index-eq0
 returns-then-index-eq0 g c = λ es slot.
-    none-in-front (g.C.Comparator.order c.args.comp.now) es c.args.key c.look_up-index.result.1 (c.look_up-index.ensures.value es slot) c.look_up-index.result.0 (c.look_up-index.ensures.place es slot) (sym c.is_some.ensures ∙ c.if-is_some.false) c.if-index-eq0.true
+    none-in-front (g.C.Comparator.order c.args.comp.now) es c.args.key (c.look_up-index.ensures.value es slot) (c.look_up-index.ensures.place es slot) (sym c.is_some.ensures ∙ c.if-is_some.false) c.if-index-eq0.true
 
 pub returns : goal.returns
 returns g c = λ es slot.
-    entry-in-front (g.C.Comparator.order c.args.comp.now) es c.args.key c.look_up-index.result.1
-    (c.look_up-index.ensures.value es slot) c.look_up-index.result.0 (c.look_up-index.ensures.place es slot)
-    (sym c.is_some.ensures ∙ c.if-is_some.false) c.if-index-eq0.false c.leaf_entry-2.result (c.leaf_entry-2.ensures.value es slot)
+    entry-in-front (g.C.Comparator.order c.args.comp.now) es c.args.key
+    (c.look_up-index.ensures.value es slot) (c.look_up-index.ensures.place es slot)
+    (sym c.is_some.ensures ∙ c.if-is_some.false) c.if-index-eq0.false (c.leaf_entry-2.ensures.value es slot)

@@ -1,4 +1,4 @@
-use Rattle.std.proofs.Common.{rules, refl, subst, sym, ℕ}
+use Rattle.std.proofs.Common.{rules, refl, subst, sym}
 use Rattle.bforest_core.proofs.Words.{IsUsed}
 use Rattle.bforest_core.proofs.removal.Healing.{alone_freed, alone_kept, counted_asks, leaf_is_root, leaf_used}
 use Rattle.bforest_core.proofs.pool.NodePool.heal_alone.Goals as goal
@@ -16,7 +16,7 @@ returns-then-entries-gt0 g c = record {
 pub free_node-requires : goal.free_node-requires
 free_node-requires g c =
     let w = c.requires.taken in
-    (search rules, subst (λ (n : ℕ). IsUsed c.args.self.now n) (sym (leaf_is_root _ _ _ _ _ _ _ _ w.4 refl)) (leaf_used _ _ _ _ _ _ _ _ w.4))
+    (search rules, subst (λ n. IsUsed c.args.self.now n) (sym (leaf_is_root _ _ _ _ _ _ _ _ w.4 refl)) (leaf_used _ _ _ _ _ _ _ _ w.4))
 
 pub returns : goal.returns
 returns g c = record {

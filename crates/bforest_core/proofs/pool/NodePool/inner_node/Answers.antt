@@ -6,7 +6,7 @@ pub node_mut-requires : goal.node_mut-requires
 node_mut-requires g c = (search rules, (search rules, c.take_slot-node.ensures.used))
 
 pub returns-clause-table : goal.returns-clause-table
-returns-clause-table g c = taken_is _ _ _ _ _ c.take_slot-node.ensures.node c.take_slot-node.ensures.table c.inner.ensures.node
+returns-clause-table g c = taken_is _ c.take_slot-node.ensures.node c.take_slot-node.ensures.table c.inner.ensures.node
 
 pub returns-clause-used : goal.returns-clause-used
 returns-clause-used g c = used_written _ _ _ c.take_slot-node.ensures.used

@@ -8,67 +8,67 @@ use Rattle.bforest_core.proofs.pool.NodePool.reserve.Goals as goal
 pub invariant_of-self : goal.invariant_of-self
 invariant_of-self g c =
     let size : vec_len c.self.inside.nodes ≡ length c.self.inside.nodes.items = omega arith in
-    let grown = IsPool-grown _ _ _ _ _ (c.args.n - c.self.inside.free) c.args.n (omega arith) (omega arith) c.self.invariant in
+    let grown = IsPool-grown _ _ _ _ (c.args.n - c.self.inside.free) c.args.n (omega arith) (omega arith) c.self.invariant in
     rw (c.in-Ok.ensures.ok, c.in-Ok.ensures.first, size) grown.0
 
 pub returns-in-Ok-clause-ok : goal.returns-in-Ok-clause-ok
 returns-in-Ok-clause-ok g c =
     let size : vec_len c.self.inside.nodes ≡ length c.self.inside.nodes.items = omega arith in
-    let grown = IsPool-grown _ _ _ _ _ (c.args.n - c.self.inside.free) c.args.n (omega arith) (omega arith) c.self.invariant in
+    let grown = IsPool-grown _ _ _ _ (c.args.n - c.self.inside.free) c.args.n (omega arith) (omega arith) c.self.invariant in
     rw (← c.self.view_is, c.in-Ok.ensures.ok, c.in-Ok.ensures.first, size, c.self.invariant.counted, front_of-is _ _ _ c.self.invariant.linked, grown.1)
 
 pub returns-in-Ok-clause-full : goal.returns-in-Ok-clause-full
 returns-in-Ok-clause-full g c =
-    (λ is. absurd cc, λ short. absurd (finds_room _ _ _ _ _ _ c.args.n c.self.view_is c.self.invariant.counted (omega arith) c.if-missing-self.false short))
+    (λ is. absurd cc, λ short. absurd (finds_room _ _ _ _ c.args.n c.self.view_is c.self.invariant.counted (omega arith) c.if-missing-self.false short))
 
 pub returns-in-Ok-clause-memory : goal.returns-in-Ok-clause-memory
 returns-in-Ok-clause-memory g c = λ is. absurd cc
 
 pub returns-in-Ok-clause-numbers : goal.returns-in-Ok-clause-numbers
-returns-in-Ok-clause-numbers g c = few_slots _ _ _ _ c.self.view_is c.self.invariant.slots_within c.self.invariant.limit_within
+returns-in-Ok-clause-numbers g c = few_slots _ _ _ c.self.view_is c.self.invariant.slots_within c.self.invariant.limit_within
 
 pub returns-in-Ok-clause-free : goal.returns-in-Ok-clause-free
-returns-in-Ok-clause-free g c = reserved-frees c.args.self.now _ c.args.n (returns-in-Ok-clause-ok g c)
+returns-in-Ok-clause-free g c = reserved-frees c.args.self.now c.args.n (returns-in-Ok-clause-ok g c)
 
 pub returns-in-Ok-clause-trees : goal.returns-in-Ok-clause-trees
-returns-in-Ok-clause-trees g c = λ union. reserved-keeps g.row.N c.args.self.now _ c.args.n (returns-in-Ok-clause-ok g c) union
+returns-in-Ok-clause-trees g c = λ union. reserved-keeps g.row.N _ c.args.n (returns-in-Ok-clause-ok g c) union
 
 pub returns-then-n-self : goal.returns-then-n-self
 returns-then-n-self g c =
-    let ok = stays_reserved _ _ _ _ _ _ c.args.n c.self.view_is c.self.invariant.counted refl c.if-n-self.true in
+    let ok = stays_reserved _ _ _ _ c.args.n c.self.view_is c.self.invariant.counted refl c.if-n-self.true in
     record {
       ok = ok;
       err = tt;
-      full = (λ is. absurd cc, λ short. absurd (has_room _ _ _ _ _ _ c.args.n c.self.view_is c.self.invariant.counted refl c.if-n-self.true short));
+      full = (λ is. absurd cc, λ short. absurd (has_room _ _ _ _ c.args.n c.self.view_is c.self.invariant.counted refl c.if-n-self.true short));
       memory = λ is. absurd cc;
       enough = λ enough. refl;
-      numbers = few_slots _ _ _ _ c.self.view_is c.self.invariant.slots_within c.self.invariant.limit_within;
-      free = reserved-frees c.args.self.now _ c.args.n ok;
-      trees = λ union. same-keeps g.row.N c.args.self.now _ refl union;
+      numbers = few_slots _ _ _ c.self.view_is c.self.invariant.slots_within c.self.invariant.limit_within;
+      free = reserved-frees c.args.self.now c.args.n ok;
+      trees = λ union. same-keeps _ refl union;
     }
 
 pub returns-then-missing-self : goal.returns-then-missing-self
 returns-then-missing-self g c = record {
   ok = tt;
   err = refl;
-  full = (λ is. lacks_room _ _ _ _ _ _ c.args.n c.self.view_is c.self.invariant.counted (omega arith) c.if-n-self.false c.if-missing-self.true, λ short. refl);
+  full = (λ is. lacks_room _ _ _ _ c.args.n c.self.view_is c.self.invariant.counted (omega arith) c.if-n-self.false c.if-missing-self.true, λ short. refl);
   memory = λ is. absurd cc;
-  enough = λ enough. absurd (not_enough _ _ _ _ _ _ c.args.n c.self.view_is c.self.invariant.counted refl c.if-n-self.false enough);
-  numbers = few_slots _ _ _ _ c.self.view_is c.self.invariant.slots_within c.self.invariant.limit_within;
+  enough = λ enough. absurd (not_enough _ _ _ _ c.args.n c.self.view_is c.self.invariant.counted refl c.if-n-self.false enough);
+  numbers = few_slots _ _ _ c.self.view_is c.self.invariant.slots_within c.self.invariant.limit_within;
   free = tt;
-  trees = λ union. same-keeps g.row.N c.args.self.now _ refl union;
+  trees = λ union. same-keeps _ refl union;
 }
 
 pub returns-in-Err : goal.returns-in-Err
 returns-in-Err g c = record {
   ok = tt;
   err = rw c.in-Err.ensures.err c.self.view_is;
-  full = (λ is. absurd cc, λ short. absurd (finds_room _ _ _ _ _ _ c.args.n c.self.view_is c.self.invariant.counted (omega arith) c.if-missing-self.false short));
-  memory = λ is. needs_growth _ _ _ _ _ _ c.args.n c.self.view_is c.self.invariant.counted (omega arith) c.if-n-self.false c.if-missing-self.false;
-  enough = λ enough. absurd (not_enough _ _ _ _ _ _ c.args.n c.self.view_is c.self.invariant.counted refl c.if-n-self.false enough);
-  numbers = few_slots _ _ _ _ c.self.view_is c.self.invariant.slots_within c.self.invariant.limit_within;
+  full = (λ is. absurd cc, λ short. absurd (finds_room _ _ _ _ c.args.n c.self.view_is c.self.invariant.counted (omega arith) c.if-missing-self.false short));
+  memory = λ is. needs_growth _ _ _ _ c.args.n c.self.view_is c.self.invariant.counted (omega arith) c.if-n-self.false c.if-missing-self.false;
+  enough = λ enough. absurd (not_enough _ _ _ _ c.args.n c.self.view_is c.self.invariant.counted refl c.if-n-self.false enough);
+  numbers = few_slots _ _ _ c.self.view_is c.self.invariant.slots_within c.self.invariant.limit_within;
   free = tt;
-  trees = λ union. same-keeps g.row.N c.args.self.now _ (rw c.in-Err.ensures.err c.self.view_is) union;
+  trees = λ union. same-keeps _ (rw c.in-Err.ensures.err c.self.view_is) union;
 }
 
 pub invariant_of-self-in-Err : goal.invariant_of-self-in-Err

@@ -19,13 +19,13 @@ split-requires g c =
 pub invariant_of-self : goal.invariant_of-self
 invariant_of-self g c =
     let off_left = rw (← c.take_slot-right.ensures.table) at (off-without_front c.args.self.now c.args.self.now.chain c.args.left refl c.requires.used.off_chain) in
-    let pair = IsPool-set_two _ _ _ _ _ c.number.result c.number-2.result c.split.new.rhs c.split.new.self _ _ _ c.self.view_is c.number.ensures.value c.number-2.ensures.value c.take_slot-right.ensures.used.off_chain off_left c.self.invariant in
+    let pair = IsPool-set_two _ _ _ _ c.split.new.rhs c.split.new.self c.self.view_is c.number.ensures.value c.number-2.ensures.value c.take_slot-right.ensures.used.off_chain off_left c.self.invariant in
     rw (c.as_mut_slice.ensures.value, refilled_two c.self.inside.nodes.items c.number.result c.number-2.result c.split.new.rhs c.split.new.self (vec_len c.self.inside.nodes) (omega arith)) pair.0
 
 pub returns : goal.returns
 returns g c =
     let off_left = rw (← c.take_slot-right.ensures.table) at (off-without_front c.args.self.now c.args.self.now.chain c.args.left refl c.requires.used.off_chain) in
-    let pair = IsPool-set_two _ _ _ _ _ c.number.result c.number-2.result c.split.new.rhs c.split.new.self _ _ _ c.self.view_is c.number.ensures.value c.number-2.ensures.value c.take_slot-right.ensures.used.off_chain off_left c.self.invariant in
+    let pair = IsPool-set_two _ _ _ _ c.split.new.rhs c.split.new.self c.self.view_is c.number.ensures.value c.number-2.ensures.value c.take_slot-right.ensures.used.off_chain off_left c.self.invariant in
     let within = rw (← c.self.view_is) at c.take_slot-right.ensures.used.within in
     let off = rw (← c.self.view_is) at c.take_slot-right.ensures.used.off_chain in
     record {
@@ -39,7 +39,7 @@ returns g c =
         all = c.split.ensures.all_entries;
         cut = c.split.ensures.cut;
         after = rw (
-          with_front-is c.args.self.now c.args.self.now.chain c.take_slot-right.result c.split.new.rhs
+          with_front-is c.args.self.now c.args.self.now.chain c.split.new.rhs
               c.take_slot-right.ensures.node,
           ← c.take_slot-right.ensures.table,
           c.as_mut_slice.ensures.value,
@@ -57,7 +57,7 @@ returns g c =
     }
 
 pub two_nodes-rhs-requires-clause-apart : goal.two_nodes-rhs-requires-clause-apart
-two_nodes-rhs-requires-clause-apart g c = λ same. apart_front c.args.self.now.chain c.args.left c.take_slot-right.result c.take_slot-right.ensures.node c.requires.used.off_chain (sym c.number.ensures.value ∙ same ∙ c.number-2.ensures.value)
+two_nodes-rhs-requires-clause-apart g c = λ same. apart_front c.args.self.now.chain c.take_slot-right.ensures.node c.requires.used.off_chain (sym c.number.ensures.value ∙ same ∙ c.number-2.ensures.value)
 
 pub two_nodes-rhs-requires-clause-left_within : goal.two_nodes-rhs-requires-clause-left_within
 two_nodes-rhs-requires-clause-left_within g c =

@@ -17,10 +17,10 @@ module _ {K V : Type 0} (n : ℕ) (nodes : List (Content K V)) (first : Option �
     first_is = sym reads_first ∙ unwraps ∙ ap Some (sym number_is)
 
     here : IsPool n nodes (Some number) free limit
-    here = subst (λ (z : Option ℕ). IsPool n nodes z free limit) first_is pool
+    here = subst (λ z. IsPool n nodes z free limit) first_is pool
 
     front : (next : Option ℕ) × (slice_get nodes number ≡ Some (Free next))
-    front = front_is_free n nodes number free limit some here
+    front = front_is_free free some here
 
     within : number < length nodes
     within = slice_get_within nodes number (Free front.0) front.1
@@ -32,12 +32,12 @@ module _ {K V : Type 0} (n : ℕ) (nodes : List (Content K V)) (first : Option �
       module _ (next : Option ℕ) (next_is : content ≡ Free next) where
         taken : IsPool n nodes next (free - 1) limit × (chain_from nodes free first ≡ number ∷ chain_from nodes (free - 1) next) × (list_any (nat_eq number) (chain_from nodes (free - 1) next) ≡ false)
         taken =
-            let w = IsPool-taken n nodes number next free limit some here (reads within ∙ ap Some next_is) in
+            let w = IsPool-taken next free some here (reads within ∙ ap Some next_is) in
             (w.0, ap (λ z. chain_from nodes free z) first_is ∙ w.1, w.2)
 
 pub unwrap-node-requires : goal.unwrap-node-requires
 unwrap-node-requires g c =
-    rw c.expand.ensures.value (first_some _ _ _ _ _ (some _ c.self.inside.nodes.items c.self.inside.first c.self.inside.free c.self.inside.limit c.self.invariant _ c.self.view_is c.requires.room) c.self.invariant)
+    rw c.expand.ensures.value (first_some _ _ (some _ c.self.inside.nodes.items c.self.inside.first c.self.inside.free c.self.inside.limit c.self.invariant _ c.self.view_is c.requires.room) c.self.invariant)
 
 pub index-requires : goal.index-requires
 index-requires g c =

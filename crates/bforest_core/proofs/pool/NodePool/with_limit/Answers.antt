@@ -3,7 +3,7 @@ use Rattle.bforest_core.proofs.table.Pools.{IsPool-empty, empty-is}
 use Rattle.bforest_core.proofs.pool.NodePool.with_limit.Goals as goal
 
 pub invariant_of-result : goal.invariant_of-result
-invariant_of-result g c = rw (c.new.ensures.items, c.none.ensures.none) (IsPool-empty _ _ c.requires (omega arith))
+invariant_of-result g c = rw (c.new.ensures.items, c.none.ensures.none) (IsPool-empty _ c.requires (omega arith))
 
 pub returns : goal.returns
 returns g c = record { empty = empty-is _ _ c.new.ensures.items refl refl }

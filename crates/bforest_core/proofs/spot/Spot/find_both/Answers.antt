@@ -1,7 +1,6 @@
 use Rattle.std.proofs.Common.{ap, arith, refl, rules, sym, ◌∙◌}
 use Rattle.std.specs.Ordering.{is_gt}
 use Rattle.bforest_core.proofs.Words.{false≢true, tree_of}
-use Rattle.bforest_core.proofs.walks.Descent.{some_leaf}
 use Rattle.bforest_core.proofs.walks.Searches.{along-asks, asks, came-end, came-first, came-on, code-low-here, deeper-low, digit-low, down}
 use Rattle.bforest_core.proofs.walks.Searches.{ends-on, search-ends, spot-found, within}
 use Rattle.bforest_core.proofs.spot.Spot.find_both.Goals as goal
@@ -14,52 +13,49 @@ loop-index-init g c =
     )
 
 pub node-requires : goal.node-requires
-node-requires g c = (
-  search rules,
-  (search rules, within (g.met.C.Comparator.total c.args.comp.now) (some_leaf _ c.requires.union.1.capacity) c.loop-index.invariant.0.on),
-)
+node-requires g c = (search rules, (search rules, within (g.met.C.Comparator.total c.args.comp.now) c.requires.union.1.capacity c.loop-index.invariant.0.on))
 
 pub follow-index-requires : goal.follow-index-requires
 follow-index-requires g c = (
   search rules,
   asks (g.met.C.Comparator.total c.args.comp.now)
-      (some_leaf _ c.requires.union.1.capacity) c.loop-index.invariant.0.on c.node.result.now c.node.ensures.value
+      c.requires.union.1.capacity c.loop-index.invariant.0.on c.node.ensures.value
       (c.is_inner.ensures.inner.0 c.loop-index-test.true),
 )
 
 pub below-next-requires-clause-code : goal.below-next-requires-clause-code
 below-next-requires-clause-code g c = code-low-here (g.met.C.Comparator.total c.args.comp.now)
-    (some_leaf _ c.requires.union.1.capacity) c.loop-index.invariant.0.on c.node.result.now c.node.ensures.value
-    (c.is_inner.ensures.inner.0 c.loop-index-test.true) c.follow-index.result.0 c.follow-index.result.1 c.follow-index.ensures.index
-    c.follow-index.ensures.child c.loop-index.invariant.0.above c.loop-index.invariant.0.numbers c.loop-index.here refl
+    c.requires.union.1.capacity c.loop-index.invariant.0.on c.node.ensures.value
+    (c.is_inner.ensures.inner.0 c.loop-index-test.true) c.follow-index.result.0 c.follow-index.ensures.index
+    c.follow-index.ensures.child refl
     c.loop-index.invariant.0.way
 
 pub below-next-requires-clause-height : goal.below-next-requires-clause-height
 below-next-requires-clause-height g c = deeper-low (g.met.C.Comparator.total c.args.comp.now)
-    (some_leaf _ c.requires.union.1.capacity) c.loop-index.invariant.0.on c.node.result.now c.node.ensures.value
+    c.requires.union.1.capacity c.loop-index.invariant.0.on c.node.ensures.value
     (c.is_inner.ensures.inner.0 c.loop-index-test.true)
 
 pub below-next-requires-clause-index : goal.below-next-requires-clause-index
 below-next-requires-clause-index g c = digit-low (g.met.C.Comparator.total c.args.comp.now)
-    (some_leaf _ c.requires.union.1.capacity) c.loop-index.invariant.0.on c.node.result.now c.node.ensures.value
-    (c.is_inner.ensures.inner.0 c.loop-index-test.true) c.follow-index.result.0 c.follow-index.result.1 c.follow-index.ensures.index
+    c.requires.union.1.capacity c.loop-index.invariant.0.on c.node.ensures.value
+    (c.is_inner.ensures.inner.0 c.loop-index-test.true) c.follow-index.result.0 c.follow-index.ensures.index
     c.follow-index.ensures.child
 
 pub goes_along-requires : goal.goes_along-requires
 goes_along-requires g c = (
   search rules,
   along-asks (g.met.C.Comparator.total c.args.comp.now)
-      (some_leaf _ c.requires.union.1.capacity) c.loop-index.invariant.0.on c.node.result.now c.node.ensures.value
-      (c.is_inner.ensures.inner.0 c.loop-index-test.true) c.follow-index.result.0 c.follow-index.result.1 c.follow-index.ensures.index
+      c.requires.union.1.capacity c.loop-index.invariant.0.on c.node.ensures.value
+      (c.is_inner.ensures.inner.0 c.loop-index-test.true) c.follow-index.result.0 c.follow-index.ensures.index
       c.follow-index.ensures.child,
 )
 
 pub find_below-first-requires : goal.find_below-first-requires
 find_below-first-requires g c =
     let d = down (g.met.C.Comparator.total c.args.comp.now)
-    (some_leaf _ c.requires.union.1.capacity) c.loop-index.invariant.0.on c.node.result.now c.node.ensures.value
-    (c.is_inner.ensures.inner.0 c.loop-index-test.true) c.follow-index.result.0 c.follow-index.result.1 c.follow-index.ensures.index
-    c.follow-index.ensures.child c.loop-index.invariant.0.above c.loop-index.invariant.0.numbers c.loop-index.here refl
+    c.requires.union.1.capacity c.loop-index.invariant.0.on c.node.ensures.value
+    (c.is_inner.ensures.inner.0 c.loop-index-test.true) c.follow-index.result.0 c.follow-index.ensures.index
+    c.follow-index.ensures.child refl
     c.loop-index.invariant.0.way c.below-next.result c.below-next.ensures.code c.below-next.ensures.parent c.below-next.ensures.grand
     c.below-next.ensures.height in
     (search rules, (c.requires.union.1.capacity, ((tree_of c.args.pool.now.nodes c.args.root).leaves, d.above, d.numbers, d.on, d.way)))
@@ -67,7 +63,7 @@ find_below-first-requires g c =
 pub find_below-requires : goal.find_below-requires
 find_below-requires g c =
     let a = asks (g.met.C.Comparator.total c.args.comp.now)
-    (some_leaf _ c.requires.union.1.capacity) c.loop-index.invariant.0.on c.node.result.now c.node.ensures.value
+    c.requires.union.1.capacity c.loop-index.invariant.0.on c.node.ensures.value
     (c.is_inner.ensures.inner.0 c.loop-index-test.true) in
     let w = c.loop-index.invariant.1
     (c.goes_along.ensures.ordered c.if-not-goes_along.true c.args.from a.0 a.1 a.2 (c.follow-index.ensures.index a.0 a.1 a.2)) in
@@ -79,12 +75,12 @@ returns-then-not-goes_along g c =
     let w = c.loop-index.invariant.0 in
     let d = came-on c.args.pool.now c.args.root c.args.from w
     (down (g.met.C.Comparator.total c.args.comp.now)
-    (some_leaf _ c.requires.union.1.capacity) w.on c.node.result.now c.node.ensures.value
-    (c.is_inner.ensures.inner.0 c.loop-index-test.true) c.follow-index.result.0 c.follow-index.result.1 c.follow-index.ensures.index
-    c.follow-index.ensures.child w.above w.numbers c.loop-index.here refl w.way c.below-next.result c.below-next.ensures.code
+    c.requires.union.1.capacity w.on c.node.ensures.value
+    (c.is_inner.ensures.inner.0 c.loop-index-test.true) c.follow-index.result.0 c.follow-index.ensures.index
+    c.follow-index.ensures.child refl w.way c.below-next.result c.below-next.ensures.code
     c.below-next.ensures.parent c.below-next.ensures.grand c.below-next.ensures.height) in
     let a = asks (g.met.C.Comparator.total c.args.comp.now)
-    (some_leaf _ c.requires.union.1.capacity) w.on c.node.result.now c.node.ensures.value
+    c.requires.union.1.capacity w.on c.node.ensures.value
     (c.is_inner.ensures.inner.0 c.loop-index-test.true) in
     let u = c.loop-index.invariant.1
     (c.goes_along.ensures.ordered c.if-not-goes_along.true c.args.from a.0 a.1 a.2 (c.follow-index.ensures.index a.0 a.1 a.2)) in
@@ -105,7 +101,7 @@ loop-index-smaller g c = omega (
   arith,
   c.below-next.ensures.height,
   deeper-low (g.met.C.Comparator.total c.args.comp.now)
-      (some_leaf _ c.requires.union.1.capacity) c.loop-index.invariant.0.on c.node.result.now c.node.ensures.value
+      c.requires.union.1.capacity c.loop-index.invariant.0.on c.node.ensures.value
       (c.is_inner.ensures.inner.0 c.loop-index-test.true),
 )
 
@@ -114,18 +110,18 @@ loop-index-preserved g c =
     let w = c.loop-index.invariant.0 in (
       came-on c.args.pool.now c.args.root c.args.from w
           (down (g.met.C.Comparator.total c.args.comp.now)
-          (some_leaf _ c.requires.union.1.capacity) w.on c.node.result.now c.node.ensures.value
-          (c.is_inner.ensures.inner.0 c.loop-index-test.true) c.follow-index.result.0 c.follow-index.result.1 c.follow-index.ensures.index
-          c.follow-index.ensures.child w.above w.numbers c.loop-index.here refl w.way c.below-next.result c.below-next.ensures.code
+          c.requires.union.1.capacity w.on c.node.ensures.value
+          (c.is_inner.ensures.inner.0 c.loop-index-test.true) c.follow-index.result.0 c.follow-index.ensures.index
+          c.follow-index.ensures.child refl w.way c.below-next.result c.below-next.ensures.code
           c.below-next.ensures.parent c.below-next.ensures.grand c.below-next.ensures.height),
       λ ordered.
           let u = c.loop-index.invariant.1 ordered in
           came-on c.args.pool.now c.args.root c.args.to u
           (down (g.met.C.Comparator.total c.args.comp.now)
-          (some_leaf _ c.requires.union.1.capacity) u.on c.node.result.now c.node.ensures.value
-          (c.is_inner.ensures.inner.0 c.loop-index-test.true) c.follow-index.result.0 c.follow-index.result.1
+          c.requires.union.1.capacity u.on c.node.ensures.value
+          (c.is_inner.ensures.inner.0 c.loop-index-test.true) c.follow-index.result.0
           (λ keys children found. c.goes_along.ensures.along c.if-not-goes_along.false c.args.from keys children found
-          (c.follow-index.ensures.index keys children found) ordered) c.follow-index.ensures.child u.above u.numbers c.loop-index.here
+          (c.follow-index.ensures.index keys children found) ordered) c.follow-index.ensures.child
           refl u.way c.below-next.result c.below-next.ensures.code c.below-next.ensures.parent c.below-next.ensures.grand
           c.below-next.ensures.height),
     )
@@ -139,12 +135,12 @@ returns g c =
     let u = c.loop-index.invariant.1 (ap is_gt (sym c.cmp.ensures) ∙ sym c.is_gt.ensures ∙ c.if-is_gt.false) in
     let e = came-end c.args.pool.now c.args.root c.args.from w
     (ends-on (g.met.C.Comparator.total c.args.comp.now)
-    (some_leaf _ c.requires.union.1.capacity) w.on c.node.result.now c.node.ensures.value
-    (λ i. false≢true (sym c.loop-index-test.false ∙ c.is_inner.ensures.inner.1 i)) w.above w.numbers c.loop-index.here w.way) in
+    c.requires.union.1.capacity w.on c.node.ensures.value
+    (λ i. false≢true (sym c.loop-index-test.false ∙ c.is_inner.ensures.inner.1 i)) w.way) in
     let h = came-end c.args.pool.now c.args.root c.args.to u
     (ends-on (g.met.C.Comparator.total c.args.comp.now)
-    (some_leaf _ c.requires.union.1.capacity) u.on c.node.result.now c.node.ensures.value
-    (λ i. false≢true (sym c.loop-index-test.false ∙ c.is_inner.ensures.inner.1 i)) u.above u.numbers c.loop-index.here u.way) in
+    c.requires.union.1.capacity u.on c.node.ensures.value
+    (λ i. false≢true (sym c.loop-index-test.false ∙ c.is_inner.ensures.inner.1 i)) u.way) in
     record {
       some = record {
         front_at = spot-found c.requires.root e;

@@ -1,30 +1,22 @@
-use Rattle.std.proofs.Common.{Some, rules, refl, arith, ◌<◌}
+use Rattle.std.proofs.Common.{rules, refl, arith, ◌<◌}
 use Rattle.bforest_core.proofs.Words.{tree_of, heads}
 use Rattle.bforest_core.proofs.walks.Codes.{last-leaf, spot-height, spot-low, spot-over}
-use Rattle.bforest_core.proofs.walks.Cousins.{cousin, cousin-asks, far-said, grand-count, parent-asks}
+use Rattle.bforest_core.proofs.walks.Cousins.{cousin, cousin-asks, far-behind, grand-count, parent-asks}
 use Rattle.bforest_core.proofs.spot.Spot.next_cousin.Goals as goal
 
 pub child_count-requires : goal.child_count-requires
 child_count-requires g c = (search rules, grand-count c.requires.union c.requires.spot.1 c.requires.deep)
 
 pub child-parent-requires : goal.child-parent-requires
-child-parent-requires g c = (
-  search rules,
-  parent-asks c.requires.union c.requires.spot.1 c.requires.last c.requires.deep c.child_count.result
-      c.child_count.ensures.value c.if-index-child_count.true,
-)
+child-parent-requires g c = (search rules, parent-asks c.requires.union c.requires.spot.1 c.requires.deep c.requires.last c.child_count.ensures.value c.if-index-child_count.true)
 
 pub child-leaf-requires : goal.child-leaf-requires
-child-leaf-requires g c = (
-  search rules,
-  cousin-asks c.requires.union c.requires.spot.1 c.requires.last c.requires.deep c.child_count.result c.child_count.ensures.value
-      c.if-index-child_count.true c.child-parent.result c.child-parent.ensures,
-)
+child-leaf-requires g c = (search rules, cousin-asks c.requires.union c.requires.spot.1 c.requires.deep c.requires.last c.child_count.ensures.value c.if-index-child_count.true c.child-parent.ensures)
 
 pub returns-then-index-child_count-clause-some : goal.returns-then-index-child_count-clause-some
 returns-then-index-child_count-clause-some g c = λ place s.
-    cousin c.requires.union s c.requires.last c.requires.deep c.child_count.result c.child_count.ensures.value c.if-index-child_count.true
-    c.child-parent.result c.child-parent.ensures c.child-leaf.result c.child-leaf.ensures _ refl refl refl refl
+    cousin c.requires.union s c.requires.deep c.requires.last c.child_count.ensures.value c.if-index-child_count.true c.child-parent.ensures refl refl refl refl
+    c.child-leaf.ensures
 
 pub next_far-requires : goal.next_far-requires
 next_far-requires g c =
@@ -49,12 +41,11 @@ overflow_mul-spot g c =
 
 pub returns-in_err-spot-clause-none : goal.returns-in_err-spot-clause-none
 returns-in_err-spot-clause-none g c = λ none place s. last-leaf c.requires.union c.args.root s.root_is
-    (c.next_far.ensures.none c.in_err-spot.was s.numbers (tree_of c.args.pool.now.nodes c.args.root).above
+    (c.next_far.ensures.next.none c.in_err-spot.was s.numbers (tree_of c.args.pool.now.nodes c.args.root).above
     (heads (tree_of c.args.pool.now.nodes c.args.root).leaves) place (spot-over c.requires.union s))
 
 pub returns-clause-some : goal.returns-clause-some
-returns-clause-some g c = far-said c.requires.union c.args.root c.args.self.now (Some (c.in_ok-spot.spot, c.in_ok-spot.leaf))
-    (rw c.in_ok-spot.was at c.next_far.ensures.some)
+returns-clause-some g c = far-behind c.requires.union (rw c.in_ok-spot.was at c.next_far.ensures.next)
 
 pub overflow_add-index : goal.overflow_add-index
 overflow_add-index g c = omega arith

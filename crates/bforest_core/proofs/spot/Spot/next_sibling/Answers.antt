@@ -1,15 +1,16 @@
 use Rattle.std.proofs.Common.{rules, arith, refl}
-use Rattle.bforest_core.proofs.walks.Codes.{sibling-asks, sibling-child, sibling-spot, spot-low}
+use Rattle.bforest_core.proofs.walks.Codes.{spot-low}
+use Rattle.bforest_core.proofs.walks.Cousins.{sibling-asks, sibling-behind}
 use Rattle.bforest_core.proofs.spot.Spot.next_sibling.Goals as goal
 
 pub child-leaf-requires : goal.child-leaf-requires
-child-leaf-requires g c = (search rules, sibling-asks c.requires.union c.requires.spot.is c.requires.next.some c.requires.next)
+child-leaf-requires g c = (search rules, sibling-asks c.requires.union c.requires.spot.is c.requires.next)
 
 pub overflow_add-spot : goal.overflow_add-spot
 overflow_add-spot g c = omega (arith, spot-low c.requires.union c.requires.spot.is)
 
 pub returns-clause-leaf : goal.returns-clause-leaf
-returns-clause-leaf g c = λ root place s. sibling-child c.requires.union s c.requires.next.some c.requires.next c.child-leaf.result c.child-leaf.ensures
+returns-clause-leaf g c = λ root place s. (sibling-behind c.requires.union s c.requires.next refl refl refl refl c.child-leaf.ensures).1
 
 pub returns-clause-spot : goal.returns-clause-spot
-returns-clause-spot g c = λ root place s. sibling-spot c.requires.union s c.requires.next.some c.requires.next _ refl refl refl refl
+returns-clause-spot g c = λ root place s. (sibling-behind c.requires.union s c.requires.next refl refl refl refl c.child-leaf.ensures).0

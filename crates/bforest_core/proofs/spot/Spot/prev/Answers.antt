@@ -1,6 +1,6 @@
 use Rattle.std.proofs.Common.{rules, refl, arith}
 use Rattle.bforest_core.specs.Spots.{SpotOn}
-use Rattle.bforest_core.proofs.walks.Back.{first-low}
+use Rattle.bforest_core.proofs.walks.Cousins.{first-low}
 use Rattle.bforest_core.proofs.spot.Spot.prev.Goals as goal
 
 pub prev_sibling-requires : goal.prev_sibling-requires

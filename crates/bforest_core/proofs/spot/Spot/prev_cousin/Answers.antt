@@ -1,6 +1,6 @@
-use Rattle.std.proofs.Common.{Some, rules, refl, arith, ◌<◌}
+use Rattle.std.proofs.Common.{rules, refl, arith, ◌<◌}
 use Rattle.bforest_core.proofs.Words.{tree_of, heads}
-use Rattle.bforest_core.proofs.walks.Back.{cousin-before, cousin-before-asks, cousin-last-asks, far-before, parent-before-asks}
+use Rattle.bforest_core.proofs.walks.Cousins.{cousin-before, cousin-before-asks, cousin-last-asks, far-before, parent-before-asks}
 use Rattle.bforest_core.proofs.walks.Codes.{spot-height, spot-low, spot-over}
 use Rattle.bforest_core.proofs.spot.Spot.prev_cousin.Goals as goal
 
@@ -21,35 +21,33 @@ prev_far-requires g c =
     )
 
 pub returns-in_err-spot-clause-none : goal.returns-in_err-spot-clause-none
-returns-in_err-spot-clause-none g c = λ none place s. c.prev_far.ensures.none c.in_err-spot.was s.numbers
+returns-in_err-spot-clause-none g c = λ none place s. c.prev_far.ensures.before.none c.in_err-spot.was s.numbers
     (tree_of c.args.pool.now.nodes c.args.root).above (heads (tree_of c.args.pool.now.nodes c.args.root).leaves) place
     (spot-over c.requires.union s)
 
 pub returns-clause-some : goal.returns-clause-some
-returns-clause-some g c = far-before c.requires.union c.args.root c.args.self.now (Some (c.in_ok-spot.spot, c.in_ok-spot.leaf))
-    (rw c.in_ok-spot.was at c.prev_far.ensures.some)
+returns-clause-some g c = far-before c.requires.union (rw c.in_ok-spot.was at c.prev_far.ensures.before)
 
 pub child-parent-requires : goal.child-parent-requires
-child-parent-requires g c = (search rules, parent-before-asks c.requires.union c.requires.spot.1 c.requires.first c.requires.deep c.if-index-gt0.true)
+child-parent-requires g c = (search rules, parent-before-asks c.requires.union c.requires.spot.1 c.requires.deep c.requires.first c.if-index-gt0.true)
 
 pub last_index-last-requires : goal.last_index-last-requires
 last_index-last-requires g c = (
   search rules,
-  cousin-last-asks c.requires.union c.requires.spot.1 c.requires.first c.requires.deep c.if-index-gt0.true
+  cousin-last-asks c.requires.union c.requires.spot.1 c.requires.deep c.requires.first c.if-index-gt0.true
       c.child-parent.ensures,
 )
 
 pub child-leaf-requires : goal.child-leaf-requires
 child-leaf-requires g c = (
   search rules,
-  cousin-before-asks c.requires.union c.requires.spot.1 c.requires.first c.requires.deep c.if-index-gt0.true c.child-parent.ensures
+  cousin-before-asks c.requires.union c.requires.spot.1 c.requires.deep c.requires.first c.if-index-gt0.true c.child-parent.ensures
       c.last_index-last.ensures.last,
 )
 
 pub returns-then-index-gt0-clause-some : goal.returns-then-index-gt0-clause-some
 returns-then-index-gt0-clause-some g c = λ place s.
-    cousin-before c.requires.union s c.requires.first c.requires.deep c.if-index-gt0.true c.child-parent.ensures
-    c.last_index-last.ensures.last refl refl refl refl c.child-leaf.ensures
+    cousin-before c.requires.union s c.requires.deep c.requires.first c.if-index-gt0.true c.child-parent.ensures c.last_index-last.ensures.last refl refl refl refl c.child-leaf.ensures
 
 pub returns-then-index-gt0-clause-none : goal.returns-then-index-gt0-clause-none
 returns-then-index-gt0-clause-none g c = λ bad. absurd (let no = bad in cc)
