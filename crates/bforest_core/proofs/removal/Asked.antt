@@ -47,7 +47,7 @@ module _ {K V : Type 0} where
   TwoAbove t path indices up size = (rows : List (List (LevelNode K ℕ))) × (before : List (K × ℕ)) × (x : K × ℕ) × (key : K) × (n : ℕ) × (after : List (K × ℕ)) × Above t path indices up size rows (before ++ x ∷ (key, n) ∷ after) (length before)
 
   pub two_low : (t : Table K V) (path indices : List ℕ) (up size : ℕ) → TwoAbove t path indices up size → up < size
-  two_low t path indices up size w = above_two t path indices up size w.0 w.1 w.2 (w.3, w.4) w.5 (length w.1) w.6
+  two_low t path indices up size w = above_two w.0 w.1 w.2 (w.3, w.4) w.5 w.6
 
   -- the rows from a level up, cut at an entry and the next
   abbrev pub NextAbove : Table K V → List ℕ → List ℕ → ℕ → ℕ → Type 0
@@ -58,14 +58,14 @@ module _ {K V : Type 0} where
   MergeAbove t path indices up size = (rows : List (List (LevelNode K ℕ))) × (before : List (K × ℕ)) × (k : K) × (m : ℕ) × (k2 : K) × (n : ℕ) × (after : List (K × ℕ)) × Above t path indices up size rows (before ++ (k, m) ∷ (k2, n) ∷ after) (length before)
 
   pub merge_low : (t : Table K V) (path indices : List ℕ) (up size : ℕ) → MergeAbove t path indices up size → up < size
-  merge_low t path indices up size w = above_two t path indices up size w.0 w.1 (w.2, w.3) (w.4, w.5) w.6 (length w.1) w.7
+  merge_low t path indices up size w = above_two w.0 w.1 (w.2, w.3) (w.4, w.5) w.6 w.7
 
   -- the rows from a level up, cut at the last two entries
   abbrev pub LastTwo : Table K V → List ℕ → List ℕ → ℕ → ℕ → Type 0
   LastTwo t path indices up size = (rows : List (List (LevelNode K ℕ))) × (before : List (K × ℕ)) × (y : K × ℕ) × (x : K × ℕ) × Above t path indices up size rows (before ++ y ∷ x ∷ []) (suc (length before))
 
   pub last_low : (t : Table K V) (path indices : List ℕ) (up size : ℕ) → LastTwo t path indices up size → up < size
-  last_low t path indices up size w = above_two t path indices up size w.0 w.1 w.2 w.3 [] (suc (length w.1)) w.4
+  last_low t path indices up size w = above_two w.0 w.1 w.2 w.3 [] w.4
 
   -- the answer of the call for the right neighbour
   abbrev pub Beside : Table K V → List ℕ → List ℕ → ℕ → ℕ → Option (K × ℕ) → Type 0
@@ -99,11 +99,11 @@ module _ {K V : Type 0} where
     pub low_key_asks : (i : ℕ) → i < get_or indices up 0 → KeyAt t (get_or path up r) i
     pub key_asks : (m i : ℕ) → Counts t (get_or path up r) m → i + 1 < m → KeyAt t (get_or path up r) i
 
-  pub seen : (t : Table K V) (path indices : List ℕ) (up size : ℕ) (rows : List (List (LevelNode K ℕ))) (a : List (K × ℕ)) (x : K × ℕ)
+  pub seen : {t : Table K V} {path indices : List ℕ} {up size : ℕ} {rows : List (List (LevelNode K ℕ))} (a : List (K × ℕ)) (x : K × ℕ)
       (b : List (K × ℕ)) → Above t path indices up size rows (a ++ x ∷ b) (length a) → up < size → (r : ℕ) → length path ≡ 17 → size ≤ 17
       → Seen t path indices up size rows a x b r
-  seen t path indices up size rows a x b p low r wide height =
-      let d = spot t path indices up size rows a x b p low in
+  seen {t} {path} {indices} {up} {size} {rows} a x b p low r wide height =
+      let d = spot a x b p low in
       let es : List (K × ℕ) = d.q.l ++ x ∷ d.q.r in
       let num_is : get_or path up r ≡ get_or path up 0 = get_or_default path up r 0 (omega (arith, low, wide, height)) in
       let slot : slice_get t.nodes (get_or path up r) ≡ Some (inner_content es) = ap (λ z. slice_get t.nodes z) num_is ∙ d.f.slot_is in

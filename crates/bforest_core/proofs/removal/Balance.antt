@@ -65,7 +65,7 @@ module _ {K V X : Type 0} (content : List (K × X) → Content K V) where
         here = two.same n ne ∙ one.here;
         there = two.here;
         same = λ m a b. two.same m b ∙ one.same m a;
-        frees = frees-after t v u own own [] (λ m none. none) (frees-puts t v n c own (omega (arith, count-same n (q ∷ []))) one) (frees-puts v u q d own (omega (arith, count-same q [])) two);
+        frees = frees-after {t = t} {own = own} (λ m none. none) (frees-puts own (omega (arith, count-same n (q ∷ []))) one) (frees-puts own (omega (arith, count-same q [])) two);
       }
 
   -- both nodes were merged into the right one
@@ -87,10 +87,10 @@ module _ {K V X : Type 0} (content : List (K × X) → Content K V) where
     pub key_is : key ≡ y.0
     pub two : PutsTwo t u n q (content (x ∷ xs)) (content (y ∷ ys))
 
-  module _ (t u : Table K V) (cap most n q : ℕ) (e : K × X) (es : List (K × X)) (f : K × X) (fs : List (K × X)) (s : IsStored content cap most) (ne : n ≢ q) (two : 2 ≤ most) (fn : slice_get t.nodes n ≡ Some (content (e ∷ es))) (fq : slice_get t.nodes q ≡ Some (content (f ∷ fs))) where
+  module _ (t u : Table K V) {cap most : ℕ} (n q : ℕ) (e : K × X) (es : List (K × X)) (f : K × X) (fs : List (K × X)) (s : IsStored content cap most) (ne : n ≢ q) (two : 2 ≤ most) (fn : slice_get t.nodes n ≡ Some (content (e ∷ es))) (fq : slice_get t.nodes q ≡ Some (content (f ∷ fs))) where
     -- the balanced nodes are these two
-    balances_at : (got : Option K) (b : IsBalancedAt cap t n f.0 q got u) → Balances cap (content (e ∷ es)) f.0 (content (f ∷ fs)) got b.new_left b.new_right
-    balances_at got b =
+    balances_at : {got : Option K} (b : IsBalancedAt cap t n f.0 q got u) → Balances cap (content (e ∷ es)) f.0 (content (f ∷ fs)) got b.new_left b.new_right
+    balances_at {got} b =
         let under_is : b.under ≡ content (e ∷ es) = some_same b.under (content (e ∷ es)) (sym b.left_was ∙ fn) in
         let neighbour_is : b.neighbour ≡ content (f ∷ fs) = some_same b.neighbour (content (f ∷ fs)) (sym b.right_was ∙ fq) in
         subst (λ (z : Content K V). Balances cap (content (e ∷ es)) f.0 z got b.new_left b.new_right) neighbour_is (subst (λ (z : Content K V). Balances cap z f.0 b.neighbour got b.new_left b.new_right) under_is b.balances)
@@ -101,7 +101,7 @@ module _ {K V X : Type 0} (content : List (K × X) → Content K V) where
     -- where everything fits, balancing merges into the right node
     pub all_right_at : IsBalancedAt cap t n f.0 q None u → AllRight t u most n q (e ∷ es) (f ∷ fs)
     all_right_at b =
-        let bal = balances_at None b in
+        let bal = balances_at b in
         let full = s.capacity_is (e ∷ es) in
         let total = whole_count in
         elim (cases_lt most (length (e ∷ es) + length (f ∷ fs))) [
@@ -111,9 +111,9 @@ module _ {K V X : Type 0} (content : List (K × X) → Content K V) where
         ]
 
     -- where not everything fits, balancing shares the entries
-    pub spread_at : (key : K) → IsBalancedAt cap t n f.0 q (Some key) u → Spread t u most n q (e ∷ es) (f ∷ fs) key
-    spread_at key b =
-        let bal = balances_at (Some key) b in
+    pub spread_at : {key : K} → IsBalancedAt cap t n f.0 q (Some key) u → Spread t u most n q (e ∷ es) (f ∷ fs) key
+    spread_at {key} b =
+        let bal = balances_at b in
         let full = s.capacity_is (e ∷ es) in
         let total = whole_count in
         let both = length (e ∷ es) + length (f ∷ fs) in

@@ -54,13 +54,13 @@ pub record Settled {K V X : Type 0} (content : List (K × X) → Content K V) (h
   pub numbers_are : (m : ℕ) → count m (numbers row ++ flat_map numbers rows) + count m freed ≡ count m (numbers (before ++ node n es ∷ after) ++ flat_map numbers rest)
   pub frees : Frees t v (numbers (before ++ node n es ∷ after) ++ flat_map numbers rest) freed
 
-module _ {K V X : Type 0} (content : List (K × X) → Content K V) (half most : ℕ) (t : Table K V) (path indices : List ℕ) (up size : ℕ) (before : List (LevelNode K X)) (n : ℕ) (es : List (K × X)) (after : List (LevelNode K X)) (rest : List (List (LevelNode K ℕ))) where
+module _ {K V X : Type 0} {content : List (K × X) → Content K V} {half most : ℕ} {t : Table K V} {path indices : List ℕ} {up size : ℕ} {before : List (LevelNode K X)} {n : ℕ} {es : List (K × X)} {after : List (LevelNode K X)} {rest : List (List (LevelNode K ℕ))} where
   -- a level whose node stays is rebalanced
-  pub healed_settled : (v : Table K V) (path' indices' : List ℕ)
+  pub healed_settled : {v : Table K V} {path' indices' : List ℕ}
       (h : Healed content half most t v path indices path' indices' up size before n es after rest)
       → Settled content half most t v path' indices' up size before n es after rest h.before'
       (h.before' ++ node h.number' h.entries' ∷ h.after') h.rest' []
-  healed_settled v path' indices' h =
+  healed_settled {v} h =
       let s = rebalanced most (length es) (sizes after) in
       record {
         list_is = h.list_is;
@@ -72,17 +72,17 @@ module _ {K V X : Type 0} (content : List (K × X) → Content K V) (half most :
         frees = h.frees;
       }
 
-  module _ (w : Table K V) (path1 indices1 : List ℕ) (j : Joined content half most t w path indices path1 indices1 up size before n es after rest) where
+  module _ {w : Table K V} {path1 indices1 : List ℕ} (j : Joined content half most t w path indices path1 indices1 up size before n es after rest) where
     -- the rows above meet what removing a merged node's entry requires; level and size are as in the code
     pub merge_asks : (up' size' : ℕ) → up' ≡ suc up → size' ≡ size → MergeAbove w path1 indices1 up' size'
     merge_asks up' size' up_is size_is = (rest, heads before, j.first.0, n, j.key, j.right, heads j.after', rw (up_is, size_is) j.above)
 
     -- a level is rebalanced once the rows above lost the entry of a merged node
-    pub joined_settled : (v : Table K V) (path' indices' freed : List ℕ) (r : Rebuilt w v path1 indices1 path' indices' (suc up) size rest (heads before ++ (j.first.0, j.right) ∷ heads j.after') (length (heads before)) (loss_above (Some (length (heads before))) (map sizes rest)) freed) →
+    pub joined_settled : {v : Table K V} {path' indices' freed : List ℕ} (r : Rebuilt w v path1 indices1 path' indices' (suc up) size rest (heads before ++ (j.first.0, j.right) ∷ heads j.after') (length (heads before)) (loss_above (Some (length (heads before))) (map sizes rest)) freed) →
         Distinct ((numbers (before ++ node n es ∷ after) ++ flat_map numbers rest) ++ t.chain) → length (heads before) ≡ length before
         → Settled content half most t v path' indices' up size before n es after rest before
         (before ++ node j.right (es ++ j.right_entries) ∷ j.after') r.rows' (freed ++ n ∷ [])
-    joined_settled v path' indices' freed r apart full =
+    joined_settled {v} {path'} {indices'} {freed} r apart full =
         let both : List (K × X) = es ++ j.right_entries in
         let row : List (LevelNode K X) = before ++ node j.right both ∷ j.after' in
         let own : List ℕ = numbers (before ++ node n es ∷ after) ++ flat_map numbers rest in
@@ -97,20 +97,20 @@ module _ {K V X : Type 0} (content : List (K × X) → Content K V) (half most :
           sizes_are = ap (λ z. z ∷ map sizes r.rows') (sizes-append before (node j.right both ∷ j.after')) ∙ ap (λ z. (sizes before ++ length both ∷ sizes j.after') ∷ z) (r.sizes_are ∙ ap (λ z. loss_above (Some z) (map sizes rest)) full)
               ∙ sym (ap (λ z. (sizes before ++ z.1) ∷ loss_above (placed (length before) z.0) (map sizes rest)) j.outcome);
           numbers_are = λ m. omega (arith, r.numbers_are m, c0 m, c m, counts m before j.right both j.after' r.rows' v.chain, count-append m freed (n ∷ []));
-          frees = frees-then t w v own (flat_map numbers rest) (n ∷ []) freed (λ m none. omega (arith, none, c m)) (λ m here. only_here m n (flat_map numbers rest) here (omega (arith, apart n, c n, count-same n (numbers after))))
-              (frees-wider t w (numbers (before ++ node n es ∷ after)) own (n ∷ []) (λ m none. omega (arith, none, c m)) j.frees) r.frees;
+          frees = frees-then (λ m none. omega (arith, none, c m)) (λ m here. only_here m n (flat_map numbers rest) here (omega (arith, apart n, c n, count-same n (numbers after))))
+              (frees-wider own (λ m none. omega (arith, none, c m)) j.frees) r.frees;
         }
 
-module _ {K V : Type 0} (t u v : Table K V) (path indices path' indices' : List ℕ) (up size : ℕ) (rows : List (List (LevelNode K ℕ))) (hs : List (K × ℕ)) (p : ℕ) (l : Loosened t u path indices up size rows hs p) where
+module _ {K V : Type 0} {t u v : Table K V} {path indices path' indices' : List ℕ} {up size : ℕ} {rows : List (List (LevelNode K ℕ))} {hs : List (K × ℕ)} {p : ℕ} (l : Loosened t u path indices up size rows hs p) where
   -- the rebalanced level and the rows above it
-  merged : (front : List (LevelNode K ℕ)) (m : ℕ) (es : List (K × ℕ)) (back : List (LevelNode K ℕ)) (rest : List (List (LevelNode K ℕ)))
-      (freed : List ℕ) → Settled inner_content 4 8 u v path' indices' up size l.before (get_or path up 0) l.entries l.after l.rest front
+  merged : {front : List (LevelNode K ℕ)} (m : ℕ) (es : List (K × ℕ)) (back : List (LevelNode K ℕ)) {rest : List (List (LevelNode K ℕ))}
+      {freed : List ℕ} → Settled inner_content 4 8 u v path' indices' up size l.before (get_or path up 0) l.entries l.after l.rest front
       (front ++ node m es ∷ back) rest freed →
       get_or path' up 0 ≡ m → get_or indices' up 0 < length es
       → length (flat front) + get_or indices' up 0 ≡ length (flat l.before) + get_or indices up 0 → SameBelow up path path'
       → SameBelow up indices indices' → top_of path' size ≡ top_of path size
       → Rebuilt t v path indices path' indices' up size rows hs p (loss_above (Some p) (map sizes rows)) freed
-  merged front m es back rest freed k m_is within place below below_too top =
+  merged {front} m es back {rest} {freed} k m_is within place below below_too top =
       let row : List (LevelNode K ℕ) = front ++ node m es ∷ back in
       let own : List ℕ = numbers (l.before ++ node (get_or path up 0) l.entries ∷ l.after) ++ flat_map numbers l.rest in
       record {
@@ -124,7 +124,7 @@ module _ {K V : Type 0} (t u v : Table K V) (path indices path' indices' : List 
         };
         sizes_are = k.sizes_are ∙ sym (loss_level 8 l.before (length l.entries) (get_or indices up 0) p (sizes l.after) (map sizes l.rest) (map sizes rows) l.sizes_were l.on_level.entry_was l.place_is refl);
         numbers_are = λ i. omega (arith, k.numbers_are i, l.numbers_are i);
-        frees = frees-after t u v (flat_map numbers rows) own freed (λ i none. omega (arith, none, l.numbers_are i)) l.frees k.frees;
+        frees = frees-after (λ i none. omega (arith, none, l.numbers_are i)) l.frees k.frees;
         nodes_below = below;
         entries_below = below_too;
         same_top = top;
@@ -133,21 +133,21 @@ module _ {K V : Type 0} (t u v : Table K V) (path indices path' indices' : List 
   -- where the node stays, the level above stays too
   pub merge_healed : Healed inner_content 4 8 u v path indices path' indices' up size l.before (get_or path up 0) l.entries l.after l.rest → Rebuilt t v path indices path' indices' up size rows hs p (loss_above (Some p) (map sizes rows)) []
   merge_healed h =
-      let k = healed_settled inner_content 4 8 u path indices up size l.before (get_or path up 0) l.entries l.after l.rest v path' indices' h in
-      merged h.before' h.number' h.entries' h.after' h.rest' [] k h.number_is h.within h.place_is h.nodes_below h.entries_below h.same_top
+      let k = healed_settled h in
+      merged h.number' h.entries' h.after' k h.number_is h.within h.place_is h.nodes_below h.entries_below h.same_top
 
   -- where two nodes of the level merge, the level above loses an entry; level and size are as in the code
-  pub merge_joined : (w : Table K V) (path1 indices1 : List ℕ) (up' size' : ℕ) → (j : Joined inner_content 4 8 u w path indices path1 indices1 up size l.before (get_or path up 0) l.entries l.after l.rest) → up' ≡ suc up → size' ≡ size → (levels : ℕ) →
+  pub merge_joined : {w : Table K V} {path1 indices1 : List ℕ} {up' size' : ℕ} → (j : Joined inner_content 4 8 u w path indices path1 indices1 up size l.before (get_or path up 0) l.entries l.after l.rest) → up' ≡ suc up → size' ≡ size → (levels : ℕ) →
       Rebuilt w v path1 indices1 path' indices' up' size' l.rest (heads l.before ++ (j.first.0, j.right) ∷ heads j.after') (length (heads l.before)) (loss_above (Some (length (heads l.before))) (map sizes l.rest)) (nodes_up path1 up' levels) →
       Rebuilt t v path indices path' indices' up size rows hs p (loss_above (Some p) (map sizes rows)) (nodes_up path up (suc levels))
-  merge_joined w path1 indices1 up' size' j up_is size_is levels rebuilt =
+  merge_joined {w} {path1} {indices1} j up_is size_is levels rebuilt =
       let n = get_or path up 0 in
       let freed = nodes_up path (suc up) levels in
       let same = nodes_up-same path path1 (suc up) levels (λ i above. j.nodes_above i (omega (arith, above))) in
       let r = rw (up_is, size_is, same) at rebuilt in
       let fits : FitRow 4 8 (node j.right j.right_entries ∷ j.after') = subst (λ (z : List (LevelNode K ℕ)). FitRow 4 8 z) j.after_is l.on_level.fits in
-      let k = joined_settled inner_content 4 8 u path indices up size l.before n l.entries l.after l.rest w path1 indices1 j v path' indices' freed r l.on_level.apart (Solid-full 4 8 (omega arith) l.before l.on_level.solid) in
+      let k = joined_settled j r l.on_level.apart (Solid-full 4 8 (omega arith) l.before l.on_level.solid) in
       let e = r.entries_below up (omega arith) ∙ j.entry_is in
       let within : get_or indices' up 0 < length (l.entries ++ j.right_entries) = omega (arith, e, l.on_level.entry_was, length-append l.entries j.right_entries, fits.0, least-pos 4 (omega arith) j.after') in
-      merged l.before j.right (l.entries ++ j.right_entries) j.after' r.rows' (freed ++ n ∷ []) k (r.nodes_below up (omega arith) ∙ j.number_is) within (ap (λ z. length (flat l.before) + z) e)
+      merged j.right (l.entries ++ j.right_entries) j.after' k (r.nodes_below up (omega arith) ∙ j.number_is) within (ap (λ z. length (flat l.before) + z) e)
       (λ i low. r.nodes_below i (omega (arith, low)) ∙ j.nodes_below i low) (λ i low. r.entries_below i (omega (arith, low)) ∙ j.entries_below i low) (r.same_top ∙ j.same_top)

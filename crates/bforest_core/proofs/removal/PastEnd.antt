@@ -9,13 +9,13 @@ use Rattle.bforest_core.proofs.removal.Asked.{NodeAt, OneAbove, Beside}
 use Rattle.bforest_core.proofs.removal.Taking.{no_nodes, leaf_keys}
 use Rattle.bforest_core.proofs.removal.Collapse.{heads-flat}
 
-module _ {K V : Type 0} (most : ℕ) (t v : Table K V) (path indices : List ℕ) (size : ℕ) (tree : Tree K V) (place : ℕ) (l : LeafLoss most t v path indices size tree place) where
+module _ {K V : Type 0} {most : ℕ} {t v : Table K V} {path indices : List ℕ} {size : ℕ} {tree : Tree K V} {place : ℕ} (l : LeafLoss most t v path indices size tree place) where
   named : HeadIs (get_or path 0 0) l.entries
   named = head-is (get_or path 0 0) l.entries l.some
 
   -- the rows above the leaf, cut at it
   above : Above v path indices 1 size l.rest (heads l.before ++ (named.first.0, get_or path 0 0) ∷ heads l.after) (length (heads l.before))
-  above = headed v path indices 1 size l.before (get_or path 0 0) l.entries l.after l.rest named l.above
+  above = headed l.before l.after named l.above
 
   -- the rows above meet what the search for the next leaf requires
   pub beside_asks : OneAbove v path indices 1 size
@@ -49,7 +49,7 @@ module _ {K V : Type 0} (most : ℕ) (t v : Table K V) (path indices : List ℕ)
   -- no leaf follows where the leaf is the whole tree
   pub alone_last : size ≤ 1 → l.after ≡ []
   alone_last low =
-      let one = top_one v path indices 1 size l.rest (heads l.before ++ (named.first.0, get_or path 0 0) ∷ heads l.after) (length (heads l.before)) low above in
+      let one = top_one l.rest low above in
       no_nodes (half_of most) most loss_half l.after l.fits (nil_from_length (heads l.after) (omega (arith, one, length-append (heads l.before) ((named.first.0, get_or path 0 0) ∷ heads l.after))))
 
   -- the last leaf has no right neighbour

@@ -21,9 +21,9 @@ first_after half most one [] fit some = absurd (omega (arith, some))
 first_after half most one (node q [] ∷ after) fit some = absurd (omega (arith, fit.0, least-pos half one after))
 first_after half most one (node q (f ∷ fs) ∷ after) fit some = (f.0, q, record { f = f; fs = fs; rest = after; after_is = refl; k_is = refl })
 
-module _ {K V X : Type 0} (content : List (K × X) → Content K V) (half most cap : ℕ) (hm : IsHalf half most) (s : IsStored content cap most)
-    (t : Table K V) (path indices : List ℕ) (up size high r : ℕ) (high_is : high ≡ suc up) (wide : length path ≡ 17) (height : size ≤ 17)
-    (before : List (LevelNode K X)) (n : ℕ) (es : List (K × X)) (after : List (LevelNode K X)) (rest : List (List (LevelNode K ℕ))) (p : OnLevel content half most t path indices up size before n es after rest) where
+module _ {K V X : Type 0} {content : List (K × X) → Content K V} {half most cap : ℕ} (hm : IsHalf half most) (s : IsStored content cap most)
+    {t : Table K V} {path indices : List ℕ} {up size : ℕ} (high r : ℕ) (high_is : high ≡ suc up) (wide : length path ≡ 17) (height : size ≤ 17)
+    {before : List (LevelNode K X)} {n : ℕ} {es : List (K × X)} {after : List (LevelNode K X)} {rest : List (List (LevelNode K ℕ))} (p : OnLevel content half most t path indices up size before n es after rest) where
   low : up < length path
   low = let h = p.above.height in omega (arith, h, wide, height)
 
@@ -62,8 +62,8 @@ module _ {K V X : Type 0} (content : List (K × X) → Content K V) (half most c
   named = head-is n es p.some
 
   -- the level, with the node's first entry and the next node named
-  level : (k : K) (q : ℕ) (d : NextNode after k q) → OnLevel content half most t path indices up size before n (named.first ∷ named.others) (node q (d.f ∷ d.fs) ∷ d.rest) rest
-  level k q d = subst (λ (z : List (LevelNode K X)). OnLevel content half most t path indices up size before n (named.first ∷ named.others) z rest) d.after_is (subst (λ (z : List (K × X)). OnLevel content half most t path indices up size before n z after rest) named.es_is p)
+  level : {k : K} {q : ℕ} (d : NextNode after k q) → OnLevel content half most t path indices up size before n (named.first ∷ named.others) (node q (d.f ∷ d.fs) ∷ d.rest) rest
+  level d = subst (λ (z : List (LevelNode K X)). OnLevel content half most t path indices up size before n (named.first ∷ named.others) z rest) d.after_is (subst (λ (z : List (K × X)). OnLevel content half most t path indices up size before n z after rest) named.es_is p)
 
   module _ (m : ℕ) (value : Counts t (get_or path up r) m) (past : get_or indices up 0 ≡ m) where
     -- there is a next node where the path is past the node's last entry
@@ -71,7 +71,7 @@ module _ {K V X : Type 0} (content : List (K × X) → Content K V) (half most c
     behind = first_after half most half_some after p.fits (omega (arith, p.entry_within, past, count_read m value, length-append es (flat after)))
 
     above_past : Above t path indices (suc up) size rest (heads before ++ (named.first.0, n) ∷ (behind.2.f.0, behind.1) ∷ heads behind.2.rest) (length (heads before))
-    above_past = let d = behind.2 in above_both content half most hm t path indices up size before n named.first named.others behind.1 d.f d.fs d.rest rest (level behind.0 behind.1 d)
+    above_past = let d = behind.2 in above_both hm (level d)
 
     -- the rows above meet what entering the next node requires
     pub past_asks : NextAbove t path indices (suc up) size
@@ -85,18 +85,18 @@ module _ {K V X : Type 0} (content : List (K × X) → Content K V) (half most c
         let d = behind.2 in
         let len : m ≡ length (named.first ∷ named.others) = count_read m value ∙ ap length named.es_is in
         let entered = moved rest (heads before) (named.first.0, n) (d.f.0, behind.1) (heads d.rest) above_past in
-        let w = settle_move content half most hm t path indices up size before n named.first named.others behind.1 d.f d.fs d.rest rest (level behind.0 behind.1 d) path' indices' (subst (λ (z : ℕ). half ≤ z) len healthy) (past ∙ len) entered first below below_too top_is in
+        let w = settle_move hm (level d) (subst (λ (z : ℕ). half ≤ z) len healthy) (past ∙ len) entered first below below_too top_is in
         both_back (λ (y : List (K × X)) (z : List (LevelNode K X)). Healed content half most t t path indices path' indices' up size before n y z rest) es _ after _ named.es_is d.after_is w
 
   -- a healthy node in which the path stands stays
   pub stay_heals : (m : ℕ) → Counts t (get_or path up r) m → half ≤ m → get_or indices up 0 ≢ m → Healed content half most t t path indices path indices up size before n es after rest
   stay_heals m value healthy inside =
       let cnt = count_read m value in
-      settle_stay content half most hm t path indices up size before n es after rest p (inl (subst (λ (z : ℕ). half ≤ z) cnt healthy)) (omega (arith, cnt, p.entry_was, inside))
+      settle_stay hm p (inl (subst (λ (z : ℕ). half ≤ z) cnt healthy)) (omega (arith, cnt, p.entry_was, inside))
 
   -- the rows above, cut at the node
   above_high : Above t path indices high size rest (heads before ++ (named.first.0, n) ∷ heads after) (length (heads before))
-  above_high = subst (λ (z : ℕ). Above t path indices z size rest (heads before ++ (named.first.0, n) ∷ heads after) (length (heads before))) (sym high_is) (headed t path indices (suc up) size before n es after rest named p.above)
+  above_high = subst (λ (z : ℕ). Above t path indices z size rest (heads before ++ (named.first.0, n) ∷ heads after) (length (heads before))) (sym high_is) (headed before after named p.above)
 
   -- the rows above meet what the call for the right neighbour requires
   pub beside_asks : OneAbove t path indices high size
@@ -110,7 +110,7 @@ module _ {K V X : Type 0} (content : List (K × X) → Content K V) (half most c
   pub last_heals : Beside t path indices high size None → Healed content half most t t path indices path indices up size before n es after rest
   last_heals beside =
       let none = no_nodes half most half_some after p.fits (next_is None beside) in
-      settle_stay content half most hm t path indices up size before n es after rest p (inr none) (omega (arith, p.entry_within, length-append es (flat after), ap (λ z. length (flat z)) none))
+      settle_stay hm p (inr none) (omega (arith, p.entry_within, length-append es (flat after), ap (λ z. length (flat z)) none))
 
   module _ (m : ℕ) (value : Counts t (get_or path up r) m) (under : m < half) (o : Option (K × ℕ)) (next : K × ℕ) (is : o ≡ Some next) (beside : Beside t path indices high size o) where
     near_is : NextNode after next.0 next.1
@@ -123,12 +123,12 @@ module _ {K V X : Type 0} (content : List (K × X) → Content K V) (half most c
 
     -- the two nodes are different and in no other row, and the right one is off the chain
     lies : (n ≢ next.1) × (count n (numbers before) + count n (numbers near_is.rest) ≡ 0) × (count next.1 (numbers before) + count next.1 (numbers near_is.rest) ≡ 0) × (count next.1 t.chain ≡ 0)
-    lies = let d = near_is in apart content half most hm t path indices up size before n named.first named.others next.1 d.f d.fs d.rest rest (level next.0 next.1 d)
+    lies = let d = near_is in apart hm (level d)
 
     slots : (slice_get t.nodes n ≡ Some (content (named.first ∷ named.others))) × (slice_get t.nodes next.1 ≡ Some (content (near_is.f ∷ near_is.fs)))
     slots =
         let d = near_is in
-        let e = level next.0 next.1 d in
+        let e = level d in
         let r = (row-split content t.nodes before (node n (named.first ∷ named.others) ∷ node next.1 (d.f ∷ d.fs) ∷ d.rest) e.inside).1 in
         (r.0, r.1.0)
 
@@ -150,17 +150,17 @@ module _ {K V X : Type 0} (content : List (K × X) → Content K V) (half most c
         } in
         rw num_is (is_used t n (content es) slot_here none_here, (is_used t next.1 (content (d.f ∷ d.fs)) slots.1 lies.3, (lies.0, both)))
 
-    module _ (u : Table K V) (got : Option K) (balanced : IsBalancedAt cap t (get_or path up r) next.0 next.1 got u) where
+    module _ {u : Table K V} {got : Option K} (balanced : IsBalancedAt cap t (get_or path up r) next.0 next.1 got u) where
       balanced_as : (o : Option K) → got ≡ o → IsBalancedAt cap t n near_is.f.0 next.1 o u
       balanced_as o got_is = let d = near_is in rw (num_is, d.k_is, got_is) at balanced
 
       -- the two nodes share their entries, and the key between them has to be updated
       module _ (key : K) (got_is : got ≡ Some key) where
         spread : Spread content t u most n next.1 (named.first ∷ named.others) (near_is.f ∷ near_is.fs) key
-        spread = let d = near_is in spread_at content t u cap most n next.1 named.first named.others d.f d.fs s lies.0 (omega (arith, hm.hi, hm.two)) slots.0 slots.1 key (balanced_as (Some key) got_is)
+        spread = let d = near_is in spread_at content t u n next.1 named.first named.others d.f d.fs s lies.0 (omega (arith, hm.hi, hm.two)) slots.0 slots.1 (balanced_as (Some key) got_is)
 
         above_is : Above u path indices (suc up) size rest (heads before ++ (named.first.0, n) ∷ (near_is.f.0, next.1) ∷ heads near_is.rest) (length (heads before))
-        above_is = let d = near_is in above_two_put content half most hm t path indices up size before n named.first named.others next.1 d.f d.fs d.rest rest (level next.0 next.1 d) u _ _ spread.two
+        above_is = let d = near_is in above_two_put hm (level d) spread.two
 
         -- the rows above meet what updating the key requires
         pub rekey_asks : TwoAbove u path indices high size
@@ -173,13 +173,13 @@ module _ {K V X : Type 0} (content : List (K × X) → Content K V) (half most c
         rekey_heals v rekeys =
             let d = near_is in
             let rk = subst (λ (z : ℕ). Rekeys u v path indices z size key) high_is rekeys in
-            let w = settle_spread content half most hm t path indices up size before n named.first named.others next.1 d.f d.fs d.rest rest (level next.0 next.1 d) u v under_is key spread (rk rest (heads before) (named.first.0, n) d.f.0 next.1 (heads d.rest) above_is) in
+            let w = settle_spread hm (level d) v under_is spread (rk rest (heads before) (named.first.0, n) d.f.0 next.1 (heads d.rest) above_is) in
             both_back (λ (y : List (K × X)) (z : List (LevelNode K X)). Healed content half most t v path indices path indices up size before n y z rest) es _ after _ named.es_is d.after_is w
 
       -- all entries are in the right node, and the left one has to be freed
       module _ (got_is : got ≡ None) where
         all_right : AllRight content t u most n next.1 (named.first ∷ named.others) (near_is.f ∷ near_is.fs)
-        all_right = let d = near_is in all_right_at content t u cap most n next.1 named.first named.others d.f d.fs s lies.0 (omega (arith, hm.hi, hm.two)) slots.0 slots.1 (balanced_as None got_is)
+        all_right = let d = near_is in all_right_at content t u n next.1 named.first named.others d.f d.fs s lies.0 (omega (arith, hm.hi, hm.two)) slots.0 slots.1 (balanced_as None got_is)
 
         -- the left node meets what freeing it requires
         pub free_asks : IsUsed u (get_or path up r)
@@ -191,7 +191,7 @@ module _ {K V X : Type 0} (content : List (K × X) → Content K V) (half most c
         pub free_joins : (v : Table K V) → v ≡ with_freed u (get_or path up r) → Joined content half most t v path indices (set path up next.1) indices up size before n es after rest
         free_joins v freed =
             let d = near_is in
-            let w = settle_join content half most hm t path indices up size before n named.first named.others next.1 d.f d.fs d.rest rest (level next.0 next.1 d) u v under_is all_right (freed ∙ ap (λ z. with_freed u z) num_is) low in
+            let w = settle_join hm (level d) v under_is all_right (freed ∙ ap (λ z. with_freed u z) num_is) low in
             both_back (λ (y : List (K × X)) (z : List (LevelNode K X)). Joined content half most t v path indices (set path up next.1) indices up size before n y z rest) es _ after _ named.es_is d.after_is w
 
 -- a leaf is half full with half of its capacity
@@ -199,7 +199,7 @@ pub half_leaf : (n : ℕ) → IsLeafCapacity n → IsHalf (half_of n) n
 half_leaf n c = record { two = omega (arith, c.least); lo = omega (arith, c.odd); hi = omega (arith, c.odd) }
 
 -- the leaf of a level is less than half full, if what its slot holds is
-pub under_level : {K V : Type 0} (half most : ℕ) (t : Table K V) (path indices : List ℕ) (size : ℕ) (before : List (LevelNode K V)) (n : ℕ) (es : List (K × V)) (after : List (LevelNode K V)) (rest : List (List (LevelNode K ℕ))) →
+pub under_level : {K V : Type 0} {half most : ℕ} {t : Table K V} {path indices : List ℕ} {size : ℕ} {before : List (LevelNode K V)} {n : ℕ} {es : List (K × V)} {after : List (LevelNode K V)} {rest : List (List (LevelNode K ℕ))} →
     OnLevel leaf_content half most t path indices 0 size before n es after rest → ((content : Content K V) → slice_get t.nodes (get_or path 0 0) ≡ Some content → entry_count content < half) → length es < half
-under_level half most t path indices size before n es after rest p few =
+under_level {t} {before} {n} {es} {after} p few =
     omega (arith, few (leaf_content es) (ap (λ z. slice_get t.nodes z) p.number_is ∙ (row-split leaf_content t.nodes before (node n es ∷ after) p.inside).1.0), leaf_keys es)

@@ -18,8 +18,8 @@ if_some P Q (Some x) h p = h x p
 
 module _ {K V : Type 0} where
   -- a path under a root stands in its tree, which is in the table
-  pub stands_in : (most : ℕ) (table : Table K V) (root place : ℕ) (path indices : List ℕ) (size : ℕ) → IsUnion most table → StandsUnder table.nodes root path indices size place → StandsIn most table path indices size (tree_of table.nodes root) place
-  stands_in most table root place path indices size union s =
+  pub stands_in : (most : ℕ) (table : Table K V) {root place : ℕ} {path indices : List ℕ} {size : ℕ} → IsUnion most table → StandsUnder table.nodes root path indices size place → StandsIn most table path indices size (tree_of table.nodes root) place
+  stands_in most table {root} union s =
       let r = rooted most table root union s.root_is in
       record { fit = r.fit; inside = r.inside; apart = r.apart; low = r.low; stands = s.stands }
 
@@ -45,13 +45,13 @@ module _ {K V : Type 0} where
     pub none_left : found ≡ None → shrink most place (sizes_of (tree_of old.nodes root)) ≡ []
     pub freed_root : found ≢ Some root → 0 < count root new.chain
 
-  module _ (most : ℕ) (old new : Table K V) (root place : ℕ) (path indices : List ℕ) (size : ℕ) (Now : Tree K V → Type 0) (union : IsUnion most old) (s : StandsUnder old.nodes root path indices size place) where
-    removed_root : (root' : ℕ) (i : Removed most old new path Now (tree_of old.nodes root) place root') → Said most old new path root place Now (Some (root_of i.tree'))
-    removed_root root' i =
+  module _ (most : ℕ) (old new : Table K V) {root place : ℕ} {path indices : List ℕ} {size : ℕ} (Now : Tree K V → Type 0) (union : IsUnion most old) (s : StandsUnder old.nodes root path indices size place) where
+    removed_root : {root' : ℕ} (i : Removed most old new path Now (tree_of old.nodes root) place root') → Said most old new path root place Now (Some (root_of i.tree'))
+    removed_root i =
         let tree = tree_of old.nodes root in
         let r = rooted most old root union s.root_is in
         let planted : IsPlanted most new.nodes i.tree' = record { fit = i.fit; inside = i.inside; some = i.some; low = omega (arith, i.low, r.low) } in
-        let e = exchanged-freed most old new root i.tree' i.freed union s.root_is planted i.frees i.numbers_are in
+        let e = exchanged-freed root union s.root_is planted i.frees i.numbers_are in
         let levels : length (shrink most place (sizes_of tree)) ≡ suc (length i.tree'.above) = omega (arith, ap length i.sizes_are, length-map i.tree'.above sizes) in
         let levels_were : length (sizes_of tree) ≡ suc (length tree.above) = omega (arith, length-map tree.above sizes) in
         let among = root-among most new.nodes i.tree' i.fit i.inside i.some in
@@ -100,15 +100,15 @@ module _ {K V : Type 0} where
         }
 
     -- removing an entry of a tree that has others
-    pub removal : (root' : ℕ) → Removed most old new path Now (tree_of old.nodes root) place root' → Said most old new path root place Now (Some root')
-    removal root' i = subst (λ (z : ℕ). Said most old new path root place Now (Some z)) i.root_is (removed_root root' i)
+    pub removal : {root' : ℕ} → Removed most old new path Now (tree_of old.nodes root) place root' → Said most old new path root place Now (Some root')
+    removal {root'} i = subst (λ (z : ℕ). Said most old new path root place Now (Some z)) i.root_is (removed_root i)
 
     -- removing the last entry of a tree
     ending : Emptied most old new (tree_of old.nodes root) place → Said most old new path root place Now None
     ending i =
         let tree = tree_of old.nodes root in
         let r = rooted most old root union s.root_is in
-        let u = uprooted-union most old new root i.freed union s.root_is i.frees i.freed_is in
+        let u = uprooted-union most root union s.root_is i.frees i.freed_is in
         let among = root-among most old.nodes tree r.fit r.inside r.some in
         record {
           some = tt;
@@ -128,11 +128,11 @@ module _ {K V : Type 0} where
     -- the effect of a removal, from the answer of the call for a leaf of one entry
     pub outcome : (found : Option ℕ) → IfSome found (λ root'. Removed most old new path Now (tree_of old.nodes root) place root') → (found ≡ None → Emptied most old new (tree_of old.nodes root) place) → Said most old new path root place Now found
     outcome None removed emptied = ending (emptied refl)
-    outcome (Some root') removed emptied = removal root' removed
+    outcome (Some root') removed emptied = removal removed
 
     -- the effect of a removal, without where the path is
-    pub shrinks : (found : Option ℕ) → Said most old new path root place Now found → Shrinks most old new path root place found
-    shrinks found said = record {
+    pub shrinks : {found : Option ℕ} → Said most old new path root place Now found → Shrinks most old new path root place found
+    shrinks {found} said = record {
       changes = if_some _ _ found (λ root' r. r.changes) said.some;
       account = said.gives;
       order = said.order;

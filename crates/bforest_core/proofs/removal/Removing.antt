@@ -21,18 +21,18 @@ length-numbers (node n es ∷ row) = ap suc (length-numbers row)
 
 module _ {K V : Type 0} where
   -- two trees in which one path stands have the same root
-  pub stands_root : (most : ℕ) (t t1 : Table K V) (path indices : List ℕ) (size : ℕ) (tree tree1 : Tree K V) (place place1 root : ℕ) → StandsIn most t path indices size tree place → StandsIn most t1 path indices size tree1 place1 → root_of tree1 ≡ root → root_of tree ≡ root
-  stands_root most t t1 path indices size tree tree1 place place1 root s s1 is =
-      root-stands most tree path indices size place s.fit s.stands ∙ sym (root-stands most tree1 path indices size place1 s1.fit s1.stands) ∙ is
+  pub stands_root : {most : ℕ} {t t1 : Table K V} {path indices : List ℕ} {size : ℕ} {tree tree1 : Tree K V} {place place1 : ℕ} (root : ℕ) → StandsIn most t path indices size tree place → StandsIn most t1 path indices size tree1 place1 → root_of tree1 ≡ root → root_of tree ≡ root
+  stands_root {most} {path} {indices} {size} {tree} {tree1} {place} {place1} root s s1 is =
+      root-stands s.fit s.stands ∙ sym (root-stands s1.fit s1.stands) ∙ is
 
   -- a path that stands in a tree is at an entry
-  pub path-at : (path indices : List ℕ) (size : ℕ) (tree : Tree K V) (place : ℕ) → Stands path indices size tree place → IsPathAt path indices size tree place
-  path-at path indices zero tree place s = absurd (omega (arith, s.size_is))
-  path-at path indices (suc size) tree place s = s
+  pub path-at : {path indices : List ℕ} (size : ℕ) {tree : Tree K V} {place : ℕ} → Stands path indices size tree place → IsPathAt path indices size tree place
+  path-at zero s = absurd (omega (arith, s.size_is))
+  path-at (suc size) s = s
 
   -- a removal, with nothing stated of where the path is
-  pub anywhere : (most : ℕ) (old new : Table K V) (path : List ℕ) (Now : Tree K V → Type 0) (tree : Tree K V) (place root' : ℕ) → Removed most old new path Now tree place root' → Removed most old new path (λ z. Unit {0}) tree place root'
-  anywhere most old new path Now tree place root' r = record {
+  pub anywhere : {most : ℕ} {old new : Table K V} {path : List ℕ} {Now : Tree K V → Type 0} {tree : Tree K V} {place root' : ℕ} → Removed most old new path Now tree place root' → Removed most old new path (λ z. Unit {0}) tree place root'
+  anywhere r = record {
     tree' = r.tree';
     freed = r.freed;
     flat_is = r.flat_is;
@@ -66,9 +66,9 @@ module _ {K V : Type 0} where
     pub frees : Frees old new (numbers_of tree) freed
 
   -- the rows of the tree meet what discarding roots requires
-  pub up_to : (most : ℕ) (old new : Table K V) (path indices : List ℕ) (size size1 : ℕ) (tree : Tree K V) (place root : ℕ) (leaves : List (LevelNode K V)) (rows : List (List (LevelNode K ℕ))) (freed : List ℕ) → StandsIn most old path indices size tree place →
+  pub up_to : {most : ℕ} {old new : Table K V} {path indices : List ℕ} {size : ℕ} (size1 : ℕ) {tree : Tree K V} {place : ℕ} (root : ℕ) {leaves : List (LevelNode K V)} {rows : List (List (LevelNode K ℕ))} {freed : List ℕ} → StandsIn most old path indices size tree place →
       Untrimmed most old new tree place leaves rows freed → size1 ≡ size → root_of tree ≡ root → UpTo new size1 rows (heads leaves) root
-  up_to most old new path indices size size1 tree place root leaves rows freed s u size_is root_is = record {
+  up_to {old} {new} size1 {tree} root {leaves} {rows} {freed} s u size_is root_is = record {
     stacked = u.stacked;
     inside = u.rows_in;
     height = omega (arith, u.height, size_is, s.stands.size_is);
@@ -77,10 +77,10 @@ module _ {K V : Type 0} where
   }
 
   -- the tree after roots were discarded
-  pub trimmed_removed : (most : ℕ) (old mid new : Table K V) (path indices : List ℕ) (size : ℕ) (tree : Tree K V) (place root : ℕ) (leaves : List (LevelNode K V)) (rows : List (List (LevelNode K ℕ))) (up size1 size2 root' : ℕ) (gone : List ℕ) (Now : Tree K V → Type 0) →
+  pub trimmed_removed : {most : ℕ} {old mid new : Table K V} {path indices : List ℕ} {size : ℕ} {tree : Tree K V} {place root : ℕ} {leaves : List (LevelNode K V)} {rows : List (List (LevelNode K ℕ))} (up : ℕ) {size1 size2 root' : ℕ} {gone : List ℕ} (Now : Tree K V → Type 0) →
       StandsIn most old path indices size tree place → Untrimmed most old mid tree place leaves rows (nodes_up path 0 up) → root_of tree ≡ root → (t : Trimmed mid new size1 size2 rows (heads leaves) root root' gone) → size1 ≡ size →
       Now (record { leaves = leaves; above = t.rows' }) → Removed most old new path Now tree place root'
-  trimmed_removed most old mid new path indices size tree place root leaves rows up size1 size2 root' gone Now s u root_is t size_is at =
+  trimmed_removed {most} {old} {mid} {new} {path} {tree} {leaves} {rows} up {size1} {size2} {gone} Now s u root_is t size_is at =
       let freed = nodes_up path 0 up in
       let parts = λ (m : ℕ). ap (λ z. count m z) (ap (flat_map numbers) t.rows_are ∙ flat_map-append numbers t.rows' t.discarded) ∙ count-append m (flat_map numbers t.rows') (flat_map numbers t.discarded) in
       let c0 = λ (m : ℕ). count-append m (numbers leaves) (flat_map numbers rows) in
@@ -108,32 +108,32 @@ module _ {K V : Type 0} where
         old_root = λ ne. omega (arith, t.old_root (λ (e : size2 ≡ size1). ne (omega (arith, e, t.size_is, size_is, s.stands.size_is))), c2 (root_of tree), ap (λ z. count z gone) root_is);
         low = omega (arith, count_is, u.height);
         order = record { roots = gone; up = up; freed_is = refl; roots_are = omega (arith, t.one_each, count_is, u.height) };
-        frees = frees-then old mid new (numbers_of tree) (flat_map numbers t.discarded) freed gone (λ m none. omega (arith, none, u.numbers_are m, c0 m, parts m)) (λ m some. omega (arith, some, u.numbers_are m, c0 m, parts m, c3 m, s.apart m)) u.frees t.frees;
+        frees = frees-then (λ m none. omega (arith, none, u.numbers_are m, c0 m, parts m)) (λ m some. omega (arith, some, u.numbers_are m, c0 m, parts m, c3 m, s.apart m)) u.frees t.frees;
       }
 
   -- no root is discarded where each level keeps its nodes
-  pub whole_removed : (most : ℕ) (old new : Table K V) (path indices : List ℕ) (size : ℕ) (tree : Tree K V) (place root : ℕ) (leaves : List (LevelNode K V)) (rows : List (List (LevelNode K ℕ))) (Now : Tree K V → Type 0) →
+  pub whole_removed : {most : ℕ} {old new : Table K V} {path indices : List ℕ} {size : ℕ} {tree : Tree K V} {place : ℕ} (root : ℕ) {leaves : List (LevelNode K V)} {rows : List (List (LevelNode K ℕ))} (Now : Tree K V → Type 0) →
       StandsIn most old path indices size tree place → Untrimmed most old new tree place leaves rows [] → root_of tree ≡ root → length (heads leaves) ≡ length (heads tree.leaves) → map sizes rows ≡ map sizes tree.above →
       Now (record { leaves = leaves; above = rows }) → Removed most old new path Now tree place root
   unfolding trim_none
-  whole_removed most old new path indices size tree place root leaves rows Now s u root_is len same at =
+  whole_removed {most} {old} {new} {path} {indices} {size} {tree} {place} root {leaves} {rows} Now s u root_is len same at =
       let topped = topped-sizes (heads tree.leaves) (heads leaves) tree.above rows s.fit.stacked u.stacked len same s.fit.topped in
-      let none = trim_none new size rows (heads leaves) root (up_to most old new path indices size size tree place root leaves rows [] s u refl root_is) topped in
-      trimmed_removed most old new new path indices size tree place root leaves rows 0 size size root [] Now s u root_is none refl at
+      let none = trim_none (up_to size root s u refl root_is) topped in
+      trimmed_removed 0 Now s u root_is none refl at
 
-module _ {K V : Type 0} (most : ℕ) (old mid : Table K V) (path indices : List ℕ) (size : ℕ) (tree : Tree K V) (place : ℕ) (s : StandsIn most old path indices size tree place) (l : LeafLoss most old mid path indices size tree place) where
+module _ {K V : Type 0} {most : ℕ} {old mid : Table K V} {path indices : List ℕ} {size : ℕ} {tree : Tree K V} {place : ℕ} (s : StandsIn most old path indices size tree place) (l : LeafLoss most old mid path indices size tree place) where
   half : 1 ≤ half_of most
-  half = loss_half most old mid path indices size tree place l
+  half = loss_half l
 
   full : length (heads l.before) ≡ length l.before
   full = Solid-full (half_of most) most half l.before l.solid
 
   -- the tree after the leaf and the rows above it were rebalanced
-  settled : (new : Table K V) (path' indices' : List ℕ) (front : List (LevelNode K V)) (m : ℕ) (es : List (K × V)) (back : List (LevelNode K V)) (rest : List (List (LevelNode K ℕ))) (freed : List ℕ) →
+  settled : {new : Table K V} {path' indices' : List ℕ} {front : List (LevelNode K V)} (m : ℕ) (es : List (K × V)) (back : List (LevelNode K V)) {rest : List (List (LevelNode K ℕ))} {freed : List ℕ} →
       Settled leaf_content (half_of most) most mid new path' indices' 0 size l.before (get_or path 0 0) l.entries l.after l.rest front
       (front ++ node m es ∷ back) rest freed → get_or path' 0 0 ≡ m → 1 ≤ length es → top_of path' size ≡ top_of path size
       → Untrimmed most old new tree place (front ++ node m es ∷ back) rest freed
-  settled new path' indices' front m es back rest freed k m_is some top =
+  settled {new} {path'} {indices'} {front} m es back {rest} {freed} k m_is some top =
       let row : List (LevelNode K V) = front ++ node m es ∷ back in
       let lost =
       ap (λ z. loss most place z) l.sizes_were ∙ ap (λ z. loss most z (sizes l.before ++ suc (length l.entries) ∷ sizes l.after)) l.place_is ∙ loss_at most l.before (length l.entries) (get_or indices 0 0) (sizes l.after) (omega (arith, l.entry_was)) in
@@ -148,8 +148,8 @@ module _ {K V : Type 0} (most : ℕ) (old mid : Table K V) (path indices : List 
         rows_in = k.above.inside;
         height = omega (arith, k.above.height, s.stands.size_is);
         numbers_are = λ i. omega (arith, k.numbers_are i, l.numbers_are i);
-        root_is = top_tree row rest path' indices' size (length (heads front)) front es back (ap (λ z. front ++ node z es ∷ back) (sym m_is)) some k.above.stacked k.above.stands (omega (arith, k.above.height)) ∙ top ∙ sym (root-stands most tree path indices size place s.fit s.stands);
-        frees = frees-after old mid new (numbers_of tree) _ freed (λ i none. omega (arith, none, l.numbers_are i)) l.frees k.frees;
+        root_is = top_tree row rest path' indices' size (length (heads front)) front es back (ap (λ z. front ++ node z es ∷ back) (sym m_is)) some k.above.stacked k.above.stands (omega (arith, k.above.height)) ∙ top ∙ sym (root-stands s.fit s.stands);
+        frees = frees-after (λ i none. omega (arith, none, l.numbers_are i)) l.frees k.frees;
       }
 
   -- a leaf that is still half full, or the last, stays as it is
@@ -166,17 +166,17 @@ module _ {K V : Type 0} (most : ℕ) (old mid : Table K V) (path indices : List 
         numbers_are = λ i. omega arith;
         frees = frees-refl mid (numbers (l.before ++ node n l.entries ∷ l.after) ++ flat_map numbers l.rest);
       } in
-      settled mid path indices l.before n l.entries l.after l.rest [] k refl l.some refl
+      settled n l.entries l.after k refl l.some refl
 
-  module _ (new : Table K V) (path' indices' : List ℕ) (h : Healed leaf_content (half_of most) most mid new path indices path' indices' 0 size l.before (get_or path 0 0) l.entries l.after l.rest) where
+  module _ {new : Table K V} {path' indices' : List ℕ} (h : Healed leaf_content (half_of most) most mid new path indices path' indices' 0 size l.before (get_or path 0 0) l.entries l.after l.rest) where
     full_healed : length (heads h.before') ≡ length h.before'
     full_healed = Solid-full (half_of most) most half h.before' (FitRow-split (half_of most) most h.before' (node h.number' h.entries') h.after' h.fit).0
 
     -- the tree after a rebalancing in which the leaf stays
     pub healed_untrimmed : Untrimmed most old new tree place (h.before' ++ node h.number' h.entries' ∷ h.after') h.rest' []
     healed_untrimmed =
-        let k = healed_settled leaf_content (half_of most) most mid path indices 0 size l.before (get_or path 0 0) l.entries l.after l.rest new path' indices' h in
-        settled new path' indices' h.before' h.number' h.entries' h.after' h.rest' [] k h.number_is (omega (arith, h.within)) h.same_top
+        let k = healed_settled h in
+        settled h.number' h.entries' h.after' k h.number_is (omega (arith, h.within)) h.same_top
 
     -- the path stands at the place after a rebalancing in which the leaf stays
     pub healed_stands : (size1 : ℕ) → size1 ≡ size → Stands path' indices' size1 (record { leaves = h.before' ++ node h.number' h.entries' ∷ h.after'; above = h.rest' }) place
@@ -188,7 +188,7 @@ module _ {K V : Type 0} (most : ℕ) (old mid : Table K V) (path indices : List 
           size_is = omega (arith, h.above.height, size_is);
         }
 
-  module _ (mid2 new : Table K V) (path1 indices1 path' indices' freed : List ℕ) (j : Joined leaf_content (half_of most) most mid mid2 path indices path1 indices1 0 size l.before (get_or path 0 0) l.entries l.after l.rest)
+  module _ {mid2 new : Table K V} {path1 indices1 path' indices' freed : List ℕ} (j : Joined leaf_content (half_of most) most mid mid2 path indices path1 indices1 0 size l.before (get_or path 0 0) l.entries l.after l.rest)
       (r : Rebuilt mid2 new path1 indices1 path' indices' 1 size l.rest (heads l.before ++ (j.first.0, j.right) ∷ heads j.after') (length (heads l.before)) (loss_above (Some (length (heads l.before))) (map sizes l.rest)) freed) where
     number_is : get_or path' 0 0 ≡ j.right
     number_is = r.nodes_below 0 (omega arith) ∙ j.number_is
@@ -196,13 +196,13 @@ module _ {K V : Type 0} (most : ℕ) (old mid : Table K V) (path indices : List 
     -- the tree after the leaf was merged into its neighbour and the rows above lost its entry
     pub joined_untrimmed : Untrimmed most old new tree place (l.before ++ node j.right (l.entries ++ j.right_entries) ∷ j.after') r.rows' (freed ++ get_or path 0 0 ∷ [])
     joined_untrimmed =
-        let k = joined_settled leaf_content (half_of most) most mid path indices 0 size l.before (get_or path 0 0) l.entries l.after l.rest mid2 path1 indices1 j new path' indices' freed r l.apart full in
-        settled new path' indices' l.before j.right (l.entries ++ j.right_entries) j.after' r.rows' (freed ++ get_or path 0 0 ∷ []) k number_is (omega (arith, l.some, length-append l.entries j.right_entries)) (r.same_top ∙ j.same_top)
+        let k = joined_settled j r l.apart full in
+        settled j.right (l.entries ++ j.right_entries) j.after' k number_is (omega (arith, l.some, length-append l.entries j.right_entries)) (r.same_top ∙ j.same_top)
 
     -- the path stands at the place after the leaf was merged into its neighbour, in the remaining rows
-    pub joined_stands : (new2 : Table K V) (size1 size2 root root' : ℕ) (gone : List ℕ) → (t : Trimmed new new2 size1 size2 r.rows' (heads (l.before ++ node j.right (l.entries ++ j.right_entries) ∷ j.after')) root root' gone) →
+    pub joined_stands : {new2 : Table K V} {size1 size2 root root' : ℕ} {gone : List ℕ} → (t : Trimmed new new2 size1 size2 r.rows' (heads (l.before ++ node j.right (l.entries ++ j.right_entries) ∷ j.after')) root root' gone) →
         Stands path' indices' size2 (record { leaves = l.before ++ node j.right (l.entries ++ j.right_entries) ∷ j.after'; above = t.rows' }) place
-    joined_stands new2 size1 size2 root root' gone t =
+    joined_stands t =
         let both : List (K × V) = l.entries ++ j.right_entries in
         let row2 : List (LevelNode K V) = l.before ++ node j.right both ∷ j.after' in
         let entry_is : get_or indices' 0 0 ≡ get_or indices 0 0 = r.entries_below 0 (omega arith) ∙ j.entry_is in
@@ -245,7 +245,7 @@ module _ {K V : Type 0} (most : ℕ) (old mid : Table K V) (path indices : List 
     kept_removed Now why now =
         let row : List (LevelNode K V) = l.before ++ node (get_or path 0 0) l.entries ∷ l.after in
         let u = kept_untrimmed why in
-        whole_removed most old mid path indices size tree place root row l.rest Now s u root_is (as_many row u.leaves_fit (length-append l.before (node (get_or path 0 0) l.entries ∷ l.after))) l.rest_sizes now
+        whole_removed root Now s u root_is (as_many row u.leaves_fit (length-append l.before (node (get_or path 0 0) l.entries ∷ l.after))) l.rest_sizes now
 
     -- the removal is complete where the path was at the last entry
     pub past_removed : l.after ≡ [] → get_or indices 0 0 ≡ length l.entries → Removed most old mid path (λ z. IsPathAt path indices 0 z place) tree place root
@@ -272,14 +272,14 @@ module _ {K V : Type 0} (most : ℕ) (old mid : Table K V) (path indices : List 
           Healed leaf_content (half_of most) most mid new path indices path' indices' 0 size before n es after rest) →
           size1 ≡ size → Removed most old new path (λ z. IsPathAt path' indices' size1 z place) tree place root
       healed_removed new path' indices' size1 heals size_is =
-          let h = heals l.before (get_or path 0 0) l.entries l.after l.rest (on_leaf most old mid path indices size tree place l low) in
+          let h = heals l.before (get_or path 0 0) l.entries l.after l.rest (on_leaf l low) in
           let row : List (LevelNode K V) = l.before ++ node (get_or path 0 0) l.entries ∷ l.after in
           let row2 : List (LevelNode K V) = h.before' ++ node h.number' h.entries' ∷ h.after' in
-          let u = healed_untrimmed new path' indices' h in
+          let u = healed_untrimmed h in
           let len : length row2 ≡ length l.before + suc (length l.after) = omega (arith, length-numbers row2, length-numbers row, ap length h.row_numbers, length-append l.before (node (get_or path 0 0) l.entries ∷ l.after)) in
-          let st = healed_stands new path' indices' h size1 size_is in
-          whole_removed most old new path indices size tree place root row2 h.rest' (λ z. IsPathAt path' indices' size1 z place) s u root_is (as_many row2 u.leaves_fit len) (h.rest_sizes ∙ l.rest_sizes)
-          (path-at path' indices' size1 (record { leaves = row2; above = h.rest' }) place st)
+          let st = healed_stands h size1 size_is in
+          whole_removed root (λ z. IsPathAt path' indices' size1 z place) s u root_is (as_many row2 u.leaves_fit len) (h.rest_sizes ∙ l.rest_sizes)
+          (path-at size1 st)
 
       -- the leaf was merged into its neighbour
       module _ (mid2 : Table K V) (path1 indices1 : List ℕ) (size1 : ℕ) (size_is : size1 ≡ size)
@@ -287,11 +287,11 @@ module _ {K V : Type 0} (most : ℕ) (old mid : Table K V) (path indices : List 
           (rest : List (List (LevelNode K ℕ))) → OnLevel leaf_content (half_of most) most mid path indices 0 size before n es after rest
           → Joined leaf_content (half_of most) most mid mid2 path indices path1 indices1 0 size before n es after rest) where
         abbrev j : Joined leaf_content (half_of most) most mid mid2 path indices path1 indices1 0 size l.before (get_or path 0 0) l.entries l.after l.rest
-        j = joins l.before (get_or path 0 0) l.entries l.after l.rest (on_leaf most old mid path indices size tree place l low)
+        j = joins l.before (get_or path 0 0) l.entries l.after l.rest (on_leaf l low)
 
         -- the rows above meet what removing the leaf's entry requires
         pub leaf_merge_asks : MergeAbove mid2 path1 indices1 1 size1
-        leaf_merge_asks = merge_asks leaf_content (half_of most) most mid path indices 0 size l.before (get_or path 0 0) l.entries l.after l.rest mid2 path1 indices1 j 1 size1 refl size_is
+        leaf_merge_asks = merge_asks j 1 size1 refl size_is
 
         -- the rows above after the leaf's entry was removed
         module _ (new : Table K V) (path' indices' : List ℕ) (merged : (rows : List (List (LevelNode K ℕ))) (a : List (K × ℕ)) (k : K) (m : ℕ) (k2 : K) (n : ℕ) (b : List (K × ℕ)) → Above mid2 path1 indices1 1 size1 rows (a ++ (k, m) ∷ (k2, n) ∷ b) (length a) →
@@ -303,10 +303,10 @@ module _ {K V : Type 0} (most : ℕ) (old mid : Table K V) (path indices : List 
               (m.0, rw (size_is, same) at m.1)
 
           untrimmed : Untrimmed most old new tree place (l.before ++ node j.right (l.entries ++ j.right_entries) ∷ j.after') rest.1.rows' (nodes_up path 0 (suc rest.0))
-          untrimmed = joined_untrimmed mid2 new path1 indices1 path' indices' (nodes_up path 1 rest.0) j rest.1
+          untrimmed = joined_untrimmed j rest.1
 
           up : UpTo new size2 rest.1.rows' (heads (l.before ++ node j.right (l.entries ++ j.right_entries) ∷ j.after')) root
-          up = up_to most old new path indices size size2 tree place root _ rest.1.rows' _ s untrimmed size2_is root_is
+          up = up_to size2 root s untrimmed size2_is root_is
 
           -- the rows above meet what discarding roots requires
           pub collapse_asks : (rows : List (List (LevelNode K ℕ))) × (list : List (K × ℕ)) × UpTo new size2 rows list root
@@ -319,6 +319,6 @@ module _ {K V : Type 0} (most : ℕ) (old mid : Table K V) (path indices : List 
               Removed most old new2 path (λ z. IsPathAt path2 indices2 size3 z place) tree place root'
           joined_removed new2 path2 indices2 size3 root' trims path_is indices_is =
               let t = trims rest.1.rows' _ up in
-              let st = joined_stands mid2 new path1 indices1 path' indices' (nodes_up path 1 rest.0) j rest.1 new2 size2 size3 root root' t.0 t.1 in
-              let w = trimmed_removed most old new new2 path indices size tree place root _ rest.1.rows' (suc rest.0) size2 size3 root' t.0 (λ z. IsPathAt path' indices' size3 z place) s untrimmed root_is t.1 size2_is (path-at path' indices' size3 _ place st) in
+              let st = joined_stands j rest.1 t.1 in
+              let w = trimmed_removed (suc rest.0) (λ z. IsPathAt path' indices' size3 z place) s untrimmed root_is t.1 size2_is (path-at size3 st) in
               rw (path_is, indices_is) w

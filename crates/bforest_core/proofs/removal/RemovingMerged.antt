@@ -13,12 +13,12 @@ use Rattle.bforest_core.proofs.removal.Separating.{next_in, Across, across, acro
 use Rattle.bforest_core.proofs.removal.Asked.{KeyAt, ChildAt, Counts, ReadsKey, Writes, Removes, TwoAbove, Rekeys, Seen, seen}
 
 module _ {K V : Type 0} where
-  module _ (t : Table K V) (path indices : List ℕ) (up size : ℕ) (rows : List (List (LevelNode K ℕ))) (a : List (K × ℕ)) (k : K) (m : ℕ) (k2 : K) (n : ℕ) (b : List (K × ℕ)) (d : Spot t path indices up size rows a (k, m) ((k2, n) ∷ b)) where
+  module _ {t : Table K V} {path indices : List ℕ} {up size : ℕ} {rows : List (List (LevelNode K ℕ))} {a : List (K × ℕ)} {k : K} {m : ℕ} {k2 : K} {n : ℕ} {b : List (K × ℕ)} (d : Spot t path indices up size rows a (k, m) ((k2, n) ∷ b)) where
     -- the row after its node lost an entry, under rows above that have its keys
-    loosened : (v u : Table K V) (es list : List (K × ℕ)) (after : List (LevelNode K ℕ)) → length (d.q.l ++ (k, m) ∷ d.q.r) ≡ suc (length es) → 1 ≤ length es → length d.q.l ≤ length es → sizes after ≡ sizes d.q.after → numbers after ≡ numbers d.q.after → es ++ flat after ≡ d.q.l ++ (k, n) ∷ b →
+    loosened : {v u : Table K V} (es : List (K × ℕ)) {list : List (K × ℕ)} (after : List (LevelNode K ℕ)) → length (d.q.l ++ (k, m) ∷ d.q.r) ≡ suc (length es) → 1 ≤ length es → length d.q.l ≤ length es → sizes after ≡ sizes d.q.after → numbers after ≡ numbers d.q.after → es ++ flat after ≡ d.q.l ++ (k, n) ∷ b →
         list ≡ heads (d.q.before ++ node (get_or path up 0) es ∷ after) → FitRow 4 8 (node (get_or path up 0) (d.q.l ++ (k, m) ∷ d.q.r) ∷ after) → RowIn inner_content t.nodes (d.q.before ++ node (get_or path up 0) (d.q.l ++ (k, m) ∷ d.q.r) ∷ after) →
         Rebuilt t v path indices path indices (suc up) size d.q.rest list (length (heads d.q.before)) (map sizes d.q.rest) [] → Puts v u (get_or path up 0) (inner_content es) → Loosened t u path indices up size rows (a ++ (k, n) ∷ b) (length a)
-    loosened v u es list after len some low sizes_same numbers_same flat_is heads_are fits inside r w =
+    loosened {v} {u} es after len some low sizes_same numbers_same flat_is heads_are fits inside r w =
         let q = d.q in
         let num = get_or path up 0 in
         let old : List (K × ℕ) = q.l ++ (k, m) ∷ q.r in
@@ -41,21 +41,21 @@ module _ {K V : Type 0} where
             some = some;
             lost_one = omega (arith, fits.0, len);
             most_is = omega (arith, fits.1, len);
-            above = above_written v u num (inner_content es) path indices (suc up) size r.rows' _ (length (heads q.before)) w (omega (arith, r.numbers_are num, d.f.none_rest)) (subst (λ (z : List (K × ℕ)). Above v path indices (suc up) size r.rows' z (length (heads q.before))) heads_are r.above);
+            above = above_written w (omega (arith, r.numbers_are num, d.f.none_rest)) (subst (λ (z : List (K × ℕ)). Above v path indices (suc up) size r.rows' z (length (heads q.before))) heads_are r.above);
             number_is = refl;
             entry_was = omega (arith, low, q.entry_is);
             entry_within = omega (arith, q.entry_is, ap length flat_is, length-append q.l ((k, n) ∷ b));
             apart = λ i. omega (arith, d.whole.apart i, r.numbers_are i, c i, c2 i, c3 i, c4 i);
           };
-          list_is = flat_at t path indices up size rows a (k, m) ((k2, n) ∷ b) d es ((k, n) ∷ b) after flat_is;
-          place_is = place_at t path indices up size rows a (k, m) ((k2, n) ∷ b) d;
+          list_is = flat_at d es ((k, n) ∷ b) after flat_is;
+          place_is = place_at d;
           sizes_were = ap (λ z. map sizes z) q.rows_are
               ∙ ap (λ z. z ∷ map sizes q.rest)
               (sizes-append q.before (node num old ∷ q.after) ∙ ap (λ z. sizes q.before ++ z ∷ sizes q.after) len
               ∙ ap (λ z. sizes q.before ++ suc (length es) ∷ z) (sym sizes_same))
               ∙ ap (λ z. (sizes q.before ++ suc (length es) ∷ sizes after) ∷ z) (sym r.sizes_are);
           numbers_are = λ i. omega (arith, c i, c2 i, c3 i, r.numbers_are i, ap (λ z. count i (flat_map numbers z)) q.rows_are);
-          frees = rw q.rows_are (frees-after t v u own own [] (λ i none. none) (frees-wider t v (flat_map numbers q.rest) own [] (λ i none. omega (arith, none, c i)) r.frees) (frees-puts v u num (inner_content es) own (omega (arith, c num, count-same num (numbers q.after))) w));
+          frees = rw q.rows_are (frees-after {v = u} {wide = own} {freed = []} (λ i none. none) (frees-wider own (λ i none. omega (arith, none, c i)) r.frees) (frees-puts own (omega (arith, c num, count-same num (numbers q.after))) w));
         }
 
     -- removing the entry where the next one is in the same parent
@@ -75,8 +75,8 @@ module _ {K V : Type 0} where
         let gone = ap (λ z. without_child (with_key (inner_content (q.l ++ (k, m) ∷ z)) e key) e) w.1 ∙ removed_same V q.l (k, m) (k2, n) w.0 key e q.entry_is key_then in
         let two = puts s u num (inner_content es) _ one.here (u_is ∙ ap (λ z. with_node s num z) gone) in
         let row : List (K × ℕ) = heads (q.before ++ node num old ∷ q.after) in
-        loosened t u es row q.after (omega (arith, len, length-append q.l ((k, m) ∷ q.r), ap length w.1)) (omega (arith, len)) (omega (arith, len)) refl refl (append_assoc q.l ((k, n) ∷ w.0) (flat q.after) ∙ ap (λ z. q.l ++ (k, n) ∷ z) (sym w.2))
-        (heads-put q.before num old es q.after (head-other num q.l k m n q.r w.0)) d.f.fit d.f.inside (rebuilt_same t path indices (suc up) size q.rest row (length (heads q.before)) (rows_above t path indices up size rows a (k, m) ((k2, n) ∷ b) d)) (puts-then t s u num _ _ one two)
+        loosened es q.after (omega (arith, len, length-append q.l ((k, m) ∷ q.r), ap length w.1)) (omega (arith, len)) (omega (arith, len)) refl refl (append_assoc q.l ((k, n) ∷ w.0) (flat q.after) ∙ ap (λ z. q.l ++ (k, n) ∷ z) (sym w.2))
+        (heads-put q.before num old es q.after (head-other num q.l k m n q.r w.0)) d.f.fit d.f.inside (rebuilt_same (rows_above d)) (puts-then one two)
 
     module _ (o : Across d.q.l d.q.r d.q.after (k2, n) b) where
       index_is : suc (length o.zs) ≡ get_or indices up 0
@@ -90,11 +90,11 @@ module _ {K V : Type 0} where
       moved_key key is = some_same key k (sym is ∙ ap (λ w. slice_get (drop 1 (entry_keys w)) (get_or indices up 0 - 1)) old_is ∙ last_key ℕ o.z o.zs (k, m) (get_or indices up 0) index_is)
 
       -- removing the entry where the next one is in the next parent, whose key was written first
-      take_over : (v u : Table K V) → Rebuilt t v path indices path indices (suc up) size d.q.rest
+      take_over : {v : Table K V} (u : Table K V) → Rebuilt t v path indices path indices (suc up) size d.q.rest
           (heads d.q.before ++ (o.z.0, get_or path up 0) ∷ (k, o.q) ∷ heads o.rest) (length (heads d.q.before)) (map sizes d.q.rest) []
           → slice_get v.nodes (get_or path up 0) ≡ Some (inner_content (d.q.l ++ (k, m) ∷ d.q.r)) →
           u ≡ with_node v (get_or path up 0) (without_child (inner_content (d.q.l ++ (k, m) ∷ d.q.r)) (get_or indices up 0)) → Loosened t u path indices up size rows (a ++ (k, n) ∷ b) (length a)
-      take_over v u r slot u_is =
+      take_over {v} u r slot u_is =
           let q = d.q in
           let num = get_or path up 0 in
           let after : List (LevelNode K ℕ) = node o.q ((k, n) ∷ o.ys) ∷ o.rest in
@@ -102,17 +102,17 @@ module _ {K V : Type 0} where
           let two = puts v u num (inner_content q.l) _ slot (u_is ∙ ap (λ z. with_node v num z) gone) in
           let list : heads (q.before ++ node num q.l ∷ after) ≡ heads q.before ++ (o.z.0, num) ∷ (k, o.q) ∷ heads o.rest = heads-append q.before (node num q.l ∷ after) ∙ ap (λ z. heads q.before ++ (head_of num z ++ (k, o.q) ∷ heads o.rest)) o.l_is in
           let len : length (q.l ++ (k, m) ∷ q.r) ≡ suc (length q.l) = omega (arith, length-append q.l ((k, m) ∷ q.r), ap length o.r_is) in
-          loosened v u q.l (heads q.before ++ (o.z.0, num) ∷ (k, o.q) ∷ heads o.rest) after len (omega (arith, ap length o.l_is)) (omega arith) (ap (λ z. sizes z) (sym o.after_is)) (ap (λ z. numbers z) (sym o.after_is)) (ap (λ z. q.l ++ (k, n) ∷ z) (sym o.b_is)) (sym list)
-          (rw o.after_is at d.f.fit) (across_in t path indices up size rows a (k, m) (k2, n) b d o k) r two
+          loosened q.l after len (omega (arith, ap length o.l_is)) (omega arith) (ap (λ z. sizes z) (sym o.after_is)) (ap (λ z. numbers z) (sym o.after_is)) (ap (λ z. q.l ++ (k, n) ∷ z) (sym o.b_is)) (sym list)
+          (rw o.after_is at d.f.fit) (across_in d o k) r two
 
-  module _ (t : Table K V) (path indices : List ℕ) (up size : ℕ) (rows : List (List (LevelNode K ℕ))) (a : List (K × ℕ)) (k : K) (m : ℕ) (k2 : K) (n : ℕ) (b : List (K × ℕ)) (p : Above t path indices up size rows (a ++ (k, m) ∷ (k2, n) ∷ b) (length a))
+  module _ {t : Table K V} {path indices : List ℕ} {up size : ℕ} {rows : List (List (LevelNode K ℕ))} (a : List (K × ℕ)) (k : K) (m : ℕ) (k2 : K) (n : ℕ) (b : List (K × ℕ)) (p : Above t path indices up size rows (a ++ (k, m) ∷ (k2, n) ∷ b) (length a))
       (r : ℕ) (wide : length path ≡ 17) (height : size ≤ 17) where
     top : up < size
-    top = above_two t path indices up size rows a (k, m) (k2, n) b (length a) p
+    top = above_two rows a (k, m) (k2, n) b p
 
     -- the parent of the entry
     pub here : Seen t path indices up size rows a (k, m) ((k2, n) ∷ b) r
-    here = seen t path indices up size rows a (k, m) ((k2, n) ∷ b) p top r wide height
+    here = seen a (k, m) ((k2, n) ∷ b) p top r wide height
 
     abbrev d : Spot t path indices up size rows a (k, m) ((k2, n) ∷ b)
     d = here.d
@@ -144,21 +144,21 @@ module _ {K V : Type 0} where
               let u_is = removes (set (drop 1 (entry_keys ds)) (get_or indices up 0) key) (entry_items ds) one.here in
               let key_is = subst (λ (z : ℕ). slice_get (drop 1 (entry_keys ds)) z ≡ Some key) i_is (reads (drop 1 (entry_keys ds)) (entry_items ds) here.slot_is) in
               let written = s_is in
-              take_same t path indices up size rows a k m k2 n b d s u key (subst (λ (z : ℕ). get_or indices up 0 + 1 < z) (here.counted cnt value) more) key_is (rw num_is at written) (rw num_is at u_is)
+              take_same d s u key (subst (λ (z : ℕ). get_or indices up 0 + 1 < z) (here.counted cnt value) more) key_is (rw num_is at written) (rw num_is at u_is)
 
       module _ (less : cnt ≤ get_or indices up 0 + 1) where
         o : Across d.q.l d.q.r d.q.after (k2, n) b
         o = across (get_or path up 0) d.q.l (k, m) d.q.r d.q.after (k2, n) b d.f.fit d.q.b_is (omega (arith, here.counted cnt value, less, d.q.entry_is))
 
         pub index_some : 1 ≤ get_or indices up 0
-        index_some = let e = index_is t path indices up size rows a k m k2 n b d o in omega arith
+        index_some = let e = index_is d o in omega arith
 
         pub last_key_asks : KeyAt t (get_or path up r) (get_or indices up 0 - 1)
         last_key_asks = here.low_key_asks (get_or indices up 0 - 1) (let e = index_some in omega arith)
 
         module _ (high : ℕ) (high_is : high ≡ suc up) where
           above_is : Above t path indices high size d.q.rest (heads d.q.before ++ (o.z.0, get_or path up 0) ∷ (k2, o.q) ∷ heads o.rest) (length (heads d.q.before))
-          above_is = rw high_is (across_above t path indices up size rows a (k, m) (k2, n) b d o)
+          above_is = rw high_is (across_above d o)
 
           pub rekey_asks : TwoAbove t path indices high size
           rekey_asks = (d.q.rest, heads d.q.before, (o.z.0, get_or path up 0), k2, o.q, heads o.rest, above_is)
@@ -179,7 +179,7 @@ module _ {K V : Type 0} where
             pub next_parent : (u : Table K V) → ReadsKey t (get_or path up r) (get_or indices up 0 - 1) key → Removes v u (get_or path up r) (get_or indices up 0) → Loosened t u path indices up size rows (a ++ (k, n) ∷ b) (length a)
             next_parent u reads removes =
                 let num_is = here.num_is in
-                let k_is = moved_key t path indices up size rows a k m k2 n b d o key (reads (drop 1 (entry_keys ds)) (entry_items ds) here.slot_is) in
+                let k_is = moved_key d o key (reads (drop 1 (entry_keys ds)) (entry_items ds) here.slot_is) in
                 let u_is = removes (drop 1 (entry_keys ds)) (entry_items ds) (ap (λ z. slice_get v.nodes z) num_is ∙ slot_then) in
                 let above = rebuilt in
-                take_over t path indices up size rows a k m k2 n b d o v u (rw (high_is, k_is) at above) slot_then (rw num_is at u_is)
+                take_over d o {v = v} u (rw (high_is, k_is) at above) slot_then (rw num_is at u_is)

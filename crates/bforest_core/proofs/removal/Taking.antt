@@ -82,8 +82,8 @@ module _ {K V : Type 0} where
     pub none_chain : count (get_or path 0 0) t.chain ≡ 0
 
   -- a tree in which a path stands can be cut at the path's entry
-  pub leaf_at : (most : ℕ) (t : Table K V) (path indices : List ℕ) (size : ℕ) (tree : Tree K V) (place : ℕ) → StandsIn most t path indices size tree place → LeafAt most t path indices size tree place
-  leaf_at most t path indices size tree place s =
+  pub leaf_at : {most : ℕ} {t : Table K V} {path indices : List ℕ} {size : ℕ} {tree : Tree K V} {place : ℕ} → StandsIn most t path indices size tree place → LeafAt most t path indices size tree place
+  leaf_at {most} {t} {path} {indices} {tree} s =
       let at = s.stands.leaf in
       let n = get_or path 0 0 in
       let c = cut at.entries (get_or indices 0 0) at.within in
@@ -125,9 +125,9 @@ module _ {K V : Type 0} where
       }
 
   -- the leaf without the entry, under rows that have its first key
-  pub leaf_loss : (most : ℕ) (t u v : Table K V) (path indices : List ℕ) (size : ℕ) (tree : Tree K V) (place : ℕ) → (d : LeafAt most t path indices size tree place) → 1 ≤ length (d.l ++ d.r) → Puts t u (get_or path 0 0) (leaf_content (d.l ++ d.r)) →
+  pub leaf_loss : {most : ℕ} {t u v : Table K V} {path indices : List ℕ} {size : ℕ} {tree : Tree K V} {place : ℕ} → (d : LeafAt most t path indices size tree place) → 1 ≤ length (d.l ++ d.r) → Puts t u (get_or path 0 0) (leaf_content (d.l ++ d.r)) →
       Rebuilt u v path indices path indices 1 size tree.above (heads (d.before ++ node (get_or path 0 0) (d.l ++ d.r) ∷ d.after)) (length (heads d.before)) (map sizes tree.above) [] → LeafLoss most t v path indices size tree place
-  leaf_loss most t u v path indices size tree place d more w b =
+  leaf_loss {t} {u} {v} {path} {tree} {place} d more w b =
       let n = get_or path 0 0 in
       let old : List (K × V) = d.l ++ d.x ∷ d.r in
       let es : List (K × V) = d.l ++ d.r in
@@ -161,16 +161,16 @@ module _ {K V : Type 0} where
         sizes_were = ap sizes d.leaves_are ∙ sizes-append d.before (node n old ∷ d.after) ∙ ap (λ z. sizes d.before ++ z ∷ sizes d.after) len;
         rest_sizes = b.sizes_are;
         numbers_are = λ m. omega (arith, c0 m, c1 m, c2 m, c8 m, c9 m);
-        frees = frees-after t u v (numbers_of tree) (flat_map numbers tree.above) [] (λ m none. omega (arith, none, c8 m)) (frees-puts t u n (leaf_content es) (numbers_of tree) (omega (arith, c0 n, c1 n, c8 n, count-same n (numbers d.after))) w) b.frees;
+        frees = frees-after {t = t} {own = numbers_of tree} (λ m none. omega (arith, none, c8 m)) (frees-puts (numbers_of tree) (omega (arith, c0 n, c1 n, c8 n, count-same n (numbers d.after))) w) b.frees;
       }
 
   -- a leaf with a key of this index
   abbrev pub LeafKeyAt : Table K V → ℕ → ℕ → Type 0
   LeafKeyAt t number index = (keys : List K) × (vals : List V) × (slice_get t.nodes number ≡ Some (Leaf keys vals)) × (index < length keys)
 
-  module _ (most : ℕ) (t : Table K V) (path indices : List ℕ) (size : ℕ) (tree : Tree K V) (place : ℕ) (s : StandsIn most t path indices size tree place) (read : ℕ) (num_is : read ≡ get_or path 0 0) where
+  module _ {most : ℕ} {t : Table K V} {path indices : List ℕ} {size : ℕ} {tree : Tree K V} {place : ℕ} (s : StandsIn most t path indices size tree place) (read : ℕ) (num_is : read ≡ get_or path 0 0) where
     d : LeafAt most t path indices size tree place
-    d = leaf_at most t path indices size tree place s
+    d = leaf_at s
 
     abbrev es : List (K × V)
     es = d.l ++ d.x ∷ d.r
@@ -226,7 +226,7 @@ module _ {K V : Type 0} where
           new_is = takes (entry_keys all) (entry_items all) (ap (λ z. slice_get t.nodes z) num_is ∙ has.3) ∙ ap (λ z. with_node t z (without_entry (leaf_content all) (get_or indices 0 0))) num_is;
         }
 
-    module _ (u : Table K V) (h : HasOthers t u path indices) where
+    module _ {u : Table K V} (h : HasOthers t u path indices) where
       abbrev all : List (K × V)
       all = h.x ∷ h.y ∷ h.more
 
@@ -244,15 +244,15 @@ module _ {K V : Type 0} where
       alone_loss low =
           let n = get_or path 0 0 in
           let then : List (LevelNode K V) = d.before ++ node n (d.l ++ d.r) ∷ d.after in
-          let a = above_written t u n (leaf_content (d.l ++ d.r)) path indices 1 size tree.above _ (length (heads d.before)) w d.none_rows d.above in
+          let a = above_written w d.none_rows d.above in
           let len = as_many_heads d.before n es (d.l ++ d.r) d.after (omega (arith, length-append d.l (d.x ∷ d.r))) more in
-          leaf_loss most t u u path indices size tree place d more w (rebuilt_same u path indices 1 size tree.above (heads then) (length (heads d.before)) (above_top u path indices 1 size tree.above _ (heads then) (length (heads d.before)) low len a))
+          leaf_loss d more w (rebuilt_same (above_top tree.above (heads then) low len a))
 
       -- the rows above, which name the leaf by its old first key
       above_then : (k : K) → ((rs : List (K × V)) → head_of (get_or path 0 0) (d.l ++ d.x ∷ rs) ≡ (k, get_or path 0 0) ∷ []) → Above u path indices 1 size tree.above (heads d.before ++ (k, get_or path 0 0) ∷ heads d.after) (length (heads d.before))
       above_then k head_is =
           subst (λ (z : List (K × ℕ)). Above u path indices 1 size tree.above z (length (heads d.before))) (heads-append d.before (node (get_or path 0 0) es ∷ d.after) ∙ ap (λ z. heads d.before ++ (z ++ heads d.after)) (head_is d.r))
-          (above_written t u (get_or path 0 0) (leaf_content (d.l ++ d.r)) path indices 1 size tree.above _ (length (heads d.before)) w d.none_rows d.above)
+          (above_written w d.none_rows d.above)
 
       -- an entry that is not the first was removed
       pub behind : 0 < get_or indices 0 0 → LeafLoss most t u path indices size tree place
@@ -262,7 +262,7 @@ module _ {K V : Type 0} where
           let a = above_then f.0.0 (λ rs. ap (λ z. head_of n (z ++ d.x ∷ rs)) f.2) in
           let new : heads d.before ++ ((f.0.0, n) ∷ heads d.after) ≡ heads (d.before ++ node n (d.l ++ d.r) ∷ d.after) = sym (heads-append d.before (node n (d.l ++ d.r) ∷ d.after) ∙ ap (λ z. heads d.before ++ (head_of n (z ++ d.r) ++ heads d.after)) f.2) in
           let b = subst (λ (z : List (K × ℕ)). Above u path indices 1 size tree.above z (length (heads d.before))) new a in
-          leaf_loss most t u u path indices size tree place d more w (rebuilt_same u path indices 1 size tree.above _ (length (heads d.before)) b)
+          leaf_loss d more w (rebuilt_same b)
 
       module _ (first : get_or indices 0 0 ≤ 0) where
         -- the entry after the removed one
@@ -295,5 +295,5 @@ module _ {K V : Type 0} where
             let key_is = some_same next.0.0 key (reads (entry_keys (next.0 ∷ next.1)) (entry_items (next.0 ∷ next.1)) slot_then) in
             let new : heads d.before ++ ((key, n) ∷ heads d.after) ≡ heads (d.before ++ node n (d.l ++ d.r) ∷ d.after) =
             ap (λ z. heads d.before ++ ((z, n) ∷ heads d.after)) (sym key_is) ∙ ap (λ z. heads d.before ++ (head_of n z ++ heads d.after)) (sym next.2) ∙ sym (heads-append d.before (node n (d.l ++ d.r) ∷ d.after)) in
-            leaf_loss most t u v path indices size tree place d more w
+            leaf_loss d more w
             (subst (λ (z : List (K × ℕ)). Rebuilt u v path indices path indices 1 size tree.above z (length (heads d.before)) (map sizes tree.above) []) new (rekeys tree.above (heads d.before) d.x.0 n (heads d.after) above))

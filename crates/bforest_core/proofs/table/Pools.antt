@@ -19,18 +19,18 @@ module _ {K V : Type 0} where
   IsPool-empty n limit capacity most = (IsPool-made n [] [] None 0 limit capacity refl refl tt (omega arith) most).0
 
   -- a write to a slot that is not on the chain keeps the chain
-  pub IsPool-set : (n : ℕ) (nodes : List (Content K V)) (first : Option ℕ) (free limit at : ℕ) (content : Content K V) → list_any (nat_eq at) (chain_from nodes free first) ≡ false → IsPool n nodes first free limit →
+  pub IsPool-set : {n : ℕ} {nodes : List (Content K V)} {first : Option ℕ} {free limit : ℕ} (at : ℕ) (content : Content K V) → list_any (nat_eq at) (chain_from nodes free first) ≡ false → IsPool n nodes first free limit →
       IsPool n (set nodes at content) first free limit × (chain_from (set nodes at content) free first ≡ chain_from nodes free first)
-  IsPool-set n nodes first free limit at content off pool =
+  IsPool-set {n} {nodes} {first} {free} {limit} at content off pool =
       IsPool-made n (set nodes at content) (chain_from nodes free first) first free limit pool.capacity (IsChain-set nodes _ first at content off pool.linked) pool.counted pool.distinct (omega (arith, length-set nodes at content, pool.slots_within)) pool.limit_within
 
   -- writes to two slots that are not on the chain keep the chain
-  pub IsPool-set_two : (n : ℕ) (nodes : List (Content K V)) (first : Option ℕ) (free limit left right : ℕ) (l r : Content K V) (t : Table K V) (a b : ℕ) → record { nodes = nodes; chain = chain_from nodes free first; limit = limit } ≡ t → left ≡ a → right ≡ b →
+  pub IsPool-set_two : {n : ℕ} {nodes : List (Content K V)} {first : Option ℕ} {free limit : ℕ} (left right : ℕ) (l r : Content K V) (t : Table K V) (a b : ℕ) → record { nodes = nodes; chain = chain_from nodes free first; limit = limit } ≡ t → left ≡ a → right ≡ b →
       list_any (nat_eq a) t.chain ≡ false → list_any (nat_eq b) t.chain ≡ false → IsPool n nodes first free limit → IsPool n (set (set nodes left l) right r) first free limit × (chain_from (set (set nodes left l) right r) free first ≡ chain_from nodes free first)
-  IsPool-set_two n nodes first free limit left right l r t a b view left_is right_is off_a off_b pool =
-      let once = IsPool-set n nodes first free limit left l (rw (← view, ← left_is) at off_a) pool in
+  IsPool-set_two {n} {nodes} {first} {free} {limit} left right l r t a b view left_is right_is off_a off_b pool =
+      let once = IsPool-set left l (rw (← view, ← left_is) at off_a) pool in
       let off_right = rw (← view, ← right_is) at off_b in
-      let twice = IsPool-set n (set nodes left l) first free limit right r (ap (list_any (nat_eq right)) once.1 ∙ off_right) once.0 in
+      let twice = IsPool-set right r (ap (list_any (nat_eq right)) once.1 ∙ off_right) once.0 in
       (twice.0, twice.1 ∙ once.1)
 
   -- a used node is used in an equal table, under an equal number
@@ -38,52 +38,52 @@ module _ {K V : Type 0} where
   used_inside t u node number same number_is used = rw (same, number_is) used
 
   -- at most as many nodes are free as there are slots
-  pub free_within : (n : ℕ) (nodes : List (Content K V)) (first : Option ℕ) (free limit : ℕ) → IsPool n nodes first free limit → free ≤ length nodes
-  free_within n nodes first free limit pool =
+  pub free_within : {n : ℕ} {nodes : List (Content K V)} {first : Option ℕ} {free limit : ℕ} → IsPool n nodes first free limit → free ≤ length nodes
+  free_within {nodes} {first} {free} pool =
       let most = length-le_from_distinct_below (chain_from nodes free first) (length nodes) pool.distinct (IsChain-below nodes _ first pool.linked) in
       omega (arith, most, pool.counted)
 
   -- a used slot is freed and put in front of the chain
-  pub IsPool-freed : (n : ℕ) (nodes : List (Content K V)) (first : Option ℕ) (free limit at : ℕ) → at < length nodes
+  pub IsPool-freed : {n : ℕ} {nodes : List (Content K V)} {first : Option ℕ} {free limit : ℕ} (at : ℕ) → at < length nodes
       → list_any (nat_eq at) (chain_from nodes free first) ≡ false → IsPool n nodes first free limit
       → IsPool n (set nodes at (Free first)) (Some at) (free + 1) limit
       × (chain_from (set nodes at (Free first)) (free + 1) (Some at) ≡ at ∷ chain_from nodes free first)
-  IsPool-freed n nodes first free limit at within off pool =
+  IsPool-freed {n} {nodes} {first} {free} {limit} at within off pool =
       IsPool-made n (set nodes at (Free first)) (at ∷ chain_from nodes free first) (Some at) (free + 1) limit pool.capacity (IsChain-freed nodes (chain_from nodes free first) first at within off pool.linked)
       (omega (arith, pool.counted)) (IsDistinct-front at _ off pool.distinct) (omega (arith, length-set nodes at (Free first), pool.slots_within)) pool.limit_within
 
   -- where a slot is used, fewer nodes are free than there are slots
-  pub free_below : (n : ℕ) (nodes : List (Content K V)) (first : Option ℕ) (free limit at : ℕ) → at < length nodes → list_any (nat_eq at) (chain_from nodes free first) ≡ false → IsPool n nodes first free limit → free < length nodes
-  free_below n nodes first free limit at within off pool =
-      omega (arith, free_within n _ _ _ _ (IsPool-freed n nodes first free limit at within off pool).0, length-set nodes at (Free first))
+  pub free_below : {n : ℕ} {nodes : List (Content K V)} {first : Option ℕ} {free limit : ℕ} (at : ℕ) → at < length nodes → list_any (nat_eq at) (chain_from nodes free first) ≡ false → IsPool n nodes first free limit → free < length nodes
+  free_below {n} {nodes} {first} {free} {limit} at within off pool =
+      omega (arith, free_within (IsPool-freed {n = n} {nodes = nodes} {first = first} {free = free} {limit = limit} at within off pool).0, length-set nodes at (Free first))
 
   -- new slots in front of the chain
-  pub IsPool-grown : (n : ℕ) (nodes : List (Content K V)) (first : Option ℕ) (free limit count total : ℕ) → total ≡ count + free
+  pub IsPool-grown : {n : ℕ} {nodes : List (Content K V)} {first : Option ℕ} {free limit : ℕ} (count total : ℕ) → total ≡ count + free
       → length nodes + count ≤ limit → IsPool n nodes first free limit
       → IsPool n (nodes ++ fresh_nodes (length nodes) count first) (front_of_new (length nodes) count first) total limit
       × (chain_from (nodes ++ fresh_nodes (length nodes) count first) total (front_of_new (length nodes) count first) ≡ down_from
       (length nodes) count ++ chain_from nodes free first)
-  IsPool-grown n nodes first free limit count total total_is within pool =
+  IsPool-grown {n} {nodes} {first} {free} {limit} count total total_is within pool =
       IsPool-made n (nodes ++ fresh_nodes (length nodes) count first) (down_from (length nodes) count ++ chain_from nodes free first) (front_of_new (length nodes) count first) total limit pool.capacity (IsChain-fresh nodes (chain_from nodes free first) first count pool.linked)
       (omega (arith, total_is, length-append (down_from (length nodes) count) (chain_from nodes free first), length-down_from (length nodes) count, pool.counted))
       (IsDistinct-fresh nodes _ first count pool.linked pool.distinct) (omega (arith, length-append nodes (fresh_nodes (length nodes) count first), length-fresh_nodes K V (length nodes) count first)) pool.limit_within
 
   -- where nodes are free, the chain has a first node
-  pub first_some : (n : ℕ) (nodes : List (Content K V)) (first : Option ℕ) (free limit : ℕ) → 0 < free → IsPool n nodes first free limit → IsSome first
-  first_some n nodes None zero limit some pool = absurd (omega (arith, some))
-  first_some n nodes None (suc count) limit some pool = absurd (omega (arith, pool.counted))
-  first_some n nodes (Some node) free limit some pool = refl
+  pub first_some : {n : ℕ} {nodes : List (Content K V)} (first : Option ℕ) (free : ℕ) {limit : ℕ} → 0 < free → IsPool n nodes first free limit → IsSome first
+  first_some None zero some pool = absurd (omega (arith, some))
+  first_some None (suc count) some pool = absurd (omega (arith, pool.counted))
+  first_some (Some node) free some pool = refl
 
   -- the front of the chain is a free node
-  pub front_is_free : (n : ℕ) (nodes : List (Content K V)) (node free limit : ℕ) → 0 < free → IsPool n nodes (Some node) free limit → (next : Option ℕ) × (slice_get nodes node ≡ Some (Free next))
-  front_is_free n nodes node zero limit some pool = absurd (omega arith)
-  front_is_free n nodes node (suc count) limit some pool = (pool.linked.0, pool.linked.2)
+  pub front_is_free : {n : ℕ} {nodes : List (Content K V)} (node free : ℕ) {limit : ℕ} → 0 < free → IsPool n nodes (Some node) free limit → (next : Option ℕ) × (slice_get nodes node ≡ Some (Free next))
+  front_is_free node zero some pool = absurd (omega arith)
+  front_is_free node (suc count) some pool = (pool.linked.0, pool.linked.2)
 
   -- the front of the chain is taken off it
-  pub IsPool-taken : (n : ℕ) (nodes : List (Content K V)) (node : ℕ) (next : Option ℕ) (free limit : ℕ) → 0 < free → IsPool n nodes (Some node) free limit → slice_get nodes node ≡ Some (Free next)
+  pub IsPool-taken : {n : ℕ} {nodes : List (Content K V)} (node : ℕ) (next : Option ℕ) (free : ℕ) {limit : ℕ} → 0 < free → IsPool n nodes (Some node) free limit → slice_get nodes node ≡ Some (Free next)
       → IsPool n nodes next (free - 1) limit × (chain_from nodes free (Some node) ≡ node ∷ chain_from nodes (free - 1) next) × (list_any (nat_eq node) (chain_from nodes (free - 1) next) ≡ false)
-  IsPool-taken n nodes node next zero limit some pool found = absurd (omega arith)
-  IsPool-taken n nodes node next (suc count) limit some pool found =
+  IsPool-taken node next zero some pool found = absurd (omega arith)
+  IsPool-taken {n} {nodes} node next (suc count) {limit} some pool found =
       let less : suc count - 1 ≡ count = omega arith in
       let after : next_of (slice_get nodes node) ≡ next = ap next_of found in
       let same : pool.linked.0 ≡ next = let there = pool.linked.2 in cc in

@@ -86,9 +86,9 @@ module _ {K V : Type 0} where
       rw (a, rows-back slots (heads row) rows s.2 i.1) refl
 
   -- a fit tree with an entry, at most 17 levels high, is computed from any table that it is in
-  pub read-back : (most : ℕ) (slots : List (Content K V)) (tree : Tree K V) → IsFit most tree → IsIn slots tree → 1 ≤ length (flat tree.leaves) → length tree.above ≤ 16 → tree_of slots (root_of tree) ≡ tree
+  pub read-back : {most : ℕ} {slots : List (Content K V)} {tree : Tree K V} → IsFit most tree → IsIn slots tree → 1 ≤ length (flat tree.leaves) → length tree.above ≤ 16 → tree_of slots (root_of tree) ≡ tree
   unfolding tree_of
-  read-back most slots tree fit inside some low =
+  read-back {most} {slots} {tree} fit inside some low =
       let one = half-some most tree.leaves fit.leaves_fit some in
       let f = 17 - length tree.above in
       let g = f - 1 in

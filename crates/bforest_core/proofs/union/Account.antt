@@ -59,23 +59,23 @@ module _ {K V : Type 0} where
   abbrev pub nodes_under : List (Content K V) → ℕ → ℕ
   nodes_under slots root = length (numbers_of (tree_of slots root))
 
-  trees-sum : (most : ℕ) (table : Table K V) (before trees : List (Tree K V)) → IsForest most table (before ++ trees) → length (flat_map numbers_of trees) ≡ sum_by (λ n. nodes_under table.nodes n) (map root_of trees)
-  trees-sum most table before [] f = refl
-  trees-sum most table before (tree ∷ trees) f =
-      let ih = trees-sum most table (before ++ tree ∷ []) trees (subst (λ (z : List (Tree K V)). IsForest most table z) (sym (append_assoc before (tree ∷ []) trees)) f) in
-      let back = ap (λ (z : Tree K V). length (numbers_of z)) (tree-back most table (before ++ tree ∷ trees) before tree trees (root_of tree) f refl refl).0 in
+  trees-sum : {most : ℕ} {table : Table K V} (before trees : List (Tree K V)) → IsForest most table (before ++ trees) → length (flat_map numbers_of trees) ≡ sum_by (λ n. nodes_under table.nodes n) (map root_of trees)
+  trees-sum before [] f = refl
+  trees-sum {most} {table} before (tree ∷ trees) f =
+      let ih = trees-sum (before ++ tree ∷ []) trees (subst (λ (z : List (Tree K V)). IsForest most table z) (sym (append_assoc before (tree ∷ []) trees)) f) in
+      let back = ap (λ (z : Tree K V). length (numbers_of z)) (tree-back before tree trees (root_of tree) f refl refl).0 in
       omega (arith, ih, back, length-append (numbers_of tree) (flat_map numbers_of trees), sum_by-cons (λ n. nodes_under table.nodes n) (root_of tree) (map root_of trees))
 
   -- the roots are the numbers of slots that pass the test
-  roots-kept : (most : ℕ) (table : Table K V) (trees : List (Tree K V)) → IsForest most table trees → (m : ℕ) → count m (map root_of trees) ≡ count m (kept (is_root table.nodes) (upto (length table.nodes)))
-  roots-kept most table trees f m =
+  roots-kept : {most : ℕ} {table : Table K V} {trees : List (Tree K V)} → IsForest most table trees → (m : ℕ) → count m (map root_of trees) ≡ count m (kept (is_root table.nodes) (upto (length table.nodes)))
+  roots-kept {most} {table} {trees} f m =
       by (is_root table.nodes m) refl ∙ sym (count-kept (is_root table.nodes) m (upto (length table.nodes)) ∙ ap (λ z. if is_root table.nodes m then z else 0) (count-upto m (length table.nodes)))
     where
       by : (b : Bool) → is_root table.nodes m ≡ b → count m (map root_of trees) ≡ (if is_root table.nodes m then once_below m (length table.nodes) else 0)
-      by true e = let k = ap (λ z. if z then once_below m (length table.nodes) else 0) e in omega (arith, k, roots-once most table trees f m, (root-counts most table trees f m).0 e, below-one m (length table.nodes) (root-within table.nodes m e))
+      by true e = let k = ap (λ z. if z then once_below m (length table.nodes) else 0) e in omega (arith, k, roots-once f m, (root-counts f m).0 e, below-one m (length table.nodes) (root-within table.nodes m e))
       by false e =
           let k = ap (λ z. if z then once_below m (length table.nodes) else 0) e in
-          elim (cases_lt 0 (count m (map root_of trees))) [ inl some ↦ absurd (false≢true (sym e ∙ (root-counts most table trees f m).1 some)) | inr past ↦ omega (arith, k, past) ]
+          elim (cases_lt 0 (count m (map root_of trees))) [ inl some ↦ absurd (false≢true (sym e ∙ (root-counts f m).1 some)) | inr past ↦ omega (arith, k, past) ]
 
   -- the slots are the free nodes and the nodes of the trees under all roots
   pub account : (most : ℕ) (table : Table K V) → IsUnion most table → length table.nodes ≡ length table.chain + sum_by (λ n. if is_root table.nodes n then length (numbers_of (tree_of table.nodes n)) else 0) (upto (length table.nodes))
@@ -83,8 +83,8 @@ module _ {K V : Type 0} where
       let trees = union.0 in
       let f = union.1 in
       let a = length-same (flat_map numbers_of trees ++ table.chain) (upto (length table.nodes)) (λ m. f.account m ∙ sym (count-upto m (length table.nodes))) in
-      let b = trees-sum most table [] trees f in
-      let c = sum-same (λ n. nodes_under table.nodes n) (map root_of trees) (kept (is_root table.nodes) (upto (length table.nodes))) (roots-kept most table trees f) in
+      let b = trees-sum [] trees f in
+      let c = sum-same (λ n. nodes_under table.nodes n) (map root_of trees) (kept (is_root table.nodes) (upto (length table.nodes))) (roots-kept f) in
       let d = sum-kept (is_root table.nodes) (λ n. nodes_under table.nodes n) (upto (length table.nodes)) in
       omega (arith, a, b, c, d, length-append (flat_map numbers_of trees) table.chain, length-upto (length table.nodes))
 

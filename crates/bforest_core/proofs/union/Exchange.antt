@@ -20,8 +20,8 @@ every-map P Q f (x ∷ xs) e = (f x e.0, every-map P Q f xs e.1)
 
 module _ {K V : Type 0} where
   -- a tree is in any slots that agree on its numbers
-  pub tree-same : (old new : List (Content K V)) (tree : Tree K V) → ((m : ℕ) → 0 < count m (numbers_of tree) → slice_get new m ≡ slice_get old m) → IsIn old tree → IsIn new tree
-  tree-same old new tree same i = record {
+  pub tree-same : {old : List (Content K V)} (new : List (Content K V)) {tree : Tree K V} → ((m : ℕ) → 0 < count m (numbers_of tree) → slice_get new m ≡ slice_get old m) → IsIn old tree → IsIn new tree
+  tree-same {old} new {tree} same i = record {
     leaves_in = row-same leaf_content old new tree.leaves (λ m some. same m (omega (arith, some, count-append m (numbers tree.leaves) (flat_map numbers tree.above)))) i.leaves_in;
     rows_in = rows-same old new tree.above (λ m some. same m (omega (arith, some, count-append m (numbers tree.leaves) (flat_map numbers tree.above)))) i.rows_in;
   }
@@ -30,7 +30,7 @@ module _ {K V : Type 0} where
   pub trees-same : (old new : List (Content K V)) (trees : List (Tree K V)) → ((m : ℕ) → 0 < count m (flat_map numbers_of trees) → slice_get new m ≡ slice_get old m) → Every (IsIn old) trees → Every (IsIn new) trees
   trees-same old new [] same i = tt
   trees-same old new (tree ∷ trees) same i = (
-    tree-same old new tree (λ m some. same m (omega (arith, some, count-append m (numbers_of tree) (flat_map numbers_of trees)))) i.0,
+    tree-same new (λ m some. same m (omega (arith, some, count-append m (numbers_of tree) (flat_map numbers_of trees)))) i.0,
     trees-same old new trees (λ m some. same m (omega (arith, some, count-append m (numbers_of tree) (flat_map numbers_of trees)))) i.1,
   )
 
@@ -76,10 +76,10 @@ module _ {K V : Type 0} where
     pub low : length tree.above ≤ 16
 
   -- replacing trees of a forest by others that are in the new table
-  pub exchange-trees : (most : ℕ) (old new : Table K V) (before gone come after : List (Tree K V))
+  pub exchange-trees : {most : ℕ} {old new : Table K V} (before gone come after : List (Tree K V))
       → IsForest most old (before ++ (gone ++ after)) → Every (IsPlanted most new.nodes) come
       → Traded old new (flat_map numbers_of gone) (flat_map numbers_of come) → IsForest most new (before ++ (come ++ after))
-  exchange-trees most old new before gone come after f p t =
+  exchange-trees {most} {old} {new} before gone come after f p t =
       let one : (m : ℕ) → count m (flat_map numbers_of before) + (count m (flat_map numbers_of gone) + count m (flat_map numbers_of after)) + count m old.chain ≤ 1 =
       λ m. omega (arith, f.account m, at-most-one m (length old.nodes), count_parts m before gone after old.chain) in
       let ins = every_outer (IsIn old.nodes) before gone after f.inside in
@@ -110,21 +110,21 @@ module _ {K V : Type 0} where
   outer_tree : (most : ℕ) (before after : List (Tree K V)) (other : ℕ) → 0 < count other (map root_of before) + count other (map root_of after) → (tree : Tree K V) × ((table : Table K V) (some : List (Tree K V)) → IsForest most table (before ++ (some ++ after)) → tree_of table.nodes other ≡ tree)
   outer_tree most before after other there =
       elim (cases_lt 0 (count other (map root_of before))) [
-        | inl here ↦ (let r = tree-with before other here in (r.1, λ table some f. (tree-back most table (before ++ (some ++ after)) r.0 r.1 (r.2 ++ (some ++ after)) other f (ap (λ z. z ++ (some ++ after)) r.3 ∙ append_assoc r.0 (r.1 ∷ r.2) (some ++ after)) r.4).0))
+        | inl here ↦ (let r = tree-with before other here in (r.1, λ table some f. (tree-back r.0 r.1 (r.2 ++ (some ++ after)) other f (ap (λ z. z ++ (some ++ after)) r.3 ∙ append_assoc r.0 (r.1 ∷ r.2) (some ++ after)) r.4).0))
         | inr none ↦ (let r = tree-with after other (omega (arith, there, none)) in (
           r.1,
-          λ table some f. (tree-back most table (before ++ (some ++ after)) ((before ++ some) ++ r.0) r.1 r.2 other f
+          λ table some f. (tree-back ((before ++ some) ++ r.0) r.1 r.2 other f
               (ap (λ z. before ++ (some ++ z)) r.3 ∙ sym (append_assoc before some (r.0 ++ r.1 ∷ r.2))
               ∙ sym (append_assoc (before ++ some) r.0 (r.1 ∷ r.2))) r.4).0,
         ))
       ]
 
   -- every number that is no root of the replaced trees is a root as before, and keeps its tree
-  pub others-keep : (most : ℕ) (old new : Table K V) (before gone come after : List (Tree K V)) → IsForest most old (before ++ (gone ++ after)) → IsForest most new (before ++ (come ++ after)) →
+  pub others-keep : {most : ℕ} {old new : Table K V} (before gone come after : List (Tree K V)) → IsForest most old (before ++ (gone ++ after)) → IsForest most new (before ++ (come ++ after)) →
       (other : ℕ) → count other (map root_of gone) ≡ 0 → count other (map root_of come) ≡ 0 → (IsTrue (is_root new.nodes other) ↔ IsTrue (is_root old.nodes other)) × (IsTrue (is_root old.nodes other) → tree_of new.nodes other ≡ tree_of old.nodes other)
-  others-keep most old new before gone come after f g other none none' =
-      let cf = root-counts most old (before ++ (gone ++ after)) f other in
-      let cg = root-counts most new (before ++ (come ++ after)) g other in
+  others-keep {most} {old} {new} before gone come after f g other none none' =
+      let cf = root-counts f other in
+      let cg = root-counts g other in
       let a = count_roots other before gone after in
       let b = count_roots other before come after in (
         (λ root. cf.1 (omega (arith, cg.0 root, a, b, none, none')), λ root. cg.1 (omega (arith, cf.0 root, a, b, none, none'))),
@@ -132,7 +132,7 @@ module _ {K V : Type 0} where
       )
 
   -- a root of the replaced trees that none of the new ones has is not a root
-  pub roots-gone : (most : ℕ) (old new : Table K V) (before gone come after : List (Tree K V)) → IsForest most old (before ++ (gone ++ after)) → IsForest most new (before ++ (come ++ after)) →
+  pub roots-gone : {most : ℕ} {old new : Table K V} (before gone come after : List (Tree K V)) → IsForest most old (before ++ (gone ++ after)) → IsForest most new (before ++ (come ++ after)) →
       (m : ℕ) → 0 < count m (map root_of gone) → count m (map root_of come) ≡ 0 → ¬ IsTrue (is_root new.nodes m)
-  roots-gone most old new before gone come after f g m some none root =
-      omega (arith, (root-counts most new (before ++ (come ++ after)) g m).0 root, count_roots m before gone after, count_roots m before come after, some, none, roots-once most old (before ++ (gone ++ after)) f m)
+  roots-gone {most} {old} {new} before gone come after f g m some none root =
+      omega (arith, (root-counts g m).0 root, count_roots m before gone after, count_roots m before come after, some, none, roots-once f m)

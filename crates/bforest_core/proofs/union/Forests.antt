@@ -35,9 +35,9 @@ module _ {K V : Type 0} where
       omega (arith, ih, a, b, c, count-append m (numbers row) (flat_map numbers rows))
 
   -- each number of a tree but its root is named by one node of the tree, and no other number is
-  named_tree : (most : ℕ) (slots : List (Content K V)) (tree : Tree K V) → IsFit most tree → IsIn slots tree → 1 ≤ length (flat tree.leaves) → (m : ℕ) →
+  named_tree : {most : ℕ} {slots : List (Content K V)} {tree : Tree K V} → IsFit most tree → IsIn slots tree → 1 ≤ length (flat tree.leaves) → (m : ℕ) →
       count m (named_by slots (numbers_of tree)) + count m (root_of tree ∷ []) ≡ count m (numbers_of tree)
-  named_tree most slots tree f i some m =
+  named_tree {most} {slots} {tree} f i some m =
       let r = named_rows slots (heads tree.leaves) tree.above f.stacked i.rows_in m in
       let a = ap (λ z. count m z) (flat_map-append (λ k. children_of (slot slots k)) (numbers tree.leaves) (flat_map numbers tree.above)) ∙ count-append m (named_by slots (numbers tree.leaves)) (named_by slots (flat_map numbers tree.above)) in
       let b = ap (λ z. count m z) (children-leaves slots tree.leaves i.leaves_in) in
@@ -46,14 +46,14 @@ module _ {K V : Type 0} where
 
   -- the root of a tree is one of its numbers
   pub root-among : (most : ℕ) (slots : List (Content K V)) (tree : Tree K V) → IsFit most tree → IsIn slots tree → 1 ≤ length (flat tree.leaves) → 0 < count (root_of tree) (numbers_of tree)
-  root-among most slots tree f i some = omega (arith, named_tree most slots tree f i some (root_of tree), count-same (root_of tree) [])
+  root-among most slots tree f i some = omega (arith, named_tree f i some (root_of tree), count-same (root_of tree) [])
 
   -- each number of some trees but their roots is named by one of their nodes, and no other number is
   named_trees : (most : ℕ) (slots : List (Content K V)) (trees : List (Tree K V)) → Every (IsFit most) trees → Every (IsIn slots) trees → Every (λ (tree : Tree K V). 1 ≤ length (flat tree.leaves)) trees → (m : ℕ) →
       count m (named_by slots (flat_map numbers_of trees)) + count m (map root_of trees) ≡ count m (flat_map numbers_of trees)
   named_trees most slots [] f i some m = omega arith
   named_trees most slots (tree ∷ trees) f i some m =
-      let one = named_tree most slots tree f.0 i.0 some.0 m in
+      let one = named_tree f.0 i.0 some.0 m in
       let ih = named_trees most slots trees f.1 i.1 some.1 m in
       let a = ap (λ z. count m z) (flat_map-append (λ k. children_of (slot slots k)) (numbers_of tree) (flat_map numbers_of trees)) ∙ count-append m (named_by slots (numbers_of tree)) (named_by slots (flat_map numbers_of trees)) in
       omega (arith, one, ih, a, count-append m (numbers_of tree) (flat_map numbers_of trees))
@@ -74,31 +74,31 @@ module _ {K V : Type 0} where
   named_free slots (m ∷ ms) f = let e = no_children (slot slots m) f.0 in rw e (named_free slots ms f.1)
 
   -- the root of a tree is a node
-  root_used : (most : ℕ) → 1 ≤ half_of most → (slots : List (Content K V)) (tree : Tree K V) → IsRooted most slots (root_of tree) tree → is_used (slot slots (root_of tree)) ≡ true
-  root_used most one slots tree r =
+  root_used : {most : ℕ} → 1 ≤ half_of most → {slots : List (Content K V)} {tree : Tree K V} → IsRooted most slots (root_of tree) tree → is_used (slot slots (root_of tree)) ≡ true
+  root_used {most} one {slots} {tree} r =
       let u = whole_under most slots (root_of tree) tree r in
       elim (node_under most one slots tree.leaves tree.above [] u.0 (root_of tree) [] u.1) [ inl w ↦ ap is_used (slot-is slots (root_of tree) _ w.slot_is) | inr w ↦ ap is_used (slot-is slots (root_of tree) _ w.slot_is) ]
 
   -- the slots of a table name each number of its trees except the roots
-  named_all : (most : ℕ) (table : Table K V) (trees : List (Tree K V)) → IsForest most table trees → (m : ℕ) → count m (flat_map children_of table.nodes) + count m (map root_of trees) ≡ count m (flat_map numbers_of trees)
-  named_all most table trees f m =
+  named_all : {most : ℕ} {table : Table K V} {trees : List (Tree K V)} → IsForest most table trees → (m : ℕ) → count m (flat_map children_of table.nodes) + count m (map root_of trees) ≡ count m (flat_map numbers_of trees)
+  named_all {most} {table} {trees} f m =
       let a = all-named table.nodes (flat_map numbers_of trees ++ table.chain) f.account m in
       let b = ap (λ z. count m z) (flat_map-append (λ k. children_of (slot table.nodes k)) (flat_map numbers_of trees) table.chain) ∙ count-append m (named_by table.nodes (flat_map numbers_of trees)) (named_by table.nodes table.chain) in
       let c = ap (λ z. count m z) (named_free table.nodes table.chain f.free) in
       omega (arith, a, b, c, named_trees most table.nodes trees f.fit f.inside f.some m)
 
   -- a number occurs in the trees or on the chain at most once
-  pub once : (most : ℕ) (table : Table K V) (trees : List (Tree K V)) → IsForest most table trees → (m : ℕ) → count m (flat_map numbers_of trees) + count m table.chain ≤ 1
-  once most table trees f m = omega (arith, f.account m, at-most-one m (length table.nodes), count-append m (flat_map numbers_of trees) table.chain)
+  pub once : {most : ℕ} {table : Table K V} {trees : List (Tree K V)} → IsForest most table trees → (m : ℕ) → count m (flat_map numbers_of trees) + count m table.chain ≤ 1
+  once {table} {trees} f m = omega (arith, f.account m, at-most-one m (length table.nodes), count-append m (flat_map numbers_of trees) table.chain)
 
   -- a number in the trees or on the chain is that of a slot
-  pub within-slots : (most : ℕ) (table : Table K V) (trees : List (Tree K V)) → IsForest most table trees → (m : ℕ) → 0 < count m (flat_map numbers_of trees) + count m table.chain → m < length table.nodes
-  within-slots most table trees f m some =
+  pub within-slots : {most : ℕ} {table : Table K V} {trees : List (Tree K V)} → IsForest most table trees → (m : ℕ) → 0 < count m (flat_map numbers_of trees) + count m table.chain → m < length table.nodes
+  within-slots {table} {trees} f m some =
       elim (cases_lt m (length table.nodes)) [ inl low ↦ low | inr past ↦ absurd (omega (arith, f.account m, past-none m (length table.nodes) past, some, count-append m (flat_map numbers_of trees) table.chain)) ]
 
   -- no two trees have the same root
-  pub roots-once : (most : ℕ) (table : Table K V) (trees : List (Tree K V)) → IsForest most table trees → (m : ℕ) → count m (map root_of trees) ≤ 1
-  roots-once most table trees f m = omega (arith, named_all most table trees f m, once most table trees f m)
+  pub roots-once : {most : ℕ} {table : Table K V} {trees : List (Tree K V)} → IsForest most table trees → (m : ℕ) → count m (map root_of trees) ≤ 1
+  roots-once {most} {table} {trees} f m = omega (arith, named_all f m, once f m)
 
   -- a node is within the slots
   pub used_within : (slots : List (Content K V)) (m : ℕ) → is_used (slot slots m) ≡ true → m < length slots
@@ -115,10 +115,10 @@ module _ {K V : Type 0} where
       ]
 
   -- a tree of the witness is computed from its root, which is a root of the table
-  pub tree-back : (most : ℕ) (table : Table K V) (trees before : List (Tree K V)) (tree : Tree K V) (after : List (Tree K V)) (root : ℕ) → IsForest most table trees → trees ≡ before ++ tree ∷ after → root_of tree ≡ root →
+  pub tree-back : {most : ℕ} {table : Table K V} {trees : List (Tree K V)} (before : List (Tree K V)) (tree : Tree K V) (after : List (Tree K V)) (root : ℕ) → IsForest most table trees → trees ≡ before ++ tree ∷ after → root_of tree ≡ root →
       (tree_of table.nodes root ≡ tree) × IsTrue (is_root table.nodes root)
   unfolding is_root
-  tree-back most table trees before tree after root given split is =
+  tree-back {most} {table} before tree after root given split is =
       let f = subst (λ (z : List (Tree K V)). IsForest most table z) split given in
       let fit = (every-append (IsFit most) before (tree ∷ after) f.fit).1.0 in
       let inside = (every-append (IsIn table.nodes) before (tree ∷ after) f.inside).1.0 in
@@ -126,20 +126,20 @@ module _ {K V : Type 0} where
       let low = (every-append (λ (tree : Tree K V). length tree.above ≤ 16) before (tree ∷ after) f.low).1.0 in
       let m = root_of tree in
       let here = ap (λ z. count m z) (map-append root_of before (tree ∷ after)) ∙ count-append m (map root_of before) (m ∷ map root_of after) in
-      let none : count m (flat_map children_of table.nodes) ≡ 0 = omega (arith, here, count-same m (map root_of after), named_all most table (before ++ tree ∷ after) f m, once most table (before ++ tree ∷ after) f m) in
-      let used = root_used most (omega (arith, f.capacity.least)) table.nodes tree (record { fit = fit; inside = inside; root_is = refl; some = some; low = low }) in
-      subst (λ (z : ℕ). (tree_of table.nodes z ≡ tree) × IsTrue (is_root table.nodes z)) is (read-back most table.nodes tree fit inside some low, rw (used, none) refl)
+      let none : count m (flat_map children_of table.nodes) ≡ 0 = omega (arith, here, count-same m (map root_of after), named_all f m, once f m) in
+      let used = root_used {most = most} (omega (arith, f.capacity.least)) {slots = table.nodes} {tree = tree} (record { fit = fit; inside = inside; root_is = refl; some = some; low = low }) in
+      subst (λ (z : ℕ). (tree_of table.nodes z ≡ tree) × IsTrue (is_root table.nodes z)) is (read-back fit inside some low, rw (used, none) refl)
 
   -- a number is a root exactly if it is the root of one of the trees
-  pub root-counts : (most : ℕ) (table : Table K V) (trees : List (Tree K V)) → IsForest most table trees → (m : ℕ) → IsTrue (is_root table.nodes m) ↔ (0 < count m (map root_of trees))
+  pub root-counts : {most : ℕ} {table : Table K V} {trees : List (Tree K V)} → IsForest most table trees → (m : ℕ) → IsTrue (is_root table.nodes m) ↔ (0 < count m (map root_of trees))
   unfolding is_root
-  root-counts most table trees f m = (
+  root-counts {most} {table} {trees} f m = (
     λ root. (
         let parts = and_parts (is_used (slot table.nodes m)) (nat_eq (count m (flat_map children_of table.nodes)) 0) root in
         let none : count m (flat_map children_of table.nodes) ≡ 0 = elim (eqb_tells (count m (flat_map children_of table.nodes)) 0) [ inl w ↦ w.1 | inr w ↦ absurd (let e = w.0 in let d = parts.1 in cc) ] in
         let low = used_within table.nodes m parts.0 in
         let off : count m table.chain ≡ 0 = elim (cases_lt 0 (count m table.chain)) [ inl on ↦ absurd (let e = free-unused (slot table.nodes m) (free-at table.nodes table.chain f.free m on) in let d = parts.0 in cc) | inr off ↦ omega (arith, off) ] in
-        omega (arith, none, off, f.account m, below-one m (length table.nodes) low, count-append m (flat_map numbers_of trees) table.chain, named_all most table trees f m)
+        omega (arith, none, off, f.account m, below-one m (length table.nodes) low, count-append m (flat_map numbers_of trees) table.chain, named_all f m)
         ),
-    λ some. (let r = tree-with trees m some in (tree-back most table trees r.0 r.1 r.2 m f r.3 r.4).1),
+    λ some. (let r = tree-with trees m some in (tree-back r.0 r.1 r.2 m f r.3 r.4).1),
   )

@@ -31,7 +31,7 @@ module _ {K V : Type 0} where
       let mid = reserved old 1 in
       let u = reserved-union most old 1 union in
       let f = front_rest number mid.chain front in
-      let t = takes mid new number (Leaf (key ∷ []) (value ∷ [])) front is (within-slots most mid u.0 u.1 number (omega (arith, ap (λ z. count number z) f.1, count-same number f.0))) in
+      let t = takes mid new number (Leaf (key ∷ []) (value ∷ [])) front is (within-slots u.1 number (omega (arith, ap (λ z. count number z) f.1, count-same number f.0))) in
       let tree : Tree K V = record { leaves = node number ((key, value) ∷ []) ∷ []; above = [] } in
       let p : IsPlanted most new.nodes tree = record {
         fit = record { leaves_fit = (omega arith, omega (arith, union.1.capacity.least), tt); stacked = refl; topped = tt };
@@ -39,9 +39,9 @@ module _ {K V : Type 0} where
         some = omega arith;
         low = omega arith;
       } in
-      let moved = traded mid new [] (numbers_of tree) (number ∷ []) [] new.chain u.1.free (λ m. omega (arith, once most mid u.0 u.1 m)) t.chain_is refl tt t.slots_are (λ m. omega arith) (λ m none. t.same m (absent_ne m number [] (omega (arith, none)))) in
-      let g = exchange-trees most mid new [] [] (tree ∷ []) u.0 u.1 (p, tt) (subst (λ (z : List ℕ). Traded mid new [] z) (one_tree tree) moved) in
-      let back = tree-back most new (tree ∷ u.0) [] tree u.0 number g refl refl in
+      let moved = traded mid new [] (numbers_of tree) (number ∷ []) [] new.chain u.1.free (λ m. omega (arith, once u.1 m)) t.chain_is refl tt t.slots_are (λ m. omega arith) (λ m none. t.same m (absent_ne m number [] (omega (arith, none)))) in
+      let g = exchange-trees [] [] (tree ∷ []) u.0 u.1 (p, tt) (subst (λ (z : List ℕ). Traded mid new [] z) (one_tree tree) moved) in
+      let back = tree-back [] tree u.0 number g refl refl in
       let made = length-fresh_nodes K V (slot_count old) (1 - free_count old) (front_of old.chain) in
       let slots = length-append old.nodes (fresh_nodes {K = K} {V = V} (slot_count old) (1 - free_count old) (front_of old.chain)) in
       let chains = length-append (down_from (slot_count old) (1 - free_count old)) old.chain in
@@ -52,12 +52,12 @@ module _ {K V : Type 0} where
           root_is = back.1;
           list_is = ap (λ (z : Tree K V). flat z.leaves) back.0;
           sizes_are = ap (λ (z : Tree K V). sizes_of z) back.0;
-          others = reserved-then most old 1 new number number union (λ other ne ne'. others-keep most mid new [] [] (tree ∷ []) u.0 u.1 g other refl (not-root other number ne));
+          others = reserved-then most old 1 new number number union (λ other ne ne'. others-keep [] [] (tree ∷ []) u.0 u.1 g other refl (not-root other number ne));
           old_gone = λ ne. absurd (ne refl);
           new_came = λ ne. absurd (ne refl);
           limit_is = t.limit_is;
         };
-        fresh = λ there. roots-gone most new mid [] (tree ∷ []) [] u.0 g u.1 number (one_root number) refl ((reserved-roots most old 1 union number).0 ∙ there);
+        fresh = λ there. roots-gone [] (tree ∷ []) [] u.0 g u.1 number (one_root number) refl ((reserved-roots most old 1 union number).0 ∙ there);
         takes = record {
           slots = omega (arith, t.slots_are, slots, made);
           free = omega (arith, ap length t.chain_is, chains, downs);

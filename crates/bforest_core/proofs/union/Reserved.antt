@@ -49,11 +49,11 @@ module _ {K V : Type 0} where
       slice_get-append_left xs more m (get_or xs m (Free None)) e ∙ sym e
 
   -- a table with `n` new slots has the same trees
-  with-slots-forest : (most : ℕ) (table : Table K V) (n : ℕ) (trees : List (Tree K V)) → IsForest most table trees → IsForest most (with_slots table n) trees
-  with-slots-forest most table n trees f =
+  with-slots-forest : {most : ℕ} {table : Table K V} (n : ℕ) {trees : List (Tree K V)} → IsForest most table trees → IsForest most (with_slots table n) trees
+  with-slots-forest {most} {table} n {trees} f =
       let more : List (Content K V) = fresh_nodes (slot_count table) n (front_of table.chain) in
       let c = λ (m : ℕ). count-append m (flat_map numbers_of trees) table.chain in
-      let low = within-slots most table trees f in
+      let low = within-slots f in
       let slots : length (table.nodes ++ more) ≡ length table.nodes + n = omega (arith, length-append table.nodes more, length-fresh_nodes K V (slot_count table) n (front_of table.chain)) in
       record {
         capacity = f.capacity;
@@ -69,13 +69,13 @@ module _ {K V : Type 0} where
 
   -- the used slots are a union of trees after a reservation
   pub reserved-union : (most : ℕ) (table : Table K V) (n : ℕ) → IsUnion most table → IsUnion most (reserved table n)
-  reserved-union most table n union = (union.0, with-slots-forest most table (n - free_count table) union.0 union.1)
+  reserved-union most table n union = (union.0, with-slots-forest (n - free_count table) union.1)
 
   -- a reservation keeps the roots and their trees
   pub reserved-roots : (most : ℕ) (table : Table K V) (n : ℕ) → IsUnion most table → (number : ℕ) →
       (is_root (reserved table n).nodes number ≡ is_root table.nodes number) × (IsTrue (is_root table.nodes number) → tree_of (reserved table n).nodes number ≡ tree_of table.nodes number)
   reserved-roots most table n union number =
-      let k = others-keep most table (reserved table n) [] [] [] union.0 union.1 (with-slots-forest most table (n - free_count table) union.0 union.1) number refl refl in
+      let k = others-keep [] [] [] union.0 union.1 (with-slots-forest (n - free_count table) union.1) number refl refl in
       (same_from_decides (is_root (reserved table n).nodes number) (is_root table.nodes number) k.0 (λ is. is, λ is. is), k.1)
 
   -- a change that keeps the other trees of the table with more slots keeps those of the table

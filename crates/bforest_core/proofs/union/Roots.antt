@@ -28,36 +28,36 @@ module _ {K V : Type 0} where
   pub one_tree : (tree : Tree K V) → numbers_of tree ≡ flat_map numbers_of (tree ∷ [])
   one_tree tree = sym (append-nil (numbers_of tree))
 
-  exchanged_by : (most : ℕ) (old new : Table K V) (root : ℕ) (tree' : Tree K V) → IsUnion most old → IsTrue (is_root old.nodes root) → IsPlanted most new.nodes tree' → Traded old new (numbers_of (tree_of old.nodes root)) (numbers_of tree') → Exchanged most old new root tree'
-  exchanged_by most old new root tree' union is p t =
+  exchanged_by : {most : ℕ} {old new : Table K V} (root : ℕ) {tree' : Tree K V} → IsUnion most old → IsTrue (is_root old.nodes root) → IsPlanted most new.nodes tree' → Traded old new (numbers_of (tree_of old.nodes root)) (numbers_of tree') → Exchanged most old new root tree'
+  exchanged_by {most} {old} {new} root {tree'} union is p t =
       let r = rooted most old root union is in
       let tree = tree_of old.nodes root in
       let one = subst (λ (z : List ℕ). Traded old new z (flat_map numbers_of (tree' ∷ []))) (one_tree tree) (subst (λ (z : List ℕ). Traded old new (numbers_of tree) z) (one_tree tree') t) in
-      let g = exchange-trees most old new r.before (tree ∷ []) (tree' ∷ []) r.after r.forest (p, tt) one in
-      let back = tree-back most new (r.before ++ tree' ∷ r.after) r.before tree' r.after (root_of tree') g refl refl in
+      let g = exchange-trees r.before (tree ∷ []) (tree' ∷ []) r.after r.forest (p, tt) one in
+      let back = tree-back r.before tree' r.after (root_of tree') g refl refl in
       subst (λ (z : ℕ). Exchanged most old new z tree') r.root_is (record {
         union = (r.before ++ tree' ∷ r.after, g);
         root_is = back.1;
         tree_is = back.0;
-        others = λ other ne ne'. others-keep most old new r.before (tree ∷ []) (tree' ∷ []) r.after r.forest g other (not-root other (root_of tree) ne) (not-root other (root_of tree') ne');
-        old_gone = λ ne. roots-gone most old new r.before (tree ∷ []) (tree' ∷ []) r.after r.forest g (root_of tree) (one_root (root_of tree)) (not-root (root_of tree) (root_of tree') ne);
-        new_came = λ ne. roots-gone most new old r.before (tree' ∷ []) (tree ∷ []) r.after g r.forest (root_of tree') (one_root (root_of tree')) (not-root (root_of tree') (root_of tree) (λ (e : root_of tree' ≡ root_of tree). ne (sym e)));
+        others = λ other ne ne'. others-keep r.before (tree ∷ []) (tree' ∷ []) r.after r.forest g other (not-root other (root_of tree) ne) (not-root other (root_of tree') ne');
+        old_gone = λ ne. roots-gone r.before (tree ∷ []) (tree' ∷ []) r.after r.forest g (root_of tree) (one_root (root_of tree)) (not-root (root_of tree) (root_of tree') ne);
+        new_came = λ ne. roots-gone r.before (tree' ∷ []) (tree ∷ []) r.after g r.forest (root_of tree') (one_root (root_of tree')) (not-root (root_of tree') (root_of tree) (λ (e : root_of tree' ≡ root_of tree). ne (sym e)));
       })
 
   -- the tree after an insertion under a root
-  pub exchanged : (most : ℕ) (old new : Table K V) (root : ℕ) (tree' : Tree K V) (taken : List ℕ) → IsUnion most old → IsTrue (is_root old.nodes root) → IsPlanted most new.nodes tree' →
+  pub exchanged : {most : ℕ} (old new : Table K V) (root : ℕ) {tree' : Tree K V} (taken : List ℕ) → IsUnion most old → IsTrue (is_root old.nodes root) → IsPlanted most new.nodes tree' →
       old.chain ≡ taken ++ new.chain → length new.nodes ≡ length old.nodes →
       ((m : ℕ) → count m (numbers_of tree') ≡ count m (numbers_of (tree_of old.nodes root)) + count m taken) →
       ((m : ℕ) → count m (numbers_of (tree_of old.nodes root)) + count m taken ≡ 0 → slice_get new.nodes m ≡ slice_get old.nodes m) →
       Exchanged most old new root tree'
-  exchanged most old new root tree' taken union is p chain_is slots nums others =
-      exchanged_by most old new root tree' union is p (traded old new (numbers_of (tree_of old.nodes root)) (numbers_of tree') taken [] new.chain union.1.free (rooted most old root union is).apart chain_is refl tt slots (λ m. omega (arith, nums m)) others)
+  exchanged {most} old new root {tree'} taken union is p chain_is slots nums others =
+      exchanged_by root union is p (traded old new (numbers_of (tree_of old.nodes root)) (numbers_of tree') taken [] new.chain union.1.free (rooted most old root union is).apart chain_is refl tt slots (λ m. omega (arith, nums m)) others)
 
   -- the tree after a removal under a root
-  pub exchanged-freed : (most : ℕ) (old new : Table K V) (root : ℕ) (tree' : Tree K V) (freed : List ℕ) → IsUnion most old → IsTrue (is_root old.nodes root) → IsPlanted most new.nodes tree' → Frees old new (numbers_of (tree_of old.nodes root)) freed →
+  pub exchanged-freed : {most : ℕ} {old new : Table K V} (root : ℕ) {tree' : Tree K V} {freed : List ℕ} → IsUnion most old → IsTrue (is_root old.nodes root) → IsPlanted most new.nodes tree' → Frees old new (numbers_of (tree_of old.nodes root)) freed →
       ((m : ℕ) → count m (numbers_of tree') + count m freed ≡ count m (numbers_of (tree_of old.nodes root))) → Exchanged most old new root tree'
-  exchanged-freed most old new root tree' freed union is p frees nums =
-      exchanged_by most old new root tree' union is p
+  exchanged-freed {most} {old} {new} root {tree'} {freed} union is p frees nums =
+      exchanged_by root union is p
       (traded old new (numbers_of (tree_of old.nodes root)) (numbers_of tree') [] freed old.chain union.1.free
       (rooted most old root union is).apart refl frees.chain_is frees.freed_are frees.slots_are (λ m. omega (arith, nums m))
       (λ m none. frees.others m (omega (arith, none))))
@@ -76,14 +76,14 @@ module _ {K V : Type 0} where
   })
 
   -- the root whose tree lost all its entries is no root
-  pub uprooted-union : (most : ℕ) (old new : Table K V) (root : ℕ) (freed : List ℕ) → IsUnion most old → IsTrue (is_root old.nodes root) → Frees old new (numbers_of (tree_of old.nodes root)) freed → ((m : ℕ) → count m freed ≡ count m (numbers_of (tree_of old.nodes root))) →
+  pub uprooted-union : (most : ℕ) {old new : Table K V} (root : ℕ) {freed : List ℕ} → IsUnion most old → IsTrue (is_root old.nodes root) → Frees old new (numbers_of (tree_of old.nodes root)) freed → ((m : ℕ) → count m freed ≡ count m (numbers_of (tree_of old.nodes root))) →
       IsUnion most new × (¬ IsTrue (is_root new.nodes root)) × OthersKeep old.nodes new.nodes root root
-  uprooted-union most old new root freed union is frees nums =
+  uprooted-union most {old} {new} root {freed} union is frees nums =
       let r = rooted most old root union is in
       let tree = tree_of old.nodes root in
       let t = traded old new (numbers_of tree) [] [] freed old.chain union.1.free r.apart refl frees.chain_is frees.freed_are frees.slots_are (λ m. omega (arith, nums m)) (λ m none. frees.others m (omega (arith, none))) in
-      let g = exchange-trees most old new r.before (tree ∷ []) [] r.after r.forest tt (subst (λ (z : List ℕ). Traded old new z []) (one_tree tree) t) in (
+      let g = exchange-trees r.before (tree ∷ []) [] r.after r.forest tt (subst (λ (z : List ℕ). Traded old new z []) (one_tree tree) t) in (
         (r.before ++ r.after, g),
-        subst (λ (z : ℕ). ¬ IsTrue (is_root new.nodes z)) r.root_is (roots-gone most old new r.before (tree ∷ []) [] r.after r.forest g (root_of tree) (one_root (root_of tree)) refl),
-        subst (λ (z : ℕ). OthersKeep old.nodes new.nodes z z) r.root_is (λ other ne ne'. others-keep most old new r.before (tree ∷ []) [] r.after r.forest g other (not-root other (root_of tree) ne) refl),
+        subst (λ (z : ℕ). ¬ IsTrue (is_root new.nodes z)) r.root_is (roots-gone r.before (tree ∷ []) [] r.after r.forest g (root_of tree) (one_root (root_of tree)) refl),
+        subst (λ (z : ℕ). OthersKeep old.nodes new.nodes z z) r.root_is (λ other ne ne'. others-keep r.before (tree ∷ []) [] r.after r.forest g other (not-root other (root_of tree) ne) refl),
       )

@@ -96,8 +96,8 @@ module _ {K V : Type 0} (most : ℕ) (slots : List (Content K V)) where
     pub right_height : length lower_right ≡ length lower
     pub counted : (m : ℕ) → count m (numbers_under leaves lower) ≡ count m (numbers_under leaves_left lower_left) + count m (numbers_under leaves_right lower_right)
 
-  pub under-cut : 1 ≤ half_of most → (leaves : List (LevelNode K V)) (lower : List (List (LevelNode K ℕ))) (a b : List (K × ℕ)) → Under most slots leaves lower (a ++ b) → UnderCut leaves lower a b
-  under-cut one leaves lower a b u =
+  pub under-cut : 1 ≤ half_of most → {leaves : List (LevelNode K V)} {lower : List (List (LevelNode K ℕ))} (a b : List (K × ℕ)) → Under most slots leaves lower (a ++ b) → UnderCut leaves lower a b
+  under-cut one {leaves} {lower} a b u =
       let r = rows-cut slots (heads leaves) lower a b u.stacked u.rows_in in
       let c = row-cut (half_of most) most one leaves r.list_left r.list_right u.leaves_fit r.list_is in
       let fits = fit_cut (half_of most) most one c.left c.right (subst (λ z. FitRow (half_of most) most z) c.row_is u.leaves_fit) in

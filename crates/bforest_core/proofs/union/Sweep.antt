@@ -26,15 +26,15 @@ rows_none list (row ∷ rows) s =
 
 module _ {K V : Type 0} where
   -- the rows under some nodes are in any slots that agree on their numbers
-  under-same : (most : ℕ) (old new : List (Content K V)) (leaves : List (LevelNode K V)) (lower : List (List (LevelNode K ℕ)))
-      (top : List (K × ℕ)) → ((m : ℕ) → 0 < count m (numbers_under leaves lower) → slice_get new m ≡ slice_get old m)
+  under-same : {most : ℕ} {old : List (Content K V)} (new : List (Content K V)) {leaves : List (LevelNode K V)} {lower : List (List (LevelNode K ℕ))}
+      {top : List (K × ℕ)} → ((m : ℕ) → 0 < count m (numbers_under leaves lower) → slice_get new m ≡ slice_get old m)
       → Under most old leaves lower top → Under most new leaves lower top
-  under-same most old new leaves lower top same u =
-      let i = tree-same old new (record { leaves = leaves; above = lower }) same (record { leaves_in = u.leaves_in; rows_in = u.rows_in }) in
+  under-same {old} new {leaves} {lower} same u =
+      let i = tree-same {old = old} new {tree = record { leaves = leaves; above = lower }} same (record { leaves_in = u.leaves_in; rows_in = u.rows_in }) in
       record { leaves_fit = u.leaves_fit; leaves_in = i.leaves_in; stacked = u.stacked; rows_in = i.rows_in }
 
-  under_none : (most : ℕ) → 1 ≤ half_of most → (slots : List (Content K V)) (leaves : List (LevelNode K V)) (lower : List (List (LevelNode K ℕ))) → Under most slots leaves lower [] → (m : ℕ) → count m (numbers_under leaves lower) ≡ 0
-  under_none most one slots leaves lower u m =
+  under_none : {most : ℕ} → 1 ≤ half_of most → {slots : List (Content K V)} {leaves : List (LevelNode K V)} {lower : List (List (LevelNode K ℕ))} → Under most slots leaves lower [] → (m : ℕ) → count m (numbers_under leaves lower) ≡ 0
+  under_none {most} one {leaves} {lower} u m =
       let r = rows_none (heads leaves) lower u.stacked in
       let none : leaves ≡ [] = no_heads (half_of most) most one leaves u.leaves_fit r.0 in
       omega (arith, count-append m (numbers leaves) (flat_map numbers lower), ap (λ z. count m (numbers z)) none, r.1 m)
@@ -83,23 +83,23 @@ module _ {K V : Type 0} where
       pub apart : Distinct (numbers_under cut.leaves_left cut.lower_left ++ now.chain)
 
     -- while the index is one of the top's, there is a next child
-    pub sweep-turn : (now : Table K V) (index : ℕ) (x : K × ℕ) → Distinct (numbers_under leaves rows ++ old.chain) → Swept most old now leaves rows top index → slice_get top index ≡ Some x → Turn now index x
-    sweep-turn now index x apart s found =
+    pub sweep-turn : {now : Table K V} {index : ℕ} (x : K × ℕ) → Distinct (numbers_under leaves rows ++ old.chain) → Swept most old now leaves rows top index → slice_get top index ≡ Some x → Turn now index x
+    sweep-turn {now} {index} x apart s found =
         let todo : drop index top ≡ x ∷ drop (suc index) top = drop-read top index x found in
-        let cut = under-cut most old.nodes one s.left_leaves s.left_rows (x ∷ []) (drop (suc index) top) (subst (λ (z : List (K × ℕ)). Under most old.nodes s.left_leaves s.left_rows z) todo s.under) in
+        let cut = under-cut most old.nodes one (x ∷ []) (drop (suc index) top) (subst (λ (z : List (K × ℕ)). Under most old.nodes s.left_leaves s.left_rows z) todo s.under) in
         record {
           swept = s;
           found = found;
           cut = cut;
-          under = under-same most old.nodes now.nodes cut.leaves_left cut.lower_left (x ∷ []) (λ m some. s.frees.others m (omega (arith, apart m, count-append m (numbers_under leaves rows) old.chain, s.split m, cut.counted m, some))) cut.left;
+          under = under-same now.nodes (λ m some. s.frees.others m (omega (arith, apart m, count-append m (numbers_under leaves rows) old.chain, s.split m, cut.counted m, some))) cut.left;
           apart = λ m. omega (arith, apart m, count-append m (numbers_under leaves rows) old.chain, s.split m, cut.counted m, s.counted m, ap (λ z. count m z) s.frees.chain_is, count-append m s.given old.chain, count-append m (numbers_under cut.leaves_left cut.lower_left) now.chain);
         }
 
     -- the next child is freed with everything below it
-    pub sweep-next : (now new : Table K V) (index : ℕ) (x : K × ℕ) → Distinct (numbers_under leaves rows ++ old.chain)
+    pub sweep-next : {now new : Table K V} {index : ℕ} {x : K × ℕ} → Distinct (numbers_under leaves rows ++ old.chain)
         → (t : Turn now index x) → GivesAll now new (numbers_under t.cut.leaves_left t.cut.lower_left)
         (numbers_down now.nodes (length t.cut.lower_left) x.1) → Swept most old new leaves rows top (suc index)
-    sweep-next now new index x apart t g =
+    sweep-next {now} {new} {index} {x} apart t g =
         let own = numbers_under t.cut.leaves_left t.cut.lower_left in
         let n = λ (m : ℕ). count-append m t.swept.own own in
         record {
@@ -109,7 +109,7 @@ module _ {K V : Type 0} where
           given = numbers_down now.nodes (length t.cut.lower_left) x.1 ++ t.swept.given;
           under = t.cut.right;
           height = t.cut.right_height ∙ t.swept.height;
-          frees = frees-then old now new (t.swept.own ++ own) own t.swept.given (numbers_down now.nodes (length t.cut.lower_left) x.1)
+          frees = frees-then
               (λ m z. omega (arith, z, n m))
               (λ m some. omega (
                 arith,
@@ -120,7 +120,7 @@ module _ {K V : Type 0} where
                 t.swept.split m,
                 t.cut.counted m,
               ))
-              (frees-wider old now t.swept.own (t.swept.own ++ own) t.swept.given (λ m z. omega (arith, z, n m)) t.swept.frees) g.frees;
+              (frees-wider (t.swept.own ++ own) (λ m z. omega (arith, z, n m)) t.swept.frees) g.frees;
           order =
               ap (λ z. z ++ t.swept.given) (sym (down-same now.nodes old.nodes (length t.cut.lower_left) x.1 (λ m some. sym (t.swept.frees.others m (omega (arith, some, g.counted m, apart m, count-append m (numbers_under leaves rows) old.chain, t.swept.split m, t.cut.counted m))))))
               ∙ ap (λ z. numbers_down old.nodes z x.1 ++ t.swept.given) (t.cut.left_height ∙ t.swept.height)
@@ -133,13 +133,13 @@ module _ {K V : Type 0} where
         }
 
     -- at last everything below the top is freed
-    pub sweep-last : (now : Table K V) (index : ℕ) → length top ≤ index → Swept most old now leaves rows top index → GivesAll old now (numbers_under leaves rows) (flat_map (numbers_down old.nodes (length rows)) (reverse (entry_items top)))
-    sweep-last now index past s =
+    pub sweep-last : {now : Table K V} {index : ℕ} → length top ≤ index → Swept most old now leaves rows top index → GivesAll old now (numbers_under leaves rows) (flat_map (numbers_down old.nodes (length rows)) (reverse (entry_items top)))
+    sweep-last {now} {index} past s =
         let none : drop index top ≡ [] = drop_all index top past in
-        let left = under_none most one old.nodes s.left_leaves s.left_rows (subst (λ (z : List (K × ℕ)). Under most old.nodes s.left_leaves s.left_rows z) none s.under) in
+        let left = under_none one (subst (λ (z : List (K × ℕ)). Under most old.nodes s.left_leaves s.left_rows z) none s.under) in
         let whole = s.order ∙ ap (λ z. flat_map (numbers_down old.nodes (length rows)) (reverse z)) (take_all index (entry_items top) (omega (arith, past, length-map top (λ (e : K × ℕ). e.1)))) in
         subst (λ (z : List ℕ). GivesAll old now (numbers_under leaves rows) z) whole (record {
-          frees = frees-wider old now s.own (numbers_under leaves rows) s.given (λ m zero. omega (arith, zero, s.split m)) s.frees;
+          frees = frees-wider (numbers_under leaves rows) (λ m zero. omega (arith, zero, s.split m)) s.frees;
           counted = λ m. omega (arith, s.counted m, s.split m, left m);
         })
 
@@ -150,8 +150,8 @@ item_at top index child found =
     (r.0, r.1, some_same r.0.1 child (sym (items-read top index ∙ ap (λ z. option_map (λ w. w.1) z) r.1) ∙ found))
 
 -- a row with one head has one node
-one_node : {K X : Type 0} (half most : ℕ) → 1 ≤ half → (row : List (LevelNode K X)) (first : K) (number : ℕ) (at : Seen half most row [] first number []) → row ≡ node number (at.e ∷ at.es) ∷ []
-one_node half most one row first number at =
+one_node : {K X : Type 0} {half most : ℕ} → 1 ≤ half → {row : List (LevelNode K X)} {first : K} {number : ℕ} (at : Seen half most row [] first number []) → row ≡ node number (at.e ∷ at.es) ∷ []
+one_node {half} {most} one {number} at =
     at.row_is ∙ ap (λ z. z ++ node number (at.e ∷ at.es) ∷ at.after) (nil_from_length at.before at.before_is) ∙ ap (λ z. node number (at.e ∷ at.es) ∷ z) (no_heads half most one at.after at.after_fit at.after_is)
 
 module _ {K V : Type 0} where
@@ -174,10 +174,10 @@ module _ {K V : Type 0} where
     pub height : 0 < length top → suc (length rows) ≡ length lower
     pub down : numbers_down slots (length lower) number ≡ number ∷ flat_map (numbers_down slots (length rows)) (reverse (entry_items top))
 
-  module _ (most : ℕ) (one : 1 ≤ half_of most) (slots : List (Content K V)) (leaves : List (LevelNode K V)) where
-    open_leaf : (lower : List (List (LevelNode K ℕ))) (first : K) (number : ℕ) → LeafUnder most slots leaves lower [] first number [] → Opened most slots leaves lower number
-    open_leaf lower first number s =
-        let row = one_node (half_of most) most one leaves first number s.at in
+  module _ {most : ℕ} (one : 1 ≤ half_of most) {slots : List (Content K V)} {leaves : List (LevelNode K V)} where
+    open_leaf : {lower : List (List (LevelNode K ℕ))} {first : K} {number : ℕ} → LeafUnder most slots leaves lower [] first number [] → Opened most slots leaves lower number
+    open_leaf {lower} {first} {number} s =
+        let row = one_node one s.at in
         record {
           low = [];
           rows = [];
@@ -191,9 +191,9 @@ module _ {K V : Type 0} where
           down = ap (λ z. numbers_down slots (length z) number) s.lower_is;
         }
 
-    open_inner : (lower : List (List (LevelNode K ℕ))) (first : K) (number : ℕ) → InnerUnder most slots leaves lower [] first number [] → Opened most slots leaves lower number
-    open_inner lower first number s =
-        let row = one_node 4 8 (omega arith) s.row first number s.at in
+    open_inner : {lower : List (List (LevelNode K ℕ))} {first : K} {number : ℕ} → InnerUnder most slots leaves lower [] first number [] → Opened most slots leaves lower number
+    open_inner {lower} {first} {number} s =
+        let row = one_node (omega arith) s.at in
         let es = s.at.e ∷ s.at.es in
         record {
           low = leaves;
@@ -217,8 +217,8 @@ module _ {K V : Type 0} where
           down = ap (λ z. numbers_down slots z number) s.count_is ∙ ap (λ z. number ∷ flat_map (numbers_down slots (length s.rows)) (reverse (children_of z))) (slot-is slots number (inner_content es) s.slot_is);
         }
 
-    pub under-open : (lower : List (List (LevelNode K ℕ))) (first : K) (number : ℕ) → Under most slots leaves lower ((first, number) ∷ []) → Opened most slots leaves lower number
-    under-open lower first number u = elim (node_under most one slots leaves lower [] first number [] u) [ inl s ↦ open_leaf lower first number s | inr s ↦ open_inner lower first number s ]
+    pub under-open : {lower : List (List (LevelNode K ℕ))} {first : K} {number : ℕ} → Under most slots leaves lower ((first, number) ∷ []) → Opened most slots leaves lower number
+    under-open {lower} {first} {number} u = elim (node_under most one slots leaves lower [] first number [] u) [ inl s ↦ open_leaf s | inr s ↦ open_inner s ]
 
   -- the progress of freeing a node's children, and the node itself
   pub record Sweeping (most : ℕ) (old now : Table K V) (leaves : List (LevelNode K V)) (lower : List (List (LevelNode K ℕ))) (number index : ℕ) : Type 0 where
@@ -229,10 +229,10 @@ module _ {K V : Type 0} where
     pub slot_is : slice_get now.nodes number ≡ Some opened.content
     pub off_chain : count number now.chain ≡ 0
 
-  pub sweeping : (most : ℕ) (old now : Table K V) (leaves : List (LevelNode K V)) (lower : List (List (LevelNode K ℕ))) (number index : ℕ)
+  pub sweeping : {most : ℕ} {old now : Table K V} {leaves : List (LevelNode K V)} {lower : List (List (LevelNode K ℕ))} {number index : ℕ}
       → Distinct (numbers_under leaves lower ++ old.chain) → (o : Opened most old.nodes leaves lower number)
       → Swept most old now o.low o.rows o.top index → Sweeping most old now leaves lower number index
-  sweeping most old now leaves lower number index apart o s =
+  sweeping {old} {leaves} {lower} {number} apart o s =
       let one : count number (number ∷ []) ≡ 1 = count-same number [] in
       let a = apart number in
       record {
@@ -245,39 +245,39 @@ module _ {K V : Type 0} where
       }
 
   -- the node is freed after its children
-  pub gives-down : (most : ℕ) (old now : Table K V) (leaves : List (LevelNode K V)) (lower : List (List (LevelNode K ℕ))) (number index : ℕ) → (s : Sweeping most old now leaves lower number index) →
+  pub gives-down : {most : ℕ} {old now : Table K V} {leaves : List (LevelNode K V)} {lower : List (List (LevelNode K ℕ))} {number index : ℕ} → (s : Sweeping most old now leaves lower number index) →
       GivesAll old now (numbers_under s.opened.low s.opened.rows) (flat_map (numbers_down old.nodes (length s.opened.rows)) (reverse (entry_items s.opened.top))) → GivesAll old (with_freed now number) (numbers_under leaves lower) (numbers_down old.nodes (length lower) number)
-  gives-down most old now leaves lower number index s all =
+  gives-down {old} {now} {leaves} {lower} {number} s all =
       let own = numbers_under s.opened.low s.opened.rows in
       let below = flat_map (numbers_down old.nodes (length s.opened.rows)) (reverse (entry_items s.opened.top)) in
       let apart : (m : ℕ) → 0 < count m below → count m (number ∷ []) ≡ 0 =
       λ m some. elim (cases_lt 0 (count m (number ∷ []))) [ inl here ↦ absurd (omega (arith, some, all.counted m, only_here m number own here s.alone)) | inr past ↦ omega (arith, past) ] in
       subst (λ (z : List ℕ). GivesAll old (with_freed now number) (numbers_under leaves lower) z) (sym s.opened.down) (record {
-        frees = frees-then old now (with_freed now number) (numbers_under leaves lower) (number ∷ []) below (number ∷ [])
+        frees = frees-then
             (λ m zero. omega (arith, zero, s.opened.counted m)) apart
-            (frees-wider old now own (numbers_under leaves lower) below (λ m zero. omega (arith, zero, s.opened.counted m)) all.frees)
+            (frees-wider (numbers_under leaves lower) (λ m zero. omega (arith, zero, s.opened.counted m)) all.frees)
             (frees-one now (with_freed now number) number s.opened.content (number ∷ []) s.slot_is refl
             (omega (arith, count-same number [])));
         counted = λ m. omega (arith, s.opened.counted m, all.counted m, count-append m (number ∷ []) below);
       })
 
   -- a leaf has nothing below it and is freed alone
-  pub gives-leaf : (most : ℕ) (one : 1 ≤ half_of most) (old : Table K V) (leaves : List (LevelNode K V))
-      (lower : List (List (LevelNode K ℕ))) (number : ℕ) → Distinct (numbers_under leaves lower ++ old.chain)
+  pub gives-leaf : {most : ℕ} (one : 1 ≤ half_of most) (old : Table K V) {leaves : List (LevelNode K V)}
+      {lower : List (List (LevelNode K ℕ))} {number : ℕ} → Distinct (numbers_under leaves lower ++ old.chain)
       → (o : Opened most old.nodes leaves lower number) → (IsInner o.content → ⊥)
       → GivesAll old (with_freed old number) (numbers_under leaves lower) (numbers_down old.nodes (length lower) number)
   unfolding sweeping
-  gives-leaf most one old leaves lower number apart o other =
+  gives-leaf {most} one old {leaves} {lower} {number} apart o other =
       let first = sweep-first most one old o.low o.rows o.top o.under in
-      let s = sweeping most old old leaves lower number 0 apart o first in
-      let all = sweep-last most one old o.low o.rows o.top old 0 (omega (arith, childless o.content other, ap length o.children_are, length-map o.top (λ (e : K × ℕ). e.1))) first in
-      gives-down most old old leaves lower number 0 s all
+      let s = sweeping apart o first in
+      let all = sweep-last most one old o.low o.rows o.top (omega (arith, childless o.content other, ap length o.children_are, length-map o.top (λ (e : K × ℕ). e.1))) first in
+      gives-down s all
 
   -- the child at the index, and everything below it
-  pub child_turn : (most : ℕ) (one : 1 ≤ half_of most) (old now : Table K V) (leaves : List (LevelNode K V))
-      (lower : List (List (LevelNode K ℕ))) (number index child : ℕ) → (s : Sweeping most old now leaves lower number index)
+  pub child_turn : {most : ℕ} (one : 1 ≤ half_of most) {old now : Table K V} {leaves : List (LevelNode K V)}
+      {lower : List (List (LevelNode K ℕ))} {number index : ℕ} (child : ℕ) → (s : Sweeping most old now leaves lower number index)
       → slice_get (children_of s.opened.content) index ≡ Some child → (x : K × ℕ) × (x.1 ≡ child) × (index < length s.opened.top)
       × Turn most one old s.opened.low s.opened.rows s.opened.top now index x
-  child_turn most one old now leaves lower number index child s found =
+  child_turn {most} one {old} {now} {index} child s found =
       let i = item_at s.opened.top index child (ap (λ z. slice_get z index) (sym s.opened.children_are) ∙ found) in
-      (i.0, i.2, slice_get_within s.opened.top index i.0 i.1, sweep-turn most one old s.opened.low s.opened.rows s.opened.top now index i.0 s.apart s.swept i.1)
+      (i.0, i.2, slice_get_within s.opened.top index i.0 i.1, sweep-turn most one old s.opened.low s.opened.rows s.opened.top i.0 s.apart s.swept i.1)

@@ -11,7 +11,7 @@ merge_above-requires g t c κs within =
     let j = c.rebalance_inner.ensures.joined c.if-rebalance_inner.true l.before _ l.entries l.after l.rest l.on_level in
     let less : c.rebalance_inner.new.self.size - (c.args.up + 1) < t = omega (arith, c.decreases, merge_low _ _ _ _ _ w, c.rebalance_inner.ensures.size) in
     let size = c.rebalance_inner.ensures.size in
-    let asked = merge_asks inner_content 4 8 _ _ _ _ _ l.before _ l.entries l.after l.rest _ _ _ j (c.args.up + 1) _ (add-one c.args.up) size in
+    let asked = merge_asks j (c.args.up + 1) _ (add-one c.args.up) size in
     (less, (within.0, (within.1, ((λ a m. search rules), (search rules, (search rules, (omega (arith, c.requires.height, size), asked)))))))
 
 pub returns-then-rebalance_inner-clause-merged : goal.returns-then-rebalance_inner-clause-merged
@@ -20,13 +20,13 @@ returns-then-rebalance_inner-clause-merged g t c = λ rows a k m k2 n b p.
     let j = c.rebalance_inner.ensures.joined c.if-rebalance_inner.true l.before _ l.entries l.after l.rest l.on_level in
     let size = c.rebalance_inner.ensures.size in
     let r = c.merge_above.ensures.merged l.rest (heads l.before) j.first.0 (get_or c.args.self.now.node c.args.up 0) j.key j.right (heads j.after') (rw (add-one, size) j.above) in
-    (suc r.0, merge_joined _ _ _ _ _ _ _ _ _ rows (a ++ (k, n) ∷ b) (length a) l _ _ _ _ _ j (omega arith) size r.0 r.1)
+    (suc r.0, merge_joined l j (omega arith) size r.0 r.1)
 
 pub returns-else-rebalance_inner-clause-merged : goal.returns-else-rebalance_inner-clause-merged
 returns-else-rebalance_inner-clause-merged g t c = λ rows a k m k2 n b p.
     let l = c.remove_merged.ensures rows a k m k2 n b p in
     let h = c.rebalance_inner.ensures.healed c.if-rebalance_inner.false l.before _ l.entries l.after l.rest l.on_level in
-    (0, merge_healed _ _ _ _ _ _ _ _ _ rows (a ++ (k, n) ∷ b) (length a) l h)
+    (0, merge_healed l h)
 
 pub remove_merged-requires : goal.remove_merged-requires
 remove_merged-requires g t c = (search rules, (search rules, (c.requires.height, c.requires.pending)))

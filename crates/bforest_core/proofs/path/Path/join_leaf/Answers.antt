@@ -8,48 +8,48 @@ pub balance_nodes-requires : goal.balance_nodes-requires
 balance_nodes-requires g c =
     let w = c.requires.pending in (
       search rules,
-      balance_asks leaf_content _ _ _ (half_leaf _ c.requires.capacity)
-          (leaf_stored g.row.N) _ _ _ _ _ _ c.index-self-0.result refl (omega arith) c.requires.height w.0 w.1 w.2 w.3 w.4 w.5 (length w.2)
-          (counts_here leaf_content _ _ _ (half_leaf _ c.requires.capacity) (leaf_stored g.row.N) _ _ _ _ _ _ c.index-self-0.result refl
-          (omega arith) c.requires.height w.0 w.1 w.2 w.3 w.4 w.5) (under_level _ _ _ _ _ _ w.0 w.1 w.2 w.3 w.4 w.5 c.requires.few)
+      balance_asks (half_leaf _ c.requires.capacity)
+          (leaf_stored g.row.N) _ c.index-self-0.result refl (omega arith) c.requires.height w.5 (length w.2)
+          (counts_here (half_leaf _ c.requires.capacity) (leaf_stored g.row.N) _ c.index-self-0.result refl
+          (omega arith) c.requires.height w.5) (under_level w.5 c.requires.few)
           (Some c.args.next) c.args.next refl c.requires.next,
     )
 
 pub update_next_separator-requires : goal.update_next_separator-requires
 update_next_separator-requires g c =
     let w = c.requires.pending in
-    let asked = rekey_asks leaf_content _ _ _ (half_leaf _ c.requires.capacity) (leaf_stored g.row.N) _ _ _ _ _ _ c.index-self-0.result refl
-    (omega arith) c.requires.height w.0 w.1 w.2 w.3 w.4 w.5 (length w.2)
-    (counts_here leaf_content _ _ _ (half_leaf _ c.requires.capacity) (leaf_stored g.row.N) _ _ _ _ _ _ c.index-self-0.result refl
-    (omega arith) c.requires.height w.0 w.1 w.2 w.3 w.4 w.5) (under_level _ _ _ _ _ _ w.0 w.1 w.2 w.3 w.4 w.5 c.requires.few)
-    (Some c.args.next) c.args.next refl c.requires.next c.balance_nodes.new.self _ c.balance_nodes.ensures.balanced _ c.in-Some.is in
+    let asked = rekey_asks (half_leaf _ c.requires.capacity) (leaf_stored g.row.N) _ c.index-self-0.result refl
+    (omega arith) c.requires.height w.5 (length w.2)
+    (counts_here (half_leaf _ c.requires.capacity) (leaf_stored g.row.N) _ c.index-self-0.result refl
+    (omega arith) c.requires.height w.5) (under_level w.5 c.requires.few)
+    (Some c.args.next) c.args.next refl c.requires.next c.balance_nodes.ensures.balanced _ c.in-Some.is in
     (search rules, (search rules, (c.requires.height, asked)))
 
 pub free_node-requires : goal.free_node-requires
 free_node-requires g c =
     let w = c.requires.pending in (
       search rules,
-      free_asks leaf_content _ _ _ (half_leaf _ c.requires.capacity)
-          (leaf_stored g.row.N) _ _ _ _ _ _ c.index-self-0.result refl (omega arith) c.requires.height w.0 w.1 w.2 w.3 w.4 w.5 (length w.2)
-          (counts_here leaf_content _ _ _ (half_leaf _ c.requires.capacity) (leaf_stored g.row.N) _ _ _ _ _ _ c.index-self-0.result refl
-          (omega arith) c.requires.height w.0 w.1 w.2 w.3 w.4 w.5) (under_level _ _ _ _ _ _ w.0 w.1 w.2 w.3 w.4 w.5 c.requires.few)
-          (Some c.args.next) c.args.next refl c.requires.next c.balance_nodes.new.self _ c.balance_nodes.ensures.balanced c.in-None.is,
+      free_asks (half_leaf _ c.requires.capacity)
+          (leaf_stored g.row.N) _ c.index-self-0.result refl (omega arith) c.requires.height w.5 (length w.2)
+          (counts_here (half_leaf _ c.requires.capacity) (leaf_stored g.row.N) _ c.index-self-0.result refl
+          (omega arith) c.requires.height w.5) (under_level w.5 c.requires.few)
+          (Some c.args.next) c.args.next refl c.requires.next c.balance_nodes.ensures.balanced c.in-None.is,
     )
 
 pub returns-in-Some-clause-healed : goal.returns-in-Some-clause-healed
 returns-in-Some-clause-healed g c = λ same before n es after rest p.
-    rekey_heals leaf_content _ _ _ (half_leaf _ c.requires.capacity) (leaf_stored g.row.N) _ _ _ _ _ _ c.index-self-0.result refl
-    (omega arith) c.requires.height before n es after rest p (length es)
-    (counts_here leaf_content _ _ _ (half_leaf _ c.requires.capacity) (leaf_stored g.row.N) _ _ _ _ _ _ c.index-self-0.result refl
-    (omega arith) c.requires.height before n es after rest p) (under_level _ _ _ _ _ _ before n es after rest p c.requires.few)
-    (Some c.args.next) c.args.next refl c.requires.next c.balance_nodes.new.self _ c.balance_nodes.ensures.balanced _ c.in-Some.is
+    rekey_heals (half_leaf _ c.requires.capacity) (leaf_stored g.row.N) _ c.index-self-0.result refl
+    (omega arith) c.requires.height p (length es)
+    (counts_here (half_leaf _ c.requires.capacity) (leaf_stored g.row.N) _ c.index-self-0.result refl
+    (omega arith) c.requires.height p) (under_level p c.requires.few)
+    (Some c.args.next) c.args.next refl c.requires.next c.balance_nodes.ensures.balanced _ c.in-Some.is
     c.update_next_separator.new.pool c.update_next_separator.ensures
 
 pub returns-in-None-clause-joined : goal.returns-in-None-clause-joined
 returns-in-None-clause-joined g c = λ same before n es after rest p.
-    free_joins leaf_content _ _ _ (half_leaf _ c.requires.capacity) (leaf_stored g.row.N) _ _ _ _ _ _ c.index-self-0.result refl
-    (omega arith) c.requires.height before n es after rest p (length es)
-    (counts_here leaf_content _ _ _ (half_leaf _ c.requires.capacity) (leaf_stored g.row.N) _ _ _ _ _ _ c.index-self-0.result refl
-    (omega arith) c.requires.height before n es after rest p) (under_level _ _ _ _ _ _ before n es after rest p c.requires.few)
-    (Some c.args.next) c.args.next refl c.requires.next c.balance_nodes.new.self _ c.balance_nodes.ensures.balanced c.in-None.is
+    free_joins (half_leaf _ c.requires.capacity) (leaf_stored g.row.N) _ c.index-self-0.result refl
+    (omega arith) c.requires.height p (length es)
+    (counts_here (half_leaf _ c.requires.capacity) (leaf_stored g.row.N) _ c.index-self-0.result refl
+    (omega arith) c.requires.height p) (under_level p c.requires.few)
+    (Some c.args.next) c.args.next refl c.requires.next c.balance_nodes.ensures.balanced c.in-None.is
     c.free_node.new.self c.free_node.ensures.freed

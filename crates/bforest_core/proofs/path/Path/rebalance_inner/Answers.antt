@@ -10,7 +10,7 @@ half_inner = record { two = omega arith; lo = omega arith; hi = omega arith }
 pub entries-left-requires : goal.entries-left-requires
 entries-left-requires g c =
     let w = c.requires.pending in
-    (search rules, counted_asks inner_content 4 8 _ half_inner (inner_stored g.row.N) _ _ _ _ _ _ c.index-self-level.result (add-one c.args.level) (omega arith) c.requires.height w.0 w.1 w.2 w.3 w.4 w.5)
+    (search rules, counted_asks half_inner (inner_stored g.row.N) _ c.index-self-level.result (add-one c.args.level) (omega arith) c.requires.height w.5)
 
 pub enter_next-requires : goal.enter_next-requires
 enter_next-requires g c =
@@ -20,8 +20,8 @@ enter_next-requires g c =
         search rules,
         (
           c.requires.height,
-          past_asks inner_content 4 8 _ half_inner (inner_stored g.row.N) _ _ _ _ _ _ c.index-self-level.result
-              (add-one c.args.level) (omega arith) c.requires.height w.0 w.1 w.2 w.3 w.4 w.5 c.entries-left.result c.entries-left.ensures.value
+          past_asks half_inner (inner_stored g.row.N) _ c.index-self-level.result
+              (add-one c.args.level) (omega arith) c.requires.height w.5 c.entries-left.result c.entries-left.ensures.value
               c.if-self-level.true,
         ),
       ),
@@ -29,62 +29,62 @@ enter_next-requires g c =
 
 pub returns-then-self-level-clause-healed : goal.returns-then-self-level-clause-healed
 returns-then-self-level-clause-healed g c = λ same before n es after rest p.
-    past_heals inner_content 4 8 _ half_inner (inner_stored g.row.N) _ _ _ _ _ _ c.index-self-level.result (add-one c.args.level) (omega arith) c.requires.height before n es after rest p c.entries-left.result c.entries-left.ensures.value c.if-self-level.true _ _ c.if-left-ge-MIN_CHILDREN.true
+    past_heals half_inner (inner_stored g.row.N) _ c.index-self-level.result (add-one c.args.level) (omega arith) c.requires.height p c.entries-left.result c.entries-left.ensures.value c.if-self-level.true _ _ c.if-left-ge-MIN_CHILDREN.true
     c.enter_next.ensures.moved c.enter_next.ensures.first c.enter_next.ensures.nodes_below c.enter_next.ensures.entries_below c.enter_next.ensures.same_top
 
 pub returns-else-self-level-clause-healed : goal.returns-else-self-level-clause-healed
 returns-else-self-level-clause-healed g c = λ same before n es after rest p.
-    stay_heals inner_content 4 8 _ half_inner (inner_stored g.row.N) _ _ _ _ _ _ c.index-self-level.result (add-one c.args.level) (omega arith) c.requires.height before n es after rest p c.entries-left.result c.entries-left.ensures.value c.if-left-ge-MIN_CHILDREN.true c.if-self-level.false
+    stay_heals half_inner (inner_stored g.row.N) _ c.index-self-level.result (add-one c.args.level) (omega arith) c.requires.height p c.entries-left.result c.entries-left.ensures.value c.if-left-ge-MIN_CHILDREN.true c.if-self-level.false
 
 pub right_sibling-requires : goal.right_sibling-requires
 right_sibling-requires g c =
     let w = c.requires.pending in
-    (search rules, (search rules, (c.requires.height, beside_asks inner_content 4 8 _ half_inner (inner_stored g.row.N) _ _ _ _ _ _ c.index-self-level.result (add-one c.args.level) (omega arith) c.requires.height w.0 w.1 w.2 w.3 w.4 w.5)))
+    (search rules, (search rules, (c.requires.height, beside_asks half_inner (inner_stored g.row.N) _ c.index-self-level.result (add-one c.args.level) (omega arith) c.requires.height w.5)))
 
 pub balance_nodes-requires : goal.balance_nodes-requires
 balance_nodes-requires g c =
     let w = c.requires.pending in (
       search rules,
-      balance_asks inner_content 4 8 _ half_inner (inner_stored g.row.N) _ _ _ _ _ _ c.index-self-level.result
-          (add-one c.args.level) (omega arith) c.requires.height w.0 w.1 w.2 w.3 w.4 w.5 c.entries-left.result c.entries-left.ensures.value
+      balance_asks half_inner (inner_stored g.row.N) _ c.index-self-level.result
+          (add-one c.args.level) (omega arith) c.requires.height w.5 c.entries-left.result c.entries-left.ensures.value
           c.if-left-ge-MIN_CHILDREN.false _ _ c.in-Some.is c.right_sibling.ensures,
     )
 
 pub update_next_separator-requires : goal.update_next_separator-requires
 update_next_separator-requires g c =
     let w = c.requires.pending in
-    let asked = rekey_asks inner_content 4 8 _ half_inner (inner_stored g.row.N) _ _ _ _ _ _ c.index-self-level.result
-    (add-one c.args.level) (omega arith) c.requires.height w.0 w.1 w.2 w.3 w.4 w.5 c.entries-left.result c.entries-left.ensures.value
+    let asked = rekey_asks half_inner (inner_stored g.row.N) _ c.index-self-level.result
+    (add-one c.args.level) (omega arith) c.requires.height w.5 c.entries-left.result c.entries-left.ensures.value
     c.if-left-ge-MIN_CHILDREN.false _ _ c.in-Some.is c.right_sibling.ensures
-    c.balance_nodes.new.self _ c.balance_nodes.ensures.balanced _ c.in-Some-balance_nodes.is in
+    c.balance_nodes.ensures.balanced _ c.in-Some-balance_nodes.is in
     (search rules, (search rules, (c.requires.height, asked)))
 
 pub free_node-requires : goal.free_node-requires
 free_node-requires g c =
     let w = c.requires.pending in
-    let asked = free_asks inner_content 4 8 _ half_inner (inner_stored g.row.N) _ _ _ _ _ _ c.index-self-level.result (add-one c.args.level)
-    (omega arith) c.requires.height w.0 w.1 w.2 w.3 w.4 w.5 c.entries-left.result c.entries-left.ensures.value
+    let asked = free_asks half_inner (inner_stored g.row.N) _ c.index-self-level.result (add-one c.args.level)
+    (omega arith) c.requires.height w.5 c.entries-left.result c.entries-left.ensures.value
     c.if-left-ge-MIN_CHILDREN.false _ _ c.in-Some.is c.right_sibling.ensures
-    c.balance_nodes.new.self _ c.balance_nodes.ensures.balanced c.in-None-balance_nodes.is in
+    c.balance_nodes.ensures.balanced c.in-None-balance_nodes.is in
     (search rules, asked)
 
 pub returns-in-None-clause-healed : goal.returns-in-None-clause-healed
 returns-in-None-clause-healed g c = λ same before n es after rest p.
-    last_heals inner_content 4 8 _ half_inner (inner_stored g.row.N) _ _ _ _ _ _ c.index-self-level.result (add-one c.args.level) (omega arith) c.requires.height before n es after rest p c.in-None.ensures
+    last_heals half_inner (inner_stored g.row.N) _ c.index-self-level.result (add-one c.args.level) (omega arith) c.requires.height p c.in-None.ensures
 
 pub returns-in-Some-balance_nodes-clause-healed : goal.returns-in-Some-balance_nodes-clause-healed
 returns-in-Some-balance_nodes-clause-healed g c = λ same before n es after rest p.
-    rekey_heals inner_content 4 8 _ half_inner (inner_stored g.row.N) _ _ _ _ _ _ c.index-self-level.result (add-one c.args.level)
-    (omega arith) c.requires.height before n es after rest p c.entries-left.result c.entries-left.ensures.value
+    rekey_heals half_inner (inner_stored g.row.N) _ c.index-self-level.result (add-one c.args.level)
+    (omega arith) c.requires.height p c.entries-left.result c.entries-left.ensures.value
     c.if-left-ge-MIN_CHILDREN.false _ _ c.in-Some.is c.right_sibling.ensures
-    c.balance_nodes.new.self _ c.balance_nodes.ensures.balanced _ c.in-Some-balance_nodes.is c.update_next_separator.new.pool c.update_next_separator.ensures
+    c.balance_nodes.ensures.balanced _ c.in-Some-balance_nodes.is c.update_next_separator.new.pool c.update_next_separator.ensures
 
 pub returns-in-None-balance_nodes-clause-joined : goal.returns-in-None-balance_nodes-clause-joined
 returns-in-None-balance_nodes-clause-joined g c = λ same before n es after rest p.
-    free_joins inner_content 4 8 _ half_inner (inner_stored g.row.N) _ _ _ _ _ _ c.index-self-level.result (add-one c.args.level)
-    (omega arith) c.requires.height before n es after rest p c.entries-left.result c.entries-left.ensures.value
+    free_joins half_inner (inner_stored g.row.N) _ c.index-self-level.result (add-one c.args.level)
+    (omega arith) c.requires.height p c.entries-left.result c.entries-left.ensures.value
     c.if-left-ge-MIN_CHILDREN.false _ _ c.in-Some.is c.right_sibling.ensures
-    c.balance_nodes.new.self _ c.balance_nodes.ensures.balanced c.in-None-balance_nodes.is c.free_node.new.self c.free_node.ensures.freed
+    c.balance_nodes.ensures.balanced c.in-None-balance_nodes.is c.free_node.new.self c.free_node.ensures.freed
 
 pub offset_bounds-self-level : goal.offset_bounds-self-level
 offset_bounds-self-level g c = omega (arith, c.requires.pending.5.above.height, c.requires.height)

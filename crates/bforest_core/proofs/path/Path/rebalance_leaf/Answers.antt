@@ -14,7 +14,7 @@ over_half n m c high = omega (arith, c.odd)
 pub entries-left-requires : goal.entries-left-requires
 entries-left-requires g c =
     let w = c.requires.pending in
-    (search rules, counted_asks leaf_content _ _ _ (half_leaf _ c.requires.capacity) (leaf_stored g.row.N) _ _ _ _ _ _ c.index-self-0.result refl (omega arith) c.requires.height w.0 w.1 w.2 w.3 w.4 w.5)
+    (search rules, counted_asks (half_leaf _ c.requires.capacity) (leaf_stored g.row.N) _ c.index-self-0.result refl (omega arith) c.requires.height w.5)
 
 pub enter_next-requires : goal.enter_next-requires
 enter_next-requires g c =
@@ -24,39 +24,39 @@ enter_next-requires g c =
         search rules,
         (
           c.requires.height,
-          past_asks leaf_content _ _ _ (half_leaf _ c.requires.capacity)
-              (leaf_stored g.row.N) _ _ _ _ _ _ c.index-self-0.result refl
-              (omega arith) c.requires.height w.0 w.1 w.2 w.3 w.4 w.5 c.entries-left.result c.entries-left.ensures.value c.if-self-left.true,
+          past_asks (half_leaf _ c.requires.capacity)
+              (leaf_stored g.row.N) _ c.index-self-0.result refl
+              (omega arith) c.requires.height w.5 c.entries-left.result c.entries-left.ensures.value c.if-self-left.true,
         ),
       ),
     )
 
 pub returns-then-self-left-clause-healed : goal.returns-then-self-left-clause-healed
 returns-then-self-left-clause-healed g c = λ same before n es after rest p.
-    past_heals leaf_content _ _ _ (half_leaf _ c.requires.capacity) (leaf_stored g.row.N) _ _ _ _ _ _ c.index-self-0.result refl
-    (omega arith) c.requires.height before n es after rest p c.entries-left.result c.entries-left.ensures.value c.if-self-left.true
+    past_heals (half_leaf _ c.requires.capacity) (leaf_stored g.row.N) _ c.index-self-0.result refl
+    (omega arith) c.requires.height p c.entries-left.result c.entries-left.ensures.value c.if-self-left.true
     _ _ (over_half _ _ c.requires.capacity c.if-left.true)
     c.enter_next.ensures.moved c.enter_next.ensures.first c.enter_next.ensures.nodes_below c.enter_next.ensures.entries_below c.enter_next.ensures.same_top
 
 pub returns-else-self-left-clause-healed : goal.returns-else-self-left-clause-healed
 returns-else-self-left-clause-healed g c = λ same before n es after rest p.
-    stay_heals leaf_content _ _ _ (half_leaf _ c.requires.capacity) (leaf_stored g.row.N) _ _ _ _ _ _ c.index-self-0.result refl
-    (omega arith) c.requires.height before n es after rest p c.entries-left.result c.entries-left.ensures.value
+    stay_heals (half_leaf _ c.requires.capacity) (leaf_stored g.row.N) _ c.index-self-0.result refl
+    (omega arith) c.requires.height p c.entries-left.result c.entries-left.ensures.value
     (over_half _ _ c.requires.capacity c.if-left.true) c.if-self-left.false
 
 pub right_sibling-requires : goal.right_sibling-requires
 right_sibling-requires g c =
     let w = c.requires.pending in
-    (search rules, (search rules, (c.requires.height, beside_asks leaf_content _ _ _ (half_leaf _ c.requires.capacity) (leaf_stored g.row.N) _ _ _ _ _ _ c.index-self-0.result refl (omega arith) c.requires.height w.0 w.1 w.2 w.3 w.4 w.5)))
+    (search rules, (search rules, (c.requires.height, beside_asks (half_leaf _ c.requires.capacity) (leaf_stored g.row.N) _ c.index-self-0.result refl (omega arith) c.requires.height w.5)))
 
 pub join_leaf-requires : goal.join_leaf-requires
 join_leaf-requires g c =
     let w = c.requires.pending in
-    let few = under_here leaf_content _ _ _ (half_leaf _ c.requires.capacity) (leaf_stored g.row.N) _ _ _ _ _ _ c.index-self-0.result refl
-    (omega arith) c.requires.height w.0 w.1 w.2 w.3 w.4 w.5 c.entries-left.result c.entries-left.ensures.value
+    let few = under_here (half_leaf _ c.requires.capacity) (leaf_stored g.row.N) _ c.index-self-0.result refl
+    (omega arith) c.requires.height w.5 c.entries-left.result c.entries-left.ensures.value
     (under_half _ _ c.requires.capacity c.if-left.false) in
     (search rules, (search rules, (c.requires.capacity, (c.requires.height, (beside_is _ _ _ _ _ _ _ c.right_sibling.ensures c.in-Some.is, (few, w))))))
 
 pub returns-in-None-clause-healed : goal.returns-in-None-clause-healed
 returns-in-None-clause-healed g c = λ same before n es after rest p.
-    last_heals leaf_content _ _ _ (half_leaf _ c.requires.capacity) (leaf_stored g.row.N) _ _ _ _ _ _ c.index-self-0.result refl (omega arith) c.requires.height before n es after rest p c.in-None.ensures
+    last_heals (half_leaf _ c.requires.capacity) (leaf_stored g.row.N) _ c.index-self-0.result refl (omega arith) c.requires.height p c.in-None.ensures

@@ -11,9 +11,9 @@ pub halve_leaf-half-requires : goal.halve_leaf-half-requires
 halve_leaf-half-requires g c =
     let w = c.requires.placed in
     let ms = c.args.self.now.node in
-    let d = leaf_spot _ _ _ _ _ w.0 w.1 w.2 in
+    let d = leaf_spot w.2 in
     let full = leaf_full_is _ _ (get_or ms 0 0) (d.l ++ d.r) d.slot_is c.requires.full in
-    (search rules, (search rules, (omega (arith, w.3, leaf_need_full _ _ _ _ w.0 w.1 d full, need_some (length d.before) (map sizes w.0.above)), (c.requires.full, (w.0, w.1, w.2)))))
+    (search rules, (search rules, (omega (arith, w.3, leaf_need_full d full, need_some (length d.before) (map sizes w.0.above)), (c.requires.full, (w.0, w.1, w.2)))))
 
 pub insert_above-requires : goal.insert_above-requires
 insert_above-requires g c =
@@ -31,8 +31,8 @@ insert_above-requires g c =
             h.first.0,
             heads h.after,
             rw (c.halve_leaf-half.ensures.size, here) h.above,
-            omega (arith, above_leaf need_above _ _ _ _ _ _ _ _ _ _ _ _ _ h, w.3, ap length h.chain_is),
-            omega (arith, ap length (above_leaf gain_above _ _ _ _ _ _ _ _ _ _ _ _ _ h), w.4),
+            omega (arith, above_leaf need_above h, w.3, ap length h.chain_is),
+            omega (arith, ap length (above_leaf gain_above h), w.4),
           ),
         ),
       ),
@@ -47,5 +47,5 @@ returns g c = record {
       let h = c.halve_leaf-half.ensures.halved tree place p in
       let here = get_or_default s0.node 0 c.index-self-0.result 0 (omega arith) in
       let r = c.insert_above.ensures h.rows (heads h.before) h.first.0 (heads h.after) (rw (c.halve_leaf-half.ensures.size, here) h.above) in
-      inserted _ c.args.pool.now c.halve_leaf-half.new.pool c.insert_above.new.pool s0.node s0.entry s1.node s1.entry s2.node s2.entry s0.size s2.size tree place _ _ _ _ r.0 _ _ c.halve_leaf-half.ensures.size here p h r.1 r.2;
+      inserted _ c.halve_leaf-half.ensures.size here p h r.1 r.2;
 }

@@ -9,7 +9,7 @@ use Rattle.bforest_core.proofs.pool.NodePool.+freeing.Goals as goal
 pub free_below-node-requires : goal.free_below-node-requires
 free_below-node-requires g t c =
     let w = c.requires.under in
-    let o = under-open g.row.N (some_leaf _ c.requires.capacity) c.args.self.now.nodes w.0 w.1 w.2 c.args.node w.3 in
+    let o = under-open (some_leaf _ c.requires.capacity) w.3 in
     (search rules, (search rules, slice_get_within c.args.self.now.nodes c.args.node o.content o.slot_is))
 
 pub free_below-free_under-requires : goal.free_below-free_under-requires
@@ -20,38 +20,38 @@ pub free_below-free_node-requires : goal.free_below-free_node-requires
 free_below-free_node-requires g t c =
     let one = some_leaf _ c.requires.capacity in
     let w = c.requires.under in
-    let o = under-open g.row.N one c.args.self.now.nodes w.0 w.1 w.2 c.args.node w.3 in
-    let s = sweeping g.row.N c.args.self.now c.args.self.now w.0 w.1 c.args.node 0 w.4 o (sweep-first g.row.N one c.args.self.now o.low o.rows o.top o.under) in
+    let o = under-open one w.3 in
+    let s = sweeping w.4 o (sweep-first g.row.N one c.args.self.now o.low o.rows o.top o.under) in
     (search rules, is_used c.args.self.now c.args.node o.content o.slot_is s.off_chain)
 
 pub free_below-returns-else-is_inner : goal.free_below-returns-else-is_inner
 free_below-returns-else-is_inner g t c = λ leaves lower first under apart.
     let one = some_leaf _ c.requires.capacity in
-    let o = under-open g.row.N one c.args.self.now.nodes leaves lower first c.args.node under in
+    let o = under-open one under in
     let content : c.node.result.now ≡ o.content = some_same c.node.result.now o.content (sym c.node.ensures.value ∙ o.slot_is) in
     let other : IsInner o.content → ⊥ = λ i. false≢true (sym c.if-is_inner.false ∙ c.is_inner.ensures.inner.1 (subst IsInner (sym content) i)) in
-    subst (λ z. GivesAll c.args.self.now z (numbers_under leaves lower) (numbers_down c.args.self.now.nodes (length lower) c.args.node)) (sym c.free_node.ensures.freed) (gives-leaf g.row.N one c.args.self.now leaves lower c.args.node apart o other)
+    subst (λ z. GivesAll c.args.self.now z (numbers_under leaves lower) (numbers_down c.args.self.now.nodes (length lower) c.args.node)) (sym c.free_node.ensures.freed) (gives-leaf one c.args.self.now apart o other)
 
 pub free_under-child_count-index-end-requires : goal.free_under-child_count-index-end-requires
 free_under-child_count-index-end-requires g t c =
     let w = c.requires.under in
-    let o = under-open g.row.N (some_leaf _ c.requires.capacity) c.args.self.now.nodes w.0 w.1 w.2 c.args.node w.3 in
+    let o = under-open (some_leaf _ c.requires.capacity) w.3 in
     (search rules, slice_get_within c.args.self.now.nodes c.args.node o.content o.slot_is)
 
 pub free_under-loop-index-init : goal.free_under-loop-index-init
-free_under-loop-index-init g t c = λ leaves lower apart o. sweeping g.row.N c.args.self.now c.args.self.now leaves lower c.args.node 0 apart o (sweep-first g.row.N (some_leaf _ c.requires.capacity) c.args.self.now o.low o.rows o.top o.under)
+free_under-loop-index-init g t c = λ leaves lower apart o. sweeping apart o (sweep-first g.row.N (some_leaf _ c.requires.capacity) c.args.self.now o.low o.rows o.top o.under)
 
 pub free_under-node-requires : goal.free_under-node-requires
 free_under-node-requires g t c =
     let w = c.requires.under in
-    let o = under-open g.row.N (some_leaf _ c.requires.capacity) c.args.self.now.nodes w.0 w.1 w.2 c.args.node w.3 in
+    let o = under-open (some_leaf _ c.requires.capacity) w.3 in
     let s = c.loop-index.invariant w.0 w.1 w.4 o in
     (search rules, (search rules, slice_get_within c.loop-index.self.nodes c.args.node s.opened.content s.slot_is))
 
 pub free_under-child-child-requires : goal.free_under-child-child-requires
 free_under-child-child-requires g t c =
     let w = c.requires.under in
-    let o = under-open g.row.N (some_leaf _ c.requires.capacity) c.args.self.now.nodes w.0 w.1 w.2 c.args.node w.3 in
+    let o = under-open (some_leaf _ c.requires.capacity) w.3 in
     let s = c.loop-index.invariant w.0 w.1 w.4 o in
     let content : c.node.result.now ≡ s.opened.content = some_same c.node.result.now s.opened.content (sym c.node.ensures.value ∙ s.slot_is) in
     let n = c.child_count-index-end.ensures s.opened.content s.opened.slot_is in
@@ -62,11 +62,11 @@ pub free_under-free_below-requires : goal.free_under-free_below-requires
 free_under-free_below-requires g t c κs within =
     let one = some_leaf _ c.requires.capacity in
     let w = c.requires.under in
-    let o = under-open g.row.N one c.args.self.now.nodes w.0 w.1 w.2 c.args.node w.3 in
+    let o = under-open one w.3 in
     let s = c.loop-index.invariant w.0 w.1 w.4 o in
     let content : c.node.result.now ≡ s.opened.content = some_same c.node.result.now s.opened.content (sym c.node.ensures.value ∙ s.slot_is) in
     let found = ap (λ z. slice_get (children_of z) c.loop-index.index) (sym content) ∙ c.child-child.ensures.child in
-    let x = child_turn g.row.N one c.args.self.now c.loop-index.self w.0 w.1 c.args.node c.loop-index.index c.child-child.result s found in
+    let x = child_turn one c.child-child.result s found in
     let high = s.opened.height (omega (arith, x.2)) in
     let low : suc (c.args.depth + length x.3.cut.lower_left) ≤ 16 = omega (arith, w.5, high, x.3.cut.left_height, x.3.swept.height) in
     let under = subst (λ (z : ℕ). Under g.row.N c.loop-index.self.nodes x.3.cut.leaves_left x.3.cut.lower_left ((x.0.0, z) ∷ [])) x.1 x.3.under in
@@ -78,28 +78,28 @@ free_under-loop-index-preserved g t c = λ leaves lower apart o.
     let s = c.loop-index.invariant leaves lower apart o in
     let content : c.node.result.now ≡ s.opened.content = some_same c.node.result.now s.opened.content (sym c.node.ensures.value ∙ s.slot_is) in
     let found = ap (λ z. slice_get (children_of z) c.loop-index.index) (sym content) ∙ c.child-child.ensures.child in
-    let x = child_turn g.row.N one c.args.self.now c.loop-index.self leaves lower c.args.node c.loop-index.index c.child-child.result s found in
+    let x = child_turn one c.child-child.result s found in
     let under = subst (λ (z : ℕ). Under g.row.N c.loop-index.self.nodes x.3.cut.leaves_left x.3.cut.lower_left ((x.0.0, z) ∷ [])) x.1 x.3.under in
     let gone =
     subst (λ (z : ℕ). GivesAll c.loop-index.self c.free_below.new.self (numbers_under x.3.cut.leaves_left x.3.cut.lower_left) (numbers_down c.loop-index.self.nodes (length x.3.cut.lower_left) z)) (sym x.1)
     (c.free_below.ensures x.3.cut.leaves_left x.3.cut.lower_left x.0.0 under x.3.apart) in
     let next : suc c.loop-index.index ≡ c.loop-index.index + 1 = omega arith in
-    let swept = sweep-next g.row.N one c.args.self.now s.opened.low s.opened.rows s.opened.top c.loop-index.self c.free_below.new.self c.loop-index.index x.0 s.apart x.3 gone in
-    subst (λ (z : ℕ). Sweeping g.row.N c.args.self.now c.free_below.new.self leaves lower c.args.node z) next (sweeping g.row.N c.args.self.now c.free_below.new.self leaves lower c.args.node (suc c.loop-index.index) apart s.opened swept)
+    let swept = sweep-next g.row.N one c.args.self.now s.opened.low s.opened.rows s.opened.top s.apart x.3 gone in
+    subst (λ (z : ℕ). Sweeping g.row.N c.args.self.now c.free_below.new.self leaves lower c.args.node z) next (sweeping apart s.opened swept)
 
 pub free_under-free_node-requires : goal.free_under-free_node-requires
 free_under-free_node-requires g t c =
     let w = c.requires.under in
-    let o = under-open g.row.N (some_leaf _ c.requires.capacity) c.args.self.now.nodes w.0 w.1 w.2 c.args.node w.3 in
+    let o = under-open (some_leaf _ c.requires.capacity) w.3 in
     let s = c.loop-index.invariant w.0 w.1 w.4 o in
     (search rules, is_used c.loop-index.self c.args.node s.opened.content s.slot_is s.off_chain)
 
 pub free_under-returns : goal.free_under-returns
 free_under-returns g t c = λ leaves lower first under apart.
     let one = some_leaf _ c.requires.capacity in
-    let o = under-open g.row.N one c.args.self.now.nodes leaves lower first c.args.node under in
+    let o = under-open one under in
     let s = c.loop-index.invariant leaves lower apart o in
-    let all = sweep-last g.row.N one c.args.self.now s.opened.low s.opened.rows s.opened.top c.loop-index.self c.loop-index.index
+    let all = sweep-last g.row.N one c.args.self.now s.opened.low s.opened.rows s.opened.top
     (omega (
       arith,
       c.loop-index-test.false,
@@ -107,4 +107,4 @@ free_under-returns g t c = λ leaves lower first under apart.
       ap length s.opened.children_are,
       length-map s.opened.top (λ (e : g.row.K.Denot × ℕ). e.1),
     )) s.swept in
-    subst (λ z. GivesAll c.args.self.now z (numbers_under leaves lower) (numbers_down c.args.self.now.nodes (length lower) c.args.node)) (sym c.free_node.ensures.freed) (gives-down g.row.N c.args.self.now c.loop-index.self leaves lower c.args.node c.loop-index.index s all)
+    subst (λ z. GivesAll c.args.self.now z (numbers_under leaves lower) (numbers_down c.args.self.now.nodes (length lower) c.args.node)) (sym c.free_node.ensures.freed) (gives-down s all)

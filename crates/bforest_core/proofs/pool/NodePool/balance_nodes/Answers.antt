@@ -26,12 +26,12 @@ balance-requires g c =
 
 pub invariant_of-self : goal.invariant_of-self
 invariant_of-self g c =
-    let pair = IsPool-set_two _ _ _ _ _ c.number.result c.number-2.result c.balance.new.self c.balance.new.rhs _ _ _ c.self.view_is c.number.ensures.value c.number-2.ensures.value c.requires.left.off_chain c.requires.right.off_chain c.self.invariant in
+    let pair = IsPool-set_two c.number.result c.number-2.result c.balance.new.self c.balance.new.rhs _ _ _ c.self.view_is c.number.ensures.value c.number-2.ensures.value c.requires.left.off_chain c.requires.right.off_chain c.self.invariant in
     rw (c.as_mut_slice.ensures.value, refilled_two c.self.inside.nodes.items c.number.result c.number-2.result c.balance.new.self c.balance.new.rhs (vec_len c.self.inside.nodes) (omega arith)) pair.0
 
 pub returns : goal.returns
 returns g c =
-    let pair = IsPool-set_two _ _ _ _ _ c.number.result c.number-2.result c.balance.new.self c.balance.new.rhs _ _ _ c.self.view_is c.number.ensures.value c.number-2.ensures.value c.requires.left.off_chain c.requires.right.off_chain c.self.invariant in
+    let pair = IsPool-set_two c.number.result c.number-2.result c.balance.new.self c.balance.new.rhs _ _ _ c.self.view_is c.number.ensures.value c.number-2.ensures.value c.requires.left.off_chain c.requires.right.off_chain c.self.invariant in
     record {
       balanced = record {
         under = c.two_nodes-lhs.result.0.now;

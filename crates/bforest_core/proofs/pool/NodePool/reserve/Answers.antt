@@ -8,13 +8,13 @@ use Rattle.bforest_core.proofs.pool.NodePool.reserve.Goals as goal
 pub invariant_of-self : goal.invariant_of-self
 invariant_of-self g c =
     let size : vec_len c.self.inside.nodes ≡ length c.self.inside.nodes.items = omega arith in
-    let grown = IsPool-grown _ _ _ _ _ (c.args.n - c.self.inside.free) c.args.n (omega arith) (omega arith) c.self.invariant in
+    let grown = IsPool-grown (c.args.n - c.self.inside.free) c.args.n (omega arith) (omega arith) c.self.invariant in
     rw (c.in-Ok.ensures.ok, c.in-Ok.ensures.first, size) grown.0
 
 pub returns-in-Ok-clause-ok : goal.returns-in-Ok-clause-ok
 returns-in-Ok-clause-ok g c =
     let size : vec_len c.self.inside.nodes ≡ length c.self.inside.nodes.items = omega arith in
-    let grown = IsPool-grown _ _ _ _ _ (c.args.n - c.self.inside.free) c.args.n (omega arith) (omega arith) c.self.invariant in
+    let grown = IsPool-grown (c.args.n - c.self.inside.free) c.args.n (omega arith) (omega arith) c.self.invariant in
     rw (← c.self.view_is, c.in-Ok.ensures.ok, c.in-Ok.ensures.first, size, c.self.invariant.counted, front_of-is _ _ _ c.self.invariant.linked, grown.1)
 
 pub returns-in-Ok-clause-full : goal.returns-in-Ok-clause-full

@@ -8,7 +8,7 @@ returns-clause-table g c =
     rw (← c.self.view_is) (record {
       distinct = c.self.invariant.distinct;
       free = IsChain-free _ _ _ c.self.invariant.linked;
-      free_within = omega (arith, c.self.invariant.counted, free_within _ _ _ _ _ c.self.invariant);
+      free_within = omega (arith, c.self.invariant.counted, free_within c.self.invariant);
       slots_within = c.self.invariant.slots_within;
       limit_within = c.self.invariant.limit_within;
     })
