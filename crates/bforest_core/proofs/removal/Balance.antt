@@ -1,7 +1,7 @@
 -- Leaves and inner nodes as stored, for the calls on two neighbours.
-use Rattle.std.proofs.Common.{◌≡◌, ℕ, suc, ◌+◌, ◌-◌, ◌/◌, ◌≤◌, ◌<◌, ◌≢◌, List, [], ◌∷◌, ◌++◌, length, slice_get, Option, Some, None, refl, sym, ap, ◌∙◌, subst, inl, inr, length-append, arith}
+use Rattle.std.proofs.Common.{true, ◌≡◌, ℕ, suc, ◌+◌, ◌-◌, ◌/◌, ◌≤◌, ◌<◌, ◌≢◌, List, [], ◌∷◌, ◌++◌, length, slice_get, Option, Some, None, refl, sym, ap, ◌∙◌, subst, inl, inr, length-append, arith}
 use Rattle.bforest_core.proofs.Words.{length-map, map-append, cases_lt, Content, Inner, Leaf, IsFree, IsSameKind, entry_count, entry_capacity, joined, IsCut, Balances, left_share, Table, with_node, IsBalancedAt, Frees}
-use Rattle.bforest_core.proofs.Words.{inner_content, leaf_content, entry_keys, entry_items}
+use Rattle.bforest_core.proofs.Words.{Bool, false, IsLeafCapacity, content_at, half_at, most_at, inner_content, leaf_content, entry_keys, entry_items}
 use Rattle.bforest_core.proofs.table.Stored.{some_same, Parts, inner_cuts, leaf_cuts}
 use Rattle.bforest_core.proofs.table.Tables.{count-same, puts}
 use Rattle.bforest_core.proofs.rows.LevelRows.{head-is}
@@ -45,6 +45,16 @@ module _ {K : Type 0} where
     joins = λ e es f fs. sym (ap (λ w. Leaf w (entry_items ((e ∷ es) ++ f ∷ fs))) (map-append (λ w. w.0) (e ∷ es) (f ∷ fs)) ∙ ap (λ w. Leaf (entry_keys (e ∷ es) ++ f.0 ∷ entry_keys fs) w) (map-append (λ w. w.1) (e ∷ es) (f ∷ fs)));
     cuts = λ x xs y ys q left right key e c. leaf_cuts V (x ∷ xs) y ys q left right key e c;
   }
+
+-- a leaf is half full with half of its capacity, an inner node with 4 children
+pub kind_half : {n : ℕ} (leaf : Bool) → (leaf ≡ true → IsLeafCapacity n) → IsHalf (half_at leaf n) (most_at leaf n)
+kind_half true capacity = let c = capacity refl in record { two = omega (arith, c.least); lo = omega (arith, c.odd); hi = omega (arith, c.odd) }
+kind_half false capacity = record { two = omega arith; lo = omega arith; hi = omega arith }
+
+-- leaves and inner nodes are stored
+pub kind_stored : {K V : Type 0} (n : ℕ) (leaf : Bool) → IsStored {K = K} {V = V} (content_at leaf) n (most_at leaf n)
+kind_stored n true = leaf_stored n
+kind_stored n false = inner_stored n
 
 module _ {K V X : Type 0} (content : List (K × X) → Content K V) where
   -- two slots were written

@@ -1,12 +1,10 @@
--- Restoring a tree whose leaf lost the entry on which a path stood: the answers of `heal`, `fill_leaf` and
--- `heal_alone`.
+-- Restoring a tree whose leaf lost the entry on which a path stood: the answers of `heal` and `heal_alone`.
 use Rattle.std.proofs.Common.{◌≡◌, ◌≢◌, ℕ, ◌+◌, ◌/◌, ◌≤◌, ◌<◌, List, [], ◌∷◌, ◌++◌, None, Some, ap, arith, get_or, inl, inr, length, length-append, refl, slice_get, sym, ◌∙◌}
 use Rattle.std.proofs.lemmas.List.{set-set}
 use Rattle.std.proofs.lemmas.List.Edits.{length-remove}
-use Rattle.bforest_core.proofs.Words.{nil_from_length, Content, Free, EntryTaken, HasOthers, IsSingle, IsUsed, LeafLoss, Removed, Shrinks, StandsIn, Table, Tree, count, entry_count, entry_keys, front_of, half_of, leaf_content, root_of, top_of, tree_of, with_freed, with_node, without_entry}
+use Rattle.bforest_core.proofs.Words.{nil_from_length, Content, Free, EntryTaken, HasOthers, IsSingle, IsUsed, LeafLoss, Removed, Shrinks, StandsIn, Unbalanced, Table, Tree, count, entry_keys, front_of, leaf_content, root_of, top_of, tree_of, with_freed, with_node, without_entry}
 use Rattle.bforest_core.proofs.rows.Tops.{root-stands}
-use Rattle.bforest_core.proofs.table.Tables.{is_used, puts, row-split}
-use Rattle.bforest_core.proofs.table.Stored.{read_same}
+use Rattle.bforest_core.proofs.table.Tables.{is_used, puts}
 use Rattle.bforest_core.proofs.union.Unions.{rooted}
 use Rattle.bforest_core.proofs.removal.Asked.{Counts, NodeAt}
 use Rattle.bforest_core.proofs.removal.LeafEmptied.{emptied_tree}
@@ -103,25 +101,23 @@ module _ {K V : Type 0} {most : ℕ} {old now : Table K V} {root place : ℕ} {p
         pub lost : LeafLoss most old v path indices size tree place
         lost = renews old tree place stood_in (others some)
 
-        left_is : m ≡ length lost.entries
-        left_is = omega (arith, count_is, lost.leaf_was es e.leaf.slot_was)
+        pub left_is : m ≡ length lost.entries
+        left_is = omega (arith, count_is, lost.was es e.leaf.slot_was)
 
         -- the tree where the leaf is still half full
         pub kept : most / 2 < m → Shrinks most old v path root place (Some root)
-        kept high = settled (kept_removed stood_in lost root root_was (λ z. Unit {0}) (inl (omega (arith, left_is, high, e.union.1.capacity.odd))) tt)
+        kept high = settled (kept_removed stood_in lost root_was (λ z. Unit {0}) (inl (omega (arith, left_is, high, e.union.1.capacity.odd))) (λ z is. tt))
 
         -- the leaf is less than half full
-        pub few : m ≤ most / 2 → (held : Content K V) → slice_get v.nodes leaf ≡ Some held → entry_count held < half_of most
-        few low held slot =
-            let here = (row-split leaf_content v.nodes lost.before _ lost.inside).1.0 in
-            omega (arith, left_is, low, e.union.1.capacity.odd, leaf_keys lost.entries, ap entry_count (read_same v.nodes leaf (leaf_content lost.entries) held here slot))
+        abbrev pub unbalanced : m ≤ most / 2 → Unbalanced most v path indices size root
+        unbalanced low = record { old = old; tree = tree; place = place; stands = stood_in; root_is = root_was; lost = lost; at_entry = λ high. absurd (omega (arith, low, high, left_is, e.union.1.capacity.odd)) }
 
       -- the tree of one leaf that has others
       pub alone_kept : size ≡ 1 → 0 < m → Shrinks most old now path root place (Some root)
       alone_kept one some =
           let s = stood_in in
           let l = alone_loss s leaf refl (others (λ none. omega (arith, none, some))) (omega (arith, one)) in
-          settled (kept_removed s l root root_was (λ z. Unit {0}) (inr (alone_last l (omega (arith, one)))) tt)
+          settled (kept_removed s l root_was (λ z. Unit {0}) (inr (alone_last l (omega (arith, one)))) (λ z is. tt))
 
       -- the tree of one leaf, which had one entry
       pub alone_freed : size ≡ 1 → m ≤ 0 → (v : Table K V) → v ≡ with_freed now read → Shrinks most old v path root place None

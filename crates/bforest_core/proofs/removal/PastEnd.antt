@@ -1,7 +1,6 @@
--- The leaf after it lost an entry: whether the path is past all entries, and the leaf as a level to
--- rebalance.
-use Rattle.std.proofs.Common.{◌≡◌, ℕ, ◌≤◌, ◌<◌, Some, None, Option, Bool, true, false, not, List, [], ◌∷◌, ◌++◌, length, get_or, slice_get, refl, ap, ◌∙◌, length-append, arith}
-use Rattle.bforest_core.proofs.Words.{is_some, nil_from_length, Table, node, flat, heads, Tree, half_of, leaf_content, Above, NextIs, LeafLoss, OnLevel, get_or_default, Content, entry_count}
+-- The leaf after it lost an entry: whether the path is past all entries.
+use Rattle.std.proofs.Common.{◌≡◌, ℕ, ◌≤◌, ◌<◌, Some, None, Option, Bool, true, false, not, List, [], ◌∷◌, ◌++◌, length, get_or, slice_get, ap, ◌∙◌, length-append, arith}
+use Rattle.bforest_core.proofs.Words.{is_some, nil_from_length, Table, node, flat, heads, Tree, half_of, leaf_content, Above, NextIs, LeafLoss, get_or_default, Content, entry_count}
 use Rattle.bforest_core.proofs.rows.LevelRows.{HeadIs, head-is}
 use Rattle.bforest_core.proofs.table.Tables.{row-split}
 use Rattle.bforest_core.proofs.removal.Lifted.{headed, top_one}
@@ -25,22 +24,6 @@ module _ {K V : Type 0} {most : ℕ} {t v : Table K V} {path indices : List ℕ}
   pub loss_half : 1 ≤ half_of most
   loss_half = let one : 1 ≤ most = omega (arith, l.some, l.most_is) in omega (arith, one)
 
-  -- the leaf is a level to rebalance, where an entry follows
-  pub on_leaf : get_or indices 0 0 < length (l.entries ++ flat l.after) → OnLevel leaf_content (half_of most) most v path indices 0 size l.before (get_or path 0 0) l.entries l.after l.rest
-  on_leaf within = record {
-    inside = l.inside;
-    solid = l.solid;
-    fits = l.fits;
-    some = l.some;
-    lost_one = l.lost_one;
-    most_is = l.most_is;
-    above = l.above;
-    number_is = refl;
-    entry_was = l.entry_was;
-    entry_within = within;
-    apart = l.apart;
-  }
-
   -- no leaf follows
   none_follows : (found : Option (K × ℕ)) → NextIs found (heads l.after) → is_some found ≡ false → l.after ≡ []
   none_follows None next is = no_nodes (half_of most) most loss_half l.after l.fits next
@@ -51,10 +34,6 @@ module _ {K V : Type 0} {most : ℕ} {t v : Table K V} {path indices : List ℕ}
   alone_last low =
       let one = top_one l.rest low above in
       no_nodes (half_of most) most loss_half l.after l.fits (nil_from_length (heads l.after) (omega (arith, one, length-append (heads l.before) ((named.first.0, get_or path 0 0) ∷ heads l.after))))
-
-  -- the last leaf has no right neighbour
-  pub last_leaf : Beside v path indices 1 size None → l.after ≡ []
-  last_leaf beside = none_follows None (beside l.rest (heads l.before) (named.first.0, get_or path 0 0) (heads l.after) above) refl
 
   -- a leaf follows
   pub one_follows : (found : Option (K × ℕ)) (none : Bool) → Beside v path indices 1 size found → is_some found ≡ not none → none ≡ false → get_or indices 0 0 < length (l.entries ++ flat l.after)

@@ -41,7 +41,7 @@ module _ {K V X : Type 0} {content : List (K × X) → Content K V} {half most :
   module _ {es : List (K × X)} {after : List (LevelNode K X)} {rest : List (List (LevelNode K ℕ))} (p : OnLevel content half most t path indices up size before n es after rest) (why : (half ≤ length es) ⊎ (after ≡ [])) where
     -- the level is unchanged, and the path leads to a node of the row
     settle_same : {path' indices' : List ℕ} (front : List (LevelNode K X)) (m : ℕ) (fs : List (K × X)) (back : List (LevelNode K X)) → front ++ node m fs ∷ back ≡ before ++ node n es ∷ after → Above t path' indices' (suc up) size rest (heads (front ++ node m fs ∷ back)) (length (heads front)) →
-        get_or path' up 0 ≡ m → get_or indices' up 0 < length fs
+        get_or path' up 0 ≡ m → (get_or indices up 0 < length (es ++ flat after) → get_or indices' up 0 < length fs)
         → length (flat front) + get_or indices' up 0 ≡ length (flat before) + get_or indices up 0 → SameBelow up path path'
         → SameBelow up indices indices' → top_of path' size ≡ top_of path size
         → Healed content half most t t path indices path' indices' up size before n es after rest
@@ -72,7 +72,7 @@ module _ {K V X : Type 0} {content : List (K × X) → Content K V} {half most :
         }
 
     -- the level is unchanged, and so is the path
-    pub settle_stay : get_or indices up 0 < length es → Healed content half most t t path indices path indices up size before n es after rest
+    pub settle_stay : (get_or indices up 0 < length (es ++ flat after) → get_or indices up 0 < length es) → Healed content half most t t path indices path indices up size before n es after rest
     settle_stay within = settle_same before n es after refl p.above p.number_is within refl (λ i low. refl) (λ i low. refl) refl
 
   module _ {e : K × X} {es : List (K × X)} {q : ℕ} {f : K × X} {fs : List (K × X)} {after : List (LevelNode K X)} {rest : List (List (LevelNode K ℕ))} (p : OnLevel content half most t path indices up size before n (e ∷ es) (node q (f ∷ fs) ∷ after) rest) where
@@ -93,7 +93,7 @@ module _ {K V X : Type 0} {content : List (K × X) → Content K V} {half most :
         let same : front ++ node q (f ∷ fs) ∷ after ≡ row = append_assoc before (node n (e ∷ es) ∷ []) (node q (f ∷ fs) ∷ after) in
         let len : length (heads front) ≡ suc (length (heads before)) = ap length (heads-append before (node n (e ∷ es) ∷ [])) ∙ length-append (heads before) ((e.0, n) ∷ []) ∙ omega arith in
         let flats : length (flat front) ≡ length (flat before) + length (e ∷ es) = ap length (flat-append before (node n (e ∷ es) ∷ []) ∙ ap (λ z. flat before ++ z) (append-nil (e ∷ es))) ∙ length-append (flat before) (e ∷ es) in
-        settle_same p (inl healthy) {path' = path'} {indices' = indices'} front q (f ∷ fs) after same (rw (same, heads-append before (node n (e ∷ es) ∷ node q (f ∷ fs) ∷ after), len) above.0) above.1 (omega (arith, z_is)) (omega (arith, z_is, e_is, flats)) below below_too top_is
+        settle_same p (inl healthy) {path' = path'} {indices' = indices'} front q (f ∷ fs) after same (rw (same, heads-append before (node n (e ∷ es) ∷ node q (f ∷ fs) ∷ after), len) above.0) above.1 (λ low. omega (arith, z_is)) (omega (arith, z_is, e_is, flats)) below below_too top_is
 
     -- the two nodes are different and in no other row, and the right one is off the chain
     pub apart : (n ≢ q) × (count n (numbers before) + count n (numbers after) ≡ 0) × (count q (numbers before) + count q (numbers after) ≡ 0) × (count q t.chain ≡ 0)
@@ -154,7 +154,7 @@ module _ {K V X : Type 0} {content : List (K × X) → Content K V} {half most :
             list_is = flats;
             above = subst (λ (z : List (K × ℕ)). Above v path indices (suc up) size b.rows' z (length (heads before))) hs b.above;
             number_is = p.number_is;
-            within = omega (arith, p.entry_was, under, lo);
+            within = λ low. omega (arith, p.entry_was, under, lo);
             place_is = refl;
             sizes_are = sizes-append before (node n (s.x ∷ s.xs) ∷ node q (s.y ∷ s.ys) ∷ after) ∙ ap (λ z. sizes before ++ z ∷ suc (length s.ys) ∷ sizes after) s.left_is ∙ ap (λ z. sizes before ++ (both - both / 2) ∷ z ∷ sizes after) s.right_is ∙ sym (ap (λ z. sizes before ++ z.1) outcome);
             rest_sizes = b.sizes_are;

@@ -11,7 +11,7 @@ use Rattle.bforest_core.proofs.rows.Contents.{removed_last}
 use Rattle.bforest_core.proofs.removal.Lifted.{heads-put, above_same, rows_above}
 use Rattle.bforest_core.proofs.removal.Taking.{some_first, no_nodes}
 use Rattle.bforest_core.proofs.removal.Collapse.{heads-flat}
-use Rattle.bforest_core.proofs.removal.Merge.{placed, loss_level}
+use Rattle.bforest_core.proofs.removal.Merge.{placed, loss_level, lost_above}
 use Rattle.bforest_core.proofs.removal.Asked.{Counts, Removes, LastTwo, Seen, seen}
 use Rattle.bforest_core.proofs.rows.Tops.{top_rows}
 use Rattle.bforest_core.proofs.removal.Rebalance.{rebalanced_last}
@@ -81,7 +81,7 @@ module _ {K V : Type 0} where
 
     -- the sizes of the levels after the row lost the entry
     lost : loss_above (Some (length a)) (map sizes rows) ≡ (sizes d.q.before ++ (rebalanced 8 (length d.q.l) []).1) ∷ loss_above (placed (length d.q.before) (rebalanced 8 (length d.q.l) []).0) (map sizes d.q.rest)
-    lost = loss_level 8 d.q.before (length d.q.l) (length d.q.l) (length a) [] (map sizes d.q.rest) (map sizes rows) were (omega arith) (omega (arith, ap length d.q.a_is, length-append (flat d.q.before) d.q.l)) refl
+    lost = sym (lost_above (length a) (map sizes rows)) ∙ loss_level 8 d.q.before (length d.q.l) (length d.q.l) (length a) [] (map sizes d.q.rest) (map sizes rows) were (omega arith) (omega (arith, ap length d.q.a_is, length-append (flat d.q.before) d.q.l))
 
     own_is : (m : ℕ) → count m (flat_map numbers rows) ≡ count m (numbers d.q.before) + count m (get_or path up 0 ∷ []) + count m (flat_map numbers d.q.rest)
     own_is m = omega (arith, ap (λ z. count m (flat_map numbers z)) d.q.rows_are, ap (λ z. count m (get_or path up 0 ∷ numbers z)) ends.1, counts m d.q.before (get_or path up 0) (d.q.l ++ x ∷ d.q.r) d.q.after d.q.rest t.chain)

@@ -1,10 +1,10 @@
 -- Removing an entry from the row above a level, whose key passes to the next entry: the answers of
 -- `remove_merged`.
 use Rattle.std.proofs.Common.{◌≡◌, ℕ, suc, ◌+◌, ◌-◌, ◌≤◌, ◌<◌, List, [], ◌∷◌, ◌++◌, map, length, drop, set, get_or, slice_get, Some, refl, sym, ap, ◌∙◌, subst, append_assoc, length-append, arith}
-use Rattle.bforest_core.proofs.Words.{flat_map, Inner, IsUsed, with_key, without_child, Table, with_node, LevelNode, node, flat, heads, head_of, sizes, numbers, FitRow, RowIn, inner_content, entry_keys, entry_items, count, Above, Rebuilt, Loosened}
+use Rattle.bforest_core.proofs.Words.{flat_map, entry_count, Inner, IsUsed, with_key, without_child, Table, with_node, LevelNode, node, flat, heads, head_of, sizes, numbers, FitRow, RowIn, inner_content, entry_keys, entry_items, count, Above, Rebuilt, Loosened}
 use Rattle.bforest_core.proofs.rows.LevelRows.{heads-append, sizes-append}
 use Rattle.bforest_core.proofs.table.Tables.{counts, count-same, count-row, row-same, row-put, is_used, Puts, puts, puts-then}
-use Rattle.bforest_core.proofs.table.Stored.{item_count, some_same}
+use Rattle.bforest_core.proofs.table.Stored.{item_count, read_same, some_same}
 use Rattle.bforest_core.proofs.rows.Contents.{removed_same, removed_last, last_key}
 use Rattle.bforest_core.proofs.rows.Zipper.{Spot, above_two}
 use Rattle.bforest_core.proofs.removal.Frees.{frees-puts, frees-after, frees-wider}
@@ -17,7 +17,7 @@ module _ {K V : Type 0} where
     -- the row after its node lost an entry, under rows above that have its keys
     loosened : {v u : Table K V} (es : List (K × ℕ)) {list : List (K × ℕ)} (after : List (LevelNode K ℕ)) → length (d.q.l ++ (k, m) ∷ d.q.r) ≡ suc (length es) → 1 ≤ length es → length d.q.l ≤ length es → sizes after ≡ sizes d.q.after → numbers after ≡ numbers d.q.after → es ++ flat after ≡ d.q.l ++ (k, n) ∷ b →
         list ≡ heads (d.q.before ++ node (get_or path up 0) es ∷ after) → FitRow 4 8 (node (get_or path up 0) (d.q.l ++ (k, m) ∷ d.q.r) ∷ after) → RowIn inner_content t.nodes (d.q.before ++ node (get_or path up 0) (d.q.l ++ (k, m) ∷ d.q.r) ∷ after) →
-        Rebuilt t v path indices path indices (suc up) size d.q.rest list (length (heads d.q.before)) (map sizes d.q.rest) [] → Puts v u (get_or path up 0) (inner_content es) → Loosened t u path indices up size rows (a ++ (k, n) ∷ b) (length a)
+        Rebuilt t v path indices path indices (suc up) size d.q.rest list (length (heads d.q.before)) (map sizes d.q.rest) [] → Puts v u (get_or path up 0) (inner_content es) → Loosened inner_content 4 8 t u path indices up size (map sizes rows) (flat_map numbers rows) (a ++ (k, n) ∷ b) (length a)
     loosened {v} {u} es after len some low sizes_same numbers_same flat_is heads_are fits inside r w =
         let q = d.q in
         let num = get_or path up 0 in
@@ -44,11 +44,11 @@ module _ {K V : Type 0} where
             above = above_written w (omega (arith, r.numbers_are num, d.f.none_rest)) (subst (λ (z : List (K × ℕ)). Above v path indices (suc up) size r.rows' z (length (heads q.before))) heads_are r.above);
             number_is = refl;
             entry_was = omega (arith, low, q.entry_is);
-            entry_within = omega (arith, q.entry_is, ap length flat_is, length-append q.l ((k, n) ∷ b));
             apart = λ i. omega (arith, d.whole.apart i, r.numbers_are i, c i, c2 i, c3 i, c4 i);
           };
           list_is = flat_at d es ((k, n) ∷ b) after flat_is;
           place_is = place_at d;
+          was = λ fs slot. omega (arith, item_count fs, item_count old, len, ap entry_count (read_same t.nodes num (inner_content old) (inner_content fs) d.f.slot_is slot));
           sizes_were = ap (λ z. map sizes z) q.rows_are
               ∙ ap (λ z. z ∷ map sizes q.rest)
               (sizes-append q.before (node num old ∷ q.after) ∙ ap (λ z. sizes q.before ++ z ∷ sizes q.after) len
@@ -61,7 +61,7 @@ module _ {K V : Type 0} where
     -- removing the entry where the next one is in the same parent
     take_same : (s u : Table K V) (key : K) → get_or indices up 0 + 1 < length (d.q.l ++ (k, m) ∷ d.q.r) → slice_get (drop 1 (entry_keys (d.q.l ++ (k, m) ∷ d.q.r))) (get_or indices up 0 - 1) ≡ Some key →
         s ≡ with_node t (get_or path up 0) (Inner (set (drop 1 (entry_keys (d.q.l ++ (k, m) ∷ d.q.r))) (get_or indices up 0) key) (entry_items (d.q.l ++ (k, m) ∷ d.q.r))) →
-        u ≡ with_node s (get_or path up 0) (without_child (Inner (set (drop 1 (entry_keys (d.q.l ++ (k, m) ∷ d.q.r))) (get_or indices up 0) key) (entry_items (d.q.l ++ (k, m) ∷ d.q.r))) (get_or indices up 0)) → Loosened t u path indices up size rows (a ++ (k, n) ∷ b) (length a)
+        u ≡ with_node s (get_or path up 0) (without_child (Inner (set (drop 1 (entry_keys (d.q.l ++ (k, m) ∷ d.q.r))) (get_or indices up 0) key) (entry_items (d.q.l ++ (k, m) ∷ d.q.r))) (get_or indices up 0)) → Loosened inner_content 4 8 t u path indices up size (map sizes rows) (flat_map numbers rows) (a ++ (k, n) ∷ b) (length a)
     take_same s u key more key_is s_is u_is =
         let q = d.q in
         let num = get_or path up 0 in
@@ -93,7 +93,7 @@ module _ {K V : Type 0} where
       take_over : {v : Table K V} (u : Table K V) → Rebuilt t v path indices path indices (suc up) size d.q.rest
           (heads d.q.before ++ (o.z.0, get_or path up 0) ∷ (k, o.q) ∷ heads o.rest) (length (heads d.q.before)) (map sizes d.q.rest) []
           → slice_get v.nodes (get_or path up 0) ≡ Some (inner_content (d.q.l ++ (k, m) ∷ d.q.r)) →
-          u ≡ with_node v (get_or path up 0) (without_child (inner_content (d.q.l ++ (k, m) ∷ d.q.r)) (get_or indices up 0)) → Loosened t u path indices up size rows (a ++ (k, n) ∷ b) (length a)
+          u ≡ with_node v (get_or path up 0) (without_child (inner_content (d.q.l ++ (k, m) ∷ d.q.r)) (get_or indices up 0)) → Loosened inner_content 4 8 t u path indices up size (map sizes rows) (flat_map numbers rows) (a ++ (k, n) ∷ b) (length a)
       take_over {v} u r slot u_is =
           let q = d.q in
           let num = get_or path up 0 in
@@ -138,7 +138,7 @@ module _ {K V : Type 0} where
             (set (drop 1 (entry_keys ds)) (get_or indices up 0) key, entry_items ds, one.here, (let e = here.counted cnt value in omega (arith, item_count ds))),
           )
 
-          pub same_parent : (u : Table K V) (i : ℕ) → i ≡ get_or indices up 0 - 1 → ReadsKey t (get_or path up r) i key → Removes s u (get_or path up r) (get_or indices up 0) → Loosened t u path indices up size rows (a ++ (k, n) ∷ b) (length a)
+          pub same_parent : (u : Table K V) (i : ℕ) → i ≡ get_or indices up 0 - 1 → ReadsKey t (get_or path up r) i key → Removes s u (get_or path up r) (get_or indices up 0) → Loosened inner_content 4 8 t u path indices up size (map sizes rows) (flat_map numbers rows) (a ++ (k, n) ∷ b) (length a)
           same_parent u i i_is reads removes =
               let num_is = here.num_is in
               let u_is = removes (set (drop 1 (entry_keys ds)) (get_or indices up 0) key) (entry_items ds) one.here in
@@ -176,7 +176,7 @@ module _ {K V : Type 0} where
               (drop 1 (entry_keys ds), entry_items ds, ap (λ z. slice_get v.nodes z) here.num_is ∙ slot_then, omega (arith, item_count ds, d.count_is)),
             )
 
-            pub next_parent : (u : Table K V) → ReadsKey t (get_or path up r) (get_or indices up 0 - 1) key → Removes v u (get_or path up r) (get_or indices up 0) → Loosened t u path indices up size rows (a ++ (k, n) ∷ b) (length a)
+            pub next_parent : (u : Table K V) → ReadsKey t (get_or path up r) (get_or indices up 0 - 1) key → Removes v u (get_or path up r) (get_or indices up 0) → Loosened inner_content 4 8 t u path indices up size (map sizes rows) (flat_map numbers rows) (a ++ (k, n) ∷ b) (length a)
             next_parent u reads removes =
                 let num_is = here.num_is in
                 let k_is = moved_key d o key (reads (drop 1 (entry_keys ds)) (entry_items ds) here.slot_is) in

@@ -139,29 +139,33 @@ module _ {K V : Type 0} where
       let c2 = λ (m : ℕ). counts m d.before n es d.after b.rows' v.chain in
       let c7 = λ (m : ℕ). ap (λ z. count m z) (b.frees.chain_is ∙ w.chain_is) in
       let c8 = λ (m : ℕ). count-append m (numbers tree.leaves) (flat_map numbers tree.above) in
-      let c9 = λ (m : ℕ). b.numbers_are m in
       let in_u : RowIn leaf_content u.nodes row2 = row-put leaf_content t.nodes u.nodes d.before n old es d.after d.inside w.same w.here d.none in
       record {
-        before = d.before;
-        entries = es;
-        after = d.after;
-        rest = b.rows';
-        inside = row-same leaf_content u.nodes v.nodes row2 (λ m some. b.frees.others m (omega (arith, some, d.apart m, c1 m, c2 m))) in_u;
-        solid = d.solid;
-        fits = d.fit.2;
-        some = more;
-        lost_one = omega (arith, d.fit.0, len);
-        most_is = omega (arith, d.fit.1, len);
-        above = b.above;
-        entry_was = omega (arith, d.index_is, length-append d.l d.r);
-        apart = λ m. omega (arith, d.apart m, c1 m, c2 m, c7 m, c9 m);
-        flat_is = sym (ap (λ z. remove (flat z) place) d.leaves_are ∙ ap (λ z. remove (flat row) z) d.place_is ∙ remove_flat d.before n d.l d.x d.r d.after);
-        place_is = omega (arith, d.place_is, d.index_is);
-        leaf_was = λ fs slot. leaf_count fs old (slice_get t.nodes n) slot d.slot_is ∙ len;
-        sizes_were = ap sizes d.leaves_are ∙ sizes-append d.before (node n old ∷ d.after) ∙ ap (λ z. sizes d.before ++ z ∷ sizes d.after) len;
-        rest_sizes = b.sizes_are;
-        numbers_are = λ m. omega (arith, c0 m, c1 m, c2 m, c8 m, c9 m);
-        frees = frees-after {t = t} {own = numbers_of tree} (λ m none. omega (arith, none, c8 m)) (frees-puts (numbers_of tree) (omega (arith, c0 n, c1 n, c8 n, count-same n (numbers d.after))) w) b.frees;
+        loss = record {
+          before = d.before;
+          entries = es;
+          after = d.after;
+          rest = b.rows';
+          on_level = record {
+            inside = row-same leaf_content u.nodes v.nodes row2 (λ m some. b.frees.others m (omega (arith, some, d.apart m, c1 m, c2 m))) in_u;
+            solid = d.solid;
+            fits = d.fit.2;
+            some = more;
+            lost_one = omega (arith, d.fit.0, len);
+            most_is = omega (arith, d.fit.1, len);
+            above = b.above;
+            number_is = refl;
+            entry_was = omega (arith, d.index_is, length-append d.l d.r);
+            apart = λ m. omega (arith, d.apart m, c1 m, c2 m, c7 m, b.numbers_are m);
+          };
+          list_is = sym (ap (λ z. remove (flat z) place) d.leaves_are ∙ ap (λ z. remove (flat row) z) d.place_is ∙ remove_flat d.before n d.l d.x d.r d.after);
+          place_is = omega (arith, d.place_is, d.index_is);
+          was = λ fs slot. leaf_count fs old (slice_get t.nodes n) slot d.slot_is ∙ len;
+          sizes_were = ap (λ z. z ∷ map sizes tree.above) (ap sizes d.leaves_are ∙ sizes-append d.before (node n old ∷ d.after) ∙ ap (λ z. sizes d.before ++ z ∷ sizes d.after) len)
+              ∙ ap (λ z. (sizes d.before ++ suc (length es) ∷ sizes d.after) ∷ z) (sym b.sizes_are);
+          numbers_are = λ m. omega (arith, c0 m, c1 m, c2 m, c8 m, b.numbers_are m);
+          frees = frees-after (λ m none. omega (arith, none, c8 m)) (frees-puts (numbers_of tree) (omega (arith, c0 n, c1 n, c8 n, count-same n (numbers d.after))) w) b.frees;
+        };
       }
 
   -- a leaf with a key of this index

@@ -1,6 +1,6 @@
 use Rattle.std.proofs.Common.{rules, arith}
 use Rattle.bforest_core.proofs.Words.{get_or_default, tree_of}
-use Rattle.bforest_core.proofs.removal.Healing.{counted_asks, few, kept, leaf_used, lost, others, root_was, settled, single, stood_in}
+use Rattle.bforest_core.proofs.removal.Healing.{counted_asks, kept, leaf_used, others, root_was, settled, single, stood_in, unbalanced}
 use Rattle.bforest_core.proofs.removal.Removal.{outcome, shrinks}
 use Rattle.bforest_core.proofs.path.Path.heal.Goals as goal
 
@@ -35,17 +35,15 @@ returns-then-left g c = record {
   healed = λ old place e. kept e _ (get_or_default c.args.self.now.node 0 c.index-self-0.result 0 (omega arith)) c.entries-left.result c.entries-left.ensures.value c.if-left-eq0.false c.renew_first.new.pool c.renew_first.ensures c.if-left.true;
 }
 
-pub fill_leaf-requires : goal.fill_leaf-requires
-fill_leaf-requires g c =
+pub rebalance_leaf-requires : goal.rebalance_leaf-requires
+rebalance_leaf-requires g c =
     let w = c.requires.taken in
     let num = get_or_default c.args.self.now.node 0 c.index-self-0.result 0 (omega arith) in
-    let l = lost w.2 _ num c.entries-left.result c.entries-left.ensures.value c.if-left-eq0.false c.renew_first.new.pool c.renew_first.ensures in
-    let less = few w.2 _ num c.entries-left.result c.entries-left.ensures.value c.if-left-eq0.false c.renew_first.new.pool c.renew_first.ensures c.if-left.false in
-    (search rules, (search rules, (w.2.union.1.capacity, ((w.0, tree_of w.0.nodes c.args.root, w.1, stood_in w.2, l, root_was w.2), less))))
+    (search rules, (search rules, (w.2.union.1.capacity, unbalanced w.2 _ num c.entries-left.result c.entries-left.ensures.value c.if-left-eq0.false c.renew_first.new.pool c.renew_first.ensures c.if-left.false)))
 
 pub returns : goal.returns
 returns g c = record {
   healed = λ old place e.
-      let l = lost e _ (get_or_default c.args.self.now.node 0 c.index-self-0.result 0 (omega arith)) c.entries-left.result c.entries-left.ensures.value c.if-left-eq0.false c.renew_first.new.pool c.renew_first.ensures in
-      settled e (c.fill_leaf.ensures old (tree_of old.nodes c.args.root) place (stood_in e) l (root_was e));
+      let num = get_or_default c.args.self.now.node 0 c.index-self-0.result 0 (omega arith) in
+      settled e (c.rebalance_leaf.ensures (unbalanced e _ num c.entries-left.result c.entries-left.ensures.value c.if-left-eq0.false c.renew_first.new.pool c.renew_first.ensures c.if-left.false));
 }
